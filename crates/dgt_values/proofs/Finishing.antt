@@ -1,0 +1,220 @@
+-- How a text goes on to the end of a placement, byte by byte: so many ranks follow this one, and so many
+-- squares of this rank are left.
+use Rattle.std.proofs.Common.{◌≡◌, ℕ, suc, ◌+◌, ◌<◌, ◌⊎◌, inl, inr, refl, sym, ap, ◌∙◌, arith, List, [], ◌∷◌, ◌++◌, length, replicate, append_assoc, length-append}
+use Rattle.std.specs.Prelude.{◌≢◌, ◌==◌, if◌then◌else◌}
+use Rattle.std.specs.List.{join_with_byte}
+use Rattle.std.proofs.lemmas.List.{append-nil}
+use Rattle.dgt_values.specs.declared.pieces.Piece.{Piece}
+use Rattle.dgt_values.specs.declared.pieces.Piece.TheVariants.{Empty, WhitePawn, WhiteRook, WhiteKnight, WhiteBishop, WhiteKing, WhiteQueen, BlackPawn, BlackRook, BlackKnight, BlackBishop, BlackKing, BlackQueen, FirstExtra, SecondExtra, ThirdExtra}
+use Rattle.dgt_values.specs.Piece.{piece_letter}
+use Rattle.dgt_values.specs.Placement.{MeansSquares, IsRank, AreRanks, IsPlacement}
+
+-- the piece with a letter
+abbrev pub letter_piece : ℕ → Piece
+letter_piece b =
+    if b == 80 then WhitePawn else (if b == 82 then WhiteRook else (if b == 78 then WhiteKnight else (if b == 66 then WhiteBishop else
+    (if b == 75 then WhiteKing else (if b == 81 then WhiteQueen else (if b == 112 then BlackPawn else (if b == 114 then BlackRook else
+    (if b == 110 then BlackKnight else (if b == 98 then BlackBishop else (if b == 107 then BlackKing else (if b == 113 then BlackQueen else
+    (if b == 88 then FirstExtra else (if b == 89 then SecondExtra else (if b == 90 then ThirdExtra else Empty))))))))))))))
+
+-- the letter of a piece is its own alone
+pub letter_piece-letter : (piece : Piece) → letter_piece (piece_letter piece) ≡ piece
+letter_piece-letter Empty = refl
+letter_piece-letter WhitePawn = refl
+letter_piece-letter WhiteRook = refl
+letter_piece-letter WhiteKnight = refl
+letter_piece-letter WhiteBishop = refl
+letter_piece-letter WhiteKing = refl
+letter_piece-letter WhiteQueen = refl
+letter_piece-letter BlackPawn = refl
+letter_piece-letter BlackRook = refl
+letter_piece-letter BlackKnight = refl
+letter_piece-letter BlackBishop = refl
+letter_piece-letter BlackKing = refl
+letter_piece-letter BlackQueen = refl
+letter_piece-letter FirstExtra = refl
+letter_piece-letter SecondExtra = refl
+letter_piece-letter ThirdExtra = refl
+
+-- no two pieces have one letter
+pub letter_one : (a b : Piece) → piece_letter a ≡ piece_letter b → a ≡ b
+letter_one a b e = sym (letter_piece-letter a) ∙ ap letter_piece e ∙ letter_piece-letter b
+
+-- letters stand above the slash and the digits
+pub letter_above : (piece : Piece) → piece ≢ Empty → 57 < piece_letter piece
+letter_above Empty h = absurd (h refl)
+letter_above WhitePawn h = omega arith
+letter_above WhiteRook h = omega arith
+letter_above WhiteKnight h = omega arith
+letter_above WhiteBishop h = omega arith
+letter_above WhiteKing h = omega arith
+letter_above WhiteQueen h = omega arith
+letter_above BlackPawn h = omega arith
+letter_above BlackRook h = omega arith
+letter_above BlackKnight h = omega arith
+letter_above BlackBishop h = omega arith
+letter_above BlackKing h = omega arith
+letter_above BlackQueen h = omega arith
+letter_above FirstExtra h = omega arith
+letter_above SecondExtra h = omega arith
+letter_above ThirdExtra h = omega arith
+
+-- a byte that stands for squares is no slash
+pub above_slash : (byte : ℕ) (squares : List Piece) → MeansSquares byte squares → 47 < byte
+above_slash byte squares (inl run) = omega (arith, run.digit)
+above_slash byte squares (inr letter) = omega (arith, letter.letter, letter_above letter.piece letter.not_empty)
+
+-- a byte stands for at most one list of squares
+pub means_one : (byte : ℕ) (a b : List Piece) → MeansSquares byte a → MeansSquares byte b → a ≡ b
+means_one byte a b (inl run) (inl other) =
+    let same : run.count ≡ other.count = omega (arith, run.digit, other.digit) in
+    run.all_empty ∙ ap (λ n. replicate n Empty) same ∙ sym other.all_empty
+means_one byte a b (inl run) (inr letter) =
+    absurd (omega (arith, run.digit, run.at_most_eight, letter.letter, letter_above letter.piece letter.not_empty))
+means_one byte a b (inr letter) (inl run) =
+    absurd (omega (arith, run.digit, run.at_most_eight, letter.letter, letter_above letter.piece letter.not_empty))
+means_one byte a b (inr letter) (inr other) =
+    letter.one_square ∙ ap (λ piece. piece ∷ []) (letter_one letter.piece other.piece (sym letter.letter ∙ other.letter)) ∙ sym other.one_square
+
+-- after a full rank a slash begins the next one
+pub record IsSlash (byte ranks left ranks' left' : ℕ) (first : List Piece) : Type 0 where
+  pub slash : byte ≡ 47
+  pub full : left ≡ 0
+  pub one_less : ranks ≡ suc ranks'
+  pub eight : left' ≡ 8
+  pub none : first ≡ []
+
+-- more squares of this rank
+pub record AreSquares (byte ranks left ranks' left' : ℕ) (first : List Piece) : Type 0 where
+  pub same_rank : ranks' ≡ ranks
+  pub fewer : left ≡ length first + left'
+  pub stands : MeansSquares byte first
+
+-- what a byte may do: from so many ranks and squares left to those left then, with these squares
+abbrev pub Steps : ℕ → ℕ → ℕ → ℕ → ℕ → List Piece → Type 0
+Steps byte ranks left ranks' left' first = IsSlash byte ranks left ranks' left' first ⊎ AreSquares byte ranks left ranks' left' first
+
+-- the text ends the placement, and these are the pieces that it adds
+abbrev pub Finishes : List ℕ → ℕ → ℕ → List Piece → Type 0
+Finishes [] ranks left pieces = (ranks ≡ 0) × (left ≡ 0) × (pieces ≡ [])
+Finishes (byte ∷ bytes) ranks left pieces =
+    (ranks' left' : ℕ) × (first rest : List Piece) × Steps byte ranks left ranks' left' first × Finishes bytes ranks' left' rest × (pieces ≡ first ++ rest)
+
+-- a byte does at most one thing
+pub record SameStep (ranks left ranks' left' : ℕ) (first first' : List Piece) : Type 0 where
+  pub ranks_same : ranks ≡ ranks'
+  pub left_same : left ≡ left'
+  pub first_same : first ≡ first'
+
+-- two steps of a byte are one
+pub steps_one : (byte n s n1 s1 n2 s2 : ℕ) (a b : List Piece) → Steps byte n s n1 s1 a → Steps byte n s n2 s2 b → SameStep n1 s1 n2 s2 a b
+steps_one byte n s n1 s1 n2 s2 a b (inl x) (inl y) =
+    record { ranks_same = omega (arith, x.one_less, y.one_less); left_same = x.eight ∙ sym y.eight; first_same = x.none ∙ sym y.none }
+steps_one byte n s n1 s1 n2 s2 a b (inl x) (inr y) = absurd (omega (arith, x.slash, above_slash byte b y.stands))
+steps_one byte n s n1 s1 n2 s2 a b (inr x) (inl y) = absurd (omega (arith, y.slash, above_slash byte a x.stands))
+steps_one byte n s n1 s1 n2 s2 a b (inr x) (inr y) =
+    let same : a ≡ b = means_one byte a b x.stands y.stands in
+    record { ranks_same = x.same_rank ∙ sym y.same_rank; left_same = omega (arith, x.fewer, y.fewer, ap length same); first_same = same }
+
+-- a text ends a placement with at most one list of pieces
+pub finishes_one : (text : List ℕ) (n s : ℕ) (a b : List Piece) → Finishes text n s a → Finishes text n s b → a ≡ b
+finishes_one [] n s a b h k = h.2 ∙ sym k.2
+finishes_one (byte ∷ text) n s a b (n1, s1, first, rest, step, more, is) (n2, s2, first', rest', step', more', is') =
+    let same = steps_one byte n s n1 s1 n2 s2 first first' step step' in
+    let over : Finishes text n1 s1 rest' = rw (same.ranks_same, same.left_same) more' in
+    let tail : rest ≡ rest' = finishes_one text n1 s1 rest rest' more over in
+    rw (is, is', same.first_same, tail) refl
+
+-- a rank, and what follows it
+rank_finishes : (bytes : List ℕ) (squares : List Piece) → IsRank bytes squares → (n : ℕ) (more : List ℕ) (rest : List Piece)
+    → Finishes more n 0 rest → Finishes (bytes ++ more) n (length squares) (squares ++ rest)
+rank_finishes [] squares h n more rest f = rw h f
+rank_finishes (byte ∷ bytes) squares (first, others, stands, h, is) n more rest f =
+    let fewer : length squares ≡ length first + length others = ap length is ∙ length-append first others in
+    let grouped : squares ++ rest ≡ first ++ (others ++ rest) = ap (λ l. l ++ rest) is ∙ append_assoc first others rest in
+    (n, length others, first, others ++ rest, inr (record { same_rank = refl; fewer = fewer; stands = stands }), rank_finishes bytes others h n more rest f, grouped)
+
+-- ranks that are joined by slashes
+ranks_finish : (ranks : List (List ℕ)) (rank : List ℕ) (pieces : List Piece) → AreRanks (rank ∷ ranks) pieces
+    → Finishes (join_with_byte 47 (rank ∷ ranks)) (length ranks) 8 pieces
+ranks_finish [] rank pieces (squares, rest, eight, h, none, is) =
+    let f = rank_finishes rank squares h 0 [] [] (refl, refl, refl) in
+    let whole : pieces ≡ squares ++ [] = is ∙ ap (λ l. squares ++ l) none in
+    rw (whole, ← eight, ← append-nil rank) f
+ranks_finish (next ∷ ranks) rank pieces (squares, rest, eight, h, after, is) =
+    let f = rank_finishes rank squares h (suc (length ranks)) (47 ∷ join_with_byte 47 (next ∷ ranks)) rest
+    (length ranks, 8, [], rest, inl (record { slash = refl; full = refl; one_less = refl; eight = refl; none = refl }), ranks_finish ranks next rest after, refl) in
+    rw (is, ← eight) f
+
+-- what is left of a placement, taken apart: this rank's text and the texts of the others
+record Parts (text : List ℕ) (n s : ℕ) (pieces : List Piece) : Type 0 where
+  rank : List ℕ
+  ranks : List (List ℕ)
+  squares : List Piece
+  rest : List Piece
+  so_many : length ranks ≡ n
+  joined : text ≡ join_with_byte 47 (rank ∷ ranks)
+  is_rank : IsRank rank squares
+  so_long : length squares ≡ s
+  others : AreRanks ranks rest
+  whole : pieces ≡ squares ++ rest
+
+-- one more byte of the first rank
+longer_rank : (byte : ℕ) (rank : List ℕ) (ranks : List (List ℕ)) → byte ∷ join_with_byte 47 (rank ∷ ranks) ≡ join_with_byte 47 ((byte ∷ rank) ∷ ranks)
+longer_rank byte rank [] = refl
+longer_rank byte rank (next ∷ ranks) = refl
+
+-- a text that ends a placement can be taken apart
+parts : (text : List ℕ) (n s : ℕ) (pieces : List Piece) → Finishes text n s pieces → Parts text n s pieces
+parts [] n s pieces h =
+    record { rank = []; ranks = []; squares = []; rest = []; so_many = sym h.0; joined = refl; is_rank = refl; so_long = sym h.1; others = refl; whole = h.2 }
+parts (byte ∷ bytes) n s pieces (n', s', first, rest, inl slash, h, is) =
+    let after = parts bytes n' s' rest h in
+    record {
+      rank = [];
+      ranks = after.rank ∷ after.ranks;
+      squares = [];
+      rest = rest;
+      so_many = ap suc after.so_many ∙ sym slash.one_less;
+      joined = rw (slash.slash, ← after.joined) refl;
+      is_rank = refl;
+      so_long = sym slash.full;
+      others = (after.squares, after.rest, after.so_long ∙ slash.eight, after.is_rank, after.others, after.whole);
+      whole = is ∙ ap (λ l. l ++ rest) slash.none;
+    }
+parts (byte ∷ bytes) n s pieces (n', s', first, rest, inr more, h, is) =
+    let after = parts bytes n' s' rest h in
+    record {
+      rank = byte ∷ after.rank;
+      ranks = after.ranks;
+      squares = first ++ after.squares;
+      rest = after.rest;
+      so_many = after.so_many ∙ more.same_rank;
+      joined = ap (λ l. byte ∷ l) after.joined ∙ longer_rank byte after.rank after.ranks;
+      is_rank = (first, after.squares, more.stands, after.is_rank, refl);
+      so_long = length-append first after.squares ∙ ap (λ k. length first + k) after.so_long ∙ sym more.fewer;
+      others = after.others;
+      whole = is ∙ ap (λ l. first ++ l) after.whole ∙ sym (append_assoc first after.squares after.rest);
+    }
+
+-- eight ranks that are joined by slashes
+from_ranks : (text : List ℕ) (pieces : List Piece) (ranks : List (List ℕ)) → length ranks ≡ 8 → text ≡ join_with_byte 47 ranks → AreRanks ranks pieces → Finishes text 7 8 pieces
+from_ranks text pieces [] eight joined each = absurd (omega (arith, eight))
+from_ranks text pieces (rank ∷ ranks) eight joined each =
+    let seven : length ranks ≡ 7 = omega (arith, eight) in
+    rw (joined, ← seven) (ranks_finish ranks rank pieces each)
+
+-- the counters say the same as the definition
+pub placement_finishes : (text : List ℕ) (pieces : List Piece) → IsPlacement text pieces → Finishes text 7 8 pieces
+placement_finishes text pieces h = from_ranks text pieces h.ranks h.eight h.joined h.each
+
+-- and the other way round
+pub finishes_placement : (text : List ℕ) (pieces : List Piece) → Finishes text 7 8 pieces → IsPlacement text pieces
+finishes_placement text pieces h =
+    let all = parts text 7 8 pieces h in
+    record {
+      ranks = all.rank ∷ all.ranks;
+      eight = ap suc all.so_many;
+      joined = all.joined;
+      each = (all.squares, all.rest, all.so_long, all.is_rank, all.others, all.whole);
+    }

@@ -1,0 +1,9 @@
+pub mod Differing
+pub mod Placing
+pub mod Ranks
+pub mod Finishing
+pub mod Reading
+pub mod Outcomes
+pub mod Every
+pub mod Apart
+pub mod Written

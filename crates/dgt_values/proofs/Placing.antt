@@ -1,0 +1,39 @@
+-- One more piece of a rank is written.
+use Rattle.std.proofs.Common.{◌≡◌, ℕ, suc, ◌+◌, ◌<◌, refl, List, [], ◌∷◌, ◌++◌, length, drop, get_or, append_assoc, add-one, drop-cons}
+use Rattle.std.specs.Prelude.{◌≢◌}
+use Rattle.dgt_values.specs.declared.pieces.Piece.{Piece}
+use Rattle.dgt_values.specs.declared.pieces.Piece.TheVariants.{Empty, WhitePawn, WhiteRook, WhiteKnight, WhiteBishop, WhiteKing, WhiteQueen, BlackPawn, BlackRook, BlackKnight, BlackBishop, BlackKing, BlackQueen, FirstExtra, SecondExtra, ThirdExtra}
+use Rattle.dgt_values.specs.Piece.{piece_letter}
+use Rattle.dgt_values.specs.Placement.{rank_text_after, run_text}
+
+-- the text of a rank from a piece on
+pub text_after_piece : (piece : Piece) (empty : ℕ) (pieces : List Piece) → piece ≢ Empty
+    → rank_text_after empty (piece ∷ pieces) ≡ run_text empty ++ piece_letter piece ∷ rank_text_after 0 pieces
+text_after_piece Empty empty pieces h = absurd (h refl)
+text_after_piece WhitePawn empty pieces h = refl
+text_after_piece WhiteRook empty pieces h = refl
+text_after_piece WhiteKnight empty pieces h = refl
+text_after_piece WhiteBishop empty pieces h = refl
+text_after_piece WhiteKing empty pieces h = refl
+text_after_piece WhiteQueen empty pieces h = refl
+text_after_piece BlackPawn empty pieces h = refl
+text_after_piece BlackRook empty pieces h = refl
+text_after_piece BlackKnight empty pieces h = refl
+text_after_piece BlackBishop empty pieces h = refl
+text_after_piece BlackKing empty pieces h = refl
+text_after_piece BlackQueen empty pieces h = refl
+text_after_piece FirstExtra empty pieces h = refl
+text_after_piece SecondExtra empty pieces h = refl
+text_after_piece ThirdExtra empty pieces h = refl
+
+-- an empty square makes the run longer
+pub one_more_empty : (rank : List Piece) (i empty : ℕ) → i < length rank → get_or rank i Empty ≡ Empty
+    → rank_text_after empty (drop i rank) ≡ rank_text_after (empty + 1) (drop (i + 1) rank)
+one_more_empty rank i empty h e =
+    rw (add-one i, drop-cons rank i Empty h, e) refl
+
+-- a piece ends the run
+pub one_more_piece : (rank : List Piece) (i empty : ℕ) (text : List ℕ) → i < length rank → get_or rank i Empty ≢ Empty
+    → text ++ rank_text_after empty (drop i rank) ≡ ((text ++ run_text empty) ++ piece_letter (get_or rank i Empty) ∷ []) ++ rank_text_after 0 (drop (i + 1) rank)
+one_more_piece rank i empty text h ne =
+    rw (add-one i, drop-cons rank i Empty h, text_after_piece (get_or rank i Empty) empty (drop (suc i) rank) ne) (simp append_assoc)

@@ -1,0 +1,7 @@
+use Rattle.dgt_values.specs.Placement.{placement_text}
+use Rattle.dgt_values.proofs.Apart.{apart_digits}
+use Rattle.dgt_values.proofs.Written.{written_apart}
+use Rattle.dgt_values.proofs.laws.written_digits_stand_apart.Goals as goal
+
+pub returns : goal.returns
+returns c = λ pieces. apart_digits (placement_text pieces) (written_apart pieces)

@@ -1,0 +1,10 @@
+use Rattle.dgt_values.specs.Pieces.{pieces_of}
+use Rattle.dgt_values.specs.Placement.{placement_text}
+use Rattle.dgt_values.proofs.Outcomes.{one_outcome}
+use Rattle.dgt_values.proofs.Written.{written_placement}
+use Rattle.std.specs.Prelude.{Ok}
+use Rattle.dgt_values.proofs.laws.written_text_reads_back.Goals as goal
+
+pub returns : goal.returns
+returns c = λ position read parsed.
+    one_outcome (placement_text (pieces_of position)) read (Ok position) parsed (written_placement (pieces_of position) position.all)

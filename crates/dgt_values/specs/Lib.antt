@@ -1,0 +1,9 @@
+pub mod Body
+pub mod Bytes
+pub mod Piece
+pub mod Pieces
+pub mod Placement
+pub mod Position
+pub mod Room
+pub mod Segment
+pub mod Square

@@ -1,0 +1,46 @@
+//! Bytes with a clear top bit.
+
+ghost use Rattle.std.specs.Prelude.{◌≡◌, ℕ, ◌<◌};
+
+use thiserror::Error;
+
+/// A byte whose top bit is set, where none may be.
+#[derive(Clone, Copy, Debug, PartialEq, Eq, Error)]
+#[error("the top bit is set")]
+pub struct NotSevenBit;
+
+/// A byte below 128. On the line from board to host, all bytes but the first of a message are such.
+#[derive(Clone, Copy, Debug, PartialEq, Eq)]
+pub struct SevenBit {
+    value: u8,
+    ghost small: { value < 128 },
+}
+
+/// A byte of 128 or more is `NotSevenBit`.
+impl TryFrom<u8> for SevenBit {
+    type Error = NotSevenBit;
+
+    ghost use Rattle.dgt_values.specs.Bytes.{SevenBitOf};
+
+    ghost try_from_gives = { SevenBitOf };
+
+    fn try_from(value: u8) -> Result<Self, NotSevenBit> {
+        if value < 128 {
+            Ok(SevenBit { value })
+        } else {
+            Err(NotSevenBit)
+        }
+    }
+}
+
+impl SevenBit {
+    ghost use Rattle.dgt_values.specs.Bytes.{number};
+
+    /// The byte, from 0 to 127.
+    pub fn get(self) -> u8
+        ensures value { result ≡ number self }
+        ensures in_range { number self < 128 }
+    {
+        self.value
+    }
+}

@@ -1,0 +1,59 @@
+//! What holds of the texts of positions as such. Nothing here runs: each function stands for the fact that its
+//! contract states.
+
+ghost use Rattle.std.specs.Prelude.{◌≡◌, ◌≤◌, ℕ, List, length, Result, Ok};
+ghost use Rattle.dgt_values.specs.declared.pieces.Piece.{Piece};
+ghost use Rattle.dgt_values.specs.declared.placements.BadPlacement.{BadPlacement};
+ghost use Rattle.dgt_values.specs.declared.positions.Position.{Position};
+ghost use Rattle.dgt_values.specs.Pieces.{pieces_of};
+ghost use Rattle.dgt_values.specs.Placement.{digit_count, placement_text, DigitsApart, IsPlacement, ParsesPlacement};
+
+/// An accepted text has a piece for each of the 64 squares.
+pub fn placements_fill_the_board()
+    ensures { (text : List ℕ) (pieces : List Piece) → IsPlacement text pieces → length pieces ≡ 64 }
+{}
+
+/// No text is a placement of two positions.
+pub fn one_position_a_placement()
+    ensures { (text : List ℕ) (first second : List Piece)
+        → IsPlacement text first → IsPlacement text second → first ≡ second }
+{}
+
+/// Each list of bytes has a position or a first bad offset.
+pub fn some_outcome_a_text()
+    ensures { (text : List ℕ) → (read : Result Position BadPlacement) × ParsesPlacement text read }
+{}
+
+/// No text has two positions or two first bad offsets, and none has a position and a first bad offset.
+pub fn one_outcome_a_text()
+    ensures { (text : List ℕ) (first second : Result Position BadPlacement)
+        → ParsesPlacement text first → ParsesPlacement text second → first ≡ second }
+{}
+
+/// What is written of 64 pieces is a placement of them.
+pub fn written_text_is_accepted()
+    ensures { (pieces : List Piece) → length pieces ≡ 64 → IsPlacement (placement_text pieces) pieces }
+{}
+
+/// What is read of the written text of a position is that position.
+pub fn written_text_reads_back()
+    ensures { (position : Position) (read : Result Position BadPlacement)
+        → ParsesPlacement (placement_text (pieces_of position)) read → read ≡ Ok position }
+{}
+
+/// No two digits of the written text stand side by side.
+pub fn written_digits_stand_apart()
+    ensures { (pieces : List Piece) → DigitsApart (placement_text pieces) }
+{}
+
+/// No other text of a position keeps its digits apart.
+pub fn one_text_keeps_digits_apart()
+    ensures { (text : List ℕ) (pieces : List Piece)
+        → IsPlacement text pieces → DigitsApart text → text ≡ placement_text pieces }
+{}
+
+/// No text of a position has fewer digits than the written one.
+pub fn written_text_has_fewest_digits()
+    ensures { (text : List ℕ) (pieces : List Piece)
+        → IsPlacement text pieces → digit_count (placement_text pieces) ≤ digit_count text }
+{}

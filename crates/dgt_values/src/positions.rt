@@ -1,0 +1,111 @@
+//! What stands on each square.
+
+ghost use Rattle.std.specs.Prelude.{◌≡◌, ◌↔◌, ◌≢◌, ◌<◌, length, replicate, slice_get, slice_set, IsTrue};
+ghost use Rattle.dgt_values.specs.Position.{start_pieces, DifferingSquares};
+
+use crate::pieces::Piece;
+use crate::squares::Square;
+
+/// The pieces of the 64 squares.
+#[derive(Clone, Copy, Debug, PartialEq, Eq)]
+pub struct Position {
+    pieces: [Piece; 64],
+    ghost all: { length pieces ≡ 64 },
+}
+
+const BLACK_OFFICERS: [Piece; 8] = [
+    Piece::BlackRook,
+    Piece::BlackKnight,
+    Piece::BlackBishop,
+    Piece::BlackQueen,
+    Piece::BlackKing,
+    Piece::BlackBishop,
+    Piece::BlackKnight,
+    Piece::BlackRook,
+];
+
+const WHITE_OFFICERS: [Piece; 8] = [
+    Piece::WhiteRook,
+    Piece::WhiteKnight,
+    Piece::WhiteBishop,
+    Piece::WhiteQueen,
+    Piece::WhiteKing,
+    Piece::WhiteBishop,
+    Piece::WhiteKnight,
+    Piece::WhiteRook,
+];
+
+impl Position {
+    ghost use Rattle.dgt_values.specs.Square.{square_number};
+    ghost use Rattle.dgt_values.specs.Pieces.{pieces_of};
+
+    /// A board with no piece.
+    pub fn empty() -> Self
+        ensures { pieces_of result ≡ replicate 64 Piece.Empty }
+    {
+        Position {
+            pieces: [Piece::Empty; 64],
+        }
+    }
+
+    /// The position in which a game begins.
+    pub fn start() -> Self
+        ensures { pieces_of result ≡ start_pieces }
+    {
+        let mut pieces = [Piece::Empty; 64];
+        pieces[..8].copy_from_slice(&BLACK_OFFICERS);
+        pieces[8..16].fill(Piece::BlackPawn);
+        pieces[48..56].fill(Piece::WhitePawn);
+        pieces[56..].copy_from_slice(&WHITE_OFFICERS);
+        Position { pieces }
+    }
+
+    pub(crate) fn from_pieces(pieces: [Piece; 64]) -> Self
+        ensures { pieces_of result ≡ pieces }
+    {
+        Position { pieces }
+    }
+
+    /// The pieces of all squares by their numbers, from a8 to h1.
+    pub fn pieces(&self) -> &[Piece; 64]
+        ensures pieces { result.now ≡ pieces_of self.now }
+        ensures len { length (pieces_of self.now) ≡ 64 }
+    {
+        &self.pieces
+    }
+
+    /// What the square holds.
+    pub fn get(&self, square: Square) -> Piece
+        ensures piece { slice_get (pieces_of self.now) (square_number square) ≡ Some result }
+        ensures len { length (pieces_of self.now) ≡ 64 }
+    {
+        self.pieces[square.index() as usize]
+    }
+
+    /// Puts the piece, which may be `Empty`, on the square. No other square changes.
+    pub fn set(&mut self, square: Square, piece: Piece)
+        ensures set { pieces_of self.new ≡ slice_set (pieces_of self.old) (square_number square) piece }
+        ensures len { length (pieces_of self.new) ≡ 64 }
+    {
+        self.pieces[square.index() as usize] = piece;
+    }
+
+    /// The squares on which two positions differ: bit n is set exactly where square n differs.
+    pub fn differ(&self, other: &Position) -> u64
+        ensures { DifferingSquares (pieces_of self.now) (pieces_of other.now) result }
+    {
+        let mut differing = 0;
+        for square in 0..64 {
+            if !is_same(self.pieces[square], other.pieces[square]) {
+                differing |= 1 << square;
+            }
+        }
+        differing
+    }
+}
+
+pub(crate) fn is_same(a: Piece, b: Piece) -> bool
+    ensures { IsTrue result ↔ (a ≡ b) }
+{
+    a == b
+}

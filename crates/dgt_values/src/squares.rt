@@ -1,0 +1,60 @@
+//! The squares of the board.
+
+ghost use Rattle.std.specs.Prelude.{◌≡◌, ℕ, ◌<◌, ◌∷◌, [], MatchResult};
+
+use thiserror::Error;
+
+/// The number is above 63, or the name is none of a square.
+#[derive(Clone, Copy, Debug, PartialEq, Eq, Error)]
+#[error("this stands for no square")]
+pub struct NoSquare;
+
+/// A square by its number, rank by rank from 8 down: a8 is 0, b8 is 1, h8 is 7, a7 is 8 and h1 is 63.
+#[derive(Clone, Copy, Debug, PartialEq, Eq)]
+pub struct Square {
+    index: u8,
+    ghost small: { index < 64 },
+}
+
+impl Square {
+    ghost use Rattle.dgt_values.specs.Square.{square_name, square_number, HasIndex, HasName};
+
+    /// The square of a number from 0 to 63. A greater one is `NoSquare`.
+    pub fn from_index(index: u8) -> Result<Self, NoSquare>
+        ensures { HasIndex index result }
+    {
+        if index < 64 {
+            Ok(Square { index })
+        } else {
+            Err(NoSquare)
+        }
+    }
+
+    /// The number, from 0 to 63.
+    pub fn index(self) -> u8
+        ensures value { result ≡ square_number self }
+        ensures in_range { square_number self < 64 }
+    {
+        self.index
+    }
+
+    /// The square of a name such as `e4`: a small letter from a to h for the file, then a digit from 1 to 8 for
+    /// the rank. Any other text is `NoSquare`.
+    pub fn parse(name: &str) -> Result<Self, NoSquare>
+        ensures { HasName name.now result }
+    {
+        match name.as_bytes() {
+            [file @ b'a'..=b'h', rank @ b'1'..=b'8'] => Ok(Square {
+                index: 8 * (b'8' - *rank) + (*file - b'a'),
+            }),
+            _ => Err(NoSquare),
+        }
+    }
+
+    /// The two bytes of the name: the file's letter and the rank's digit.
+    pub fn name(self) -> [u8; 2]
+        ensures { result ≡ square_name (square_number self) }
+    {
+        [b'a' + self.index % 8, b'8' - self.index / 8]
+    }
+}
