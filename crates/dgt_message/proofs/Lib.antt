@@ -1,0 +1,7 @@
+pub mod Absence
+pub mod Codes
+pub mod MessageIn
+pub mod AtMostOne
+pub mod Headers
+pub mod SpellingSpells
+pub mod ReadingFits

@@ -1,0 +1,11 @@
+pub mod Ack
+pub mod Clock
+pub mod Content
+pub mod Fault
+pub mod Laws
+pub mod Other
+pub mod Time
+pub mod Spelling
+pub mod Reading
+pub mod Values
+pub mod ClockState
