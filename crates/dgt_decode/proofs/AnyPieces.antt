@@ -1,0 +1,57 @@
+-- Bytes in any pieces.
+use Rattle.std.proofs.Common.{◌≡◌, ℕ, ◌+◌, ◌-◌, ◌≤◌, List, [], ◌∷◌, ◌++◌, length, take, Option, Some, None, sym, ap, subst, ◌∙◌, append_assoc, arith}
+use Rattle.std.proofs.lemmas.List.{append-nil, append_cancel_left, length-append, length-take}
+use Rattle.std.proofs.Math.Seq.{take-length}
+use Rattle.dgt_message.specs.Spelling.{spelling}
+use Rattle.dgt_decode.specs.Grammar.{Event, Message, Placed, at_place, events_behind, cut_of, events, open_message}
+use Rattle.dgt_decode.specs.Feeding.{FirstEvent, at_place_if_any}
+use Rattle.dgt_decode.specs.Laws.{Call, AreCalls, used_part, used_bytes, events_in_pieces, InAnyPieces, SpellingInPieces}
+use Rattle.dgt_decode.proofs.More.{events-append}
+use Rattle.dgt_decode.proofs.Open.{open-append, length-open}
+use Rattle.dgt_decode.proofs.Loops.{events_behind-at_place_if_any}
+use Rattle.dgt_decode.proofs.Spelled.{AreRead, AreSpelled, spelling_is_read}
+
+-- no more bytes are used than the piece has
+first_within : (held piece : List ℕ) (used : ℕ) (x : Option Event) → FirstEvent held piece used x → used ≤ length piece
+first_within held piece used None h = omega (arith, h.0)
+first_within held piece used (Some event) h = h.0
+
+-- what the used bytes of a piece come to
+first_told : (held piece : List ℕ) (used : ℕ) (x : Option Event) → FirstEvent held piece used x
+    → events (held ++ take used piece) ≡ at_place_if_any (length held + used) x
+first_told held piece used None h = rw (h.0, take-length piece) h.1
+first_told held piece used (Some event) h = h.1
+
+-- and behind bytes of which these are held
+call_told : (s : List ℕ) (call : Call) → FirstEvent (open_message s) call.piece call.used call.event
+    → events (s ++ used_part call) ≡ events s ++ at_place_if_any (length s + call.used) call.event
+call_told s call first =
+    let o = open_message s in
+    let place : length s - length o + (length o + call.used) ≡ length s + call.used = omega (arith, length-open s) in
+    events-append s (used_part call)
+    ∙ ap (λ (xs : List Placed). events s ++ events_behind (length s - length o) xs) (first_told o call.piece call.used call.event first)
+    ∙ ap (λ (xs : List Placed). events s ++ xs) (events_behind-at_place_if_any (length s - length o) (length o + call.used) (length s + call.used) call.event place)
+
+-- by induction: each call goes on where the one before it stopped
+pub in_any_pieces : InAnyPieces
+in_any_pieces s [] are = rw (append-nil s) (sym (append-nil (events s)))
+in_any_pieces s (call ∷ calls) are =
+    let within = first_within (open_message s) call.piece call.used call.event are.0 in
+    let count : length (s ++ used_part call) ≡ length s + call.used = omega (arith, length-append s (used_part call), length-take call.used call.piece) in
+    let held = open-append s (used_part call) in
+    let later : AreCalls (open_message (s ++ used_part call)) calls = subst (λ (x : List ℕ). AreCalls x calls) (sym held) are.1 in
+    ap (λ (x : List ℕ). events x) (sym (append_assoc s (used_part call) (used_bytes calls)))
+    ∙ in_any_pieces (s ++ used_part call) calls later
+    ∙ rw (count, call_told s call are.0) (append_assoc (events s) (at_place_if_any (length s + call.used) call.event) (events_in_pieces (length s + call.used) calls))
+
+-- what is told in pieces is told of the whole
+pub spelling_in_pieces : AreRead → AreSpelled → SpellingInPieces
+spelling_in_pieces reads spelled s said calls is are same =
+    let cut = events_behind (length s) (cut_of (open_message s)) in
+    let told = cut ++ at_place (length s + length (spelling said)) (Message said) ∷ [] in
+    append_cancel_left (events s) (events_in_pieces (length s) calls) told (
+    sym (in_any_pieces s calls are)
+    ∙ ap (λ (x : List ℕ). events (s ++ x)) same
+    ∙ (spelling_is_read reads spelled s said is).0
+    ∙ append_assoc (events s) cut (at_place (length s + length (spelling said)) (Message said) ∷ [])
+    )

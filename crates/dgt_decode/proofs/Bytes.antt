@@ -1,0 +1,84 @@
+-- One more byte, as a reader takes it.
+use Rattle.std.proofs.Common.{◌≡◌, ℕ, zero, suc, ◌<◌, ◌≤◌, Bool, true, false, cond, List, [], ◌∷◌, ◌++◌, length, get_or, Some, None, refl, sym, subst, arith}
+use Rattle.std.proofs.lemmas.List.{get_or_append_left}
+use Rattle.std.proofs.lemmas.Bool.{leb-true}
+use Rattle.dgt_decode.specs.Grammar.{IsSevenBit, Cut, Stray, has_top_bit, lead, segments, verdict, open_message}
+use Rattle.dgt_decode.specs.Taking.{TakesByte}
+use Rattle.dgt_decode.proofs.Verdicts.{Stage, short, waits, bad, whole, stage_of, verdict-bad, verdict-whole}
+use Rattle.dgt_decode.proofs.More.{IsAlone, IsSevenBit-lead}
+use Rattle.dgt_decode.proofs.Steps.{IsHeld, IsHeld-open, alone_held, first-begins, first-stray, next-begins}
+
+-- no bytes are held as they are
+pub nothing_held : IsHeld []
+unfolding open_message
+nothing_held = refl
+
+-- no bytes leave nothing open
+pub open-nothing : (kept : List ℕ) → kept ≡ [] → open_message kept ≡ []
+open-nothing kept none = rw none nothing_held
+
+-- with nothing held, a byte with a set top bit begins a message
+pub takes-first : (held : List ℕ) (b : ℕ) → length held ≡ 0 → 128 ≤ b → TakesByte held b (b ∷ []) None
+takes-first [] b none top = let g = first-begins b top in record { told = g.told; holds = sym g.leaves }
+takes-first (x ∷ held) b none top = absurd (omega arith)
+
+-- with nothing held, a seven-bit byte is stray
+pub takes-stray : (held : List ℕ) (b : ℕ) → length held ≡ 0 → b < 128 → TakesByte held b held (Some (Stray b))
+takes-stray [] b none seven = let g = first-stray b seven in record { told = g.told; holds = sym g.leaves }
+takes-stray (x ∷ held) b none seven = absurd (omega arith)
+
+-- with a message held, a byte with a set top bit cuts it off
+pub takes-cut : (held : List ℕ) (b : ℕ) → IsHeld held → 0 < length held → 128 ≤ b → TakesByte held b (b ∷ []) (Some (Cut (length held)))
+takes-cut held b h some top = let g = next-begins held b h some top in record { told = g.told; holds = sym g.leaves }
+
+-- ---- what is held begins a message, and has room for one more byte
+
+-- each of seven-bit bytes, and the zero behind their end, is below 128
+IsSevenBit-get : (bytes : List ℕ) (i : ℕ) → IsSevenBit bytes → get_or bytes i 0 < 128
+IsSevenBit-get [] i h = omega arith
+IsSevenBit-get (b ∷ bytes) zero h = h.0
+IsSevenBit-get (b ∷ bytes) (suc i) h = IsSevenBit-get bytes i h.1
+
+-- one segment begins with a set top bit, and goes on seven-bit
+pub IsAlone-parts : (b : ℕ) (bytes : List ℕ) → IsAlone (b ∷ bytes) → (128 ≤ b) × IsSevenBit bytes
+IsAlone-parts b bytes alone = go (has_top_bit b) refl alone.no_lead alone.one
+  where
+    go : (t : Bool) → has_top_bit b ≡ t → cond t [] (b ∷ lead bytes) ≡ []
+        → cond t ((b ∷ lead bytes) ∷ segments bytes) (segments bytes) ≡ (b ∷ bytes) ∷ [] → (128 ≤ b) × IsSevenBit bytes
+    go true e f g = let same : lead bytes ≡ bytes = cc in (leb-true 128 b e, subst (λ (x : List ℕ). IsSevenBit x) same (IsSevenBit-lead bytes))
+    go false e f g = absurd cc
+
+-- what is held begins with a set top bit
+pub held_begins : (held : List ℕ) → IsHeld held → 0 < length held → 128 ≤ get_or held 0 0
+held_begins [] h some = absurd (omega arith)
+held_begins (b ∷ held) h some = (IsAlone-parts b held (alone_held (b ∷ held) h some).0).0
+
+-- and still does with one more byte
+pub held_begins_more : (held : List ℕ) (b : ℕ) → IsHeld held → 0 < length held → 128 ≤ get_or (held ++ b ∷ []) 0 0
+held_begins_more held b h some = rw (get_or_append_left held (b ∷ []) 0 0 some) (held_begins held h some)
+
+-- what is held is shorter than the longest total
+pub held_room : (held : List ℕ) → IsHeld held → length held < 16383
+held_room [] h = omega arith
+held_room (b ∷ held) h = go (stage_of (b ∷ held))
+  where
+    some : 0 < length (b ∷ held)
+    some = omega arith
+
+    alone : IsAlone (b ∷ held) × (verdict (b ∷ held) ≡ None)
+    alone = alone_held (b ∷ held) h some
+
+    go : Stage (b ∷ held) → length (b ∷ held) < 16383
+    go (short few) = omega arith
+    go (waits less) =
+        let seven = (IsAlone-parts b held alone.0).1 in
+        omega (arith, IsSevenBit-get held 0 seven, IsSevenBit-get held 1 seven)
+    go (bad long small) = let none = alone.1 in let no = verdict-bad (b ∷ held) long small in absurd cc
+    go (whole large enough) = let none = alone.1 in let no = verdict-whole (b ∷ held) large enough in absurd cc
+
+-- An unfinished message is shorter than the longest total.
+pub open_is_short : (s : List ℕ) → length (open_message s) < 16383
+open_is_short s = held_room (open_message s) (IsHeld-open s)
+
+-- what a reader without bytes leaves open, and how much any reader does
+pub ruleset openings = (open-nothing, open_is_short)

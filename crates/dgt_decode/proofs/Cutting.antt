@@ -1,0 +1,215 @@
+-- A program that cuts a whole list, segment by segment.
+use Rattle.std.proofs.Common.{◌≡◌, ℕ, suc, ◌+◌, ◌-◌, ◌<◌, ◌≤◌, Bool, true, false, cond, List, [], ◌∷◌, ◌++◌, length, take, drop, get_or, Some, None, nat_eq, inl, inr, add-one, refl, sym, ap, subst, ◌∙◌, append_assoc, arith}
+use Rattle.std.specs.Prelude.{if◌then◌else◌}
+use Rattle.std.proofs.lemmas.List.{append-nil, append_cancel_left, drop-drop, length-take, map-append, take_more, take-append-drop}
+use Rattle.std.proofs.lemmas.Bool.{le-leb, leb-true, eq-eqb, ne_eqb, cases_lt}
+use Rattle.std.proofs.Math.Seq.{drop-cons, drop-length}
+use Rattle.dgt_decode.specs.declared.event.Event.{Event as CodeEvent}
+use Rattle.dgt_decode.specs.declared.event.Event.TheVariants as code_events
+use Rattle.dgt_decode.specs.Grammar.{IsSevenBit, Event, BadLength, Stray, Placed, at_place, message_event, total_of, events_behind, strays, has_top_bit, lead, segments, verdict, segment_events, unfinished_part, cut_of, cut_before, events_of, events}
+use Rattle.dgt_decode.specs.Feeding.{event_content}
+use Rattle.dgt_decode.specs.Laws.{IsSegment}
+use Rattle.dgt_decode.specs.Placing.{placed_content, placed_contents}
+use Rattle.dgt_decode.proofs.Verdicts.{verdict-bad, verdict-waits, verdict-whole}
+use Rattle.dgt_decode.proofs.Places.{events_behind-append, events_behind-events_behind, events_behind-zero, strays-append}
+use Rattle.dgt_decode.proofs.Cuts.{lead-append, segments-append}
+use Rattle.dgt_decode.proofs.More.{IsSevenBit-lead, lead-seven, segments-seven}
+
+-- ---- The lead
+
+-- the lead is a seven-bit front, and the lead of the rest
+lead_split : (bytes : List ℕ) (i : ℕ) → IsSevenBit (take i bytes) → lead bytes ≡ take i bytes ++ lead (drop i bytes)
+lead_split bytes i seven =
+    ap (λ (x : List ℕ). lead x) (sym (take-append-drop i bytes))
+    ∙ lead-append (take i bytes) (drop i bytes)
+    ∙ rw (lead-seven (take i bytes) seven, segments-seven (take i bytes) seven) refl
+
+-- the lead ends where the first byte with a set top bit stands
+pub lead_here : (bytes : List ℕ) (i : ℕ) → i < length bytes → 128 ≤ get_or bytes i 0 → IsSevenBit (take i bytes) → take i bytes ≡ lead bytes
+lead_here bytes i within top seven =
+    let next : lead (drop i bytes) ≡ [] = rw (drop-cons bytes i 0 within, le-leb 128 (get_or bytes i 0) top) refl in
+    sym (lead_split bytes i seven ∙ rw next (append-nil (take i bytes)))
+
+-- with no such byte it is the whole
+pub lead_all : (bytes : List ℕ) (i : ℕ) → i ≡ length bytes → IsSevenBit (take i bytes) → take (length bytes) bytes ≡ lead bytes
+lead_all bytes i end seven =
+    let all : IsSevenBit (take (length bytes) bytes) = subst (λ (n : ℕ). IsSevenBit (take n bytes)) end seven in
+    sym (lead_split bytes (length bytes) all ∙ rw (drop-length bytes) (append-nil (take (length bytes) bytes)))
+
+-- behind the lead stands a byte with a set top bit, or none
+pub lead_stops : (bytes : List ℕ) (i : ℕ) → take i bytes ≡ lead bytes → lead (drop i bytes) ≡ []
+lead_stops bytes i is =
+    let seven : IsSevenBit (take i bytes) = subst (λ (x : List ℕ). IsSevenBit x) (sym is) (IsSevenBit-lead bytes) in
+    append_cancel_left (take i bytes) (lead (drop i bytes)) [] (sym (lead_split bytes i seven) ∙ sym is ∙ sym (append-nil (take i bytes)))
+
+-- the segments stand behind the lead
+segments_behind : (bytes : List ℕ) (i : ℕ) → take i bytes ≡ lead bytes → segments bytes ≡ segments (drop i bytes)
+segments_behind bytes i is =
+    let seven : IsSevenBit (take i bytes) = subst (λ (x : List ℕ). IsSevenBit x) (sym is) (IsSevenBit-lead bytes) in
+    ap (λ (x : List ℕ). segments x) (sym (take-append-drop i bytes))
+    ∙ segments-append (take i bytes) (drop i bytes)
+    ∙ rw (segments-seven (take i bytes) seven) refl
+
+-- ---- The verdict of a segment whose total is t
+
+-- a total below 3 is told at the third byte
+pub bad_here : (g : List ℕ) (t : ℕ) → t ≡ total_of g → 3 ≤ length g → t < 3 → Some (at_place 3 BadLength) ≡ verdict g
+bad_here g t is long small = sym (verdict-bad g long (omega (arith, is)))
+
+-- a segment shorter than its total tells nothing
+pub waits_here : (g : List ℕ) (t : ℕ) → t ≡ total_of g → length g < t → None ≡ verdict g
+waits_here g t is less = sym (verdict-waits g (omega (arith, is)))
+
+-- a whole message is told at its total
+pub whole_here : (g : List ℕ) (t : ℕ) (event : Event) → t ≡ total_of g → 3 ≤ t → t ≤ length g → event ≡ message_event (take t g) → Some (at_place t event) ≡ verdict g
+whole_here g t event is large enough tells = rw (tells, is) (sym (verdict-whole g (omega (arith, is)) (omega (arith, is))))
+
+-- ---- Strays
+
+-- one more Stray
+pub strays_more : (before i : ℕ) (bytes : List ℕ) → i < length bytes
+    → events_behind before (strays (take i bytes)) ++ at_place (before + i + 1) (Stray (get_or bytes i 0)) ∷ [] ≡ events_behind before (strays (take (i + 1) bytes))
+strays_more before i bytes within =
+    let count : length (take i bytes) ≡ i = omega (arith, length-take i bytes) in
+    let place : before + (i + 1) ≡ before + i + 1 = omega arith in
+    sym (rw (take_more bytes i 0 within, strays-append (take i bytes) (get_or bytes i 0 ∷ []), count, events_behind-append before (strays (take i bytes)) (at_place (i + 1) (Stray (get_or bytes i 0)) ∷ []), place) refl)
+
+-- one more Stray is told
+pub told_stray : (old told new : List (ℕ × CodeEvent)) (before i : ℕ) (bytes : List ℕ) → i < length bytes
+    → placed_contents told ≡ placed_contents old ++ events_behind before (strays (take i bytes))
+    → new ≡ told ++ (before + i + 1, code_events.Stray (get_or bytes i 0)) ∷ []
+    → placed_contents new ≡ placed_contents old ++ events_behind before (strays (take (i + 1) bytes))
+told_stray old told new before i bytes within so_far pushed =
+    let one : List (ℕ × CodeEvent) = (before + i + 1, code_events.Stray (get_or bytes i 0)) ∷ [] in
+    rw (pushed, map-append placed_content told one, so_far, ← strays_more before i bytes within)
+    (append_assoc (placed_contents old) (events_behind before (strays (take i bytes))) (placed_contents one))
+
+-- ---- A segment
+
+-- the Cut at the end of a segment
+abbrev pub cut_after : Bool → List ℕ → List Placed
+cut_after is_last unfinished = if is_last then [] else cut_of unfinished
+
+-- with nothing unfinished there is no Cut
+cut_after-nothing : (is_last : Bool) → cut_after is_last [] ≡ []
+cut_after-nothing true = refl
+cut_after-nothing false = refl
+
+-- the verdict and the strays behind it are told
+pub told_verdict : (old mid new : List (ℕ × CodeEvent)) (before place : ℕ) (event : CodeEvent) (g rest : List ℕ) (is_last : Bool)
+    → Some (at_place place (event_content event)) ≡ verdict g
+    → mid ≡ old ++ (before + place, event) ∷ []
+    → rest ≡ drop place g
+    → placed_contents new ≡ placed_contents mid ++ events_behind (before + place) (strays rest)
+    → placed_contents new ≡ placed_contents old ++ events_behind before (segment_events (verdict g) g ++ events_behind (length g) (cut_after is_last (unfinished_part (verdict g) g)))
+told_verdict old mid new before place event g rest is_last is pushed same told =
+    let one : List (ℕ × CodeEvent) = (before + place, event) ∷ [] in
+    rw (told, pushed, map-append placed_content old one, same, ← is, cut_after-nothing is_last, append-nil (events_behind place (strays (drop place g))), events_behind-events_behind before place (strays (drop place g)))
+    (append_assoc (placed_contents old) (placed_contents one) (events_behind (before + place) (strays (drop place g))))
+
+-- ---- The whole list
+
+-- what is told of the bytes before a place where a segment begins, or the end
+pub record HasTold (bytes : List ℕ) (start : ℕ) (told : List Placed) : Type 0 where
+  pub within : start ≤ length bytes
+  pub no_lead : lead (drop start bytes) ≡ []
+  pub so_far : told ++ events_behind start (events_of (segments (drop start bytes))) ≡ events bytes
+
+-- the Strays of the lead are told
+pub told_lead : (bytes : List ℕ) (start : ℕ) (told : List Placed) → start ≤ length bytes → take start bytes ≡ lead bytes
+    → told ≡ events_behind 0 (strays (take start bytes)) → HasTold bytes start told
+unfolding events
+told_lead bytes start told within is so_far =
+    let count : length (lead bytes) ≡ start = ap length (sym is) ∙ omega (arith, length-take start bytes) in
+    record {
+      within = within;
+      no_lead = lead_stops bytes start is;
+      so_far = rw (so_far, events_behind-zero (strays (take start bytes)), is, count, ← segments_behind bytes start is) refl;
+    }
+
+-- bytes without a lead begin with a set top bit
+top_first : (b : ℕ) (rest : List ℕ) → lead (b ∷ rest) ≡ [] → 128 ≤ b
+top_first b rest = go (has_top_bit b) refl
+  where
+    go : (t : Bool) → has_top_bit b ≡ t → cond t [] (b ∷ lead rest) ≡ [] → 128 ≤ b
+    go true e none = leb-true 128 b e
+    go false e none = absurd cc
+
+-- the byte at a place, and the bytes behind it
+from_here : (bytes : List ℕ) (start : ℕ) → start < length bytes → drop start bytes ≡ get_or bytes start 0 ∷ drop (start + 1) bytes
+from_here bytes start more = rw (add-one, drop-cons bytes start 0 more) refl
+
+-- the Cut is made where another segment follows
+cut_here : (bytes : List ℕ) (end : ℕ) (u : List ℕ) → end ≤ length bytes → lead (drop end bytes) ≡ []
+    → cut_before (segments (drop end bytes)) u ≡ cut_after (nat_eq end (length bytes)) u
+cut_here bytes end u within none = elim (cases_lt end (length bytes)) [
+  | inl more ↦
+      let at = from_here bytes end more in
+      let top = top_first (get_or bytes end 0) (drop (end + 1) bytes) (rw at at none) in
+      let not_last : nat_eq end (length bytes) ≡ false = ne_eqb end (length bytes) (λ (same : end ≡ length bytes). absurd (omega (arith, same))) in
+      rw (at, le-leb 128 (get_or bytes end 0) top, not_last) refl
+  | inr past ↦
+      let all : end ≡ length bytes = omega arith in
+      let last : nat_eq (length bytes) (length bytes) ≡ true = eq-eqb (length bytes) (length bytes) refl in
+      rw (all, drop-length bytes, last) refl
+]
+
+-- the next segment: the byte with a set top bit, and the lead of what stands behind it
+pub record IsNext (bytes : List ℕ) (start count : ℕ) (segment : List ℕ) : Type 0 where
+  pub top : 128 ≤ get_or bytes start 0
+  pub is : segment ≡ get_or bytes start 0 ∷ lead (drop (start + 1) bytes)
+  pub size : length segment ≡ 1 + count
+  pub stops : take count (drop (start + 1) bytes) ≡ lead (drop (start + 1) bytes)
+
+-- the next segment ends where the lead of what stands behind its first byte does
+pub next_segment : (bytes : List ℕ) (start count : ℕ) (told : List Placed) → HasTold bytes start told → start < length bytes
+    → take count (drop (start + 1) bytes) ≡ lead (drop (start + 1) bytes)
+    → count ≤ length (drop (start + 1) bytes)
+    → IsNext bytes start count (take (start + 1 + count - start) (drop start bytes))
+next_segment bytes start count told h more is within =
+    let b = get_or bytes start 0 in
+    let rest = drop (start + 1) bytes in
+    let at = from_here bytes start more in
+    let gap : start + 1 + count - start ≡ suc count = omega arith in
+    let here : take (start + 1 + count - start) (drop start bytes) ≡ b ∷ lead rest = rw (gap, at, ← is) refl in
+    let size : length (lead rest) ≡ count = ap length (sym is) ∙ omega (arith, length-take count rest) in
+    record {
+      top = top_first b rest (rw at at h.no_lead);
+      is = here;
+      size = ap length here ∙ omega (arith, size);
+      stops = is;
+    }
+
+-- it is a segment
+pub IsSegment-next : (bytes : List ℕ) (start count : ℕ) (segment : List ℕ) → IsNext bytes start count segment → IsSegment segment
+IsSegment-next bytes start count segment n = rw n.is (n.top, IsSevenBit-lead (drop (start + 1) bytes))
+
+-- places of the next events are counted from the start of the whole
+regrouped : (told a c e : List Placed) (start n end : ℕ) → start + n ≡ end
+    → (told ++ events_behind start (a ++ events_behind n c)) ++ events_behind end e ≡ told ++ events_behind start (a ++ events_behind n (c ++ e))
+regrouped told a c e start n end same =
+    rw (← same) (simp (events_behind-append, events_behind-events_behind, append_assoc))
+
+-- the events of the next segment are told
+pub told_segment : (bytes : List ℕ) (start count end : ℕ) (told new : List Placed) (segment : List ℕ) → HasTold bytes start told → start < length bytes
+    → IsNext bytes start count segment → end ≡ start + 1 + count → end ≤ length bytes
+    → new ≡ told ++ events_behind start (segment_events (verdict segment) segment ++ events_behind (length segment) (cut_after (nat_eq end (length bytes)) (unfinished_part (verdict segment) segment)))
+    → HasTold bytes end new
+told_segment bytes start count end told new segment h more n e within pushed =
+    let b = get_or bytes start 0 in
+    let rest = drop (start + 1) bytes in
+    let g = b ∷ lead rest in
+    let u = unfinished_part (verdict g) g in
+    let behind : drop count rest ≡ drop end bytes = drop-drop count (start + 1) bytes ∙ ap (λ (k : ℕ). drop k bytes) (sym e) in
+    let none : lead (drop end bytes) ≡ [] = rw behind at (lead_stops rest count n.stops) in
+    let others : segments rest ≡ segments (drop end bytes) = segments_behind rest count n.stops ∙ ap (λ (x : List ℕ). segments x) behind in
+    let here : segments (drop start bytes) ≡ g ∷ segments (drop end bytes) = rw (from_here bytes start more, le-leb 128 b n.top, others) refl in
+    let place : start + length g ≡ end = omega (arith, n.size, ap length n.is, e) in
+    record {
+      within = within;
+      no_lead = none;
+      so_far =
+          rw (pushed, n.is, ← cut_here bytes end u within none)
+          (regrouped told (segment_events (verdict g) g) (cut_before (segments (drop end bytes)) u) (events_of (segments (drop end bytes))) start (length g) end place
+          ∙ sym (ap (λ (gs : List (List ℕ)). told ++ events_behind start (events_of gs)) here) ∙ h.so_far);
+    }

@@ -1,0 +1,113 @@
+-- The cut is a division of the list, and the only one.
+use Rattle.std.proofs.Common.{◌≡◌, ℕ, Bool, true, false, cond, List, [], ◌∷◌, ◌++◌, length, Option, Some, None, refl, sym, ap, ◌∙◌}
+use Rattle.std.specs.List.{AllByRecursion, concat}
+use Rattle.std.proofs.lemmas.List.{append-nil}
+use Rattle.std.proofs.lemmas.Bool.{leb-true}
+use Rattle.dgt_decode.specs.Grammar.{IsSevenBit, Placed, events_behind, strays, has_top_bit, lead, segments, verdict, segment_events, unfinished_part, cut_of, events_of, open_segment, events, open_message}
+use Rattle.dgt_decode.specs.Laws.{IsSegment, OneCut}
+use Rattle.dgt_decode.proofs.Cuts.{lead-append, segments-append}
+use Rattle.dgt_decode.proofs.Feeds.{nil_left}
+use Rattle.dgt_decode.proofs.More.{IsAlone, IsAlone-from, IsSevenBit-lead, lead-seven, segments-seven}
+
+-- the parts in a row are the list
+pub whole : (s : List ℕ) → s ≡ lead s ++ concat (segments s)
+whole [] = refl
+whole (b ∷ s) = go (has_top_bit b) (whole s)
+  where
+    go : (t : Bool) → s ≡ lead s ++ concat (segments s)
+        → b ∷ s ≡ cond t [] (b ∷ lead s) ++ concat (cond t ((b ∷ lead s) ∷ segments s) (segments s))
+    go true e = ap (λ (x : List ℕ). b ∷ x) e
+    go false e = ap (λ (x : List ℕ). b ∷ x) e
+
+-- the segments are segments
+pub are_segments : (s : List ℕ) → AllByRecursion IsSegment (segments s)
+are_segments [] = tt
+are_segments (b ∷ s) = go (has_top_bit b) refl (are_segments s)
+  where
+    go : (t : Bool) → has_top_bit b ≡ t → AllByRecursion IsSegment (segments s) → AllByRecursion IsSegment (cond t ((b ∷ lead s) ∷ segments s) (segments s))
+    go true e h = ((leb-true 128 b e, IsSevenBit-lead s), h)
+    go false e h = h
+
+-- a segment is one segment by the cut
+IsAlone-segment : (g : List ℕ) → IsSegment g → IsAlone g
+IsAlone-segment [] h = absurd h
+IsAlone-segment (b ∷ g) h = IsAlone-from b g h.0 h.1
+
+-- segments in a row have no lead
+lead-parts : (parts : List (List ℕ)) → AllByRecursion IsSegment parts → lead (concat parts) ≡ []
+lead-parts [] h = refl
+lead-parts (g ∷ parts) h =
+    let alone = IsAlone-segment g h.0 in
+    rw (lead-append g (concat parts), alone.no_lead, alone.one) refl
+
+-- they are their own segments
+segments-parts : (parts : List (List ℕ)) → AllByRecursion IsSegment parts → segments (concat parts) ≡ parts
+segments-parts [] h = refl
+segments-parts (g ∷ parts) h =
+    let alone = IsAlone-segment g h.0 in
+    rw (segments-append g (concat parts), alone.one, lead-parts parts h.1, append-nil g, segments-parts parts h.1) refl
+
+-- a seven-bit front is the lead
+lead-divided : (front : List ℕ) (parts : List (List ℕ)) → IsSevenBit front → AllByRecursion IsSegment parts → lead (front ++ concat parts) ≡ front
+lead-divided front parts seven h =
+    rw (lead-append front (concat parts), lead-seven front seven, segments-seven front seven, lead-parts parts h) (append-nil front)
+
+-- and the segments behind it are the segments
+segments-divided : (front : List ℕ) (parts : List (List ℕ)) → IsSevenBit front → AllByRecursion IsSegment parts → segments (front ++ concat parts) ≡ parts
+segments-divided front parts seven h =
+    rw (segments-append front (concat parts), segments-seven front seven) (segments-parts parts h)
+
+-- the cut is a division, and the only one
+pub one_cut : OneCut
+one_cut s =
+    record {
+      divides = record { front_is = IsSevenBit-lead s; parts_are = are_segments s; in_a_row = sym (whole s) };
+      only = λ front parts d. (
+        sym (lead-divided front parts d.front_is d.parts_are) ∙ ap (λ (x : List ℕ). lead x) d.in_a_row,
+        sym (segments-divided front parts d.front_is d.parts_are) ∙ ap (λ (x : List ℕ). segments x) d.in_a_row,
+      );
+    }
+
+-- ---- bytes without an event
+
+-- a list without elements has none at its end
+nil_right : (xs ys : List Placed) → xs ++ ys ≡ [] → ys ≡ []
+nil_right [] ys e = e
+nil_right (x ∷ xs) ys e = absurd cc
+
+-- no events behind bytes, no events
+nil_raised : (n : ℕ) (xs : List Placed) → events_behind n xs ≡ [] → xs ≡ []
+nil_raised n [] e = refl
+nil_raised n (x ∷ xs) e = absurd cc
+
+-- no Strays, no bytes
+nil_strays : (bytes : List ℕ) → strays bytes ≡ [] → bytes ≡ []
+nil_strays [] e = refl
+nil_strays (b ∷ bytes) e = absurd cc
+
+-- no events of a segment, no verdict
+nil_by : (v : Option Placed) (g : List ℕ) → segment_events v g ≡ [] → v ≡ None
+nil_by None g e = refl
+nil_by (Some x) g e = absurd cc
+
+-- segments without an event are one unfinished segment at most
+quiet_parts : (parts : List (List ℕ)) → AllByRecursion IsSegment parts → events_of parts ≡ [] → open_segment parts ≡ concat parts
+quiet_parts [] h e = refl
+quiet_parts (g ∷ []) h e =
+    let none : verdict g ≡ None = nil_by (verdict g) g (nil_left (segment_events (verdict g) g) _ e) in
+    rw none (sym (append-nil g))
+quiet_parts ([] ∷ k ∷ parts) h e = absurd h.0
+quiet_parts ((b ∷ g) ∷ k ∷ parts) h e =
+    let none : verdict (b ∷ g) ≡ None = nil_by (verdict (b ∷ g)) (b ∷ g) (nil_left (segment_events (verdict (b ∷ g)) (b ∷ g)) _ e) in
+    let behind = nil_right (segment_events (verdict (b ∷ g)) (b ∷ g)) _ e in
+    let cut : cut_of (unfinished_part (verdict (b ∷ g)) (b ∷ g)) ≡ [] = nil_left _ _ (nil_raised _ _ behind) in
+    absurd (let some = rw none at cut in cc)
+
+-- where bytes make no event, they are all held
+pub quiet_held : (s : List ℕ) → events s ≡ [] → open_message s ≡ s
+unfolding events open_message
+quiet_held s e =
+    let no_lead : lead s ≡ [] = nil_strays (lead s) (nil_left (strays (lead s)) _ e) in
+    let no_events : events_of (segments s) ≡ [] = nil_raised (length (lead s)) (events_of (segments s)) (nil_right (strays (lead s)) _ e) in
+    let all : concat (segments s) ≡ s = sym (whole s ∙ rw no_lead refl) in
+    quiet_parts (segments s) (are_segments s) no_events ∙ all

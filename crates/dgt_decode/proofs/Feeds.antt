@@ -1,0 +1,60 @@
+-- The first event of a piece behind what is held.
+use Rattle.std.proofs.Common.{◌≡◌, ℕ, ◌+◌, ◌-◌, ◌≤◌, List, [], ◌∷◌, ◌++◌, length, take, drop, Option, Some, None, refl, sym, ap, ◌∙◌, append_assoc, arith, inl, inr}
+use Rattle.std.proofs.lemmas.List.{take-append-drop}
+use Rattle.std.proofs.Math.Seq.{take-add}
+use Rattle.std.proofs.lemmas.Bool.{cases_order}
+use Rattle.dgt_decode.specs.Grammar.{Event, Placed, at_place, events}
+use Rattle.dgt_decode.specs.Feeding.{FirstEvent}
+use Rattle.dgt_decode.proofs.More.{events-append}
+
+-- a list without elements has none at its front
+pub nil_left : (xs ys : List Placed) → xs ++ ys ≡ [] → xs ≡ []
+nil_left [] ys e = refl
+nil_left (x ∷ xs) ys e = absurd cc
+
+-- bytes without an event have none at their front
+pub quiet-front : (s p : List ℕ) → events (s ++ p) ≡ [] → events s ≡ []
+quiet-front s p e = nil_left (events s) _ (sym (events-append s p) ∙ e)
+
+-- the first n: the first k, then what is left of them
+take-take-drop : (k n : ℕ) (piece : List ℕ) → k ≤ n → take n piece ≡ take k piece ++ take (n - k) (drop k piece)
+take-take-drop k n piece h =
+    let whole : k + (n - k) ≡ n = omega arith in
+    ap (λ (m : ℕ). take m piece) (sym whole) ∙ take-add k (n - k) piece
+
+-- and at each shorter front
+pub quiet-shorter : (held piece : List ℕ) (k n : ℕ) → k ≤ n → events (held ++ take n piece) ≡ [] → events (held ++ take k piece) ≡ []
+quiet-shorter held piece k n h e =
+    quiet-front (held ++ take k piece) (take (n - k) (drop k piece))
+    (rw (append_assoc held (take k piece) (take (n - k) (drop k piece)), ← take-take-drop k n piece h) e)
+
+-- a piece without an event has none at its front
+pub quiet-piece : (held piece : List ℕ) (k : ℕ) → events (held ++ piece) ≡ [] → events (held ++ take k piece) ≡ []
+quiet-piece held piece k e =
+    quiet-front (held ++ take k piece) (drop k piece)
+    (rw (append_assoc held (take k piece) (drop k piece), take-append-drop k piece) e)
+
+-- The byte behind bytes without an event makes one.
+pub FirstEvent-some : (held piece : List ℕ) (before used : ℕ) (event : Event) → used ≡ before + 1 → used ≤ length piece
+    → events (held ++ take before piece) ≡ [] → events (held ++ take used piece) ≡ at_place (length held + used) event ∷ []
+    → FirstEvent held piece used (Some event)
+FirstEvent-some held piece before used event next within quiet now =
+    (within, now, λ k h. let below : k ≤ before = omega arith in quiet-shorter held piece k before below quiet)
+
+-- one event at one place is one event
+same_event : (es : List Placed) (x y : Event) (m n : ℕ) → es ≡ at_place m x ∷ [] → es ≡ at_place n y ∷ [] → (let o : Option Event = Some x in o) ≡ Some y
+same_event es x y m n e f = let both : at_place m x ≡ at_place n y = cc in ap (λ (z : Placed). Some z.event) both
+
+-- a piece has one answer
+pub one_first_event : (held piece : List ℕ) (j k : ℕ) (x y : Option Event) → FirstEvent held piece j x → FirstEvent held piece k y → (j ≡ k) × (x ≡ y)
+one_first_event held piece j k None None a b = (a.0 ∙ sym b.0, refl)
+one_first_event held piece j k None (Some y) a b = absurd (let q = quiet-piece held piece k a.1 in let n = b.1 in cc)
+one_first_event held piece j k (Some x) None a b = absurd (let q = quiet-piece held piece j b.1 in let n = a.1 in cc)
+one_first_event held piece j k (Some x) (Some y) a b =
+    elim (cases_order j k) [
+      | inl same ↦ (same, same_event (events (held ++ take j piece)) x y (length held + j) (length held + k) a.1 (rw same b.1))
+      | inr apart ↦ absurd (elim apart [
+        | inl lt ↦ (let q = b.2 j lt in let n = a.1 in cc)
+        | inr gt ↦ (let q = a.2 k gt in let n = b.1 in cc)
+      ])
+    ]

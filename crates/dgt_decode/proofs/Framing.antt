@@ -1,0 +1,157 @@
+-- The states of a framer, byte by byte.
+use Rattle.std.proofs.Common.{◌≡◌, ℕ, zero, suc, ◌+◌, ◌*◌, ◌-◌, ◌<◌, ◌≤◌, ◌⊎◌, inl, inr, false, List, [], ◌∷◌, ◌++◌, length, drop, Option, Some, None, refl, sym, ap, subst, ◌∙◌, arith, nat_eq}
+use Rattle.std.specs.Prelude.{◌==◌, if◌then◌else◌, slice_index}
+use Rattle.std.proofs.lemmas.Bool.{ne_eqb}
+use Rattle.std.proofs.lemmas.List.{length-append}
+use Rattle.dgt_decode.specs.declared.event.Found.{Found}
+use Rattle.dgt_decode.specs.declared.event.Found.TheVariants as found
+use Rattle.dgt_decode.specs.declared.framer.State.{State}
+use Rattle.dgt_decode.specs.declared.framer.State.TheVariants.{Hunting, Head, Body, Whole}
+use Rattle.dgt_decode.specs.Grammar.{IsSevenBit, BadLength, at_place, message_event, total_of, open_message}
+use Rattle.dgt_decode.specs.Feeding.{IsWhole}
+use Rattle.dgt_decode.specs.Keeping.{IsKept}
+use Rattle.dgt_decode.specs.Taking.{Frames}
+use Rattle.dgt_decode.proofs.Verdicts.{total_of-append}
+use Rattle.dgt_decode.proofs.More.{IsAlone}
+use Rattle.dgt_decode.proofs.Wholes.{whole_open}
+use Rattle.dgt_decode.proofs.Steps.{IsHeld, IsHeld-open, IsAlone-more, alone_held, first-begins, next-short, next-bad, next-waits, next-whole}
+use Rattle.dgt_decode.proofs.Bytes.{IsAlone-parts, nothing_held, held_begins_more, held_room, takes-first, takes-stray, takes-cut}
+
+-- ---- What is open
+
+-- between messages nothing is open
+pub closed : (state : State) (kept : List ℕ) → IsKept state kept → (state ≡ Hunting) ⊎ (state ≡ Whole) → open_message kept ≡ []
+closed state kept is here = elim here [
+  | inl e ↦ (let none : IsKept Hunting kept = subst (λ s. IsKept s kept) e is in rw none nothing_held)
+  | inr e ↦ whole_open kept (subst (λ s. IsKept s kept) e is)
+]
+
+-- within a message all that is kept is open
+pub opened : (state : State) (kept : List ℕ) → IsKept state kept → (state ≡ Head) ⊎ ((left : ℕ) × (state ≡ Body left)) → open_message kept ≡ kept
+opened state kept is here = elim here [
+  | inl e ↦ (let head : IsKept Head kept = subst (λ s. IsKept s kept) e is in head.0)
+  | inr (left, e) ↦ (let body : IsKept (Body left) kept = subst (λ s. IsKept s kept) e is in body.0)
+]
+
+-- ---- A byte that begins a message
+
+-- the first byte of a message is kept
+pub kept-first : (b : ℕ) → 128 ≤ b → IsKept Head (b ∷ [])
+kept-first b top = ((first-begins b top).leaves, omega arith, omega arith)
+
+-- it tells nothing where nothing was open
+pub frames-first : (kept : List ℕ) (b : ℕ) → length (open_message kept) ≡ 0 → 128 ≤ b → Frames kept b (b ∷ []) None
+frames-first kept b none top =
+    record {
+      takes = rw (first-begins b top).leaves (takes-first (open_message kept) b none top);
+      message = λ e. absurd cc;
+    }
+
+-- it tells a Cut where a message was open
+pub frames-cut : (kept : List ℕ) (b : ℕ) → 0 < length (open_message kept) → 128 ≤ b → Frames kept b (b ∷ []) (Some (found.Cut (length (open_message kept))))
+frames-cut kept b some top =
+    record {
+      takes = rw (first-begins b top).leaves (takes-cut (open_message kept) b (IsHeld-open kept) some top);
+      message = λ e. absurd cc;
+    }
+
+-- ---- A byte outside a message
+
+-- a seven-bit byte is stray where nothing was open
+pub frames-stray : (kept : List ℕ) (b : ℕ) → open_message kept ≡ [] → b < 128 → Frames kept b [] (Some (found.Stray b))
+frames-stray kept b none seven =
+    record {
+      takes = rw (none, nothing_held) (takes-stray [] b refl seven);
+      message = λ e. absurd cc;
+    }
+
+-- ---- A byte of the header
+
+-- the second byte of a message tells nothing
+pub frames-short : (kept : List ℕ) (b : ℕ) → IsHeld kept → length kept ≡ 1 → b < 128
+    → Frames kept b (kept ++ b ∷ []) None × IsKept Head (kept ++ b ∷ [])
+frames-short kept b h one seven =
+    let long : length (kept ++ b ∷ []) ≡ 2 = omega (arith, length-append kept (b ∷ [])) in
+    let g = next-short kept (b ∷ []) h (omega arith) (seven, tt) (omega arith) in (
+      record {
+        takes = rw (h, g.leaves) (record { told = g.told; holds = sym g.leaves });
+        message = λ e. absurd cc;
+      },
+      (g.leaves, omega arith, omega arith),
+    )
+
+-- the third byte ends the total
+pub head_total : (kept : List ℕ) (b : ℕ) → length kept ≡ 2 → total_of (kept ++ b ∷ []) ≡ 128 * slice_index kept 1 + b
+head_total (x ∷ y ∷ []) b two = refl
+head_total (x ∷ y ∷ z ∷ kept) b two = absurd (omega arith)
+head_total (x ∷ []) b two = absurd (omega arith)
+head_total [] b two = absurd (omega arith)
+
+-- a total below 3 is told as such
+pub frames-bad : (kept : List ℕ) (b : ℕ) → IsHeld kept → length kept ≡ 2 → b < 128 → 128 * slice_index kept 1 + b < 3 → Frames kept b [] (Some found.BadLength)
+frames-bad kept b h two seven small =
+    let long : length (kept ++ b ∷ []) ≡ 3 = omega (arith, length-append kept (b ∷ [])) in
+    let g = next-bad kept (b ∷ []) h (omega arith) (seven, tt) long (omega (arith, head_total kept b two)) in
+    let place : 3 ≡ length kept + 1 = omega arith in
+    record {
+      takes = rw (h, nothing_held) (record { told = g.told ∙ ap (λ (n : ℕ). at_place n BadLength ∷ []) place; holds = sym g.leaves });
+      message = λ e. absurd cc;
+    }
+
+-- ---- A later byte
+
+-- the state and what was found, where so many bytes are still to come
+abbrev pub after : ℕ → State × Option Found
+after left = if left == 0 then (Whole, Some found.Message) else (Body left, None)
+
+-- bytes of one segment are seven-bit from the second on
+later_seven : (g : List ℕ) → IsAlone g → IsSevenBit (drop 1 g)
+later_seven [] alone = tt
+later_seven (b ∷ bytes) alone = (IsAlone-parts b bytes alone).1
+
+-- a byte of a message ends it where none is left, and tells nothing otherwise
+pub frames-after : (kept : List ℕ) (b left : ℕ) → IsHeld kept → 2 ≤ length kept → b < 128 → total_of (kept ++ b ∷ []) ≡ length (kept ++ b ∷ []) + left
+    → Frames kept b (kept ++ b ∷ []) (after left).1 × IsKept (after left).0 (kept ++ b ∷ [])
+frames-after kept b zero h two seven all =
+    let some : 0 < length kept = omega arith in
+    let count : length (kept ++ b ∷ []) ≡ length kept + 1 = length-append kept (b ∷ []) in
+    let long : 3 ≤ length (kept ++ b ∷ []) = omega arith in
+    let same : total_of (kept ++ b ∷ []) ≡ length (kept ++ b ∷ []) = omega (arith, all) in
+    let g = next-whole kept (b ∷ []) h some (seven, tt) long same in
+    let alone = IsAlone-more kept (b ∷ []) (alone_held kept h some).0 (seven, tt) in
+    let whole : IsWhole (kept ++ b ∷ []) = record { first = held_begins_more kept b h some; later = later_seven (kept ++ b ∷ []) alone; long = long; whole = same } in (
+      record {
+        takes = rw (h, g.leaves) (record { told = g.told ∙ ap (λ (n : ℕ). at_place n (message_event (kept ++ b ∷ [])) ∷ []) count; holds = sym g.leaves });
+        message = λ e. whole;
+      },
+      whole,
+    )
+frames-after kept b (suc left) h two seven all =
+    let count : length (kept ++ b ∷ []) ≡ length kept + 1 = length-append kept (b ∷ []) in
+    let g = next-waits kept (b ∷ []) h (omega arith) (seven, tt) (omega (arith, all)) in
+    let more : nat_eq (suc left) 0 ≡ false = ne_eqb (suc left) 0 (λ (z : suc left ≡ 0). absurd (omega (arith, z))) in
+    rw more (
+      record {
+        takes = rw (h, g.leaves) (record { told = g.told; holds = sym g.leaves });
+        message = λ e. absurd cc;
+      },
+      (g.leaves, omega arith, omega arith, all),
+    )
+
+-- so does a byte of the body
+pub frames-body : (kept : List ℕ) (b left : ℕ) → IsKept (Body left) kept → b < 128
+    → Frames kept b (kept ++ b ∷ []) (after (left - 1)).1 × IsKept (after (left - 1)).0 (kept ++ b ∷ [])
+frames-body kept b left is seven =
+    let count : length (kept ++ b ∷ []) ≡ length kept + 1 = length-append kept (b ∷ []) in
+    frames-after kept b (left - 1) is.0 (omega (arith, is.1)) seven (omega (arith, total_of-append kept (b ∷ []) is.1, is.2, is.3))
+
+-- and so does the third byte, with no body to come
+pub frames-head : (kept : List ℕ) (b total : ℕ) → IsHeld kept → length kept ≡ 2 → b < 128 → total ≡ 128 * slice_index kept 1 + b → 3 ≤ total
+    → Frames kept b (kept ++ b ∷ []) (after (total - 3)).1 × IsKept (after (total - 3)).0 (kept ++ b ∷ [])
+frames-head kept b total h two seven is large =
+    let count : length (kept ++ b ∷ []) ≡ length kept + 1 = length-append kept (b ∷ []) in
+    frames-after kept b (total - 3) h (omega arith) seven (omega (arith, head_total kept b two, is))
+
+-- a message that isn't whole leaves room
+pub kept_room : (state : State) (kept : List ℕ) → IsKept state kept → (state ≡ Head) ⊎ ((left : ℕ) × (state ≡ Body left)) → length kept < 16383
+kept_room state kept is here = held_room kept (opened state kept is here)

@@ -1,0 +1,15 @@
+pub mod Places
+pub mod Cuts
+pub mod Verdicts
+pub mod More
+pub mod Open
+pub mod Wholes
+pub mod Spelled
+pub mod Steps
+pub mod Feeds
+pub mod Bytes
+pub mod Loops
+pub mod Division
+pub mod Framing
+pub mod AnyPieces
+pub mod Cutting

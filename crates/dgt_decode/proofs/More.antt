@@ -1,0 +1,173 @@
+-- The events of a list with more bytes at its end.
+use Rattle.std.proofs.Common.{◌≡◌, ℕ, suc, ◌+◌, ◌-◌, ◌≤◌, Bool, true, false, cond, List, [], ◌∷◌, ◌++◌, length, drop, Option, Some, None, refl, sym, ap, ◌∙◌, append_assoc, arith}
+use Rattle.std.proofs.lemmas.List.{append-nil, length-append, drop-append-le, length-drop}
+use Rattle.std.proofs.lemmas.Bool.{le-leb, lt-leb, leb-true, leb-false}
+use Rattle.dgt_decode.specs.Grammar.{IsSevenBit, Placed, events_behind, strays, has_top_bit, lead, segments, verdict, unfinished_part, cut_of, cut_before, events_of, open_segment, events, open_message}
+use Rattle.dgt_decode.proofs.Places.{events_behind-append, events_behind-events_behind, events_behind-zero, strays-append}
+use Rattle.dgt_decode.proofs.Cuts.{lead_with, segments_with, lead-append, segments-append}
+use Rattle.dgt_decode.proofs.Verdicts.{verdict-append}
+
+-- a list that is one segment
+pub record IsAlone (g : List ℕ) : Type 0 where
+  pub no_lead : lead g ≡ []
+  pub one : segments g ≡ g ∷ []
+
+-- each is one segment
+abbrev pub AreAlone : List (List ℕ) → Type 0
+AreAlone [] = Unit {0}
+AreAlone (g ∷ gs) = IsAlone g × AreAlone gs
+
+-- seven-bit bytes are all lead
+pub lead-seven : (bytes : List ℕ) → IsSevenBit bytes → lead bytes ≡ bytes
+lead-seven [] h = refl
+lead-seven (b ∷ bytes) h = rw (lt-leb 128 b h.0, lead-seven bytes h.1) refl
+
+-- and no segment
+pub segments-seven : (bytes : List ℕ) → IsSevenBit bytes → segments bytes ≡ []
+segments-seven [] h = refl
+segments-seven (b ∷ bytes) h = rw (lt-leb 128 b h.0) (segments-seven bytes h.1)
+
+-- the lead is seven-bit
+pub IsSevenBit-lead : (bytes : List ℕ) → IsSevenBit (lead bytes)
+IsSevenBit-lead [] = tt
+IsSevenBit-lead (b ∷ bytes) = go (has_top_bit b) refl (IsSevenBit-lead bytes)
+  where
+    go : (t : Bool) → has_top_bit b ≡ t → IsSevenBit (lead bytes) → IsSevenBit (cond t [] (b ∷ lead bytes))
+    go true e h = tt
+    go false e h = (leb-false 128 b e, h)
+
+-- a byte with a set top bit and seven-bit bytes are one segment
+pub IsAlone-from : (b : ℕ) (bytes : List ℕ) → 128 ≤ b → IsSevenBit bytes → IsAlone (b ∷ bytes)
+IsAlone-from b bytes top seven =
+    record {
+      no_lead = rw (le-leb 128 b top) refl;
+      one = rw (le-leb 128 b top, lead-seven bytes seven, segments-seven bytes seven) refl;
+    }
+
+-- the segments of a list are one segment each
+pub AreAlone-segments : (bytes : List ℕ) → AreAlone (segments bytes)
+AreAlone-segments [] = tt
+AreAlone-segments (b ∷ bytes) = go (has_top_bit b) refl (AreAlone-segments bytes)
+  where
+    go : (t : Bool) → has_top_bit b ≡ t → AreAlone (segments bytes) → AreAlone (cond t ((b ∷ lead bytes) ∷ segments bytes) (segments bytes))
+    go true e h = (IsAlone-from b (lead bytes) (leb-true 128 b e) (IsSevenBit-lead bytes), h)
+    go false e h = h
+
+-- ---- how many bytes of segments stand before what they leave open
+
+-- by the verdict of the last segment: all of it, or none
+abbrev pub settled_by : Option Placed → List ℕ → ℕ
+settled_by None g = 0
+settled_by (Some x) g = length g
+
+-- the segments before the last, and what is settled of the last
+abbrev pub settled_of : List (List ℕ) → ℕ
+settled_of [] = 0
+settled_of (g ∷ []) = settled_by (verdict g) g
+settled_of (g ∷ h ∷ gs) = length g + settled_of (h ∷ gs)
+
+-- how many bytes segments have
+abbrev pub lengths : List (List ℕ) → ℕ
+lengths [] = 0
+lengths (g ∷ gs) = length g + lengths gs
+
+-- a last segment is settled, or it is open
+settled_by-open : (v : Option Placed) (g : List ℕ) → settled_by v g + length (unfinished_part v g) ≡ length g
+settled_by-open None g = omega arith
+settled_by-open (Some x) g = omega arith
+
+-- segments are what is settled and what is open
+pub settled-open : (gs : List (List ℕ)) → settled_of gs + length (open_segment gs) ≡ lengths gs
+settled-open [] = refl
+settled-open (g ∷ []) = settled_by-open (verdict g) g ∙ (omega arith)
+settled-open (g ∷ h ∷ gs) = omega (arith, settled-open (h ∷ gs))
+
+-- a list is its lead and its segments
+pub length-cut : (s : List ℕ) → length s ≡ length (lead s) + lengths (segments s)
+length-cut [] = refl
+length-cut (b ∷ s) = go (has_top_bit b) (length-cut s)
+  where
+    go : (t : Bool) → length s ≡ length (lead s) + lengths (segments s)
+        → suc (length s) ≡ length (cond t [] (b ∷ lead s)) + lengths (cond t ((b ∷ lead s) ∷ segments s) (segments s))
+    go true e = omega arith
+    go false e = omega arith
+
+-- ---- the last segment
+
+-- with nothing unfinished there is no Cut
+pub cut_before-nothing : (gs : List (List ℕ)) → cut_before gs [] ≡ []
+cut_before-nothing [] = refl
+cut_before-nothing (g ∷ gs) = refl
+
+-- a segment with more bytes behind still follows
+cut_before-with : (p : List ℕ) (g : List ℕ) (gs : List (List ℕ)) (u : List ℕ) → cut_before (segments_with p (g ∷ gs)) u ≡ cut_of u
+cut_before-with p g [] u = refl
+cut_before-with p g (h ∷ gs) u = refl
+
+-- places behind a message, and behind its segment
+regroup : (place d n l : ℕ) (a b e : List Placed) → place + d ≡ n → events_behind place (a ++ events_behind d b) ++ events_behind (n + l) e ≡ events_behind place a ++ events_behind n (b ++ events_behind l e)
+regroup place d n l a b e same =
+    rw (events_behind-append place a (events_behind d b), events_behind-events_behind place d b, same, events_behind-append n b (events_behind l e), events_behind-events_behind n l e)
+    (append_assoc (events_behind place a) (events_behind n b) (events_behind (n + l) e))
+
+-- more bytes behind a last segment that is finished
+last-finished : (g p : List ℕ) (x : Placed) → verdict g ≡ Some x
+    → events_of ((g ++ lead p) ∷ segments p) ≡ events_of (g ∷ []) ++ events_behind (length g) (events p)
+unfolding events
+last-finished g p x e =
+    let stays = verdict-append g (lead p) x e in
+    let within = stays.1 in
+    let behind : x.place + length (drop x.place g) ≡ length g = omega (arith, length-drop x.place g) in
+    rw (stays.0, e, cut_before-nothing (segments p), drop-append-le x.place g (lead p) within, strays-append (drop x.place g) (lead p), length-append g (lead p), append-nil (events_behind x.place (strays (drop x.place g))))
+    (ap (λ (zs : List Placed). x ∷ zs) (regroup x.place (length (drop x.place g)) (length g) (length (lead p)) (strays (drop x.place g)) (strays (lead p)) (events_of (segments p)) behind))
+
+-- more bytes behind a last segment that is open
+last-open : (g p : List ℕ) → IsAlone g → verdict g ≡ None
+    → events_of ((g ++ lead p) ∷ segments p) ≡ events_of (g ∷ []) ++ events_behind 0 (events (g ++ p))
+unfolding events
+last-open g p alone e =
+    rw (lead-append g p, segments-append g p, alone.no_lead, alone.one, e) (simp events_behind-zero)
+
+-- more bytes behind segments
+pub events_of-with : (p g : List ℕ) (gs : List (List ℕ)) → AreAlone (g ∷ gs)
+    → events_of (segments_with p (g ∷ gs)) ≡ events_of (g ∷ gs) ++ events_behind (settled_of (g ∷ gs)) (events (open_segment (g ∷ gs) ++ p))
+events_of-with p g [] alone = go (verdict g) refl
+  where
+    go : (v : Option Placed) → verdict g ≡ v
+        → events_of ((g ++ lead p) ∷ segments p) ≡ events_of (g ∷ []) ++ events_behind (settled_by v g) (events (unfinished_part v g ++ p))
+    go None e = last-open g p alone.0 e
+    go (Some x) e = last-finished g p x e
+events_of-with p g (h ∷ gs) alone =
+    rw (cut_before-with p h gs (unfinished_part (verdict g) g), events_of-with p h gs alone.1)
+    (simp (events_behind-append, events_behind-events_behind, append_assoc))
+
+-- the events of a list by its cut
+abbrev events_by_cut : List ℕ → List (List ℕ) → List Placed
+events_by_cut front gs = strays front ++ events_behind (length front) (events_of gs)
+
+-- more bytes behind a lead and segments
+events_by_cut-with : (p front : List ℕ) (gs : List (List ℕ)) → AreAlone gs
+    → events_by_cut (lead_with p front gs) (segments_with p gs)
+    ≡ events_by_cut front gs ++ events_behind (length front + settled_of gs) (events (open_segment gs ++ p))
+unfolding events
+events_by_cut-with p front [] alone =
+    let same : length front + 0 ≡ length front = omega arith in
+    rw (strays-append front (lead p), length-append front (lead p), same, events_behind-append (length front) (strays (lead p)) (events_behind (length (lead p)) (events_of (segments p))), events_behind-events_behind (length front) (length (lead p)) (events_of (segments p)), append-nil (strays front))
+    (append_assoc (strays front) (events_behind (length front) (strays (lead p))) (events_behind (length front + length (lead p)) (events_of (segments p))))
+events_by_cut-with p front (g ∷ gs) alone =
+    rw (events_of-with p g gs alone, events_behind-append (length front) (events_of (g ∷ gs)) (events_behind (settled_of (g ∷ gs)) (events (open_segment (g ∷ gs) ++ p))), events_behind-events_behind (length front) (settled_of (g ∷ gs)) (events (open_segment (g ∷ gs) ++ p)))
+    (sym (append_assoc (strays front) (events_behind (length front) (events_of (g ∷ gs))) (events_behind (length front + settled_of (g ∷ gs)) (events (open_segment (g ∷ gs) ++ p)))))
+
+-- how many bytes stand before the open message
+pub settled : (s : List ℕ) → length s - length (open_message s) ≡ length (lead s) + settled_of (segments s)
+unfolding open_message
+settled s = omega (arith, settled-open (segments s), length-cut s)
+
+-- more bytes behind a list, with the place by its cut
+events-append_by_cut : (s p : List ℕ) → events (s ++ p) ≡ events s ++ events_behind (length (lead s) + settled_of (segments s)) (events (open_message s ++ p))
+unfolding events open_message
+events-append_by_cut s p = rw (lead-append s p, segments-append s p) (events_by_cut-with p (lead s) (segments s) (AreAlone-segments s))
+
+-- Later bytes change no event, and need only what is open.
+pub events-append : (s p : List ℕ) → events (s ++ p) ≡ events s ++ events_behind (length s - length (open_message s)) (events (open_message s ++ p))
+events-append s p = rw (settled s) (events-append_by_cut s p)

@@ -1,0 +1,144 @@
+-- Messages that are spelled one after another.
+use Rattle.std.proofs.Common.{◌≡◌, ℕ, ◌+◌, ◌-◌, List, [], ◌∷◌, ◌++◌, length, drop, Ok, refl, sym, ap, ◌∙◌, append_assoc, arith}
+use Rattle.std.specs.Prelude.{slice_index}
+use Rattle.std.specs.List.{AllByRecursion}
+use Rattle.std.proofs.lemmas.List.{append-nil}
+use Rattle.std.proofs.lemmas.List.Elements.{recursion_from_All}
+use Rattle.std.proofs.Math.Seq.{drop-length}
+use Rattle.dgt_message.specs.Content.{Content, IsMessage}
+use Rattle.dgt_message.specs.Reading.{reading}
+use Rattle.dgt_message.specs.Spelling.{Spells, spelling}
+use Rattle.dgt_decode.specs.Grammar.{Message, Placed, events_behind, lead, segments, message_event, cut_of, events_of, events, open_message}
+use Rattle.dgt_decode.specs.Feeding.{IsWhole}
+use Rattle.dgt_decode.specs.Laws.{Sent, IsSent, sent_bytes, arrivals, Recovery, SpellingIsRead}
+use Rattle.dgt_decode.proofs.Places.{events_behind-append, events_behind-events_behind, events_behind-zero}
+use Rattle.dgt_decode.proofs.Cuts.{lead-append, segments-append}
+use Rattle.dgt_decode.proofs.More.{IsAlone, events-append, cut_before-nothing}
+use Rattle.dgt_decode.proofs.Open.{IsOpen, nothing, waiting, IsOpen-open, length-open, open-append}
+use Rattle.dgt_decode.proofs.Wholes.{IsAlone-whole, verdict-of_whole, whole_open}
+
+-- ---- Bytes that are read as messages
+
+-- the bytes of a message are read as this message
+abbrev pub AreRead : Type 0
+AreRead = (said : Content) (bytes : List ℕ) → Spells said bytes → reading (slice_index bytes 0 - 128) (drop 3 bytes) ≡ Ok said
+
+-- what is written of a message spells it
+abbrev pub AreSpelled : Type 0
+AreSpelled = (said : Content) → IsMessage said → Spells said (spelling said)
+
+-- the bytes of one message, which make it known
+record IsRead (m : Sent) : Type 0 where
+  whole : IsWhole m.bytes
+  tells : message_event m.bytes ≡ Message m.said
+
+-- a message that is spelled is read
+is_read : AreRead → (m : Sent) → IsSent m → IsRead m
+is_read reads m h =
+    record {
+      whole = record {
+        first = omega (arith, h.header.code_is);
+        later = recursion_from_All _ _ h.header.seven_bit;
+        long = h.header.long_enough;
+        whole = h.header.total_is;
+      };
+      tells = rw (reads m.said m.bytes h) refl;
+    }
+
+-- and so are several
+are_read : AreRead → (ms : List Sent) → AllByRecursion IsSent ms → AllByRecursion IsRead ms
+are_read reads [] h = tt
+are_read reads (m ∷ ms) h = (is_read reads m h.0, are_read reads ms h.1)
+
+-- ---- Their cut
+
+-- their bytes, message by message
+abbrev spellings : List Sent → List (List ℕ)
+spellings [] = []
+spellings (m ∷ ms) = m.bytes ∷ spellings ms
+
+-- where a message begins behind them, bytes of one segment stay one
+lead-before : (g q : List ℕ) → IsAlone g → lead (g ++ q) ≡ []
+lead-before g q alone = rw (lead-append g q, alone.no_lead, alone.one) refl
+
+-- and then come the segments of what stands behind
+segments-before : (g q : List ℕ) → IsAlone g → lead q ≡ [] → segments (g ++ q) ≡ g ∷ segments q
+segments-before g q alone e = rw (segments-append g q, alone.one, e, append-nil g) refl
+
+-- spellings in a row have no lead
+lead-sent : (ms : List Sent) → AllByRecursion IsRead ms → lead (sent_bytes ms) ≡ []
+lead-sent [] h = refl
+lead-sent (m ∷ ms) h = lead-before m.bytes (sent_bytes ms) (IsAlone-whole m.bytes h.0.whole)
+
+-- their segments are the spellings
+segments-sent : (ms : List Sent) → AllByRecursion IsRead ms → segments (sent_bytes ms) ≡ spellings ms
+segments-sent [] h = refl
+segments-sent (m ∷ ms) h =
+    segments-before m.bytes (sent_bytes ms) (IsAlone-whole m.bytes h.0.whole) (lead-sent ms h.1)
+    ∙ ap (λ (gs : List (List ℕ)). m.bytes ∷ gs) (segments-sent ms h.1)
+
+-- their events are the messages
+events_of-spellings : (ms : List Sent) → AllByRecursion IsRead ms → events_of (spellings ms) ≡ arrivals ms
+events_of-spellings [] h = refl
+events_of-spellings (m ∷ ms) h =
+    rw (verdict-of_whole m.bytes h.0.whole, drop-length m.bytes, cut_before-nothing (spellings ms), events_of-spellings ms h.1, h.0.tells) refl
+
+-- ---- Behind any bytes
+
+-- behind what is open
+behind_open : (o : List ℕ) → IsOpen o → (m : Sent) (ms : List Sent) → AllByRecursion IsRead (m ∷ ms)
+    → events (o ++ sent_bytes (m ∷ ms)) ≡ events_behind (length o) (cut_of o ++ arrivals (m ∷ ms))
+unfolding events
+behind_open o nothing m ms h =
+    rw (lead-sent (m ∷ ms) h, segments-sent (m ∷ ms) h, events_of-spellings (m ∷ ms) h) refl
+behind_open o (waiting g alone e) m ms h =
+    rw (lead-before g (sent_bytes (m ∷ ms)) alone, segments-before g (sent_bytes (m ∷ ms)) alone (lead-sent (m ∷ ms) h), segments-sent (m ∷ ms) h, events_behind-zero)
+    (rw (e, events_of-spellings (m ∷ ms) h) refl)
+
+-- behind any bytes
+events-sent : (s : List ℕ) (m : Sent) (more : List Sent) → AllByRecursion IsRead (m ∷ more) →
+    events (s ++ sent_bytes (m ∷ more))
+    ≡ events s ++ events_behind (length s) (cut_of (open_message s)) ++ events_behind (length s) (arrivals (m ∷ more))
+events-sent s m more h =
+    let o = open_message s in
+    let here : length s - length o + length o ≡ length s = omega (arith, length-open s) in
+    let a = cut_of o in
+    let b = arrivals (m ∷ more) in
+    events-append s (sent_bytes (m ∷ more))
+    ∙ ap (λ (zs : List Placed). events s ++ events_behind (length s - length o) zs) (behind_open o (IsOpen-open s) m more h)
+    ∙ ap (λ (zs : List Placed). events s ++ zs) (events_behind-events_behind (length s - length o) (length o) (a ++ b) ∙ ap (λ (n : ℕ). events_behind n (a ++ b)) here ∙ events_behind-append (length s) a b)
+    ∙ sym (append_assoc (events s) (events_behind (length s) a) (events_behind (length s) b))
+
+-- a whole message behind what is open leaves nothing open
+behind_whole : (o w : List ℕ) → IsOpen o → IsWhole w → open_message (o ++ w) ≡ []
+unfolding open_message
+behind_whole o w nothing whole = whole_open w whole
+behind_whole o w (waiting g before e) whole =
+    let alone = IsAlone-whole w whole in
+    rw (segments-before g w before alone.no_lead, alone.one, verdict-of_whole w whole) refl
+
+-- they leave nothing open
+open-sent : (s : List ℕ) (m : Sent) (more : List Sent) → AllByRecursion IsRead (m ∷ more) → open_message (s ++ sent_bytes (m ∷ more)) ≡ []
+open-sent s m [] h =
+    ap (λ (x : List ℕ). open_message (s ++ x)) (append-nil m.bytes)
+    ∙ open-append s m.bytes
+    ∙ behind_whole (open_message s) m.bytes (IsOpen-open s) h.0.whole
+open-sent s m (k ∷ more) h =
+    ap (λ (x : List ℕ). open_message x) (sym (append_assoc s m.bytes (sent_bytes (k ∷ more))))
+    ∙ open-sent (s ++ m.bytes) k more h.1
+
+-- ---- The laws
+
+-- both of messages that are spelled
+pub recovery : AreRead → Recovery
+recovery reads s m more h =
+    let read = are_read reads (m ∷ more) h in
+    (events-sent s m more read, open-sent s m more read)
+
+-- one message, as it is written
+pub spelling_is_read : AreRead → AreSpelled → SpellingIsRead
+spelling_is_read reads spelled s said is =
+    let m : Sent = record { said = said; bytes = spelling said } in
+    let one = recovery reads s m [] (spelled said is, tt) in
+    let same : spelling said ++ [] ≡ spelling said = append-nil (spelling said) in
+    (rw same at one.0, rw same at one.1)

@@ -1,0 +1,180 @@
+-- What one more byte, or a run of seven-bit bytes, does to what is open.
+use Rattle.std.proofs.Common.{◌≡◌, ℕ, ◌+◌, ◌<◌, ◌≤◌, List, [], ◌∷◌, ◌++◌, length, drop, Option, Some, None, refl, sym, ap, subst, ◌∙◌, arith, inl, inr}
+use Rattle.std.proofs.lemmas.List.{append-nil, length-append}
+use Rattle.std.proofs.lemmas.Bool.{le-leb, lt-leb, cases_lt}
+use Rattle.std.proofs.Math.Seq.{take-length, drop-length}
+use Rattle.dgt_decode.specs.Grammar.{IsSevenBit, Cut, BadLength, Stray, Placed, at_place, events_behind, lead, segments, total_of, message_event, verdict, segment_events, unfinished_part, cut_of, events, open_message}
+use Rattle.dgt_decode.proofs.Places.{events_behind-zero}
+use Rattle.dgt_decode.proofs.Cuts.{lead-append, segments-append}
+use Rattle.dgt_decode.proofs.Verdicts.{verdict-short, verdict-bad, verdict-waits, verdict-whole, whole_event, Stage, short, waits, bad, whole, stage_of, total_of-append}
+use Rattle.dgt_decode.proofs.More.{IsAlone, IsAlone-from, lead-seven, segments-seven}
+use Rattle.dgt_decode.proofs.Open.{IsOpen, nothing, waiting, IsOpen-open, open-of_open, events-of_open, events-alone, open-alone}
+
+-- a list that is held between two pieces
+abbrev pub IsHeld : List ℕ → Type 0
+IsHeld held = open_message held ≡ held
+
+-- what is held is nothing, or one unfinished segment
+pub IsOpen-held : (held : List ℕ) → IsHeld held → IsOpen held
+IsOpen-held held h = subst (λ (x : List ℕ). IsOpen x) h (IsOpen-open held)
+
+-- what a list leaves open can be held
+pub IsHeld-open : (s : List ℕ) → IsHeld (open_message s)
+IsHeld-open s = open-of_open (open_message s) (IsOpen-open s)
+
+-- what bytes come to: their events, and what they leave open
+pub record Gives (bytes : List ℕ) (es : List Placed) (left : List ℕ) : Type 0 where
+  pub told : events bytes ≡ es
+  pub leaves : open_message bytes ≡ left
+
+-- ---- nothing is held
+
+-- a byte with a set top bit is held
+pub first-begins : (b : ℕ) → 128 ≤ b → Gives (b ∷ []) [] (b ∷ [])
+first-begins b top =
+    let open_one = waiting (b ∷ []) (IsAlone-from b [] top tt) (verdict-short (b ∷ []) (omega arith)) in
+    record { told = events-of_open (b ∷ []) open_one; leaves = open-of_open (b ∷ []) open_one }
+
+-- a seven-bit byte is stray
+pub first-stray : (b : ℕ) → b < 128 → Gives (b ∷ []) (at_place 1 (Stray b) ∷ []) []
+unfolding events open_message
+first-stray b seven = record { told = rw (lt-leb 128 b seven) refl; leaves = rw (lt-leb 128 b seven) refl }
+
+-- ---- a message is held
+
+-- a segment goes on with seven-bit bytes
+pub IsAlone-more : (g run : List ℕ) → IsAlone g → IsSevenBit run → IsAlone (g ++ run)
+IsAlone-more g run alone seven =
+    record {
+      no_lead = rw (lead-append g run, alone.no_lead, alone.one) refl;
+      one = rw (segments-append g run, alone.one, lead-seven run seven, segments-seven run seven) refl;
+    }
+
+-- a message that is held is one unfinished segment
+pub alone_held : (held : List ℕ) → IsHeld held → 0 < length held → IsAlone held × (verdict held ≡ None)
+alone_held held h some = go held (IsOpen-held held h) some
+  where
+    go : (held : List ℕ) → IsOpen held → 0 < length held → IsAlone held × (verdict held ≡ None)
+    go held nothing some = absurd (omega arith)
+    go held (waiting g alone e) some = (alone, e)
+
+-- a top-bit byte cuts it
+pub next-begins : (held : List ℕ) (b : ℕ) → IsHeld held → 0 < length held → 128 ≤ b
+    → Gives (held ++ b ∷ []) (at_place (length held + 1) (Cut (length held)) ∷ []) (b ∷ [])
+unfolding events open_message
+next-begins held b h some top =
+    let a = alone_held held h some in
+    let alone = a.0 in
+    let lead-is : lead (held ++ b ∷ []) ≡ [] = rw (lead-append held (b ∷ []), alone.no_lead, alone.one) refl in
+    let segments-is : segments (held ++ b ∷ []) ≡ held ∷ (b ∷ []) ∷ [] = rw (segments-append held (b ∷ []), alone.one, le-leb 128 b top) (rw (append-nil held) refl) in
+    let new-is : verdict (b ∷ []) ≡ None = verdict-short (b ∷ []) (omega arith) in
+    record {
+      told = rw (lead-is, segments-is, events_behind-zero, a.1, new-is) (cut held some);
+      leaves = rw (segments-is, new-is) refl;
+    }
+  where
+    cut : (held : List ℕ) → 0 < length held → events_behind (length held) (cut_of held ++ []) ≡ at_place (length held + 1) (Cut (length held)) ∷ []
+    cut [] some = absurd (omega arith)
+    cut (x ∷ held) some = refl
+
+-- seven-bit bytes go on with it
+pub next-seven : (held run : List ℕ) → IsHeld held → 0 < length held → IsSevenBit run
+    → Gives (held ++ run) (segment_events (verdict (held ++ run)) (held ++ run)) (unfinished_part (verdict (held ++ run)) (held ++ run))
+next-seven held run h some seven =
+    let alone = IsAlone-more held run (alone_held held h some).0 seven in
+    record { told = events-alone (held ++ run) alone; leaves = open-alone (held ++ run) alone }
+
+-- so long as it is shorter than the header
+pub next-short : (held run : List ℕ) → IsHeld held → 0 < length held → IsSevenBit run → length (held ++ run) < 3
+    → Gives (held ++ run) [] (held ++ run)
+next-short held run h some seven few =
+    let gives = next-seven held run h some seven in
+    let e = verdict-short (held ++ run) few in
+    record { told = gives.told ∙ rw e refl; leaves = gives.leaves ∙ rw e refl }
+
+-- so long as it is shorter than its total
+pub next-waits : (held run : List ℕ) → IsHeld held → 0 < length held → IsSevenBit run → length (held ++ run) < total_of (held ++ run)
+    → Gives (held ++ run) [] (held ++ run)
+next-waits held run h some seven less =
+    let gives = next-seven held run h some seven in
+    let e = verdict-waits (held ++ run) less in
+    record { told = gives.told ∙ rw e refl; leaves = gives.leaves ∙ rw e refl }
+
+-- where the header says too little
+pub next-bad : (held run : List ℕ) → IsHeld held → 0 < length held → IsSevenBit run → length (held ++ run) ≡ 3 → total_of (held ++ run) < 3
+    → Gives (held ++ run) (at_place 3 BadLength ∷ []) []
+next-bad held run h some seven three small =
+    let gives = next-seven held run h some seven in
+    let long : 3 ≤ length (held ++ run) = omega arith in
+    let e = verdict-bad (held ++ run) long small in
+    let none : drop 3 (held ++ run) ≡ [] = rw (← three) (drop-length (held ++ run)) in
+    record { told = gives.told ∙ rw (e, none) refl; leaves = gives.leaves ∙ rw e refl }
+
+-- where the total is reached
+pub next-whole : (held run : List ℕ) → IsHeld held → 0 < length held → IsSevenBit run → 3 ≤ length (held ++ run) → total_of (held ++ run) ≡ length (held ++ run)
+    → Gives (held ++ run) (at_place (length (held ++ run)) (message_event (held ++ run)) ∷ []) []
+next-whole held run h some seven long same =
+    let gives = next-seven held run h some seven in
+    let g = held ++ run in
+    let large : 3 ≤ total_of g = omega arith in
+    let enough : total_of g ≤ length g = omega arith in
+    let is : whole_event g ≡ at_place (length g) (message_event g) = rw (same, take-length g) refl in
+    let e : verdict g ≡ Some (at_place (length g) (message_event g)) = verdict-whole g large enough ∙ ap (λ (x : Placed). Some x) is in
+    record { told = gives.told ∙ rw (e, drop-length g) refl; leaves = gives.leaves ∙ rw e refl }
+
+-- ---- No byte makes two events
+
+-- a verdict that a byte brings stands at that byte
+pub verdict-new : (h : List ℕ) (b : ℕ) (x : Placed) → verdict h ≡ None → verdict (h ++ b ∷ []) ≡ Some x → x.place ≡ length (h ++ b ∷ [])
+verdict-new h b x e new = go (stage_of h) (stage_of (h ++ b ∷ []))
+  where
+    g : List ℕ
+    g = h ++ b ∷ []
+
+    one_more : length (h ++ b ∷ []) ≡ length h + 1
+    one_more = length-append h (b ∷ [])
+
+    place_is : (y : Placed) → verdict (h ++ b ∷ []) ≡ Some y → y.place ≡ x.place
+    place_is y f = let s : (let o : Option Placed = Some y in o) ≡ Some x = sym f ∙ new in let same : y ≡ x = cc in ap (λ (z : Placed). z.place) same
+
+    go : Stage h → Stage (h ++ b ∷ []) → x.place ≡ length (h ++ b ∷ [])
+    go (short few) (bad long small) = omega (arith, one_more, place_is _ (verdict-bad (h ++ b ∷ []) long small))
+    go (short few) (whole large enough) = omega (arith, one_more, place_is _ (verdict-whole (h ++ b ∷ []) large enough))
+    go (short few) (short few') = let no = verdict-short (h ++ b ∷ []) few' in absurd cc
+    go (short few) (waits less) = let no = verdict-waits (h ++ b ∷ []) less in absurd cc
+    go (waits less) (short few') = let no = verdict-short (h ++ b ∷ []) few' in absurd cc
+    go (waits less) (waits less') = let no = verdict-waits (h ++ b ∷ []) less' in absurd cc
+    go (waits less) (bad long small) = elim (cases_lt (length h) 3) [
+      | inl few ↦ omega (arith, one_more, place_is _ (verdict-bad (h ++ b ∷ []) long small))
+      | inr many ↦ absurd (omega (arith, total_of-append h (b ∷ []) many))
+    ]
+    go (waits less) (whole large enough) = elim (cases_lt (length h) 3) [
+      | inl few ↦ omega (arith, one_more, place_is _ (verdict-whole (h ++ b ∷ []) large enough))
+      | inr many ↦ omega (arith, one_more, place_is _ (verdict-whole (h ++ b ∷ []) large enough), total_of-append h (b ∷ []) many)
+    ]
+    go (bad long small) s = let no = verdict-bad h long small in absurd cc
+    go (whole large enough) s = let no = verdict-whole h large enough in absurd cc
+
+-- the byte that brings a verdict has no Stray behind it
+segment_events-new : (h : List ℕ) (b : ℕ) → verdict h ≡ None → (v : Option Placed) → verdict (h ++ b ∷ []) ≡ v → length (segment_events v (h ++ b ∷ [])) ≤ 1
+segment_events-new h b e None f = omega arith
+segment_events-new h b e (Some x) f = rw (verdict-new h b x e f, drop-length (h ++ b ∷ [])) (omega arith)
+
+-- one more byte behind what is held makes one event at most
+one_event_held : (held : List ℕ) (b : ℕ) → IsHeld held → IsOpen held → length (events (held ++ b ∷ [])) ≤ 1
+one_event_held held b h nothing =
+    elim (cases_lt b 128) [
+      | inl seven ↦ rw (first-stray b seven).told (omega arith)
+      | inr top ↦ rw (first-begins b top).told (omega arith)
+    ]
+one_event_held held b h (waiting [] alone e) = absurd (let no = alone.one in cc)
+one_event_held held b h (waiting (x ∷ g) alone e) =
+    let some : 0 < length (x ∷ g) = omega arith in
+    elim (cases_lt b 128) [
+      | inl seven ↦ rw (next-seven (x ∷ g) (b ∷ []) h some (seven, tt)).told (segment_events-new (x ∷ g) b e (verdict ((x ∷ g) ++ b ∷ [])) refl)
+      | inr top ↦ rw (next-begins (x ∷ g) b h some top).told (omega arith)
+    ]
+
+-- No byte makes two events.
+pub one_event : (s : List ℕ) (b : ℕ) → length (events (open_message s ++ b ∷ [])) ≤ 1
+one_event s b = one_event_held (open_message s) b (IsHeld-open s) (IsOpen-open s)

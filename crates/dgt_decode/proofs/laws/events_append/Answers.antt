@@ -1,0 +1,5 @@
+use Rattle.dgt_decode.proofs.More.{events-append}
+use Rattle.dgt_decode.proofs.laws.events_append.Goals as goal
+
+pub returns : goal.returns
+returns c = events-append

@@ -1,0 +1,54 @@
+-- What a reader that holds an unfinished message does with a piece: it uses the bytes up to and including
+-- the first one that makes an event.
+use Rattle.std.specs.Prelude.{◌≡◌, ℕ, ◌+◌, ◌<◌, ◌≤◌, List, [], ◌∷◌, ◌++◌, length, drop, take, slice_index, Option, Some, None}
+use Rattle.dgt_values.specs.Bytes.{number}
+use Rattle.dgt_message.specs.Content.{content}
+use Rattle.dgt_decode.specs.declared.event.Event as code
+use Rattle.dgt_decode.specs.declared.event.Event.TheVariants as code_events
+use Rattle.dgt_decode.specs.declared.event.Found.{Found}
+use Rattle.dgt_decode.specs.declared.event.Found.TheVariants as found
+use Rattle.dgt_decode.specs.Grammar.{Event, Message, Refused, Cut, BadLength, Stray, Placed, IsSevenBit, at_place, events, message_event, total_of}
+
+-- Used is the least number of the piece's bytes with which there is an event, and this is it.
+-- With none the whole piece is used.
+abbrev pub FirstEvent : List ℕ → List ℕ → ℕ → Option Event → Type 0
+FirstEvent held piece used None = (used ≡ length piece) × (events (held ++ piece) ≡ [])
+FirstEvent held piece used (Some event) =
+    (used ≤ length piece)
+    × (events (held ++ take used piece) ≡ at_place (length held + used) event ∷ [])
+    × ((k : ℕ) → k < used → events (held ++ take k piece) ≡ [])
+
+-- an event that the code tells
+abbrev pub event_content : code.Event → Event
+event_content (code_events.Message message) = Message (content message)
+event_content (code_events.Refused code fault) = Refused (number code) fault
+event_content (code_events.Cut have) = Cut have
+event_content code_events.BadLength = BadLength
+event_content (code_events.Stray byte) = Stray byte
+
+abbrev pub event_content_if_any : Option code.Event → Option Event
+event_content_if_any None = None
+event_content_if_any (Some event) = Some (event_content event)
+
+-- what was found, where these bytes are kept
+abbrev pub found_in : List ℕ → Found → Event
+found_in kept found.Message = message_event kept
+found_in kept (found.Cut have) = Cut have
+found_in kept found.BadLength = BadLength
+found_in kept (found.Stray byte) = Stray byte
+
+abbrev pub found_if_any : List ℕ → Option Found → Option Event
+found_if_any kept None = None
+found_if_any kept (Some what) = Some (found_in kept what)
+
+-- the events of bytes of which only the last may make one
+abbrev pub at_place_if_any : ℕ → Option Event → List Placed
+at_place_if_any place None = []
+at_place_if_any place (Some event) = at_place place event ∷ []
+
+-- the bytes of one message, and no more
+pub record IsWhole (bytes : List ℕ) : Type 0 where
+  pub first : 128 ≤ slice_index bytes 0
+  pub later : IsSevenBit (drop 1 bytes)
+  pub long : 3 ≤ length bytes
+  pub whole : total_of bytes ≡ length bytes

@@ -1,0 +1,123 @@
+-- What the bytes from a board say. A list of bytes is cut before each byte with a set top bit: the part before
+-- the first cut is the lead, the others are segments. Bytes of the lead are stray. A segment begins with a header
+-- of three bytes, which says how long the message is; bytes of the segment behind its message are stray.
+use Rattle.std.specs.Prelude.{ℕ, ◌+◌, ◌-◌, ◌<◌, Bool, List, [], ◌∷◌, ◌++◌, length, take, drop, Option, Some, None, Result, Ok, Err, nat_lt, nat_le, slice_index, if◌then◌else◌}
+use Rattle.std.specs.List.{AllByRecursion}
+use Rattle.dgt_message.specs.declared.bodies.BodyFault.{BodyFault}
+use Rattle.dgt_message.specs.Content.{Content}
+use Rattle.dgt_message.specs.Reading.{reading}
+use Rattle.dgt_message.specs.Spelling.{total}
+
+-- all members below 128
+abbrev pub IsSevenBit : List ℕ → Type 0
+IsSevenBit bytes = AllByRecursion (λ b. b < 128) bytes
+
+-- what a byte makes known
+pub data Event : Type 0 where
+  -- a whole message was read
+  Message : Content → Event
+  -- a whole message has this code, and its body this fault
+  Refused : ℕ → BodyFault → Event
+  -- a new message begins before the last one ended, of which so many bytes had come
+  Cut : ℕ → Event
+  -- a total below the header's own length
+  BadLength : Event
+  -- a byte that is in no message
+  Stray : ℕ → Event
+
+-- an event, and the number of bytes up to and including the one that makes it
+pub record Placed : Type 0 where
+  pub place : ℕ
+  pub event : Event
+
+abbrev pub at_place : ℕ → Event → Placed
+at_place place event = record { place = place; event = event }
+
+-- the events of bytes that stand behind n others
+abbrev pub events_behind : ℕ → List Placed → List Placed
+events_behind n [] = []
+events_behind n (x ∷ events) = at_place (n + x.place) x.event ∷ events_behind n events
+
+-- a Stray for each byte
+abbrev pub strays : List ℕ → List Placed
+strays [] = []
+strays (b ∷ bytes) = at_place 1 (Stray b) ∷ events_behind 1 (strays bytes)
+
+-- ---- The cut
+
+-- a byte with a set top bit begins a message
+abbrev pub has_top_bit : ℕ → Bool
+has_top_bit b = nat_le 128 b
+
+-- the bytes before the first cut
+abbrev pub lead : List ℕ → List ℕ
+lead [] = []
+lead (b ∷ bytes) = if has_top_bit b then [] else b ∷ lead bytes
+
+-- the parts from each cut to the next
+abbrev pub segments : List ℕ → List (List ℕ)
+segments [] = []
+segments (b ∷ bytes) = if has_top_bit b then (b ∷ lead bytes) ∷ segments bytes else segments bytes
+
+-- ---- One segment
+
+-- the total that a segment's header says
+abbrev pub total_of : List ℕ → ℕ
+total_of segment = total (slice_index segment 1) (slice_index segment 2)
+
+abbrev pub reading_event : ℕ → Result Content BodyFault → Event
+reading_event code (Ok said) = Message said
+reading_event code (Err fault) = Refused code fault
+
+-- what the bytes of a whole message make known
+abbrev pub message_event : List ℕ → Event
+message_event bytes = reading_event (slice_index bytes 0 - 128) (reading (slice_index bytes 0 - 128) (drop 3 bytes))
+
+-- what a segment's message comes to; none while the message is unfinished
+unfoldable pub verdict : List ℕ → Option Placed
+verdict segment =
+    if nat_lt (length segment) 3 then None
+    else if nat_lt (total_of segment) 3 then Some (at_place 3 BadLength)
+    else if nat_lt (length segment) (total_of segment) then None
+    else Some (at_place (total_of segment) (message_event (take (total_of segment) segment)))
+
+-- the events of a segment with this verdict: behind its message each byte is stray
+abbrev pub segment_events : Option Placed → List ℕ → List Placed
+segment_events None segment = []
+segment_events (Some x) segment = x ∷ events_behind x.place (strays (drop x.place segment))
+
+-- what a segment with this verdict leaves unfinished
+abbrev pub unfinished_part : Option Placed → List ℕ → List ℕ
+unfinished_part None segment = segment
+unfinished_part (Some x) segment = []
+
+-- the Cut that the first byte behind unfinished bytes makes
+abbrev pub cut_of : List ℕ → List Placed
+cut_of [] = []
+cut_of (b ∷ bytes) = at_place 1 (Cut (length (b ∷ bytes))) ∷ []
+
+-- the Cut, where another segment follows
+abbrev pub cut_before : List (List ℕ) → List ℕ → List Placed
+cut_before [] unfinished = []
+cut_before (next ∷ others) unfinished = cut_of unfinished
+
+-- ---- All segments
+
+abbrev pub events_of : List (List ℕ) → List Placed
+events_of [] = []
+events_of (segment ∷ others) =
+    segment_events (verdict segment) segment
+    ++ events_behind (length segment) (cut_before others (unfinished_part (verdict segment) segment) ++ events_of others)
+
+abbrev pub open_segment : List (List ℕ) → List ℕ
+open_segment [] = []
+open_segment (segment ∷ []) = unfinished_part (verdict segment) segment
+open_segment (segment ∷ next ∷ others) = open_segment (next ∷ others)
+
+-- the events of a list of bytes, in order
+unfoldable pub events : List ℕ → List Placed
+events bytes = strays (lead bytes) ++ events_behind (length (lead bytes)) (events_of (segments bytes))
+
+-- the bytes of the unfinished message at the end, if there is one
+unfoldable pub open_message : List ℕ → List ℕ
+open_message bytes = open_segment (segments bytes)

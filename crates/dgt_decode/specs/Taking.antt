@@ -1,0 +1,16 @@
+-- What a framer does with one byte.
+use Rattle.std.specs.Prelude.{◌≡◌, ℕ, ◌+◌, List, [], ◌∷◌, ◌++◌, length, Option, Some}
+use Rattle.dgt_decode.specs.declared.event.Found.{Found}
+use Rattle.dgt_decode.specs.declared.event.Found.TheVariants as found
+use Rattle.dgt_decode.specs.Grammar.{Event, events, open_message}
+use Rattle.dgt_decode.specs.Feeding.{IsWhole, at_place_if_any, found_if_any}
+
+-- A reader that held these bytes has taken one more: it tells its event, and holds what is open then.
+pub record TakesByte (held : List ℕ) (byte : ℕ) (new : List ℕ) (event : Option Event) : Type 0 where
+  pub told : events (held ++ byte ∷ []) ≡ at_place_if_any (length held + 1) event
+  pub holds : new ≡ open_message (held ++ byte ∷ [])
+
+-- A reader that kept these bytes has taken one more, which ended a message that is kept now if it made one known.
+pub record Frames (kept : List ℕ) (byte : ℕ) (new : List ℕ) (what : Option Found) : Type 0 where
+  pub takes : TakesByte (open_message kept) byte (open_message new) (found_if_any new what)
+  pub message : what ≡ Some found.Message → IsWhole new

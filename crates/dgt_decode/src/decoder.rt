@@ -1,0 +1,111 @@
+//! The decoder, which lends its events.
+
+ghost use Rattle.std.specs.Prelude.{◌≡◌, ◌<◌, ◌≤◌, ℕ, List, [], ◌++◌, length, take, MatchOption};
+ghost use Rattle.std.specs.Borrow.{sem};
+ghost use Rattle.std.specs.Io.BufRead.{Rests};
+ghost use Rattle.dgt_decode.specs.Grammar.{open_message};
+ghost use Rattle.dgt_decode.specs.Feeding.{FirstEvent, event_content_if_any};
+
+use crate::event::Event;
+use crate::framer::Framer;
+use std::marker::Model;
+
+/// A message that was not finished.
+#[derive(Clone, Copy, Debug, PartialEq, Eq)]
+pub struct Unfinished {
+    /// How many of its bytes had come: 1 to 16382.
+    pub have: usize,
+}
+
+/// A decoder's answer to a piece.
+#[derive(Clone, Copy, Debug, PartialEq, Eq)]
+pub struct Fed<'a> {
+    /// How many bytes of the piece were used. The others are still to be fed.
+    pub used: usize,
+    /// The event that the last used byte made. With none, the whole piece was used.
+    pub event: Option<Event<'a>>,
+}
+
+/// Reads what a board sends, in pieces of any length. Contracts see it as the bytes that have come of an
+/// unfinished message.
+///
+/// The bytes are kept in the decoder itself, at most 16383 of them. No call takes memory.
+#[derive(Drop)]
+pub struct Decoder {
+    framer: Framer,
+}
+
+impl Model for Decoder {
+    ghost use Rattle.std.specs.Prelude.{ℕ, List};
+    ghost use Rattle.dgt_decode.specs.Grammar.{open_message};
+
+    ghost Value = { List ℕ };
+
+    ghost view = { λ decoder. open_message decoder.framer };
+}
+
+impl Decoder {
+    ghost use Rattle.dgt_decode.specs.contracts.decoder.Decoder.{the_row};
+
+    /// A decoder that has read nothing.
+    #[tactic(auto, using(crate::proofs::Bytes::openings))]
+    pub fn new() -> Self
+        ensures { result ≡ [] }
+    {
+        Decoder {
+            framer: Framer::new(),
+        }
+    }
+
+    /// Uses bytes of the piece up to and including the first that makes an event, or all of it.
+    ///
+    /// The event lends its body from the decoder until the next call.
+    pub fn feed(&mut self, piece: &[u8]) -> Fed<'_>
+        ensures* after_borrow { sem 𝓛 (Rests the_row self.entry (λ new. new ≡ open_message (self.old ++ take result.used piece.now))) }
+        ensures within { result.used ≤ length piece.now }
+        ensures first { FirstEvent self.old piece.now result.used (event_content_if_any result.event) }
+        ensures progress { 0 < length piece.now → 0 < result.used }
+    {
+        let advanced = self.framer.advance(piece);
+        let event = match advanced.found {
+            Some(found) => Some(self.framer.event(found)),
+            None => None,
+        };
+        Fed {
+            used: advanced.used,
+            event,
+        }
+    }
+
+    /// How many bytes have come of an unfinished message: 0 to 16382.
+    #[tactic(auto, using(crate::proofs::Bytes::openings))]
+    pub fn rest(&self) -> usize
+        ensures len { result ≡ length self.now }
+        ensures all_open { open_message self.now ≡ self.now }
+        ensures short { length self.now ≤ 16382 }
+    {
+        self.framer.open_len()
+    }
+
+    /// Tells of an unfinished message, if there is one, and makes the decoder as new.
+    pub fn finish(&mut self) -> Option<Unfinished>
+        ensures told { MatchOption result (self.old ≡ []) (λ unfinished. (0 < length self.old) × (unfinished.have ≡ length self.old)) }
+        ensures new { self.new ≡ [] }
+    {
+        let have = self.rest();
+        self.reset();
+        if have == 0 {
+            None
+        } else {
+            Some(Unfinished { have })
+        }
+    }
+
+    /// Makes the decoder as new.
+    #[tactic(auto, using(crate::proofs::Bytes::openings))]
+    pub fn reset(&mut self)
+        ensures { self.new ≡ [] }
+    {
+        self.framer.reset();
+    }
+}

@@ -1,0 +1,187 @@
+//! The reading of one message after another: its states, and the bytes that have come.
+
+ghost use Rattle.std.specs.Prelude.{◌≡◌, ◌≤◌, ◌<◌, ◌+◌, List, ℕ, [], ◌∷◌, ◌++◌, length, take, ◌==◌, if◌then◌else◌, Some, None};
+ghost use Rattle.dgt_decode.specs.Grammar.{open_message};
+ghost use Rattle.dgt_decode.specs.Feeding.{FirstEvent, IsWhole, event_content, found_if_any, found_in};
+ghost use Rattle.dgt_decode.specs.Taking.{Frames};
+
+use crate::event::{Event, Found, whole_message};
+use arrayvec::ArrayVec;
+use std::marker::Model;
+
+/// The most bytes of a message, its header of three bytes counted.
+pub const MAX_TOTAL: usize = 16383;
+
+/// How far a message has come.
+#[derive(Clone, Copy)]
+enum State {
+    /// No message has begun.
+    Hunting,
+    /// One or two bytes of its header have come.
+    Head,
+    /// Its header has come, and so many bytes are still to come.
+    Body { left: usize },
+    /// All of it has come. It is kept until the next byte.
+    Whole,
+}
+
+/// A framer's answer to a piece.
+#[derive(Clone, Copy, Debug, PartialEq, Eq)]
+pub struct Advanced {
+    /// How many bytes of the piece were used. The others are still to be read.
+    pub used: usize,
+    /// What the last used byte made known. With none, the whole piece was used.
+    pub found: Option<Found>,
+}
+
+/// Reads what a board sends, in two steps: `advance` takes bytes, and `event` lends what they made known.
+/// A caller that keeps a state of its own beside the framer can alter it in between; for any other caller
+/// there is `Decoder`.
+///
+/// Contracts see it as the bytes that it keeps: those that have come of an unfinished message, or all of
+/// the message that has just become whole. The bytes are kept in the framer itself, at most `MAX_TOTAL`
+/// of them. No call takes memory.
+#[derive(Drop)]
+pub struct Framer {
+    state: State,
+    kept: ArrayVec<u8, MAX_TOTAL>,
+}
+
+impl Model for Framer {
+    ghost use Rattle.std.specs.Prelude.{ℕ, List};
+    ghost use Rattle.dgt_decode.specs.Keeping.{IsKept};
+
+    ghost Value = { List ℕ };
+
+    ghost view = { λ framer. framer.kept.items };
+
+    ghost invariant = { λ framer. IsKept framer.state framer.kept.items };
+}
+
+// The state after a byte of a message, where so many are still to come, and what the byte made known.
+fn after_byte(left: usize) -> (State, Option<Found>)
+    ensures { result ≡ (if left == 0 then (State.Whole, Some Found.Message) else (State.Body left, None)) }
+{
+    if left == 0 {
+        (State::Whole, Some(Found::Message))
+    } else {
+        (State::Body { left }, None)
+    }
+}
+
+impl Framer {
+    /// A framer that has read nothing.
+    pub fn new() -> Self
+        ensures { result ≡ [] }
+    {
+        Framer {
+            state: State::Hunting,
+            kept: ArrayVec::new(),
+        }
+    }
+
+    /// How many bytes have come of an unfinished message: 0 to 16382.
+    pub fn open_len(&self) -> usize
+        ensures { result ≡ length (open_message self.now) }
+    {
+        match self.state {
+            State::Hunting | State::Whole => 0,
+            State::Head | State::Body { .. } => self.kept.len(),
+        }
+    }
+
+    /// Makes the framer as new.
+    pub fn reset(&mut self)
+        ensures { self.new ≡ [] }
+    {
+        self.kept.clear();
+        self.state = State::Hunting;
+    }
+
+    /// Uses bytes of the piece up to and including the first that makes something known, or all of it.
+    pub fn advance(&mut self, piece: &[u8]) -> Advanced
+        ensures within { result.used ≤ length piece.now }
+        ensures first { FirstEvent (open_message self.old) piece.now result.used (found_if_any self.new result.found) }
+        ensures held { open_message self.new ≡ open_message (open_message self.old ++ take result.used piece.now) }
+        ensures whole { result.found ≡ Some Found.Message → IsWhole self.new }
+        ensures progress { 0 < length piece.now → 0 < result.used }
+    {
+        for (index, byte) in piece.iter().enumerate() {
+            if let Some(found) = self.take_byte(*byte) {
+                return Advanced {
+                    used: index + 1,
+                    found: Some(found),
+                };
+            }
+        }
+        Advanced {
+            used: piece.len(),
+            found: None,
+        }
+    }
+
+    /// The event of what was found. A message that was found is still kept here: `advance` says so, and no
+    /// byte may come in between.
+    pub fn event(&self, found: Found) -> Event<'_>
+        requires { found ≡ Found.Message → IsWhole self.now }
+        ensures { event_content result ≡ found_in self.now found }
+    {
+        match found {
+            Found::Message => whole_message(&self.kept),
+            Found::Cut { have } => Event::Cut { have },
+            Found::BadLength => Event::BadLength,
+            Found::Stray(byte) => Event::Stray(byte),
+        }
+    }
+
+    // A byte with a set top bit begins a message, and cuts off one that is unfinished.
+    fn begin_message(&mut self, byte: u8) -> Option<Found>
+        requires { 128 ≤ byte }
+        ensures { Frames self.old byte self.new result }
+    {
+        let have = self.open_len();
+        self.kept.clear();
+        self.kept.push(byte);
+        self.state = State::Head;
+        if have == 0 {
+            None
+        } else {
+            Some(Found::Cut { have })
+        }
+    }
+
+    fn take_byte(&mut self, byte: u8) -> Option<Found>
+        ensures { Frames self.old byte self.new result }
+    {
+        if byte >= 128 {
+            return self.begin_message(byte);
+        }
+        match self.state {
+            State::Hunting | State::Whole => {
+                self.reset();
+                Some(Found::Stray(byte))
+            }
+            State::Head if self.kept.len() == 1 => {
+                self.kept.push(byte);
+                None
+            }
+            State::Head => {
+                let total = 128 * usize::from(self.kept[1]) + usize::from(byte);
+                if total < 3 {
+                    self.reset();
+                    return Some(Found::BadLength);
+                }
+                self.kept.push(byte);
+                let (state, found) = after_byte(total - 3);
+                self.state = state;
+                found
+            }
+            State::Body { left } => {
+                self.kept.push(byte);
+                let (state, found) = after_byte(left - 1);
+                self.state = state;
+                found
+            }
+        }
+    }
+}

@@ -1,0 +1,98 @@
+//! All events of a list of bytes, in a plain and slow way: the list is cut before each byte with a set top
+//! bit, and each part is judged whole.
+
+ghost use Rattle.std.specs.Prelude.{◌≡◌, ◌≤◌, ◌<◌, ◌+◌, ◌^◌, [], ◌++◌, length, take, if◌then◌else◌, IfOk, IfSome, OnOk};
+ghost use Rattle.dgt_decode.specs.Grammar.{cut_of, events, events_behind, lead, segment_events, strays, unfinished_part, verdict};
+ghost use Rattle.dgt_decode.specs.Laws.{IsSegment};
+ghost use Rattle.dgt_decode.specs.Placing.{placed_content_if_any, placed_contents};
+
+use crate::event::{Event, whole_message};
+use std::alloc::{AllocError, Global};
+
+/// An event, and the number of bytes up to and including the one that makes it.
+pub type Told<'a> = (usize, Event<'a>);
+
+// How many bytes stand before the first with a set top bit.
+fn lead_length(bytes: &[u8]) -> usize
+    ensures within { result ≤ length bytes.now }
+    ensures is_lead { take result bytes.now ≡ lead bytes.now }
+{
+    for (index, byte) in bytes.iter().enumerate() {
+        if *byte >= 128 {
+            return index;
+        }
+    }
+    bytes.len()
+}
+
+// What the message of a segment comes to, with its place in the segment.
+fn segment_verdict(segment: &[u8]) -> Option<Told<'_>>
+    requires { IsSegment segment.now }
+    ensures value { placed_content_if_any result ≡ verdict segment.now }
+    ensures within { IfSome result (λ told. told.0 ≤ length segment.now) }
+{
+    if segment.len() < 3 {
+        return None;
+    }
+    let total = 128 * usize::from(segment[1]) + usize::from(segment[2]);
+    if total < 3 {
+        return Some((3, Event::BadLength));
+    }
+    if segment.len() < total {
+        return None;
+    }
+    Some((total, whole_message(&segment[..total])))
+}
+
+// A Stray for each of the bytes, of which so many stand before.
+fn push_strays(told: &mut Vec<Told<'_>>, before: usize, bytes: &[u8]) -> Result<(), AllocError>
+    requires { before + length bytes.now < 2 ^ 64 }
+    ensures { OnOk result (placed_contents told.new.items ≡ placed_contents told.old.items ++ events_behind before (strays bytes.now)) }
+{
+    for (index, byte) in bytes.iter().enumerate() {
+        told.push((before + index + 1, Event::Stray(*byte)))?;
+    }
+    Ok(())
+}
+
+// The events of a segment that so many bytes stand before, and the Cut where another segment follows.
+fn push_segment<'a>(
+    told: &mut Vec<Told<'a>>,
+    before: usize,
+    segment: &'a [u8],
+    is_last: bool,
+) -> Result<(), AllocError>
+    requires is_segment { IsSegment segment.now }
+    requires fits { before + length segment.now + 1 < 2 ^ 64 }
+    ensures { OnOk result (placed_contents told.new.items ≡ placed_contents told.old.items
+        ++ events_behind before (segment_events (verdict segment.now) segment.now
+        ++ events_behind (length segment.now) (if is_last then [] else cut_of (unfinished_part (verdict segment.now) segment.now)))) }
+{
+    match segment_verdict(segment) {
+        Some((place, event)) => {
+            told.push((before + place, event))?;
+            push_strays(told, before + place, &segment[place..])?;
+        }
+        None if is_last => {}
+        None => {
+            let have = segment.len();
+            told.push((before + have + 1, Event::Cut { have }))?;
+        }
+    }
+    Ok(())
+}
+
+/// All events of the bytes, in order, with their places.
+pub fn events_of(alloc: Global, bytes: &[u8]) -> Result<Vec<Told<'_>>, AllocError>
+    ensures { IfOk result (λ told. placed_contents told.items ≡ events bytes.now) }
+{
+    let mut told = Vec::new(alloc);
+    let mut start = lead_length(bytes);
+    push_strays(&mut told, 0, &bytes[..start])?;
+    while start < bytes.len() {
+        let end = start + 1 + lead_length(&bytes[start + 1..]);
+        push_segment(&mut told, start, &bytes[start..end], end == bytes.len())?;
+        start = end;
+    }
+    Ok(told)
+}
