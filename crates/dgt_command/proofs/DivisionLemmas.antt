@@ -1,0 +1,251 @@
+-- Zeros complete each partial word, and each list of bytes divides into words in one way.
+use Rattle.std.proofs.Common.{◌≡◌, ◌≢◌, ℕ, suc, zero, ◌+◌, ◌-◌, ◌<◌, ◌≤◌, List, [], ◌∷◌, ◌++◌, length, refl, sym, ap, subst, ◌∙◌, inl, inr, arith, append_assoc, length-append, replicate, map}
+use Rattle.std.proofs.lemmas.Bool.{cases_eq, cases_lt, le-ltb, lt-ltb, ne_eqb, eq-eqb}
+use Rattle.std.proofs.lemmas.List.{append-nil, length-replicate, replicate_more, replicate-append-replicate, get_or-replicate, get_or_past}
+use Rattle.std.specs.List.{flat_map, AllByRecursion}
+use Rattle.std.specs.Prelude.{Bool, true, false, slice_index, if◌then◌else◌}
+use Rattle.dgt_command.specs.Content.{CommandContent, ClockMessage, Leds, EventContent, Read, BadSize, BadStart, Stray}
+use Rattle.dgt_command.specs.Words.{AreBytes, spelling, Spells, BeginsNoCommand, HasForm, IsPartial, Divides, IsNoise, IsNoiseList}
+use Rattle.dgt_command.specs.Laws.{EachDividesOnce, NoWordBeginsAnother, CommandsAreReadBack, ZerosSettleTheReader, DivisionsAppend}
+use Rattle.dgt_command.proofs.WordLemmas.{word_length, clock_length, body_length, led_length, form_length, same_word, begins, clock_word, IsNone, one_byte, no_command}
+
+-- so many zeros
+abbrev pub zeros : ℕ → List ℕ
+zeros n = replicate n 0
+
+-- so many zeros are so many bytes
+length_zeros : (n : ℕ) → length (zeros n) ≡ n
+length_zeros n = length-replicate {A = ℕ} n 0
+
+-- bytes behind bytes are bytes
+pub bytes_append : (xs ys : List ℕ) → AreBytes xs → AreBytes ys → AreBytes (xs ++ ys)
+bytes_append [] ys h k i = k i
+bytes_append (x ∷ xs) ys h k zero = h 0
+bytes_append (x ∷ xs) ys h k (suc i) = bytes_append xs ys (λ j. h (suc j)) k i
+
+-- the front of bytes is bytes
+pub bytes_left : (xs ys : List ℕ) → AreBytes (xs ++ ys) → AreBytes xs
+bytes_left [] ys h i = omega arith
+bytes_left (x ∷ xs) ys h zero = h 0
+bytes_left (x ∷ xs) ys h (suc i) = bytes_left xs ys (λ j. h (suc j)) i
+
+-- what follows in bytes is bytes
+pub bytes_right : (xs ys : List ℕ) → AreBytes (xs ++ ys) → AreBytes ys
+bytes_right [] ys h i = h i
+bytes_right (x ∷ xs) ys h i = bytes_right xs ys (λ j. h (suc j)) i
+
+-- zeros are bytes
+pub bytes_zeros : (n : ℕ) → AreBytes (zeros n)
+bytes_zeros n i = elim (cases_lt i n) [
+  | inl h ↦ rw (get_or-replicate {A = ℕ} n i 0 0 h) (omega arith)
+  | inr h ↦ rw (get_or_past (zeros n) i 0 (omega (arith, length_zeros n))) (omega arith)
+]
+
+-- zeros complete the word
+pub record Completed (r : List ℕ) : Type 0 where
+  pub event : EventContent
+  pub count : ℕ
+  pub few : count < 255
+  pub noise : IsNoise event
+  pub form : HasForm event (r ++ 0 ∷ zeros count)
+
+-- zero is none of the commands of one byte
+zero_is_none : IsNone 0 one_byte
+zero_is_none =
+    let other : (n : ℕ) → 0 < n → 0 ≢ n = λ n h e. omega arith in
+    (other _ (omega arith), (other _ (omega arith), (other _ (omega arith), (other _ (omega arith), (other _ (omega arith), (other _ (omega arith), (other _ (omega arith), (other _ (omega arith), (other _ (omega arith), (other _ (omega arith), tt))))))))))
+
+-- zero begins no command
+zero_begins_none : BeginsNoCommand 0
+zero_begins_none = no_command 0 zero_is_none (λ e. omega arith) (λ e. omega arith)
+
+-- one zero more at the front is one more at the end
+zeros_push : (n : ℕ) → 0 ∷ zeros n ≡ zeros n ++ 0 ∷ []
+zeros_push n = replicate-append-replicate {A = ℕ} 1 n 0 ∙ (ap (λ (k : ℕ). zeros k) (omega arith) ∙ sym (replicate_more {X = ℕ} n 0))
+
+-- zeros complete a clock message whose size and third byte are right
+body_zeros : (size : ℕ) (rest : List ℕ) → 3 ≤ size → size < 256 → length rest + 3 < size + 2 → Completed (0x2b ∷ size ∷ 3 ∷ rest)
+body_zeros size [] large byte short =
+    let found = clock_word 0 (zeros (size - 3)) size (omega (arith, length_zeros (size - 3))) in
+    let shifted : 0 ∷ (zeros (size - 3) ++ 0 ∷ []) ≡ 0 ∷ zeros (size - 2) = ap (λ (zs : List ℕ). 0 ∷ zs) (replicate_more {X = ℕ} (size - 3) 0 ∙ ap (λ (k : ℕ). zeros k) (omega arith)) in
+    record {
+      event = Read (ClockMessage found.0);
+      count = size - 2;
+      few = omega arith;
+      noise = tt;
+      form = subst (λ (zs : List ℕ). HasForm (Read (ClockMessage found.0)) (0x2b ∷ size ∷ 3 ∷ zs)) shifted found.1;
+    }
+body_zeros size (id ∷ p) large byte short =
+    let n : ℕ = size - 3 - length p in
+    let found = clock_word id (p ++ zeros n) size (omega (arith, length-append p (zeros n), length_zeros n)) in
+    let shifted : (p ++ zeros n) ++ 0 ∷ [] ≡ p ++ 0 ∷ zeros n = append_assoc p (zeros n) (0 ∷ []) ∙ ap (λ (zs : List ℕ). p ++ zs) (sym (zeros_push n)) in
+    record {
+      event = Read (ClockMessage found.0);
+      count = n;
+      few = omega arith;
+      noise = tt;
+      form = subst (λ (zs : List ℕ). HasForm (Read (ClockMessage found.0)) (0x2b ∷ size ∷ 3 ∷ id ∷ zs)) shifted found.1;
+    }
+
+-- zeros complete what begins as a clock message
+clock_zeros : (rest : List ℕ) → slice_index rest 0 < 256 → length rest + 1 < clock_length rest → Completed (0x2b ∷ rest)
+clock_zeros [] byte h = record { event = BadSize; count = 0; few = omega arith; noise = tt; form = (0, omega arith, refl) }
+clock_zeros (size ∷ rest) byte h = elim (cases_lt size 3) [
+  | inl small ↦ absurd (let k : length (size ∷ rest) + 1 < 2 = rw (lt-ltb size 3 small) at h in omega (arith, k))
+  | inr large ↦ size_zeros size rest large byte (let k : length (size ∷ rest) + 1 < body_length size rest = rw (le-ltb size 3 large) at h in k)
+]
+  where
+    size_zeros : (size : ℕ) (rest : List ℕ) → 3 ≤ size → size < 256 → length (size ∷ rest) + 1 < body_length size rest → Completed (0x2b ∷ size ∷ rest)
+    size_zeros size [] large byte h = record { event = BadStart; count = 0; few = omega arith; noise = tt; form = (size, 0, large, (λ e. omega arith), refl) }
+    size_zeros size (third ∷ rest) large byte h = elim (cases_eq third 3) [
+      | inl is ↦ subst (λ (x : ℕ). Completed (0x2b ∷ size ∷ x ∷ rest)) (sym is) (body_zeros size rest large byte (let k : length (size ∷ third ∷ rest) + 1 < size + 2 = rw (eq-eqb third 3 is) at h in omega (arith, k)))
+      | inr other ↦ absurd (let k : length (size ∷ third ∷ rest) + 1 < 3 = rw (ne_eqb third 3 other) at h in omega (arith, k))
+    ]
+
+-- zeros complete an LED frame
+led_zeros : (rest : List ℕ) → slice_index rest 0 < 256 → length rest + 1 < led_length rest → Completed (0x60 ∷ rest)
+led_zeros [] byte h = record { event = Read (Leds []); count = 0; few = omega arith; noise = tt; form = (tt, refl) }
+led_zeros (size ∷ rest) byte h =
+    let n : ℕ = size - 1 - length rest in
+    let long : length (rest ++ 0 ∷ zeros n) ≡ size = omega (arith, length-append rest (0 ∷ zeros n), length_zeros n) in
+    record {
+      event = Read (Leds (rest ++ 0 ∷ zeros n));
+      count = n;
+      few = omega arith;
+      noise = tt;
+      form = (tt, ap (λ (k : ℕ). 0x60 ∷ k ∷ (rest ++ 0 ∷ zeros n)) (sym long));
+    }
+
+-- what is shorter than its word becomes one by zeros
+pub completed : (r : List ℕ) → AreBytes r → length r < word_length r → Completed r
+completed [] bytes h = record { event = Stray 0; count = 0; few = omega arith; noise = tt; form = (zero_begins_none, refl) }
+completed (b ∷ rest) bytes h = elim (cases_eq b 0x2b) [
+  | inl is ↦ subst (λ (x : ℕ). Completed (x ∷ rest)) (sym is) (clock_zeros rest (bytes 1) (let k : length (b ∷ rest) < clock_length rest = rw (eq-eqb b 0x2b is) at h in omega (arith, k)))
+  | inr other ↦ elim (cases_eq b 0x60) [
+    | inl is ↦ subst (λ (x : ℕ). Completed (x ∷ rest)) (sym is) (led_zeros rest (bytes 1) (let k : length (b ∷ rest) < led_length rest = rw (ne_eqb b 0x2b other, eq-eqb b 0x60 is) at h in omega (arith, k)))
+    | inr neither ↦ absurd (let k : length (b ∷ rest) < 1 = rw (ne_eqb b 0x2b other, ne_eqb b 0x60 neither) at h in omega (arith, k))
+  ]
+]
+
+-- a proper prefix of a word is what is shorter than its word
+pub IsPartial-from_short : (r : List ℕ) → AreBytes r → length r < word_length r → IsPartial r
+IsPartial-from_short r bytes h =
+    let found = completed r bytes h in
+    record {
+      event = found.event;
+      next = 0;
+      more = zeros found.count;
+      word = record { form = found.form; are_bytes = bytes_append r (0 ∷ zeros found.count) bytes (bytes_zeros (suc found.count)) };
+    }
+
+-- a partial word begins with no word
+pub not_both : (r : List ℕ) (e : EventContent) (w x : List ℕ) → IsPartial r → HasForm e w → r ≡ w ++ x → ⊥
+not_both r e w x partial form is =
+    let whole : List ℕ = r ++ partial.next ∷ partial.more in
+    let front : w ++ (x ++ partial.next ∷ partial.more) ≡ whole ++ [] =
+    sym (append_assoc w x (partial.next ∷ partial.more)) ∙ (ap (λ (zs : List ℕ). zs ++ partial.next ∷ partial.more) (sym is) ∙ sym (append-nil whole)) in
+    let same = same_word e partial.event w whole (x ++ partial.next ∷ partial.more) [] form partial.word.form front in
+    omega (arith, ap length same.word, ap length is, length-append w x, length-append r (partial.next ∷ partial.more))
+
+-- a proper prefix of a word is shorter than its word
+pub short_from_IsPartial : (r : List ℕ) → IsPartial r → length r < word_length r
+short_from_IsPartial r partial = elim (cases_lt (length r) (word_length r)) [
+  | inl h ↦ h
+  | inr h ↦ let found = begins r h in absurd (not_both r found.event found.word found.after partial found.form found.is)
+]
+
+-- no byte is a proper prefix of a word
+pub nothing_is_partial : IsPartial []
+nothing_is_partial = IsPartial-from_short [] (λ i. omega arith) (omega arith)
+
+-- a word has at least one byte
+pub some_word : (e : EventContent) (w : List ℕ) → HasForm e w → 0 < length w
+some_word e [] h = absurd (omega (arith, form_length e [] [] h))
+some_word e (b ∷ w) h = omega arith
+
+-- bytes up to some length divide
+divide : (n : ℕ) (s : List ℕ) → length s ≤ n → AreBytes s → (events : List EventContent) × (rest : List ℕ) × Divides s events rest
+divide zero s short bytes = (
+  [],
+  s,
+  (
+    refl,
+    IsPartial-from_short s bytes (elim (cases_lt (length s) (word_length s)) [
+      | inl h ↦ h
+      | inr h ↦ let found = begins s h in absurd (omega (arith, some_word found.event found.word found.form, ap length found.is, length-append found.word found.after))
+    ]),
+  ),
+)
+divide (suc n) s short bytes = elim (cases_lt (length s) (word_length s)) [
+  | inl h ↦ ([], s, (refl, IsPartial-from_short s bytes h))
+  | inr h ↦
+      let found = begins s h in
+      let both : AreBytes (found.word ++ found.after) = subst AreBytes found.is bytes in
+      let less : length found.after ≤ n = omega (arith, some_word found.event found.word found.form, ap length found.is, length-append found.word found.after) in
+      let more = divide n found.after less (bytes_right found.word found.after both) in
+      (found.event ∷ more.0, more.1, (found.word, found.after, record { form = found.form; are_bytes = bytes_left found.word found.after both }, found.is, more.2))
+]
+
+-- two divisions of bytes are the same
+once : (s : List ℕ) (es fs : List EventContent) (r q : List ℕ) → Divides s es r → Divides s fs q → (es ≡ fs) × (r ≡ q)
+once s [] [] r q h k = (refl, sym h.0 ∙ k.0)
+once s [] (f ∷ fs) r q h k = absurd (not_both r f k.0 k.1 h.1 k.2.form (sym h.0 ∙ k.3))
+once s (e ∷ es) [] r q h k = absurd (not_both q e h.0 h.1 k.1 h.2.form (sym k.0 ∙ h.3))
+once s (e ∷ es) (f ∷ fs) r q h k =
+    let same = same_word e f h.0 k.0 h.1 k.1 h.2.form k.2.form (sym h.3 ∙ k.3) in
+    let others = once k.1 es fs r q (subst (λ (z : List ℕ). Divides z es r) same.after h.4) k.4 in
+    (ap (λ (x : EventContent). x ∷ es) same.event ∙ ap (λ (xs : List EventContent). f ∷ xs) others.0, others.1)
+
+-- bytes divide in one way, and in only one
+pub each_divides_once : EachDividesOnce
+each_divides_once = ((λ bytes are. divide (length bytes) bytes (omega arith) are), (λ bytes es fs r q h k. once bytes es fs r q h k))
+
+-- a word that begins a word is that word
+pub no_word_begins_another : NoWordBeginsAnother
+no_word_begins_another e f w v more h k is =
+    let same = same_word e f w v more [] h.form k.form (sym is ∙ sym (append-nil v)) in
+    (same.event, same.after)
+
+-- spellings in a row divide into their commands
+read_back : (cs : List CommandContent) → AllByRecursion (λ c. Spells c (spelling c)) cs → Divides (flat_map spelling cs) (map Read cs) []
+read_back [] h = (refl, nothing_is_partial)
+read_back (c ∷ cs) h =
+    (spelling c, flat_map spelling cs, record { form = (h.0.is_command, refl); are_bytes = h.0.are_bytes }, refl, read_back cs h.1)
+
+-- bytes that follow others are divided from their rest on
+pub Divides-append : DivisionsAppend
+Divides-append s t [] fs r q h k = subst (λ (z : List ℕ). Divides (z ++ t) fs q) (sym h.0) k
+Divides-append s t (e ∷ es) fs r q h k =
+    (h.0, h.1 ++ t, h.2, ap (λ (z : List ℕ). z ++ t) h.3 ∙ append_assoc h.0 h.1 t, Divides-append h.1 t es fs r q h.4 k)
+
+-- so they do behind words
+pub commands_are_read_back : CommandsAreReadBack
+commands_are_read_back bytes es cs h all = Divides-append bytes (flat_map spelling cs) es (map Read cs) [] [] h (read_back cs all)
+
+-- zeros are stray bytes
+zeros_stray : (n : ℕ) → (es : List EventContent) × IsNoiseList es × Divides (zeros n) es []
+zeros_stray zero = ([], tt, (refl, nothing_is_partial))
+zeros_stray (suc n) =
+    let more = zeros_stray n in
+    (Stray 0 ∷ more.0, (tt, more.1), (0 ∷ [], zeros n, record { form = (zero_begins_none, refl); are_bytes = bytes_zeros 1 }, refl, more.2))
+
+-- a part of a word and 255 zeros are noise
+pub zeros_settle_the_reader : ZerosSettleTheReader
+zeros_settle_the_reader r partial =
+    let bytes : AreBytes r = bytes_left r (partial.next ∷ partial.more) partial.word.are_bytes in
+    let found = completed r bytes (short_from_IsPartial r partial) in
+    let left : ℕ = 255 - suc found.count in
+    let more = zeros_stray left in
+    let word : List ℕ = r ++ zeros (suc found.count) in
+    let split : r ++ replicate 255 0 ≡ word ++ zeros left =
+    ap (λ (n : ℕ). r ++ zeros n) (let e : 255 ≡ suc found.count + left = omega (arith, found.few) in e)
+    ∙ (ap (λ (z : List ℕ). r ++ z) (sym (replicate-append-replicate {A = ℕ} (suc found.count) left 0)) ∙ sym (append_assoc r (zeros (suc found.count)) (zeros left))) in (
+      found.event ∷ more.0,
+      (found.noise, more.1),
+      (word, zeros left, record { form = found.form; are_bytes = bytes_append r (zeros (suc found.count)) bytes (bytes_zeros (suc found.count)) }, split, more.2),
+    )
+
+-- nothing is held of a word that is whole, and else a part of one
+pub held_is_partial : (is_whole : Bool) (word : List ℕ) → (is_whole ≡ false → IsPartial word) → IsPartial (if is_whole then [] else word)
+held_is_partial true word h = nothing_is_partial
+held_is_partial false word h = h refl

@@ -1,0 +1,6 @@
+pub mod ClockLemmas
+pub mod TellingLemmas
+pub mod WordLemmas
+pub mod DivisionLemmas
+pub mod ContentLemmas
+pub mod ReaderLemmas

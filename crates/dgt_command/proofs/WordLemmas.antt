@@ -1,0 +1,314 @@
+-- No word begins another, each list that is long enough begins with one, and zeros complete each that isn't.
+use Rattle.std.proofs.Common.{◌≡◌, ◌≢◌, ℕ, ◌+◌, ◌-◌, ◌<◌, ◌≤◌, false, List, [], ◌∷◌, ◌++◌, length, get_or, take, drop, refl, sym, ap, subst, ◌∙◌, ◌⊎◌, inl, inr, arith, length-append}
+use Rattle.std.proofs.lemmas.Bool.{cases_eq, cases_lt, le-ltb, lt-ltb, ne_eqb, eq-eqb}
+use Rattle.std.proofs.lemmas.List.{append_cancel_left, take_at, get_or_push, length-take-le, take-append-drop}
+use Rattle.std.specs.Prelude.{◌==◌, nat_lt, if◌then◌else◌}
+use Rattle.dgt_command.specs.Content.{ClockContent, End, CommandContent, Reset, Clock, Dump, Update, UpdateBoard, UpdateNice, Serial, Trademark, Battery, Version, ClockMessage, Leds, EventContent, Read, BadSize, BadStart, BadEnd, Stray}
+use Rattle.dgt_command.specs.Telling.{clock_in}
+use Rattle.dgt_command.specs.Words.{clock_id, payload, IsCommand, spelling, BeginsNoCommand, HasForm}
+use Rattle.dgt_command.proofs.ClockLemmas.{clock_in_lem, clock_case}
+
+-- the length of the LED frame that a first byte begins, as far as the bytes behind it tell it
+abbrev pub led_length : List ℕ → ℕ
+led_length [] = 2
+led_length (size ∷ rest) = size + 2
+
+-- the same, behind a size
+abbrev pub body_length : ℕ → List ℕ → ℕ
+body_length size [] = 3
+body_length size (third ∷ rest) = if third == 3 then size + 2 else 3
+
+-- the same, behind the first byte of a clock message
+abbrev pub clock_length : List ℕ → ℕ
+clock_length [] = 2
+clock_length (size ∷ rest) = if nat_lt size 3 then 2 else body_length size rest
+
+-- the same, of all bytes
+abbrev pub word_length : List ℕ → ℕ
+word_length [] = 1
+word_length (first ∷ rest) = if first == 0x2b then clock_length rest else if first == 0x60 then led_length rest else 1
+
+-- a byte that begins no command begins no clock message and no LED frame
+not_clock : (b : ℕ) → BeginsNoCommand b → (b == 0x2b) ≡ false
+not_clock b h = ne_eqb b 0x2b (λ e. h (ClockMessage End) (3 ∷ 3 ∷ 3 ∷ 0 ∷ []) (ap (λ (x : ℕ). x ∷ 3 ∷ 3 ∷ 3 ∷ 0 ∷ []) (sym e)))
+
+-- nor an LED frame
+not_leds : (b : ℕ) → BeginsNoCommand b → (b == 0x60) ≡ false
+not_leds b h = ne_eqb b 0x60 (λ e. h (Leds []) (0 ∷ []) (ap (λ (x : ℕ). x ∷ 0 ∷ []) (sym e)))
+
+-- the word that a list begins with has this length
+spelling_length : (c : CommandContent) (x : List ℕ) → word_length (spelling c ++ x) ≡ length (spelling c)
+spelling_length Reset x = refl
+spelling_length Clock x = refl
+spelling_length Dump x = refl
+spelling_length Update x = refl
+spelling_length UpdateBoard x = refl
+spelling_length UpdateNice x = refl
+spelling_length Serial x = refl
+spelling_length Trademark x = refl
+spelling_length Battery x = refl
+spelling_length Version x = refl
+spelling_length (ClockMessage message) x = rw (le-ltb (length (payload message) + 3) 3 (omega arith)) (omega (arith, length-append (payload message) (0 ∷ [])))
+spelling_length (Leds leds) x = omega arith
+
+-- a word with anything behind it tells its own length
+pub form_length : (e : EventContent) (w x : List ℕ) → HasForm e w → word_length (w ++ x) ≡ length w
+form_length (Read c) w x h = subst (λ (v : List ℕ). word_length (v ++ x) ≡ length v) (sym h.1) (spelling_length c x)
+form_length BadSize w x (size, small, is) = subst (λ (v : List ℕ). word_length (v ++ x) ≡ length v) (sym is) (rw (lt-ltb size 3 small) refl)
+form_length BadStart w x (size, third, large, other, is) = subst (λ (v : List ℕ). word_length (v ++ x) ≡ length v) (sym is) (rw (le-ltb size 3 large, ne_eqb third 3 other) refl)
+form_length BadEnd w x (size, inner, last, long, other, some, is) = subst (λ (v : List ℕ). word_length (v ++ x) ≡ length v) (sym is) (rw (le-ltb size 3 (omega arith)) (omega (arith, length-append inner (last ∷ []))))
+form_length (Stray b) w x (none, is) = subst (λ (v : List ℕ). word_length (v ++ x) ≡ length v) (sym is) (rw (not_clock b none, not_leds b none) refl)
+
+-- the one-byte commands
+abbrev pub one_byte : List (ℕ × CommandContent)
+one_byte =
+    (0x40, Reset) ∷ (0x41, Clock) ∷ (0x42, Dump) ∷ (0x43, Update) ∷ (0x44, UpdateBoard) ∷ (0x45, Serial) ∷ (0x47, Trademark) ∷ (0x4b, UpdateNice) ∷ (0x4c, Battery) ∷ (0x4d, Version) ∷ []
+
+-- the event of one byte, by a table of commands
+abbrev pub event_of_byte : List (ℕ × CommandContent) → ℕ → EventContent
+event_of_byte [] b = Stray b
+event_of_byte (e ∷ es) b = if b == e.0 then Read e.1 else event_of_byte es b
+
+-- each command of the table is spelled by its byte
+abbrev pub AreSpelled : List (ℕ × CommandContent) → Type 0
+AreSpelled [] = Unit {0}
+AreSpelled (e ∷ es) = (spelling e.1 ≡ e.0 ∷ []) × IsCommand e.1 × AreSpelled es
+
+-- so are the one-byte commands
+one_byte_spelled : AreSpelled one_byte
+one_byte_spelled =
+    (refl, tt, (refl, tt, (refl, tt, (refl, tt, (refl, tt, (refl, tt, (refl, tt, (refl, tt, (refl, tt, (refl, tt, tt))))))))))
+
+-- a byte that begins no command is stray
+stray_byte : (es : List (ℕ × CommandContent)) (b : ℕ) → AreSpelled es → BeginsNoCommand b → event_of_byte es b ≡ Stray b
+stray_byte [] b h none = refl
+stray_byte (e ∷ es) b h none =
+    rw (ne_eqb b e.0 (λ is. none e.1 [] (h.0 ∙ ap (λ (x : ℕ). x ∷ []) (sym is)))) (stray_byte es b h.2 none)
+
+-- the event of a clock message of this id, by what follows it
+abbrev pub end_event : ℕ → List ℕ → EventContent
+end_event id more =
+    if get_or more (length more - 1) 0 == 0 then Read (ClockMessage (clock_in id (take (length more - 1) more))) else BadEnd
+
+-- the same, behind the first byte of a clock message
+abbrev pub clock_event : List ℕ → EventContent
+clock_event (size ∷ third ∷ id ∷ more) = end_event id more
+clock_event (size ∷ third ∷ []) = BadStart
+clock_event _ = BadSize
+
+-- the same, of all bytes
+abbrev pub event_of : List ℕ → EventContent
+event_of [] = BadSize
+event_of (b ∷ rest) =
+    if b == 0x2b then clock_event rest else if b == 0x60 then Read (Leds (drop 1 rest)) else event_of_byte one_byte b
+
+-- all but the last byte
+front : (p : List ℕ) (x : ℕ) → take (length (p ++ x ∷ []) - 1) (p ++ x ∷ []) ≡ p
+front p x = take_at p (x ∷ []) (length (p ++ x ∷ []) - 1) (omega (arith, length-append p (x ∷ [])))
+
+-- the last byte
+last_of : (p : List ℕ) (x : ℕ) → get_or (p ++ x ∷ []) (length (p ++ x ∷ []) - 1) 0 ≡ x
+last_of p x = get_or_push p x 0 (length (p ++ x ∷ []) - 1) (omega (arith, length-append p (x ∷ [])))
+
+-- a clock message that ends with zero is read
+end_read : (id : ℕ) (p : List ℕ) → end_event id (p ++ 0 ∷ []) ≡ Read (ClockMessage (clock_in id p))
+end_read id p = rw (last_of p 0, front p 0) refl
+
+-- one that ends with another byte is a fault
+end_bad : (id : ℕ) (p : List ℕ) (x : ℕ) → x ≢ 0 → end_event id (p ++ x ∷ []) ≡ BadEnd
+end_bad id p x h = rw (last_of p x, ne_eqb x 0 h) refl
+
+-- the event of a spelling is its command
+event_of_spelling : (c : CommandContent) → IsCommand c → event_of (spelling c) ≡ Read c
+event_of_spelling Reset h = refl
+event_of_spelling Clock h = refl
+event_of_spelling Dump h = refl
+event_of_spelling Update h = refl
+event_of_spelling UpdateBoard h = refl
+event_of_spelling UpdateNice h = refl
+event_of_spelling Serial h = refl
+event_of_spelling Trademark h = refl
+event_of_spelling Battery h = refl
+event_of_spelling Version h = refl
+event_of_spelling (ClockMessage message) h =
+    end_read (clock_id message) (payload message) ∙ ap (λ m. Read (ClockMessage m)) (clock_in_lem message h)
+event_of_spelling (Leds leds) h = refl
+
+-- a clock message with a wrong last byte is a fault
+end_bad_long : (inner : List ℕ) (x : ℕ) (size : ℕ) → 0 < length inner → x ≢ 0 → clock_event (size ∷ 3 ∷ (inner ++ x ∷ [])) ≡ BadEnd
+end_bad_long [] x size some h = absurd (omega arith)
+end_bad_long (id ∷ p) x size some h = end_bad id p x h
+
+-- a word tells its event
+pub form_event : (e : EventContent) (w : List ℕ) → HasForm e w → event_of w ≡ e
+form_event (Read c) w h = ap event_of h.1 ∙ event_of_spelling c h.0
+form_event BadSize w (size, small, is) = ap event_of is
+form_event BadStart w (size, third, large, other, is) = ap event_of is
+form_event BadEnd w (size, inner, final, long, other, some, is) = ap event_of is ∙ end_bad_long inner final size (omega arith) other
+form_event (Stray b) w (none, is) =
+    ap event_of is ∙ rw (not_clock b none, not_leds b none) (stray_byte one_byte b one_byte_spelled none)
+
+-- Two lists that begin alike begin with the same word.
+pub record SameWord (e f : EventContent) (w v x y : List ℕ) : Type 0 where
+  pub event : e ≡ f
+  pub word : w ≡ v
+  pub after : x ≡ y
+
+-- words of one length that begin the same bytes are the same
+same_front : (w v x y : List ℕ) → length w ≡ length v → w ++ x ≡ v ++ y → w ≡ v
+same_front w v x y h is = sym (take_at w x (length w) refl) ∙ (ap (take (length w)) is ∙ take_at v y (length w) (sym h))
+
+-- words that begin the same bytes are the same
+pub same_word : (e f : EventContent) (w v x y : List ℕ) → HasForm e w → HasForm f v → w ++ x ≡ v ++ y → SameWord e f w v x y
+same_word e f w v x y h k is =
+    let long : length w ≡ length v = sym (form_length e w x h) ∙ (ap word_length is ∙ form_length f v y k) in
+    let word : w ≡ v = same_front w v x y long is in
+    record {
+      event = sym (form_event e w h) ∙ (ap event_of word ∙ form_event f v k);
+      word = word;
+      after = append_cancel_left w x y (is ∙ ap (λ u. u ++ y) (sym word));
+    }
+
+-- the first byte, or 0
+abbrev pub first_byte : List ℕ → ℕ
+first_byte [] = 0
+first_byte (b ∷ rest) = b
+
+-- the byte is none of the table
+abbrev pub IsNone : ℕ → List (ℕ × CommandContent) → Type 0
+IsNone b [] = Unit {0}
+IsNone b (e ∷ es) = (b ≢ e.0) × IsNone b es
+
+-- a byte is one of the table or none of it
+find_byte : (es : List (ℕ × CommandContent)) (b : ℕ) → AreSpelled es → ((e : EventContent) × HasForm e (b ∷ [])) ⊎ IsNone b es
+find_byte [] b h = inr tt
+find_byte (e ∷ es) b h = elim (cases_eq b e.0) [
+  | inl is ↦ inl (Read e.1, (h.1, ap (λ (x : ℕ). x ∷ []) is ∙ sym h.0))
+  | inr other ↦ elim (find_byte es b h.2) [ inl found ↦ inl found | inr none ↦ inr (other, none) ]
+]
+
+-- a byte that is none of the first bytes begins no command
+pub no_command : (b : ℕ) → IsNone b one_byte → b ≢ 0x2b → b ≢ 0x60 → BeginsNoCommand b
+no_command b n c l Reset rest h = n.0 (sym (ap first_byte h))
+no_command b n c l Clock rest h = n.1.0 (sym (ap first_byte h))
+no_command b n c l Dump rest h = n.1.1.0 (sym (ap first_byte h))
+no_command b n c l Update rest h = n.1.1.1.0 (sym (ap first_byte h))
+no_command b n c l UpdateBoard rest h = n.1.1.1.1.0 (sym (ap first_byte h))
+no_command b n c l Serial rest h = n.1.1.1.1.1.0 (sym (ap first_byte h))
+no_command b n c l Trademark rest h = n.1.1.1.1.1.1.0 (sym (ap first_byte h))
+no_command b n c l UpdateNice rest h = n.1.1.1.1.1.1.1.0 (sym (ap first_byte h))
+no_command b n c l Battery rest h = n.1.1.1.1.1.1.1.1.0 (sym (ap first_byte h))
+no_command b n c l Version rest h = n.1.1.1.1.1.1.1.1.1.0 (sym (ap first_byte h))
+no_command b n c l (ClockMessage message) rest h = c (sym (ap first_byte h))
+no_command b n c l (Leds leds) rest h = l (sym (ap first_byte h))
+
+-- a byte that begins no longer word is a word itself
+pub byte_word : (b : ℕ) → b ≢ 0x2b → b ≢ 0x60 → (e : EventContent) × HasForm e (b ∷ [])
+byte_word b c l = elim (find_byte one_byte b one_byte_spelled) [
+  | inl found ↦ found
+  | inr none ↦ (Stray b, (no_command b none c l, refl))
+]
+
+-- the spelling of a clock message, by its id and payload
+clock_spelling : (c : ClockContent) (id : ℕ) (p : List ℕ) (size : ℕ) → clock_id c ≡ id → payload c ≡ p → length p + 3 ≡ size → 0x2b ∷ size ∷ 3 ∷ id ∷ (p ++ 0 ∷ []) ≡ spelling (ClockMessage c)
+clock_spelling c id p size e f g = rw (← g, ← f, ← e) refl
+
+-- a clock message of this id and payload
+pub clock_word : (id : ℕ) (p : List ℕ) (size : ℕ) → length p + 3 ≡ size → (c : ClockContent) × HasForm (Read (ClockMessage c)) (0x2b ∷ size ∷ 3 ∷ id ∷ (p ++ 0 ∷ []))
+clock_word id p size h =
+    let found = clock_case id p in
+    (found.command, (found.is_command, clock_spelling found.command id p size found.same_id found.same_payload h))
+
+-- a clock message that is long enough, right or not
+full_word : (id : ℕ) (p : List ℕ) (x size : ℕ) → length p + 3 ≡ size → (e : EventContent) × HasForm e (0x2b ∷ size ∷ 3 ∷ id ∷ (p ++ x ∷ []))
+full_word id p x size h = elim (cases_eq x 0) [
+  | inl is ↦ let found = clock_word id p size h in
+      (Read (ClockMessage found.0), subst (λ (y : ℕ). HasForm (Read (ClockMessage found.0)) (0x2b ∷ size ∷ 3 ∷ id ∷ (p ++ y ∷ []))) (sym is) found.1)
+  | inr other ↦ (BadEnd, (size, id ∷ p, x, omega arith, other, omega arith, refl))
+]
+
+-- a list of at least two, by its first, its last and those between
+pub record Ends (ys : List ℕ) : Type 0 where
+  pub id : ℕ
+  pub between : List ℕ
+  pub final : ℕ
+  pub is : ys ≡ id ∷ (between ++ final ∷ [])
+
+-- a list of at least one, by its last
+final_of : (x : ℕ) (ys : List ℕ) → (front : List ℕ) × (final : ℕ) × (x ∷ ys ≡ front ++ final ∷ [])
+final_of x [] = ([], x, refl)
+final_of x (y ∷ ys) = let more = final_of y ys in (x ∷ more.0, more.1, ap (λ zs. x ∷ zs) more.2)
+
+-- each list of at least two has a first and a last
+ends_of : (ys : List ℕ) → 2 ≤ length ys → Ends ys
+ends_of [] h = absurd (omega arith)
+ends_of (x ∷ []) h = absurd (omega arith)
+ends_of (x ∷ y ∷ ys) h = let more = final_of y ys in record { id = x; between = more.0; final = more.1; is = ap (λ zs. x ∷ zs) more.2 }
+
+-- a list that begins with a word
+pub record Begins (s : List ℕ) : Type 0 where
+  pub event : EventContent
+  pub word : List ℕ
+  pub after : List ℕ
+  pub form : HasForm event word
+  pub is : s ≡ word ++ after
+
+-- a clock message that is long enough, by its ends
+ends_word : (ys : List ℕ) (size : ℕ) → Ends ys → length ys + 1 ≡ size → (e : EventContent) × HasForm e (0x2b ∷ size ∷ 3 ∷ ys)
+ends_word ys size ends h =
+    let long : length ends.between + 3 ≡ size = omega (arith, ap length ends.is, length-append ends.between (ends.final ∷ [])) in
+    let found = full_word ends.id ends.between ends.final size long in
+    (found.0, subst (λ zs. HasForm found.0 (0x2b ∷ size ∷ 3 ∷ zs)) (sym ends.is) found.1)
+
+-- bytes as long as a clock message of the right third byte begin with it
+whole_body : (size : ℕ) (rest : List ℕ) → 3 ≤ size → size + 2 ≤ length rest + 3 → Begins (0x2b ∷ size ∷ 3 ∷ rest)
+whole_body size rest large h =
+    let long : length (take (size - 1) rest) ≡ size - 1 = length-take-le (size - 1) rest (omega arith) in
+    let found = ends_word (take (size - 1) rest) size (ends_of (take (size - 1) rest) (omega arith)) (omega arith) in
+    record {
+      event = found.0;
+      word = 0x2b ∷ size ∷ 3 ∷ take (size - 1) rest;
+      after = drop (size - 1) rest;
+      form = found.1;
+      is = ap (λ zs. 0x2b ∷ size ∷ 3 ∷ zs) (sym (take-append-drop (size - 1) rest));
+    }
+
+-- bytes as long as a clock message of a large size begin with a word
+body_begins : (size : ℕ) (rest : List ℕ) → 3 ≤ size → body_length size rest ≤ length rest + 2 → Begins (0x2b ∷ size ∷ rest)
+body_begins size [] large h = absurd (omega arith)
+body_begins size (third ∷ rest) large h = elim (cases_eq third 3) [
+  | inl is ↦ subst (λ (x : ℕ). Begins (0x2b ∷ size ∷ x ∷ rest)) (sym is) (whole_body size rest large (let k : size + 2 ≤ length (third ∷ rest) + 2 = rw (eq-eqb third 3 is) at h in omega (arith, k)))
+  | inr other ↦ record { event = BadStart; word = 0x2b ∷ size ∷ third ∷ []; after = rest; form = (size, third, large, other, refl); is = refl }
+]
+
+-- bytes as long as what begins as a clock message begin with a word
+clock_begins : (rest : List ℕ) → clock_length rest ≤ length rest + 1 → Begins (0x2b ∷ rest)
+clock_begins [] h = absurd (omega arith)
+clock_begins (size ∷ rest) h = elim (cases_lt size 3) [
+  | inl small ↦ record { event = BadSize; word = 0x2b ∷ size ∷ []; after = rest; form = (size, small, refl); is = refl }
+  | inr large ↦ body_begins size rest large (let k : body_length size rest ≤ length (size ∷ rest) + 1 = rw (le-ltb size 3 large) at h in omega (arith, k))
+]
+
+-- bytes as long as an LED frame begin with it
+led_begins : (rest : List ℕ) → led_length rest ≤ length rest + 1 → Begins (0x60 ∷ rest)
+led_begins [] h = absurd (omega arith)
+led_begins (size ∷ rest) h =
+    let long : length (take size rest) ≡ size = length-take-le size rest (omega arith) in
+    record {
+      event = Read (Leds (take size rest));
+      word = 0x60 ∷ size ∷ take size rest;
+      after = drop size rest;
+      form = (tt, ap (λ (n : ℕ). 0x60 ∷ n ∷ take size rest) (sym long));
+      is = ap (λ zs. 0x60 ∷ size ∷ zs) (sym (take-append-drop size rest));
+    }
+
+-- a list as long as its word begins with it
+pub begins : (s : List ℕ) → word_length s ≤ length s → Begins s
+begins [] h = absurd (omega arith)
+begins (b ∷ rest) h = elim (cases_eq b 0x2b) [
+  | inl is ↦ subst (λ (x : ℕ). Begins (x ∷ rest)) (sym is) (clock_begins rest (let k : clock_length rest ≤ length (b ∷ rest) = rw (eq-eqb b 0x2b is) at h in omega (arith, k)))
+  | inr other ↦ elim (cases_eq b 0x60) [
+    | inl is ↦ subst (λ (x : ℕ). Begins (x ∷ rest)) (sym is) (led_begins rest (let k : led_length rest ≤ length (b ∷ rest) = rw (ne_eqb b 0x2b other, eq-eqb b 0x60 is) at h in omega (arith, k)))
+    | inr neither ↦ let found = byte_word b other neither in record { event = found.0; word = b ∷ []; after = rest; form = found.1; is = refl }
+  ]
+]

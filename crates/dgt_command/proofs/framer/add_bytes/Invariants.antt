@@ -1,0 +1,9 @@
+use Rattle.std.proofs.Common.{◌≡◌, ◌++◌, take}
+use Rattle.dgt_command.specs.Words.{IsPartial}
+use Rattle.dgt_command.proofs.framer.add_bytes.Given as goal
+
+abbrev pub invariant-loop-i : goal.invariant-loop-i
+invariant-loop-i l = record {
+  read : l.word.items ≡ l.fn.word.items ++ take l.i l.piece;
+  partial : IsPartial l.word.items;
+}

@@ -1,0 +1,33 @@
+-- What a framer of words keeps, and what it finds in that.
+use Rattle.std.specs.Prelude.{ℕ, List, [], Bool, Option, Some, None, if◌then◌else◌}
+use Rattle.dgt_command.specs.declared.framer.FoundWord.{FoundWord}
+use Rattle.dgt_command.specs.declared.framer.FoundWord.TheVariants as found
+use Rattle.dgt_command.specs.Content.{CommandContent, EventContent, Read, BadSize, BadStart, BadEnd, Stray}
+use Rattle.dgt_command.specs.Telling.{command_in}
+use Rattle.dgt_command.specs.Words.{Spells}
+
+-- The bytes kept, and whether they are a whole word. A whole word is kept for its event alone.
+pub record KeptWord : Type 0 where
+  pub word : List ℕ
+  pub is_whole : Bool
+
+-- the bytes of the word that isn't finished
+abbrev pub rest_of : KeptWord → List ℕ
+rest_of kept = if kept.is_whole then [] else kept.word
+
+-- the rest after these bytes, where an event says that they ended a word
+abbrev pub rest_after : {A : Type 0} → Option A → List ℕ → List ℕ
+rest_after None bytes = bytes
+rest_after (Some event) bytes = []
+
+-- what was found in the word that is kept
+abbrev pub found_in : List ℕ → FoundWord → EventContent
+found_in word found.Command = Read (command_in word)
+found_in word found.BadSize = BadSize
+found_in word found.BadStart = BadStart
+found_in word found.BadEnd = BadEnd
+found_in word (found.Stray byte) = Stray byte
+
+-- some command has this spelling
+abbrev pub IsSpelling : List ℕ → Type 0
+IsSpelling word = (command : CommandContent) × Spells command word

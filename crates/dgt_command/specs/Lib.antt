@@ -1,0 +1,10 @@
+pub mod Carried
+pub mod ClockForm
+pub mod Raw
+pub mod Content
+pub mod Display
+pub mod Words
+pub mod Telling
+pub mod Laws
+pub mod Lengths
+pub mod Framing

@@ -1,0 +1,71 @@
+//! Lists of bytes that commands carry unread.
+
+ghost use Rattle.std.specs.Prelude.{◌≡◌, ◌<◌, ◌≤◌, ◌↔◌, length, IfOk, IsErr};
+
+use dgt_values::TooMuch;
+
+/// The most bytes that a clock message carries: its size, one byte, counts three more.
+pub const MAX_PAYLOAD: usize = 252;
+
+/// The most bytes that an LED frame carries: its size is one byte.
+pub const MAX_LED_BYTES: usize = 255;
+
+/// The payload of a clock message, lent by whoever holds it: at most `MAX_PAYLOAD` bytes, of any values.
+#[derive(Clone, Copy, Debug, PartialEq, Eq)]
+pub struct Payload<'a> {
+    pub(crate) bytes: &'a [u8],
+    ghost fits: { length bytes.now ≤ 252 },
+}
+
+impl<'a> Payload<'a> {
+    ghost use Rattle.dgt_command.specs.Carried.{payload_bytes};
+
+    /// The payload of these bytes. More than `MAX_PAYLOAD` bytes are `TooMuch`.
+    pub fn new(bytes: &'a [u8]) -> Result<Self, TooMuch>
+        ensures ok { IfOk result (λ payload. payload_bytes payload ≡ bytes.now) }
+        ensures refused { IsErr result ↔ (252 < length bytes.now) }
+    {
+        if bytes.len() > MAX_PAYLOAD {
+            return Err(TooMuch);
+        }
+        Ok(Payload { bytes })
+    }
+
+    /// The bytes.
+    pub fn bytes(self) -> &'a [u8]
+        ensures bytes { result.now ≡ payload_bytes self.entry }
+        ensures fits { length result.now ≤ 252 }
+    {
+        self.bytes
+    }
+}
+
+/// The bytes of an LED frame after its size, lent by whoever holds them: at most `MAX_LED_BYTES`, of any values.
+#[derive(Clone, Copy, Debug, PartialEq, Eq)]
+pub struct LedBytes<'a> {
+    pub(crate) bytes: &'a [u8],
+    ghost fits: { length bytes.now ≤ 255 },
+}
+
+impl<'a> LedBytes<'a> {
+    ghost use Rattle.dgt_command.specs.Carried.{led_bytes};
+
+    /// The LED bytes that these are. More than `MAX_LED_BYTES` bytes are `TooMuch`.
+    pub fn new(bytes: &'a [u8]) -> Result<Self, TooMuch>
+        ensures ok { IfOk result (λ leds. led_bytes leds ≡ bytes.now) }
+        ensures refused { IsErr result ↔ (255 < length bytes.now) }
+    {
+        if bytes.len() > MAX_LED_BYTES {
+            return Err(TooMuch);
+        }
+        Ok(LedBytes { bytes })
+    }
+
+    /// The bytes.
+    pub fn bytes(self) -> &'a [u8]
+        ensures bytes { result.now ≡ led_bytes self.entry }
+        ensures fits { length result.now ≤ 255 }
+    {
+        self.bytes
+    }
+}

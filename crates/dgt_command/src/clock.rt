@@ -1,0 +1,93 @@
+//! What a clock message asks of the clock.
+
+ghost use Rattle.std.specs.Prelude.{◌≡◌, length, false};
+ghost use Rattle.dgt_command.specs.ClockForm.{has_own_case};
+
+use crate::carried::Payload;
+use dgt_values::Known;
+
+/// A clock message with no case of its own: another id, or a known id with a payload of another length.
+#[derive(Clone, Copy, Debug, PartialEq, Eq)]
+pub struct RawClock<'a> {
+    id: u8,
+    payload: Payload<'a>,
+    ghost unread: { has_own_case id (length payload.bytes.now) ≡ false },
+}
+
+// Whether a clock message of this id and this many bytes of payload has a case of its own.
+fn has_case(id: u8, size: usize) -> bool
+    ensures { result ≡ has_own_case id size }
+{
+    match id {
+        0x01 => size == 8,
+        0x02 => true,
+        0x03 | 0x08 | 0x09 => size == 0,
+        0x0a => size == 7,
+        0x0b => size == 1,
+        _ => false,
+    }
+}
+
+impl<'a> RawClock<'a> {
+    ghost use Rattle.std.specs.Prelude.{◌≡◌, ◌↔◌, length, false, IfOk, IsErr, IsTrue};
+    ghost use Rattle.dgt_command.specs.Carried.{payload_bytes};
+    ghost use Rattle.dgt_command.specs.ClockForm.{has_own_case};
+    ghost use Rattle.dgt_command.specs.Raw.{raw_id, raw_payload};
+
+    /// The clock message of this id and payload. `Known` says that the id and the payload's length are those of
+    /// another case of [`ClockCommand`].
+    pub fn new(id: u8, payload: Payload<'a>) -> Result<Self, Known>
+        ensures id { IfOk result (λ raw. raw_id raw ≡ id) }
+        ensures payload { IfOk result (λ raw. raw_payload raw ≡ payload_bytes payload.entry) }
+        ensures refused { IsErr result ↔ IsTrue (has_own_case id (length (payload_bytes payload.entry))) }
+    {
+        if has_case(id, payload.bytes().len()) {
+            return Err(Known);
+        }
+        Ok(RawClock { id, payload })
+    }
+
+    /// The id, the byte before the payload.
+    pub fn id(self) -> u8
+        ensures { result ≡ raw_id self.entry }
+    {
+        self.id
+    }
+
+    /// The payload.
+    pub fn payload(self) -> Payload<'a>
+        ensures payload { payload_bytes result ≡ raw_payload self.entry }
+        ensures unread { has_own_case (raw_id self.entry) (length (raw_payload self.entry)) ≡ false }
+    {
+        self.payload
+    }
+}
+
+/// What a clock message asks of the clock. The bytes of a case are carried as they are, in any values.
+#[derive(Clone, Copy, Debug, PartialEq, Eq)]
+pub enum ClockCommand<'a> {
+    /// Show these segments. `places` are the six digits from left to right, a segment byte each.
+    Display {
+        places: [u8; 6],
+        dots: u8,
+        beep: u8,
+    },
+    /// Show these icons.
+    Icons(Payload<'a>),
+    /// End what is shown, and show the times again.
+    End,
+    /// Tell of the buttons.
+    Button,
+    /// Tell the clock's version.
+    Version,
+    /// Set the clock and let it run. `left` and `right` are hours, minutes and seconds.
+    SetAndRun {
+        left: [u8; 3],
+        right: [u8; 3],
+        control: u8,
+    },
+    /// Beep for this duration.
+    Beep(u8),
+    /// A clock message with no case of its own.
+    Raw(RawClock<'a>),
+}

@@ -1,0 +1,51 @@
+//! The commands, and what a reader of their bytes tells.
+
+use crate::carried::LedBytes;
+use crate::clock::ClockCommand;
+
+/// A command from the host to the board.
+#[derive(Clone, Copy, Debug, PartialEq, Eq)]
+pub enum Command<'a> {
+    /// Go to the idle mode.
+    Reset,
+    /// Send the clock's times.
+    Clock,
+    /// Send all squares.
+    Dump,
+    /// From now on send each changed square, and the clock's times.
+    Update,
+    /// From now on send each changed square.
+    UpdateBoard,
+    /// From now on send each changed square, and the clock's times where they changed.
+    UpdateNice,
+    /// Send the serial number.
+    Serial,
+    /// Send the trademark.
+    Trademark,
+    /// Send the state of the battery.
+    Battery,
+    /// Send the version.
+    Version,
+    /// A message to the clock.
+    ClockMessage(ClockCommand<'a>),
+    /// Light these LEDs.
+    Leds(LedBytes<'a>),
+}
+
+/// What a word of the line from the host to the board tells: a command or a fault.
+///
+/// A fault is told with the byte that shows it, and the next byte begins a new word: this project's own choice. The
+/// bytes of an LED frame are not looked at, so it has no fault.
+#[derive(Clone, Copy, Debug, PartialEq, Eq)]
+pub enum CommandEvent<'a> {
+    /// A command.
+    Command(Command<'a>),
+    /// The second byte of a clock message, its size, is below 3.
+    BadSize,
+    /// The third byte of a clock message isn't 03.
+    BadStart,
+    /// The last byte of a clock message isn't 00.
+    BadEnd,
+    /// A byte outside a word that begins no command.
+    Stray(u8),
+}

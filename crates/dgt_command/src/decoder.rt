@@ -1,0 +1,87 @@
+//! The reader of commands, which lends its events.
+
+ghost use Rattle.std.specs.Prelude.{◌≡◌, ◌+◌, ◌<◌, ◌≤◌, [], ◌++◌, length, take, IfSome, IfNone};
+ghost use Rattle.std.specs.Borrow.{sem};
+ghost use Rattle.std.specs.Io.BufRead.{Rests};
+ghost use Rattle.dgt_command.specs.Content.{event_content};
+ghost use Rattle.dgt_command.specs.Framing.{rest_after};
+ghost use Rattle.dgt_command.specs.Words.{IsPartial, IsWord};
+
+use crate::command::CommandEvent;
+use crate::framer::WordFramer;
+use std::marker::Model;
+
+/// What [`CommandDecoder::feed`] did with a piece.
+#[derive(Clone, Copy, Debug, PartialEq, Eq)]
+pub struct CommandFed<'a> {
+    /// How many bytes of the piece were used.
+    pub used: usize,
+    /// The event of the word that the last of them completed, if they completed one.
+    pub event: Option<CommandEvent<'a>>,
+}
+
+/// Reads commands as their bytes come, in any pieces. Contracts see the bytes of the word that isn't finished yet.
+#[derive(Drop)]
+pub struct CommandDecoder {
+    framer: WordFramer,
+}
+
+impl Model for CommandDecoder {
+    ghost use Rattle.std.specs.Prelude.{List, ℕ};
+    ghost use Rattle.dgt_command.specs.Framing.{rest_of};
+
+    ghost Value = { List ℕ };
+
+    ghost view = { λ decoder. rest_of decoder.framer };
+}
+
+impl CommandDecoder {
+    ghost use Rattle.dgt_command.specs.contracts.decoder.CommandDecoder.{the_row};
+
+    /// A reader that holds nothing.
+    pub fn new() -> Self
+        ensures { result ≡ [] }
+    {
+        CommandDecoder {
+            framer: WordFramer::new(),
+        }
+    }
+
+    /// Uses bytes of the piece up to and including the first that completes a word, and gives its event; or uses all
+    /// of it, where no byte completes one.
+    ///
+    /// A command lends what it carries from the reader until the next call.
+    pub fn feed(&mut self, piece: &[u8]) -> CommandFed<'_>
+        ensures* after_borrow { sem 𝓛 (Rests the_row self.entry (λ new. new ≡ rest_after result.event (self.old ++ take result.used piece.now))) }
+        ensures within { result.used ≤ length piece.now }
+        ensures progress { 0 < length piece.now → 0 < result.used }
+        ensures event { IfSome result.event (λ event. IsWord (event_content event) (self.old ++ take result.used piece.now)) }
+        ensures none { IfNone result.event ((result.used ≡ length piece.now) × IsPartial (self.old ++ piece.now)) }
+    {
+        let advanced = self.framer.advance(piece);
+        let event = match advanced.found {
+            Some(found) => Some(self.framer.event(found)),
+            None => None,
+        };
+        CommandFed {
+            used: advanced.used,
+            event,
+        }
+    }
+
+    /// How many bytes are held of a word that isn't finished: at most 256.
+    pub fn partial(&self) -> usize
+        ensures length { result ≡ length self.now }
+        ensures part_of_a_word { IsPartial self.now }
+        ensures limit { result ≤ 256 }
+    {
+        self.framer.partial()
+    }
+
+    /// Forgets all bytes, as if just made.
+    pub fn reset(&mut self)
+        ensures { self.new ≡ [] }
+    {
+        self.framer.reset();
+    }
+}

@@ -1,0 +1,182 @@
+//! The words of the line, one by one, as their bytes come.
+
+ghost use Rattle.std.specs.Prelude.{◌≡◌, ◌+◌, ◌<◌, ◌≤◌, [], ◌++◌, length, take, true, false, Some, IsTrue, IfSome, IfNone};
+ghost use Rattle.dgt_command.specs.Content.{event_content};
+ghost use Rattle.dgt_command.specs.Framing.{IsSpelling, found_in, rest_after, rest_of};
+ghost use Rattle.dgt_command.specs.Telling.{command_in};
+ghost use Rattle.dgt_command.specs.Words.{IsPartial, IsWhole, IsWord};
+
+use crate::command::{Command, CommandEvent};
+use crate::lengths::is_whole;
+use crate::viewing::view_command;
+use arrayvec::ArrayVec;
+use std::marker::Model;
+
+/// The most bytes of a word: a clock message or an LED frame with a size of 255.
+pub const MAX_WORD: usize = 257;
+
+/// What the last byte of a word made known, without what the word carries: [`WordFramer::event`] lends that.
+#[derive(Clone, Copy, Debug, PartialEq, Eq)]
+pub enum FoundWord {
+    /// A command, whose bytes the framer keeps.
+    Command,
+    /// The second byte of a clock message, its size, is below 3.
+    BadSize,
+    /// The third byte of a clock message isn't 03.
+    BadStart,
+    /// The last byte of a clock message isn't 00.
+    BadEnd,
+    /// A byte outside a word that begins no command.
+    Stray(u8),
+}
+
+/// What [`WordFramer::advance`] did with a piece.
+#[derive(Clone, Copy, Debug, PartialEq, Eq)]
+pub struct AdvancedWord {
+    /// How many bytes of the piece were used.
+    pub used: usize,
+    /// What the last of them made known, if they completed a word.
+    pub found: Option<FoundWord>,
+}
+
+/// Keeps the bytes of a word that isn't finished yet, or of the one that has just become whole: at most [`MAX_WORD`].
+///
+/// It reads as a [`CommandDecoder`](crate::CommandDecoder) does, in two steps: `advance` answers what was found, owned,
+/// and `event` lends it, as often as it is asked before the next `advance`. So a type that owns it can look at an
+/// event, write its own state, and then lend the event.
+///
+/// Contracts see the bytes kept (`word`) and whether they are a whole word (`is_whole`). The rest, of which
+/// the next bytes are read on, is the bytes kept where they aren't whole, and else empty (`rest_of`).
+#[derive(Drop)]
+pub struct WordFramer {
+    word: ArrayVec<u8, MAX_WORD>,
+    is_whole: bool,
+}
+
+impl Model for WordFramer {
+    ghost use Rattle.std.specs.Prelude.{[], if◌then◌else◌};
+    ghost use Rattle.dgt_command.specs.Framing.{KeptWord};
+    ghost use Rattle.dgt_command.specs.Words.{IsPartial};
+
+    ghost Value = { KeptWord };
+
+    ghost view = { λ framer. record { word = framer.word.items; is_whole = framer.is_whole } };
+
+    ghost invariant = { λ framer. IsPartial (if framer.is_whole then [] else framer.word.items) };
+}
+
+// Adds bytes of the piece to a part of a word, up to the one that completes it: how many, and whether one did.
+fn add_bytes(word: &mut ArrayVec<u8, MAX_WORD>, piece: &[u8]) -> (usize, bool)
+    requires { IsPartial word.old.items }
+    ensures used { result.0 ≤ length piece.now }
+    ensures word { word.new.items ≡ word.old.items ++ take result.0 piece.now }
+    ensures whole { IsTrue result.1 → IsWhole word.new.items }
+    ensures partial { result.1 ≡ false → IsPartial word.new.items }
+    ensures all { result.1 ≡ false → result.0 ≡ length piece.now }
+    ensures progress { 0 < length piece.now → 0 < result.0 }
+{
+    for (i, byte) in piece.iter().enumerate() {
+        word.push(*byte);
+        if is_whole(word.as_slice()) {
+            return (i + 1, true);
+        }
+    }
+    (piece.len(), false)
+}
+
+// What a word tells.
+fn found_word(word: &[u8]) -> FoundWord
+    requires { IsWhole word.now }
+    ensures event { IsWord (found_in word.now result) word.now }
+    ensures command { result ≡ FoundWord.Command → IsSpelling word.now }
+{
+    if let Some(_command) = view_command(word) {
+        return FoundWord::Command;
+    }
+    match word {
+        [byte] => FoundWord::Stray(*byte),
+        [_, _] => FoundWord::BadSize,
+        [_, _, _] => FoundWord::BadStart,
+        _ => FoundWord::BadEnd,
+    }
+}
+
+// The event of a command's bytes.
+fn whole_command(word: &[u8]) -> CommandEvent<'_>
+    requires { IsSpelling word.now }
+    ensures { event_content result ≡ found_in word.now FoundWord.Command }
+{
+    let Some(command) = view_command(word) else {
+        unreachable!()
+    };
+    CommandEvent::Command(command)
+}
+
+impl WordFramer {
+    /// A framer that keeps nothing.
+    pub fn new() -> Self
+        ensures { result ≡ record { word = []; is_whole = false } }
+    {
+        WordFramer {
+            word: ArrayVec::new(),
+            is_whole: false,
+        }
+    }
+
+    /// How many bytes are kept of a word that isn't finished: at most 256.
+    pub fn partial(&self) -> usize
+        ensures length { result ≡ length (rest_of self.now) }
+        ensures part_of_a_word { IsPartial (rest_of self.now) }
+        ensures limit { result ≤ 256 }
+    {
+        if self.is_whole { 0 } else { self.word.len() }
+    }
+
+    /// Forgets all bytes, as if just made.
+    pub fn reset(&mut self)
+        ensures { self.new ≡ record { word = []; is_whole = false } }
+    {
+        self.word.clear();
+        self.is_whole = false;
+    }
+
+    /// Uses bytes of the piece up to and including the first that completes a word, and answers what that word tells;
+    /// or uses all of it, where no byte completes one.
+    pub fn advance(&mut self, piece: &[u8]) -> AdvancedWord
+        ensures within { result.used ≤ length piece.now }
+        ensures progress { 0 < length piece.now → 0 < result.used }
+        ensures found { IfSome result.found (λ found. IsWord (found_in self.new.word found) (rest_of self.old ++ take result.used piece.now)) }
+        ensures command { result.found ≡ Some FoundWord.Command → IsSpelling self.new.word }
+        ensures none { IfNone result.found ((result.used ≡ length piece.now) × IsPartial (rest_of self.old ++ piece.now)) }
+        ensures rest { rest_of self.new ≡ rest_after result.found (rest_of self.old ++ take result.used piece.now) }
+        ensures part_of_a_word { IsPartial (rest_of self.new) }
+        ensures limit { length self.new.word ≤ 257 }
+    {
+        if self.is_whole {
+            self.word.clear();
+            self.is_whole = false;
+        }
+        let (used, has_word) = add_bytes(&mut self.word, piece);
+        self.is_whole = has_word;
+        let found = if has_word {
+            Some(found_word(self.word.as_slice()))
+        } else {
+            None
+        };
+        AdvancedWord { used, found }
+    }
+
+    /// The event of what `advance` found last. A command is that of the word kept.
+    pub fn event(&self, found: FoundWord) -> CommandEvent<'_>
+        requires { found ≡ FoundWord.Command → IsSpelling self.now.word }
+        ensures { event_content result ≡ found_in self.now.word found }
+    {
+        match found {
+            FoundWord::Command => whole_command(self.word.as_slice()),
+            FoundWord::BadSize => CommandEvent::BadSize,
+            FoundWord::BadStart => CommandEvent::BadStart,
+            FoundWord::BadEnd => CommandEvent::BadEnd,
+            FoundWord::Stray(byte) => CommandEvent::Stray(byte),
+        }
+    }
+}

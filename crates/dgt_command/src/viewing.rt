@@ -1,0 +1,68 @@
+//! Commands read from their bytes.
+
+ghost use Rattle.std.specs.Prelude.{◌≡◌, ◌+◌, ◌<◌, ◌≤◌, ◌∷◌, ◌++◌, [], length, IfNone, IfSome};
+ghost use Rattle.dgt_command.specs.Content.{clock_content, command_content, CommandContent};
+ghost use Rattle.dgt_command.specs.Carried.{payload_bytes};
+ghost use Rattle.dgt_command.specs.Words.{clock_id, payload, Spells};
+
+use crate::carried::{LedBytes, Payload};
+use crate::clock::{ClockCommand, RawClock};
+use crate::command::Command;
+
+/// The command whose bytes are exactly these, or `None` where there is no such command.
+///
+/// The command lends what it carries from the slice.
+pub fn view_command(bytes: &[u8]) -> Option<Command<'_>>
+    ensures some { IfSome result (λ command. Spells (command_content command) bytes.now) }
+    ensures none { IfNone result ((command : CommandContent) → Spells command bytes.now → ⊥) }
+{
+    match bytes {
+        [0x40] => Some(Command::Reset),
+        [0x41] => Some(Command::Clock),
+        [0x42] => Some(Command::Dump),
+        [0x43] => Some(Command::Update),
+        [0x44] => Some(Command::UpdateBoard),
+        [0x45] => Some(Command::Serial),
+        [0x47] => Some(Command::Trademark),
+        [0x4b] => Some(Command::UpdateNice),
+        [0x4c] => Some(Command::Battery),
+        [0x4d] => Some(Command::Version),
+        [0x2b, size, 0x03, id, carried @ .., 0x00] if carried.len() + 3 == *size as usize => {
+            let carried = Payload { bytes: carried };
+            Some(Command::ClockMessage(clock_command(*id, carried)))
+        }
+        [0x60, size, leds @ ..] if leds.len() == *size as usize => {
+            Some(Command::Leds(LedBytes { bytes: leds }))
+        }
+        _ => None,
+    }
+}
+
+// The clock message of this id that carries these bytes.
+fn clock_command(id: u8, carried: Payload<'_>) -> ClockCommand<'_>
+    ensures id { clock_id (clock_content result) ≡ id }
+    ensures carried { payload (clock_content result) ≡ payload_bytes carried.entry }
+{
+    if let Ok(raw) = RawClock::new(id, carried) {
+        return ClockCommand::Raw(raw);
+    }
+    let bytes = carried.bytes();
+    match id {
+        0x01 => ClockCommand::Display {
+            places: [bytes[2], bytes[1], bytes[0], bytes[5], bytes[4], bytes[3]],
+            dots: bytes[6],
+            beep: bytes[7],
+        },
+        0x02 => ClockCommand::Icons(carried),
+        0x03 => ClockCommand::End,
+        0x08 => ClockCommand::Button,
+        0x09 => ClockCommand::Version,
+        0x0a => ClockCommand::SetAndRun {
+            left: [bytes[0], bytes[1], bytes[2]],
+            right: [bytes[3], bytes[4], bytes[5]],
+            control: bytes[6],
+        },
+        0x0b => ClockCommand::Beep(bytes[0]),
+        _ => unreachable!(),
+    }
+}

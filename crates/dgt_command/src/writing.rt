@@ -1,0 +1,139 @@
+//! Commands written as bytes.
+
+ghost use Rattle.std.specs.Prelude.{◌≡◌, ◌+◌, ◌<◌, ◌≤◌, [], ◌∷◌, ◌++◌, length, OnOk};
+ghost use Rattle.dgt_values.specs.Room.{WritesFront};
+ghost use Rattle.dgt_command.specs.Content.{clock_content, command_content};
+ghost use Rattle.dgt_command.specs.Words.{clock_id, payload, spelling, Spells};
+
+use crate::clock::ClockCommand;
+use crate::command::Command;
+use dgt_values::NoRoom;
+
+/// How many bytes the command has: 1 to 257.
+pub fn length(command: &Command) -> usize
+    ensures length { result ≡ length (spelling (command_content command.now)) }
+    ensures limit { result ≤ 257 }
+{
+    match command {
+        Command::ClockMessage(message) => payload_length(message) + 5,
+        Command::Leds(leds) => leds.bytes().len() + 2,
+        _ => 1,
+    }
+}
+
+/// Writes the command at the front of the slice, and answers how many bytes it has. The bytes behind them stay as
+/// they were. `NoRoom` says that the slice is shorter than the command; then nothing is written.
+pub fn encode(command: &Command, out: &mut [u8]) -> Result<usize, NoRoom>
+    ensures written { WritesFront (spelling (command_content command.now)) out.old out.new result }
+    ensures spells { OnOk result (Spells (command_content command.now) (spelling (command_content command.now))) }
+{
+    let need = length(command);
+    if out.len() < need {
+        return Err(NoRoom { need });
+    }
+    write(command, &mut out[..need]);
+    Ok(need)
+}
+
+// Fills the slice with the command.
+fn write(command: &Command, out: &mut [u8])
+    requires { length out.old ≡ length (spelling (command_content command.now)) }
+    ensures { out.new ≡ spelling (command_content command.now) }
+{
+    match command {
+        Command::ClockMessage(message) => write_clock(message, out),
+        Command::Leds(leds) => {
+            let (head, tail) = out.split_at_mut(2);
+            head.copy_from_slice(&[0x60, leds.bytes().len() as u8]);
+            tail.copy_from_slice(leds.bytes());
+        }
+        Command::Reset => write_byte(0x40, out),
+        Command::Clock => write_byte(0x41, out),
+        Command::Dump => write_byte(0x42, out),
+        Command::Update => write_byte(0x43, out),
+        Command::UpdateBoard => write_byte(0x44, out),
+        Command::Serial => write_byte(0x45, out),
+        Command::Trademark => write_byte(0x47, out),
+        Command::UpdateNice => write_byte(0x4b, out),
+        Command::Battery => write_byte(0x4c, out),
+        Command::Version => write_byte(0x4d, out),
+    }
+}
+
+// Fills the slice with this byte.
+fn write_byte(byte: u8, out: &mut [u8])
+    requires { length out.old ≡ 1 }
+    ensures { out.new ≡ byte ∷ [] }
+{
+    out.copy_from_slice(&[byte]);
+}
+
+// Fills the slice with the clock message.
+fn write_clock(message: &ClockCommand, out: &mut [u8])
+    requires { length out.old ≡ length (payload (clock_content message.now)) + 5 }
+    ensures { out.new ≡ 0x2b ∷ (length (payload (clock_content message.now)) + 3) ∷ 0x03 ∷ clock_id (clock_content message.now) ∷ (payload (clock_content message.now) ++ 0x00 ∷ []) }
+{
+    let size = payload_length(message);
+    let (head, tail) = out.split_at_mut(4);
+    head.copy_from_slice(&[0x2b, (size + 3) as u8, 0x03, clock_id(message)]);
+    let (body, end) = tail.split_at_mut(size);
+    write_payload(message, body);
+    end.copy_from_slice(&[0x00]);
+}
+
+/// The id of a clock message, the byte that tells its case.
+pub fn clock_id(message: &ClockCommand) -> u8
+    ensures { result ≡ clock_id (clock_content message.now) }
+{
+    match message {
+        ClockCommand::Display { .. } => 0x01,
+        ClockCommand::Icons(_) => 0x02,
+        ClockCommand::End => 0x03,
+        ClockCommand::Button => 0x08,
+        ClockCommand::Version => 0x09,
+        ClockCommand::SetAndRun { .. } => 0x0a,
+        ClockCommand::Beep(_) => 0x0b,
+        ClockCommand::Raw(raw) => raw.id(),
+    }
+}
+
+// How many bytes a clock message carries.
+fn payload_length(message: &ClockCommand) -> usize
+    ensures exact { result ≡ length (payload (clock_content message.now)) }
+    ensures short { result ≤ 252 }
+{
+    match message {
+        ClockCommand::Display { .. } => 8,
+        ClockCommand::Icons(payload) => payload.bytes().len(),
+        ClockCommand::End | ClockCommand::Button | ClockCommand::Version => 0,
+        ClockCommand::SetAndRun { .. } => 7,
+        ClockCommand::Beep(_) => 1,
+        ClockCommand::Raw(raw) => raw.payload().bytes().len(),
+    }
+}
+
+// Fills the slice with what a clock message carries.
+fn write_payload(message: &ClockCommand, out: &mut [u8])
+    requires { length out.old ≡ length (payload (clock_content message.now)) }
+    ensures { out.new ≡ payload (clock_content message.now) }
+{
+    match message {
+        ClockCommand::Display { places, dots, beep } => {
+            let [a, b, c, d, e, f] = *places;
+            out.copy_from_slice(&[c, b, a, f, e, d, *dots, *beep]);
+        }
+        ClockCommand::Icons(payload) => out.copy_from_slice(payload.bytes()),
+        ClockCommand::End | ClockCommand::Button | ClockCommand::Version => {}
+        ClockCommand::SetAndRun {
+            left,
+            right,
+            control,
+        } => {
+            let [a, b, c] = *left;
+            let [d, e, f] = *right;
+            out.copy_from_slice(&[a, b, c, d, e, f, *control]);
+        }
+        ClockCommand::Beep(duration) => out.copy_from_slice(&[*duration]),
+        ClockCommand::Raw(raw) => out.copy_from_slice(raw.payload().bytes()),
+    }
+}
