@@ -1,0 +1,4 @@
+mod ClockLemmas
+mod SquareLemmas
+mod SendingLemmas
+mod TakingLemmas

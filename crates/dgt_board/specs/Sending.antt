@@ -1,0 +1,90 @@
+-- What a board has to send, in its order, and what sending makes of it.
+use Rattle.std.specs.Prelude.{ℕ, ◌+◌, List, [], ◌∷◌, ◌++◌, length, map, filter, drop, Option, Some, None, Bool, false, not, ◌==◌, if◌then◌else◌, slice_index_or, slice_set}
+use Rattle.std.specs.List.{range_with_len}
+use Rattle.dgt_values.specs.declared.pieces.Piece.{Piece}
+use Rattle.dgt_values.specs.Piece.{piece_code}
+use Rattle.dgt_message.specs.ClockState.{ClockState, clock_message}
+use Rattle.dgt_message.specs.Content.{Content}
+use Rattle.dgt_board.specs.declared.replies.Reply.{Reply}
+use Rattle.dgt_board.specs.State.{BoardState, updates}
+
+-- the message of an owed reply, as the board stands
+abbrev pub reply_message : BoardState → Reply → Content
+reply_message board Reply.Dump = Content.dump board.squares
+reply_message board Reply.Clock = clock_message board.clock
+reply_message board Reply.Serial = Content.serial board.identity.serial
+reply_message board Reply.Trademark = Content.trademark board.identity.trademark
+reply_message board Reply.Version = Content.version board.identity.main board.identity.sub
+reply_message board Reply.Battery = Content.battery board.identity.battery
+reply_message board (Reply.Ack id version) = Content.ack (record { ack = 0x10 ∷ id ∷ version ∷ 0x00 ∷ []; status = 0x00 })
+
+abbrev pub piece_on : List Piece → ℕ → Piece
+piece_on squares square = slice_index_or squares square Piece.Empty
+
+-- whether a square differs from what was told
+abbrev pub differs : BoardState → ℕ → Bool
+differs board square = not (piece_code (piece_on board.told_squares square) == piece_code (piece_on board.squares square))
+
+-- the 64 squares by number
+unfoldable pub every_square : List ℕ
+every_square = range_with_len 0 64
+
+-- the squares that an update mode has still to tell, by number
+abbrev pub untold_squares : BoardState → List ℕ
+untold_squares board = if updates board.mode then filter (differs board) every_square else []
+
+abbrev pub field_of : BoardState → ℕ → Content
+field_of board square = Content.field square (piece_on board.squares square)
+
+abbrev pub first_reply : BoardState → List Reply → List Content
+first_reply board [] = []
+first_reply board (reply ∷ replies) = reply_message board reply ∷ []
+
+abbrev pub clock_news : BoardState → List Content
+clock_news board = if board.times_owed then clock_message board.clock ∷ [] else []
+
+-- what is to be sent: the first owed reply, then the squares that differ, by number, then the clock
+abbrev pub pending_messages : BoardState → List Content
+pending_messages board = first_reply board board.owed ++ (map (field_of board) (untold_squares board) ++ clock_news board)
+
+abbrev pub first_message : List Content → Option Content
+first_message [] = None
+first_message (message ∷ messages) = Some message
+
+-- the next message, if anything is to be sent
+abbrev pub next_message : BoardState → Option Content
+next_message board = first_message (pending_messages board)
+
+-- how many replies, squares and times are left to send
+abbrev pub left_to_send : BoardState → ℕ
+left_to_send board = length board.owed + length (untold_squares board) + length (clock_news board)
+
+-- ---- what sending makes of it
+
+abbrev pub told_squares_after : BoardState → Content → List Piece
+told_squares_after board (Content.dump pieces) = board.squares
+told_squares_after board (Content.field square piece) = slice_set board.told_squares square (piece_on board.squares square)
+told_squares_after board _ = board.told_squares
+
+abbrev pub told_clock_after : BoardState → Content → Option ClockState
+told_clock_after board (Content.times readings) = Some board.clock
+told_clock_after board (Content.no_clock absence) = Some board.clock
+told_clock_after board _ = board.told_clock
+
+abbrev pub times_owed_after : BoardState → Content → Bool
+times_owed_after board (Content.times readings) = false
+times_owed_after board (Content.no_clock absence) = false
+times_owed_after board _ = board.times_owed
+
+-- the board after it has told a message, with the replies that it owes left alone
+abbrev pub after_telling : BoardState → Content → BoardState
+after_telling board message =
+    record board {
+      told_squares = told_squares_after board message;
+      told_clock = told_clock_after board message;
+      times_owed = times_owed_after board message;
+    }
+
+-- the board after sending its next message: an owed reply goes before all else
+abbrev pub after_sending : BoardState → Content → BoardState
+after_sending board message = record (after_telling board message) { owed = drop 1 board.owed }

@@ -1,0 +1,36 @@
+-- What contracts see of a board, and what bytes make of it.
+use Rattle.std.specs.Prelude.{◌≡◌, ℕ, ◌≤◌, List, [], ◌++◌, length, Option, Some, None}
+use Rattle.dgt_values.specs.declared.pieces.Piece.{Piece}
+use Rattle.dgt_message.specs.ClockState.{ClockState}
+use Rattle.dgt_command.specs.Content.{EventContent}
+use Rattle.dgt_command.specs.Words.{Divides, IsPartial}
+use Rattle.dgt_board.specs.Identity.{IdentityContent}
+use Rattle.dgt_board.specs.State.{BoardState, new_board}
+use Rattle.dgt_board.specs.Effect.{effect, effects}
+
+pub record BoardView : Type 0 where
+  pub state : BoardState
+  pub partial : List ℕ  -- the bytes of an unfinished command
+
+-- a board just made, which has taken no byte
+abbrev pub new_view : List Piece → ClockState → IdentityContent → BoardView
+new_view position clock identity = record { state = new_board position clock identity; partial = [] }
+
+-- what holds of each board
+pub record IsBoard (board : BoardView) : Type 0 where
+  pub squares : length board.state.squares ≡ 64
+  pub told_squares : length board.state.told_squares ≡ 64
+  pub few_owed : length board.state.owed ≤ 8
+  pub partial : IsPartial board.partial
+
+-- the board after bytes of which the last made this event, if one did
+abbrev pub after_bytes : BoardView → List ℕ → Option EventContent → BoardView
+after_bytes board bytes None = record board { partial = board.partial ++ bytes }
+after_bytes board bytes (Some event) = record { state = effect board.state event; partial = [] }
+
+-- The board has taken these bytes: after its unfinished command they divide into events and a rest, and each event
+-- has had its effect.
+pub record HasTaken (before : BoardView) (bytes : List ℕ) (after : BoardView) : Type 0 where
+  pub events : List EventContent
+  pub divided : Divides (before.partial ++ bytes) events after.partial
+  pub state : after.state ≡ effects before.state events

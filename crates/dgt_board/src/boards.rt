@@ -1,0 +1,188 @@
+//! Boards.
+
+ghost use Rattle.std.specs.Prelude.{◌≡◌, ◌↔◌, ◌≤◌, ◌<◌, ◌+◌, ◌++◌, ℕ, IsTrue, IsSome, IsErr, IfOk, IfSome, IfNone, MatchResult, length, option_map, take};
+ghost use Rattle.std.specs.Borrow.{sem};
+ghost use Rattle.std.specs.Io.BufRead.{Rests};
+ghost use Rattle.dgt_values.specs.Pieces.{pieces_of};
+ghost use Rattle.dgt_values.specs.Square.{square_number};
+ghost use Rattle.dgt_message.specs.ClockState.{clock_seen};
+ghost use Rattle.dgt_message.specs.Spelling.{spelling};
+ghost use Rattle.dgt_command.specs.Content.{event_content};
+ghost use Rattle.dgt_command.specs.Words.{IsPartial, IsWord};
+ghost use Rattle.dgt_board.specs.State.{after_change, after_hand_clock};
+ghost use Rattle.dgt_board.specs.Sending.{left_to_send, next_message};
+ghost use Rattle.dgt_board.specs.Polls.{Polls};
+ghost use Rattle.dgt_board.specs.View.{HasTaken, IsBoard, after_bytes, new_view};
+
+use crate::identities::Identity;
+use crate::modes::Mode;
+use crate::sending::Polled;
+use crate::state::State;
+use dgt_command::{CommandEvent, WordFramer};
+use dgt_message::Clock;
+use dgt_values::{Piece, Position, Square};
+use std::marker::Model;
+use thiserror::Error;
+
+/// The board owes `MAX_OWED` replies, and takes no byte until it has sent one.
+#[derive(Clone, Copy, Debug, PartialEq, Eq, Error)]
+#[error("the board owes as many replies as it can")]
+pub struct Busy;
+
+/// How many bytes of a piece were used, and what the last of them completed.
+#[derive(Clone, Copy, Debug, PartialEq, Eq)]
+pub struct Taken<'a> {
+    pub used: usize,
+    pub event: Option<CommandEvent<'a>>,
+}
+
+/// A board.
+///
+/// Contracts see all that it keeps, and the bytes of an unfinished command.
+#[derive(Drop)]
+pub struct Board {
+    framer: WordFramer,
+    state: State,
+}
+
+impl Model for Board {
+    ghost use Rattle.dgt_command.specs.Framing.{rest_of};
+    ghost use Rattle.dgt_command.specs.Words.{IsPartial};
+    ghost use Rattle.dgt_board.specs.Kept.{state_of};
+    ghost use Rattle.dgt_board.specs.View.{BoardView};
+
+    ghost Value = { BoardView };
+
+    ghost view = { λ board. record { state = state_of board.state; partial = rest_of board.framer } };
+
+    ghost invariant = { λ board. IsPartial (rest_of board.framer) };
+}
+
+impl Board {
+    ghost use Rattle.dgt_board.specs.contracts.boards.Board.{the_row};
+
+    /// A board with these pieces, this clock and this identity. It is idle, has told its pieces and not its clock,
+    /// and owes nothing.
+    pub fn new(position: Position, clock: Clock, identity: Identity) -> Self
+        ensures { result ≡ new_view (pieces_of position) (clock_seen clock) identity }
+    {
+        Board {
+            framer: WordFramer::new(),
+            state: State::new(position, clock, identity),
+        }
+    }
+
+    /// Puts a piece on a square, or takes one off. The square is to be told in each mode of updates, the present one
+    /// or a later one, for as long as it differs from what was told of it.
+    pub fn change(&mut self, square: Square, piece: Piece)
+        ensures { self.new ≡
+            record self.old { state = after_change self.old.state (square_number square) piece } }
+    {
+        self.state.change(square, piece);
+    }
+
+    /// Sets what the clock shows. In `Update` it is then to be told, in `UpdateNice` exactly if it differs from what
+    /// was told of it, and in the other modes it isn't, whatever was to be told before.
+    pub fn hand_clock(&mut self, clock: Clock)
+        ensures { self.new ≡
+            record self.old { state = after_hand_clock self.old.state (clock_seen clock) } }
+    {
+        self.state.hand_clock(clock);
+    }
+
+    /// Uses bytes up to and including the first that completes a command or shows a fault, or the whole piece. A
+    /// command that was read has its effect, a fault has none.
+    ///
+    /// It is `Busy` exactly where `MAX_OWED` replies are owed, whatever the piece is, and then nothing changes.
+    pub fn take(&mut self, piece: &[u8]) -> Result<Taken<'_>, Busy>
+        ensures* after_borrow { sem 𝓛 (Rests the_row self.entry (λ new. MatchResult result
+            (λ taken.
+            (new ≡ after_bytes self.old (take taken.used piece.now) (option_map event_content taken.event))
+            × HasTaken self.old (take taken.used piece.now) new)
+            (λ _. new ≡ self.old))) }
+        ensures busy { IsErr result ↔ (length self.old.state.owed ≡ 8) }
+        ensures within { IfOk result (λ taken. taken.used ≤ length piece.now) }
+        ensures progress { IfOk result (λ taken. 0 < length piece.now → 0 < taken.used) }
+        ensures event { IfOk result (λ taken. IfSome taken.event (λ event.
+            IsWord (event_content event) (self.old.partial ++ take taken.used piece.now))) }
+        ensures none { IfOk result (λ taken. IfNone taken.event (
+            (taken.used ≡ length piece.now) × IsPartial (self.old.partial ++ piece.now))) }
+    {
+        if self.state.owed.is_full() {
+            return Err(Busy);
+        }
+        let advanced = self.framer.advance(piece);
+        let Some(found) = advanced.found else {
+            return Ok(Taken {
+                used: advanced.used,
+                event: None,
+            });
+        };
+        self.state.obey(&self.framer.event(found));
+        Ok(Taken {
+            used: advanced.used,
+            event: Some(self.framer.event(found)),
+        })
+    }
+
+    /// Writes the next message into the front of the slice, and takes it for sent; the bytes past it stay. A slice
+    /// that is too short for it stays as it is, and so does the board. No message has more than 67 bytes.
+    pub fn poll(&mut self, out: &mut [u8]) -> Polled
+        ensures polls { Polls result (next_message self.old.state) self.old self.new out.old out.new }
+        ensures short { IfSome (next_message self.old.state) (λ message. length (spelling message) ≤ 67) }
+        ensures falls { (count : ℕ) → result ≡ Polled.Wrote count
+            → left_to_send self.new.state < left_to_send self.old.state }
+        ensures nothing { (result ≡ Polled.Nothing) ↔ (left_to_send self.old.state ≡ 0) }
+        ensures bound { left_to_send self.old.state ≤ length self.old.state.owed + 65 }
+        ensures room { (need : ℕ) → result ≡ Polled.NeedRoom need → length out.old < 67 }
+        ensures board { IsBoard self.old }
+    {
+        self.state.send(out)
+    }
+
+    /// Whether there is anything to send.
+    pub fn owes(&self) -> bool
+        ensures { IsTrue result ↔ IsSome (next_message self.now.state) }
+    {
+        self.state.due().is_some()
+    }
+
+    /// How many replies are owed.
+    pub fn owed_len(&self) -> usize
+        ensures length { result ≡ length self.now.state.owed }
+        ensures limit { result ≤ 8 }
+        ensures board { IsBoard self.now }
+    {
+        self.state.owed.len()
+    }
+
+    /// How many bytes are held of an unfinished command.
+    pub fn partial(&self) -> usize
+        ensures length { result ≡ length self.now.partial }
+        ensures part_of_a_word { IsPartial self.now.partial }
+        ensures limit { result < 257 }
+    {
+        self.framer.partial()
+    }
+
+    /// What the board tells unasked.
+    pub fn mode(&self) -> Mode
+        ensures { result ≡ self.now.state.mode }
+    {
+        self.state.mode
+    }
+
+    /// What stands on the squares.
+    pub fn position(&self) -> &Position
+        ensures { pieces_of result.now ≡ self.now.state.squares }
+    {
+        &self.state.squares
+    }
+
+    /// What the clock shows.
+    pub fn clock(&self) -> &Clock
+        ensures { clock_seen result.now ≡ self.now.state.clock }
+    {
+        &self.state.clock
+    }
+}

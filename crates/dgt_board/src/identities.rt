@@ -1,0 +1,135 @@
+//! What a board tells of itself.
+
+ghost use Rattle.std.specs.Prelude.{◌≡◌, ◌<◌, ◌≤◌, ◌⊎◌, ◌↔◌, length, map, All, IfOk, IsErr, MatchResult};
+ghost use Rattle.dgt_values.specs.Body.{body_bytes};
+ghost use Rattle.dgt_values.specs.Bytes.{number};
+ghost use Rattle.dgt_board.specs.Identity.{IsKeptBody};
+
+use arrayvec::ArrayVec;
+use dgt_values::{Body, SevenBit};
+use std::marker::Model;
+use thiserror::Error;
+
+/// The most bytes of a trademark or of a battery body that a board keeps.
+pub const MAX_KEPT_BODY: usize = 64;
+
+/// A body has more than `MAX_KEPT_BODY` bytes.
+#[derive(Clone, Copy, Debug, PartialEq, Eq, Error)]
+#[error("a body has more than {MAX_KEPT_BODY} bytes")]
+pub struct TooLong;
+
+/// What a board tells of itself when it is asked: its serial number, its trademark, its version, its battery, and the
+/// version of its clock. It keeps its own copy of the bodies.
+#[derive(Drop)]
+pub struct Identity {
+    serial: [SevenBit; 5],
+    trademark: ArrayVec<u8, MAX_KEPT_BODY>,
+    main: SevenBit,
+    sub: SevenBit,
+    battery: ArrayVec<u8, MAX_KEPT_BODY>,
+    clock_version: u8,
+}
+
+impl Model for Identity {
+    ghost use Rattle.std.specs.Prelude.{map};
+    ghost use Rattle.dgt_values.specs.Bytes.{number};
+    ghost use Rattle.dgt_board.specs.Identity.{IdentityContent, IsKeptBody};
+
+    ghost Value = { IdentityContent };
+
+    ghost view = { λ identity. record {
+      serial = map number identity.serial;
+      trademark = identity.trademark.items;
+      main = number identity.main;
+      sub = number identity.sub;
+      battery = identity.battery.items;
+      clock_version = identity.clock_version;
+    } };
+
+    ghost invariant = { λ identity. IsKeptBody identity.trademark.items × IsKeptBody identity.battery.items };
+}
+
+// A copy of a body.
+fn kept_body(body: Body<'_>) -> Result<ArrayVec<u8, MAX_KEPT_BODY>, TooLong>
+    ensures { MatchResult result
+        (λ kept. (kept.items ≡ body_bytes body.entry) × IsKeptBody kept.items)
+        (λ _. 64 < length (body_bytes body.entry)) }
+{
+    let mut kept = ArrayVec::new();
+    match kept.try_extend_from_slice(body.bytes()) {
+        Ok(()) => Ok(kept),
+        Err(_) => Err(TooLong),
+    }
+}
+
+impl Identity {
+    /// The serial number, the trademark, main and sub number of the version, the body of battery messages, and the
+    /// byte that tells the version of the clock. A trademark or a battery body of more than `MAX_KEPT_BODY` bytes is
+    /// `TooLong`.
+    pub fn new(
+        serial: [SevenBit; 5],
+        trademark: Body<'_>,
+        main: SevenBit,
+        sub: SevenBit,
+        battery: Body<'_>,
+        clock_version: u8,
+    ) -> Result<Self, TooLong>
+        ensures made { IfOk result (λ identity. identity ≡ record {
+          serial = map number serial;
+          trademark = body_bytes trademark.entry;
+          main = number main;
+          sub = number sub;
+          battery = body_bytes battery.entry;
+          clock_version = clock_version;
+        }) }
+        ensures refused { IsErr result
+            ↔ (64 < length (body_bytes trademark.entry) ⊎ 64 < length (body_bytes battery.entry)) }
+    {
+        Ok(Identity {
+            serial,
+            trademark: kept_body(trademark)?,
+            main,
+            sub,
+            battery: kept_body(battery)?,
+            clock_version,
+        })
+    }
+
+    pub(crate) fn serial(&self) -> [SevenBit; 5]
+        ensures { map number result ≡ self.now.serial }
+    {
+        self.serial
+    }
+
+    pub(crate) fn trademark(&self) -> Body<'_>
+        ensures bytes { body_bytes result ≡ self.now.trademark }
+        ensures short { length self.now.trademark ≤ 64 }
+    {
+        Body::from_seven_bit(self.trademark.as_slice())
+    }
+
+    pub(crate) fn main(&self) -> SevenBit
+        ensures { number result ≡ self.now.main }
+    {
+        self.main
+    }
+
+    pub(crate) fn sub(&self) -> SevenBit
+        ensures { number result ≡ self.now.sub }
+    {
+        self.sub
+    }
+
+    pub(crate) fn battery(&self) -> Body<'_>
+        ensures bytes { body_bytes result ≡ self.now.battery }
+        ensures short { length self.now.battery ≤ 64 }
+    {
+        Body::from_seven_bit(self.battery.as_slice())
+    }
+
+    pub(crate) fn clock_version(&self) -> u8
+        ensures { result ≡ self.now.clock_version }
+    {
+        self.clock_version
+    }
+}

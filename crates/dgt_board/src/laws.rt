@@ -1,0 +1,37 @@
+//! What holds of what a board keeps, of what it sends and of what it has taken, whoever runs it. Nothing here runs:
+//! each function stands for the fact that its contract states.
+
+ghost use Rattle.std.specs.Prelude.{◌≡◌, ◌↔◌, ◌≤◌, ◌<◌, ◌+◌, ◌++◌, ℕ, List, [], Some, None, length};
+ghost use Rattle.dgt_message.specs.Content.{Content};
+ghost use Rattle.dgt_board.specs.State.{BoardState};
+ghost use Rattle.dgt_board.specs.Sending.{after_sending, left_to_send, next_message};
+ghost use Rattle.dgt_board.specs.View.{BoardView, HasTaken};
+
+/// A board has nothing to send exactly where nothing is left to send, and then it owes no reply.
+pub fn nothing_to_send()
+    ensures nothing_left { (board : BoardState) → (next_message board ≡ None) ↔ (left_to_send board ≡ 0) }
+    ensures none_owed { (board : BoardState) → next_message board ≡ None → board.owed ≡ [] }
+{}
+
+/// What is left to send is at most the replies, 64 squares and the clock, and it falls with each message that is sent.
+pub fn bounded_sending()
+    ensures bound { (board : BoardState) → left_to_send board ≤ length board.owed + 65 }
+    ensures falls { (board : BoardState) (message : Content) → length board.told_squares ≡ 64
+        → next_message board ≡ Some message → left_to_send (after_sending board message) < left_to_send board }
+{}
+
+/// Bytes that a board has taken one list after the other it has taken as one list.
+pub fn takings_append()
+    ensures { (before between after : BoardView) (bytes more : List ℕ) → HasTaken before bytes between
+        → HasTaken between more after → HasTaken before (bytes ++ more) after }
+{
+    dgt_command::laws::divisions_append();
+}
+
+/// Bytes that a board has taken leave it in one way only.
+pub fn one_taking()
+    ensures { (before after other : BoardView) (bytes : List ℕ) → HasTaken before bytes after
+        → HasTaken before bytes other → after ≡ other }
+{
+    dgt_command::laws::one_division();
+}

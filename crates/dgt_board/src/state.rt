@@ -1,0 +1,146 @@
+//! What a board keeps, and what is done to it.
+
+ghost use Rattle.std.specs.Prelude.{◌≡◌, ◌<◌, ◌++◌, ◌&&◌, not, length};
+ghost use Rattle.dgt_values.specs.Pieces.{pieces_of};
+ghost use Rattle.dgt_values.specs.Square.{square_number};
+ghost use Rattle.dgt_message.specs.ClockState.{clock_seen};
+ghost use Rattle.dgt_command.specs.Content.{clock_content, command_content, event_content};
+ghost use Rattle.dgt_command.specs.Words.{clock_id};
+ghost use Rattle.dgt_board.specs.State.{new_board, after_change, after_hand_clock, follows_clock, is_told};
+ghost use Rattle.dgt_board.specs.Effect.{acknowledgements, after_command, effect};
+
+use crate::identities::Identity;
+use crate::modes::Mode;
+use crate::replies::Reply;
+use arrayvec::ArrayVec;
+use dgt_command::{ClockCommand, Command, CommandEvent, clock_id};
+use dgt_message::Clock;
+use dgt_values::{Piece, Position, Square};
+
+/// The most replies that a board owes.
+pub const MAX_OWED: usize = 8;
+
+/// All that a board keeps but the bytes of an unfinished command.
+#[derive(Drop)]
+pub struct State {
+    pub squares: Position,
+    pub clock: Clock,
+    pub mode: Mode,
+    /// The squares as the host was told them.
+    pub told_squares: Position,
+    /// The clock as the host was told it.
+    pub told_clock: Option<Clock>,
+    pub times_owed: bool,
+    pub owed: ArrayVec<Reply, MAX_OWED>,
+    pub identity: Identity,
+}
+
+impl State {
+    ghost use Rattle.dgt_board.specs.Kept.{state_of};
+
+    /// A board just made, which has told its squares.
+    pub fn new(position: Position, clock: Clock, identity: Identity) -> Self
+        ensures { state_of result ≡ new_board (pieces_of position) (clock_seen clock) identity }
+    {
+        State {
+            squares: position,
+            clock,
+            mode: Mode::Idle,
+            told_squares: position,
+            told_clock: None,
+            times_owed: false,
+            owed: ArrayVec::new(),
+            identity,
+        }
+    }
+
+    /// A piece is put on a square, or taken off.
+    pub fn change(&mut self, square: Square, piece: Piece)
+        ensures { state_of self.new ≡ after_change (state_of self.old) (square_number square) piece }
+    {
+        self.squares.set(square, piece);
+    }
+
+    // Whether a clock differs from what the host was told.
+    fn is_news(&self, clock: Clock) -> bool
+        ensures { result ≡ not (is_told (state_of self.now).told_clock (clock_seen clock)) }
+    {
+        self.told_clock != Some(clock)
+    }
+
+    /// The clock shows something.
+    pub fn hand_clock(&mut self, clock: Clock)
+        ensures { state_of self.new ≡ after_hand_clock (state_of self.old) (clock_seen clock) }
+    {
+        self.times_owed = match self.mode {
+            Mode::Idle | Mode::UpdateBoard => false,
+            Mode::Update => true,
+            Mode::UpdateNice => self.is_news(clock),
+        };
+        self.clock = clock;
+    }
+
+    /// The effect of what was read: a fault changes nothing.
+    pub fn obey(&mut self, event: &CommandEvent<'_>)
+        requires { length self.old.owed.items < MAX_OWED }
+        ensures { state_of self.new ≡ effect (state_of self.old) (event_content event.now) }
+    {
+        if let CommandEvent::Command(command) = event {
+            self.obey_command(command);
+        }
+    }
+
+    // The effect of a command.
+    fn obey_command(&mut self, command: &Command<'_>)
+        requires { length self.old.owed.items < MAX_OWED }
+        ensures { state_of self.new ≡ after_command (state_of self.old) (command_content command.now) }
+    {
+        match command {
+            Command::Reset => self.enter(Mode::Idle),
+            Command::Update => self.enter(Mode::Update),
+            Command::UpdateBoard => self.enter(Mode::UpdateBoard),
+            Command::UpdateNice => self.enter(Mode::UpdateNice),
+            Command::Dump => self.owed.push(Reply::Dump),
+            Command::Clock => self.owed.push(Reply::Clock),
+            Command::Serial => self.owed.push(Reply::Serial),
+            Command::Trademark => self.owed.push(Reply::Trademark),
+            Command::Version => self.owed.push(Reply::Version),
+            Command::Battery => self.owed.push(Reply::Battery),
+            Command::ClockMessage(message) => self.acknowledge(message),
+            Command::Leds(_) => {}
+        }
+    }
+
+    // A mode that follows the clock owes it where it differs from what was told, whatever was owed before.
+    fn enter(&mut self, mode: Mode)
+        ensures { state_of self.new ≡ record (state_of self.old) {
+          mode = mode;
+          times_owed = follows_clock mode && not (is_told (state_of self.old).told_clock (state_of self.old).clock);
+        } }
+    {
+        self.mode = mode;
+        self.times_owed = match mode {
+            Mode::Idle | Mode::UpdateBoard => false,
+            Mode::Update | Mode::UpdateNice => self.is_news(self.clock),
+        };
+    }
+
+    // A board with no clock has nothing to acknowledge with.
+    fn acknowledge(&mut self, message: &ClockCommand<'_>)
+        requires { length self.old.owed.items < MAX_OWED }
+        ensures { state_of self.new ≡ record (state_of self.old) {
+          owed = (state_of self.old).owed
+              ++ acknowledgements (clock_seen self.old.clock) self.old.identity (clock_content message.now);
+        } }
+    {
+        if let Clock::Times(_) = self.clock {
+            let id = clock_id(message);
+            let version = if id == 0x09 {
+                self.identity.clock_version()
+            } else {
+                0
+            };
+            self.owed.push(Reply::Ack { id, version });
+        }
+    }
+}

@@ -1,0 +1,306 @@
+//! Boards on the line, by the worked conversations.
+
+use super::*;
+use dgt_command::{ClockCommand, Command, CommandEvent};
+use dgt_message::{Clock, NoClock, Reading, Status, Times};
+use dgt_values::{Body, Piece, Position, SevenBit, Square};
+use std::process::Abort;
+use std::test::Fail;
+
+// The dump of the starting position, and the one with no pawn on e2.
+const START: [u8; 67] = [
+    0x86, 0x00, 0x43, 8, 9, 10, 12, 11, 10, 9, 8, 7, 7, 7, 7, 7, 7, 7, 7, 0, 0, 0, 0, 0, 0, 0, 0,
+    0, 0, 0, 0, 0, 0, 0, 0, 0, 0, 0, 0, 0, 0, 0, 0, 0, 0, 0, 0, 0, 0, 0, 0, 1, 1, 1, 1, 1, 1, 1, 1,
+    2, 3, 4, 6, 5, 4, 3, 2,
+];
+
+const WITHOUT_E2: [u8; 67] = [
+    0x86, 0x00, 0x43, 8, 9, 10, 12, 11, 10, 9, 8, 7, 7, 7, 7, 7, 7, 7, 7, 0, 0, 0, 0, 0, 0, 0, 0,
+    0, 0, 0, 0, 0, 0, 0, 0, 0, 0, 0, 0, 0, 0, 0, 0, 0, 0, 0, 0, 0, 0, 0, 0, 1, 1, 1, 1, 0, 1, 1, 1,
+    2, 3, 4, 6, 5, 4, 3, 2,
+];
+// The field update that tells e2 empty, and the other messages.
+const E2: [u8; 5] = [0x8e, 0x00, 0x05, 0x34, 0x00];
+
+const SERIAL: [u8; 8] = [0x91, 0x00, 0x08, 0x30, 0x30, 0x30, 0x30, 0x31];
+
+const ZEROS: [u8; 10] = [0x8d, 0x00, 0x0a, 0x00, 0x00, 0x00, 0x00, 0x00, 0x00, 0x00];
+
+const BEEP: [u8; 6] = [0x2b, 0x04, 0x03, 0x0b, 0x10, 0x00];
+
+fn identity(trademark: &[u8], battery: &[u8]) -> Result<Result<Identity, TooLong>, Fail> {
+    let zero = SevenBit::try_from(0x30)?;
+    let serial = [zero, zero, zero, zero, SevenBit::try_from(0x31)?];
+    let (main, sub) = (SevenBit::try_from(1)?, SevenBit::try_from(3)?);
+    Ok(Identity::new(
+        serial,
+        Body::new(trademark)?,
+        main,
+        sub,
+        Body::new(battery)?,
+        0x14,
+    ))
+}
+
+// Hours, minutes and seconds of both, with this status.
+fn times(first: [u8; 3], second: [u8; 3], status: u8) -> Result<Clock, Fail> {
+    let first = Reading::new(first[0], first[1], first[2], 0)?;
+    let second = Reading::new(second[0], second[1], second[2], 0)?;
+    let status = Status::new(SevenBit::try_from(status)?);
+    Ok(Clock::Times(Times::new(first, second, status)?))
+}
+
+fn no_clock() -> Result<Clock, Fail> {
+    let zero = SevenBit::try_from(0)?;
+    let status = Status::new(SevenBit::try_from(0x20)?);
+    Ok(Clock::NoClock(NoClock::new([zero; 6], status)?))
+}
+
+// A new board with the starting position.
+fn new_board() -> Result<Board, Fail> {
+    let clock = times([0; 3], [0; 3], 0)?;
+    Ok(Board::new(
+        Position::start(),
+        clock,
+        identity(b"SIMULATED BOARD", &[0x64])??,
+    ))
+}
+
+// What is done to a board, or what it then does.
+#[derive(Clone, Copy)]
+enum Step<'a> {
+    Take(&'a [u8]),
+    Change(&'a str, Piece),
+    Hand(Clock),
+    Sends(&'a [u8]),
+    IsSettled,
+}
+
+use Step::*;
+
+fn play(rt: &impl Abort, board: &mut Board, steps: &[Step<'_>]) -> Result<(), Fail> {
+    for step in steps {
+        let mut out = [0xff; 67];
+        match *step {
+            Take(piece) => {
+                let taken = board.take(piece)?;
+                assert_eq!(rt; taken.used, piece.len());
+            }
+            Change(square, piece) => board.change(Square::parse(square)?, piece),
+            Hand(clock) => board.hand_clock(clock),
+            Sends(message) => {
+                assert!(rt; board.owes());
+                assert_eq!(rt; board.poll(&mut out), Polled::Wrote(message.len()));
+                assert_eq!(rt; &out[..message.len()], message);
+                assert!(rt; out[message.len()..].iter().all(|byte| *byte == 0xff));
+            }
+            IsSettled => {
+                assert!(rt; !board.owes());
+                assert_eq!(rt; board.poll(&mut out), Polled::Nothing);
+            }
+        }
+    }
+    Ok(())
+}
+
+#[test]
+fn replies_go_before_fields_and_fields_before_times(rt: HostRuntime) -> Result<(), Fail> {
+    play(
+        &rt,
+        &mut new_board()?,
+        &[
+            Take(&[0x43]),
+            Change("e2", Piece::Empty),
+            Take(&[0x45]),
+            Sends(&SERIAL),
+            Sends(&E2),
+            Sends(&ZEROS),
+            IsSettled,
+        ],
+    )?;
+    play(
+        &rt,
+        &mut new_board()?,
+        &[Take(&[0x43]), Take(&[0x41]), Sends(&ZEROS), IsSettled],
+    )?;
+    play(
+        &rt,
+        &mut new_board()?,
+        &[
+            Take(&[0x42]),
+            Change("e2", Piece::Empty),
+            Sends(&WITHOUT_E2),
+            Take(&[0x44]),
+            IsSettled,
+        ],
+    )?;
+    play(
+        &rt,
+        &mut new_board()?,
+        &[
+            Take(&[0x44]),
+            Change("e2", Piece::Empty),
+            Take(&[0x40]),
+            IsSettled,
+            Take(&[0x44]),
+            Sends(&E2),
+            IsSettled,
+        ],
+    )
+}
+
+#[test]
+fn clock_is_told_as_the_mode_asks(rt: HostRuntime) -> Result<(), Fail> {
+    let running = times([1, 30, 0], [1, 29, 55], 0x11)?;
+    let told = [0x8d, 0x00, 0x0a, 0x01, 0x30, 0x00, 0x01, 0x29, 0x55, 0x11];
+    let zeros = times([0; 3], [0; 3], 0)?;
+    play(
+        &rt,
+        &mut new_board()?,
+        &[
+            Take(&[0x4b]),
+            Sends(&ZEROS),
+            Hand(running),
+            Hand(zeros),
+            IsSettled,
+            Hand(running),
+            Sends(&told),
+            IsSettled,
+        ],
+    )?;
+    play(
+        &rt,
+        &mut new_board()?,
+        &[
+            Take(&[0x43]),
+            Sends(&ZEROS),
+            Hand(zeros),
+            Sends(&ZEROS),
+            Take(&[0x43]),
+            IsSettled,
+        ],
+    )?;
+    let absent = [0x8d, 0x00, 0x0a, 0x00, 0x00, 0x00, 0x00, 0x00, 0x00, 0x20];
+    play(
+        &rt,
+        &mut new_board()?,
+        &[
+            Hand(no_clock()?),
+            Take(&BEEP),
+            Take(&[0x41]),
+            Sends(&absent),
+            IsSettled,
+        ],
+    )
+}
+
+#[test]
+fn board_tells_what_it_is(rt: HostRuntime) -> Result<(), Fail> {
+    let mut trademark = [0; 18];
+    trademark[..3].copy_from_slice(&[0x92, 0x00, 0x12]);
+    trademark[3..].copy_from_slice(b"SIMULATED BOARD");
+    play(
+        &rt,
+        &mut new_board()?,
+        &[
+            Take(&[0x47]),
+            Take(&[0x4d]),
+            Take(&[0x4c]),
+            Take(&[0x2b, 0x03, 0x03, 0x09, 0x00]),
+            Sends(&trademark),
+            Sends(&[0x93, 0x00, 0x05, 0x01, 0x03]),
+            Sends(&[0xa0, 0x00, 0x04, 0x64]),
+            Sends(&[0x8d, 0x00, 0x0a, 0x0a, 0x10, 0x09, 0x0a, 0x14, 0x00, 0x00]),
+            IsSettled,
+        ],
+    )?;
+    assert!(rt; identity(&[0x20; 64], &[0x20; 64])?.is_ok());
+    assert!(rt; identity(&[0x20; 65], &[])?.is_err());
+    assert!(rt; identity(&[], &[0x20; 65])?.is_err());
+    Ok(())
+}
+
+#[test]
+fn dump_waits_for_67_bytes_of_room(rt: HostRuntime) -> Result<(), Fail> {
+    let mut board = new_board()?;
+    play(&rt, &mut board, &[Take(&[0x44]), Take(&[0x42])])?;
+    assert_eq!(rt; board.mode(), Mode::UpdateBoard);
+    assert_eq!(rt; board.owed_len(), 1);
+    let mut out = [0xff; 66];
+    assert_eq!(rt; board.poll(&mut out), Polled::NeedRoom(67));
+    assert_eq!(rt; out, [0xff; 66]);
+    assert_eq!(rt; board.owed_len(), 1);
+    play(&rt, &mut board, &[Sends(&START), IsSettled])
+}
+
+#[test]
+fn clock_messages_are_lent_and_acknowledged(rt: HostRuntime) -> Result<(), Fail> {
+    let mut board = new_board()?;
+    let beep = board.take(&BEEP)?;
+    let command = Command::ClockMessage(ClockCommand::Beep(0x10));
+    assert_eq!(rt; beep.event, Some(CommandEvent::Command(command)));
+    let raw = board.take(&[0x2b, 0x04, 0x03, 0x8b, 0x10, 0x00])?;
+    let Some(CommandEvent::Command(Command::ClockMessage(ClockCommand::Raw(raw)))) = raw.event
+    else {
+        return Err(Fail::from("no raw message"));
+    };
+    assert_eq!(rt; raw.id(), 0x8b);
+    assert_eq!(rt; raw.payload().bytes(), [0x10].as_slice());
+    play(
+        &rt,
+        &mut board,
+        &[
+            Sends(&[0x8d, 0x00, 0x0a, 0x0a, 0x10, 0x0b, 0x0a, 0x00, 0x00, 0x00]),
+            Sends(&[0x8d, 0x00, 0x0a, 0x0a, 0x10, 0x0b, 0x2a, 0x00, 0x00, 0x00]),
+            IsSettled,
+        ],
+    )
+}
+
+#[test]
+fn led_frames_are_read_over(rt: HostRuntime) -> Result<(), Fail> {
+    for (update, mode) in [(None, Mode::Idle), (Some(0x44), Mode::UpdateBoard)] {
+        let mut board = new_board()?;
+        if let Some(update) = update {
+            play(&rt, &mut board, &[Take(&[update])])?;
+        }
+        let taken = board.take(&[0x60, 0x04, 0x01, 0x00, 0x40, 0x00, 0x42])?;
+        assert_eq!(rt; taken.used, 6);
+        let Some(CommandEvent::Command(Command::Leds(leds))) = taken.event else {
+            return Err(Fail::from("no LED frame"));
+        };
+        assert_eq!(rt; leds.bytes(), [0x01, 0x00, 0x40, 0x00].as_slice());
+        assert_eq!(rt; board.mode(), mode);
+        play(
+            &rt,
+            &mut board,
+            &[
+                IsSettled,
+                Take(&[0x60]),
+                Take(&[0x00]),
+                IsSettled,
+                Take(&[0x42]),
+                Sends(&START),
+            ],
+        )?;
+    }
+    Ok(())
+}
+
+#[test]
+fn eight_replies_make_it_busy(rt: HostRuntime) -> Result<(), Fail> {
+    let mut board = new_board()?;
+    play(&rt, &mut board, &[Take(&[0x44]), Take(&[0x2b, 0x04])])?;
+    assert_eq!(rt; board.partial(), 2);
+    play(&rt, &mut board, &[Take(&[0x03, 0x0b, 0x10, 0x01])])?;
+    play(&rt, &mut board, &[Take(&[0x42]); 8])?;
+    for piece in [&[0x40][..], &[]] {
+        assert_eq!(rt; board.take(piece).err(), Some(Busy));
+        assert_eq!(rt; board.owed_len(), 8);
+        assert_eq!(rt; board.mode(), Mode::UpdateBoard);
+    }
+    assert_eq!(rt; *board.position(), Position::start());
+    assert_eq!(rt; *board.clock(), times([0; 3], [0; 3], 0)?);
+    play(&rt, &mut board, &[Sends(&START); 8])?;
+    play(&rt, &mut board, &[IsSettled])
+}
