@@ -1,0 +1,5 @@
+pub mod Kind
+pub mod Hearing
+pub mod Host
+pub mod Sending
+pub mod Laws

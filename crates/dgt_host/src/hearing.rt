@@ -1,0 +1,100 @@
+//! What a host makes of the messages that it hears.
+
+ghost use Rattle.std.specs.Prelude.{◌≡◌, ◌↔◌, ℕ, List, IsTrue, Some, option_map};
+ghost use Rattle.dgt_values.specs.Pieces.{pieces_of};
+ghost use Rattle.dgt_message.specs.ClockState.{clock_seen};
+ghost use Rattle.dgt_message.specs.Content.{content};
+ghost use Rattle.dgt_decode.specs.Feeding.{event_content};
+ghost use Rattle.dgt_host.specs.Hearing.{awaited_after, clock_after, picture_after, IsUnasked};
+ghost use Rattle.dgt_host.specs.Host.{host_after_event, host_seen};
+ghost use Rattle.dgt_host.specs.Kind.{kind_of};
+
+use crate::host::MAX_AWAITED;
+use crate::kind::{Kind, is_same, kind_of};
+use arrayvec::ArrayVec;
+use dgt_decode::Event;
+use dgt_message::{Clock, Message};
+use dgt_values::Position;
+
+/// What a host heard in a piece.
+#[derive(Clone, Copy, Debug)]
+pub struct Heard<'a> {
+    /// How many bytes of the piece were used: those up to and including the one that makes the
+    /// event, else all.
+    pub used: usize,
+    /// What the last of them made known. With no event, nothing but the unread bytes of the host
+    /// has changed.
+    pub event: Option<Event<'a>>,
+    /// Whether the event is a message of a [`Kind`] that isn't the first awaited. Such a message
+    /// leaves the awaited list alone; an unasked dump sets the picture all the same.
+    pub unasked: bool,
+}
+
+// A dump sets the picture, and a field update sets one square of a picture that is known.
+fn picture_after(picture: Option<Position>, message: &Message<'_>) -> Option<Position>
+    ensures { option_map pieces_of result
+        ≡ picture_after (option_map pieces_of picture) (content message.now) }
+{
+    match message {
+        Message::Dump(position) => Some(*position),
+        Message::Field { square, piece } => {
+            let mut position = picture?;
+            position.set(*square, *piece);
+            Some(position)
+        }
+        _ => picture,
+    }
+}
+
+// What is told of a clock sets the clock.
+fn clock_after(clock: Option<Clock>, message: &Message<'_>) -> Option<Clock>
+    ensures { option_map clock_seen result
+        ≡ clock_after (option_map clock_seen clock) (content message.now) }
+{
+    match message {
+        Message::Times(times) => Some(Clock::Times(*times)),
+        Message::NoClock(absence) => Some(Clock::NoClock(*absence)),
+        _ => clock,
+    }
+}
+
+// Takes the kind of a message off where it is the first awaited, and tells whether the message has
+// a kind that isn't.
+fn take_off(awaited: &mut ArrayVec<Kind, MAX_AWAITED>, message: &Message<'_>) -> bool
+    ensures awaited { awaited.new.items ≡ awaited_after awaited.old.items (kind_of (content message.now)) }
+    ensures unasked { IsTrue result
+        ↔ IsUnasked awaited.old.items (Some (event_content (Event.Message message.now))) }
+{
+    let Some(kind) = kind_of(message) else {
+        return false;
+    };
+    match awaited.first() {
+        Some(first) if is_same(*first, kind) => {
+            awaited.remove(0);
+            false
+        }
+        _ => true,
+    }
+}
+
+/// Changes the parts of a host as an event does, and tells whether it is a message that was not
+/// asked for.
+pub(crate) fn hear_event(
+    event: &Event<'_>,
+    picture: &mut Option<Position>,
+    clock: &mut Option<Clock>,
+    awaited: &mut ArrayVec<Kind, MAX_AWAITED>,
+) -> bool
+    ensures parts { (unread : List ℕ) →
+        host_seen picture.new clock.new awaited.new.items unread
+        ≡ host_after_event (host_seen picture.old clock.old awaited.old.items unread)
+        (event_content event.now) }
+    ensures unasked { IsTrue result ↔ IsUnasked awaited.old.items (Some (event_content event.now)) }
+{
+    let Event::Message(message) = event else {
+        return false;
+    };
+    *picture = picture_after(*picture, message);
+    *clock = clock_after(*clock, message);
+    take_off(awaited, message)
+}

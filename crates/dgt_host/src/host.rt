@@ -1,0 +1,183 @@
+//! The host.
+
+ghost use Rattle.std.specs.Prelude.{◌≡◌, ◌<◌, ◌≤◌, ◌↔◌, ◌∷◌, [], ◌++◌, IsTrue, length, take, option_map, OnOk, Some};
+ghost use Rattle.std.specs.Borrow.{sem};
+ghost use Rattle.std.specs.Io.BufRead.{Rests};
+ghost use Rattle.dgt_values.specs.Pieces.{pieces_of};
+ghost use Rattle.dgt_message.specs.ClockState.{clock_seen};
+ghost use Rattle.dgt_command.specs.Content.{command_content};
+ghost use Rattle.dgt_command.specs.Words.{spelling, Spells};
+ghost use Rattle.dgt_decode.specs.Grammar.{open_message};
+ghost use Rattle.dgt_decode.specs.Feeding.{FirstEvent, event_content_if_any};
+ghost use Rattle.dgt_host.specs.Hearing.{IsUnasked};
+ghost use Rattle.dgt_host.specs.Host.{host_after, new_host};
+ghost use Rattle.dgt_host.specs.Kind.{kind_of_command};
+ghost use Rattle.dgt_host.specs.Sending.{Sends, awaits_too_many, follow_bytes};
+
+use crate::hearing::{Heard, hear_event};
+use crate::kind::{Kind, kind_of_command};
+use crate::sending::SendFault;
+use arrayvec::ArrayVec;
+use dgt_command::{Command, encode, length};
+use dgt_decode::{Framer, laws};
+use dgt_message::Clock;
+use dgt_values::Position;
+use std::marker::Model;
+
+/// The most replies that a host awaits.
+pub const MAX_AWAITED: usize = 16;
+
+/// `UpdateBoard` and `Dump`.
+const FOLLOW: [u8; 2] = [0x44, 0x42];
+
+/// What a host knows of a board, what it awaits, and the unread bytes of an unfinished message.
+#[derive(Drop)]
+pub struct Host {
+    framer: Framer,
+    picture: Option<Position>,
+    clock: Option<Clock>,
+    awaited: ArrayVec<Kind, MAX_AWAITED>,
+}
+
+impl Model for Host {
+    ghost use Rattle.dgt_decode.specs.Grammar.{open_message};
+    ghost use Rattle.dgt_host.specs.Host.{HostView, host_seen};
+
+    ghost Value = { HostView };
+
+    ghost view = { λ host. host_seen host.picture host.clock host.awaited.items (open_message host.framer) };
+}
+
+impl Host {
+    ghost use Rattle.dgt_host.specs.contracts.host.Host.{the_row};
+
+    /// A host that knows nothing yet and awaits nothing.
+    pub fn new() -> Self
+        ensures { result ≡ new_host }
+    {
+        Host {
+            framer: Framer::new(),
+            picture: None,
+            clock: None,
+            awaited: ArrayVec::new(),
+        }
+    }
+
+    /// Writes the bytes of a command into the front of the slice, and answers how many there are.
+    /// The slice beyond them stays as it was. A reply that is of a `Kind` is awaited from then on,
+    /// behind those awaited already.
+    ///
+    /// First `TooMany`, where the reply is of a `Kind` and 16 are awaited. Then `NoRoom`, where the
+    /// slice is shorter than the command.
+    pub fn send(&mut self, command: &Command<'_>, out: &mut [u8]) -> Result<usize, SendFault>
+        ensures sends { let said = command_content command.now in
+            Sends (kind_of_command said) (spelling said) self.old self.new out.old out.new result }
+        ensures spells { let said = command_content command.now in OnOk result (Spells said (spelling said)) }
+        ensures limit { length (spelling (command_content command.now)) ≤ 257 }
+    {
+        let kind = kind_of_command(command);
+        if self.awaits_too_many(kind) {
+            return Err(SendFault::TooMany);
+        }
+        let need = length(command);
+        let written = encode(command, out).map_err(|_| SendFault::NoRoom { need })?;
+        if let Some(kind) = kind {
+            self.awaited.push(kind);
+        }
+        Ok(written)
+    }
+
+    /// Asks for all that the picture needs: writes `UpdateBoard` and `Dump`, the bytes `44 42`,
+    /// into the front of the slice, and answers 2. The dump is awaited from then on.
+    ///
+    /// First `TooMany`, where 16 replies are awaited. Then `NoRoom`, where the slice is shorter
+    /// than 2.
+    pub fn follow(&mut self, out: &mut [u8]) -> Result<usize, SendFault>
+        ensures { Sends (Some Kind.Dump) follow_bytes self.old self.new out.old out.new result }
+    {
+        if self.awaited.is_full() {
+            return Err(SendFault::TooMany);
+        }
+        let need = FOLLOW.len();
+        if out.len() < need {
+            return Err(SendFault::NoRoom { need });
+        }
+        out[..need].copy_from_slice(&FOLLOW);
+        self.awaited.push(Kind::Dump);
+        Ok(need)
+    }
+
+    fn awaits_too_many(&self, kind: Option<Kind>) -> bool
+        ensures { result ≡ awaits_too_many self.now kind }
+    {
+        kind.is_some() && self.awaited.is_full()
+    }
+
+    /// The picture of the board, where a dump was heard.
+    pub fn picture(&self) -> Option<&Position>
+        ensures { option_map (λ position. pieces_of position.now) result ≡ self.now.picture }
+    {
+        self.picture.as_ref()
+    }
+
+    /// What the board told last of its clock, where it told of it.
+    pub fn clock(&self) -> Option<&Clock>
+        ensures { option_map (λ clock. clock_seen clock.now) result ≡ self.now.clock }
+    {
+        self.clock.as_ref()
+    }
+
+    /// The kinds of the replies that are awaited, at most 16, in the order in which they were asked
+    /// for.
+    pub fn awaited(&self) -> &[Kind]
+        ensures kinds { result.now ≡ self.now.awaited }
+        ensures at_most { length self.now.awaited ≤ MAX_AWAITED }
+    {
+        self.awaited.as_slice()
+    }
+
+    /// How many bytes were heard of a message that isn't finished, else 0.
+    pub fn unread(&self) -> usize
+        ensures len { result ≡ length self.now.unread }
+        ensures all_open { open_message self.now.unread ≡ self.now.unread }
+    {
+        laws::open_append();
+        self.framer.open_len()
+    }
+
+    /// Uses bytes of the piece up to and including the first that makes an event, or all of it, and
+    /// lets a message change the picture, the clock and what is awaited.
+    ///
+    /// The event lends its body from the host until the next call. Call again with the bytes that
+    /// are left: a piece that isn't empty has at least one byte used.
+    pub fn hear(&mut self, piece: &[u8]) -> Heard<'_>
+        ensures* after_borrow { sem 𝓛 (Rests the_row self.entry
+            (λ new. new ≡ host_after self.old (take result.used piece.now))) }
+        ensures within { result.used ≤ length piece.now }
+        ensures first { FirstEvent self.old.unread piece.now result.used
+            (event_content_if_any result.event) }
+        ensures unasked { IsTrue result.unasked
+            ↔ IsUnasked self.old.awaited (event_content_if_any result.event) }
+        ensures progress { 0 < length piece.now → 0 < result.used }
+    {
+        let advanced = self.framer.advance(piece);
+        let Some(found) = advanced.found else {
+            return Heard {
+                used: advanced.used,
+                event: None,
+                unasked: false,
+            };
+        };
+        let unasked = hear_event(
+            &self.framer.event(found),
+            &mut self.picture,
+            &mut self.clock,
+            &mut self.awaited,
+        );
+        Heard {
+            used: advanced.used,
+            event: Some(self.framer.event(found)),
+            unasked,
+        }
+    }
+}

@@ -1,0 +1,26 @@
+//! The host of a DGT board: it asks, and keeps a picture of the board from what it hears.
+//!
+//! A [`Host`] owns no line. `send` and `follow` write the bytes of commands into a slice, and
+//! `hear` takes the bytes that came from the board, in pieces of any length. The messages are those
+//! of the DGT Electronic Board Protocol Description: a dump sets the whole picture, a field update
+//! sets one square of a picture that is known, and what a board tells of its clock sets the clock.
+//!
+//! That a host keeps a list of at most 16 awaited replies, in the order in which it asked, is this
+//! project's own choice. A message that answers a command is taken off the list where it is the
+//! first, and is told as unasked where it isn't.
+//!
+//! No call takes memory.
+#![tactic(auto)]
+
+mod hearing;
+mod host;
+mod kind;
+pub mod laws;
+mod sending;
+#[cfg(test)]
+mod tests;
+
+pub use hearing::Heard;
+pub use host::{Host, MAX_AWAITED};
+pub use kind::Kind;
+pub use sending::SendFault;
