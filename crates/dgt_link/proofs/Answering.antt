@@ -1,0 +1,40 @@
+-- In an exact state messages come in the order in which they were asked for.
+use Rattle.std.proofs.Common.{◌≡◌, refl, ap, ◌∙◌, List, [], ◌∷◌, ◌++◌, Option, Some, None, All}
+use Rattle.std.proofs.lemmas.List.Elements.{All-head, All-nil, All-tail, filter_map-append}
+use Rattle.std.specs.Prelude.{filter_map, slice_get}
+use Rattle.std.specs.List.{cons_option}
+use Rattle.dgt_message.specs.Content.{Content}
+use Rattle.dgt_decode.specs.Grammar.{Event}
+use Rattle.dgt_host.specs.declared.kind.Kind.{Kind}
+use Rattle.dgt_host.specs.Kind.{kind_of}
+use Rattle.dgt_host.specs.Hearing.{IsUnasked}
+use Rattle.dgt_link.specs.Machine.{State}
+use Rattle.dgt_link.specs.Sound.{IsExact, kind_of_event, kind_of_reply}
+
+-- messages without a kind come for nothing that is awaited
+no_kinds : (messages : List Content) → All (λ other. kind_of other ≡ None) messages → filter_map kind_of messages ≡ []
+no_kinds [] none = refl
+no_kinds (message ∷ messages) none =
+    ap (λ (kind : Option Kind). cons_option kind (filter_map kind_of messages)) (All-head (λ other. kind_of other ≡ None) message messages none)
+    ∙ no_kinds messages (All-tail (λ other. kind_of other ≡ None) message messages none)
+
+first_kinds : (before later : List Content) (message : Content) (kind : Kind) → All (λ other. kind_of other ≡ None) before → kind_of message ≡ Some kind
+    → filter_map kind_of (before ++ message ∷ later) ≡ kind ∷ filter_map kind_of later
+first_kinds before later message kind none is =
+    filter_map-append kind_of before (message ∷ later)
+    ∙ ap (λ (kinds : List Kind). kinds ++ filter_map kind_of (message ∷ later)) (no_kinds before none)
+    ∙ ap (λ (kind : Option Kind). cons_option kind (filter_map kind_of later)) is
+
+pub first_answer : (x : State) (before later : List Content) (message : Content) (kind : Kind) → IsExact x
+    → x.up ≡ before ++ message ∷ later → All (λ other. kind_of other ≡ None) before → kind_of message ≡ Some kind
+    → (others : List Kind) × (x.awaited ≡ kind ∷ others)
+first_answer x before later message kind exact e none is = (
+  filter_map kind_of later ++ (filter_map kind_of_reply x.board.owed ++ filter_map kind_of_event x.down),
+  exact.awaited ∙ ap (λ (kinds : List Kind). kinds ++ (filter_map kind_of_reply x.board.owed ++ filter_map kind_of_event x.down))
+      (ap (filter_map kind_of) e ∙ first_kinds before later message kind none is),
+)
+
+pub never_unasked : (x : State) (later : List Content) (message : Content) → IsExact x → x.up ≡ message ∷ later
+    → ¬ (IsUnasked x.awaited (Some (Event.Message message)))
+never_unasked x later message exact e (kind, is, other) =
+    other (ap (λ (kinds : List Kind). slice_get kinds 0) (first_answer x [] later message kind exact e (All-nil (λ other. kind_of other ≡ None)) is).1)

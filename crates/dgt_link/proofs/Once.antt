@@ -1,0 +1,143 @@
+-- An act has one outcome and leaves one world, and a world stands for one state.
+use Rattle.std.proofs.Common.{◌≡◌, refl, sym, ap, ◌∙◌, ◌⊎◌, inl, inr, ℕ, ◌<◌, List, [], ◌∷◌, ◌++◌, length, take, Some, IsTrue, arith}
+use Rattle.std.specs.List.{AllByRecursion, flat_map}
+use Rattle.std.proofs.lemmas.List.{append-nil}
+use Rattle.std.proofs.lemmas.Bool.{false≢true}
+use Rattle.std.proofs.lemmas.Bool.Decides.{leb_tells}
+use Rattle.dgt_message.specs.Content.{Content, IsMessage}
+use Rattle.dgt_message.specs.Spelling.{Spells, spelling}
+use Rattle.dgt_command.specs.Laws.{EachDividesOnce}
+use Rattle.dgt_board.specs.Effect.{effects}
+use Rattle.dgt_board.specs.View.{BoardView, HasTaken}
+use Rattle.dgt_link.specs.Act.{ActContent}
+use Rattle.dgt_link.specs.declared.acts.Outcome.{Outcome}
+use Rattle.dgt_link.specs.Line.{LineContents, without_first}
+use Rattle.dgt_link.specs.Machine.{State}
+use Rattle.dgt_link.specs.Stands.{StandsFor}
+use Rattle.dgt_link.specs.Step.{Becomes, Delivers, Runs, Step, is_full}
+use Rattle.dgt_link.specs.View.{WorldView}
+use Rattle.dgt_link.proofs.Fronts.{IsShorter, Reaches, fronts, not_empty}
+
+order : (a b : ℕ) → (a < b) ⊎ ((b < a) ⊎ (a ≡ b))
+order a b =
+    elim (leb_tells b a) [
+      | inr less ↦ inl less.1
+      | inl most ↦ elim (leb_tells a b) [ inr more ↦ inr (inl more.1) | inl same ↦ inr (inr (omega (arith, most.1, same.1))) ]
+    ]
+
+some_same : {X : Type 0} (x y : X) → Some x ≡ Some y → x ≡ y
+some_same x y h = cc
+
+-- ---- one outcome and one world
+
+module _ (law : EachDividesOnce) where
+  -- a board has taken bytes in one way
+  one_board : (before one other : BoardView) (bytes : List ℕ) → HasTaken before bytes one → HasTaken before bytes other → one ≡ other
+  one_board before one other bytes first second =
+      let same = law.1 (before.partial ++ bytes) first.events second.events one.partial other.partial first.divided second.divided in
+      let state : one.state ≡ other.state = first.state ∙ ap (effects before.state) same.0 ∙ sym second.state in
+      rebuilt one other state same.1
+    where
+      rebuilt : (one other : BoardView) → one.state ≡ other.state → one.partial ≡ other.partial → one ≡ other
+      rebuilt one other state partial = rw (state, partial) refl
+
+  -- a board that is full after some bytes took no more of them
+  no_further : (count : ℕ) (before one other : BoardView) (line left rest : LineContents) (first : Delivers count before line one left) (second : Delivers count before line other rest) → first.moved < second.moved → ⊥
+  no_further count before one other line left rest first second less = go first.ended
+    where
+      go : (first.moved ≡ count) ⊎ ((first.moved ≡ length line.bytes) ⊎ IsTrue (is_full one.state)) → ⊥
+      go (inl all) = omega (arith, all, less, second.within.0)
+      go (inr (inl all)) = omega (arith, all, less, second.within.1)
+      go (inr (inr full)) =
+          let stop = second.earlier first.moved first.some less in
+          let same : one ≡ stop.0 = one_board before one stop.0 (take first.moved line.bytes) first.taken stop.1 in
+          false≢true (sym stop.2 ∙ ap (λ (board : BoardView). is_full board.state) (sym same) ∙ full)
+
+  one_delivery : (count : ℕ) (before one other : BoardView) (line left rest : LineContents) → Delivers count before line one left → Delivers count before line other rest → (one ≡ other) × (left ≡ rest)
+  one_delivery count before one other line left rest first second = go (order first.moved second.moved)
+    where
+      go : (first.moved < second.moved) ⊎ ((second.moved < first.moved) ⊎ (first.moved ≡ second.moved)) → (one ≡ other) × (left ≡ rest)
+      go (inl less) = absurd (no_further count before one other line left rest first second less)
+      go (inr (inl less)) = absurd (no_further count before other one line rest left second first less)
+      go (inr (inr same)) = (
+        one_board before one other (take second.moved line.bytes) (rw same at first.taken) second.taken,
+        first.left_is ∙ ap (without_first line) same ∙ sym second.left_is,
+      )
+
+  becomes_once : (act : ActContent) (world one other : WorldView) → Becomes act world one → Becomes act world other → one ≡ other
+  becomes_once (ActContent.Change square piece) world one other e f = e ∙ sym f
+  becomes_once (ActContent.ClockRead clock) world one other e f = e ∙ sym f
+  becomes_once (ActContent.Host command) world one other e f = e.1 ∙ sym f.1
+  becomes_once ActContent.BoardSend world one other (message, is_next, spells, e) (also, is_also, holds, f) =
+      let same : message ≡ also = some_same message also (sym is_next ∙ is_also) in
+      rw (e, f, same) refl
+  becomes_once (ActContent.ToBoard count) world one other (board, line, delivers, e) (also, rest, again, f) =
+      let same = one_delivery count world.board board also world.down line rest delivers again in
+      rw (e, f, same.0, same.1) refl
+  becomes_once (ActContent.ToHost count) world one other e f = e ∙ sym f
+
+  left_once : (act : ActContent) (world one other : WorldView) (answer also : Outcome) → answer ≡ also → Step act world answer one → Step act world also other → one ≡ other
+  left_once act world one other Outcome.Done Outcome.Done e first second = becomes_once act world one other first.leaves second.leaves
+  left_once act world one other Outcome.Nothing Outcome.Nothing e first second = first.leaves ∙ sym second.leaves
+  left_once act world one other Outcome.NoRoom Outcome.NoRoom e first second = first.leaves ∙ sym second.leaves
+  left_once act world one other Outcome.Busy Outcome.Busy e first second = first.leaves ∙ sym second.leaves
+  left_once act world one other Outcome.TooMany Outcome.TooMany e first second = first.leaves ∙ sym second.leaves
+  left_once act world one other _ _ e first second = cc
+
+  pub one_step : (act : ActContent) (world one other : WorldView) (answer also : Outcome) → Step act world answer one → Step act world also other → (answer ≡ also) × (one ≡ other)
+  one_step act world one other answer also first second =
+      let same : answer ≡ also = first.answers ∙ sym second.answers in
+      (same, left_once act world one other answer also same first second)
+
+  pub one_run : (acts : List ActContent) (world one other : WorldView) (answers others : List Outcome) → Runs acts world answers one → Runs acts world others other → (answers ≡ others) × (one ≡ other)
+  one_run [] world one other [] [] e f = (refl, e ∙ sym f)
+  one_run (act ∷ acts) world one other (answer ∷ answers) (also ∷ others) (between, step, runs) (middle, stepped, ran) =
+      let first = one_step act world between middle answer also step stepped in
+      let rest = one_run acts middle one other answers others (rw first.1 at runs) ran in
+      (rw (first.0, rest.0) refl, rest.1)
+  one_run [] world one other [] (also ∷ others) e none = absurd none
+  one_run [] world one other (answer ∷ answers) others none f = absurd none
+  one_run (act ∷ acts) world one other [] others none f = absurd none
+  one_run (act ∷ acts) world one other (answer ∷ answers) [] runs none = absurd none
+
+-- ---- one state
+
+-- the laws of the spellings of messages
+pub record SpelledOnce : Type 0 where
+  pub spells : (said : Content) → IsMessage said → Spells said (spelling said)
+  pub one_message : (bytes : List ℕ) (first second : Content) → Spells first bytes → Spells second bytes → first ≡ second
+  pub none_longer : (bytes more : List ℕ) (first second : Content) → Spells first bytes → Spells second (bytes ++ more) → more ≡ []
+
+module _ (law : SpelledOnce) where
+  -- the spelling of a message that begins another's is all of it
+  first_same : (first second : Content) (more : List ℕ) → IsMessage first → IsMessage second → spelling first ≡ spelling second ++ more → (first ≡ second) × (more ≡ [])
+  first_same first second more is also e =
+      let none = law.none_longer (spelling second) more second first (law.spells second also) (rw e at (law.spells first is)) in
+      let same : spelling first ≡ spelling second = e ∙ ap (λ (rest : List ℕ). spelling second ++ rest) none ∙ append-nil (spelling second) in
+      (law.one_message (spelling first) first second (law.spells first is) (rw same (law.spells second also)), none)
+
+  -- messages in a row are spelled in one way
+  messages_once : (xs ys : List Content) → AllByRecursion IsMessage xs → AllByRecursion IsMessage ys → flat_map spelling xs ≡ flat_map spelling ys → xs ≡ ys
+  messages_once [] [] all also h = refl
+  messages_once [] (second ∷ ys) all also h = cc
+  messages_once (first ∷ xs) [] all also h = cc
+  messages_once (first ∷ xs) (second ∷ ys) all also h = go (fronts (spelling first) (flat_map spelling xs) (spelling second) (flat_map spelling ys) h) (messages_once xs ys all.1 also.1)
+    where
+      go : IsShorter (spelling first) (spelling second) ⊎ Reaches (spelling first) (flat_map spelling xs) (spelling second) (flat_map spelling ys) → (flat_map spelling xs ≡ flat_map spelling ys → xs ≡ ys) → first ∷ xs ≡ second ∷ ys
+      go (inl (next, more, e)) on = absurd (not_empty [] next more (first_same second first (next ∷ more) also.0 all.0 e).1)
+      go (inr (more, e, f)) on =
+          let same = first_same first second more all.0 also.0 e in
+          let rest : xs ≡ ys = on (sym (f ∙ ap (λ (front : List ℕ). front ++ flat_map spelling xs) same.1)) in
+          rw (same.0, rest) refl
+
+rebuilt : (x y : State) → x.board ≡ y.board → x.up ≡ y.up → x.down ≡ y.down → x.picture ≡ y.picture → x.host_clock ≡ y.host_clock → x.awaited ≡ y.awaited → x ≡ y
+rebuilt x y board up down picture clock awaited = rw (board, up, down, picture, clock, awaited) refl
+
+pub one_state : SpelledOnce → EachDividesOnce → (world : WorldView) (x y : State) → StandsFor world x → StandsFor world y → x ≡ y
+one_state spelled divided world x y one two =
+    rebuilt x y (sym one.board ∙ two.board)
+    (messages_once spelled x.up y.up one.up.are_messages two.up.are_messages (sym one.up.in_a_row ∙ two.up.in_a_row))
+    (divided.1 (world.board.partial ++ world.down.bytes) x.down y.down [] [] one.down two.down).0
+    (sym one.picture ∙ two.picture)
+    (sym one.clock ∙ two.clock)
+    (sym one.awaited ∙ two.awaited)

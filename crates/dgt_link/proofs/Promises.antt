@@ -1,0 +1,264 @@
+-- The two halves of the promise, and what each move does to them.
+use Rattle.std.proofs.Common.{IsTrue, cond, false, true, Bool, ◌≡◌, refl, sym, ap, ◌∙◌, ◌⊎◌, inl, inr, zero, suc, List, [], ◌∷◌, ◌++◌, Option, Some, None, ◌&&◌, arith}
+use Rattle.std.proofs.lemmas.List.Elements.{filter_map-append, Contains-append_left, Contains-append_cases, Contains-push}
+use Rattle.std.proofs.lemmas.Bool.{cond_both, false≢true}
+use Rattle.std.specs.Prelude.{IsSome, Contains, filter_map, unwrap_or}
+use Rattle.std.specs.List.{cons_option}
+use Rattle.dgt_values.specs.declared.pieces.Piece.{Piece}
+use Rattle.dgt_message.specs.Content.{Content}
+use Rattle.dgt_message.specs.ClockState.{clock_message}
+use Rattle.dgt_command.specs.Content.{CommandContent, EventContent}
+use Rattle.dgt_board.specs.declared.modes.Mode.{Mode}
+use Rattle.dgt_board.specs.declared.replies.Reply.{Reply}
+use Rattle.dgt_board.specs.State.{BoardState, updates}
+use Rattle.dgt_board.specs.Effect.{command_mode, effect, replies_to}
+use Rattle.dgt_board.specs.Sending.{differs, field_of, reply_message}
+use Rattle.dgt_host.specs.Hearing.{picture_after, picture_after_all}
+use Rattle.dgt_link.specs.Move.{Move}
+use Rattle.dgt_link.specs.Machine.{State, after_move, after_told, after_take, after_reply, after_hear}
+use Rattle.dgt_link.specs.Sound.{coming_picture}
+use Rattle.dgt_link.specs.Promise.{IsAsked, IsPromised, PictureIsComing, coming_mode, commands_after_move, event_mode, last_mode, mode_after}
+use Rattle.dgt_link.proofs.Telling.{picture_after_all-append}
+
+-- ---- the mode that is coming
+
+last_mode-append : (before : Mode) (modes more : List Mode) → last_mode before (modes ++ more) ≡ last_mode (last_mode before modes) more
+last_mode-append before [] more = refl
+last_mode-append before (mode ∷ modes) more = last_mode-append mode modes more
+
+last_mode-cons : (before : Mode) (mode : Option Mode) (rest : List Mode) → last_mode (unwrap_or mode before) rest ≡ last_mode before (cons_option mode rest)
+last_mode-cons before None rest = refl
+last_mode-cons before (Some mode) rest = refl
+
+effect-mode : (board : BoardState) (event : EventContent) → (effect board event).mode ≡ unwrap_or (event_mode event) board.mode
+effect-mode board (EventContent.Read command) = refl
+effect-mode board EventContent.BadSize = refl
+effect-mode board EventContent.BadStart = refl
+effect-mode board EventContent.BadEnd = refl
+effect-mode board (EventContent.Stray byte) = refl
+
+-- ---- a picture that is known, or coming, stays so
+
+picture_after_known : (seen : Option (List Piece)) (message : Content) → IsSome seen → IsSome (picture_after seen message)
+picture_after_known None message known = absurd (false≢true known)
+picture_after_known (Some squares) (Content.dump pieces) known = refl
+picture_after_known (Some squares) (Content.field square piece) known = refl
+picture_after_known (Some squares) _ known = refl
+
+Contains-cons : {X : Type 0} (x y : X) (ys : List X) → Contains (y ∷ ys) x → (y ≡ x) ⊎ Contains ys x
+Contains-cons x y ys (zero, within, same) = inl same
+Contains-cons x y ys (suc k, within, same) = inr (k, omega arith, same)
+
+pub nothing_contained : {X : Type 0} (x : X) → Contains [] x → ⊥
+nothing_contained x (k, within, same) = omega arith
+
+-- a picture that comes, by its three ways: under way, owed, asked for
+abbrev Comes : Option (List Piece) → List Reply → List EventContent → Type 0
+Comes seen owed down = IsSome seen ⊎ (Contains owed Reply.Dump ⊎ Contains down (EventContent.Read CommandContent.Dump))
+
+-- another message under way
+sent_comes : (picture : Option (List Piece)) (up : List Content) (message : Content) (owed : List Reply) (down : List EventContent) → Comes (picture_after_all picture up) owed down → Comes (picture_after_all picture (up ++ message ∷ [])) owed down
+sent_comes picture up message owed down (inl known) = inl (rw (picture_after_all-append picture up message) (picture_after_known (picture_after_all picture up) message known))
+sent_comes picture up message owed down (inr later) = inr later
+
+-- the first owed reply is sent
+dump_known : (board : BoardState) (seen : Option (List Piece)) (owed : Reply) → owed ≡ Reply.Dump → IsSome (picture_after seen (reply_message board owed))
+dump_known board seen owed e = rw e
+
+reply_comes : (board : BoardState) (picture : Option (List Piece)) (up : List Content) (first : Reply) (rest : List Reply) (down : List EventContent) → Comes (picture_after_all picture up) (first ∷ rest) down → Comes (picture_after_all picture (up ++ reply_message board first ∷ [])) rest down
+reply_comes board picture up first rest down (inl known) = inl (rw (picture_after_all-append picture up (reply_message board first)) (picture_after_known (picture_after_all picture up) (reply_message board first) known))
+reply_comes board picture up first rest down (inr (inl owed)) = go (Contains-cons Reply.Dump first rest owed)
+  where
+    go : (first ≡ Reply.Dump) ⊎ Contains rest Reply.Dump → Comes (picture_after_all picture (up ++ reply_message board first ∷ [])) rest down
+    go (inl e) = inl (rw (picture_after_all-append picture up (reply_message board first)) (dump_known board (picture_after_all picture up) first e))
+    go (inr owed) = inr (inl owed)
+reply_comes board picture up first rest down (inr (inr asked)) = inr (inr asked)
+
+reply_keeps_picture : (x : State) (owed : List Reply) → x.board.owed ≡ owed → PictureIsComing x → PictureIsComing (after_reply x owed)
+reply_keeps_picture x [] e coming = coming
+reply_keeps_picture x (first ∷ rest) e coming = reply_comes x.board x.picture x.up first rest x.down (rw e at coming)
+
+-- the first command is taken
+effect_owes : (board : BoardState) (event : EventContent) (reply : Reply) → Contains board.owed reply → Contains (effect board event).owed reply
+effect_owes board (EventContent.Read command) reply h = Contains-append_left board.owed (replies_to board command) reply h
+effect_owes board EventContent.BadSize reply h = h
+effect_owes board EventContent.BadStart reply h = h
+effect_owes board EventContent.BadEnd reply h = h
+effect_owes board (EventContent.Stray byte) reply h = h
+
+dump_owed : (board : BoardState) (event : EventContent) → event ≡ EventContent.Read CommandContent.Dump → Contains (effect board event).owed Reply.Dump
+dump_owed board event e = rw e (Contains-push board.owed Reply.Dump)
+
+take_comes : (board : BoardState) (seen : Option (List Piece)) (event : EventContent) (rest : List EventContent) → Comes seen board.owed (event ∷ rest) → Comes seen (effect board event).owed rest
+take_comes board seen event rest (inl known) = inl known
+take_comes board seen event rest (inr (inl owed)) = inr (inl (effect_owes board event Reply.Dump owed))
+take_comes board seen event rest (inr (inr asked)) = go (Contains-cons (EventContent.Read CommandContent.Dump) event rest asked)
+  where
+    go : (event ≡ EventContent.Read CommandContent.Dump) ⊎ Contains rest (EventContent.Read CommandContent.Dump) → Comes seen (effect board event).owed rest
+    go (inl e) = inr (inl (dump_owed board event e))
+    go (inr later) = inr (inr later)
+
+take_keeps_picture : (x : State) (down : List EventContent) → x.down ≡ down → PictureIsComing x → PictureIsComing (after_take x down)
+take_keeps_picture x [] e coming = coming
+take_keeps_picture x (event ∷ rest) e coming = take_comes x.board (coming_picture x) event rest (rw e at coming)
+
+hear_keeps_picture : (x : State) (up : List Content) → x.up ≡ up → PictureIsComing x → PictureIsComing (after_hear x up)
+hear_keeps_picture x [] e coming = coming
+hear_keeps_picture x (message ∷ rest) e coming = rw e at coming
+
+-- one more command under way
+ask_comes : (seen : Option (List Piece)) (owed : List Reply) (down more : List EventContent) → Comes seen owed down → Comes seen owed (down ++ more)
+ask_comes seen owed down more (inl known) = inl known
+ask_comes seen owed down more (inr (inl owes)) = inr (inl owes)
+ask_comes seen owed down more (inr (inr asked)) = inr (inr (Contains-append_left down more (EventContent.Read CommandContent.Dump) asked))
+
+pub dump_asked : (x : State) → PictureIsComing (after_move x (Move.Ask CommandContent.Dump))
+dump_asked x = inr (inr (Contains-push x.down (EventContent.Read CommandContent.Dump)))
+
+-- no move ends the first half of the promise
+pub picture_keeps_coming : (x : State) (move : Move) → PictureIsComing x → PictureIsComing (after_move x move)
+picture_keeps_coming x (Move.Change square piece) coming = coming
+picture_keeps_coming x (Move.HandClock clock) coming = coming
+picture_keeps_coming x (Move.Ask command) coming = ask_comes (coming_picture x) x.board.owed x.down (EventContent.Read command ∷ []) coming
+picture_keeps_coming x Move.Take coming = take_keeps_picture x x.down refl coming
+picture_keeps_coming x Move.Reply coming = reply_keeps_picture x x.board.owed refl coming
+picture_keeps_coming x (Move.Tell square) coming =
+    cond_both (updates x.board.mode && differs x.board square) (after_told x (field_of x.board square)) x PictureIsComing
+    (λ h. sent_comes x.picture x.up (field_of x.board square) x.board.owed x.down coming) (λ h. coming)
+picture_keeps_coming x Move.TellClock coming =
+    cond_both x.board.times_owed (after_told x (clock_message x.board.clock)) x PictureIsComing
+    (λ h. sent_comes x.picture x.up (clock_message x.board.clock) x.board.owed x.down coming) (λ h. coming)
+picture_keeps_coming x Move.Hear coming = hear_keeps_picture x x.up refl coming
+
+-- ---- the second half: the mode that is coming
+
+take-mode : (x : State) (down : List EventContent) → x.down ≡ down → coming_mode (after_take x down) ≡ coming_mode x
+take-mode x [] e = refl
+take-mode x (event ∷ rest) e =
+    rw (e, effect-mode x.board event) (last_mode-cons x.board.mode (event_mode event) (filter_map event_mode rest))
+
+reply-mode : (x : State) (owed : List Reply) → coming_mode (after_reply x owed) ≡ coming_mode x
+reply-mode x [] = refl
+reply-mode x (first ∷ rest) = refl
+
+hear-mode : (x : State) (up : List Content) → coming_mode (after_hear x up) ≡ coming_mode x
+hear-mode x [] = refl
+hear-mode x (message ∷ rest) = refl
+
+ask-mode : (x : State) (command : CommandContent) → coming_mode (after_move x (Move.Ask command)) ≡ unwrap_or (command_mode command) (coming_mode x)
+ask-mode x command =
+    ap (last_mode x.board.mode) (filter_map-append event_mode x.down (EventContent.Read command ∷ []))
+    ∙ last_mode-append x.board.mode (filter_map event_mode x.down) (cons_option (command_mode command) [])
+    ∙ sym (last_mode-cons (coming_mode x) (command_mode command) [])
+
+sent-mode : (x : State) (message : Content) (test : Bool) → coming_mode (cond test (after_told x message) x) ≡ coming_mode x
+sent-mode x message true = refl
+sent-mode x message false = refl
+
+-- the mode that is coming is that of the last command that sets one
+pub move-mode : (x : State) (move : Move) → coming_mode (after_move x move) ≡ mode_after (coming_mode x) move
+move-mode x (Move.Change square piece) = refl
+move-mode x (Move.HandClock clock) = refl
+move-mode x (Move.Ask command) = ask-mode x command
+move-mode x Move.Take = take-mode x x.down refl
+move-mode x Move.Reply = reply-mode x x.board.owed
+move-mode x (Move.Tell square) = sent-mode x (field_of x.board square) (updates x.board.mode && differs x.board square)
+move-mode x Move.TellClock = sent-mode x (clock_message x.board.clock) x.board.times_owed
+move-mode x Move.Hear = hear-mode x x.up
+
+-- ---- what was asked for, and what it promises
+
+-- what was asked for is what is coming, after the mode that was coming before
+pub record Keeps (commands : List CommandContent) (x : State) : Type 0 where
+  pub picture : Contains commands CommandContent.Dump → PictureIsComing x
+  pub before : Mode
+  pub mode : coming_mode x ≡ last_mode before (filter_map command_mode commands)
+
+pub nothing_asked : (x : State) → Keeps [] x
+nothing_asked x = record { picture = λ h. absurd (nothing_contained CommandContent.Dump h); before = coming_mode x; mode = refl }
+
+asked-mode : (commands : List CommandContent) (command : CommandContent) (before mode : Mode) → mode ≡ last_mode before (filter_map command_mode commands) → unwrap_or (command_mode command) mode ≡ last_mode before (filter_map command_mode (commands ++ command ∷ []))
+asked-mode commands command before mode e =
+    ap (unwrap_or (command_mode command)) e
+    ∙ last_mode-cons (last_mode before (filter_map command_mode commands)) (command_mode command) []
+    ∙ sym (ap (last_mode before) (filter_map-append command_mode commands (command ∷ [])) ∙ last_mode-append before (filter_map command_mode commands) (cons_option (command_mode command) []))
+
+ask_keeps : (commands : List CommandContent) (x : State) (command : CommandContent) → Keeps commands x → Contains (commands ++ command ∷ []) CommandContent.Dump → PictureIsComing (after_move x (Move.Ask command))
+ask_keeps commands x command keeps h = go (Contains-append_cases commands (command ∷ []) CommandContent.Dump h)
+  where
+    new : (command ≡ CommandContent.Dump) ⊎ Contains [] CommandContent.Dump → PictureIsComing (after_move x (Move.Ask command))
+    new (inl e) = rw e (dump_asked x)
+    new (inr none) = absurd (nothing_contained CommandContent.Dump none)
+
+    go : Contains commands CommandContent.Dump ⊎ Contains (command ∷ []) CommandContent.Dump → PictureIsComing (after_move x (Move.Ask command))
+    go (inl before) = picture_keeps_coming x (Move.Ask command) (keeps.picture before)
+    go (inr now) = new (Contains-cons CommandContent.Dump command [] now)
+
+-- a move that asks for nothing
+still_keeps : (commands : List CommandContent) (x : State) (move : Move) → mode_after (coming_mode x) move ≡ coming_mode x → Keeps commands x → Keeps commands (after_move x move)
+still_keeps commands x move same keeps =
+    record { picture = λ h. picture_keeps_coming x move (keeps.picture h); before = keeps.before; mode = move-mode x move ∙ same ∙ keeps.mode }
+
+pub move_keeps : (commands : List CommandContent) (x : State) (move : Move) → Keeps commands x → Keeps (commands_after_move commands move) (after_move x move)
+move_keeps commands x (Move.Ask command) keeps =
+    record {
+      picture = ask_keeps commands x command keeps;
+      before = keeps.before;
+      mode = ask-mode x command ∙ asked-mode commands command keeps.before (coming_mode x) keeps.mode;
+    }
+move_keeps commands x (Move.Change square piece) keeps = still_keeps commands x (Move.Change square piece) refl keeps
+move_keeps commands x (Move.HandClock clock) keeps = still_keeps commands x (Move.HandClock clock) refl keeps
+move_keeps commands x Move.Take keeps = still_keeps commands x Move.Take refl keeps
+move_keeps commands x Move.Reply keeps = still_keeps commands x Move.Reply refl keeps
+move_keeps commands x (Move.Tell square) keeps = still_keeps commands x (Move.Tell square) refl keeps
+move_keeps commands x Move.TellClock keeps = still_keeps commands x Move.TellClock refl keeps
+move_keeps commands x Move.Hear keeps = still_keeps commands x Move.Hear refl keeps
+
+-- a mode asked for holds whatever mode was before
+asked_from_any : (before : Mode) (modes : List Mode) → IsTrue (updates (last_mode Mode.Idle modes)) → IsTrue (updates (last_mode before modes))
+asked_from_any before [] h = absurd (false≢true h)
+asked_from_any before (mode ∷ modes) h = h
+
+pub keeps_promise : (commands : List CommandContent) (x : State) → Keeps commands x → IsAsked commands → IsPromised x
+keeps_promise commands x keeps asks =
+    record {
+      picture = keeps.picture asks.dump;
+      mode = rw keeps.mode (asked_from_any keeps.before (filter_map command_mode commands) asks.mode);
+    }
+
+-- ---- the picture that the host comes to have
+
+dump_seen : (x : State) (owed rest : List Reply) → owed ≡ Reply.Dump ∷ rest → coming_picture (after_reply x owed) ≡ Some (after_reply x owed).board.told_squares
+dump_seen x owed rest e = rw e (picture_after_all-append x.picture x.up (Content.dump x.board.squares))
+
+pub dump_is_seen : (x : State) (rest : List Reply) → x.board.owed ≡ Reply.Dump ∷ rest → coming_picture (after_move x Move.Reply) ≡ Some (after_move x Move.Reply).board.told_squares
+dump_is_seen x rest e = dump_seen x x.board.owed rest e
+
+sent_known : (x : State) (message : Content) → IsSome (coming_picture x) → IsSome (picture_after_all x.picture (x.up ++ message ∷ []))
+sent_known x message known = rw (picture_after_all-append x.picture x.up message) (picture_after_known (coming_picture x) message known)
+
+reply_known : (x : State) (owed : List Reply) → IsSome (coming_picture x) → IsSome (coming_picture (after_reply x owed))
+reply_known x [] known = known
+reply_known x (first ∷ rest) known = sent_known x (reply_message x.board first) known
+
+take_known : (x : State) (down : List EventContent) → IsSome (coming_picture x) → IsSome (coming_picture (after_take x down))
+take_known x [] known = known
+take_known x (event ∷ rest) known = known
+
+hear_known : (x : State) (up : List Content) → x.up ≡ up → IsSome (coming_picture x) → IsSome (coming_picture (after_hear x up))
+hear_known x [] e known = known
+hear_known x (message ∷ rest) e known = rw e at known
+
+pub picture_stays_known : (x : State) (move : Move) → IsSome (coming_picture x) → IsSome (coming_picture (after_move x move))
+picture_stays_known x (Move.Change square piece) known = known
+picture_stays_known x (Move.HandClock clock) known = known
+picture_stays_known x (Move.Ask command) known = known
+picture_stays_known x Move.Take known = take_known x x.down known
+picture_stays_known x Move.Reply known = reply_known x x.board.owed known
+picture_stays_known x (Move.Tell square) known =
+    cond_both (updates x.board.mode && differs x.board square) (after_told x (field_of x.board square)) x (λ (y : State). IsSome (coming_picture y))
+    (λ h. sent_known x (field_of x.board square) known) (λ h. known)
+picture_stays_known x Move.TellClock known =
+    cond_both x.board.times_owed (after_told x (clock_message x.board.clock)) x (λ (y : State). IsSome (coming_picture y))
+    (λ h. sent_known x (clock_message x.board.clock) known) (λ h. known)
+picture_stays_known x Move.Hear known = hear_known x x.up refl known

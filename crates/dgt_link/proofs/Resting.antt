@@ -1,0 +1,61 @@
+-- What is so of a world by the state that it stands for.
+use Rattle.std.proofs.Common.{◌≡◌, refl, ◌∙◌, List, [], ◌∷◌, ◌++◌, Some, None, All, IsTrue}
+use Rattle.dgt_message.specs.Content.{Content}
+use Rattle.dgt_command.specs.Laws.{EachDividesOnce}
+use Rattle.dgt_command.proofs.DivisionLemmas.{nothing_is_partial}
+use Rattle.dgt_board.specs.State.{follows_clock, updates}
+use Rattle.dgt_board.specs.Sending.{first_message, pending_messages}
+use Rattle.dgt_decode.specs.Grammar.{Event}
+use Rattle.dgt_host.specs.declared.kind.Kind.{Kind}
+use Rattle.dgt_host.specs.Kind.{kind_of}
+use Rattle.dgt_host.specs.Hearing.{IsUnasked, picture_after_all}
+use Rattle.dgt_link.specs.Machine.{State}
+use Rattle.dgt_link.specs.Promise.{IsPromised, IsQuiet}
+use Rattle.dgt_link.specs.Sound.{IsExact, IsUnknownOr}
+use Rattle.dgt_link.specs.Stands.{AreSpelled, StandsFor}
+use Rattle.dgt_link.specs.View.{IsQuietWorld, WorldView}
+use Rattle.dgt_link.proofs.Answering.{first_answer, never_unasked}
+use Rattle.dgt_link.proofs.Quiet.{promised_picture, quiet_awaited, quiet_clock, quiet_picture}
+
+-- the picture to come, by the messages under way
+pub world_fold : (world : WorldView) (x : State) → StandsFor world x → IsUnknownOr (picture_after_all world.host.picture x.up) (Some world.board.state.told_squares)
+world_fold world x stands = rw (stands.picture, stands.board) stands.sound.picture
+
+-- the answers come in the order of what is awaited
+pub world_first_answer : (world : WorldView) (x : State) (before later : List Content) (message : Content) (kind : Kind) → StandsFor world x → IsExact x → x.up ≡ before ++ message ∷ later → All (λ said. kind_of said ≡ None) before → kind_of message ≡ Some kind → (others : List Kind) × (world.host.awaited ≡ kind ∷ others)
+world_first_answer world x before later message kind stands exact e none is =
+    let answer = first_answer x before later message kind exact e none is in
+    (answer.0, stands.awaited ∙ answer.1)
+
+pub world_never_unasked : (world : WorldView) (x : State) (later : List Content) (message : Content) → StandsFor world x → IsExact x → x.up ≡ message ∷ later → ¬ (IsUnasked world.host.awaited (Some (Event.Message message)))
+world_never_unasked world x later message stands exact e = rw stands.awaited (never_unasked x later message exact e)
+
+nothing_spelled : (messages : List Content) → AreSpelled messages [] → messages ≡ []
+nothing_spelled [] h = refl
+nothing_spelled (message ∷ messages) h = let same = h.in_a_row in cc
+
+nothing_first : (messages : List Content) → first_message messages ≡ None → messages ≡ []
+nothing_first [] h = refl
+nothing_first (message ∷ rest) h = cc
+
+-- a quiet world stands for a quiet state
+pub quiet_state : EachDividesOnce → (world : WorldView) (x : State) → StandsFor world x → IsQuietWorld world → IsQuiet x
+quiet_state law world x stands (up, down, unread, partial, none) =
+    record {
+      up = nothing_spelled x.up (rw (unread, up) at stands.up);
+      down = (law.1 [] x.down [] [] [] (rw (partial, down) at stands.down) (refl, nothing_is_partial)).0;
+      pending = nothing_first (pending_messages x.board) (rw stands.board at none);
+    }
+
+module _ (law : EachDividesOnce) (world : WorldView) (x : State) (stands : StandsFor world x) (quiet : IsQuietWorld world) where
+  pub world_awaits_nothing : world.host.awaited ≡ []
+  world_awaits_nothing = stands.awaited ∙ quiet_awaited x stands.sound (quiet_state law world x stands quiet)
+
+  pub world_picture_told : IsTrue (updates world.board.state.mode) → IsUnknownOr world.host.picture (Some world.board.state.squares)
+  world_picture_told asks = rw (stands.picture, stands.board) (quiet_picture x stands.sound (quiet_state law world x stands quiet) (rw stands.board at asks))
+
+  pub world_clock_told : IsExact x → IsTrue (follows_clock world.board.state.mode) → world.host.clock ≡ Some world.board.state.clock
+  world_clock_told exact follows = rw (stands.clock, stands.board) (quiet_clock x exact (quiet_state law world x stands quiet) (rw stands.board at follows))
+
+  pub world_picture : IsPromised x → world.host.picture ≡ Some world.board.state.squares
+  world_picture promised = rw (stands.picture, stands.board) (promised_picture x stands.sound promised (quiet_state law world x stands quiet))

@@ -1,0 +1,319 @@
+-- An act leads a world that stands for a state to one that stands for a state which the machine reaches by it.
+use Rattle.std.proofs.Common.{◌≡◌, refl, sym, ap, ◌∙◌, ℕ, ◌≤◌, List, [], ◌∷◌, ◌++◌, length, take, drop, replicate, option_to_list, append_assoc}
+use Rattle.std.proofs.lemmas.List.{append-nil, take-append-drop}
+use Rattle.std.proofs.lemmas.Grind.{flat_map-append}
+use Rattle.std.specs.List.{AllByRecursion, flat_map}
+use Rattle.dgt_values.specs.declared.pieces.Piece.{Piece}
+use Rattle.dgt_message.specs.Content.{Content, IsMessage}
+use Rattle.dgt_message.specs.ClockState.{ClockState}
+use Rattle.dgt_message.specs.Spelling.{Spells, spelling}
+use Rattle.dgt_command.specs.Content.{CommandContent, EventContent}
+use Rattle.dgt_command.specs.Words.{spelling as command_spelling}
+use Rattle.dgt_command.specs.Laws.{DivisionsAppend, NoWordBeginsAnother}
+use Rattle.dgt_command.proofs.DivisionLemmas.{nothing_is_partial}
+use Rattle.dgt_board.specs.Identity.{IdentityContent}
+use Rattle.dgt_board.specs.State.{BoardState, after_change, after_hand_clock}
+use Rattle.dgt_board.specs.Effect.{effect, effects}
+use Rattle.dgt_board.specs.Sending.{after_sending, next_message}
+use Rattle.dgt_host.specs.declared.kind.Kind.{Kind}
+use Rattle.dgt_host.specs.Host.{HostView, host_after_message}
+use Rattle.dgt_host.specs.Kind.{kind_of_command}
+use Rattle.dgt_link.specs.Act.{ActContent}
+use Rattle.dgt_link.specs.declared.acts.Outcome.{Outcome}
+use Rattle.dgt_link.specs.Move.{Move}
+use Rattle.dgt_link.specs.Machine.{State, after_hear, after_move, after_moves, after_take, new_state}
+use Rattle.dgt_link.specs.Stands.{AreSpelled, IsExactWorld, IsWorld, StandsFor}
+use Rattle.dgt_link.specs.Step.{Becomes, Runs, Step}
+use Rattle.dgt_link.specs.View.{WorldView, new_world}
+use Rattle.dgt_link.specs.ActMoves.{AreMovesOfAct, StandsAfterRun, StandsAfterStep}
+use Rattle.dgt_link.proofs.Dividing.{divides_command, divides_end, divides_front}
+use Rattle.dgt_link.proofs.Hearing.{Reads, heard_front, host_after_messages}
+use Rattle.dgt_link.proofs.Runs.{moves_exact, moves_sound}
+use Rattle.dgt_link.proofs.Sending.{next_is_sent}
+use Rattle.dgt_link.proofs.Soundness.{move_sound, new_exact, new_sound}
+
+-- the laws of both readers
+pub record Grammars : Type 0 where
+  pub reads : Reads
+  pub divisions_append : DivisionsAppend
+  pub no_word_begins_another : NoWordBeginsAnother
+
+pub moves-append : (x : State) (moves more : List Move) → after_moves x (moves ++ more) ≡ after_moves (after_moves x moves) more
+moves-append x [] more = refl
+moves-append x (move ∷ moves) more = moves-append (after_move x move) moves more
+
+-- ---- the machine takes what the board took, and hears what the host heard
+
+abbrev taken_state : State → List EventContent → List EventContent → State
+taken_state x events left = record x { board = effects x.board events; down = left }
+
+takes : (events left : List EventContent) (x : State) → x.down ≡ events ++ left → after_moves x (replicate (length events) Move.Take) ≡ taken_state x events left
+takes [] left x e = ap (λ (down : List EventContent). record x { down = down }) e
+takes (event ∷ events) left x e =
+    let first : after_move x Move.Take ≡ record x { board = effect x.board event; down = events ++ left } = ap (after_take x) e in
+    ap (λ (y : State). after_moves y (replicate (length events) Move.Take)) first
+    ∙ takes events left (record x { board = effect x.board event; down = events ++ left }) refl
+
+-- the host's part of a state
+abbrev with_host : State → HostView → List Content → State
+with_host x host left =
+    record x { picture = host.picture; host_clock = host.clock; awaited = host.awaited; up = left }
+
+record IsHostOf (host : HostView) (x : State) : Type 0 where
+  pub picture : host.picture ≡ x.picture
+  pub clock : host.clock ≡ x.host_clock
+  pub awaited : host.awaited ≡ x.awaited
+
+hears : (messages left : List Content) (x : State) (host : HostView) → x.up ≡ messages ++ left → IsHostOf host x → after_moves x (replicate (length messages) Move.Hear) ≡ with_host x (host_after_messages host messages) left
+hears [] left x host e of = rw (← e, of.picture, of.clock, of.awaited) refl
+hears (message ∷ messages) left x host e of =
+    let after = host_after_message host message in
+    let first : after_move x Move.Hear ≡ with_host x after (messages ++ left) = ap (after_hear x) e ∙ rw (of.picture, of.clock, of.awaited) refl in
+    ap (λ (y : State). after_moves y (replicate (length messages) Move.Hear)) first
+    ∙ hears messages left (with_host x after (messages ++ left)) after refl (record { picture = refl; clock = refl; awaited = refl })
+
+-- a front of a line, and what is left of it
+front_of : (held bytes : List ℕ) (count : ℕ) → held ++ bytes ≡ (held ++ take count bytes) ++ drop count bytes
+front_of held bytes count =
+    ap (λ (line : List ℕ). held ++ line) (sym (take-append-drop count bytes)) ∙ sym (append_assoc held (take count bytes) (drop count bytes))
+
+-- ---- a world just made
+
+pub new_stands : (position : List Piece) (clock : ClockState) (identity : IdentityContent) (up down : ℕ) → length position ≡ 64 → StandsFor (new_world position clock identity up down) (new_state position clock identity)
+new_stands position clock identity up down squares =
+    record {
+      sound = new_sound position clock identity squares;
+      board = refl;
+      picture = refl;
+      clock = refl;
+      awaited = refl;
+      up = record { are_messages = tt; in_a_row = refl };
+      down = (refl, nothing_is_partial);
+      partial = nothing_is_partial;
+    }
+
+pub new_is_world : (position : List Piece) (clock : ClockState) (identity : IdentityContent) (up down : ℕ) → length position ≡ 64 → 67 ≤ up → 257 ≤ down → IsWorld (new_world position clock identity up down)
+new_is_world position clock identity up down squares up_room down_room =
+    record {
+      state = new_state position clock identity;
+      stands = new_stands position clock identity up down squares;
+      up_room = up_room;
+      down_room = down_room;
+    }
+
+pub new_is_exact : (position : List Piece) (clock : ClockState) (identity : IdentityContent) (up down : ℕ) → length position ≡ 64 → IsExactWorld (new_world position clock identity up down)
+new_is_exact position clock identity up down squares =
+    record {
+      state = new_state position clock identity;
+      stands = new_stands position clock identity up down squares;
+      exact = new_exact position clock identity squares;
+    }
+
+-- ---- an act that is done
+
+-- one more message behind messages in a row
+AllByRecursion-push : (messages : List Content) (message : Content) → AllByRecursion IsMessage messages → IsMessage message → AllByRecursion IsMessage (messages ++ message ∷ [])
+AllByRecursion-push [] message all is = (is, tt)
+AllByRecursion-push (first ∷ messages) message all is = (all.0, AllByRecursion-push messages message all.1 is)
+
+spelled_more : (bytes : List ℕ) (messages : List Content) (message : Content) → Spells message (spelling message) → AreSpelled messages bytes → AreSpelled (messages ++ message ∷ []) (bytes ++ spelling message)
+spelled_more bytes messages message spells spelled =
+    record {
+      are_messages = AllByRecursion-push messages message spelled.are_messages spells.is_message;
+      in_a_row =
+          ap (λ (front : List ℕ). front ++ spelling message) spelled.in_a_row
+          ∙ sym (flat_map-append spelling messages (message ∷ []) ∙ ap (λ (last : List ℕ). flat_map spelling messages ++ last) (append-nil (spelling message)));
+    }
+
+-- the world after the act stands for a state that is reached by it
+abbrev Reaches : ActContent → WorldView → State → Type 0
+Reaches act after x = (moves : List Move) × AreMovesOfAct act moves × StandsFor after (after_moves x moves)
+
+change_reaches : (world : WorldView) (square : ℕ) (piece : Piece) (after : WorldView) (x : State) → StandsFor world x → Becomes (ActContent.Change square piece) world after → Reaches (ActContent.Change square piece) after x
+change_reaches world square piece after x stands same = (
+  Move.Change square piece ∷ [],
+  refl,
+  rw same
+      (record {
+        sound = move_sound x (Move.Change square piece) stands.sound;
+        board = ap (λ (board : BoardState). after_change board square piece) stands.board;
+        picture = stands.picture;
+        clock = stands.clock;
+        awaited = stands.awaited;
+        up = stands.up;
+        down = stands.down;
+        partial = stands.partial;
+      }),
+)
+
+clock_reaches : (world : WorldView) (clock : ClockState) (after : WorldView) (x : State) → StandsFor world x → Becomes (ActContent.ClockRead clock) world after → Reaches (ActContent.ClockRead clock) after x
+clock_reaches world clock after x stands same = (
+  Move.HandClock clock ∷ [],
+  refl,
+  rw same
+      (record {
+        sound = move_sound x (Move.HandClock clock) stands.sound;
+        board = ap (λ (board : BoardState). after_hand_clock board clock) stands.board;
+        picture = stands.picture;
+        clock = stands.clock;
+        awaited = stands.awaited;
+        up = stands.up;
+        down = stands.down;
+        partial = stands.partial;
+      }),
+)
+
+module _ (laws : Grammars) where
+  ask_reaches : (world : WorldView) (command : CommandContent) (after : WorldView) (x : State) → StandsFor world x → Becomes (ActContent.Host command) world after → Reaches (ActContent.Host command) after x
+  ask_reaches world command after x stands (spells, same) = (
+    Move.Ask command ∷ [],
+    refl,
+    rw same
+        (record {
+          sound = move_sound x (Move.Ask command) stands.sound;
+          board = stands.board;
+          picture = stands.picture;
+          clock = stands.clock;
+          awaited = ap (λ (awaited : List Kind). awaited ++ option_to_list (kind_of_command command)) stands.awaited;
+          up = stands.up;
+          down = rw (append_assoc world.board.partial world.down.bytes (command_spelling command)) at
+              (divides_command laws.divisions_append (world.board.partial ++ world.down.bytes) x.down command stands.down spells);
+          partial = stands.partial;
+        }),
+  )
+
+  send_reaches : (world after : WorldView) (x : State) → StandsFor world x → Becomes ActContent.BoardSend world after → Reaches ActContent.BoardSend after x
+  send_reaches world after x stands (message, is_next, spells, same) =
+      let by = next_is_sent x message (ap next_message (sym stands.board) ∙ is_next) in (
+        by.0 ∷ [],
+        (by.0, by.1, refl),
+        rw (same, by.2)
+            (record {
+              sound = rw by.2 at (move_sound x by.0 stands.sound);
+              board = ap (λ (board : BoardState). after_sending board message) stands.board;
+              picture = stands.picture;
+              clock = stands.clock;
+              awaited = stands.awaited;
+              up = rw (append_assoc world.host.unread world.up.bytes (spelling message)) at
+                  (spelled_more (world.host.unread ++ world.up.bytes) x.up message spells stands.up);
+              down = stands.down;
+              partial = stands.partial;
+            }),
+      )
+
+  take_reaches : (world : WorldView) (count : ℕ) (after : WorldView) (x : State) → StandsFor world x → Becomes (ActContent.ToBoard count) world after → Reaches (ActContent.ToBoard count) after x
+  take_reaches world count after x stands (board, line, delivers, same) =
+      let taken = delivers.taken in
+      let front = divides_front laws.no_word_begins_another (world.board.partial ++ take delivers.moved world.down.bytes) (drop delivers.moved world.down.bytes) taken.events x.down board.partial [] taken.divided
+      (rw (front_of world.board.partial world.down.bytes delivers.moved) at stands.down) in
+      let moves : List Move = replicate (length taken.events) Move.Take in
+      let led : after_moves x moves ≡ taken_state x taken.events front.0 = takes taken.events front.0 x front.1 in (
+        moves,
+        (length taken.events, refl),
+        rw (same, led)
+            (record {
+              sound = rw led at (moves_sound x moves stands.sound);
+              board = taken.state ∙ ap (λ (state : BoardState). effects state taken.events) stands.board;
+              picture = stands.picture;
+              clock = stands.clock;
+              awaited = stands.awaited;
+              up = stands.up;
+              down = rw delivers.left_is front.2;
+              partial = divides_end (world.board.partial ++ take delivers.moved world.down.bytes) taken.events board.partial taken.divided;
+            }),
+      )
+
+  hear_reaches : (world : WorldView) (count : ℕ) (after : WorldView) (x : State) → StandsFor world x → Becomes (ActContent.ToHost count) world after → Reaches (ActContent.ToHost count) after x
+  hear_reaches world count after x stands same =
+      let bytes = world.host.unread ++ take count world.up.bytes in
+      let front = heard_front laws.reads bytes (drop count world.up.bytes) x.up (rw (front_of world.host.unread world.up.bytes count) at stands.up) in
+      let moves : List Move = replicate (length front.heard) Move.Hear in
+      let led : after_moves x moves ≡ with_host x (host_after_messages world.host front.heard) front.left =
+      hears front.heard front.left x world.host front.all (record { picture = stands.picture; clock = stands.clock; awaited = stands.awaited }) in (
+        moves,
+        (length front.heard, refl),
+        rw (same, led, front.host world.host)
+            (record {
+              sound = rw led at (moves_sound x moves stands.sound);
+              board = stands.board;
+              picture = refl;
+              clock = refl;
+              awaited = refl;
+              up = front.spelled;
+              down = stands.down;
+              partial = stands.partial;
+            }),
+      )
+
+  done_reaches : (act : ActContent) (world after : WorldView) (x : State) → StandsFor world x → Becomes act world after → Reaches act after x
+  done_reaches (ActContent.Change square piece) world after x stands becomes = change_reaches world square piece after x stands becomes
+  done_reaches (ActContent.ClockRead clock) world after x stands becomes = clock_reaches world clock after x stands becomes
+  done_reaches (ActContent.Host command) world after x stands becomes = ask_reaches world command after x stands becomes
+  done_reaches ActContent.BoardSend world after x stands becomes = send_reaches world after x stands becomes
+  done_reaches (ActContent.ToBoard count) world after x stands becomes = take_reaches world count after x stands becomes
+  done_reaches (ActContent.ToHost count) world after x stands becomes = hear_reaches world count after x stands becomes
+
+  pub step_stands : (act : ActContent) (world : WorldView) (answer : Outcome) (after : WorldView) (x : State) → StandsFor world x → Step act world answer after → StandsAfterStep act answer x after
+  step_stands act world Outcome.Done after x stands step = done_reaches act world after x stands step.leaves
+  step_stands act world Outcome.Nothing after x stands step = ([], refl, rw step.leaves stands)
+  step_stands act world Outcome.NoRoom after x stands step = ([], refl, rw step.leaves stands)
+  step_stands act world Outcome.Busy after x stands step = ([], refl, rw step.leaves stands)
+  step_stands act world Outcome.TooMany after x stands step = ([], refl, rw step.leaves stands)
+
+  pub run_stands : (acts : List ActContent) (world : WorldView) (answers : List Outcome) (after : WorldView) (x : State) → StandsFor world x → Runs acts world answers after → StandsAfterRun acts answers x after
+  run_stands [] world [] after x stands same = ([], refl, rw same stands)
+  run_stands (act ∷ acts) world (answer ∷ answers) after x stands (between, step, runs) =
+      let first = step_stands act world answer between x stands step in
+      let rest = run_stands acts between answers after (after_moves x first.0) first.2 runs in
+      (first.0 ++ rest.0, (first.0, rest.0, first.1, rest.1, refl), rw (moves-append x first.0 rest.0) rest.2)
+  run_stands [] world (answer ∷ answers) after x stands none = absurd none
+  run_stands (act ∷ acts) world [] after x stands none = absurd none
+
+-- ---- the lines keep their capacities
+
+record HasRooms (world after : WorldView) : Type 0 where
+  pub up : after.up.capacity ≡ world.up.capacity
+  pub down : after.down.capacity ≡ world.down.capacity
+
+same_rooms : (world after : WorldView) → after ≡ world → HasRooms world after
+same_rooms world after same = record { up = ap (λ (w : WorldView). w.up.capacity) same; down = ap (λ (w : WorldView). w.down.capacity) same }
+
+becomes_rooms : (act : ActContent) (world after : WorldView) → Becomes act world after → HasRooms world after
+becomes_rooms (ActContent.Change square piece) world after same = rw same (record { up = refl; down = refl })
+becomes_rooms (ActContent.ClockRead clock) world after same = rw same (record { up = refl; down = refl })
+becomes_rooms (ActContent.Host command) world after (spells, same) = rw same (record { up = refl; down = refl })
+becomes_rooms ActContent.BoardSend world after (message, is_next, spells, same) = rw same (record { up = refl; down = refl })
+becomes_rooms (ActContent.ToBoard count) world after (board, line, delivers, same) = rw (same, delivers.left_is) (record { up = refl; down = refl })
+becomes_rooms (ActContent.ToHost count) world after same = rw same (record { up = refl; down = refl })
+
+step_rooms : (act : ActContent) (world : WorldView) (answer : Outcome) (after : WorldView) → Step act world answer after → HasRooms world after
+step_rooms act world Outcome.Done after step = becomes_rooms act world after step.leaves
+step_rooms act world Outcome.Nothing after step = same_rooms world after step.leaves
+step_rooms act world Outcome.NoRoom after step = same_rooms world after step.leaves
+step_rooms act world Outcome.Busy after step = same_rooms world after step.leaves
+step_rooms act world Outcome.TooMany after step = same_rooms world after step.leaves
+
+-- ---- what is kept
+
+module _ (moves : (act : ActContent) (world after : WorldView) (answer : Outcome) (x : State) → StandsFor world x → Step act world answer after → StandsAfterStep act answer x after) where
+  -- what an act leaves of a world is one
+  pub step_is_world : (act : ActContent) (world after : WorldView) (answer : Outcome) → IsWorld world → Step act world answer after → IsWorld after
+  step_is_world act world after answer is step =
+      let reached = moves act world after answer is.state is.stands step in
+      let rooms = step_rooms act world answer after step in
+      record {
+        state = after_moves is.state reached.0;
+        stands = reached.2;
+        up_room = rw rooms.up is.up_room;
+        down_room = rw rooms.down is.down_room;
+      }
+
+  pub step_keeps_exact : (act : ActContent) (world after : WorldView) (answer : Outcome) → IsExactWorld world → Step act world answer after → IsExactWorld after
+  step_keeps_exact act world after answer is step =
+      let reached = moves act world after answer is.state is.stands step in
+      record { state = after_moves is.state reached.0; stands = reached.2; exact = moves_exact is.state reached.0 is.exact }
+
+pub run_keeps_exact : ((acts : List ActContent) (world after : WorldView) (answers : List Outcome) (x : State) → StandsFor world x → Runs acts world answers after → StandsAfterRun acts answers x after) → (acts : List ActContent) (world after : WorldView) (answers : List Outcome) → IsExactWorld world → Runs acts world answers after → IsExactWorld after
+run_keeps_exact moves acts world after answers is runs =
+    let reached = moves acts world after answers is.state is.stands runs in
+    record { state = after_moves is.state reached.0; stands = reached.2; exact = moves_exact is.state reached.0 is.exact }

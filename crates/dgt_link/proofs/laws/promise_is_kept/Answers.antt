@@ -1,0 +1,11 @@
+use Rattle.dgt_link.proofs.Promises.{dump_asked, picture_keeps_coming, move-mode}
+use Rattle.dgt_link.proofs.laws.promise_is_kept.Goals as goal
+
+pub returns-clause-begun : goal.returns-clause-begun
+returns-clause-begun c = dump_asked
+
+pub returns-clause-kept : goal.returns-clause-kept
+returns-clause-kept c = picture_keeps_coming
+
+pub returns-clause-mode : goal.returns-clause-mode
+returns-clause-mode c = move-mode

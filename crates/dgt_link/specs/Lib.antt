@@ -1,0 +1,12 @@
+pub mod Act
+pub mod Line
+pub mod View
+pub mod Step
+pub mod Moving
+pub mod Move
+pub mod Machine
+pub mod Sound
+pub mod Promise
+pub mod Stands
+pub mod ActMoves
+pub mod Asked

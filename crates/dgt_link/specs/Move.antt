@@ -1,0 +1,30 @@
+-- What may happen to a board, to a host and to what is under way between them.
+use Rattle.std.specs.Prelude.{ℕ}
+use Rattle.dgt_values.specs.declared.pieces.Piece.{Piece}
+use Rattle.dgt_message.specs.ClockState.{ClockState}
+use Rattle.dgt_command.specs.Content.{CommandContent}
+
+pub data Move : Type 0 where
+  -- a piece is put on a square of the board, or taken from it
+  Change : (square : ℕ) (piece : Piece) → Move
+  -- the board's clock is handed in
+  HandClock : (clock : ClockState) → Move
+  -- the host sends a command
+  Ask : (command : CommandContent) → Move
+  -- the board takes the oldest command under way
+  Take : Move
+  -- the board sends the oldest reply that it owes
+  Reply : Move
+  -- the board sends one square that differs from what it told
+  Tell : (square : ℕ) → Move
+  -- the board sends its clock
+  TellClock : Move
+  -- the host hears the oldest message under way
+  Hear : Move
+
+-- a move by which the board sends something
+abbrev pub IsSending : Move → Type 0
+IsSending Move.Reply = Unit {0}
+IsSending (Move.Tell square) = Unit {0}
+IsSending Move.TellClock = Unit {0}
+IsSending _ = ⊥

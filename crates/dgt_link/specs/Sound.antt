@@ -1,0 +1,71 @@
+-- What holds between a board and its host whatever has happened.
+use Rattle.std.specs.Prelude.{◌≡◌, ◌⊎◌, List, [], ◌∷◌, ◌++◌, Option, Some, None, IsTrue, length, filter_map}
+use Rattle.dgt_values.specs.declared.pieces.Piece.{Piece}
+use Rattle.dgt_message.specs.ClockState.{ClockState}
+use Rattle.dgt_command.specs.Content.{EventContent}
+use Rattle.dgt_board.specs.declared.replies.Reply.{Reply}
+use Rattle.dgt_board.specs.State.{follows_clock}
+use Rattle.dgt_host.specs.declared.kind.Kind.{Kind}
+use Rattle.dgt_host.specs.Kind.{kind_of, kind_of_command}
+use Rattle.dgt_host.specs.Hearing.{clock_after_all, picture_after_all}
+use Rattle.dgt_link.specs.Machine.{State}
+
+-- ---- what comes to the host
+
+-- the kind of the message that a reply becomes
+abbrev pub kind_of_reply : Reply → Option Kind
+kind_of_reply Reply.Dump = Some Kind.Dump
+kind_of_reply Reply.Serial = Some Kind.Serial
+kind_of_reply Reply.Trademark = Some Kind.Trademark
+kind_of_reply Reply.Version = Some Kind.Version
+kind_of_reply Reply.Battery = Some Kind.Battery
+kind_of_reply _ = None
+
+-- the kind of the reply that a command under way asks for
+abbrev pub kind_of_event : EventContent → Option Kind
+kind_of_event (EventContent.Read command) = kind_of_command command
+kind_of_event _ = None
+
+-- the picture, and the host's clock, once all messages under way are heard
+abbrev pub coming_picture : State → Option (List Piece)
+coming_picture x = picture_after_all x.picture x.up
+
+abbrev pub coming_clock : State → Option ClockState
+coming_clock x = clock_after_all x.host_clock x.up
+
+-- the kinds of the messages under way, then of the replies owed, then of those asked for
+abbrev pub coming_kinds : State → List Kind
+coming_kinds x =
+    filter_map kind_of x.up
+    ++ (filter_map kind_of_reply x.board.owed ++ filter_map kind_of_event x.down)
+
+-- ---- sound and exact
+
+-- the first list is the second without some of its elements
+abbrev pub IsSubsequence : {X : Type 0} → List X → List X → Type 0
+IsSubsequence [] ys = Unit {0}
+IsSubsequence (x ∷ xs) [] = ⊥
+IsSubsequence (x ∷ xs) (y ∷ ys) = ((x ≡ y) × IsSubsequence xs ys) ⊎ IsSubsequence (x ∷ xs) ys
+
+abbrev pub IsUnknownOr : {X : Type 0} → Option X → Option X → Type 0
+IsUnknownOr known told = (known ≡ None) ⊎ (known ≡ told)
+
+pub record IsSound (x : State) : Type 0 where
+  -- both positions have 64 squares
+  pub squares : length x.board.squares ≡ 64
+  pub told_squares : length x.board.told_squares ≡ 64
+  -- the picture to come is unknown, or the squares as the board has told them
+  pub picture : IsUnknownOr (coming_picture x) (Some x.board.told_squares)
+  -- where the mode follows the clock, it is told or owed
+  pub followed : IsTrue (follows_clock x.board.mode) →
+      IsTrue x.board.times_owed ⊎ (x.board.told_clock ≡ Some x.board.clock)
+  -- the host's clock to come is unknown, or the clock as the board has told it
+  pub clock : IsUnknownOr (coming_clock x) x.board.told_clock
+  -- what is awaited is among the kinds to come, in their order
+  pub awaited : IsSubsequence x.awaited (coming_kinds x)
+
+-- and nothing more comes than the host knows of
+pub record IsExact (x : State) : Type 0 where
+  pub sound : IsSound x
+  pub clock : coming_clock x ≡ x.board.told_clock
+  pub awaited : x.awaited ≡ coming_kinds x

@@ -1,0 +1,32 @@
+-- A world as contracts see it: a board, a host, and the two lines of bytes between them.
+use Rattle.std.specs.Prelude.{◌≡◌, ℕ, List, [], None}
+use Rattle.dgt_values.specs.declared.pieces.Piece.{Piece}
+use Rattle.dgt_message.specs.ClockState.{ClockState}
+use Rattle.dgt_board.specs.Identity.{IdentityContent}
+use Rattle.dgt_board.specs.Sending.{next_message}
+use Rattle.dgt_board.specs.View.{BoardView, new_view}
+use Rattle.dgt_host.specs.Host.{HostView, new_host}
+use Rattle.dgt_link.specs.Line.{LineContents, line_of}
+
+pub record WorldView : Type 0 where
+  pub board : BoardView
+  pub host : HostView
+  pub up : LineContents  -- from the board to the host
+  pub down : LineContents  -- from the host to the board
+
+-- a board and a host just made, and two empty lines of these capacities
+abbrev pub new_world : List Piece → ClockState → IdentityContent → ℕ → ℕ → WorldView
+new_world position clock identity up down =
+    record {
+      board = new_view position clock identity;
+      host = new_host;
+      up = line_of [] up;
+      down = line_of [] down;
+    }
+
+-- both lines are empty, the host has no unread and the board no partial bytes, and the board has
+-- nothing to send
+abbrev pub IsQuietWorld : WorldView → Type 0
+IsQuietWorld world =
+    (world.up.bytes ≡ []) × (world.down.bytes ≡ []) × (world.host.unread ≡ [])
+    × (world.board.partial ≡ []) × (next_message world.board.state ≡ None)

@@ -1,0 +1,231 @@
+//! What holds of the machine of a board and its host, and of the worlds that stand for its states.
+//! Nothing here runs: each function stands for the facts that its contract states.
+
+ghost use Rattle.std.specs.Prelude.{◌≡◌, List, [], ◌∷◌, ◌++◌, All, Option, Some, None, length, IsTrue, IsSome};
+ghost use Rattle.dgt_values.specs.declared.pieces.Piece.{Piece};
+ghost use Rattle.dgt_message.specs.Content.{Content};
+ghost use Rattle.dgt_message.specs.ClockState.{ClockState};
+ghost use Rattle.dgt_command.specs.Content.{CommandContent};
+ghost use Rattle.dgt_decode.specs.Grammar.{Event};
+ghost use Rattle.dgt_board.specs.declared.replies.Reply.{Reply};
+ghost use Rattle.dgt_board.specs.Identity.{IdentityContent};
+ghost use Rattle.dgt_board.specs.State.{follows_clock, updates};
+ghost use Rattle.dgt_board.specs.Sending.{after_sending, next_message};
+ghost use Rattle.dgt_host.specs.declared.kind.Kind.{Kind};
+ghost use Rattle.dgt_host.specs.Kind.{kind_of};
+ghost use Rattle.dgt_host.specs.Hearing.{IsUnasked};
+ghost use Rattle.dgt_link.specs.Move.{IsSending, Move};
+ghost use Rattle.dgt_link.specs.Machine.{State, after_move, after_moves, new_state};
+ghost use Rattle.dgt_link.specs.Sound.{IsExact, IsSound, IsUnknownOr, coming_picture};
+ghost use Rattle.dgt_link.specs.Promise.{IsAsked, IsPromised, IsQuiet, PictureIsComing, coming_mode, commands_after_moves, mode_after};
+ghost use Rattle.dgt_host.specs.Hearing.{picture_after_all};
+ghost use Rattle.dgt_link.specs.Act.{ActContent};
+ghost use Rattle.dgt_link.specs.ActMoves.{StandsAfterRun, StandsAfterStep};
+ghost use Rattle.dgt_link.specs.Asked.{IsAskedBy, mode_after_step};
+ghost use Rattle.dgt_link.specs.declared.acts.Outcome.{Outcome};
+ghost use Rattle.dgt_link.specs.Stands.{IsExactWorld, IsWorld, StandsFor};
+ghost use Rattle.dgt_link.specs.Step.{Runs, Step};
+ghost use Rattle.dgt_link.specs.View.{IsQuietWorld, WorldView};
+
+/// A board and a host just made are sound, and exact.
+pub fn new_is_sound()
+    ensures sound { (position : List Piece) (clock : ClockState) (identity : IdentityContent) →
+        length position ≡ 64 → IsSound (new_state position clock identity) }
+    ensures exact { (position : List Piece) (clock : ClockState) (identity : IdentityContent) →
+        length position ≡ 64 → IsExact (new_state position clock identity) }
+{}
+
+/// Each move keeps a sound state sound, and an exact one exact.
+pub fn moves_keep()
+    ensures sound { (x : State) (move : Move) → IsSound x → IsSound (after_move x move) }
+    ensures exact { (x : State) (move : Move) → IsExact x → IsExact (after_move x move) }
+{}
+
+/// A dump that is sent makes the picture to come the squares as the board has told them, and no
+/// move makes it unknown.
+pub fn dump_is_told()
+    ensures told { (x : State) (later : List Reply) → x.board.owed ≡ Reply.Dump ∷ later →
+        coming_picture (after_move x Move.Reply)
+        ≡ Some (after_move x Move.Reply).board.told_squares }
+    ensures known { (x : State) (move : Move) →
+        IsSome (coming_picture x) → IsSome (coming_picture (after_move x move)) }
+{}
+
+/// In an exact state the next message to be heard that has a kind has the one that is awaited
+/// first, and is not unasked.
+pub fn answers_in_order()
+    ensures first { (x : State) (before later : List Content) (message : Content) (kind : Kind) →
+        IsExact x → x.up ≡ before ++ message ∷ later
+        → All (λ other. kind_of other ≡ None) before → kind_of message ≡ Some kind
+        → (others : List Kind) × (x.awaited ≡ kind ∷ others) }
+    ensures asked { (x : State) (later : List Content) (message : Content) →
+        IsExact x → x.up ≡ message ∷ later → ¬ (IsUnasked x.awaited (Some (Event.Message message))) }
+{}
+
+/// What a move makes of the promise: a dump that is asked for begins its first half, which no move
+/// ends. Its second half is that of the last command that sets a mode.
+pub fn promise_is_kept()
+    ensures begun { (x : State) → PictureIsComing (after_move x (Move.Ask CommandContent.Dump)) }
+    ensures kept { (x : State) (move : Move) →
+        PictureIsComing x → PictureIsComing (after_move x move) }
+    ensures mode { (x : State) (move : Move) →
+        coming_mode (after_move x move) ≡ mode_after (coming_mode x) move }
+{}
+
+/// Where a sound state is quiet, nothing is awaited, and a picture that is known is the board's
+/// squares if the mode asks for updates. In an exact one the host's clock is the board's if the
+/// mode follows it. Of a promised one the picture is known.
+pub fn at_quiet()
+    ensures awaited { (x : State) → IsSound x → IsQuiet x → x.awaited ≡ [] }
+    ensures picture { (x : State) → IsSound x → IsQuiet x → IsTrue (updates x.board.mode)
+        → IsUnknownOr x.picture (Some x.board.squares) }
+    ensures clock { (x : State) → IsExact x → IsQuiet x → IsTrue (follows_clock x.board.mode)
+        → x.host_clock ≡ Some x.board.clock }
+    ensures promised { (x : State) → IsSound x → IsPromised x → IsQuiet x
+        → x.picture ≡ Some x.board.squares }
+{}
+
+/// After any moves: sound stays sound and exact exact, and where the commands among them ask for
+/// the picture, it is promised, and is the board's squares once all is quiet.
+pub fn picture_after_moves()
+    ensures sound { (x : State) (moves : List Move) → IsSound x → IsSound (after_moves x moves) }
+    ensures exact { (x : State) (moves : List Move) → IsExact x → IsExact (after_moves x moves) }
+    ensures promised { (x : State) (moves : List Move) →
+        IsAsked (commands_after_moves [] moves) → IsPromised (after_moves x moves) }
+    ensures picture { (x : State) (moves : List Move) → IsSound x
+        → IsAsked (commands_after_moves [] moves) → IsQuiet (after_moves x moves)
+        → (after_moves x moves).picture ≡ Some (after_moves x moves).board.squares }
+{}
+
+/// What a board sends next is sent by one of the moves.
+pub fn next_is_sent()
+    ensures { (x : State) (message : Content) → next_message x.board ≡ Some message
+        → (move : Move) × IsSending move
+        × (after_move x move
+        ≡ record x { board = after_sending x.board message; up = x.up ++ message ∷ [] }) }
+{}
+
+/// A world stands for one state at most: the bytes alone say which messages and which commands are
+/// under way.
+pub fn worlds_stand_for_one_state()
+    ensures { (world : WorldView) (x y : State) → StandsFor world x → StandsFor world y → x ≡ y }
+{
+    dgt_message::laws::spelling_spells();
+    dgt_message::laws::spelled_once();
+    dgt_command::laws::one_division();
+}
+
+/// An act has one outcome and leaves one world, and so have acts in a row.
+pub fn acts_have_one_outcome()
+    ensures one { (act : ActContent) (world after other : WorldView) (answer also : Outcome) →
+        Step act world answer after → Step act world also other
+        → (answer ≡ also) × (after ≡ other) }
+    ensures all { (acts : List ActContent) (world after other : WorldView)
+        (answers others : List Outcome) →
+        Runs acts world answers after → Runs acts world others other
+        → (answers ≡ others) × (after ≡ other) }
+{
+    dgt_command::laws::one_division();
+}
+
+/// What an act leaves of a world that stands for a state stands for one to which the machine comes
+/// by the act's own move, or for a delivery by takes or hears alone. A run of acts is so a run of
+/// the machine.
+pub fn acts_are_moves()
+    ensures one { (act : ActContent) (world after : WorldView) (answer : Outcome) (x : State) →
+        StandsFor world x → Step act world answer after → StandsAfterStep act answer x after }
+    ensures all { (acts : List ActContent) (world after : WorldView) (answers : List Outcome)
+        (x : State) →
+        StandsFor world x → Runs acts world answers after → StandsAfterRun acts answers x after }
+{
+    dgt_decode::laws::events_append();
+    dgt_decode::laws::open_append();
+    dgt_decode::laws::quiet_held();
+    dgt_decode::laws::spelling_is_read();
+    dgt_command::laws::divisions_append();
+    dgt_command::laws::no_word_begins_another();
+}
+
+/// An act leaves a world for which there is a sound state, and of one that stands for an exact
+/// state one that does.
+pub fn acts_keep()
+    ensures sound { (act : ActContent) (world after : WorldView) (answer : Outcome) →
+        IsWorld world → Step act world answer after → IsWorld after }
+    ensures exact { (act : ActContent) (world after : WorldView) (answer : Outcome) →
+        IsExactWorld world → Step act world answer after → IsExactWorld after }
+    ensures exact_after_all { (acts : List ActContent) (world after : WorldView)
+        (answers : List Outcome) →
+        IsExactWorld world → Runs acts world answers after → IsExactWorld after }
+{
+    acts_are_moves();
+}
+
+/// What an act makes of the promise: a dump that is asked for begins its first half, which no act
+/// ends. Its second half is that of the last mode asked for.
+pub fn promise_by_acts()
+    ensures begun { (world after : WorldView) (x y : State) →
+        StandsFor world x → Step (ActContent.Host CommandContent.Dump) world Outcome.Done after
+        → StandsFor after y → PictureIsComing y }
+    ensures kept { (act : ActContent) (world after : WorldView) (answer : Outcome) (x y : State) →
+        StandsFor world x → Step act world answer after
+        → StandsFor after y → PictureIsComing x → PictureIsComing y }
+    ensures mode { (act : ActContent) (world after : WorldView) (answer : Outcome) (x y : State) →
+        StandsFor world x → Step act world answer after
+        → StandsFor after y → coming_mode y ≡ mode_after_step (coming_mode x) act answer }
+{
+    acts_are_moves();
+    worlds_stand_for_one_state();
+}
+
+/// In each world the picture, once all messages under way are heard, is unknown or the squares as
+/// the board has told them. A message of which the host has heard a part is one of them.
+///
+/// In a world that stands for an exact state the next message to be heard that has a kind has the
+/// one that is awaited first, and is not unasked.
+pub fn worlds_are_told()
+    ensures fold { (world : WorldView) (x : State) → StandsFor world x →
+        IsUnknownOr (picture_after_all world.host.picture x.up) (Some world.board.state.told_squares) }
+    ensures first { (world : WorldView) (x : State) (before later : List Content)
+        (message : Content) (kind : Kind) → StandsFor world x → IsExact x
+        → x.up ≡ before ++ message ∷ later
+        → All (λ other. kind_of other ≡ None) before → kind_of message ≡ Some kind
+        → (others : List Kind) × (world.host.awaited ≡ kind ∷ others) }
+    ensures asked { (world : WorldView) (x : State) (later : List Content) (message : Content) →
+        StandsFor world x → IsExact x → x.up ≡ message ∷ later
+        → ¬ (IsUnasked world.host.awaited (Some (Event.Message message))) }
+{}
+
+/// In a quiet world nothing is awaited, and a picture that is known is the board's squares if the
+/// mode asks for updates. If it follows the clock, and the world stands for an exact state, the
+/// host's clock is the board's. Where it stands for a promised state the picture is known.
+pub fn at_quiet_world()
+    ensures awaited { (world : WorldView) (x : State) → StandsFor world x → IsQuietWorld world
+        → world.host.awaited ≡ [] }
+    ensures told { (world : WorldView) (x : State) → StandsFor world x → IsQuietWorld world
+        → IsTrue (updates world.board.state.mode)
+        → IsUnknownOr world.host.picture (Some world.board.state.squares) }
+    ensures clock { (world : WorldView) (x : State) → StandsFor world x → IsQuietWorld world
+        → IsExact x → IsTrue (follows_clock world.board.state.mode)
+        → world.host.clock ≡ Some world.board.state.clock }
+    ensures picture { (world : WorldView) (x : State) → StandsFor world x → IsQuietWorld world
+        → IsPromised x → world.host.picture ≡ Some world.board.state.squares }
+{
+    dgt_command::laws::one_division();
+}
+
+/// Where acts that are done ask for a dump, and the last of them that asks for a mode asks for
+/// updates, the world after them stands for a promised state, and once it is quiet the host's
+/// picture is the board's squares.
+pub fn picture_after_acts()
+    ensures promised { (acts : List ActContent) (world after : WorldView)
+        (answers : List Outcome) (x : State) →
+        StandsFor world x → Runs acts world answers after → IsAskedBy acts answers
+        → (y : State) × StandsFor after y × IsPromised y }
+    ensures picture { (acts : List ActContent) (world after : WorldView)
+        (answers : List Outcome) (x : State) →
+        StandsFor world x → Runs acts world answers after → IsAskedBy acts answers
+        → IsQuietWorld after → after.host.picture ≡ Some after.board.state.squares }
+{
+    acts_are_moves();
+    at_quiet_world();
+}

@@ -1,0 +1,108 @@
+//! Bytes go into the lines and out of them.
+
+ghost use Rattle.std.specs.Prelude.{◌≡◌, ◌<◌, length, take};
+ghost use Rattle.dgt_command.specs.Content.{command_content};
+ghost use Rattle.dgt_board.specs.Sending.{next_message};
+ghost use Rattle.dgt_board.specs.View.{HasTaken};
+ghost use Rattle.dgt_host.specs.Host.{host_after};
+ghost use Rattle.dgt_link.specs.Line.{without_first};
+ghost use Rattle.dgt_link.specs.Moving.{AsksInto, DeliversDown, DeliversUp, SendsInto};
+
+use crate::acts::Outcome;
+use crate::line::Line;
+use dgt_board::{Board, MAX_OWED, Polled};
+use dgt_command::{Command, MAX_WORD};
+use dgt_host::{Host, SendFault};
+
+/// The most bytes of a message that a board sends: a dump.
+pub const MAX_SENT: usize = 67;
+
+/// The host sends a command into the line.
+pub fn ask(host: &mut Host, line: &mut Line, command: &Command<'_>) -> Outcome
+    ensures { AsksInto result (command_content command.now) host.old line.old host.new line.new }
+{
+    let mut bytes = [0; MAX_WORD];
+    let room = bytes.len().min(line.room());
+    match host.send(command, &mut bytes[..room]) {
+        Ok(count) => {
+            line.push(&bytes[..count]);
+            Outcome::Done
+        }
+        Err(SendFault::TooMany) => Outcome::TooMany,
+        Err(SendFault::NoRoom { .. }) => Outcome::NoRoom,
+    }
+}
+
+/// The board sends its next message into the line.
+pub fn send_next(board: &mut Board, line: &mut Line) -> Outcome
+    ensures { SendsInto result (next_message board.old.state) board.old line.old board.new line.new }
+{
+    let mut bytes = [0; MAX_SENT];
+    let room = bytes.len().min(line.room());
+    match board.poll(&mut bytes[..room]) {
+        Polled::Wrote(count) => {
+            line.push(&bytes[..count]);
+            Outcome::Done
+        }
+        Polled::NeedRoom(_) => Outcome::NoRoom,
+        Polled::Nothing => Outcome::Nothing,
+    }
+}
+
+// The board takes the line's first byte.
+fn take_byte(board: &mut Board, line: &mut Line)
+    requires byte { 0 < length line.old.bytes }
+    requires room { length board.old.state.owed < MAX_OWED }
+    ensures taken { HasTaken board.old (take 1 line.old.bytes) board.new }
+    ensures left { line.new ≡ without_first line.old 1 }
+{
+    if let Some(byte) = line.pop() {
+        let _taken = board.take(&[byte]);
+    }
+}
+
+// The host hears the line's first byte.
+fn hear_byte(host: &mut Host, line: &mut Line)
+    requires { 0 < length line.old.bytes }
+    ensures heard { host.new ≡ host_after host.old (take 1 line.old.bytes) }
+    ensures left { line.new ≡ without_first line.old 1 }
+{
+    if let Some(byte) = line.pop() {
+        host.hear(&[byte]);
+    }
+}
+
+/// The board takes bytes of the line, one by one, until so many are taken, none is left or it owes
+/// as many replies as it can.
+pub fn to_board(board: &mut Board, line: &mut Line, count: usize) -> Outcome
+    ensures { DeliversDown result count board.old line.old board.new line.new }
+{
+    dgt_command::laws::divisions_append();
+    if count == 0 || line.is_empty() {
+        return Outcome::Nothing;
+    }
+    if board.owed_len() >= MAX_OWED {
+        return Outcome::Busy;
+    }
+    let most = count.min(line.len());
+    let mut moved = 0;
+    while moved < most && board.owed_len() < MAX_OWED {
+        take_byte(board, line);
+        moved += 1;
+    }
+    Outcome::Done
+}
+
+/// The host hears bytes of the line, one by one, until so many are heard or none is left.
+pub fn to_host(host: &mut Host, line: &mut Line, count: usize) -> Outcome
+    ensures { DeliversUp result count host.old line.old host.new line.new }
+{
+    dgt_host::laws::heard_in_pieces();
+    if count == 0 || line.is_empty() {
+        return Outcome::Nothing;
+    }
+    for _moved in 0..count.min(line.len()) {
+        hear_byte(host, line);
+    }
+    Outcome::Done
+}

@@ -1,0 +1,248 @@
+//! Worlds, by the worked conversations.
+
+use crate::Act::*;
+use crate::Outcome::*;
+use crate::{Act, Outcome, World, WorldFault};
+use dgt_board::{Identity, Mode};
+use dgt_command::Command;
+use dgt_message::{Clock, Reading, Status, Times};
+use dgt_values::{Body, Piece, Position, SevenBit, Square};
+use std::alloc::Global;
+use std::process::Abort;
+use std::test::Fail;
+
+const START: &str = "rnbqkbnr/pppppppp/8/8/8/8/PPPPPPPP/RNBQKBNR";
+
+const E4_PLAYED: &str = "rnbqkbnr/pppppppp/8/8/4P3/8/PPPP1PPP/RNBQKBNR";
+
+// Hours, minutes and seconds of both, with this status.
+fn times(first: [u8; 3], second: [u8; 3], status: u8) -> Result<Clock, Fail> {
+    let first = Reading::new(first[0], first[1], first[2], 0)?;
+    let second = Reading::new(second[0], second[1], second[2], 0)?;
+    let status = Status::new(SevenBit::try_from(status)?);
+    Ok(Clock::Times(Times::new(first, second, status)?))
+}
+
+fn identity() -> Result<Identity, Fail> {
+    let zero = SevenBit::try_from(0x30)?;
+    let one = SevenBit::try_from(0x31)?;
+    Ok(Identity::new(
+        [zero, zero, zero, zero, one],
+        Body::new(b"SIMULATED BOARD")?,
+        SevenBit::try_from(1)?,
+        SevenBit::try_from(3)?,
+        Body::new(&[0x64])?,
+        0x14,
+    )?)
+}
+
+// A world with the starting position, and lines of these capacities.
+fn world_of(alloc: Global, up: usize, down: usize) -> Result<Result<World, WorldFault>, Fail> {
+    let clock = times([0; 3], [0; 3], 0)?;
+    Ok(World::new(alloc, Position::start(), clock, identity()?, up, down))
+}
+
+fn fault_of(alloc: Global, up: usize, down: usize) -> Result<Option<WorldFault>, Fail> {
+    Ok(world_of(alloc, up, down)?.err())
+}
+
+// What is done to a world in turn, and what comes of it.
+fn play(rt: &impl Abort, world: &mut World, steps: &[(Act<'_>, Outcome)]) {
+    for (turn, (act, outcome)) in steps.iter().enumerate() {
+        assert_eq!(rt; world.step(*act), *outcome, "turn {turn}");
+    }
+}
+
+// Whether all is quiet, and both the board and the host's picture have this placement.
+fn rests_at(world: &World, placement: &str) -> Result<bool, Fail> {
+    let position = Position::parse_placement(placement)?;
+    Ok(
+        world.quiet()
+            && *world.board().position() == position
+            && world.host().picture() == Some(&position),
+    )
+}
+
+#[test]
+fn world_is_made(rt: HostRuntime) -> Result<(), Fail> {
+    let world = world_of(rt.alloc(), 67, 257)??;
+    assert!(rt; world.quiet());
+    assert!(rt; world.host().picture().is_none());
+    assert!(rt; *world.board().position() == Position::start());
+    assert_eq!(rt; (world.up_len(), world.down_len()), (0, 0));
+    Ok(())
+}
+
+#[test]
+fn small_lines_and_refused_memory(rt: HostRuntime) -> Result<(), Fail> {
+    let much = 1 << 62;
+    for (up, down, fault) in [
+        (66, 257, WorldFault::LineTooSmall),
+        (67, 256, WorldFault::LineTooSmall),
+        (much, 256, WorldFault::LineTooSmall),
+        (66, much, WorldFault::LineTooSmall),
+        (much, 257, WorldFault::OutOfMemory),
+        (67, much, WorldFault::OutOfMemory),
+        (much, much, WorldFault::OutOfMemory),
+    ] {
+        assert_eq!(rt;
+            fault_of(rt.alloc(), up, down)?,
+            Some(fault),
+            "{up} and {down}"
+        );
+    }
+    Ok(())
+}
+
+#[test]
+fn a_board_that_owes_eight_replies_is_busy(rt: HostRuntime) -> Result<(), Fail> {
+    let mut world = world_of(rt.alloc(), 67, 257)??;
+    play(&rt, &mut world, &[(Host(Command::Version), Done); 16]);
+    play(
+        &rt,
+        &mut world,
+        &[(Host(Command::Version), TooMany), (ToBoard(16), Done)],
+    );
+    assert_eq!(rt; world.down_len(), 8);
+    play(&rt, &mut world, &[(ToBoard(1), Busy)]);
+    assert_eq!(rt; (world.up_len(), world.down_len()), (0, 8));
+    assert_eq!(rt; world.board().owed_len(), 8);
+    play(&rt, &mut world, &[(BoardSend, Done)]);
+    assert_eq!(rt; world.up_len(), 5);
+    play(&rt, &mut world, &[(ToBoard(1), Done)]);
+    assert_eq!(rt; world.down_len(), 7);
+    Ok(())
+}
+
+#[test]
+fn a_piece_put_back_is_not_told(rt: HostRuntime) -> Result<(), Fail> {
+    let mut world = world_of(rt.alloc(), 67, 257)??;
+    let e2 = Square::parse("e2")?;
+    let acts = [
+        Host(Command::UpdateBoard),
+        Host(Command::Dump),
+        ToBoard(2),
+        BoardSend,
+        ToHost(67),
+        Change(e2, Piece::Empty),
+        Change(e2, Piece::WhitePawn),
+    ];
+    assert_eq!(rt; world.run(&acts), 7);
+    assert_eq!(rt; world.run(&[BoardSend]), 0);
+    assert!(rt; rests_at(&world, START)?);
+    Ok(())
+}
+
+#[test]
+fn an_up_line_has_room_for_one_dump(rt: HostRuntime) -> Result<(), Fail> {
+    let mut world = world_of(rt.alloc(), 67, 257)??;
+    play(
+        &rt,
+        &mut world,
+        &[
+            (Host(Command::Dump), Done),
+            (Host(Command::Dump), Done),
+            (ToBoard(2), Done),
+            (BoardSend, Done),
+            (BoardSend, NoRoom),
+        ],
+    );
+    assert_eq!(rt; world.up_len(), 67);
+    assert_eq!(rt; world.board().owed_len(), 1);
+    play(&rt, &mut world, &[(ToHost(67), Done), (BoardSend, Done)]);
+    assert_eq!(rt; world.up_len(), 67);
+    Ok(())
+}
+
+#[test]
+fn changes_in_idle_mode_are_told_later(rt: HostRuntime) -> Result<(), Fail> {
+    let mut world = world_of(rt.alloc(), 1024, 1024)??;
+    let (e2, e4) = (Square::parse("e2")?, Square::parse("e4")?);
+    play(
+        &rt,
+        &mut world,
+        &[
+            (Host(Command::Dump), Done),
+            (ToBoard(1), Done),
+            (BoardSend, Done),
+            (ToHost(67), Done),
+            (Change(e2, Piece::Empty), Done),
+            (Change(e4, Piece::WhitePawn), Done),
+            (BoardSend, Nothing),
+        ],
+    );
+    assert!(rt; world.host().picture() == Some(&Position::start()));
+    assert!(rt; world.board().mode() == Mode::Idle);
+    play(
+        &rt,
+        &mut world,
+        &[
+            (Host(Command::UpdateBoard), Done),
+            (ToBoard(1), Done),
+            (BoardSend, Done),
+            (BoardSend, Done),
+            (BoardSend, Nothing),
+        ],
+    );
+    assert_eq!(rt; world.up_len(), 10);
+    play(&rt, &mut world, &[(ToHost(10), Done)]);
+    assert!(rt; rests_at(&world, E4_PLAYED)?);
+    assert!(rt; world.host().clock().is_none());
+    Ok(())
+}
+
+#[test]
+fn a_message_heard_in_two_parts(rt: HostRuntime) -> Result<(), Fail> {
+    let mut world = world_of(rt.alloc(), 67, 257)??;
+    play(
+        &rt,
+        &mut world,
+        &[
+            (Host(Command::Dump), Done),
+            (ToBoard(1), Done),
+            (BoardSend, Done),
+            (ToHost(3), Done),
+        ],
+    );
+    assert_eq!(rt; (world.host().unread(), world.up_len()), (3, 64));
+    assert!(rt; !world.quiet());
+    play(
+        &rt,
+        &mut world,
+        &[
+            (ToHost(100), Done),
+            (ToHost(1), Nothing),
+            (ToHost(0), Nothing),
+            (ToBoard(0), Nothing),
+        ],
+    );
+    assert!(rt; rests_at(&world, START)?);
+    Ok(())
+}
+
+#[test]
+fn a_clock_is_told_where_it_differs(rt: HostRuntime) -> Result<(), Fail> {
+    let mut world = world_of(rt.alloc(), 67, 257)??;
+    let zeros = times([0; 3], [0; 3], 0)?;
+    let running = times([1, 30, 0], [1, 29, 55], 0x11)?;
+    play(
+        &rt,
+        &mut world,
+        &[
+            (Host(Command::UpdateNice), Done),
+            (ToBoard(1), Done),
+            (BoardSend, Done),
+            (ClockRead(running), Done),
+            (ClockRead(zeros), Done),
+            (BoardSend, Nothing),
+            (ClockRead(running), Done),
+            (BoardSend, Done),
+            (BoardSend, Nothing),
+            (ToHost(20), Done),
+        ],
+    );
+    assert!(rt; world.quiet());
+    assert!(rt; world.host().picture().is_none());
+    assert!(rt; world.host().clock() == Some(&running));
+    Ok(())
+}

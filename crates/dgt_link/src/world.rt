@@ -1,0 +1,295 @@
+//! The world: a board, a host, and the two lines between them.
+
+ghost use Rattle.std.specs.Prelude.{◌≡◌, ◌≢◌, ◌↔◌, ◌⊎◌, ◌<◌, ◌≤◌, List, [], ◌∷◌, ◌++◌, All, Some, None, IsTrue, IfOk, IsErrOf, map, length};
+ghost use Rattle.dgt_values.specs.Pieces.{pieces_of};
+ghost use Rattle.dgt_message.specs.Content.{Content};
+ghost use Rattle.dgt_message.specs.ClockState.{clock_seen};
+ghost use Rattle.dgt_command.specs.Content.{CommandContent};
+ghost use Rattle.dgt_board.specs.State.{follows_clock, updates};
+ghost use Rattle.dgt_host.specs.declared.kind.Kind.{Kind};
+ghost use Rattle.dgt_host.specs.Hearing.{picture_after_all};
+ghost use Rattle.dgt_host.specs.Kind.{kind_of};
+ghost use Rattle.dgt_link.specs.Act.{ActContent, act_content};
+ghost use Rattle.dgt_link.specs.ActMoves.{StandsAfterRun, StandsAfterStep};
+ghost use Rattle.dgt_link.specs.Asked.{IsAskedBy, mode_after_step};
+ghost use Rattle.dgt_link.specs.Machine.{State, new_state};
+ghost use Rattle.dgt_link.specs.Promise.{IsPromised, PictureIsComing, coming_mode};
+ghost use Rattle.dgt_link.specs.Sound.{IsExact, IsSound, IsUnknownOr};
+ghost use Rattle.dgt_link.specs.Stands.{IsExactWorld, StandsFor};
+ghost use Rattle.dgt_link.specs.Step.{Runs, Step, done_count};
+ghost use Rattle.dgt_link.specs.View.{IsQuietWorld, new_world};
+
+use crate::acts::{Act, Outcome};
+use crate::laws;
+use crate::line::Line;
+use crate::moving::{ask, send_next, to_board, to_host};
+use dgt_board::{Board, Identity};
+use dgt_host::Host;
+use dgt_message::Clock;
+use dgt_values::Position;
+use std::alloc::Global;
+use std::marker::Model;
+use thiserror::Error;
+
+/// The least capacity of the line from the board to the host: one dump.
+pub const MIN_UP: usize = 67;
+
+/// The least capacity of the line from the host to the board: one longest command.
+pub const MIN_DOWN: usize = 257;
+
+/// Why a world was not made.
+#[derive(Clone, Copy, Debug, PartialEq, Eq, Error)]
+pub enum WorldFault {
+    /// The up line would have fewer than 67 bytes, or the down line fewer than 257.
+    #[error("a line is too small")]
+    LineTooSmall,
+    /// The memory of a line was refused.
+    #[error("out of memory")]
+    OutOfMemory,
+}
+
+/// A board, a host and the two lines between them. No call but [`World::new`] takes memory.
+///
+/// Contracts see both ends, and for each line its bytes and its capacity. There is always a sound
+/// state of the machine for which the world stands, and only one.
+#[derive(Drop)]
+pub struct World {
+    board: Board,
+    host: Host,
+    up: Line,
+    down: Line,
+}
+
+impl Model for World {
+    ghost use Rattle.dgt_link.specs.Stands.{IsWorld};
+    ghost use Rattle.dgt_link.specs.View.{WorldView};
+
+    ghost Value = { WorldView };
+
+    ghost view = { λ world. record {
+      board = world.board;
+      host = world.host;
+      up = world.up;
+      down = world.down;
+    } };
+
+    ghost invariant = { λ world. IsWorld (record {
+      board = world.board;
+      host = world.host;
+      up = world.up;
+      down = world.down;
+    }) };
+}
+
+// One, if the act was done.
+fn count(outcome: Outcome) -> usize
+    ensures count { result ≡ done_count (outcome ∷ []) }
+    ensures at_most { result ≤ 1 }
+{
+    match outcome {
+        Outcome::Done => 1,
+        Outcome::Nothing | Outcome::NoRoom | Outcome::Busy | Outcome::TooMany => 0,
+    }
+}
+
+impl World {
+    /// A new board, a new host and two empty lines of these capacities, in bytes.
+    ///
+    /// First `LineTooSmall`, where `up` is below `MIN_UP` or `down` below `MIN_DOWN`. Then
+    /// `OutOfMemory`, where the memory of a line was refused; none is kept then.
+    pub fn new(
+        alloc: Global,
+        position: Position,
+        clock: Clock,
+        identity: Identity,
+        up: usize,
+        down: usize,
+    ) -> Result<Self, WorldFault>
+        ensures too_small { IsErrOf result WorldFault.LineTooSmall ↔ ((up < MIN_UP) ⊎ (down < MIN_DOWN)) }
+        ensures made { IfOk result (λ world.
+            world ≡ new_world (pieces_of position) (clock_seen clock) identity up down) }
+        ensures stands { IfOk result (λ world.
+            StandsFor world (new_state (pieces_of position) (clock_seen clock) identity)) }
+        ensures exact { IfOk result (λ world. IsExactWorld world) }
+    {
+        if up < MIN_UP || down < MIN_DOWN {
+            return Err(WorldFault::LineTooSmall);
+        }
+        let up = Line::new(alloc, up).map_err(|_| WorldFault::OutOfMemory)?;
+        let down = Line::new(alloc, down).map_err(|_| WorldFault::OutOfMemory)?;
+        Ok(World {
+            board: Board::new(position, clock, identity),
+            host: Host::new(),
+            up,
+            down,
+        })
+    }
+
+    fn act(&mut self, act: Act<'_>) -> Outcome
+        ensures { Step (act_content act.entry) self.old result self.new }
+    {
+        laws::acts_keep();
+        match act {
+            Act::Change(square, piece) => {
+                self.board.change(square, piece);
+                Outcome::Done
+            }
+            Act::ClockRead(clock) => {
+                self.board.hand_clock(clock);
+                Outcome::Done
+            }
+            Act::Host(command) => ask(&mut self.host, &mut self.down, &command),
+            Act::BoardSend => send_next(&mut self.board, &mut self.up),
+            Act::ToBoard(count) => to_board(&mut self.board, &mut self.down, count),
+            Act::ToHost(count) => to_host(&mut self.host, &mut self.up, count),
+        }
+    }
+
+    /// Does one act, and answers what came of it. What isn't `Done` changes nothing.
+    ///
+    /// `Change` and `ClockRead` are always `Done`. `Host` is first `TooMany`, where the reply would
+    /// have to be awaited and 16 are awaited, then `NoRoom`, where the down line has too little room
+    /// for the command. `BoardSend` is first `Nothing`, where the board has nothing to send, then
+    /// `NoRoom`, where the up line has too little room for the message. `ToBoard` is first
+    /// `Nothing`, where the count is 0 or the down line is empty, then `Busy`, where the board owes
+    /// 8 replies. `ToHost` is `Nothing` where the count is 0 or the up line is empty.
+    pub fn step(&mut self, act: Act<'_>) -> Outcome
+        ensures exact { Step (act_content act.entry) self.old result self.new }
+        ensures unchanged { result ≢ Outcome.Done → self.new ≡ self.old }
+        ensures moves { (x : State) → StandsFor self.old x →
+            StandsAfterStep (act_content act.entry) result x self.new }
+        ensures sound { (y : State) × StandsFor self.new y × IsSound y }
+        ensures stays_exact { IsExactWorld self.old → IsExactWorld self.new }
+        ensures begun { act_content act.entry ≡ ActContent.Host CommandContent.Dump →
+            result ≡ Outcome.Done → (y : State) → StandsFor self.new y → PictureIsComing y }
+        ensures kept { (x y : State) → StandsFor self.old x → StandsFor self.new y →
+            PictureIsComing x → PictureIsComing y }
+        ensures mode { (x y : State) → StandsFor self.old x → StandsFor self.new y →
+            coming_mode y ≡ mode_after_step (coming_mode x) (act_content act.entry) result }
+    {
+        laws::acts_are_moves();
+        laws::acts_keep();
+        laws::promise_by_acts();
+        self.stands();
+        self.act(act)
+    }
+
+    /// Does all acts in order, and answers how many were `Done`.
+    ///
+    /// Where those that were done ask for a dump, and the last of them that asks for a mode asks for
+    /// updates, the host's picture is the board's position once the world is quiet.
+    pub fn run(&mut self, acts: &[Act<'_>]) -> usize
+        ensures exact { (outcomes : List Outcome) × (result ≡ done_count outcomes)
+            × Runs (map act_content acts.now) self.old outcomes self.new }
+        ensures moves { (outcomes : List Outcome) →
+            Runs (map act_content acts.now) self.old outcomes self.new →
+            (x : State) → StandsFor self.old x →
+            StandsAfterRun (map act_content acts.now) outcomes x self.new }
+        ensures stays_exact { IsExactWorld self.old → IsExactWorld self.new }
+        ensures promised { (outcomes : List Outcome) →
+            Runs (map act_content acts.now) self.old outcomes self.new →
+            IsAskedBy (map act_content acts.now) outcomes →
+            (y : State) × StandsFor self.new y × IsPromised y }
+        ensures picture { (outcomes : List Outcome) →
+            Runs (map act_content acts.now) self.old outcomes self.new →
+            IsAskedBy (map act_content acts.now) outcomes → IsQuietWorld self.new →
+            self.new.host.picture ≡ Some self.new.board.state.squares }
+    {
+        laws::acts_are_moves();
+        laws::acts_keep();
+        laws::picture_after_acts();
+        self.stands();
+        self.act_all(acts)
+    }
+
+    fn act_all(&mut self, acts: &[Act<'_>]) -> usize
+        ensures { (outcomes : List Outcome) × (result ≡ done_count outcomes)
+            × Runs (map act_content acts.now) self.old outcomes self.new }
+    {
+        let mut done = 0;
+        for act in acts {
+            done += count(self.act(*act));
+        }
+        done
+    }
+
+    // A world stands for a state of the machine.
+    fn stands(&self)
+        ensures { (x : State) × StandsFor self.now x }
+    {
+        self.up.is_empty();
+    }
+
+    /// Whether both lines are empty, the host has nothing unread, the board has no unfinished
+    /// command and owes nothing.
+    ///
+    /// If it is, the host awaits nothing, and its picture is unknown or the board's position where
+    /// the board's mode asks for updates. Where a dump was asked for as well, by an act that was
+    /// done, the picture is known.
+    pub fn quiet(&self) -> bool
+        ensures quiet { IsTrue result ↔ IsQuietWorld self.now }
+        ensures told { IsTrue result → IsTrue (updates self.now.board.state.mode) →
+            IsUnknownOr self.now.host.picture (Some self.now.board.state.squares) }
+        ensures clock { IsTrue result → IsExactWorld self.now →
+            IsTrue (follows_clock self.now.board.state.mode) →
+            self.now.host.clock ≡ Some self.now.board.state.clock }
+        ensures awaited { IsTrue result → self.now.host.awaited ≡ [] }
+        ensures picture { IsTrue result → (x : State) → StandsFor self.now x → IsPromised x →
+            self.now.host.picture ≡ Some self.now.board.state.squares }
+        ensures stands { (x : State) × StandsFor self.now x }
+    {
+        laws::at_quiet_world();
+        self.stands();
+        self.is_quiet()
+    }
+
+    fn is_quiet(&self) -> bool
+        ensures { IsTrue result ↔ IsQuietWorld self.now }
+    {
+        self.up.is_empty()
+            && self.down.is_empty()
+            && self.host.unread() == 0
+            && self.board.partial() == 0
+            && !self.board.owes()
+    }
+
+    /// The board.
+    pub fn board(&self) -> &Board
+        ensures { result.now ≡ self.now.board }
+    {
+        &self.board
+    }
+
+    /// The host. Its picture, once it has heard all messages under way, is unknown or the squares as
+    /// the board has told them; a message that it has heard a part of is one of them.
+    pub fn host(&self) -> &Host
+        ensures host { result.now ≡ self.now.host }
+        ensures fold { (x : State) → StandsFor self.now x →
+            IsUnknownOr (picture_after_all self.now.host.picture x.up)
+            (Some self.now.board.state.told_squares) }
+        ensures first { (x : State) (before later : List Content) (message : Content)
+            (kind : Kind) → StandsFor self.now x → IsExact x →
+            x.up ≡ before ++ message ∷ later →
+            All (λ other. kind_of other ≡ None) before → kind_of message ≡ Some kind →
+            (others : List Kind) × (self.now.host.awaited ≡ kind ∷ others) }
+        ensures stands { (x : State) × StandsFor self.now x }
+    {
+        laws::worlds_are_told();
+        self.stands();
+        &self.host
+    }
+
+    /// How many bytes are in the line from the board to the host.
+    pub fn up_len(&self) -> usize
+        ensures { result ≡ length self.now.up.bytes }
+    {
+        self.up.len()
+    }
+
+    /// How many bytes are in the line from the host to the board.
+    pub fn down_len(&self) -> usize
+        ensures { result ≡ length self.now.down.bytes }
+    {
+        self.down.len()
+    }
+}
