@@ -1,0 +1,20 @@
+use Rattle.std.proofs.Common.{arith, ◌∙◌, refl, subst}
+use Rattle.std.proofs.lemmas.List.{take_all}
+use Rattle.dgt_text.specs.Runs.{Wrote}
+use Rattle.dgt_text.proofs.RunLemmas.{appends_more, stopped_at}
+use Rattle.dgt_text.proofs.gathering.put.Goals as goal
+
+pub loop-at-preserved : goal.loop-at-preserved
+loop-at-preserved g c = record {
+  bound = omega (arith, c.in-Ok.ensures.bound);
+  output = record {
+    appends = appends_more _ _ _ c.args.bytes.now c.loop-at.at c.in-Ok.taken c.loop-at.invariant.output.appends c.in-Ok.ensures.bytes;
+    kept = c.in-Ok.ensures.not_refused ∙ c.loop-at.invariant.output.kept;
+  };
+}
+
+pub returns-in-Err : goal.returns-in-Err
+returns-in-Err g c = (refl, stopped_at _ _ _ _ _ _ _ c.loop-at.invariant.output c.in-Err.ensures.bytes c.in-Err.ensures.refused)
+
+pub returns : goal.returns
+returns g c = subst (λ l. Wrote g.W.Sink.written g.W.Sink.failed c.args.writer.now c.loop-at.writer l) (take_all _ _ c.loop-at-test.false) c.loop-at.invariant.output

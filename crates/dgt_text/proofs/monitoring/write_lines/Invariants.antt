@@ -1,0 +1,15 @@
+use Rattle.std.proofs.Common.{◌≤◌, ◌-◌, ◌++◌, ◌≡◌, length, take, []}
+use Rattle.dgt_text.specs.Gathering.{Gathered}
+use Rattle.dgt_text.specs.Monitoring.{lines_after}
+use Rattle.dgt_decode.specs.Grammar.{open_message}
+use Rattle.dgt_text.proofs.monitoring.write_lines.Given as goal
+
+abbrev pub invariant-loop-at : goal.invariant-loop-at
+invariant-loop-at g l = record {
+  bound : l.at ≤ length l.piece;
+  output : Gathered g.W.Sink.written g.W.Sink.failed [] l.outgoing l.fn.writer l.writer (lines_after l.fn.decoder l.offset (take l.at l.piece));
+  decoded : l.decoder ≡ open_message (l.fn.decoder ++ take l.at l.piece);
+}
+
+abbrev pub decreases-loop-at : goal.decreases-loop-at
+decreases-loop-at g l = length l.piece - l.at

@@ -1,0 +1,26 @@
+-- What a device shows of itself.
+use Rattle.std.specs.Prelude.{◌≡◌, ℕ, Bool, false, true}
+use Rattle.dgt_text.specs.declared.std_device.Device.{Device}
+
+-- a call was refused
+abbrev pub device_failed : {T : Type 0} → Device T → Bool
+device_failed device = device.failed
+
+-- a read told the end
+abbrev pub device_ended : {T : Type 0} → Device T → Bool
+device_ended device = device.ended
+
+-- the reads so far
+abbrev pub device_reads : {T : Type 0} → Device T → ℕ
+device_reads device = device.reads
+
+-- no byte was written since a flush that succeeded
+abbrev pub device_flushed : {T : Type 0} → Device T → Bool
+device_flushed device = device.flushed
+
+-- as new: nothing was refused, read or written
+pub record IsNewDevice {T : Type 0} (device : Device T) : Type 0 where
+  pub not_failed : device_failed device ≡ false
+  pub not_ended : device_ended device ≡ false
+  pub unread : device_reads device ≡ 0
+  pub flushed : device_flushed device ≡ true

@@ -1,0 +1,132 @@
+//! The lines of events.
+
+ghost use Rattle.std.specs.Prelude.{◌≡◌, ◌+◌, ◌%◌, ◌<◌, ◌≤◌, ◌++◌, [], ◌∷◌, length};
+ghost use Rattle.hex.specs.Hex.{encode_lower};
+ghost use Rattle.dgt_decode.specs.Feeding.{event_content};
+ghost use Rattle.dgt_text.specs.Gathering.{Gathers};
+ghost use Rattle.dgt_text.specs.Lines.{bytes_text, event_line, line, offset_text, padded_decimal, unfinished_text};
+ghost use Rattle.dgt_text.specs.Runs.{Writes};
+
+use crate::ends::Sink;
+use crate::faults::RunFault;
+use crate::gathering::{LINE_ROOM, Outgoing, ROOM, hex_digits};
+use crate::wording::push_event;
+use dgt_decode::Event;
+
+// Adds an offset, and a space.
+fn push_offset(text: &mut Outgoing, offset: u64)
+    requires { length text.old + LINE_ROOM ≤ ROOM }
+    ensures text { text.new ≡ text.old ++ (offset_text offset ++ 32 ∷ []) }
+    ensures room { length text.new + 100 ≤ ROOM }
+{
+    if offset < 100_000_000 {
+        text.push(&eight_digits(offset as u32));
+    } else {
+        text.push_decimal(offset, 8);
+    }
+    text.push(b" ");
+}
+
+// Eight digits, each by itself: this is faster than one after another.
+fn eight_digits(number: u32) -> [u8; 8]
+    requires { number < 100000000 }
+    ensures { result ≡ padded_decimal 8 number }
+{
+    [
+        last_digit(number / 10_000_000),
+        last_digit(number / 1_000_000),
+        last_digit(number / 100_000),
+        last_digit(number / 10_000),
+        last_digit(number / 1000),
+        last_digit(number / 100),
+        last_digit(number / 10),
+        last_digit(number),
+    ]
+}
+
+fn last_digit(number: u32) -> u8
+    ensures { result ≡ 48 + number % 10 }
+{
+    b'0' + (number % 10) as u8
+}
+
+fn put_bytes<W: Sink>(outgoing: &mut Outgoing, writer: &mut W, bytes: &[u8]) -> Result<(), RunFault>
+    ensures { Gathers W.written W.failed outgoing.old outgoing.new writer.old writer.new result
+        (bytes_text bytes.now) }
+{
+    if bytes.is_empty() {
+        return outgoing.add(writer, b"-");
+    }
+    put_digits(outgoing, writer, bytes)
+}
+
+fn put_digits<W: Sink>(
+    outgoing: &mut Outgoing,
+    writer: &mut W,
+    bytes: &[u8],
+) -> Result<(), RunFault>
+    ensures { Gathers W.written W.failed outgoing.old outgoing.new writer.old writer.new result
+        (encode_lower bytes.now) }
+{
+    for byte in bytes {
+        outgoing.add(writer, &hex_digits(*byte))?;
+    }
+    Ok(())
+}
+
+/// Gathers the line of an event that the byte at the end of so many bytes makes.
+pub(crate) fn put_event<W: Sink>(
+    outgoing: &mut Outgoing,
+    writer: &mut W,
+    offset: u64,
+    event: &Event<'_>,
+) -> Result<(), RunFault>
+    ensures { Gathers W.written W.failed outgoing.old outgoing.new writer.old writer.new result
+        (event_line offset (event_content event.now)) }
+{
+    outgoing.make_room(writer)?;
+    push_offset(outgoing, offset);
+    match push_event(outgoing, event) {
+        None => {
+            outgoing.push(b"\n");
+            Ok(())
+        }
+        Some(body) => {
+            put_bytes(outgoing, writer, body.bytes())?;
+            outgoing.add(writer, b"\n")
+        }
+    }
+}
+
+/// Writes the line of a message of which so many bytes came, and no more.
+pub(crate) fn write_unfinished<W: Sink>(
+    writer: &mut W,
+    offset: u64,
+    have: usize,
+) -> Result<(), RunFault>
+    ensures { Writes W.written W.failed writer.old writer.new result
+        (line offset (unfinished_text have)) }
+{
+    let mut text = Outgoing::new();
+    push_offset(&mut text, offset);
+    text.push(b"unfinished ");
+    text.push_decimal(have as u64, 1);
+    text.push(b"\n");
+    text.write_out(writer)
+}
+
+/// Writes the line of an event, without a flush.
+///
+/// A line is the offset in decimal, with leading zeros to at least eight digits, a space, what came, and a
+/// line feed, as in `00000005 field e4 P`. The offset is the number of bytes up to and including the one
+/// that made the event. The format is this project's own choice.
+///
+/// `WriteFailed` comes where the writer refuses, which then took the front of the line.
+pub fn write_event<W: Sink>(writer: &mut W, offset: u64, event: &Event<'_>) -> Result<(), RunFault>
+    ensures { Writes W.written W.failed writer.old writer.new result
+        (event_line offset (event_content event.now)) }
+{
+    let mut outgoing = Outgoing::new();
+    put_event(&mut outgoing, writer, offset, event)?;
+    outgoing.write_out(writer)
+}

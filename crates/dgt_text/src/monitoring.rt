@@ -1,0 +1,112 @@
+//! The engine that tells what comes.
+
+ghost use Rattle.std.specs.Prelude.{◌≡◌, ◌≢◌, ◌+◌, ◌^◌, ◌<◌, ◌≤◌, ◌++◌, length, IsTrue, OnOk};
+ghost use Rattle.std.specs.Io.KnownBytes.{IsAtEnd};
+ghost use Rattle.dgt_decode.specs.Grammar.{open_message};
+ghost use Rattle.dgt_text.specs.Lines.{unfinished_line};
+ghost use Rattle.dgt_text.specs.Monitoring.{lines_after, IsMonitored};
+ghost use Rattle.dgt_text.specs.Runs.{sink_mark_after, source_mark_after, Ran, Writes};
+
+use crate::ends::{Sink, Source};
+use crate::faults::RunFault;
+use crate::gathering::{Outgoing, flush};
+use crate::lines::{put_event, write_unfinished};
+use dgt_decode::{Decoder, laws};
+
+// The lines of a piece, in one write where they are few.
+fn write_lines<W: Sink>(
+    decoder: &mut Decoder,
+    offset: u64,
+    piece: &[u8],
+    writer: &mut W,
+) -> Result<(), RunFault>
+    requires fits { offset + length piece.now < 2 ^ 64 }
+    requires held { length decoder.old ≤ offset }
+    requires unfinished { decoder.old ≡ open_message decoder.old }
+    ensures output { Writes W.written W.failed writer.old writer.new result
+        (lines_after decoder.old offset piece.now) }
+    ensures decoded { OnOk result (decoder.new ≡ open_message (decoder.old ++ piece.now)) }
+{
+    laws::events_append();
+    laws::open_append();
+    let mut outgoing = Outgoing::new();
+    let mut at = 0;
+    while at < piece.len() {
+        let fed = decoder.feed(&piece[at..]);
+        at += fed.used;
+        if let Some(event) = &fed.event {
+            put_event(&mut outgoing, writer, offset + at as u64, event)?;
+        }
+    }
+    outgoing.write_out(writer)
+}
+
+// A last line, where a message is unfinished.
+fn write_end<W: Sink>(decoder: &mut Decoder, offset: u64, writer: &mut W) -> Result<(), RunFault>
+    ensures output { Writes W.written W.failed writer.old writer.new result
+        (unfinished_line offset decoder.old) }
+    ensures flushed { OnOk result (IsTrue (W.flushed writer.old) → IsTrue (W.flushed writer.new)) }
+{
+    let Some(unfinished) = decoder.finish() else {
+        return Ok(());
+    };
+    write_unfinished(writer, offset, unfinished.have)?;
+    flush(writer)
+}
+
+/// Writes a line for each event of the bytes that the reader gives, in at most `limit` reads.
+///
+/// The lines are those of [`write_event`](crate::write_event). What came in a read has its lines written
+/// and flushed before the next read. At the end of the bytes, where a message is unfinished, comes a last
+/// line that tells how many of its bytes came.
+///
+/// - `ReadFailed` comes where the reader refuses, and `TooManyTurns` where `limit` reads succeeded and none
+///   told the end. All lines of what was read are written then.
+/// - `WriteFailed` comes where the writer refuses. It took the front of the lines, and gets nothing more.
+pub fn monitor<R: Source, W: Sink>(
+    reader: &mut R,
+    writer: &mut W,
+    limit: u32,
+) -> Result<(), RunFault>
+    // what was read, and what was written of it
+    ensures output { Ran R.left W.written reader.old reader.new writer.old writer.new
+        (IsMonitored result) }
+    ensures all_read { OnOk result (IsAtEnd (R.left reader.new)) }
+
+    // a fault comes with its mark, and every other answer without it
+    ensures source_failed { R.failed reader.new ≡ source_mark_after result (R.failed reader.old) }
+    ensures sink_failed { W.failed writer.new ≡ sink_mark_after result (W.failed writer.old) }
+
+    // Ok comes at the end, and TooManyTurns before it
+    ensures ended { OnOk result (IsTrue (R.ended reader.new)) }
+    ensures not_ended { result ≡ Err RunFault.TooManyTurns →
+        R.ended reader.new ≡ R.ended reader.old }
+
+    // there are at most `limit` reads, and as many where they are too many
+    ensures turns { R.reads reader.old + limit < 2 ^ 64 →
+        R.reads reader.new ≤ R.reads reader.old + limit }
+    ensures all_turns { result ≡ Err RunFault.TooManyTurns → R.reads reader.old + limit < 2 ^ 64 →
+        R.reads reader.new ≡ R.reads reader.old + limit }
+
+    // nothing is left to flush
+    ensures flushed { IsTrue (W.flushed writer.old) → result ≢ Err RunFault.WriteFailed →
+        IsTrue (W.flushed writer.new) }
+{
+    laws::events_append();
+    laws::open_append();
+    let mut decoder = Decoder::new();
+    let mut offset = 0u64;
+    let mut buffer = [0; 64];
+    for _ in 0..limit {
+        let Ok(given) = reader.read_some(&mut buffer) else {
+            return Err(RunFault::ReadFailed);
+        };
+        if given == 0 {
+            return write_end(&mut decoder, offset, writer);
+        }
+        write_lines(&mut decoder, offset, &buffer[..given], writer)?;
+        flush(writer)?;
+        offset += given as u64;
+    }
+    Err(RunFault::TooManyTurns)
+}

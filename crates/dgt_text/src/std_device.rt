@@ -1,0 +1,101 @@
+//! The standard library's readers and writers as sources and sinks.
+
+ghost use Rattle.std.specs.Prelude.{None};
+
+use crate::ends::{Failed, Sink, Source};
+use std::io::{Read, Write};
+
+/// A source or a sink over any reader or writer of the standard library.
+///
+/// It keeps its marks and its count, and tells no bytes. It refuses a call where the reader or the writer
+/// fails, and where a writer takes none of the bytes that it is given.
+#[derive(Drop)]
+pub struct Device<T> {
+    inner: T,
+    failed: bool,
+    ended: bool,
+    reads: u64,
+    flushed: bool,
+}
+
+impl<T> Device<T> {
+    ghost use Rattle.dgt_text.specs.Device.{IsNewDevice};
+
+    /// A device that has not failed or ended, was not read and has nothing to flush.
+    pub fn new(inner: T) -> Self
+        ensures { IsNewDevice result }
+    {
+        Device {
+            inner,
+            failed: false,
+            ended: false,
+            reads: 0,
+            flushed: true,
+        }
+    }
+}
+
+impl<T: Read> Source for Device<T> {
+    ghost use Rattle.dgt_text.specs.Device.{device_ended, device_failed, device_reads};
+
+    ghost left = { λ _. None };
+
+    ghost failed = { device_failed };
+
+    ghost ended = { device_ended };
+
+    ghost reads = { device_reads };
+
+    fn read_some(&mut self, buffer: &mut [u8]) -> Result<usize, Failed> {
+        self.reads = self.reads.saturating_add(1);
+        match self.inner.read(buffer) {
+            Ok(given) => {
+                if given == 0 && !buffer.is_empty() {
+                    self.ended = true;
+                }
+                Ok(given)
+            }
+            Err(_) => {
+                self.failed = true;
+                Err(Failed)
+            }
+        }
+    }
+}
+
+impl<T: Write> Sink for Device<T> {
+    ghost use Rattle.dgt_text.specs.Device.{device_failed, device_flushed};
+
+    ghost written = { λ _. None };
+
+    ghost failed = { device_failed };
+
+    ghost flushed = { device_flushed };
+
+    fn write_some(&mut self, bytes: &[u8]) -> Result<usize, Failed> {
+        match self.inner.write(bytes) {
+            Ok(taken) if taken > 0 => {
+                self.flushed = false;
+                Ok(taken)
+            }
+            Ok(_) if bytes.is_empty() => Ok(0),
+            _ => {
+                self.failed = true;
+                Err(Failed)
+            }
+        }
+    }
+
+    fn flush_all(&mut self) -> Result<(), Failed> {
+        match self.inner.flush() {
+            Ok(()) => {
+                self.flushed = true;
+                Ok(())
+            }
+            Err(_) => {
+                self.failed = true;
+                Err(Failed)
+            }
+        }
+    }
+}

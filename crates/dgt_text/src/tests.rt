@@ -1,0 +1,271 @@
+//! The lines of worked messages, and runs over sources and sinks that fail.
+
+mod devices;
+
+use crate::tests::devices::{Broken, Lender, Recorder};
+use crate::{Bytes, Device, RunFault, monitor, write_event};
+use dgt_decode::Event;
+use dgt_message::{BodyFault, Message};
+use dgt_values::{Piece, SevenBit, Square};
+use std::process::Abort;
+use std::test::Fail;
+
+const FIELD: &[u8] = &[0x8e, 0x00, 0x05, 0x24, 0x01];
+
+const FIELD_LINE: &[u8] = b"00000005 field e4 P\n";
+
+const START: &[u8] = &[
+    0x86, 0x00, 0x43, 0x08, 0x09, 0x0a, 0x0c, 0x0b, 0x0a, 0x09, 0x08, 0x07, 0x07, 0x07, 0x07, 0x07,
+    0x07, 0x07, 0x07, 0x00, 0x00, 0x00, 0x00, 0x00, 0x00, 0x00, 0x00, 0x00, 0x00, 0x00, 0x00, 0x00,
+    0x00, 0x00, 0x00, 0x00, 0x00, 0x00, 0x00, 0x00, 0x00, 0x00, 0x00, 0x00, 0x00, 0x00, 0x00, 0x00,
+    0x00, 0x00, 0x00, 0x01, 0x01, 0x01, 0x01, 0x01, 0x01, 0x01, 0x01, 0x02, 0x03, 0x04, 0x06, 0x05,
+    0x04, 0x03, 0x02,
+];
+
+fn assert_monitored(rt: &impl Abort, bytes: &[u8], lines: &[u8]) {
+    for step in [1, 3, 64] {
+        let mut source = Lender::new(bytes, step);
+        let mut sink = Recorder::new();
+        assert_eq!(rt; monitor(&mut source, &mut sink, 200), Ok(()));
+        assert_eq!(rt; sink.taken(), lines);
+        assert!(rt; source.ended);
+        assert!(rt; sink.flushed);
+    }
+}
+
+#[test]
+fn lines_of_messages(rt: HostRuntime) {
+    let rows: [(&[u8], &[u8]); 16] = [
+        (&[], b""),
+        (&[0x8e, 0x00, 0x05, 0x34, 0x00], b"00000005 field e2 .\n"),
+        (FIELD, FIELD_LINE),
+        (
+            START,
+            b"00000067 dump rnbqkbnr/pppppppp/8/8/8/8/PPPPPPPP/RNBQKBNR\n",
+        ),
+        (
+            &[0x8d, 0x00, 0x0a, 0x01, 0x30, 0x00, 0x01, 0x29, 0x55, 0x11],
+            b"00000010 times 1:30:00 0 1:29:55 0 11\n",
+        ),
+        (
+            &[0x8d, 0x00, 0x0a, 0x0a, 0x10, 0x08, 0x2a, 0x00, 0x31, 0x00],
+            b"00000010 ack 10 88 00 31 00\n",
+        ),
+        (
+            &[0x8d, 0x00, 0x0a, 0x01, 0x10, 0x0b, 0x0a, 0x00, 0x00, 0x00],
+            b"00000010 ack 10 0b 00 00 00\n",
+        ),
+        (
+            &[0x8d, 0x00, 0x0a, 0x00, 0x00, 0x00, 0x00, 0x00, 0x00, 0x20],
+            b"00000010 noclock 000000000000 20\n",
+        ),
+        (&[0x92, 0x00, 0x03], b"00000003 trademark -\n"),
+        (
+            &[0x92, 0x00, 0x05, 0x53, 0x4a],
+            b"00000005 trademark 534a\n",
+        ),
+        (
+            &[0x91, 0x00, 0x08, 0x30, 0x30, 0x30, 0x30, 0x31],
+            b"00000008 serial 3030303031\n",
+        ),
+        (&[0x93, 0x00, 0x05, 0x01, 0x7f], b"00000005 version 1.127\n"),
+        (&[0xa0, 0x00, 0x04, 0x64], b"00000004 battery 64\n"),
+        (&[0xb0, 0x00, 0x04, 0x0f], b"00000004 other 30 0f\n"),
+        (
+            &[0x86, 0x00, 0x43, 0x00, 0x00, 0x8e, 0x00, 0x05, 0x24, 0x01],
+            b"00000006 cut 5\n00000010 field e4 P\n",
+        ),
+        (
+            &[0x05, 0x8e, 0x00],
+            b"00000001 stray 05\n00000003 unfinished 2\n",
+        ),
+    ];
+    for (bytes, lines) in rows {
+        assert_monitored(&rt, bytes, lines);
+    }
+}
+
+#[test]
+fn lines_of_refusals(rt: HostRuntime) {
+    let rows: [(&[u8], &[u8]); 4] = [
+        (
+            &[0x8d, 0x00, 0x0a, 0x01, 0x60, 0x00, 0x01, 0x29, 0x55, 0x11],
+            b"00000010 refused 0d badreading 1\n",
+        ),
+        (
+            &[0x8e, 0x00, 0x05, 0x40, 0x10],
+            b"00000005 refused 0e badsquare 0\n",
+        ),
+        (
+            &[0x8e, 0x00, 0x06, 0x34, 0x00, 0x00],
+            b"00000006 refused 0e wrongsize\n",
+        ),
+        (
+            &[0x8e, 0x00, 0x02, 0x05],
+            b"00000003 badlength\n00000004 stray 05\n",
+        ),
+    ];
+    for (bytes, lines) in rows {
+        assert_monitored(&rt, bytes, lines);
+    }
+    let mut bad = [0; 67];
+    bad.copy_from_slice(START);
+    bad[66] = 0x10;
+    assert_monitored(&rt, &bad, b"00000067 refused 06 badpiece 63\n");
+}
+
+#[test]
+fn the_line_of_one_event(rt: HostRuntime) -> Result<(), Fail> {
+    let square = Square::parse("h1")?;
+    let events = [
+        (
+            Event::Message(Message::Field {
+                square,
+                piece: Piece::BlackQueen,
+            }),
+            b"123456789 field h1 q\n".as_slice(),
+        ),
+        (
+            Event::Refused {
+                code: SevenBit::try_from(0x0e)?,
+                fault: BodyFault::BadSquare { at: 0 },
+            },
+            b"123456789 refused 0e badsquare 0\n".as_slice(),
+        ),
+    ];
+    for (event, line) in &events {
+        for room in 0..line.len() {
+            let mut sink = Recorder::new();
+            sink.room = room;
+            assert_eq!(rt;
+                write_event(&mut sink, 123456789, event),
+                Err(RunFault::WriteFailed)
+            );
+            assert_eq!(rt; sink.taken(), &line[..room]);
+        }
+        let mut sink = Recorder::new();
+        assert_eq!(rt; write_event(&mut sink, 123456789, event), Ok(()));
+        assert_eq!(rt; sink.taken(), *line);
+        assert_eq!(rt; sink.writes, 1);
+        assert_eq!(rt; sink.flushes, 0);
+    }
+    Ok(())
+}
+
+#[test]
+fn a_line_longer_than_the_buffer(rt: HostRuntime) {
+    let mut message = [0x33; 2048];
+    message[0] = 0xa0;
+    message[1] = 0x10;
+    message[2] = 0x00;
+    let mut sink = Recorder::new();
+    assert_eq!(rt; monitor(&mut Bytes::new(&message), &mut sink, 100), Ok(()));
+    assert_eq!(rt; sink.taken().len(), 4108);
+    assert!(rt; sink.taken().starts_with(b"00002048 battery 333"));
+    assert!(rt; sink.taken().ends_with(b"333\n"));
+}
+
+#[test]
+fn a_write_and_a_flush_for_each_piece(rt: HostRuntime) {
+    let mut updates = [0; 100];
+    for index in 0..20 {
+        updates[5 * index..5 * index + 5].copy_from_slice(FIELD);
+    }
+    let mut sink = Recorder::new();
+    assert_eq!(rt; monitor(&mut Bytes::new(&updates), &mut sink, 3), Ok(()));
+    assert_eq!(rt; sink.writes, 2);
+    assert_eq!(rt; sink.flushes, 2);
+}
+
+#[test]
+fn a_sink_that_is_full(rt: HostRuntime) {
+    for room in 0..FIELD_LINE.len() {
+        let mut sink = Recorder::new();
+        sink.room = room;
+        assert_eq!(rt;
+            monitor(&mut Bytes::new(FIELD), &mut sink, 10),
+            Err(RunFault::WriteFailed)
+        );
+        assert_eq!(rt; sink.taken(), &FIELD_LINE[..room]);
+    }
+}
+
+#[test]
+fn each_read_fails(rt: HostRuntime) {
+    for at in 1..7 {
+        let mut source = Lender::failing(FIELD, 1, at);
+        let mut sink = Recorder::new();
+        assert_eq!(rt;
+            monitor(&mut source, &mut sink, 10),
+            Err(RunFault::ReadFailed)
+        );
+        assert_eq!(rt; source.reads, at);
+        assert_eq!(rt;
+            sink.taken(),
+            if at == 6 { FIELD_LINE } else { b"".as_slice() }
+        );
+    }
+}
+
+#[test]
+fn each_write_and_each_flush_fails(rt: HostRuntime) {
+    let bytes = [0x05, 0x06, 0x8e];
+    let lines = b"00000001 stray 05\n00000002 stray 06\n00000003 unfinished 1\n";
+    for at in 1..4 {
+        let mut sink = Recorder::new();
+        sink.write_fails_at = at;
+        assert_eq!(rt;
+            monitor(&mut Lender::new(&bytes, 1), &mut sink, 10),
+            Err(RunFault::WriteFailed)
+        );
+        assert!(rt; lines.starts_with(sink.taken()));
+        assert_eq!(rt; sink.writes, at);
+    }
+    for at in 1..5 {
+        let mut source = Lender::new(&bytes, 1);
+        let mut sink = Recorder::new();
+        sink.flush_fails_at = at;
+        assert_eq!(rt;
+            monitor(&mut source, &mut sink, 10),
+            Err(RunFault::WriteFailed)
+        );
+        assert_eq!(rt; source.reads, at);
+        assert!(rt; lines.starts_with(sink.taken()));
+    }
+}
+
+#[test]
+fn a_limit_of_reads(rt: HostRuntime) {
+    for limit in 0..6 {
+        let mut source = Lender::new(FIELD, 1);
+        let mut sink = Recorder::new();
+        assert_eq!(rt;
+            monitor(&mut source, &mut sink, limit),
+            Err(RunFault::TooManyTurns)
+        );
+        assert_eq!(rt; source.reads, limit as u64);
+        assert_eq!(rt;
+            sink.taken(),
+            if limit == 5 {
+                FIELD_LINE
+            } else {
+                b"".as_slice()
+            }
+        );
+    }
+    assert_eq!(rt;
+        monitor(&mut Bytes::new(&[]), &mut Recorder::new(), 1),
+        Ok(())
+    );
+}
+
+#[test]
+fn readers_and_writers_of_std(rt: HostRuntime) {
+    let mut sink = Recorder::new();
+    assert_eq!(rt; monitor(&mut Device::new(FIELD), &mut sink, 10), Ok(()));
+    assert_eq!(rt; sink.taken(), FIELD_LINE);
+    let answer = monitor(&mut Bytes::new(FIELD), &mut Device::new(Broken), 10);
+    assert_eq!(rt; answer, Err(RunFault::WriteFailed));
+    let answer = monitor(&mut Device::new(Broken), &mut Recorder::new(), 10);
+    assert_eq!(rt; answer, Err(RunFault::ReadFailed));
+}

@@ -1,0 +1,151 @@
+//! Sources and sinks that tell their bytes, and fail where a test wants them to.
+
+ghost use Rattle.std.specs.Prelude.{Some};
+
+use crate::{Failed, Sink, Source};
+use arrayvec::ArrayVec;
+use std::io;
+use std::io::{Read, Write};
+
+/// A source that gives at most `step` bytes a read, and refuses its read number `fails_at`.
+#[derive(Drop)]
+pub struct Lender<'a> {
+    left: &'a [u8],
+    step: usize,
+    fails_at: u64,
+    failed: bool,
+    pub ended: bool,
+    pub reads: u64,
+}
+
+impl<'a> Lender<'a> {
+    pub fn new(left: &'a [u8], step: usize) -> Self {
+        Lender::failing(left, step, 0)
+    }
+
+    pub fn failing(left: &'a [u8], step: usize, fails_at: u64) -> Self {
+        Lender {
+            left,
+            step,
+            fails_at,
+            failed: false,
+            ended: false,
+            reads: 0,
+        }
+    }
+}
+
+impl Source for Lender<'_> {
+    ghost left = { λ lender. Some lender.left.now };
+
+    ghost failed = { λ lender. lender.failed };
+
+    ghost ended = { λ lender. lender.ended };
+
+    ghost reads = { λ lender. lender.reads };
+
+    fn read_some(&mut self, buffer: &mut [u8]) -> Result<usize, Failed> {
+        self.reads = self.reads.saturating_add(1);
+        if self.reads == self.fails_at {
+            self.failed = true;
+            return Err(Failed);
+        }
+        let given = self.left.len().min(buffer.len()).min(self.step.max(1));
+        buffer[..given].copy_from_slice(&self.left[..given]);
+        self.left = &self.left[given..];
+        if given == 0 && !buffer.is_empty() {
+            self.ended = true;
+        }
+        Ok(given)
+    }
+}
+
+/// A sink that takes at most `step` bytes a write and `room` bytes in all, and refuses its write number
+/// `write_fails_at` and its flush number `flush_fails_at`.
+#[derive(Drop)]
+pub struct Recorder {
+    taken: ArrayVec<u8, 8192>,
+    pub step: usize,
+    pub room: usize,
+    pub write_fails_at: u64,
+    pub flush_fails_at: u64,
+    pub writes: u64,
+    pub flushes: u64,
+    failed: bool,
+    pub flushed: bool,
+}
+
+impl Recorder {
+    pub fn new() -> Self {
+        Recorder {
+            taken: ArrayVec::new(),
+            step: usize::MAX,
+            room: usize::MAX,
+            write_fails_at: 0,
+            flush_fails_at: 0,
+            writes: 0,
+            flushes: 0,
+            failed: false,
+            flushed: true,
+        }
+    }
+
+    pub fn taken(&self) -> &[u8] {
+        self.taken.as_slice()
+    }
+}
+
+impl Sink for Recorder {
+    ghost written = { λ recorder. Some recorder.taken.items };
+
+    ghost failed = { λ recorder. recorder.failed };
+
+    ghost flushed = { λ recorder. recorder.flushed };
+
+    fn write_some(&mut self, bytes: &[u8]) -> Result<usize, Failed> {
+        self.writes = self.writes.saturating_add(1);
+        let room = self.room.saturating_sub(self.taken.len());
+        let taken = bytes.len().min(room).min(self.step.max(1));
+        if self.writes == self.write_fails_at
+            || (taken == 0 && !bytes.is_empty())
+            || self.taken.try_extend_from_slice(&bytes[..taken]).is_err()
+        {
+            self.failed = true;
+            return Err(Failed);
+        }
+        if taken > 0 {
+            self.flushed = false;
+        }
+        Ok(taken)
+    }
+
+    fn flush_all(&mut self) -> Result<(), Failed> {
+        self.flushes = self.flushes.saturating_add(1);
+        if self.flushes == self.flush_fails_at {
+            self.failed = true;
+            return Err(Failed);
+        }
+        self.flushed = true;
+        Ok(())
+    }
+}
+
+/// A writer that takes no byte, and a reader that fails.
+#[derive(Drop)]
+pub struct Broken;
+
+impl Read for Broken {
+    fn read(&mut self, _buf: &mut [u8]) -> io::Result<usize> {
+        Err(io::Error::from(io::ErrorKind::Other))
+    }
+}
+
+impl Write for Broken {
+    fn write(&mut self, _buf: &[u8]) -> io::Result<usize> {
+        Ok(0)
+    }
+
+    fn flush(&mut self) -> io::Result<()> {
+        Err(io::Error::from(io::ErrorKind::Other))
+    }
+}
