@@ -1,0 +1,51 @@
+//! Why the program stopped, and how it says so.
+use dgt_text::RunFault;
+use std::alloc::{AllocError, AllocFailed};
+use std::io::Write;
+use thiserror::Error;
+
+/// What ends the program before its work is done.
+#[derive(Debug, Drop, Error)]
+pub enum Fault {
+    /// The words are no command line.
+    #[error("{0}")]
+    CommandLine(clap::Error),
+    /// The word of bytes is no hexadecimal text.
+    #[error("bad hex")]
+    BadHex,
+    /// The run stopped.
+    #[error("{0}")]
+    Run(#[from] RunFault),
+    /// An allocation was refused.
+    #[error("out of memory")]
+    OutOfMemory,
+}
+
+impl From<AllocError> for Fault {
+    fn from(_error: AllocError) -> Fault {
+        Fault::OutOfMemory
+    }
+}
+
+impl From<AllocFailed<String>> for Fault {
+    fn from(_error: AllocFailed<String>) -> Fault {
+        Fault::OutOfMemory
+    }
+}
+
+impl Fault {
+    /// Tells the fault to the user, and answers the exit status.
+    pub fn report<E: Write>(self, errors: &mut E) -> u8 {
+        // With no way left to tell it, the status alone tells.
+        let _ = match &self {
+            Fault::CommandLine(error) => write!(errors, "{error}"),
+            fault => writeln!(errors, "dgt: {fault}"),
+        };
+        let _ = errors.flush();
+        match self {
+            Fault::Run(_) => 1,
+            Fault::CommandLine(_) | Fault::BadHex => 2,
+            Fault::OutOfMemory => 3,
+        }
+    }
+}

@@ -1,0 +1,33 @@
+//! The program `dgt`: shows what a DGT electronic chess board says.
+//!
+//! `dgt show 8e00052401` prints `00000005 field e4 P`: the five bytes are a message of the DGT Electronic Board
+//! Protocol, by which a white pawn stands on e4. `dgt monitor` does the same with the bytes of standard input, as they
+//! come.
+//!
+//! `main` fetches the words and the streams, and `run_words` of `program` does the rest, over any reader and writers:
+//! it has `command_line` read the words, with the texts of `help`, and hands the streams to an engine of `dgt_text`,
+//! which reads and writes. `fault` has what can go wrong, the text and the exit status of each.
+#![tactic(auto)]
+
+mod command_line;
+mod fault;
+mod help;
+mod program;
+#[cfg(test)]
+mod tests;
+
+use std::env;
+use std::process::ExitCode;
+
+fn main(rt: HostRuntime) -> ExitCode {
+    let alloc = rt.alloc();
+    let words = match env::args(&rt) {
+        Ok(words) => words.collect(alloc).map_err(fault::Fault::from),
+        Err(error) => Err(command_line::refuse_arguments(alloc, &error)),
+    };
+    let status = match words {
+        Ok(words) => program::run_words(alloc, words, rt.stdin(), rt.stdout(), rt.stderr()),
+        Err(fault) => fault.report(&mut rt.stderr()),
+    };
+    ExitCode::from(status)
+}
