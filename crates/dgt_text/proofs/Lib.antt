@@ -6,3 +6,13 @@ pub mod LineLemmas
 pub mod PieceLemmas
 pub mod RunLemmas
 pub mod TextLemmas
+pub mod ConversationLemmas
+pub mod ServingLemmas
+pub mod ScriptWordLemmas
+pub mod ScriptLemmas
+pub mod MeaningLemmas
+pub mod KeepLemmas
+pub mod ClosingLemmas
+pub mod PlayLemmas
+pub mod ScriptRuns
+pub mod PlayOnce

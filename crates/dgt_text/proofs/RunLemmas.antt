@@ -12,6 +12,10 @@ use Rattle.dgt_text.specs.declared.faults.RunFault.TheVariants.{WriteFailed}
 pub slice_from : (s : List ℕ) (i : ℕ) → take (length s - i) (drop i s) ≡ drop i s
 slice_from s i = rw (← length-drop i s) (take-length (drop i s))
 
+-- `&s[i..]`, of which n bytes more are taken
+pub slice_more : (s : List ℕ) (i n : ℕ) → take (i + n) s ≡ take i s ++ take n (take (length s - i) (drop i s))
+slice_more s i n = take-add i n s ∙ ap (λ (l : List ℕ). take i s ++ take n l) (sym (slice_from s i))
+
 -- n more bytes of a list
 pub appends_more : (a b c : Option (List ℕ)) (s : List ℕ) (i n : ℕ) → Appends a b (take i s) → Appends b c (take n (take (length s - i) (drop i s))) → Appends a c (take (i + n) s)
 appends_more a b c s i n p q = subst (Appends a c) (sym (take-add i n s)) (Appends-trans a b c _ _ p (rw slice_from at q))

@@ -5,3 +5,11 @@ pub mod Wording
 pub mod Runs
 pub mod Gathering
 pub mod Monitoring
+pub mod Conversation
+pub mod Serving
+pub mod ScriptWords
+pub mod Script
+pub mod ScriptReading
+pub mod ScriptLines
+pub mod Closing
+pub mod Simulating

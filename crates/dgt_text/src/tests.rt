@@ -1,6 +1,12 @@
 //! The lines of worked messages, and runs over sources and sinks that fail.
 
+mod closing;
 mod devices;
+mod script;
+mod script_lines;
+mod script_words;
+mod serving;
+mod simulating;
 
 use crate::tests::devices::{Broken, Lender, Recorder};
 use crate::{Bytes, Device, RunFault, monitor, write_event};

@@ -1,0 +1,375 @@
+-- Lines that are played in a row.
+use Rattle.std.proofs.Common.{◌≡◌, ◌≢◌, ℕ, ◌+◌, ◌-◌, ◌<◌, List, [], ◌∷◌, ◌++◌, ◌⊎◌, inl, inr, Option, Bool, Result, Ok, Err, IsErrAnd, IsTrue, refl, sym, ◌∙◌, ap, subst, length, arith, append_assoc, append-nil, length-append, zero, suc, take, drop, slice_index, add-one}
+use Rattle.std.specs.Prelude.{◌↔◌, All, flat_map}
+use Rattle.std.specs.Io.KnownBytes.{Appends}
+use Rattle.std.proofs.KnownBytes.{Appends-trans, Appends-nil}
+use Rattle.std.proofs.Math.Seq.{take-suc}
+use Rattle.std.proofs.lemmas.List.{take-append-drop, length-drop}
+use Rattle.std.proofs.lemmas.List.Elements.{All-append}
+use Rattle.std.proofs.lemmas.Grind.{flat_map-append}
+use Rattle.dgt_link.specs.Act.{ActContent}
+use Rattle.dgt_link.specs.declared.acts.Outcome.{Outcome}
+use Rattle.dgt_link.specs.Step.{Step}
+use Rattle.dgt_link.specs.View.{IsQuietWorld, WorldView}
+use Rattle.dgt_text.specs.declared.faults.RunFault.{RunFault}
+use Rattle.dgt_text.specs.declared.faults.RunFault.TheVariants.{ReadFailed, WriteFailed, TooManyTurns, BadLine}
+use Rattle.dgt_text.specs.declared.script_lines.LineBuffer.{LineBuffer}
+use Rattle.dgt_text.specs.Closing.{closing_lines, outcome_line}
+use Rattle.dgt_text.specs.Monitoring.{IsFront}
+use Rattle.dgt_text.specs.Runs.{Writes, Stopped}
+use Rattle.dgt_text.specs.Script.{IsAsked, IsBadAt}
+use Rattle.dgt_text.specs.ScriptLines.{HasNoFeed, IsCut, Keeps, ended}
+use Rattle.dgt_text.specs.Simulating.{BeginsWith, IsSimulatedFrom, Plays, PlaysLine, PlaysOn, PlaysPiece, PlaysTorn, Stops, Took, all_lines}
+use Rattle.dgt_text.proofs.RunLemmas.{slice_from, slice_more}
+
+-- ---- lines
+
+pub all_none : All HasNoFeed []
+all_none k d h = absurd (omega arith)
+
+pub no_byte : HasNoFeed []
+no_byte k d h = absurd (omega arith)
+
+pub all_one : (line : List ℕ) → HasNoFeed line → All HasNoFeed (line ∷ [])
+all_one line h zero d k = h
+all_one line h (suc j) d k = absurd (omega arith)
+
+flat_one : (line : List ℕ) → flat_map ended (line ∷ []) ≡ ended line
+flat_one line = append-nil (ended line)
+
+-- lines, and then more lines
+whole_after : (bytes tail rest : List ℕ) (lines more : List (List ℕ)) → bytes ≡ flat_map ended lines ++ tail → tail ≡ flat_map ended more ++ rest → bytes ≡ flat_map ended (lines ++ more) ++ rest
+whole_after bytes tail rest lines more e f =
+    e ∙ ap (λ l. flat_map ended lines ++ l) f ∙ sym (append_assoc (flat_map ended lines) (flat_map ended more) rest)
+    ∙ ap (λ l. l ++ rest) (sym (flat_map-append ended lines more))
+
+pub cut_after : (bytes tail rest : List ℕ) (lines more : List (List ℕ)) → bytes ≡ flat_map ended lines ++ tail → All HasNoFeed lines → IsCut tail more rest → IsCut bytes (lines ++ more) rest
+cut_after bytes tail rest lines more e h c = record {
+  whole = whole_after bytes tail rest lines more e c.whole;
+  each = All-append HasNoFeed lines more h c.each;
+  last = c.last;
+}
+
+all_lines-append : (lines more : List (List ℕ)) (rest : List ℕ) → all_lines (lines ++ more) rest ≡ lines ++ all_lines more rest
+all_lines-append lines more [] = refl
+all_lines-append lines more (b ∷ rest) = append_assoc lines more ((b ∷ rest) ∷ [])
+
+-- a script begins with no line
+pub begins_none : (bytes : List ℕ) → BeginsWith bytes []
+begins_none bytes = inl (bytes, refl, all_none)
+
+-- a line with its line feed
+pub begins_ended : (line rest bytes : List ℕ) → HasNoFeed line → bytes ≡ (line ++ 10 ∷ []) ++ rest → BeginsWith bytes (line ∷ [])
+begins_ended line rest bytes h e = inl (rest, e ∙ ap (λ l. l ++ rest) (sym (flat_one line)), all_one line h)
+
+-- a last line
+pub begins_last : (line : List ℕ) → HasNoFeed line → line ≢ [] → BeginsWith line (line ∷ [])
+begins_last [] h n = absurd (n refl)
+begins_last (b ∷ line) h n = inr ([], b ∷ line, record { whole = refl; each = all_none; last = h }, refl)
+
+begins_after : (bytes tail : List ℕ) (lines more : List (List ℕ)) → bytes ≡ flat_map ended lines ++ tail → All HasNoFeed lines → BeginsWith tail more → BeginsWith bytes (lines ++ more)
+begins_after bytes tail lines more e h (inl p) = inl (p.0, whole_after bytes tail p.0 lines more e p.1, All-append HasNoFeed lines more h p.2)
+begins_after bytes tail lines more e h (inr p) = inr (
+  lines ++ p.0,
+  p.1,
+  cut_after bytes tail p.1 lines p.0 e h p.2,
+  ap (λ l. lines ++ l) p.3 ∙ sym (all_lines-append lines p.0 p.1),
+)
+
+-- ---- playing
+
+pub plays_append : (w m l : WorldView) (ls ks : List (List ℕ)) (t u : List ℕ) → Plays w ls t m → Plays m ks u l → Plays w (ls ++ ks) (t ++ u) l
+plays_append w m l [] ks t u p q = subst (λ x. Plays w ks (x ++ u) l) (sym p.0) (subst (λ x. Plays x ks u l) (sym p.1) q)
+plays_append w m l (line ∷ ls) ks t u p q = (
+  p.0,
+  p.1,
+  p.2,
+  p.3 ++ u,
+  p.4,
+  p.5,
+  ap (λ x. x ++ u) p.6 ∙ append_assoc (outcome_line p.1) p.3 u,
+  plays_append p.2 m l ls ks p.3 u p.7 q,
+)
+
+pub plays_one : (w l : WorldView) (line : List ℕ) (act : ActContent) (o : Outcome) → IsAsked line act → Step act w o l → Plays w (line ∷ []) (outcome_line o) l
+plays_one w l line act o h s = (act, o, l, [], h, s, sym (append-nil (outcome_line o)), (refl, refl))
+
+-- no line
+pub torn_none : (w : WorldView) → PlaysTorn w [] [] w
+torn_none w = record {
+  earlier = [];
+  final = [];
+  split = refl;
+  at_most_one = omega arith;
+  between = w;
+  text = [];
+  torn = [];
+  front = [];
+  plays = (refl, refl);
+  ends = (refl, refl);
+  is_front = ([], refl);
+  out_is = refl;
+}
+
+-- one line, whose outcome may be torn
+torn_one : (w l : WorldView) (line front text : List ℕ) → Plays w (line ∷ []) text l → IsFront front text → PlaysTorn w (line ∷ []) front l
+torn_one w l line front text p f = record {
+  earlier = [];
+  final = line ∷ [];
+  split = refl;
+  at_most_one = omega arith;
+  between = w;
+  text = [];
+  torn = text;
+  front = front;
+  plays = (refl, refl);
+  ends = p;
+  is_front = f;
+  out_is = refl;
+}
+
+torn_after : (w m l : WorldView) (ls ks : List (List ℕ)) (t out : List ℕ) → Plays w ls t m → PlaysTorn m ks out l → PlaysTorn w (ls ++ ks) (t ++ out) l
+torn_after w m l ls ks t out p q = record {
+  earlier = ls ++ q.earlier;
+  final = q.final;
+  split = ap (λ x. ls ++ x) q.split ∙ sym (append_assoc ls q.earlier q.final);
+  at_most_one = q.at_most_one;
+  between = q.between;
+  text = t ++ q.text;
+  torn = q.torn;
+  front = q.front;
+  plays = plays_append w m q.between ls q.earlier t q.text p q.plays;
+  ends = q.ends;
+  is_front = q.is_front;
+  out_is = ap (λ x. t ++ x) q.out_is ∙ sym (append_assoc t q.text q.front);
+}
+
+-- ---- lines, and then what is made of the rest
+
+stops_after : (e : RunFault) (w m l : WorldView) (number number' : ℕ) (bytes tail t out : List ℕ) (ls : List (List ℕ)) → bytes ≡ flat_map ended ls ++ tail → All HasNoFeed ls → number' ≡ number + length ls
+    → Plays w ls t m → Stops e m l number' tail out → Stops e w l number bytes (t ++ out)
+stops_after ReadFailed w m l number number' bytes tail t out ls e h n p s = absurd s
+stops_after TooManyTurns w m l number number' bytes tail t out ls e h n p s = absurd s
+stops_after WriteFailed w m l number number' bytes tail t out ls e h n p s = (ls ++ s.0, begins_after bytes tail ls s.0 e h s.1, torn_after w m l ls s.0 t out p s.2)
+stops_after (BadLine bad at) w m l number number' bytes tail t out ls e h n p s = (
+  ls ++ s.0,
+  s.1,
+  subst (λ x. BeginsWith bytes x) (sym (append_assoc ls s.0 (s.1 ∷ []))) (begins_after bytes tail ls (s.0 ++ s.1 ∷ []) e h s.2),
+  plays_append w m l ls s.0 t out p s.3,
+  s.4,
+  (let k = length-append ls s.0 in let f = s.5 in omega arith),
+)
+
+all_after : (w m l : WorldView) (bytes tail rest t u : List ℕ) (ls ks : List (List ℕ)) → Plays w ls t m → Plays m (all_lines ks rest) u l → Plays w (all_lines (ls ++ ks) rest) (t ++ u) l
+all_after w m l bytes tail rest t u ls ks p q = subst (λ x. Plays w x (t ++ u) l) (sym (all_lines-append ls ks rest)) (plays_append w m l ls (all_lines ks rest) t u p q)
+
+simulated_after : {A : Type 0} (r : Result A RunFault) (w m l : WorldView) (number number' : ℕ) (bytes tail t out : List ℕ) (ls : List (List ℕ)) → bytes ≡ flat_map ended ls ++ tail → All HasNoFeed ls
+    → number' ≡ number + length ls → Plays w ls t m → IsSimulatedFrom number' r m l tail out → IsSimulatedFrom number r w l bytes (t ++ out)
+simulated_after (Ok x) w m l number number' bytes tail t out ls e h n p s = (
+  ls ++ s.0,
+  s.1,
+  t ++ s.2,
+  s.3,
+  cut_after bytes tail s.1 ls s.0 e h s.4,
+  all_after w m l bytes tail s.1 t s.2 ls s.0 p s.5,
+  s.6,
+  ap (λ x. t ++ x) s.7 ∙ sym (append_assoc t s.2 (closing_lines l s.3)),
+)
+simulated_after (Err ReadFailed) w m l number number' bytes tail t out ls e h n p s = (ls ++ s.0, s.1, cut_after bytes tail s.1 ls s.0 e h s.2, plays_append w m l ls s.0 t out p s.3)
+simulated_after (Err TooManyTurns) w m l number number' bytes tail t out ls e h n p s = (ls ++ s.0, s.1, cut_after bytes tail s.1 ls s.0 e h s.2, plays_append w m l ls s.0 t out p s.3)
+simulated_after (Err (BadLine bad at)) w m l number number' bytes tail t out ls e h n p s = stops_after (BadLine bad at) w m l number number' bytes tail t out ls e h n p s
+simulated_after (Err WriteFailed) w m l number number' bytes tail t out ls e h n p (inl s) = inl (stops_after WriteFailed w m l number number' bytes tail t out ls e h n p s)
+simulated_after (Err WriteFailed) w m l number number' bytes tail t out ls e h n p (inr s) = inr (
+  ls ++ s.0,
+  s.1,
+  t ++ s.2,
+  s.3,
+  s.4,
+  cut_after bytes tail s.1 ls s.0 e h s.5,
+  all_after w m l bytes tail s.1 t s.2 ls s.0 p s.6,
+  s.7,
+  s.8,
+  ap (λ x. t ++ x) s.9 ∙ sym (append_assoc t s.2 s.4),
+)
+
+stops_simulated : (A : Type 0) (e : RunFault) (w l : WorldView) (number : ℕ) (bytes out : List ℕ) → Stops e w l number bytes out → IsSimulatedFrom {A = A} number (Err e) w l bytes out
+stops_simulated A WriteFailed w l number bytes out s = inl s
+stops_simulated A (BadLine bad at) w l number bytes out s = s
+stops_simulated A ReadFailed w l number bytes out s = absurd s
+stops_simulated A TooManyTurns w l number bytes out s = absurd s
+
+-- a line that is too long
+pub long_is_bad : (line : List ℕ) → 519 < length line → IsBadAt line 519
+long_is_bad line h = inl (h, refl)
+
+-- ---- sinks
+
+-- a list that has a front and a rest of no byte is none
+front_none : (front rest : List ℕ) → [] ≡ front ++ rest → front ≡ []
+front_none [] rest h = refl
+front_none (b ∷ front) rest h = cc
+
+module _ {S : Type 0} (written : S → Option (List ℕ)) (failed : S → Bool) where
+  pub stopped_none : (a b : S) → Stopped written failed a b [] → Appends (written a) (written b) []
+  stopped_none a b p = subst (λ l. Appends (written a) (written b) l) (front_none p.front p.rest p.whole) p.appends
+
+  -- the line of an outcome, or a front of it
+  pub line_put : {A : Type 0} (r : Result A RunFault) (w l : WorldView) (a b : S) (number : ℕ) (line bytes : List ℕ) (act : ActContent) (o : Outcome) → Writes written failed a b r (outcome_line o)
+      → IsAsked line act → Step act w o l → BeginsWith bytes (line ∷ []) → PlaysLine written w l a b r number line bytes
+  line_put (Ok x) w l a b number line bytes act o p h s g = (outcome_line o, p.appends, plays_one w l line act o h s)
+  line_put (Err e) w l a b number line bytes act o p h s g =
+      subst (λ f. Took written a b (Stops f w l number bytes)) (sym p.0)
+      (p.1.front, p.1.appends, (line ∷ [], g, torn_one w l line p.1.front (outcome_line o) (plays_one w l line act o h s) (p.1.rest, p.1.whole)))
+
+module _ {S : Type 0} (written : S → Option (List ℕ)) where
+  -- a line that asks for no act
+  pub line_refused : {A : Type 0} (r : Result A RunFault) (w : WorldView) (a b : S) (number at : ℕ) (line bytes : List ℕ) → (r ≡ Err (BadLine number at)) ⊎ (r ≡ Err WriteFailed)
+      → Appends (written a) (written b) [] → IsBadAt line at → BeginsWith bytes (line ∷ []) → PlaysLine written w w a b r number line bytes
+  line_refused {A = A} r w a b number at line bytes (inl e) p h g =
+      subst (λ x. PlaysLine {A = A} written w w a b x number line bytes) (sym e)
+      ([], p, ([], line, g, (refl, refl), h, omega arith))
+  line_refused {A = A} r w a b number at line bytes (inr e) p h g =
+      subst (λ x. PlaysLine {A = A} written w w a b x number line bytes) (sym e)
+      ([], p, ([], begins_none bytes, torn_none w))
+
+  -- ---- pieces
+
+  pub on_none : (w : WorldView) (a : S) (line : LineBuffer) (number : ℕ) (rest : List ℕ) → Keeps line rest → HasNoFeed rest → PlaysOn written w w a a line number number rest
+  on_none w a line number rest k h = record {
+    lines = [];
+    rest = rest;
+    text = [];
+    cut = record { whole = refl; each = all_none; last = h };
+    kept = k;
+    counted = omega arith;
+    plays = (refl, refl);
+    wrote = Appends-nil (written a);
+  }
+
+  -- a line with its line feed
+  pub on_one : (w l : WorldView) (a b : S) (line : LineBuffer) (number : ℕ) (whole : List ℕ) → Keeps line [] → HasNoFeed whole → Took written a b (λ out. Plays w (whole ∷ []) out l)
+      → PlaysOn written w l a b line number (number + 1) (whole ++ 10 ∷ [])
+  on_one w l a b line number whole k h p = record {
+    lines = whole ∷ [];
+    rest = [];
+    text = p.0;
+    cut = record { whole = sym (flat_one whole) ∙ sym (append-nil (flat_map ended (whole ∷ []))); each = all_one whole h; last = no_byte };
+    kept = k;
+    counted = omega arith;
+    plays = p.2;
+    wrote = p.1;
+  }
+
+  on_whole : {w m : WorldView} {a b : S} {line : LineBuffer} {n n' : ℕ} (bytes : List ℕ) (q : PlaysOn written w m a b line n n' bytes) (p : List ℕ) → bytes ++ p ≡ flat_map ended q.lines ++ (q.rest ++ p)
+  on_whole bytes q p = ap (λ l. l ++ p) q.cut.whole ∙ append_assoc (flat_map ended q.lines) q.rest p
+
+  pub on_more : (w m l : WorldView) (a b c : S) (line line' : LineBuffer) (n n' n'' : ℕ) (bytes piece : List ℕ) (q : PlaysOn written w m a b line n n' bytes) → PlaysOn written m l b c line' n' n'' (q.rest ++ piece)
+      → PlaysOn written w l a c line' n n'' (bytes ++ piece)
+  on_more w m l a b c line line' n n' n'' bytes piece q p = record {
+    lines = q.lines ++ p.lines;
+    rest = p.rest;
+    text = q.text ++ p.text;
+    cut = cut_after (bytes ++ piece) (q.rest ++ piece) p.rest q.lines p.lines (on_whole bytes q piece) q.cut.each p.cut;
+    kept = p.kept;
+    counted = let k = length-append q.lines p.lines in let i = q.counted in let j = p.counted in omega arith;
+    plays = plays_append w m l q.lines p.lines q.text p.text q.plays p.plays;
+    wrote = Appends-trans _ _ _ q.text p.text q.wrote p.wrote;
+  }
+
+  -- more bytes of the line
+  pub on_held : (w m : WorldView) (a b : S) (line line' : LineBuffer) (n n' : ℕ) (bytes p : List ℕ) (q : PlaysOn written w m a b line n n' bytes) → HasNoFeed p → Keeps line' (q.rest ++ p)
+      → PlaysOn written w m a b line' n n' (bytes ++ p)
+  on_held w m a b line line' n n' bytes p q h k = on_more w m m a b b line line' n n' n' bytes p q (on_none m b line' n' (q.rest ++ p) k (All-append (λ x. x ≢ 10) q.rest p q.cut.last h))
+
+  -- a line feed after them
+  pub on_line : (w m l : WorldView) (a b c : S) (line line' : LineBuffer) (n n' : ℕ) (bytes p : List ℕ) (q : PlaysOn written w m a b line n n' bytes) → HasNoFeed p → Keeps line' []
+      → Took written b c (λ out. Plays m ((q.rest ++ p) ∷ []) out l) → PlaysOn written w l a c line' n (n' + 1) (bytes ++ (p ++ 10 ∷ []))
+  on_line w m l a b c line line' n n' bytes p q h k t = on_more w m l a b c line line' n n' (n' + 1) bytes (p ++ 10 ∷ []) q
+      (subst (λ x. PlaysOn written m l b c line' n' (n' + 1) x) (append_assoc q.rest p (10 ∷ []))
+      (on_one m l b c line' n' (q.rest ++ p) k (All-append (λ x. x ≢ 10) q.rest p q.cut.last h) t))
+
+  -- what stops the run after them
+  pub on_stops : (e : RunFault) (w m l : WorldView) (a b c : S) (line : LineBuffer) (n n' : ℕ) (bytes p : List ℕ) (q : PlaysOn written w m a b line n n' bytes) → Took written b c (Stops e m l n' (q.rest ++ p))
+      → Took written a c (Stops e w l n (bytes ++ p))
+  on_stops e w m l a b c line n n' bytes p q t = (
+    q.text ++ t.0,
+    Appends-trans _ _ _ q.text t.0 q.wrote t.1,
+    stops_after e w m l n n' (bytes ++ p) (q.rest ++ p) q.text t.0 q.lines (on_whole bytes q p) q.cut.each q.counted q.plays t.2,
+  )
+
+  pub on_simulated : {A : Type 0} (r : Result A RunFault) (w m l : WorldView) (a b c : S) (line : LineBuffer) (n n' : ℕ) (bytes p : List ℕ) (q : PlaysOn written w m a b line n n' bytes)
+      → Took written b c (IsSimulatedFrom n' r m l (q.rest ++ p)) → Took written a c (IsSimulatedFrom n r w l (bytes ++ p))
+  on_simulated r w m l a b c line n n' bytes p q t = (
+    q.text ++ t.0,
+    Appends-trans _ _ _ q.text t.0 q.wrote t.1,
+    simulated_after r w m l n n' (bytes ++ p) (q.rest ++ p) q.text t.0 q.lines (on_whole bytes q p) q.cut.each q.counted q.plays t.2,
+  )
+
+  -- the exit of a `?` in a piece
+  pub piece_exit : {A : Type 0} (r : Result A RunFault) (e : RunFault) (w l : WorldView) (a b : S) (line : LineBuffer) (n n' : ℕ) (bytes : List ℕ) → IsErrAnd r (λ y. y ≡ e) → Took written a b (Stops e w l n bytes)
+      → PlaysPiece written w l a b line n n' r bytes
+  piece_exit (Ok x) e w l a b line n n' bytes k t = absurd k
+  piece_exit (Err y) e w l a b line n n' bytes k t = subst (λ f. Took written a b (Stops f w l n bytes)) (sym k) t
+
+  -- ---- the end
+
+  -- the exit of a `?` at the end
+  pub end_exit : {A : Type 0} (r : Result A RunFault) (e : RunFault) (w l : WorldView) (a b : S) (n : ℕ) (bytes : List ℕ) → IsErrAnd r (λ y. y ≡ e) → Took written a b (Stops e w l n bytes)
+      → Took written a b (IsSimulatedFrom n r w l bytes)
+  end_exit (Ok x) e w l a b n bytes k t = absurd k
+  end_exit {A = A} (Err y) e w l a b n bytes k t = subst (λ f. let r : Result A RunFault = Err f in Took written a b (IsSimulatedFrom n r w l bytes)) (sym k) (t.0, t.1, stops_simulated A e w l n bytes t.0 t.2)
+
+  pub end_some : (w l : WorldView) (a b : S) (rest : List ℕ) → rest ≢ [] → Took written a b (λ out. Plays w (rest ∷ []) out l) → Took written a b (λ out. Plays w (all_lines [] rest) out l)
+  end_some w l a b [] n t = absurd (n refl)
+  end_some w l a b (byte ∷ rest) n t = t
+
+  pub end_none : (w l : WorldView) (a b : S) (rest : List ℕ) → rest ≡ [] → l ≡ w → b ≡ a → Took written a b (λ out. Plays w (all_lines [] rest) out l)
+  end_none w l a b rest e f h = rw (e, f, h) ([], Appends-nil (written a), (refl, refl))
+
+  -- the closing lines, or a front of them
+  pub end_closing : {A : Type 0} (failed : S → Bool) (r : Result A RunFault) (w l : WorldView) (a b c : S) (n : ℕ) (rest : List ℕ) (quiet : Bool) → HasNoFeed rest
+      → Took written a b (λ out. Plays w (all_lines [] rest) out l) → (IsTrue quiet ↔ IsQuietWorld l) → Writes written failed b c r (closing_lines l quiet) → Took written a c (IsSimulatedFrom n r w l rest)
+  end_closing failed (Ok x) w l a b c n rest quiet h t k p = (
+    t.0 ++ closing_lines l quiet,
+    Appends-trans _ _ _ t.0 (closing_lines l quiet) t.1 p.appends,
+    ([], rest, t.0, quiet, record { whole = refl; each = all_none; last = h }, t.2, k, refl),
+  )
+  end_closing {A = A} failed (Err e) w l a b c n rest quiet h t k p = subst (λ f. let r : Result A RunFault = Err f in Took written a c (IsSimulatedFrom n r w l rest)) (sym p.0) (
+    t.0 ++ p.1.front,
+    Appends-trans _ _ _ t.0 p.1.front t.1 p.1.appends,
+    inr ([], rest, t.0, quiet, p.1.front, record { whole = refl; each = all_none; last = h }, t.2, k, (p.1.rest, p.1.whole), refl),
+  )
+
+-- ---- the bytes of a piece
+
+pub held_bytes : (rest piece : List ℕ) (i n : ℕ) → (rest ++ take i piece) ++ take n (take (length piece - i) (drop i piece)) ≡ rest ++ take (i + n) piece
+held_bytes rest piece i n = append_assoc rest (take i piece) _ ∙ ap (λ l. rest ++ l) (sym (slice_more piece i n))
+
+slice_room : (piece : List ℕ) (i n : ℕ) → i + n < length piece → n < length (take (length piece - i) (drop i piece))
+slice_room piece i n h = let e = ap length (slice_from piece i) ∙ length-drop i piece in omega arith
+
+line_feed : (piece : List ℕ) (i n : ℕ) → i + n < length piece → (n < length (take (length piece - i) (drop i piece)) → slice_index (take (length piece - i) (drop i piece)) n ≡ 10)
+    → take (n + 1) (take (length piece - i) (drop i piece)) ≡ take n (take (length piece - i) (drop i piece)) ++ 10 ∷ []
+line_feed piece i n h k =
+    let room = slice_room piece i n h in
+    rw add-one (take-suc (take (length piece - i) (drop i piece)) n 0 room) ∙ ap (λ b. take n (take (length piece - i) (drop i piece)) ++ b ∷ []) (k room)
+
+pub line_bytes : (rest piece : List ℕ) (i n : ℕ) → i + n < length piece → (n < length (take (length piece - i) (drop i piece)) → slice_index (take (length piece - i) (drop i piece)) n ≡ 10)
+    → (rest ++ take i piece) ++ (take n (take (length piece - i) (drop i piece)) ++ 10 ∷ []) ≡ rest ++ take (i + n + 1) piece
+line_bytes rest piece i n h k =
+    let sum : i + (n + 1) ≡ i + n + 1 = omega arith in
+    ap (λ l. (rest ++ take i piece) ++ l) (sym (line_feed piece i n h k)) ∙ held_bytes rest piece i (n + 1) ∙ ap (λ m. rest ++ take m piece) sum
+
+-- the bytes after those that were played
+pub left_bytes : (rest piece : List ℕ) (i : ℕ) → (rest ++ take i piece) ++ drop i piece ≡ rest ++ piece
+left_bytes rest piece i = append_assoc rest (take i piece) (drop i piece) ∙ ap (λ l. rest ++ l) (take-append-drop i piece)
+
+-- they begin with a line
+pub feed_begins : (rest piece : List ℕ) (i n : ℕ) → i + n < length piece → (n < length (take (length piece - i) (drop i piece)) → slice_index (take (length piece - i) (drop i piece)) n ≡ 10) → HasNoFeed rest
+    → HasNoFeed (take n (take (length piece - i) (drop i piece))) → BeginsWith (rest ++ drop i piece) ((rest ++ take n (take (length piece - i) (drop i piece))) ∷ [])
+feed_begins rest piece i n h k none clean =
+    let left = take (length piece - i) (drop i piece) in
+    let line = take n left in
+    begins_ended (rest ++ line) (drop (n + 1) left) (rest ++ drop i piece) (All-append (λ x. x ≢ 10) rest line none clean)
+    (ap (λ l. rest ++ l) (sym (slice_from piece i) ∙ sym (take-append-drop (n + 1) left) ∙ ap (λ l. l ++ drop (n + 1) left) (line_feed piece i n h k))
+    ∙ sym (append_assoc rest (line ++ 10 ∷ []) (drop (n + 1) left)) ∙ ap (λ l. l ++ drop (n + 1) left) (sym (append_assoc rest line (10 ∷ []))))

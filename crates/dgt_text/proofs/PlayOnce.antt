@@ -1,0 +1,60 @@
+-- A script divides into lines in one way, and is played in one way.
+use Rattle.std.proofs.Common.{◌≡◌, ◌≢◌, ℕ, List, [], ◌∷◌, ◌++◌, refl, sym, ◌∙◌, ap, subst, arith, append_assoc, suc, zero}
+use Rattle.std.specs.Prelude.{All, flat_map}
+use Rattle.dgt_link.specs.Act.{ActContent}
+use Rattle.dgt_link.specs.declared.acts.Outcome.{Outcome}
+use Rattle.dgt_link.specs.Step.{Step}
+use Rattle.dgt_link.specs.View.{WorldView}
+use Rattle.dgt_text.specs.Closing.{outcome_line}
+use Rattle.dgt_text.specs.Script.{IsAsked}
+use Rattle.dgt_text.specs.ScriptLines.{HasNoFeed, IsCut, ended}
+use Rattle.dgt_text.specs.Simulating.{Plays}
+
+rest_of : {A : Type 0} (P : A → Type 0) (x : A) (xs : List A) → All P (x ∷ xs) → All P xs
+rest_of P x xs h k d b = h (suc k) d (omega arith)
+
+first_of_all : {A : Type 0} (P : A → Type 0) (x : A) (xs : List A) → All P (x ∷ xs) → P x
+first_of_all P x xs h = h zero x (omega arith)
+
+-- bytes with no line feed don't hold one
+no_feed_in : (line bytes after : List ℕ) → HasNoFeed bytes → bytes ≡ line ++ 10 ∷ after → ⊥
+no_feed_in [] [] after h e = cc
+no_feed_in [] (b ∷ bytes) after h e = let same : b ≡ 10 = cc in first_of_all (λ x. x ≢ 10) b bytes h same
+no_feed_in (c ∷ line) [] after h e = cc
+no_feed_in (c ∷ line) (b ∷ bytes) after h e = let more : bytes ≡ line ++ 10 ∷ after = cc in no_feed_in line bytes after (rest_of (λ x. x ≢ 10) b bytes h) more
+
+-- the first line feed ends the first line
+feed_once : (a b x y : List ℕ) → HasNoFeed a → HasNoFeed b → a ++ 10 ∷ x ≡ b ++ 10 ∷ y → (a ≡ b) × (x ≡ y)
+feed_once [] [] x y h k e = let more : x ≡ y = cc in (refl, more)
+feed_once [] (c ∷ b) x y h k e = let same : c ≡ 10 = cc in absurd (first_of_all (λ z. z ≢ 10) c b k same)
+feed_once (c ∷ a) [] x y h k e = let same : c ≡ 10 = cc in absurd (first_of_all (λ z. z ≢ 10) c a h same)
+feed_once (c ∷ a) (d ∷ b) x y h k e =
+    let same : c ≡ d = cc in
+    let tail : a ++ 10 ∷ x ≡ b ++ 10 ∷ y = cc in
+    let more = feed_once a b x y (rest_of (λ z. z ≢ 10) c a h) (rest_of (λ z. z ≢ 10) d b k) tail in
+    (ap (λ z. z ∷ a) same ∙ ap (λ z. d ∷ z) more.0, more.1)
+
+flat_first : (line : List ℕ) (lines : List (List ℕ)) (rest : List ℕ) → flat_map ended (line ∷ lines) ++ rest ≡ line ++ 10 ∷ (flat_map ended lines ++ rest)
+flat_first line lines rest = append_assoc (ended line) (flat_map ended lines) rest ∙ append_assoc line (10 ∷ []) (flat_map ended lines ++ rest)
+
+lines_once : (ls ks : List (List ℕ)) (r s : List ℕ) → All HasNoFeed ls → All HasNoFeed ks → HasNoFeed r → HasNoFeed s → flat_map ended ls ++ r ≡ flat_map ended ks ++ s → (ls ≡ ks) × (r ≡ s)
+lines_once [] [] r s h k f g e = (refl, e)
+lines_once [] (line ∷ ks) r s h k f g e = absurd (no_feed_in line r (flat_map ended ks ++ s) f (e ∙ flat_first line ks s))
+lines_once (line ∷ ls) [] r s h k f g e = absurd (no_feed_in line s (flat_map ended ls ++ r) g (sym e ∙ flat_first line ls r))
+lines_once (line ∷ ls) (other ∷ ks) r s h k f g e =
+    let first = feed_once line other (flat_map ended ls ++ r) (flat_map ended ks ++ s) (first_of_all HasNoFeed line ls h) (first_of_all HasNoFeed other ks k) (sym (flat_first line ls r) ∙ e ∙ flat_first other ks s) in
+    let more = lines_once ls ks r s (rest_of HasNoFeed line ls h) (rest_of HasNoFeed other ks k) f g first.1 in
+    (ap (λ z. z ∷ ls) first.0 ∙ ap (λ z. other ∷ z) more.0, more.1)
+
+pub cut_once : (bytes : List ℕ) (lines others : List (List ℕ)) (rest other : List ℕ) → IsCut bytes lines rest → IsCut bytes others other → (lines ≡ others) × (rest ≡ other)
+cut_once bytes lines others rest other c d = lines_once lines others rest other c.each d.each c.last d.last (sym c.whole ∙ d.whole)
+
+module _ (meaning : (line : List ℕ) (first second : ActContent) → IsAsked line first → IsAsked line second → first ≡ second)
+    (one : (act : ActContent) (world after other : WorldView) (answer also : Outcome) → Step act world answer after → Step act world also other → (answer ≡ also) × (after ≡ other)) where
+  pub plays_once : (w : WorldView) (ls : List (List ℕ)) (t u : List ℕ) (l k : WorldView) → Plays w ls t l → Plays w ls u k → (t ≡ u) × (l ≡ k)
+  plays_once w [] t u l k p q = (p.0 ∙ sym q.0, sym p.1 ∙ q.1)
+  plays_once w (line ∷ ls) t u l k p q =
+      let act : p.0 ≡ q.0 = meaning line p.0 q.0 p.4 q.4 in
+      let step = one q.0 w p.2 q.2 p.1 q.1 (subst (λ a. Step a w p.1 p.2) act p.5) q.5 in
+      let more = plays_once q.2 ls p.3 q.3 l k (subst (λ x. Plays x ls p.3 l) step.1 p.7) q.7 in
+      (p.6 ∙ ap (λ o. outcome_line o ++ p.3) step.0 ∙ ap (λ r. outcome_line q.1 ++ r) more.0 ∙ sym q.6, more.1)

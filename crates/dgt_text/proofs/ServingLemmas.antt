@@ -1,0 +1,270 @@
+-- What a board's conversation leaves in a sink.
+use Rattle.std.proofs.Common.{◌≡◌, ℕ, ◌+◌, ◌-◌, ◌≤◌, List, [], ◌∷◌, ◌++◌, Option, Some, None, Bool, Result, Ok, Err, IsErrAnd, refl, sym, ◌∙◌, ap, subst, append_assoc, append-nil, length, take, drop, arith, true, false, is_some, IfSome, IfNone, option_map}
+use Rattle.std.proofs.Math.Seq.{take-append_seam}
+use Rattle.std.proofs.lemmas.List.{take-append-drop, take_all}
+use Rattle.std.specs.Io.KnownBytes.{Consumes}
+use Rattle.std.proofs.KnownBytes.{Appends-trans, Consumes-trans, Consumes-nil}
+use Rattle.dgt_message.specs.Content.{Content}
+use Rattle.dgt_message.specs.Spelling.{spelling}
+use Rattle.dgt_command.specs.Content.{EventContent}
+use Rattle.dgt_command.specs.Laws.{DivisionsAppend}
+use Rattle.dgt_command.specs.Words.{IsWord, IsPartial}
+use Rattle.dgt_board.specs.declared.sending.Polled.{Polled}
+use Rattle.dgt_board.specs.Sending.{after_sending, next_message}
+use Rattle.dgt_board.specs.Polls.{Polls}
+use Rattle.dgt_board.specs.View.{BoardView, after_bytes}
+use Rattle.dgt_text.specs.declared.faults.RunFault.{RunFault}
+use Rattle.dgt_text.specs.declared.faults.RunFault.TheVariants.{WriteFailed}
+use Rattle.dgt_text.specs.Runs.{Wrote, Stopped, Writes, Ran}
+use Rattle.dgt_text.specs.Conversation.{Step, told, heard, Converses, events_heard, bytes_told, Hears, Answers}
+use Rattle.dgt_text.specs.Serving.{IsAlmostTold, IsServed, Served, Halted, Serves}
+use Rattle.dgt_text.proofs.RunLemmas.{wrote_none, wrote_then, slice_more}
+use Rattle.dgt_text.proofs.ConversationLemmas.{events_heard-append, bytes_told-append, converses-told, hears_then, hears_nothing, hears_word, hears_part, front_then, front_longer, front_whole}
+
+-- ---- pieces
+
+pub piece_rest : (piece : List ℕ) (i n : ℕ) → (take i piece ++ take n (take (length piece - i) (drop i piece))) ++ drop (i + n) piece ≡ piece
+piece_rest piece i n = ap (λ (l : List ℕ). l ++ drop (i + n) piece) (sym (slice_more piece i n)) ∙ take-append-drop (i + n) piece
+
+-- ---- calls of the board
+
+-- a message that was sent into the front of a slice
+pub record HasSent (before after : BoardView) (count : ℕ) (out : List ℕ) : Type 0 where
+  pub message : Content
+  pub next : next_message before.state ≡ Some message
+  pub state : after ≡ record before { state = after_sending before.state message }
+  pub bytes : take count out ≡ spelling message
+
+pub has_sent : (before after : BoardView) (count : ℕ) (old out : List ℕ) → Polls (Polled.Wrote count) (next_message before.state) before after old out → HasSent before after count out
+has_sent before after count old out = go (next_message before.state) refl
+  where
+    go : (next : Option Content) → next_message before.state ≡ next → Polls (Polled.Wrote count) next before after old out → HasSent before after count out
+    go None is p = absurd p
+    go (Some message) is p =
+        record {
+          message = message;
+          next = is;
+          state = p.4;
+          bytes = ap (λ (l : List ℕ). take count l) p.2 ∙ ap (λ (n : ℕ). take n (spelling message ++ drop count old)) p.0 ∙ take-append_seam (spelling message) (drop count old);
+        }
+
+-- bytes that ended a word
+pub hears_some : {E : Type 0} (content : E → EventContent) (before after : BoardView) (bytes : List ℕ) (event : Option E) → next_message before.state ≡ None → true ≡ is_some event
+    → IfSome event (λ e. IsWord (content e) (before.partial ++ bytes)) → after ≡ after_bytes before bytes (option_map content event) → (found : EventContent) × Hears before bytes (heard found ∷ []) after
+hears_some content before after bytes None settled some word is = absurd (cc)
+hears_some content before after bytes (Some e) settled some word is = (content e, hears_word before after bytes (content e) settled word is)
+
+-- bytes that ended none, and so are all of the piece
+pub hears_none : {E : Type 0} (content : E → EventContent) (before after : BoardView) (piece : List ℕ) (used : ℕ) (event : Option E) → false ≡ is_some event
+    → IfNone event ((used ≡ length piece) × IsPartial (before.partial ++ piece)) → after ≡ after_bytes before (take used piece) (option_map content event)
+    → IsPartial (before.partial ++ take used piece) × (after ≡ after_bytes before (take used piece) None)
+hears_none content before after piece used None none part is = (subst (λ (l : List ℕ). IsPartial (before.partial ++ l)) (sym (take_all used piece (omega (arith, part.0)))) part.1, is)
+hears_none content before after piece used (Some e) none part is = absurd (cc)
+
+-- ---- what was written
+
+-- all but the last step was written, and a front of what that told
+pub almost_told : (before last : List Step) (front rest : List ℕ) → length last ≤ 1 → bytes_told last ≡ front ++ rest → IsAlmostTold (before ++ last) (bytes_told before ++ front)
+almost_told before last front rest one is =
+    record {
+      before = before;
+      last = last;
+      whole = refl;
+      one = one;
+      sure = (front, refl);
+      front = (rest, bytes_told-append before last ∙ ap (λ (l : List ℕ). bytes_told before ++ l) is ∙ sym (append_assoc (bytes_told before) front rest));
+    }
+
+almost_told_then : (steps more : List Step) (out : List ℕ) → IsAlmostTold more out → IsAlmostTold (steps ++ more) (bytes_told steps ++ out)
+almost_told_then steps more out p =
+    record {
+      before = steps ++ p.before;
+      last = p.last;
+      whole = ap (λ (l : List Step). steps ++ l) p.whole ∙ sym (append_assoc steps p.before p.last);
+      one = p.one;
+      sure = (p.sure.0, ap (λ (l : List ℕ). bytes_told steps ++ l) p.sure.1 ∙ sym (append_assoc (bytes_told steps) (bytes_told p.before) p.sure.0) ∙ ap (λ (l : List ℕ). l ++ p.sure.0) (sym (bytes_told-append steps p.before)));
+      front = (p.front.0, bytes_told-append steps more ∙ ap (λ (l : List ℕ). bytes_told steps ++ l) p.front.1 ∙ sym (append_assoc (bytes_told steps) out p.front.0));
+    }
+
+-- the board sent some of what it had to send, and took nothing
+pub record Sent {S : Type 0} (written : S → Option (List ℕ)) (failed : S → Bool) (before after : BoardView) (old new : S) : Type 0 where
+  pub steps : List Step
+  pub conversation : Converses before.state steps after.state
+  pub none_heard : events_heard steps ≡ []
+  pub partial : after.partial ≡ before.partial
+  pub wrote : Wrote written failed old new (bytes_told steps)
+
+-- the source gave some bytes, and the sink has all that the board answers to them
+pub record Talked {S T : Type 0} (left : S → Option (List ℕ)) (written : T → Option (List ℕ)) (failed : T → Bool) (source source' : S) (sink sink' : T) (before after : BoardView) : Type 0 where
+  pub bytes : List ℕ
+  pub given : Consumes (left source) (left source') bytes
+  pub steps : List Step
+  pub answers : Answers before bytes steps after
+  pub wrote : Wrote written failed sink sink' (bytes_told steps)
+
+module _ {S : Type 0} (written : S → Option (List ℕ)) (failed : S → Bool) where
+  pub sent_none : (board : BoardView) (a : S) → Sent written failed board board a a
+  sent_none board a = record { steps = []; conversation = refl; none_heard = refl; partial = refl; wrote = wrote_none written failed a }
+
+  pub sent_more : (old mid new : BoardView) (a b c : S) (message : Content) → Sent written failed old mid a b → next_message mid.state ≡ Some message
+      → new ≡ record mid { state = after_sending mid.state message } → Wrote written failed b c (spelling message) → Sent written failed old new a c
+  sent_more old mid new a b c message p next is q =
+      record {
+        steps = p.steps ++ told message ∷ [];
+        conversation = converses-told old.state mid.state new.state p.steps message p.conversation next (ap (λ (v : BoardView). v.state) is);
+        none_heard = events_heard-append p.steps (told message ∷ []) ∙ ap (λ (l : List EventContent). l ++ []) p.none_heard;
+        partial = ap (λ (v : BoardView). v.partial) is ∙ p.partial;
+        wrote = subst (λ (l : List ℕ). Wrote written failed a c l) (ap (λ (l : List ℕ). bytes_told p.steps ++ l) (sym (append-nil (spelling message))) ∙ sym (bytes_told-append p.steps (told message ∷ [])))
+            (wrote_then written failed a b c (bytes_told p.steps) (spelling message) p.wrote q);
+      }
+
+  -- nothing is left to tell
+  pub sent_all : (old mid new : BoardView) (a b : S) → Sent written failed old mid a b → IsPartial mid.partial → next_message mid.state ≡ None → new ≡ mid → Served written failed old new a b []
+  sent_all old mid new a b p partial none is =
+      rw is (record {
+        steps = p.steps;
+        answers = record { hears = hears_nothing old mid p.steps p.conversation p.none_heard p.partial partial; settled = none };
+        wrote = p.wrote;
+      })
+
+  -- the sink refused a message
+  pub sent_halts : (old mid new : BoardView) (a b c : S) (message : Content) → Sent written failed old mid a b → IsPartial mid.partial → next_message mid.state ≡ Some message
+      → new ≡ record mid { state = after_sending mid.state message } → Stopped written failed b c (spelling message) → Halted written failed old new a c []
+  sent_halts old mid new a b c message p partial next is q =
+      let steps = p.steps ++ told message ∷ [] in
+      let conversation = converses-told old.state mid.state new.state p.steps message p.conversation next (ap (λ (v : BoardView). v.state) is) in
+      let none : events_heard steps ≡ [] = events_heard-append p.steps (told message ∷ []) ∙ ap (λ (l : List EventContent). l ++ []) p.none_heard in
+      let same : new.partial ≡ mid.partial = ap (λ (v : BoardView). v.partial) is in
+      record {
+        out = bytes_told p.steps ++ q.front;
+        breaks = record {
+          steps = steps;
+          hears = front_whole old new [] steps (hears_nothing old new steps conversation none (same ∙ p.partial) (subst IsPartial (sym same) partial));
+          told = almost_told p.steps (told message ∷ []) q.front q.rest (omega arith) (append-nil (spelling message) ∙ q.whole);
+        };
+        appends = Appends-trans _ _ _ (bytes_told p.steps) q.front p.wrote.appends q.appends;
+        refused = q.refused;
+      }
+
+  -- ---- bytes in a row
+
+  -- steps that tell nothing, and what follows them
+  pub served_then : DivisionsAppend → (old mid between new : BoardView) (a b c : S) (s t : List ℕ) (steps : List Step) → Served written failed old mid a b s → Hears mid t steps between → bytes_told steps ≡ []
+      → Served written failed between new b c [] → Served written failed old new a c (s ++ t)
+  served_then append old mid between new a b c s t steps p h none q =
+      let all = p.steps ++ (steps ++ q.steps) in
+      let later : Hears mid (t ++ []) (steps ++ q.steps) new = hears_then append mid between new t [] steps q.steps h q.answers.hears in
+      let told : bytes_told all ≡ bytes_told p.steps ++ bytes_told q.steps
+      = bytes_told-append p.steps (steps ++ q.steps) ∙ ap (λ (l : List ℕ). bytes_told p.steps ++ l) (bytes_told-append steps q.steps ∙ ap (λ (l : List ℕ). l ++ bytes_told q.steps) none) in
+      record {
+        steps = all;
+        answers = record {
+          hears = hears_then append old mid new s t p.steps (steps ++ q.steps) p.answers.hears (rw (append-nil t) at later);
+          settled = q.answers.settled;
+        };
+        wrote = subst (λ (l : List ℕ). Wrote written failed a c l) (sym told) (wrote_then written failed a b c (bytes_told p.steps) (bytes_told q.steps) p.wrote q.wrote);
+      }
+
+  pub halted_longer : (old new : BoardView) (a b : S) (s t : List ℕ) → Halted written failed old new a b s → Halted written failed old new a b (s ++ t)
+  halted_longer old new a b s t p =
+      record {
+        out = p.out;
+        breaks = record { steps = p.breaks.steps; hears = front_longer old new s t p.breaks.steps p.breaks.hears; told = p.breaks.told };
+        appends = p.appends;
+        refused = p.refused;
+      }
+
+  halted_then : DivisionsAppend → (old mid new : BoardView) (a b c : S) (s t : List ℕ) (steps : List Step) → Hears old s steps mid → Wrote written failed a b (bytes_told steps) → Halted written failed mid new b c t
+      → Halted written failed old new a c (s ++ t)
+  halted_then append old mid new a b c s t steps h w q =
+      record {
+        out = bytes_told steps ++ q.out;
+        breaks = record {
+          steps = steps ++ q.breaks.steps;
+          hears = front_then append old mid new s t steps q.breaks.steps h q.breaks.hears;
+          told = almost_told_then steps q.breaks.steps q.out q.breaks.told;
+        };
+        appends = Appends-trans _ _ _ (bytes_told steps) q.out w.appends q.appends;
+        refused = q.refused;
+      }
+
+  -- the sink refused after a word
+  pub served_halts : DivisionsAppend → (old mid between new : BoardView) (a b c : S) (s t : List ℕ) (event : EventContent) → Served written failed old mid a b s → Hears mid t (heard event ∷ []) between
+      → Halted written failed between new b c [] → Halted written failed old new a c (s ++ t)
+  served_halts append old mid between new a b c s t event p h q =
+      let later = halted_then append mid between new b b c t [] (heard event ∷ []) h (wrote_none written failed b) q in
+      halted_then append old mid new a b c s t p.steps p.answers.hears p.wrote (rw (append-nil t) at later)
+
+  -- bytes that end no word
+  pub served_part : DivisionsAppend → (old mid new : BoardView) (a b : S) (s t : List ℕ) → Served written failed old mid a b s → IsPartial (mid.partial ++ t) → new ≡ after_bytes mid t None
+      → Served written failed old new a b (s ++ t)
+  served_part append old mid new a b s t p partial is =
+      record {
+        steps = p.steps ++ [];
+        answers = record {
+          hears = hears_then append old mid new s t p.steps [] p.answers.hears (hears_part mid new t partial is);
+          settled = ap (λ (v : BoardView). next_message v.state) is ∙ p.answers.settled;
+        };
+        wrote = subst (λ (l : List Step). Wrote written failed a b (bytes_told l)) (sym (append-nil p.steps)) p.wrote;
+      }
+
+  -- a flush at the end
+  pub served_flushed : {A : Type 0} (old new : BoardView) (a b c : S) (s : List ℕ) (r : Result A RunFault) → Served written failed old new a b s → Writes written failed b c r [] → Serves written failed old new a c r s
+  served_flushed old new a b c s (Ok x) p q =
+      record {
+        steps = p.steps;
+        answers = p.answers;
+        wrote = subst (λ (l : List ℕ). Wrote written failed a c l) (append-nil (bytes_told p.steps)) (wrote_then written failed a b c (bytes_told p.steps) [] p.wrote q);
+      }
+  served_flushed old new a b c s (Err e) p q = (
+    q.0,
+    record {
+      out = bytes_told p.steps ++ q.1.front;
+      breaks = record {
+        steps = p.steps;
+        hears = front_whole old new s p.steps p.answers.hears;
+        told = subst (λ (l : List Step). IsAlmostTold l (bytes_told p.steps ++ q.1.front)) (append-nil p.steps) (almost_told p.steps [] q.1.front q.1.rest (omega arith) q.1.whole);
+      };
+      appends = Appends-trans _ _ _ (bytes_told p.steps) q.1.front p.wrote.appends q.1.appends;
+      refused = q.1.refused;
+    },
+  )
+
+  -- the exit of a `?`
+  pub halted_exit : {A : Type 0} (old new : BoardView) (a b : S) (s : List ℕ) (r : Result A RunFault) (e : RunFault) → IsErrAnd r (λ y. y ≡ e) → e ≡ WriteFailed
+      → Halted written failed old new a b s → Serves written failed old new a b r s
+  halted_exit old new a b s (Ok x) e k w q = absurd k
+  halted_exit old new a b s (Err y) e k w q = (k ∙ w, q)
+
+-- ---- runs
+
+module _ {S T : Type 0} (left : S → Option (List ℕ)) (written : T → Option (List ℕ)) (failed : T → Bool) where
+  pub talked_none : (a : S) (c d : T) (old new : BoardView) → Served written failed old new c d [] → Talked left written failed a a c d old new
+  talked_none a c d old new p = record { bytes = []; given = Consumes-nil (left a); steps = p.steps; answers = p.answers; wrote = p.wrote }
+
+  pub talked_more : DivisionsAppend → (a b b' : S) (c d d' : T) (old mid new : BoardView) (piece : List ℕ) → Talked left written failed a b c d old mid → Consumes (left b) (left b') piece
+      → Served written failed mid new d d' piece → Talked left written failed a b' c d' old new
+  talked_more append a b b' c d d' old mid new piece p k q =
+      record {
+        bytes = p.bytes ++ piece;
+        given = Consumes-trans _ _ _ p.bytes piece p.given k;
+        steps = p.steps ++ q.steps;
+        answers = record {
+          hears = hears_then append old mid new p.bytes piece p.steps q.steps p.answers.hears q.answers.hears;
+          settled = q.answers.settled;
+        };
+        wrote = subst (λ (l : List ℕ). Wrote written failed c d' l) (sym (bytes_told-append p.steps q.steps)) (wrote_then written failed c d d' (bytes_told p.steps) (bytes_told q.steps) p.wrote q.wrote);
+      }
+
+  -- the sink refused
+  pub halted_run : {A : Type 0} (a b : S) (c d : T) (old new : BoardView) (bytes : List ℕ) (r : Result A RunFault) (e : RunFault) → Consumes (left a) (left b) bytes
+      → Halted written failed old new c d bytes → IsErrAnd r (λ y. y ≡ e) → e ≡ WriteFailed → Ran left written a b c d (IsServed r old new)
+  halted_run a b c d old new bytes (Ok x) e k q h w = absurd h
+  halted_run {A = A} a b c d old new bytes (Err y) e k q h w =
+      subst (λ f. let r : Result A RunFault = Err f in Ran left written a b c d (IsServed r old new)) (sym (h ∙ w)) (bytes, q.out, k, q.appends, q.breaks)
+
+  pub talked_stops : {A : Type 0} → DivisionsAppend → (a b b' : S) (c d d' : T) (old mid new : BoardView) (piece : List ℕ) (r : Result A RunFault) (e : RunFault) → Talked left written failed a b c d old mid
+      → Consumes (left b) (left b') piece → Halted written failed mid new d d' piece → IsErrAnd r (λ y. y ≡ e) → e ≡ WriteFailed → Ran left written a b' c d' (IsServed r old new)
+  talked_stops append a b b' c d d' old mid new piece r e p k q h w =
+      halted_run a b' c d' old new (p.bytes ++ piece) r e (Consumes-trans _ _ _ p.bytes piece p.given k)
+      (halted_then written failed append old mid new c d d' p.bytes piece p.steps p.answers.hears p.wrote q) h w

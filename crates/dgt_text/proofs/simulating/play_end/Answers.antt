@@ -1,0 +1,29 @@
+use Rattle.std.proofs.Common.{[], ◌≡◌, Bool, IsTrue, true, false}
+use Rattle.std.specs.Prelude.{◌≢◌}
+use Rattle.dgt_text.specs.Simulating.{Plays, Took, all_lines}
+use Rattle.dgt_text.proofs.PlayLemmas.{begins_last, end_exit, end_some, end_none, end_closing}
+use Rattle.dgt_text.proofs.simulating.play_end.Goals.{then-not-is_empty+in_ok-play_line, else-not-is_empty}
+use Rattle.dgt_text.proofs.simulating.play_end.Goals as goal
+
+same_true : {b : Bool} → b ≡ true → IsTrue b
+same_true e = cc
+
+not_true : {b : Bool} → b ≡ false → IsTrue b → ⊥
+not_true e h = cc
+
+pub returns-in_err-play_line-clause-played : goal.returns-in_err-play_line-clause-played
+returns-in_err-play_line-clause-played g c = λ rest h k.
+    let some : rest ≢ [] = λ e. not_true c.if-not-is_empty.true ((c.is_empty.ensures rest h).1 e) in
+    end_exit g.W.Sink.written c.from_residual.result _ c.args.world.now c.play_line.new.world c.args.writer.now c.play_line.new.writer c.args.number rest c.from_residual.ensures.1
+    (c.in_err-play_line.ensures.played rest rest h (begins_last rest k some))
+
+pub returns-clause-played : goal.returns-clause-played
+returns-clause-played g c = λ rest h k.
+    let played : Took g.W.Sink.written c.args.writer.now c.if-not-is_empty.writer (λ out. Plays c.args.world.now (all_lines [] rest) out c.if-not-is_empty.world) = elim c.if-not-is_empty.branch [
+      | then-not-is_empty+in_ok-play_line w ↦
+          let some : rest ≢ [] = λ e. not_true w.if-not-is_empty.true ((c.is_empty.ensures rest h).1 e) in
+          rw (w.world-is, w.writer-is) (end_some g.W.Sink.written _ _ _ _ rest some (w.in_ok-play_line.ensures.played rest rest h (begins_last rest k some)))
+      | else-not-is_empty w ↦ end_none g.W.Sink.written _ _ _ _ rest ((c.is_empty.ensures rest h).0 (same_true w.if-not-is_empty.false)) w.world-is w.writer-is
+    ] in
+    let closing = c.write_closing.ensures.output in
+    end_closing g.W.Sink.written g.W.Sink.failed c.write_closing.result _ _ _ _ _ c.args.number rest closing.0 k played closing.1 closing.2

@@ -1,0 +1,16 @@
+use Rattle.std.proofs.Common.{◌≡◌, ◌≤◌, ◌-◌, ◌+◌, ◌++◌, List, ℕ, length, take}
+use Rattle.dgt_text.specs.ScriptLines.{HasNoFeed, Keeps}
+use Rattle.dgt_text.specs.Simulating.{PlaysOn}
+use Rattle.dgt_text.proofs.simulating.play_piece.Given as goal
+
+abbrev pub invariant-loop-at : goal.invariant-loop-at
+invariant-loop-at g l = record {
+  bound : l.at ≤ length l.piece;
+  count : l.number ≤ l.fn.number + l.at;
+  not_failed : g.W.Sink.failed l.writer ≡ g.W.Sink.failed l.fn.writer;
+  played : (rest : List ℕ) → Keeps l.fn.line rest → HasNoFeed rest
+      → PlaysOn g.W.Sink.written l.fn.world l.world l.fn.writer l.writer l.line l.fn.number l.number (rest ++ take l.at l.piece);
+}
+
+abbrev pub decreases-loop-at : goal.decreases-loop-at
+decreases-loop-at g l = length l.piece - l.at

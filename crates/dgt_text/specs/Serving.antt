@@ -1,0 +1,55 @@
+-- What `serve` leaves in its sink, and how it leaves its board.
+use Rattle.std.specs.Prelude.{◌≡◌, ℕ, ◌≤◌, Bool, true, List, ◌++◌, length, Option, Result, Ok, Err, MatchResult}
+use Rattle.std.specs.Io.KnownBytes.{Appends}
+use Rattle.dgt_board.specs.View.{BoardView}
+use Rattle.dgt_text.specs.declared.faults.RunFault.{RunFault}
+use Rattle.dgt_text.specs.declared.faults.RunFault.TheVariants.{ReadFailed, WriteFailed, TooManyTurns, BadLine}
+use Rattle.dgt_text.specs.Conversation.{Step, bytes_told, Answers, HearsFront}
+use Rattle.dgt_text.specs.Monitoring.{IsFront}
+use Rattle.dgt_text.specs.Runs.{Wrote}
+
+-- the board answered the bytes, and all that it told was written
+abbrev pub IsAnswered : BoardView → BoardView → List ℕ → List ℕ → Type 0
+IsAnswered before after bytes out = (steps : List Step) × Answers before bytes steps after × (out ≡ bytes_told steps)
+
+-- All that was told was written, but for the message told last, of which a front may be written.
+pub record IsAlmostTold (steps : List Step) (out : List ℕ) : Type 0 where
+  pub before : List Step
+  pub last : List Step
+  pub whole : steps ≡ before ++ last
+  pub one : length last ≤ 1
+  pub sure : IsFront (bytes_told before) out
+  pub front : IsFront out (bytes_told steps)
+
+-- the board was answering the bytes when a write or a flush was refused
+pub record IsBrokenOff (before after : BoardView) (bytes out : List ℕ) : Type 0 where
+  pub steps : List Step
+  pub hears : HearsFront before bytes steps after
+  pub told : IsAlmostTold steps out
+
+-- the board before and after, the bytes that were read and those that were written, where `serve` gave this answer
+abbrev pub IsServed : {A : Type 0} → Result A RunFault → BoardView → BoardView → List ℕ → List ℕ → Type 0
+IsServed (Ok _) before after bytes out = IsAnswered before after bytes out
+IsServed (Err ReadFailed) before after bytes out = IsAnswered before after bytes out
+IsServed (Err TooManyTurns) before after bytes out = IsAnswered before after bytes out
+IsServed (Err WriteFailed) before after bytes out = IsBrokenOff before after bytes out
+IsServed (Err (BadLine _ _)) before after bytes out = ⊥
+
+-- ---- a call that hands the board some bytes
+
+-- the board answered them, and the sink took what it told
+pub record Served {S : Type 0} (written : S → Option (List ℕ)) (failed : S → Bool) (before after : BoardView) (old new : S) (bytes : List ℕ) : Type 0 where
+  pub steps : List Step
+  pub answers : Answers before bytes steps after
+  pub wrote : Wrote written failed old new (bytes_told steps)
+
+-- the sink refused
+pub record Halted {S : Type 0} (written : S → Option (List ℕ)) (failed : S → Bool) (before after : BoardView) (old new : S) (bytes : List ℕ) : Type 0 where
+  pub out : List ℕ
+  pub breaks : IsBrokenOff before after bytes out
+  pub appends : Appends (written old) (written new) out
+  pub refused : failed new ≡ true
+
+abbrev pub Serves : {S A : Type 0} → (S → Option (List ℕ)) → (S → Bool) → BoardView → BoardView → S → S → Result A RunFault → List ℕ → Type 0
+Serves written failed before after old new r bytes =
+    MatchResult r (λ _. Served written failed before after old new bytes) (λ e. (e ≡ WriteFailed) × Halted written failed before after old new bytes)

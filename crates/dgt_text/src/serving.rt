@@ -1,0 +1,103 @@
+//! The engine that answers for a board.
+
+ghost use Rattle.std.specs.Prelude.{◌≡◌, ◌≢◌, ◌+◌, ◌^◌, ◌<◌, ◌≤◌, [], IsTrue, OnOk};
+ghost use Rattle.std.specs.Io.KnownBytes.{IsAtEnd};
+ghost use Rattle.dgt_text.specs.Runs.{sink_mark_after, source_mark_after, Ran};
+ghost use Rattle.dgt_text.specs.Serving.{IsServed, Serves};
+
+use crate::ends::{Sink, Source};
+use crate::faults::RunFault;
+use crate::gathering::{flush, put};
+use dgt_board::{Board, Polled, Taken};
+use dgt_command::laws;
+
+// The most bytes of a message that a board sends: a dump.
+const MAX_SENT: usize = 67;
+
+// The board sends until it owes nothing. Each message is written before the next is asked for, so the board
+// is at most one message ahead of the sink.
+fn send_all<W: Sink>(board: &mut Board, writer: &mut W) -> Result<(), RunFault>
+    ensures { Serves W.written W.failed board.old board.new writer.old writer.new result [] }
+{
+    let mut message = [0; MAX_SENT];
+    while let Polled::Wrote(length) = board.poll(&mut message) {
+        put(writer, &message[..length])?;
+    }
+    Ok(())
+}
+
+// The board sends until it owes nothing, and again after each command or fault of `piece`. Then the sink is
+// flushed.
+fn answer<W: Sink>(board: &mut Board, piece: &[u8], writer: &mut W) -> Result<(), RunFault>
+    ensures served { Serves W.written W.failed board.old board.new writer.old writer.new result
+        piece.now }
+    ensures flushed { OnOk result (IsTrue (W.flushed writer.new)) }
+{
+    laws::divisions_append();
+    send_all(board, writer)?;
+    let mut at = 0;
+    while at < piece.len() {
+        let Taken { used, event } = board.take(&piece[at..]).unwrap();
+        at += used;
+        if event.is_some() {
+            send_all(board, writer)?;
+        }
+    }
+    flush(writer)
+}
+
+/// Answers for a board, whose commands are the bytes that the reader gives, in at most `limit` reads.
+///
+/// Before the first read, and after each command and each fault of a command, the board sends until it owes
+/// nothing, and each message is written before the next is formed. What a read brought is answered and
+/// flushed before the next read. An unfinished command at the end has no answer, and stays in the board.
+///
+/// - `ReadFailed` comes where the reader refuses, and `TooManyTurns` where `limit` reads succeeded and none
+///   told the end. All answers to what was read are written then.
+/// - `WriteFailed` comes where the writer refuses. All that the board sent is written then, but for its last
+///   message, of which the writer may have a front; it gets nothing more. The board has taken a front of what
+///   was read.
+pub fn serve<R: Source, W: Sink>(
+    board: &mut Board,
+    reader: &mut R,
+    writer: &mut W,
+    limit: u32,
+) -> Result<(), RunFault>
+    // what was read, what was written of it, and how the board answers
+    ensures output { Ran R.left W.written reader.old reader.new writer.old writer.new
+        (IsServed result board.old board.new) }
+    ensures all_read { OnOk result (IsAtEnd (R.left reader.new)) }
+
+    // a fault comes with its mark, and every other answer without it
+    ensures source_failed { R.failed reader.new ≡ source_mark_after result (R.failed reader.old) }
+    ensures sink_failed { W.failed writer.new ≡ sink_mark_after result (W.failed writer.old) }
+
+    // Ok comes at the end, and TooManyTurns before it
+    ensures ended { OnOk result (IsTrue (R.ended reader.new)) }
+    ensures not_ended { result ≡ Err RunFault.TooManyTurns →
+        R.ended reader.new ≡ R.ended reader.old }
+
+    // there are at most `limit` reads, and as many where they are too many
+    ensures turns { R.reads reader.old + limit < 2 ^ 64 →
+        R.reads reader.new ≤ R.reads reader.old + limit }
+    ensures all_turns { result ≡ Err RunFault.TooManyTurns → R.reads reader.old + limit < 2 ^ 64 →
+        R.reads reader.new ≡ R.reads reader.old + limit }
+
+    // nothing is left to flush
+    ensures flushed { IsTrue (W.flushed writer.old) → result ≢ Err RunFault.WriteFailed →
+        IsTrue (W.flushed writer.new) }
+{
+    laws::divisions_append();
+    answer(board, &[], writer)?;
+    let mut buffer = [0; 64];
+    for _ in 0..limit {
+        let Ok(given) = reader.read_some(&mut buffer) else {
+            return Err(RunFault::ReadFailed);
+        };
+        if given == 0 {
+            return Ok(());
+        }
+        answer(board, &buffer[..given], writer)?;
+    }
+    Err(RunFault::TooManyTurns)
+}

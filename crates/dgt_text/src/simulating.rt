@@ -1,0 +1,193 @@
+//! The engine that plays a script.
+
+ghost use Rattle.std.specs.Prelude.{◌≡◌, ◌≢◌, ◌+◌, ◌^◌, ◌<◌, ◌≤◌, ◌↔◌, ◌⊎◌, ◌∷◌, ◌++◌, [], ℕ, Bool, true, List, length, IfErr, IsTrue, OnOk};
+ghost use Rattle.std.specs.Io.KnownBytes.{Appends, IsAtEnd};
+ghost use Rattle.dgt_values.specs.Placement.{placement_text};
+ghost use Rattle.dgt_link.specs.Machine.{State};
+ghost use Rattle.dgt_link.specs.Promise.{IsPromised};
+ghost use Rattle.dgt_link.specs.Stands.{StandsFor};
+ghost use Rattle.dgt_link.specs.View.{IsQuietWorld};
+ghost use Rattle.dgt_text.specs.Closing.{closing_lines};
+ghost use Rattle.dgt_text.specs.Runs.{Ran, Writes, sink_mark_after, source_mark_after};
+ghost use Rattle.dgt_text.specs.ScriptLines.{HasNoFeed, Keeps};
+ghost use Rattle.dgt_text.specs.Simulating.{BeginsWith, IsOfLine, IsSimulated, IsSimulatedFrom, PlaysLine, PlaysPiece, ShowsTwice, Took};
+
+use crate::closing::{outcome_text, put_closing};
+use crate::cutting::len_before;
+use crate::ends::{Sink, Source};
+use crate::faults::RunFault;
+use crate::gathering::{Outgoing, flush, put};
+use crate::laws;
+use crate::script::{LineFault, read_act};
+use crate::script_lines::{LineBuffer, MAX_LINE};
+use dgt_link::World;
+
+// Flushes, and then refuses a line.
+fn refuse<W: Sink>(writer: &mut W, line: u64, at: usize) -> Result<(), RunFault>
+    ensures bytes { Appends (W.written writer.old) (W.written writer.new) [] }
+    ensures refused { (result ≡ Err (RunFault.BadLine line at)) ⊎ (result ≡ Err RunFault.WriteFailed) }
+    ensures sink_failed { W.failed writer.new ≡ sink_mark_after result (W.failed writer.old) }
+    ensures flushed { IfErr result (λ fault. fault ≢ RunFault.WriteFailed →
+        IsTrue (W.flushed writer.new)) }
+{
+    flush(writer)?;
+    Err(RunFault::BadLine { line, at })
+}
+
+// Does what a line asks for, and writes the line of its outcome.
+fn play_line<W: Sink>(
+    world: &mut World,
+    line: &LineBuffer,
+    number: u64,
+    writer: &mut W,
+) -> Result<(), RunFault>
+    ensures played { (whole bytes : List ℕ) → Keeps line.now whole → BeginsWith bytes (whole ∷ [])
+        → PlaysLine W.written world.old world.new writer.old writer.new result number whole bytes }
+    ensures faults { IfErr result IsOfLine }
+    ensures sink_failed { W.failed writer.new ≡ sink_mark_after result (W.failed writer.old) }
+    ensures flushed { IfErr result (λ fault. fault ≢ RunFault.WriteFailed →
+        IsTrue (W.flushed writer.new)) }
+{
+    let Some(bytes) = line.line() else {
+        return refuse(writer, number, MAX_LINE);
+    };
+    let mut store = [0; 257];
+    match read_act(bytes, &mut store) {
+        Ok(act) => put(writer, outcome_text(world.step(act))),
+        Err(LineFault::BadLine { at }) => refuse(writer, number, at),
+    }
+}
+
+// Plays the lines that end in the piece, and keeps the bytes after them.
+fn play_piece<W: Sink>(
+    world: &mut World,
+    line: &mut LineBuffer,
+    number: &mut u64,
+    piece: &[u8],
+    writer: &mut W,
+) -> Result<(), RunFault>
+    requires { number.old + length piece.now < 2 ^ 64 }
+    ensures played { (rest : List ℕ) → Keeps line.old rest → HasNoFeed rest
+        → PlaysPiece W.written world.old world.new writer.old writer.new line.new
+        number.old number.new result (rest ++ piece.now) }
+    ensures counted { OnOk result (number.new ≤ number.old + length piece.now) }
+    ensures faults { IfErr result IsOfLine }
+    ensures sink_failed { W.failed writer.new ≡ sink_mark_after result (W.failed writer.old) }
+    ensures flushed { IfErr result (λ fault. fault ≢ RunFault.WriteFailed →
+        IsTrue (W.flushed writer.new)) }
+{
+    let mut at = 0;
+    while at < piece.len() {
+        let left = &piece[at..];
+        let end = len_before(left, b'\n');
+        line.add(&left[..end]);
+        at += end;
+        if at < piece.len() {
+            play_line(world, line, *number, writer)?;
+            *line = LineBuffer::new();
+            *number += 1;
+            at += 1;
+        }
+    }
+    Ok(())
+}
+
+// Writes the closing lines, and flushes.
+fn write_closing<W: Sink>(world: &World, writer: &mut W) -> Result<(), RunFault>
+    ensures output { (quiet : Bool) × (IsTrue quiet ↔ IsQuietWorld world.now)
+        × Writes W.written W.failed writer.old writer.new result (closing_lines world.now quiet) }
+    ensures flushed { OnOk result (IsTrue (W.flushed writer.new)) }
+{
+    let mut outgoing = Outgoing::new();
+    put_closing(&mut outgoing, writer, world)?;
+    outgoing.write_out(writer)?;
+    flush(writer)
+}
+
+// Plays a last line, if it isn't empty, and writes the closing lines.
+fn play_end<W: Sink>(
+    world: &mut World,
+    line: &LineBuffer,
+    number: u64,
+    writer: &mut W,
+) -> Result<(), RunFault>
+    ensures played { (rest : List ℕ) → Keeps line.now rest → HasNoFeed rest
+        → Took W.written writer.old writer.new
+        (IsSimulatedFrom number result world.old world.new rest) }
+    ensures faults { IfErr result IsOfLine }
+    ensures sink_failed { W.failed writer.new ≡ sink_mark_after result (W.failed writer.old) }
+    ensures flushed { result ≢ Err RunFault.WriteFailed → IsTrue (W.flushed writer.new) }
+{
+    if !line.is_empty() {
+        play_line(world, line, number, writer)?;
+    }
+    write_closing(world, writer)
+}
+
+/// Plays the script that the reader gives, in at most `limit` reads, in the world.
+///
+/// Each line asks for an act, and its outcome is a line: `done`, `nothing`, `noroom`, `busy` or `toomany`.
+/// It is written before the next act is done, and the lines of what came in a read are flushed before the
+/// next read. A last line without a line feed counts if it isn't empty. At the end of the script come four
+/// closing lines, which tell the board's position, the host's picture, the host's clock and whether the
+/// world is quiet.
+///
+/// - `BadLine` comes at the first line that asks for no act. Its number counts from 1. The lines before it
+///   are played, their outcomes are written and flushed, and no closing line is written.
+/// - `ReadFailed` comes where the reader refuses, and `TooManyTurns` where `limit` reads succeeded and none
+///   told the end. All whole lines of what was read are played then, and no closing line is written.
+/// - `WriteFailed` comes where the writer refuses. It gets nothing more, and no further act is done. What
+///   may be missing is the end of the last outcome, or an end of the closing lines.
+pub fn simulate<R: Source, W: Sink>(
+    world: &mut World,
+    reader: &mut R,
+    writer: &mut W,
+    limit: u32,
+) -> Result<(), RunFault>
+    // what was read, what was written of it, and which world is left
+    ensures output { Ran R.left W.written reader.old reader.new writer.old writer.new
+        (IsSimulated result world.old world.new) }
+    ensures all_read { OnOk result (IsAtEnd (R.left reader.new)) }
+
+    // where updates and a dump were asked for, and the last line tells that all is quiet, the lines of
+    // board and host tell one placement
+    ensures picture { OnOk result ((x : State) → StandsFor world.new x → IsPromised x →
+        IsQuietWorld world.new →
+        ShowsTwice (placement_text world.new.board.state.squares) (closing_lines world.new true)) }
+
+    // a fault comes with its mark, and every other answer without it
+    ensures source_failed { R.failed reader.new ≡ source_mark_after result (R.failed reader.old) }
+    ensures sink_failed { W.failed writer.new ≡ sink_mark_after result (W.failed writer.old) }
+
+    // Ok comes at the end, and TooManyTurns before it
+    ensures ended { OnOk result (IsTrue (R.ended reader.new)) }
+    ensures not_ended { result ≡ Err RunFault.TooManyTurns →
+        R.ended reader.new ≡ R.ended reader.old }
+
+    // there are at most `limit` reads, and as many where they are too many
+    ensures turns { R.reads reader.old + limit < 2 ^ 64 →
+        R.reads reader.new ≤ R.reads reader.old + limit }
+    ensures all_turns { result ≡ Err RunFault.TooManyTurns → R.reads reader.old + limit < 2 ^ 64 →
+        R.reads reader.new ≡ R.reads reader.old + limit }
+
+    // nothing is left to flush
+    ensures flushed { IsTrue (W.flushed writer.old) → result ≢ Err RunFault.WriteFailed →
+        IsTrue (W.flushed writer.new) }
+{
+    laws::closing_lines_agree();
+    dgt_link::laws::at_quiet_world();
+    let mut line = LineBuffer::new();
+    let mut number = 1;
+    let mut buffer = [0; 64];
+    for _ in 0..limit {
+        let Ok(given) = reader.read_some(&mut buffer) else {
+            return Err(RunFault::ReadFailed);
+        };
+        if given == 0 {
+            return play_end(world, &line, number, writer);
+        }
+        play_piece(world, &mut line, &mut number, &buffer[..given], writer)?;
+        flush(writer)?;
+    }
+    Err(RunFault::TooManyTurns)
+}
