@@ -1,8 +1,9 @@
 //! The words of the command line, read by `clap`.
 use crate::fault::Fault;
-use crate::help::{MONITOR_NOTES, PROGRAM_NOTES, SHOW_NOTES};
+use crate::help::{BOARD_NOTES, MONITOR_NOTES, PROGRAM_NOTES, SHOW_NOTES, SIMULATE_NOTES};
 use clap::error::ErrorKind;
-use clap::{Arg, ArgMatches, Command};
+use clap::{Arg, ArgMatches, Command, value_parser};
+use dgt_link::{MIN_DOWN, MIN_UP};
 use std::alloc::{AllocError, Global};
 use std::io;
 
@@ -12,9 +13,46 @@ pub enum Task<'a> {
     /// Print this text of help.
     Help(clap::Error),
     /// Show what the bytes of this hexadecimal word make known.
-    Show { word: &'a str },
+    Show {
+        word: &'a str,
+    },
     /// Show what the bytes of the input make known.
     Monitor,
+    /// Answer the commands of the input as a board with this placement.
+    Board {
+        placement: &'a str,
+    },
+    /// Do the acts of the input in a world whose board has this placement, and whose lines hold so many bytes.
+    Simulate {
+        placement: &'a str,
+        up: u16,
+        down: u16,
+    },
+}
+
+/// The placement in which a game begins.
+const START: &str = "rnbqkbnr/pppppppp/8/8/8/8/PPPPPPPP/RNBQKBNR";
+
+/// The bytes that a line holds where the command line doesn't say.
+const LINE_BYTES: u16 = 1024;
+
+fn position<'a>(alloc: Global) -> Arg<'a> {
+    Arg::new(alloc, "position")
+        .long("position")
+        .value_name("P")
+        .default_value(START)
+        .hide_default_value(true)
+        .help("The pieces, as in a FEN [default: as a game begins]")
+}
+
+// How many bytes a line holds, at least so many.
+fn line_bytes<'a>(alloc: Global, name: &'a str, least: i64, help: &'a str) -> Arg<'a> {
+    Arg::new(alloc, name)
+        .long(name)
+        .value_name("N")
+        .value_parser(value_parser!(u16).range(least..=65535))
+        .default_value("1024")
+        .help(help)
 }
 
 fn show<'a>(alloc: Global) -> Result<Command<'a>, AllocError> {
@@ -33,13 +71,41 @@ fn monitor<'a>(alloc: Global) -> Command<'a> {
         .after_help(MONITOR_NOTES)
 }
 
+fn board<'a>(alloc: Global) -> Result<Command<'a>, AllocError> {
+    Command::new(alloc, "board")
+        .about("Answers the commands on standard input, as a board does")
+        .after_help(BOARD_NOTES)
+        .arg(position(alloc))
+}
+
+fn simulate<'a>(alloc: Global) -> Result<Command<'a>, AllocError> {
+    Command::new(alloc, "simulate")
+        .about("Plays a script with a board, a host, and the lines between them")
+        .after_help(SIMULATE_NOTES)
+        .arg(position(alloc))?
+        .arg(line_bytes(
+            alloc,
+            "up",
+            MIN_UP as i64,
+            "The bytes that the line to the host holds, 67 to 65535",
+        ))?
+        .arg(line_bytes(
+            alloc,
+            "down",
+            MIN_DOWN as i64,
+            "The bytes that the line to the board holds, 257 to 65535",
+        ))
+}
+
 fn command<'a>(alloc: Global) -> Result<Command<'a>, AllocError> {
     Command::new(alloc, "dgt")
-        .about("Shows what a DGT electronic chess board says")
+        .about("Shows what a DGT electronic chess board says, and stands in for one")
         .after_help(PROGRAM_NOTES)
         .subcommand_required(true)
         .subcommand(show(alloc)?)?
-        .subcommand(monitor(alloc))
+        .subcommand(monitor(alloc))?
+        .subcommand(board(alloc)?)?
+        .subcommand(simulate(alloc)?)
 }
 
 /// The task of the words, of which the first is the program's name.
@@ -64,6 +130,14 @@ fn requested<'a>(matches: &ArgMatches<'a>) -> Task<'a> {
     match matches.subcommand() {
         Some(("show", show)) => Task::Show {
             word: show.get_str("hex").unwrap_or(""),
+        },
+        Some(("board", board)) => Task::Board {
+            placement: board.get_str("position").unwrap_or(START),
+        },
+        Some(("simulate", simulate)) => Task::Simulate {
+            placement: simulate.get_str("position").unwrap_or(START),
+            up: simulate.get_one::<u16>("up").unwrap_or(LINE_BYTES),
+            down: simulate.get_one::<u16>("down").unwrap_or(LINE_BYTES),
         },
         _ => Task::Monitor,
     }

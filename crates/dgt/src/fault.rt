@@ -1,5 +1,7 @@
 //! Why the program stopped, and how it says so.
+use dgt_link::WorldFault;
 use dgt_text::RunFault;
+use dgt_values::BadPlacement;
 use std::alloc::{AllocError, AllocFailed};
 use std::io::Write;
 use thiserror::Error;
@@ -13,12 +15,34 @@ pub enum Fault {
     /// The word of bytes is no hexadecimal text.
     #[error("bad hex")]
     BadHex,
+    /// The position is no placement, from this offset on.
+    #[error("bad placement at {at}")]
+    BadPlacement { at: usize },
+    /// A line of the simulated world would hold too few bytes.
+    #[error("a line is too small")]
+    LineTooSmall,
     /// The run stopped.
     #[error("{0}")]
     Run(#[from] RunFault),
     /// An allocation was refused.
     #[error("out of memory")]
     OutOfMemory,
+}
+
+impl From<BadPlacement> for Fault {
+    fn from(error: BadPlacement) -> Fault {
+        Fault::BadPlacement { at: error.at }
+    }
+}
+
+impl From<WorldFault> for Fault {
+    fn from(error: WorldFault) -> Fault {
+        match error {
+            // The command line has refused such a line.
+            WorldFault::LineTooSmall => Fault::LineTooSmall,
+            WorldFault::OutOfMemory => Fault::OutOfMemory,
+        }
+    }
 }
 
 impl From<AllocError> for Fault {
@@ -44,7 +68,10 @@ impl Fault {
         let _ = errors.flush();
         match self {
             Fault::Run(_) => 1,
-            Fault::CommandLine(_) | Fault::BadHex => 2,
+            Fault::CommandLine(_)
+            | Fault::BadHex
+            | Fault::BadPlacement { .. }
+            | Fault::LineTooSmall => 2,
             Fault::OutOfMemory => 3,
         }
     }

@@ -33,14 +33,21 @@ or badpiece, badsquare or badreading and the place in the body, from 0 on.",
 /// What follows clap's own text in the help of the program.
 pub const PROGRAM_NOTES: &str = "\
 A DGT board is a chess board that tells over a serial line what stands on its
-squares. This program tells in lines of text what the board's bytes mean.
+squares, where a host, the program at the other end, asks it to by commands.
+'show' and 'monitor' tell in lines of text what the board's bytes mean. 'board'
+takes the place of a board, to try a host on. 'simulate' has a board and a host
+on a line of bytes each way, and moves the bytes as a script tells it to.
 
-Example:
+Examples:
   $ dgt show 8e00052401
   00000005 field e4 P
 The five bytes 8e 00 05 24 01 are one message: a white pawn now stands on e4.
 
-'dgt show --help' and 'dgt monitor --help' tell of every line.";
+  $ printf '\\x4d' | dgt board | dgt monitor
+  00000005 version 1.3
+The byte 4d is the command that asks for the version of the board.
+
+'dgt show --help' and so on tell the rest of each command.";
 
 /// What follows clap's own text in the help of `show`.
 pub const SHOW_NOTES: &str = with_lines!(
@@ -89,4 +96,128 @@ each change from then on (44). Ctrl-C ends it.
   00000067 dump rnbqkbnr/pppppppp/8/8/8/8/PPPPPPPP/RNBQKBNR
   00000072 field e2 .
   00000077 field e4 P"
+);
+
+// What the placement of a command's option is, between two texts.
+macro_rules! with_placement {
+    ($before:literal, $after:literal) => {
+        concat!(
+            $before,
+            "P tells the pieces as the first field of a FEN does: the ranks from 8 down to 1
+with / between them, in each the letters of its pieces (PRNBKQ white, prnbkq
+black, XYZ extra) and digits for so many empty squares. A game begins as
+rnbqkbnr/pppppppp/8/8/8/8/PPPPPPPP/RNBQKBNR.",
+            $after
+        )
+    };
+}
+
+/// What follows clap's own text in the help of `board`.
+pub const BOARD_NOTES: &str = with_placement!(
+    "\
+Takes the place of a board: reads the bytes of a host's commands from standard
+input, up to its end, and writes the bytes of its answers to standard output,
+each as soon as its command has come. 'dgt monitor' shows what they say.
+
+The commands, in hexadecimal, and what they ask for:
+  40      reset: from now on no change is told
+  41      the clock, which shows 0:00:00 for both players
+  42      the pieces on all squares
+  43      from now on each change is told, of squares and of the clock, which
+          is told at once if it wasn't yet
+  44      from now on each change of squares is told
+  45      the serial number, 00001
+  47      the trademark, SIMULATED BOARD
+  4b      as 43
+  4c      the state of the battery, one byte 64
+  4d      the version, 1.3
+  2b ..   a message for the clock: size, 03, id, payload, 00. It is
+          acknowledged, with the version 1.4 of the clock where the id is 09
+  60 ..   lights: size, and so many bytes. They are passed over
+
+Any other byte is passed over. Nobody moves the pieces or runs the clock here,
+so there is no change to tell later.
+
+",
+    "
+
+Exit status: 0 at the end of standard input, where an unfinished command has no
+answer; 1 if standard input or output fails, or the end has not come after
+4294967295 reads; 2 if the command line or P is wrong; 3 if memory runs out.
+
+Examples:
+  $ printf '\\x42\\x4d' | dgt board | dgt monitor
+  00000067 dump rnbqkbnr/pppppppp/8/8/8/8/PPPPPPPP/RNBQKBNR
+  00000072 version 1.3
+  $ printf '\\x42' | dgt board --position 8/8/8/8/8/8/8/K6k | dgt monitor
+  00000067 dump 8/8/8/8/8/8/8/K6k
+  $ printf '\\x2b\\x03\\x03\\x09\\x00' | dgt board | dgt monitor
+  00000010 ack 10 09 14 00 00
+
+Example of a serial port, on which a host at its other end finds this board.
+Ctrl-C ends it.
+  $ stty -F /dev/ttyUSB0 9600 raw -echo
+  $ dgt board <>/dev/ttyUSB0 >&0"
+);
+
+/// What follows clap's own text in the help of `simulate`.
+pub const SIMULATE_NOTES: &str = with_placement!(
+    "\
+Has the board of 'dgt board', a host that keeps a picture of it, and a line of
+bytes each way between the two. Reads acts from standard input, one a line, up
+to its end, and writes one line for each, before it reads on.
+
+The acts:
+  change SQUARE PIECE  a piece is put on a square of the board, as by change e4
+                       P, or taken away, as by change e2 .
+  clock HEX            the clock of the board now shows this: seven bytes, the
+                       body of its message
+  host HEX             the host sends this command towards the board; 'dgt board
+                       --help' has the commands
+  send                 the board sends its next message towards the host
+  toboard N            N of the bytes sent there come to the board, or all if
+                       there are fewer, or as many as until it owes 8 answers
+  tohost N             N of the bytes sent there come to the host, or all if
+                       there are fewer
+
+Words have one space between them. HEX is two digits a byte. N is 1 to 65535.
+
+What is written for an act:
+  done                 it is done
+  nothing              the board has nothing to send, or no byte is on its way
+  noroom               the line has no room for the whole message or command
+  busy                 the board owes 8 answers, and takes no byte before it
+                       sends one
+  toomany              the host awaits 16 answers, and asks for no more
+
+An act that is not done changes nothing. What is written at the end of standard
+input, in four lines:
+  board PLACEMENT      the pieces on the board
+  host PLACEMENT       the pieces in the host's picture, or unknown if it has
+                       not heard of all squares yet
+  hostclock CLOCK      the clock as the host heard it last, in the words times
+                       or noclock of 'dgt monitor --help', or unknown
+  quiet ANSWER         yes if no byte is on its way, no message or command has
+                       come in part, and the board has nothing to send, else no
+
+",
+    "
+
+Exit status: 0 at the end of standard input; 1 if a line is no act, standard
+input or output fails, or the end has not come after 4294967295 reads; 2 if the
+command line or P is wrong; 3 if memory runs out. 'dgt: line 2: bad at 7' tells
+that the second line is no act, and that the first word that is wrong or missing
+would come after 7 bytes.
+
+Example. The host asks for all squares and gets them, byte for byte:
+  $ printf 'host 42\\ntoboard 1\\nsend\\ntohost 66\\ntohost 1\\n' | dgt simulate
+  done
+  done
+  done
+  done
+  done
+  board rnbqkbnr/pppppppp/8/8/8/8/PPPPPPPP/RNBQKBNR
+  host rnbqkbnr/pppppppp/8/8/8/8/PPPPPPPP/RNBQKBNR
+  hostclock unknown
+  quiet yes"
 );

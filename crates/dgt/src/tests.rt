@@ -1,7 +1,11 @@
 //! Whole runs of the program, over words and streams in memory.
+mod boards;
+mod helps;
+mod scripts;
+
 use crate::fault::Fault;
-use crate::help::{MONITOR_NOTES, PROGRAM_NOTES, SHOW_NOTES};
 use crate::program::run_words;
+use dgt_link::WorldFault;
 use dgt_text::RunFault;
 use std::alloc::{AllocError, Global};
 use std::io;
@@ -20,47 +24,6 @@ const START_BUT_H1: &str = "\
 0000000000000000\
 0101010101010101\
 02030406050403";
-
-/// The help of the program, before its notes.
-const PROGRAM_HELP: &str = "\
-Shows what a DGT electronic chess board says
-
-Usage: dgt <COMMAND>
-
-Commands:
-  show     Shows the messages in the bytes of a hexadecimal word
-  monitor  Shows the messages in the bytes of standard input, as they come
-  help     Print this message or the help of the given subcommand(s)
-
-Options:
-  -h, --help  Print help
-
-";
-
-/// The help of `show`, before its notes.
-const SHOW_HELP: &str = "\
-Shows the messages in the bytes of a hexadecimal word
-
-Usage: dgt show <HEX>
-
-Arguments:
-  <HEX>  The bytes that a board sends, two hexadecimal digits each
-
-Options:
-  -h, --help  Print help
-
-";
-
-/// The help of `monitor`, before its notes.
-const MONITOR_HELP: &str = "\
-Shows the messages in the bytes of standard input, as they come
-
-Usage: dgt monitor
-
-Options:
-  -h, --help  Print help
-
-";
 
 /// Room for all that a run writes, so that the writers take no memory.
 const ROOM: usize = 8192;
@@ -105,12 +68,8 @@ fn run<I: Read + Drop>(
 }
 
 // Compares all that a run of this line told.
-fn compare(rt: &impl Abort, line: &str, ran: &Ran, status: u8, output: &str, errors: &str) {
-    assert_eq!(rt;
-        ran.output.as_slice(),
-        output.as_bytes(),
-        "output of {line}"
-    );
+fn compare(rt: &impl Abort, line: &str, ran: &Ran, status: u8, output: &[u8], errors: &str) {
+    assert_eq!(rt; ran.output.as_slice(), output, "output of {line}");
     assert_eq!(rt;
         ran.errors.as_slice(),
         errors.as_bytes(),
@@ -119,7 +78,21 @@ fn compare(rt: &impl Abort, line: &str, ran: &Ran, status: u8, output: &str, err
     assert_eq!(rt; ran.status, status, "status of {line}");
 }
 
-// Runs the words of a line with no input, and compares all that the run told.
+// Runs the words of a line over these bytes, and compares all that the run told.
+fn check_over(
+    rt: &(impl Abort + AllocGlobal),
+    line: &str,
+    input: &[u8],
+    status: u8,
+    output: &[u8],
+    errors: &str,
+) -> Result<(), Fail> {
+    let ran = run(rt.alloc(), line, Cursor::new(input), ROOM, true)?;
+    compare(rt, line, &ran, status, output, errors);
+    Ok(())
+}
+
+// Runs the words of a line with an input that refuses each read, and compares all that the run told.
 fn check(
     rt: &(impl Abort + AllocGlobal),
     line: &str,
@@ -127,8 +100,8 @@ fn check(
     output: &str,
     errors: &str,
 ) -> Result<(), Fail> {
-    let ran = run(rt.alloc(), line, io::empty(), ROOM, true)?;
-    compare(rt, line, &ran, status, output, errors);
+    let ran = run(rt.alloc(), line, Broken, ROOM, true)?;
+    compare(rt, line, &ran, status, output.as_bytes(), errors);
     Ok(())
 }
 
@@ -138,15 +111,14 @@ fn check_shown(rt: &(impl Abort + AllocGlobal), word: &str, output: &str) -> Res
     let line = format!(in alloc; "dgt show {word}")?;
     check(rt, line.as_str(), 0, output, "")?;
     let bytes = hex::decode(alloc, word)?;
-    let ran = run(
-        alloc,
+    check_over(
+        rt,
         "dgt monitor",
-        Cursor::new(bytes.as_slice()),
-        ROOM,
-        true,
-    )?;
-    compare(rt, word, &ran, 0, output, "");
-    Ok(())
+        bytes.as_slice(),
+        0,
+        output.as_bytes(),
+        "",
+    )
 }
 
 #[test]
@@ -219,7 +191,7 @@ fn refuses_words(rt: HostRuntime) -> Result<(), Fail> {
         ("dgt show 8e0005240g", "dgt: bad hex\n", ""),
         (
             "dgt",
-            "error: 'dgt' requires a subcommand but one was not provided\n  [subcommands: show, monitor, help]\n\nUsage: dgt <COMMAND>",
+            "error: 'dgt' requires a subcommand but one was not provided\n  [subcommands: show, monitor, board, simulate, help]\n\nUsage: dgt <COMMAND>",
             more,
         ),
         (
@@ -238,6 +210,21 @@ fn refuses_words(rt: HostRuntime) -> Result<(), Fail> {
             more,
         ),
         (
+            "dgt board 42",
+            "error: unexpected argument '42' found\n\nUsage: dgt board [OPTIONS]",
+            more,
+        ),
+        (
+            "dgt board --position",
+            "error: a value is required for '--position <P>' but none was supplied",
+            more,
+        ),
+        (
+            "dgt board --up 67",
+            "error: unexpected argument '--up' found\n\nUsage: dgt board [OPTIONS]",
+            more,
+        ),
+        (
             "dgt shwo",
             "error: unrecognized subcommand 'shwo'\n\n  tip: a similar subcommand exists: 'show'\n\nUsage: dgt <COMMAND>",
             more,
@@ -246,21 +233,6 @@ fn refuses_words(rt: HostRuntime) -> Result<(), Fail> {
     for (line, text, end) in rows {
         let errors = format!(in rt.alloc(); "{text}{end}")?;
         check(&rt, line, 2, "", errors.as_str())?;
-    }
-    Ok(())
-}
-
-#[test]
-fn shows_help(rt: HostRuntime) -> Result<(), Fail> {
-    let rows = [
-        ("dgt --help", PROGRAM_HELP, PROGRAM_NOTES),
-        ("dgt help", PROGRAM_HELP, PROGRAM_NOTES),
-        ("dgt show --help", SHOW_HELP, SHOW_NOTES),
-        ("dgt monitor --help", MONITOR_HELP, MONITOR_NOTES),
-    ];
-    for (line, text, notes) in rows {
-        let output = format!(in rt.alloc(); "{text}{notes}\n")?;
-        check(&rt, line, 0, output.as_str(), "")?;
     }
     Ok(())
 }
@@ -304,55 +276,118 @@ impl Read for Broken {
 }
 
 #[test]
+fn refuses_placements(rt: HostRuntime) -> Result<(), Fail> {
+    let rows = [
+        ("dgt board --position 9", "dgt: bad placement at 0\n"),
+        ("dgt simulate --position 9", "dgt: bad placement at 0\n"),
+        ("dgt board --position ", "dgt: bad placement at 0\n"),
+        ("dgt board --position rnbqkbnr", "dgt: bad placement at 8\n"),
+        (
+            "dgt simulate --up 67 --position 8/8/8/8/8/8/8/8/8 --down 257",
+            "dgt: bad placement at 15\n",
+        ),
+    ];
+    for (line, errors) in rows {
+        check(&rt, line, 2, "", errors)?;
+    }
+    Ok(())
+}
+
+#[test]
+fn refuses_lines_of_too_few_or_too_many_bytes(rt: HostRuntime) -> Result<(), Fail> {
+    let rows = [
+        ("--up 66", "up", "66", "66 is not in 67..=65535"),
+        ("--up 65536", "up", "65536", "65536 is not in 67..=65535"),
+        ("--up 0", "up", "0", "0 is not in 67..=65535"),
+        ("--up x", "up", "x", "invalid digit found in string"),
+        ("--down 256", "down", "256", "256 is not in 257..=65535"),
+        (
+            "--down 65536",
+            "down",
+            "65536",
+            "65536 is not in 257..=65535",
+        ),
+        ("--down 1e3", "down", "1e3", "invalid digit found in string"),
+        // the command line is looked at before the placement
+        (
+            "--position 9 --up 66",
+            "up",
+            "66",
+            "66 is not in 67..=65535",
+        ),
+        (
+            "--up 67 --down 256 --position 9",
+            "down",
+            "256",
+            "256 is not in 257..=65535",
+        ),
+    ];
+    for (options, name, value, why) in rows {
+        let alloc = rt.alloc();
+        let line = format!(in alloc; "dgt simulate {options}")?;
+        let errors = format!(in alloc;
+            "error: invalid value '{value}' for '--{name} <N>': {why}\n\nFor more information, try '--help'.\n"
+        )?;
+        check(&rt, line.as_str(), 2, "", errors.as_str())?;
+    }
+    Ok(())
+}
+
+#[test]
 fn stops_at_a_refused_write(rt: HostRuntime) -> Result<(), Fail> {
     let alloc = rt.alloc();
     let bytes: &[u8] = &[0x8e, 0x00, 0x02, 0x05];
+    let lines = "00000003 badlength\n00000004 stray 05\n";
     let rows = [
-        ("dgt show 8e000205", 0, true, ""),
-        ("dgt show 8e000205", 9, true, "00000003 "),
-        ("dgt show 8e000205", 19, true, "00000003 badlength\n"),
+        ("dgt show 8e000205", bytes, 0, true, ""),
+        ("dgt show 8e000205", bytes, 9, true, "00000003 "),
+        ("dgt show 8e000205", bytes, 19, true, "00000003 badlength\n"),
+        ("dgt show 8e000205", bytes, ROOM, false, lines),
+        ("dgt monitor", bytes, 9, true, "00000003 "),
+        ("dgt monitor", bytes, ROOM, false, lines),
+        ("dgt board", b"\x45", 0, true, ""),
+        ("dgt simulate", b"send\nsend\n", 4, true, "noth"),
+        ("dgt simulate", b"send\nsend\n", 8, true, "nothing\n"),
         (
-            "dgt show 8e000205",
+            "dgt simulate",
+            b"send\nsend\n",
             ROOM,
             false,
-            "00000003 badlength\n00000004 stray 05\n",
+            "nothing\nnothing\n",
         ),
-        ("dgt monitor", 9, true, "00000003 "),
-        (
-            "dgt monitor",
-            ROOM,
-            false,
-            "00000003 badlength\n00000004 stray 05\n",
-        ),
-        ("dgt --help", 5, true, "Shows"),
-        ("dgt show --help", 0, false, ""),
+        ("dgt simulate", b"sned\n", ROOM, false, ""),
+        ("dgt --help", b"", 5, true, "Shows"),
+        ("dgt show --help", b"", 0, false, ""),
     ];
-    for (line, room, flushes, output) in rows {
-        let ran = run(alloc, line, Cursor::new(bytes), room, flushes)?;
-        compare(&rt, line, &ran, 1, output, "dgt: write failed\n");
+    for (line, input, room, flushes, output) in rows {
+        let ran = run(alloc, line, Cursor::new(input), room, flushes)?;
+        compare(&rt, line, &ran, 1, output.as_bytes(), "dgt: write failed\n");
     }
     Ok(())
 }
 
 #[test]
 fn stops_at_a_refused_read(rt: HostRuntime) -> Result<(), Fail> {
-    let alloc = rt.alloc();
-    let bytes: &[u8] = &[0x8e, 0x00, 0x05, 0x24, 0x01, 0x8e];
-    let line = "dgt monitor";
-    let ran = run(alloc, line, Cursor::new(bytes).chain(Broken), ROOM, true)?;
-    compare(
-        &rt,
-        line,
-        &ran,
-        1,
-        "00000005 field e4 P\n",
-        "dgt: read failed\n",
-    );
-    let ran = run(alloc, line, Broken, ROOM, true)?;
-    compare(&rt, line, &ran, 1, "", "dgt: read failed\n");
-    let line = "dgt show 8e00052401";
-    let ran = run(alloc, line, Broken, ROOM, true)?;
-    compare(&rt, line, &ran, 0, "00000005 field e4 P\n", "");
+    let field = "00000005 field e4 P\n";
+    check(&rt, "dgt show 8e00052401", 0, field, "")?;
+    for line in ["dgt monitor", "dgt board", "dgt simulate"] {
+        check(&rt, line, 1, "", "dgt: read failed\n")?;
+    }
+    let version: &[u8] = &[0x93, 0x00, 0x05, 0x01, 0x03];
+    let rows = [
+        (
+            "dgt monitor",
+            b"\x8e\x00\x05\x24\x01\x8e".as_slice(),
+            field.as_bytes(),
+        ),
+        ("dgt board", b"\x4d\x2b\x04", version),
+        ("dgt simulate", b"send\nsen", b"nothing\n"),
+    ];
+    for (line, input, output) in rows {
+        let input = Cursor::new(input).chain(Broken);
+        let ran = run(rt.alloc(), line, input, ROOM, true)?;
+        compare(&rt, line, &ran, 1, output, "dgt: read failed\n");
+    }
     Ok(())
 }
 
@@ -373,5 +408,9 @@ fn check_told(
 fn tells_what_no_run_here_meets(rt: HostRuntime) -> Result<(), Fail> {
     let turns = Fault::from(RunFault::TooManyTurns);
     check_told(&rt, turns, 1, "dgt: too many turns\n")?;
+    let small = Fault::from(WorldFault::LineTooSmall);
+    check_told(&rt, small, 2, "dgt: a line is too small\n")?;
+    let refused = Fault::from(WorldFault::OutOfMemory);
+    check_told(&rt, refused, 3, "dgt: out of memory\n")?;
     check_told(&rt, Fault::OutOfMemory, 3, "dgt: out of memory\n")
 }

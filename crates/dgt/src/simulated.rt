@@ -1,0 +1,44 @@
+//! What the board of the program tells of itself, and of its clock.
+ghost use Rattle.std.specs.Prelude.{◌≡◌, ◌<◌, [], ◌∷◌, codes};
+ghost use Rattle.dgt_values.specs.Bytes.{number};
+ghost use Rattle.dgt_message.specs.Clock.{times_of};
+ghost use Rattle.dgt_message.specs.ClockState.{ClockState, clock_seen};
+ghost use Rattle.dgt_message.specs.Time.{time_of};
+
+use dgt_board::Identity;
+use dgt_message::{Clock, Reading, Status, Times};
+use dgt_values::{Body, SevenBit};
+
+fn seven_bit(byte: u8) -> SevenBit
+    requires { byte < 128 }
+    ensures { number result ≡ byte }
+{
+    SevenBit::try_from(byte).unwrap()
+}
+
+/// Its serial number, its trademark, its version 1.3, one byte of its battery, and version 1.4 of its clock.
+pub fn identity() -> Identity
+    ensures { result ≡ record {
+      serial = codes "00001";
+      trademark = codes "SIMULATED BOARD";
+      main = 1;
+      sub = 3;
+      battery = 0x64 ∷ [];
+      clock_version = 0x14;
+    } }
+{
+    let zero = seven_bit(b'0');
+    let serial = [zero, zero, zero, zero, seven_bit(b'1')];
+    let trademark = Body::new(b"SIMULATED BOARD").unwrap();
+    let battery = Body::new(&[0x64]).unwrap();
+    Identity::new(serial, trademark, seven_bit(1), seven_bit(3), battery, 0x14).unwrap()
+}
+
+/// Its clock, which shows 0:00:00 for both players, and doesn't run.
+pub fn clock() -> Clock
+    ensures { clock_seen result ≡ ClockState.times (times_of (time_of 0 0 0 0) (time_of 0 0 0 0) 0) }
+{
+    let zero = Reading::new(0, 0, 0, 0).unwrap();
+    let status = Status::new(seven_bit(0));
+    Clock::Times(Times::new(zero, zero, status).unwrap())
+}

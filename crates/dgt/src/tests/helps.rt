@@ -1,0 +1,90 @@
+//! The texts of help.
+use super::*;
+use crate::help::{BOARD_NOTES, MONITOR_NOTES, PROGRAM_NOTES, SHOW_NOTES, SIMULATE_NOTES};
+
+/// The help of the program, before its notes.
+const PROGRAM: &str = "\
+Shows what a DGT electronic chess board says, and stands in for one
+
+Usage: dgt <COMMAND>
+
+Commands:
+  show      Shows the messages in the bytes of a hexadecimal word
+  monitor   Shows the messages in the bytes of standard input, as they come
+  board     Answers the commands on standard input, as a board does
+  simulate  Plays a script with a board, a host, and the lines between them
+  help      Print this message or the help of the given subcommand(s)
+
+Options:
+  -h, --help  Print help
+
+";
+
+/// The help of `show`, before its notes.
+const SHOW: &str = "\
+Shows the messages in the bytes of a hexadecimal word
+
+Usage: dgt show <HEX>
+
+Arguments:
+  <HEX>  The bytes that a board sends, two hexadecimal digits each
+
+Options:
+  -h, --help  Print help
+
+";
+
+/// The help of `monitor`, before its notes.
+const MONITOR: &str = "\
+Shows the messages in the bytes of standard input, as they come
+
+Usage: dgt monitor
+
+Options:
+  -h, --help  Print help
+
+";
+
+/// The help of `board`, before its notes.
+const BOARD: &str = "\
+Answers the commands on standard input, as a board does
+
+Usage: dgt board [OPTIONS]
+
+Options:
+      --position <P>  The pieces, as in a FEN [default: as a game begins]
+  -h, --help          Print help
+
+";
+
+/// The help of `simulate`, before its notes.
+const SIMULATE: &str = "\
+Plays a script with a board, a host, and the lines between them
+
+Usage: dgt simulate [OPTIONS]
+
+Options:
+      --position <P>  The pieces, as in a FEN [default: as a game begins]
+      --up <N>        The bytes that the line to the host holds, 67 to 65535 [default: 1024]
+      --down <N>      The bytes that the line to the board holds, 257 to 65535 [default: 1024]
+  -h, --help          Print help
+
+";
+
+#[test]
+fn shows_help(rt: HostRuntime) -> Result<(), Fail> {
+    let rows = [
+        ("dgt --help", PROGRAM, PROGRAM_NOTES),
+        ("dgt help", PROGRAM, PROGRAM_NOTES),
+        ("dgt show --help", SHOW, SHOW_NOTES),
+        ("dgt monitor --help", MONITOR, MONITOR_NOTES),
+        ("dgt board --help", BOARD, BOARD_NOTES),
+        ("dgt help board", BOARD, BOARD_NOTES),
+        ("dgt simulate --help", SIMULATE, SIMULATE_NOTES),
+    ];
+    for (line, text, notes) in rows {
+        let output = format!(in rt.alloc(); "{text}{notes}\n")?;
+        check(&rt, line, 0, output.as_str(), "")?;
+    }
+    Ok(())
+}
