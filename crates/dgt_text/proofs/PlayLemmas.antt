@@ -209,12 +209,12 @@ front_none : (front rest : List ℕ) → [] ≡ front ++ rest → front ≡ []
 front_none [] rest h = refl
 front_none (b ∷ front) rest h = cc
 
-module _ {S : Type 0} (written : S → Option (List ℕ)) (failed : S → Bool) where
-  pub stopped_none : (a b : S) → Stopped written failed a b [] → Appends (written a) (written b) []
+module _ {S : Type 0} (written : S → Option (List ℕ)) (failed late : S → Bool) where
+  pub stopped_none : (a b : S) → Stopped written failed late a b [] → Appends (written a) (written b) []
   stopped_none a b p = subst (λ l. Appends (written a) (written b) l) (front_none p.front p.rest p.whole) p.appends
 
   -- the line of an outcome, or a front of it
-  pub line_put : {A : Type 0} (r : Result A RunFault) (w l : WorldView) (a b : S) (number : ℕ) (line bytes : List ℕ) (act : ActContent) (o : Outcome) → Writes written failed a b r (outcome_line o)
+  pub line_put : {A : Type 0} (r : Result A RunFault) (w l : WorldView) (a b : S) (number : ℕ) (line bytes : List ℕ) (act : ActContent) (o : Outcome) → Writes written failed late a b r (outcome_line o)
       → IsAsked line act → Step act w o l → BeginsWith bytes (line ∷ []) → PlaysLine written w l a b r number line bytes
   line_put (Ok x) w l a b number line bytes act o p h s g = (outcome_line o, p.appends, plays_one w l line act o h s)
   line_put (Err e) w l a b number line bytes act o p h s g =
@@ -327,14 +327,14 @@ module _ {S : Type 0} (written : S → Option (List ℕ)) where
   end_none w l a b rest e f h = rw (e, f, h) ([], Appends-nil (written a), (refl, refl))
 
   -- the closing lines, or a front of them
-  pub end_closing : {A : Type 0} (failed : S → Bool) (r : Result A RunFault) (w l : WorldView) (a b c : S) (n : ℕ) (rest : List ℕ) (quiet : Bool) → HasNoFeed rest
-      → Took written a b (λ out. Plays w (all_lines [] rest) out l) → (IsTrue quiet ↔ IsQuietWorld l) → Writes written failed b c r (closing_lines l quiet) → Took written a c (IsSimulatedFrom n r w l rest)
-  end_closing failed (Ok x) w l a b c n rest quiet h t k p = (
+  pub end_closing : {A : Type 0} (failed late : S → Bool) (r : Result A RunFault) (w l : WorldView) (a b c : S) (n : ℕ) (rest : List ℕ) (quiet : Bool) → HasNoFeed rest
+      → Took written a b (λ out. Plays w (all_lines [] rest) out l) → (IsTrue quiet ↔ IsQuietWorld l) → Writes written failed late b c r (closing_lines l quiet) → Took written a c (IsSimulatedFrom n r w l rest)
+  end_closing failed late (Ok x) w l a b c n rest quiet h t k p = (
     t.0 ++ closing_lines l quiet,
     Appends-trans _ _ _ t.0 (closing_lines l quiet) t.1 p.appends,
     ([], rest, t.0, quiet, record { whole = refl; each = all_none; last = h }, t.2, k, refl),
   )
-  end_closing {A = A} failed (Err e) w l a b c n rest quiet h t k p = subst (λ f. let r : Result A RunFault = Err f in Took written a c (IsSimulatedFrom n r w l rest)) (sym p.0) (
+  end_closing {A = A} failed late (Err e) w l a b c n rest quiet h t k p = subst (λ f. let r : Result A RunFault = Err f in Took written a c (IsSimulatedFrom n r w l rest)) (sym p.0) (
     t.0 ++ p.1.front,
     Appends-trans _ _ _ t.0 p.1.front t.1 p.1.appends,
     inr ([], rest, t.0, quiet, p.1.front, record { whole = refl; each = all_none; last = h }, t.2, k, (p.1.rest, p.1.whole), refl),

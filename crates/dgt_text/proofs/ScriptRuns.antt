@@ -61,8 +61,8 @@ module _ {S T : Type 0} (left : S → Option (List ℕ)) (written : T → Option
       scripted_ends r a b b' c d d' w m l line n piece q p (end_exit written r e m l d d' n (q.plays.rest ++ piece) k t)
 
   -- and on a flush
-  pub scripted_unflushed : {A : Type 0} (failed : T → Bool) (r : Result A RunFault) (e : RunFault) (a b : S) (c d d' : T) (w m : WorldView) (line : LineBuffer) (n : ℕ) → Scripted left written a b c d w m line n
-      → IsErrAnd r (λ y. y ≡ e) → (e ≡ WriteFailed) × Stopped written failed d d' [] → Ran left written a b c d' (IsSimulated r w m)
-  scripted_unflushed failed r e a b c d d' w m line n q k s =
+  pub scripted_unflushed : {A : Type 0} (failed late : T → Bool) (r : Result A RunFault) (e : RunFault) (a b : S) (c d d' : T) (w m : WorldView) (line : LineBuffer) (n : ℕ) → Scripted left written a b c d w m line n
+      → IsErrAnd r (λ y. y ≡ e) → (e ≡ WriteFailed) × Stopped written failed late d d' [] → Ran left written a b c d' (IsSimulated r w m)
+  scripted_unflushed failed late r e a b c d d' w m line n q k s =
       scripted_stops r e a b b c d d' w m m line n [] q (Consumes-nil (left b)) k
-      (subst (λ f. Took written d d' (Stops f m m n (q.plays.rest ++ []))) (sym s.0) ([], stopped_none written failed d d' s.1, ([], begins_none (q.plays.rest ++ []), torn_none m)))
+      (subst (λ f. Took written d d' (Stops f m m n (q.plays.rest ++ []))) (sym s.0) ([], stopped_none written failed late d d' s.1, ([], begins_none (q.plays.rest ++ []), torn_none m)))

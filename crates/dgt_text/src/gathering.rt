@@ -13,7 +13,7 @@ use std::marker::Model;
 
 /// Writes all of these bytes, in as many writes as the sink asks for.
 pub(crate) fn put<W: Sink>(writer: &mut W, bytes: &[u8]) -> Result<(), RunFault>
-    ensures { Writes W.written W.failed writer.old writer.new result bytes.now }
+    ensures { Writes W.written W.failed W.late writer.old writer.new result bytes.now }
 {
     let mut at = 0;
     while at < bytes.len() {
@@ -27,7 +27,7 @@ pub(crate) fn put<W: Sink>(writer: &mut W, bytes: &[u8]) -> Result<(), RunFault>
 
 /// Flushes the sink.
 pub(crate) fn flush<W: Sink>(writer: &mut W) -> Result<(), RunFault>
-    ensures output { Writes W.written W.failed writer.old writer.new result [] }
+    ensures output { Writes W.written W.failed W.late writer.old writer.new result [] }
     ensures flushed { OnOk result (IsTrue (W.flushed writer.new)) }
 {
     match writer.flush_all() {
@@ -67,7 +67,7 @@ impl Outgoing {
 
     /// Writes all that was gathered. After a refused write the rest of it is dropped.
     pub fn write_out<W: Sink>(&mut self, writer: &mut W) -> Result<(), RunFault>
-        ensures output { Writes W.written W.failed writer.old writer.new result self.old }
+        ensures output { Writes W.written W.failed W.late writer.old writer.new result self.old }
         ensures empty { self.new ≡ [] }
     {
         let answer = put(writer, self.bytes.as_slice());
@@ -77,7 +77,7 @@ impl Outgoing {
 
     /// Writes what was gathered, unless there is room for a line behind it.
     pub fn make_room<W: Sink>(&mut self, writer: &mut W) -> Result<(), RunFault>
-        ensures output { Gathers W.written W.failed self.old self.new writer.old writer.new result [] }
+        ensures output { Gathers W.written W.failed W.late self.old self.new writer.old writer.new result [] }
         ensures room { OnOk result (length self.new + LINE_ROOM ≤ ROOM) }
     {
         if self.bytes.remaining_capacity() < LINE_ROOM {
@@ -88,7 +88,7 @@ impl Outgoing {
 
     /// Adds these bytes. Where there is no room for them, what was gathered is written first.
     pub fn add<W: Sink>(&mut self, writer: &mut W, bytes: &[u8]) -> Result<(), RunFault>
-        ensures { Gathers W.written W.failed self.old self.new writer.old writer.new result bytes.now }
+        ensures { Gathers W.written W.failed W.late self.old self.new writer.old writer.new result bytes.now }
     {
         if bytes.len() > self.bytes.remaining_capacity() {
             self.write_out(writer)?;

@@ -51,7 +51,7 @@ fn last_digit(number: u32) -> u8
 }
 
 fn put_bytes<W: Sink>(outgoing: &mut Outgoing, writer: &mut W, bytes: &[u8]) -> Result<(), RunFault>
-    ensures { Gathers W.written W.failed outgoing.old outgoing.new writer.old writer.new result
+    ensures { Gathers W.written W.failed W.late outgoing.old outgoing.new writer.old writer.new result
         (bytes_text bytes.now) }
 {
     if bytes.is_empty() {
@@ -65,7 +65,7 @@ fn put_digits<W: Sink>(
     writer: &mut W,
     bytes: &[u8],
 ) -> Result<(), RunFault>
-    ensures { Gathers W.written W.failed outgoing.old outgoing.new writer.old writer.new result
+    ensures { Gathers W.written W.failed W.late outgoing.old outgoing.new writer.old writer.new result
         (encode_lower bytes.now) }
 {
     for byte in bytes {
@@ -81,7 +81,7 @@ pub(crate) fn put_event<W: Sink>(
     offset: u64,
     event: &Event<'_>,
 ) -> Result<(), RunFault>
-    ensures { Gathers W.written W.failed outgoing.old outgoing.new writer.old writer.new result
+    ensures { Gathers W.written W.failed W.late outgoing.old outgoing.new writer.old writer.new result
         (event_line offset (event_content event.now)) }
 {
     outgoing.make_room(writer)?;
@@ -104,7 +104,7 @@ pub(crate) fn write_unfinished<W: Sink>(
     offset: u64,
     have: usize,
 ) -> Result<(), RunFault>
-    ensures { Writes W.written W.failed writer.old writer.new result
+    ensures { Writes W.written W.failed W.late writer.old writer.new result
         (line offset (unfinished_text have)) }
 {
     let mut text = Outgoing::new();
@@ -123,7 +123,7 @@ pub(crate) fn write_unfinished<W: Sink>(
 ///
 /// `WriteFailed` comes where the writer refuses, which then took the front of the line.
 pub fn write_event<W: Sink>(writer: &mut W, offset: u64, event: &Event<'_>) -> Result<(), RunFault>
-    ensures { Writes W.written W.failed writer.old writer.new result
+    ensures { Writes W.written W.failed W.late writer.old writer.new result
         (event_line offset (event_content event.now)) }
 {
     let mut outgoing = Outgoing::new();

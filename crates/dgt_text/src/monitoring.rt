@@ -23,7 +23,7 @@ fn write_lines<W: Sink>(
     requires fits { offset + length piece.now < 2 ^ 64 }
     requires held { length decoder.old ≤ offset }
     requires unfinished { decoder.old ≡ open_message decoder.old }
-    ensures output { Writes W.written W.failed writer.old writer.new result
+    ensures output { Writes W.written W.failed W.late writer.old writer.new result
         (lines_after decoder.old offset piece.now) }
     ensures decoded { OnOk result (decoder.new ≡ open_message (decoder.old ++ piece.now)) }
 {
@@ -43,7 +43,7 @@ fn write_lines<W: Sink>(
 
 // A last line, where a message is unfinished.
 fn write_end<W: Sink>(decoder: &mut Decoder, offset: u64, writer: &mut W) -> Result<(), RunFault>
-    ensures output { Writes W.written W.failed writer.old writer.new result
+    ensures output { Writes W.written W.failed W.late writer.old writer.new result
         (unfinished_line offset decoder.old) }
     ensures flushed { OnOk result (IsTrue (W.flushed writer.old) → IsTrue (W.flushed writer.new)) }
 {

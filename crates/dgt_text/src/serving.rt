@@ -17,7 +17,7 @@ const MAX_SENT: usize = 67;
 // The board sends until it owes nothing. Each message is written before the next is asked for, so the board
 // is at most one message ahead of the sink.
 fn send_all<W: Sink>(board: &mut Board, writer: &mut W) -> Result<(), RunFault>
-    ensures { Serves W.written W.failed board.old board.new writer.old writer.new result [] }
+    ensures { Serves W.written W.failed W.late board.old board.new writer.old writer.new result [] }
 {
     let mut message = [0; MAX_SENT];
     while let Polled::Wrote(length) = board.poll(&mut message) {
@@ -29,7 +29,7 @@ fn send_all<W: Sink>(board: &mut Board, writer: &mut W) -> Result<(), RunFault>
 // The board sends until it owes nothing, and again after each command or fault of `piece`. Then the sink is
 // flushed.
 fn answer<W: Sink>(board: &mut Board, piece: &[u8], writer: &mut W) -> Result<(), RunFault>
-    ensures served { Serves W.written W.failed board.old board.new writer.old writer.new result
+    ensures served { Serves W.written W.failed W.late board.old board.new writer.old writer.new result
         piece.now }
     ensures flushed { OnOk result (IsTrue (W.flushed writer.new)) }
 {

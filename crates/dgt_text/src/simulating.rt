@@ -95,7 +95,7 @@ fn play_piece<W: Sink>(
 // Writes the closing lines, and flushes.
 fn write_closing<W: Sink>(world: &World, writer: &mut W) -> Result<(), RunFault>
     ensures output { (quiet : Bool) × (IsTrue quiet ↔ IsQuietWorld world.now)
-        × Writes W.written W.failed writer.old writer.new result (closing_lines world.now quiet) }
+        × Writes W.written W.failed W.late writer.old writer.new result (closing_lines world.now quiet) }
     ensures flushed { OnOk result (IsTrue (W.flushed writer.new)) }
 {
     let mut outgoing = Outgoing::new();

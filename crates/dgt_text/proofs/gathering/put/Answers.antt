@@ -10,11 +10,12 @@ loop-at-preserved g c = record {
   output = record {
     appends = appends_more _ _ _ c.args.bytes.now c.loop-at.at c.in-Ok.taken c.loop-at.invariant.output.appends c.in-Ok.ensures.bytes;
     kept = c.in-Ok.ensures.not_refused ∙ c.loop-at.invariant.output.kept;
+    in_time = λ h. c.write_some.ensures.in_time (c.loop-at.invariant.output.kept ∙ h) ∙ c.loop-at.invariant.output.in_time h;
   };
 }
 
 pub returns-in-Err : goal.returns-in-Err
-returns-in-Err g c = (refl, stopped_at _ _ _ _ _ _ _ c.loop-at.invariant.output c.in-Err.ensures.bytes c.in-Err.ensures.refused)
+returns-in-Err g c = (refl, stopped_at _ _ _ _ _ _ _ _ c.loop-at.invariant.output c.in-Err.ensures.bytes c.in-Err.ensures.refused c.write_some.ensures.in_time)
 
 pub returns : goal.returns
-returns g c = subst (λ l. Wrote g.W.Sink.written g.W.Sink.failed c.args.writer.now c.loop-at.writer l) (take_all _ _ c.loop-at-test.false) c.loop-at.invariant.output
+returns g c = subst (λ l. Wrote g.W.Sink.written g.W.Sink.failed g.W.Sink.late c.args.writer.now c.loop-at.writer l) (take_all _ _ c.loop-at-test.false) c.loop-at.invariant.output

@@ -5,7 +5,7 @@ use Rattle.dgt_text.proofs.gathering.put.Given as goal
 abbrev pub invariant-loop-at : goal.invariant-loop-at
 invariant-loop-at g l = record {
   bound : l.at ≤ length l.bytes;
-  output : Wrote g.W.Sink.written g.W.Sink.failed l.fn.writer l.writer (take l.at l.bytes);
+  output : Wrote g.W.Sink.written g.W.Sink.failed g.W.Sink.late l.fn.writer l.writer (take l.at l.bytes);
 }
 
 abbrev pub decreases-loop-at : goal.decreases-loop-at

@@ -28,7 +28,7 @@ returns-in_err-write_lines-clause-output g c = heard_stopped c.events_append.ens
 
 pub returns-in_err-flush-clause-output : goal.returns-in_err-flush-clause-output
 returns-in_err-flush-clause-output g c =
-    let stop = stopped_after g.W.Sink.written g.W.Sink.failed _ _ _ _ c.in_ok-write_lines.ensures.output c.in_err-flush.ensures.output.1 in
+    let stop = stopped_after g.W.Sink.written g.W.Sink.failed g.W.Sink.late _ _ _ _ c.in_ok-write_lines.ensures.output c.in_err-flush.ensures.output.1 in
     heard_stopped c.events_append.ensures c.open_append.ensures _ _ _ _ _ _ _ _ _ _ _ c.loop.invariant.heard c.in-Ok.ensures.bytes.0 stop c.from_residual-in_err-flush.ensures.1 c.in_err-flush.ensures.output.0
 
 pub loop-preserved : goal.loop-preserved

@@ -4,7 +4,7 @@ use Rattle.dgt_text.proofs.monitoring.monitor.Given as goal
 
 abbrev pub invariant-loop : goal.invariant-loop
 invariant-loop g l = record {
-  heard : Heard g.R.Source.left g.W.Sink.written g.W.Sink.failed l.fn.reader l.reader l.fn.writer l.writer l.decoder l.offset;
+  heard : Heard g.R.Source.left g.W.Sink.written g.W.Sink.failed g.W.Sink.late l.fn.reader l.reader l.fn.writer l.writer l.decoder l.offset;
   short : l.offset ≤ 64 * l.counter;
   not_failed : g.R.Source.failed l.reader ≡ g.R.Source.failed l.fn.reader;
   not_ended : g.R.Source.ended l.reader ≡ g.R.Source.ended l.fn.reader;

@@ -26,4 +26,4 @@ returns-clause-played g c = λ rest h k.
       | else-not-is_empty w ↦ end_none g.W.Sink.written _ _ _ _ rest ((c.is_empty.ensures rest h).0 (same_true w.if-not-is_empty.false)) w.world-is w.writer-is
     ] in
     let closing = c.write_closing.ensures.output in
-    end_closing g.W.Sink.written g.W.Sink.failed c.write_closing.result _ _ _ _ _ c.args.number rest closing.0 k played closing.1 closing.2
+    end_closing g.W.Sink.written g.W.Sink.failed g.W.Sink.late c.write_closing.result _ _ _ _ _ c.args.number rest closing.0 k played closing.1 closing.2

@@ -12,7 +12,7 @@ returns-in_default-clause-played g c = λ whole bytes h b.
 pub returns-in-Ok-clause-played : goal.returns-in-Ok-clause-played
 returns-in-Ok-clause-played g c = λ whole bytes h b.
     let short = rw c.in-Some.is at c.line.ensures whole h in
-    line_put g.W.Sink.written g.W.Sink.failed c.put.result c.args.world.now c.step.new.self c.args.writer.now c.put.new.writer c.args.number whole bytes (act_content c.in-Ok.act) c.step.result
+    line_put g.W.Sink.written g.W.Sink.failed g.W.Sink.late c.put.result c.args.world.now c.step.new.self c.args.writer.now c.put.new.writer c.args.number whole bytes (act_content c.in-Ok.act) c.step.result
     (rw c.outcome_text.ensures at c.put.ensures) (rw short.0 at c.in-Ok.ensures.asked) c.step.ensures.exact b
 
 pub returns-in-Err-BadLine-clause-played : goal.returns-in-Err-BadLine-clause-played

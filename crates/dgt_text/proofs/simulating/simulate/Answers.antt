@@ -49,6 +49,6 @@ returns-in_err-play_piece-clause-output g c =
 pub returns-in_err-flush-clause-output : goal.returns-in_err-flush-clause-output
 returns-in_err-flush-clause-output g c =
     let q = c.loop.invariant.scripted in
-    scripted_unflushed g.R.Source.left g.W.Sink.written g.W.Sink.failed _ _ _ _ _ _ _ _ _ _ _
+    scripted_unflushed g.R.Source.left g.W.Sink.written g.W.Sink.failed g.W.Sink.late _ _ _ _ _ _ _ _ _ _ _
     (scripted_more g.R.Source.left g.W.Sink.written _ _ _ _ _ _ _ _ _ _ _ _ _ _ q c.in-Ok.ensures.bytes.0 (c.in_ok-play_piece.ensures.played q.plays.rest q.plays.kept q.plays.cut.last))
     c.from_residual-in_err-flush.ensures.1 c.in_err-flush.ensures.output
