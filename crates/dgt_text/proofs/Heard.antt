@@ -61,15 +61,15 @@ module _ {S T : Type 0} {left : S → Option (List ℕ)} {written : T → Option
   heard_same b' {a = a} h p = subst (Consumes (left a) (left b')) (append-nil h.bytes) (Consumes-trans _ _ _ h.bytes [] h.given p)
 
   -- the end, and what is written then
-  pub heard_end : {A : Type 0} (a b b' : S) (c d d' : T) (held : List ℕ) (offset : ℕ) (r : Result A RunFault) → Heard left written failed late a b c d held offset
-      → Consumes (left b) (left b') [] → Writes written failed late d d' r (unfinished_line offset held) → Ran left written a b' c d' (IsMonitored r)
-  heard_end a b b' c d d' held offset (Ok x) h p q =
+  pub heard_end : {A : Type 0} (limit : ℕ) (a b b' : S) (c d d' : T) (held : List ℕ) (offset : ℕ) (r : Result A RunFault) → Heard left written failed late a b c d held offset
+      → Consumes (left b) (left b') [] → Writes written failed late d d' r (unfinished_line offset held) → Ran left written a b' c d' limit r (IsMonitored r)
+  heard_end limit a b b' c d d' held offset (Ok x) h p q =
       let w = wrote_then written failed late c d d' (lines h.bytes) (unfinished_line offset held) h.wrote q in
-      (h.bytes, lines h.bytes ++ unfinished_line offset held, heard_same b' h p, w.appends, heard_end_text h.bytes held offset h.decoded h.counted)
-  heard_end {A = A} a b b' c d d' held offset (Err e) h p q =
+      (h.bytes, lines h.bytes ++ unfinished_line offset held, heard_same b' h p, w.appends, tt, heard_end_text h.bytes held offset h.decoded h.counted)
+  heard_end {A = A} limit a b b' c d d' held offset (Err e) h p q =
       let stop = stopped_then written failed late c d d' (lines h.bytes) (unfinished_line offset held) h.wrote q.1 in
-      subst (λ f. let r : Result A RunFault = Err f in Ran left written a b' c d' (IsMonitored r)) (sym q.0)
-      (h.bytes, stop.front, heard_same b' h p, stop.appends, (stop.rest, sym (heard_end_text h.bytes held offset h.decoded h.counted) ∙ stop.whole))
+      subst (λ f. let r : Result A RunFault = Err f in Ran left written a b' c d' limit r (IsMonitored r)) (sym q.0)
+      (h.bytes, stop.front, heard_same b' h p, stop.appends, tt, (stop.rest, sym (heard_end_text h.bytes held offset h.decoded h.counted) ∙ stop.whole))
 
   module _ (more : EventsAppend) (opens : OpenAppend) where
     -- a piece, its lines and a flush
@@ -86,13 +86,13 @@ module _ {S T : Type 0} {left : S → Option (List ℕ)} {written : T → Option
     }
 
     -- a piece, and a write that stopped
-    pub heard_stopped : {A : Type 0} (a b b' : S) (c d d' : T) (held : List ℕ) (offset : ℕ) (piece : List ℕ) (r : Result A RunFault) (e : RunFault) → Heard left written failed late a b c d held offset
+    pub heard_stopped : {A : Type 0} (limit : ℕ) (a b b' : S) (c d d' : T) (held : List ℕ) (offset : ℕ) (piece : List ℕ) (r : Result A RunFault) (e : RunFault) → Heard left written failed late a b c d held offset
         → Consumes (left b) (left b') piece → Stopped written failed late d d' (lines_after held offset piece) → IsErrAnd r (λ y. y ≡ e) → e ≡ WriteFailed
-        → Ran left written a b' c d' (IsMonitored r)
-    heard_stopped a b b' c d d' held offset piece (Ok x) e h p q k w = absurd k
-    heard_stopped {A = A} a b b' c d d' held offset piece (Err y) e h p q k w =
+        → Ran left written a b' c d' limit r (IsMonitored r)
+    heard_stopped limit a b b' c d d' held offset piece (Ok x) e h p q k w = absurd k
+    heard_stopped {A = A} limit a b b' c d d' held offset piece (Err y) e h p q k w =
         let bytes = h.bytes ++ piece in
         let whole = heard_lines more opens held offset h.bytes piece h.decoded h.counted in
         let stop = stopped_longer written failed late c d' _ (unfinished_line (length bytes) (open_message bytes)) (stopped_then written failed late c d d' (lines h.bytes) (lines_after held offset piece) h.wrote q) in
-        subst (λ f. let r : Result A RunFault = Err f in Ran left written a b' c d' (IsMonitored r)) (sym (k ∙ w))
-        (bytes, stop.front, Consumes-trans _ _ _ h.bytes piece h.given p, stop.appends, (stop.rest, ap (λ l. l ++ unfinished_line (length bytes) (open_message bytes)) (sym whole) ∙ stop.whole))
+        subst (λ f. let r : Result A RunFault = Err f in Ran left written a b' c d' limit r (IsMonitored r)) (sym (k ∙ w))
+        (bytes, stop.front, Consumes-trans _ _ _ h.bytes piece h.given p, stop.appends, tt, (stop.rest, ap (λ l. l ++ unfinished_line (length bytes) (open_message bytes)) (sym whole) ∙ stop.whole))

@@ -1,7 +1,7 @@
 -- Writes in a row.
-use Rattle.std.proofs.Common.{◌≡◌, ℕ, ◌+◌, List, [], ◌++◌, Option, Bool, true, false, Result, Ok, Err, IsErrAnd, OnOk, refl, sym, ◌∙◌, ap, subst, append_assoc, append-nil, take, drop, length, ◌-◌}
+use Rattle.std.proofs.Common.{◌≡◌, ℕ, ◌+◌, List, [], ◌++◌, Option, Bool, true, false, Result, Ok, Err, IsErrAnd, OnOk, refl, sym, ◌∙◌, ap, subst, append_assoc, append-nil, take, drop, length, ◌-◌, ◌<◌, ◌≤◌, arith, length-append}
 use Rattle.std.proofs.Math.Seq.{take-add, take-length}
-use Rattle.std.proofs.lemmas.List.{take-append-drop, length-drop}
+use Rattle.std.proofs.lemmas.List.{take-append-drop, length-drop, length-take-le}
 use Rattle.std.specs.Io.KnownBytes.{Appends, Keeps}
 use Rattle.std.proofs.KnownBytes.{Appends-trans, Appends-kept, Appends-nil}
 use Rattle.dgt_text.specs.Runs.{Wrote, Stopped, Writes}
@@ -16,9 +16,21 @@ slice_from s i = rw (← length-drop i s) (take-length (drop i s))
 pub slice_more : (s : List ℕ) (i n : ℕ) → take (i + n) s ≡ take i s ++ take n (take (length s - i) (drop i s))
 slice_more s i n = take-add i n s ∙ ap (λ (l : List ℕ). take i s ++ take n l) (sym (slice_from s i))
 
+-- it is longer than n where there are more than i + n bytes
+pub slice_room : (s : List ℕ) (i n : ℕ) → i + n < length s → n < length (take (length s - i) (drop i s))
+slice_room s i n h = let e = ap length (slice_from s i) ∙ length-drop i s in omega arith
+
 -- n more bytes of a list
 pub appends_more : (a b c : Option (List ℕ)) (s : List ℕ) (i n : ℕ) → Appends a b (take i s) → Appends b c (take n (take (length s - i) (drop i s))) → Appends a c (take (i + n) s)
 appends_more a b c s i n p q = subst (Appends a c) (sym (take-add i n s)) (Appends-trans a b c _ _ p (rw slice_from at q))
+
+-- the piece that a turn gave
+pub piece_some : (given : ℕ) (buffer : List ℕ) → given ≤ length buffer → (given ≡ 0 → ⊥) → 0 < length (take given buffer)
+piece_some given buffer h some = let e = length-take-le given buffer h in omega arith
+
+-- a turn more, which gave a byte
+pub turn_more : (turns : ℕ) (bytes piece : List ℕ) → turns ≤ length bytes → 0 < length piece → turns + 1 ≤ length (bytes ++ piece)
+turn_more turns bytes piece h some = let sum = length-append bytes piece in omega arith
 
 -- what holds whatever the answer is
 pub on_ok : {A E P : Type 0} (r : Result A E) → P → OnOk r P
@@ -83,3 +95,8 @@ module _ {S : Type 0} (written : S → Option (List ℕ)) (failed late : S → B
   pub writes_flushed : {A : Type 0} (a b c : S) (s : List ℕ) (r : Result A RunFault) → Wrote written failed late a b s → Writes written failed late b c r [] → Writes written failed late a c r s
   writes_flushed a b c s (Ok x) p q = subst (λ l. Wrote written failed late a c l) (append-nil s) (wrote_then a b c s [] p q)
   writes_flushed a b c s (Err e) p q = (q.0, stopped_after a b c s p q.1)
+
+  -- no call came after one that was refused
+  pub writes_in_time : {A : Type 0} (a b : S) (s : List ℕ) (r : Result A RunFault) → Writes written failed late a b r s → failed a ≡ false → late b ≡ late a
+  writes_in_time a b s (Ok x) p = p.in_time
+  writes_in_time a b s (Err e) p = p.1.in_time

@@ -1,5 +1,5 @@
 -- What a board's conversation leaves in a sink.
-use Rattle.std.proofs.Common.{◌≡◌, ℕ, ◌+◌, ◌-◌, ◌≤◌, List, [], ◌∷◌, ◌++◌, Option, Some, None, Bool, Result, Ok, Err, IsErrAnd, refl, sym, ◌∙◌, ap, subst, append_assoc, append-nil, length, take, drop, arith, true, false, is_some, IfSome, IfNone, option_map}
+use Rattle.std.proofs.Common.{◌≡◌, ℕ, ◌+◌, ◌-◌, ◌<◌, ◌≤◌, List, [], ◌∷◌, ◌++◌, Option, Some, None, Bool, Result, Ok, Err, IsErrAnd, refl, sym, ◌∙◌, ap, subst, append_assoc, append-nil, length, take, drop, arith, true, false, is_some, IfSome, IfNone, option_map}
 use Rattle.std.proofs.Math.Seq.{take-append_seam}
 use Rattle.std.proofs.lemmas.List.{take-append-drop, take_all}
 use Rattle.std.specs.Io.KnownBytes.{Consumes}
@@ -18,7 +18,7 @@ use Rattle.dgt_text.specs.declared.faults.RunFault.TheVariants.{WriteFailed}
 use Rattle.dgt_text.specs.Runs.{Wrote, Stopped, Writes, Ran}
 use Rattle.dgt_text.specs.Conversation.{Step, told, heard, Converses, events_heard, bytes_told, Hears, Answers}
 use Rattle.dgt_text.specs.Serving.{IsAlmostTold, IsServed, Served, Halted, Serves}
-use Rattle.dgt_text.proofs.RunLemmas.{wrote_none, wrote_then, slice_more}
+use Rattle.dgt_text.proofs.RunLemmas.{turn_more, wrote_none, wrote_then, slice_more}
 use Rattle.dgt_text.proofs.ConversationLemmas.{events_heard-append, bytes_told-append, converses-told, hears_then, hears_nothing, hears_word, hears_part, front_then, front_longer, front_whole}
 
 -- ---- pieces
@@ -94,9 +94,10 @@ pub record Sent {S : Type 0} (written : S → Option (List ℕ)) (failed late : 
   pub partial : after.partial ≡ before.partial
   pub wrote : Wrote written failed late old new (bytes_told steps)
 
--- the source gave some bytes, and the sink has all that the board answers to them
-pub record Talked {S T : Type 0} (left : S → Option (List ℕ)) (written : T → Option (List ℕ)) (failed late : T → Bool) (source source' : S) (sink sink' : T) (before after : BoardView) : Type 0 where
+-- the source gave some bytes in so many turns, one in each at least, and the sink has all that the board answers to them
+pub record Talked {S T : Type 0} (left : S → Option (List ℕ)) (written : T → Option (List ℕ)) (failed late : T → Bool) (source source' : S) (sink sink' : T) (before after : BoardView) (turns : ℕ) : Type 0 where
   pub bytes : List ℕ
+  pub each : turns ≤ length bytes
   pub given : Consumes (left source) (left source') bytes
   pub steps : List Step
   pub answers : Answers before bytes steps after
@@ -243,14 +244,15 @@ module _ {S : Type 0} (written : S → Option (List ℕ)) (failed late : S → B
 -- ---- runs
 
 module _ {S T : Type 0} (left : S → Option (List ℕ)) (written : T → Option (List ℕ)) (failed late : T → Bool) where
-  pub talked_none : (a : S) (c d : T) (old new : BoardView) → Served written failed late old new c d [] → Talked left written failed late a a c d old new
-  talked_none a c d old new p = record { bytes = []; given = Consumes-nil (left a); steps = p.steps; answers = p.answers; wrote = p.wrote }
+  pub talked_none : (a : S) (c d : T) (old new : BoardView) → Served written failed late old new c d [] → Talked left written failed late a a c d old new 0
+  talked_none a c d old new p = record { bytes = []; each = omega arith; given = Consumes-nil (left a); steps = p.steps; answers = p.answers; wrote = p.wrote }
 
-  pub talked_more : DivisionsAppend → (a b b' : S) (c d d' : T) (old mid new : BoardView) (piece : List ℕ) → Talked left written failed late a b c d old mid → Consumes (left b) (left b') piece
-      → Served written failed late mid new d d' piece → Talked left written failed late a b' c d' old new
-  talked_more append a b b' c d d' old mid new piece p k q =
+  pub talked_more : DivisionsAppend → (a b b' : S) (c d d' : T) (old mid new : BoardView) (piece : List ℕ) (turns : ℕ) → Talked left written failed late a b c d old mid turns → Consumes (left b) (left b') piece
+      → 0 < length piece → Served written failed late mid new d d' piece → Talked left written failed late a b' c d' old new (turns + 1)
+  talked_more append a b b' c d d' old mid new piece turns p k some q =
       record {
         bytes = p.bytes ++ piece;
+        each = turn_more turns p.bytes piece p.each some;
         given = Consumes-trans _ _ _ p.bytes piece p.given k;
         steps = p.steps ++ q.steps;
         answers = record {
@@ -261,14 +263,14 @@ module _ {S T : Type 0} (left : S → Option (List ℕ)) (written : T → Option
       }
 
   -- the sink refused
-  pub halted_run : {A : Type 0} (a b : S) (c d : T) (old new : BoardView) (bytes : List ℕ) (r : Result A RunFault) (e : RunFault) → Consumes (left a) (left b) bytes
-      → Halted written failed late old new c d bytes → IsErrAnd r (λ y. y ≡ e) → e ≡ WriteFailed → Ran left written a b c d (IsServed r old new)
-  halted_run a b c d old new bytes (Ok x) e k q h w = absurd h
-  halted_run {A = A} a b c d old new bytes (Err y) e k q h w =
-      subst (λ f. let r : Result A RunFault = Err f in Ran left written a b c d (IsServed r old new)) (sym (h ∙ w)) (bytes, q.out, k, q.appends, q.breaks)
+  pub halted_run : {A : Type 0} (limit : ℕ) (a b : S) (c d : T) (old new : BoardView) (bytes : List ℕ) (r : Result A RunFault) (e : RunFault) → Consumes (left a) (left b) bytes
+      → Halted written failed late old new c d bytes → IsErrAnd r (λ y. y ≡ e) → e ≡ WriteFailed → Ran left written a b c d limit r (IsServed r old new)
+  halted_run limit a b c d old new bytes (Ok x) e k q h w = absurd h
+  halted_run {A = A} limit a b c d old new bytes (Err y) e k q h w =
+      subst (λ f. let r : Result A RunFault = Err f in Ran left written a b c d limit r (IsServed r old new)) (sym (h ∙ w)) (bytes, q.out, k, q.appends, tt, q.breaks)
 
-  pub talked_stops : {A : Type 0} → DivisionsAppend → (a b b' : S) (c d d' : T) (old mid new : BoardView) (piece : List ℕ) (r : Result A RunFault) (e : RunFault) → Talked left written failed late a b c d old mid
-      → Consumes (left b) (left b') piece → Halted written failed late mid new d d' piece → IsErrAnd r (λ y. y ≡ e) → e ≡ WriteFailed → Ran left written a b' c d' (IsServed r old new)
-  talked_stops append a b b' c d d' old mid new piece r e p k q h w =
-      halted_run a b' c d' old new (p.bytes ++ piece) r e (Consumes-trans _ _ _ p.bytes piece p.given k)
+  pub talked_stops : {A : Type 0} (limit : ℕ) → DivisionsAppend → (a b b' : S) (c d d' : T) (old mid new : BoardView) (piece : List ℕ) (turns : ℕ) (r : Result A RunFault) (e : RunFault) → Talked left written failed late a b c d old mid turns
+      → Consumes (left b) (left b') piece → Halted written failed late mid new d d' piece → IsErrAnd r (λ y. y ≡ e) → e ≡ WriteFailed → Ran left written a b' c d' limit r (IsServed r old new)
+  talked_stops limit append a b b' c d d' old mid new piece turns r e p k q h w =
+      halted_run limit a b' c d' old new (p.bytes ++ piece) r e (Consumes-trans _ _ _ p.bytes piece p.given k)
       (halted_then written failed late append old mid new c d d' p.bytes piece p.steps p.answers.hears p.wrote q) h w

@@ -1,6 +1,6 @@
 //! The engine that tells what comes.
 
-ghost use Rattle.std.specs.Prelude.{◌≡◌, ◌≢◌, ◌+◌, ◌^◌, ◌<◌, ◌≤◌, ◌++◌, length, IsTrue, OnOk};
+ghost use Rattle.std.specs.Prelude.{false, ◌≡◌, ◌≢◌, ◌+◌, ◌^◌, ◌<◌, ◌≤◌, ◌++◌, length, IsTrue, OnOk};
 ghost use Rattle.std.specs.Io.KnownBytes.{IsAtEnd};
 ghost use Rattle.dgt_decode.specs.Grammar.{open_message};
 ghost use Rattle.dgt_text.specs.Lines.{unfinished_line};
@@ -69,13 +69,18 @@ pub fn monitor<R: Source, W: Sink>(
     limit: u32,
 ) -> Result<(), RunFault>
     // what was read, and what was written of it
-    ensures output { Ran R.left W.written reader.old reader.new writer.old writer.new
+    ensures output { Ran R.left W.written reader.old reader.new writer.old writer.new limit result
         (IsMonitored result) }
     ensures all_read { OnOk result (IsAtEnd (R.left reader.new)) }
 
     // a fault comes with its mark, and every other answer without it
     ensures source_failed { R.failed reader.new ≡ source_mark_after result (R.failed reader.old) }
     ensures sink_failed { W.failed writer.new ≡ sink_mark_after result (W.failed writer.old) }
+
+    // no call comes after one that was refused, and no read after the end
+    ensures source_in_time { R.failed reader.old ≡ false → R.ended reader.old ≡ false →
+        R.late reader.new ≡ R.late reader.old }
+    ensures sink_in_time { W.failed writer.old ≡ false → W.late writer.new ≡ W.late writer.old }
 
     // Ok comes at the end, and TooManyTurns before it
     ensures ended { OnOk result (IsTrue (R.ended reader.new)) }

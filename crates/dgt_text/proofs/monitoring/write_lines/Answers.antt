@@ -19,7 +19,7 @@ pub loop-at-preserved-in-Continue-1 : goal.loop-at-preserved-in-Continue-1
 loop-at-preserved-in-Continue-1 g c = record {
   bound = feed_bound c.args.piece.now c.loop-at.at c.feed.result.used c.loop-at.invariant.bound c.feed.ensures.within;
   output =
-      let step = gathered_then _ _ _ _ _ _ _ _ _ (lines_after c.args.decoder.now c.args.offset (take c.loop-at.at c.args.piece.now)) _ c.loop-at.invariant.output c.in_ok-put_event.ensures in
+      let step = gathered_then _ _ _ _ _ _ _ _ _ (lines_after c.args.decoder.now c.args.offset (take c.loop-at.at c.args.piece.now)) _ c.loop-at.invariant.output c.in_ok-put_event.ensures.output in
       let e = feed_line c.events_append.ensures c.open_append.ensures c.args.decoder.now c.args.piece.now c.loop-at.decoder c.args.offset c.loop-at.at c.feed.result.used (event_content c.in-Some.event) c.requires.held c.loop-at.invariant.bound c.loop-at.invariant.decoded
       (rw c.in-Some.is at c.feed.ensures.first).1 in
       rw e step;
@@ -30,7 +30,7 @@ pub returns-in_err-put_event-clause-output : goal.returns-in_err-put_event-claus
 returns-in_err-put_event-clause-output g c =
     let e = feed_whole c.events_append.ensures c.open_append.ensures c.args.decoder.now c.args.piece.now c.loop-at.decoder c.args.offset c.loop-at.at c.feed.result.used (event_content c.in-Some.event) c.requires.held c.loop-at.invariant.bound c.loop-at.invariant.decoded
     (rw c.in-Some.is at c.feed.ensures.first).1 in
-    gathered_exit _ _ _ _ _ _ _ _ _ _ _ _ _ c.loop-at.invariant.output e c.from_residual.ensures.1 c.in_err-put_event.ensures
+    gathered_exit _ _ _ _ _ _ _ _ _ _ _ _ _ c.loop-at.invariant.output e c.from_residual.ensures.1 c.in_err-put_event.ensures.output
 
 pub loop-at-preserved : goal.loop-at-preserved
 loop-at-preserved g c = record {
