@@ -4,3 +4,4 @@ pub mod WordLemmas
 pub mod DivisionLemmas
 pub mod ContentLemmas
 pub mod ReaderLemmas
+pub mod Equal
