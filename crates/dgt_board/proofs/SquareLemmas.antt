@@ -1,36 +1,27 @@
--- The squares that differ from what was told, found one after the other.
-use Rattle.std.proofs.Common.{arith, ◌≡◌, refl, ap, sym, ◌∙◌, ◌↔◌, ◌==◌, ℕ, zero, suc, ◌+◌, ◌<◌, [], Some, Bool, true, false, not, IsTrue, add-zero, zero-add}
-use Rattle.std.proofs.lemmas.Bool.{eqb-true, eq-eqb, false≢true}
-use Rattle.std.proofs.lemmas.Option.{get_or_from_slice_get}
-use Rattle.std.specs.Prelude.{filter, slice_get}
+-- The squares that differ from what was told, the first of them.
+use Rattle.std.proofs.Common.{arith, ◌≡◌, refl, ap, sym, ◌∙◌, ◌^◌, ℕ, zero, suc, ◌+◌, ◌<◌, [], Some, Bool, true, false, not, add-zero, zero-add}
+use Rattle.std.proofs.lemmas.Bool.{eq-eqb, ne_eqb, false≢true}
+use Rattle.std.proofs.lemmas.Nat.{bit_set_by_shift}
+use Rattle.std.proofs.lemmas.Nat.Bits.{bit_at-trailing_zeros, bit_at-zero, shr_and_one}
+use Rattle.std.proofs.lemmas.Option.{slice_get-get_or}
+use Rattle.std.specs.Int.{bit_at, trailing_zeros, w64}
+use Rattle.std.specs.Prelude.{◌≢◌, filter, length, slice_get}
 use Rattle.std.specs.List.{range_with_len}
 use Rattle.dgt_values.specs.declared.pieces.Piece.{Piece}
 use Rattle.dgt_values.specs.Piece.{piece_code}
+use Rattle.dgt_values.specs.Position.{DifferingSquares}
 use Rattle.dgt_message.specs.Reading.{piece_with_code}
 use Rattle.dgt_board.specs.Due.{IsFirst}
 use Rattle.dgt_board.specs.State.{BoardState}
-use Rattle.dgt_board.specs.Sending.{differs, every_square}
+use Rattle.dgt_board.specs.Sending.{differs, every_square, piece_on}
 
 -- a piece is the one with its code
 piece_with_code-piece_code : (piece : Piece) → piece_with_code (piece_code piece) ≡ piece
 piece_with_code-piece_code Piece.Empty = refl
 piece_with_code-piece_code _ = refl
 
--- a test whether two pieces are the same is one of their codes
-codes_differ : (a b : Piece) (same : Bool) → (IsTrue same ↔ (a ≡ b)) → not (piece_code a == piece_code b) ≡ not same
-codes_differ a b true h = ap not (eq-eqb (piece_code a) (piece_code b) (ap piece_code (h.0 refl)))
-codes_differ a b false h = go (piece_code a == piece_code b) refl
-  where
-    go : (codes : Bool) → (piece_code a == piece_code b) ≡ codes → not codes ≡ true
-    go true e =
-        absurd (false≢true (h.1 (sym (piece_with_code-piece_code a) ∙ ap piece_with_code (eqb-true (piece_code a) (piece_code b) e) ∙ piece_with_code-piece_code b)))
-    go false e = refl
-
--- a square whose piece was read differs from what was told where the two pieces aren't the same
-pub read_square : (board : BoardState) (square : ℕ) (told shown : Piece) (same : Bool) → slice_get board.told_squares square ≡ Some told → slice_get board.squares square ≡ Some shown → (IsTrue same ↔ (told ≡ shown)) → differs board square ≡ not same
-read_square board square told shown same first second h =
-    rw (get_or_from_slice_get board.told_squares square told Piece.Empty first, get_or_from_slice_get board.squares square shown Piece.Empty second)
-    (codes_differ told shown same h)
+same_code : (a b : Piece) → piece_code a ≡ piece_code b → a ≡ b
+same_code a b same = sym (piece_with_code-piece_code a) ∙ ap piece_with_code same ∙ piece_with_code-piece_code b
 
 -- a test that fails along a range keeps nothing of it
 none_kept : (test : ℕ → Bool) (a n : ℕ) → ((k : ℕ) → k < n → test (a + k) ≡ false) → filter test (range_with_len a n) ≡ []
@@ -51,12 +42,51 @@ first_kept test a (suc n) (suc k) within before holds =
     rw (here, ← next k) (first_kept test (a + 1) n k (omega arith) (λ j l. rw (next j) (before (suc j) (omega arith))) (rw (next k) holds))
 
 -- where no square passes, none is kept
-pub no_square : (test : ℕ → Bool) → ((k : ℕ) → k < 64 → test k ≡ false) → filter test every_square ≡ []
+no_square : (test : ℕ → Bool) → ((k : ℕ) → k < 64 → test k ≡ false) → filter test every_square ≡ []
 unfolding every_square
 no_square test h = none_kept test 0 64 (λ k l. rw (zero-add k) (h k l))
 
 -- the first square that passes is the first that is kept
-pub first_square : (test : ℕ → Bool) (at : ℕ) → at < 64 → ((k : ℕ) → k < at → test k ≡ false) → test at ≡ true → IsFirst (filter test every_square) (Some at)
+first_square : (test : ℕ → Bool) (at : ℕ) → at < 64 → ((k : ℕ) → k < at → test k ≡ false) → test at ≡ true → IsFirst (filter test every_square) (Some at)
 unfolding every_square
 first_square test at within before holds =
     rw (← zero-add at) (first_kept test 0 64 at within (λ k l. rw (zero-add k) (before k l)) (rw (zero-add at) holds))
+
+-- ---- a mask of the squares that differ
+
+module _ (board : BoardState) (mask : ℕ) (told_all : length board.told_squares ≡ 64) (all : length board.squares ≡ 64) (tells : DifferingSquares board.told_squares board.squares mask) where
+  -- a square whose bit is set differs
+  set_differs : (k : ℕ) → k < 64 → bit_at mask k ≡ 1 → differs board k ≡ true
+  set_differs k within set =
+      let told = slice_get-get_or board.told_squares k Piece.Empty (omega arith) in
+      let shown = slice_get-get_or board.squares k Piece.Empty (omega arith) in
+      let apart = (tells k within).0 ((bit_set_by_shift mask k).0 (shr_and_one mask k ∙ set)) in
+      ap not (ne_eqb _ _ (λ codes. apart (told ∙ ap Some (same_code _ _ codes) ∙ sym shown)))
+
+  -- and one whose bit is clear doesn't
+  clear_same : (k : ℕ) → k < 64 → bit_at mask k ≡ 0 → differs board k ≡ false
+  clear_same k within clear =
+      let told = slice_get-get_or board.told_squares k Piece.Empty (omega arith) in
+      let shown = slice_get-get_or board.squares k Piece.Empty (omega arith) in
+      go (differs board k) refl told shown
+    where
+      go : (differing : Bool) → differs board k ≡ differing → slice_get board.told_squares k ≡ Some (piece_on board.told_squares k) → slice_get board.squares k ≡ Some (piece_on board.squares k) → differing ≡ false
+      go false e told shown = refl
+      go true e told shown =
+          let apart : slice_get board.told_squares k ≢ slice_get board.squares k = λ same.
+          let pieces : Some (piece_on board.told_squares k) ≡ Some (piece_on board.squares k) = sym told ∙ same ∙ shown in
+          let piece : piece_on board.told_squares k ≡ piece_on board.squares k = cc in
+          absurd (false≢true (sym (ap not (eq-eqb _ _ (ap piece_code piece))) ∙ e)) in
+          let one = sym (shr_and_one mask k) ∙ (bit_set_by_shift mask k).1 ((tells k within).1 apart) in
+          absurd (omega (arith, clear, one))
+
+  -- with no bit set, no square differs
+  pub none_differs : mask ≡ 0 → filter (differs board) every_square ≡ []
+  none_differs none = no_square (differs board) (λ k within. clear_same k within (ap (λ m. bit_at m k) none ∙ bit_at-zero k))
+
+  -- the lowest bit is that of the first square that differs
+  pub lowest_differs : 0 < mask → mask < 2 ^ 64 → IsFirst (filter (differs board) every_square) (Some (trailing_zeros w64 mask))
+  lowest_differs some fits =
+      let lowest = bit_at-trailing_zeros w64 mask some fits in
+      let at = trailing_zeros w64 mask in
+      first_square (differs board) at lowest.0 (λ k below. clear_same k (omega (arith, lowest.0)) (lowest.2 k below)) (set_differs at lowest.0 lowest.1)

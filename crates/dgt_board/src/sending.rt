@@ -1,6 +1,6 @@
 //! What a board sends, and in which order.
 
-ghost use Rattle.std.specs.Prelude.{◌≡◌, ◌↔◌, ◌≤◌, ◌<◌, ℕ, List, IsTrue, IfSome, Some, [], ◌∷◌, false, filter, length, option_map};
+ghost use Rattle.std.specs.Prelude.{◌≡◌, ◌↔◌, ◌≤◌, ◌<◌, ℕ, List, IfSome, Some, [], ◌∷◌, false, filter, length, option_map};
 ghost use Rattle.dgt_values.specs.Bytes.{number};
 ghost use Rattle.dgt_values.specs.Square.{square_number};
 ghost use Rattle.dgt_message.specs.ClockState.{clock_message};
@@ -14,7 +14,7 @@ use crate::modes::Mode;
 use crate::replies::Reply;
 use crate::state::State;
 use dgt_message::{Clock, ClockAck, Message, encode};
-use dgt_values::{NoRoom, Piece, SevenBit, Square};
+use dgt_values::{NoRoom, SevenBit, Square};
 
 /// What a board answers that is asked to send.
 #[derive(Clone, Copy, Debug, PartialEq, Eq)]
@@ -65,13 +65,6 @@ fn zero() -> SevenBit
     }
 }
 
-// Whether two pieces are the same.
-fn is_same(a: Piece, b: Piece) -> bool
-    ensures { IsTrue result ↔ (a ≡ b) }
-{
-    a == b
-}
-
 impl State {
     ghost use Rattle.dgt_board.specs.Kept.{state_of};
 
@@ -79,13 +72,11 @@ impl State {
     fn differing_square(&self) -> Option<Square>
         ensures { IsFirst (filter (differs (state_of self.now)) every_square) (option_map square_number result) }
     {
-        for index in 0..64 {
-            let square = square_at(index);
-            if !is_same(self.told_squares.get(square), self.squares.get(square)) {
-                return Some(square);
-            }
+        let differing = self.told_squares.differ(&self.squares);
+        if differing == 0 {
+            return None;
         }
-        None
+        Some(square_at(differing.trailing_zeros() as u8))
     }
 
     /// What is to be sent next, if anything is.

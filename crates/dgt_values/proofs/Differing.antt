@@ -1,39 +1,57 @@
--- One more square is compared.
-use Rattle.std.proofs.Common.{◌≡◌, ℕ, ◌+◌, ◌<◌, ◌^◌, inl, inr, sym, ◌∙◌, arith, List}
-use Rattle.std.specs.Prelude.{◌≢◌, ◌↔◌, IsBitSet, bit_and, bit_or, slice_get}
-use Rattle.std.proofs.lemmas.Bool.Decides.{eqb_tells}
-use Rattle.std.proofs.lemmas.Nat.{and_or_self, and_or_apart, pow_apart, pow_pos}
+-- The mask of a comparison of codes, bit by bit.
+use Rattle.std.proofs.Common.{◌≡◌, ℕ, ◌+◌, ◌%◌, ◌/◌, ◌^◌, ◌<◌, ◌∙◌, eqb, Bool, false, not, cond, List, map, length, get_or, Some, sym, ap, arith, w8, eq-eqb, ne_eqb}
+use Rattle.std.specs.Prelude.{◌≢◌, ◌↔◌, IsBitSet, bit_and, slice_get}
+use Rattle.std.specs.Int.{bit_at}
+use Rattle.std.proofs.lemmas.Nat.{bit_set_by_shift}
+use Rattle.std.proofs.lemmas.Nat.Bits.{shr_and_one}
+use Rattle.std.proofs.lemmas.Option.{slice_get-get_or}
+use Rattle.std.proofs.lemmas.Simd.{tops_compared, mask_l-mod, bit_mask_l, get_or-zip2, length-zip2}
 use Rattle.dgt_values.specs.declared.pieces.Piece.{Piece}
+use Rattle.dgt_values.specs.declared.pieces.Piece.TheVariants.{Empty}
+use Rattle.dgt_values.specs.Piece.{piece_code}
+use Rattle.dgt_values.proofs.PieceCodes.{same_code}
+use lib.Lanes.{mask_l, top, zip2}
 
--- the bits tell of the squares below i
-abbrev pub Tells : List Piece → List Piece → ℕ → ℕ → Type 0
-Tells xs ys i bits = (n : ℕ) → n < 64 → IsBitSet bits n ↔ ((n < i) × (slice_get xs n ≢ slice_get ys n))
+-- two lanes differ
+abbrev pub unequal : ℕ → ℕ → Bool
+unequal a b = not (eqb a b)
 
--- the bit that is set is set
-same_bit : (bits s : ℕ) → IsBitSet (bit_or bits (2 ^ s)) s
-same_bit bits s h = omega (arith, pow_pos s, sym (and_or_self (2 ^ s) bits) ∙ h)
+-- bit n of the mask says whether lanes n differ
+unequal_bits : (xs ys : List ℕ) → length xs ≡ 64 → length ys ≡ 64 → (n : ℕ) → n < 64
+    → bit_at (mask_l (map (top 7) (zip2 (λ a b. cond (unequal a b) 255 0) xs ys)) % 2 ^ 64) n ≡ cond (unequal (get_or xs n 0) (get_or ys n 0)) 1 0
+unequal_bits xs ys xs_long ys_long n within =
+    let lanes = zip2 unequal xs ys in
+    let masked = ap (λ bits. mask_l bits % 2 ^ 64) (tops_compared w8 unequal xs ys) ∙ mask_l-mod lanes 64 (omega (arith, length-zip2 unequal xs ys (xs_long ∙ sym ys_long))) in
+    ap (λ mask. bit_at mask n) masked ∙ bit_mask_l lanes n ∙ ap (λ b. cond b 1 0) (get_or-zip2 unequal xs ys n 0 0 false (omega arith) (omega arith))
 
--- the other bits stay
-other_bit : (bits s n : ℕ) → (n ≡ s → ⊥) → bit_and (bit_or bits (2 ^ s)) (2 ^ n) ≡ bit_and bits (2 ^ n)
-other_bit bits s n h = and_or_apart (2 ^ n) bits (2 ^ s) (pow_apart s n (λ e. h (sym e)))
+-- a bit that says whether two codes differ is set exactly where the pieces do
+code_bit : (a b : Piece) (bit : ℕ) → bit ≡ cond (unequal (piece_code a) (piece_code b)) 1 0 → (bit ≡ 1) ↔ (a ≢ b)
+code_bit a b bit is = (
+  λ one same.
+      let zero_bit : bit ≡ 0 = is ∙ ap (λ b. cond b 1 0) (ap not (eq-eqb _ _ (ap piece_code same))) in
+      omega arith,
+  λ other. is ∙ ap (λ b. cond b 1 0) (ap not (ne_eqb _ _ (λ same. other (same_code a b same)))),
+)
 
--- a square with the same piece sets no bit
-pub one_more_same : (xs ys : List Piece) (i bits : ℕ) → slice_get xs i ≡ slice_get ys i → Tells xs ys i bits → Tells xs ys (i + 1) bits
-one_more_same xs ys i bits e tells n h =
-    let differs_there : (n ≡ i) → slice_get xs n ≢ slice_get ys n → ⊥ = λ same ne. ne (rw same e) in (
-      λ set. let was = (tells n h).0 set in (omega (arith, was.0), was.1),
-      λ told. (tells n h).1 (elim (eqb_tells n i) [ inl t ↦ absurd (differs_there t.1 told.1) | inr f ↦ omega (arith, told.0, f.1) ], told.1),
+-- what stands on a square that is there
+square_same : (a b : List Piece) (n : ℕ) → n < length a → n < length b → (get_or a n Empty ≢ get_or b n Empty) ↔ (slice_get a n ≢ slice_get b n)
+square_same a b n h k =
+    let own = slice_get-get_or a n Empty h in
+    let others = slice_get-get_or b n Empty k in (
+      λ differs same. differs (let e : Some (get_or a n Empty) ≡ Some (get_or b n Empty) = sym own ∙ same ∙ others in cc),
+      λ differs same. differs (own ∙ ap Some same ∙ sym others),
     )
 
--- a square with another piece sets its bit
-pub one_more_differs : (xs ys : List Piece) (i bits : ℕ) → slice_get xs i ≢ slice_get ys i → Tells xs ys i bits → Tells xs ys (i + 1) (bit_or bits (2 ^ i))
-one_more_differs xs ys i bits e tells n h = elim (eqb_tells n i) [
-  | inl t ↦ (
-    λ set. (omega (arith, t.1), rw t.1 e),
-    λ told. rw t.1 (same_bit bits i),
-  )
-  | inr f ↦ (
-    λ set. let was = (tells n h).0 (λ z. set (other_bit bits i n f.1 ∙ z)) in (omega (arith, was.0), was.1),
-    λ told z. (tells n h).1 (omega (arith, told.0, f.1), told.1) (sym (other_bit bits i n f.1) ∙ z),
-  )
-]
+-- the mask of the codes of two positions tells the squares that differ
+pub mask_tells : (a b : List Piece) (xs ys : List ℕ) → length a ≡ 64 → length b ≡ 64 → length xs ≡ 64 → length ys ≡ 64 → (n : ℕ) → n < 64
+    → get_or xs n 0 ≡ piece_code (get_or a n Empty) → get_or ys n 0 ≡ piece_code (get_or b n Empty)
+    → IsBitSet (mask_l (map (top 7) (zip2 (λ a b. cond (unequal a b) 255 0) xs ys)) % 2 ^ 64) n ↔ (slice_get a n ≢ slice_get b n)
+mask_tells a b xs ys a_long b_long xs_long ys_long n within own others =
+    let mask = mask_l (map (top 7) (zip2 (λ a b. cond (unequal a b) 255 0) xs ys)) % 2 ^ 64 in
+    let told = unequal_bits xs ys xs_long ys_long n within ∙ ap (λ x. cond (unequal x (get_or ys n 0)) 1 0) own ∙ ap (λ y. cond (unequal (piece_code (get_or a n Empty)) y) 1 0) others in
+    let bit = code_bit (get_or a n Empty) (get_or b n Empty) (bit_at mask n) told in
+    let square = square_same a b n (omega arith) (omega arith) in
+    let shift = bit_set_by_shift mask n in (
+      λ set. square.0 (bit.0 (sym (shr_and_one mask n) ∙ shift.1 set)),
+      λ differs. shift.0 (shr_and_one mask n ∙ bit.1 (square.1 differs)),
+    )

@@ -1,3 +1,4 @@
+pub mod PieceCodes
 pub mod Differing
 pub mod Placing
 pub mod Ranks

@@ -1,10 +1,12 @@
 //! What stands on each square.
 
-ghost use Rattle.std.specs.Prelude.{◌≡◌, ◌↔◌, ◌≢◌, ◌<◌, length, replicate, slice_get, slice_set, IsTrue};
+ghost use Rattle.std.specs.Prelude.{◌≡◌, ◌↔◌, ◌≢◌, ◌<◌, ℕ, length, replicate, slice_get, slice_index, slice_index_or, slice_set, IsTrue};
+ghost use Rattle.dgt_values.specs.Piece.{piece_code};
 ghost use Rattle.dgt_values.specs.Position.{start_pieces, DifferingSquares};
 
 use crate::pieces::Piece;
 use crate::squares::Square;
+use std::simd::prelude::*;
 
 /// The pieces of the 64 squares.
 #[derive(Clone, Copy, Debug, PartialEq, Eq)]
@@ -94,13 +96,22 @@ impl Position {
     pub fn differ(&self, other: &Position) -> u64
         ensures { DifferingSquares (pieces_of self.now) (pieces_of other.now) result }
     {
-        let mut differing = 0;
+        let own = u8x64::from_array(self.codes());
+        let others = u8x64::from_array(other.codes());
+        own.simd_ne(others).to_bitmask()
+    }
+
+    // The codes of the pieces. They stand in memory just so, and the compiler makes no loop of it.
+    fn codes(&self) -> [u8; 64]
+        ensures codes { (square : ℕ) → square < 64 →
+            slice_index result square ≡ piece_code (slice_index_or (pieces_of self.now) square Piece.Empty) }
+        ensures len { length (pieces_of self.now) ≡ 64 }
+    {
+        let mut codes = [0; 64];
         for square in 0..64 {
-            if !is_same(self.pieces[square], other.pieces[square]) {
-                differing |= 1 << square;
-            }
+            codes[square] = self.pieces[square].code();
         }
-        differing
+        codes
     }
 }
 

@@ -112,6 +112,14 @@ fn differing_squares_are_bits(rt: HostRuntime) {
     ] {
         assert_eq!(rt; start.differ(&other), differing);
     }
+    let (Ok(a8), Ok(h1)) = (Square::parse("a8"), Square::parse("h1")) else {
+        panic!(rt; "no corners");
+    };
+    for (corner, differing) in [(a8, 1), (h1, 9223372036854775808)] {
+        let mut position = Position::empty();
+        position.set(corner, Piece::ThirdExtra);
+        assert_eq!(rt; Position::empty().differ(&position), differing);
+    }
 }
 
 #[test]
