@@ -10,16 +10,16 @@ use Rattle.dgt_command.specs.Equality.{EqualIsSameReadOf, HasArrays}
 use Rattle.dgt_command.specs.contracts.clock.ClockCommandPartialEq.TheImpl as derived_clock
 
 -- two tests are both true exactly where each is
-both : {P Q : Type 0} → (p q : Bool) → IsTrue p ↔ P → IsTrue q ↔ Q → IsTrue (p && q) ↔ (P × Q)
+pub both : {P Q : Type 0} → (p q : Bool) → IsTrue p ↔ P → IsTrue q ↔ Q → IsTrue (p && q) ↔ (P × Q)
 both true q p_is q_is = (λ t. (p_is.0 refl, q_is.0 t), λ h. q_is.1 h.1)
 both false q p_is q_is = (λ t. cc, λ h. p_is.1 h.0)
 
 -- two numbers are equal exactly where they are the same
-equal_numbers : (m n : ℕ) → IsTrue (nat_eq m n) ↔ (m ≡ n)
+pub equal_numbers : (m n : ℕ) → IsTrue (nat_eq m n) ↔ (m ≡ n)
 equal_numbers m n = search rules
 
 -- two lists of numbers are equal exactly where they are the same
-equal_bytes : (xs ys : List ℕ) → IsTrue (pointwise nat_eq xs ys) ↔ (xs ≡ ys)
+pub equal_bytes : (xs ys : List ℕ) → IsTrue (pointwise nat_eq xs ys) ↔ (xs ≡ ys)
 equal_bytes xs ys = slice_eq-Decides equal_numbers xs ys _ refl
 
 -- the first three members, and the first six

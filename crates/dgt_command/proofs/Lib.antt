@@ -5,3 +5,4 @@ pub mod DivisionLemmas
 pub mod ContentLemmas
 pub mod ReaderLemmas
 pub mod Equal
+pub mod EqualCommands

@@ -3,13 +3,15 @@
 ghost use Rattle.std.specs.Prelude.{◌≡◌};
 ghost use Rattle.dgt_values.specs.Equality.{EqualIsSame, EqualIsSameRead};
 ghost use Rattle.dgt_command.specs.Carried.{led_bytes, payload_bytes};
-ghost use Rattle.dgt_command.specs.Content.{clock_content};
-ghost use Rattle.dgt_command.specs.Equality.{EqualIsSameReadOf, HasArrays};
+ghost use Rattle.dgt_command.specs.Content.{clock_content, command_content, event_content};
+ghost use Rattle.dgt_command.specs.Equality.{CommandHasArrays, EqualIsSameReadOf, EventHasArrays, FedHasArrays, HasArrays, fed_seen};
 ghost use Rattle.dgt_command.specs.Laws.{CommandsAreReadBack, DivisionsAppend, EachDividesOnce, NoWordBeginsAnother, SpellingsTellCommands, WordsAreShort, ZerosSettleTheReader};
 ghost use Rattle.dgt_command.specs.Raw.{raw_seen};
 
 use crate::carried::{LedBytes, MAX_LED_BYTES, MAX_PAYLOAD, Payload};
 use crate::clock::{ClockCommand, RawClock};
+use crate::command::{Command, CommandEvent};
+use crate::decoder::CommandFed;
 use crate::framer::{AdvancedWord, FoundWord, MAX_WORD};
 
 /// The limits by their numbers.
@@ -26,6 +28,9 @@ pub fn equal_is_same()
     ensures led_bytes { EqualIsSameRead led_bytes ⟦<LedBytes<'static> as PartialEq>⟧.eq }
     ensures raw { EqualIsSameRead raw_seen ⟦<RawClock<'static> as PartialEq>⟧.eq }
     ensures clock { EqualIsSameReadOf HasArrays clock_content ⟦<ClockCommand<'static> as PartialEq>⟧.eq }
+    ensures command { EqualIsSameReadOf CommandHasArrays command_content ⟦<Command<'static> as PartialEq>⟧.eq }
+    ensures event { EqualIsSameReadOf EventHasArrays event_content ⟦<CommandEvent<'static> as PartialEq>⟧.eq }
+    ensures fed { EqualIsSameReadOf FedHasArrays fed_seen ⟦<CommandFed<'static> as PartialEq>⟧.eq }
     ensures found { EqualIsSame ⟦<FoundWord as PartialEq>⟧.eq }
     ensures advanced { EqualIsSame ⟦<AdvancedWord as PartialEq>⟧.eq }
 {}
