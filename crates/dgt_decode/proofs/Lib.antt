@@ -13,3 +13,4 @@ pub mod Division
 pub mod Framing
 pub mod AnyPieces
 pub mod Cutting
+pub mod Chunks
