@@ -14,3 +14,4 @@ pub mod Framing
 pub mod AnyPieces
 pub mod Cutting
 pub mod Chunks
+pub mod Runs
