@@ -1,46 +1,54 @@
--- A run of seven-bit bytes in a message's body, and a loop that takes run by run.
+-- A run of bytes, and a loop that takes run by run.
 use Rattle.std.proofs.Common.{◌≡◌, ℕ, zero, suc, ◌+◌, ◌-◌, ◌<◌, ◌≤◌, Bool, true, false, cond, not, List, [], ◌∷◌, ◌++◌, length, take, drop, get_or, Option, Some, None, refl, sym, ap, ◌∙◌, arith}
 use Rattle.std.specs.List.{position_or_len}
 use Rattle.std.specs.Prelude.{is_some}
 use Rattle.std.proofs.lemmas.Bool.{ne_eqb, leb-false, lt-leb}
 use Rattle.std.proofs.lemmas.List.{append-nil, length-append, length-take, length-drop, take-take}
 use Rattle.std.proofs.lemmas.List.Sums.{prefix_len-le-length}
-use Rattle.std.proofs.Math.Seq.{take-add}
+use Rattle.std.proofs.Math.Seq.{take-add, take-length}
 use Rattle.dgt_decode.specs.declared.event.Found.{Found}
+use Rattle.dgt_decode.specs.declared.event.Found.TheVariants as found
 use Rattle.dgt_decode.specs.declared.framer.State.TheVariants.{Body}
 use Rattle.dgt_decode.specs.Grammar.{IsSevenBit, Event, has_top_bit, at_place, events, open_message, total_of}
-use Rattle.dgt_decode.specs.Feeding.{FirstEvent, at_place_if_any, found_if_any, found_in}
+use Rattle.dgt_decode.specs.Feeding.{FirstEvent, IsWhole, at_place_if_any, found_if_any, found_in}
 use Rattle.dgt_decode.specs.Keeping.{IsKept}
-use Rattle.dgt_decode.specs.Taking.{Frames, FramesRun, TakesByte, TakesRun}
+use Rattle.dgt_decode.specs.Taking.{FramesRun, TakesRun}
 use Rattle.dgt_decode.proofs.Verdicts.{total_of-append}
-use Rattle.dgt_decode.proofs.Open.{events-of_open}
-use Rattle.dgt_decode.proofs.Steps.{IsHeld, IsHeld-open, IsOpen-held, next-waits}
-use Rattle.dgt_decode.proofs.Feeds.{FirstEvent-some}
+use Rattle.dgt_decode.proofs.Steps.{next-waits}
+use Rattle.dgt_decode.proofs.Feeds.{FirstEvent-some, quiet-piece}
 use Rattle.dgt_decode.proofs.Loops.{HasTaken, run_holds, run_told, run_quiet}
 use Rattle.dgt_decode.proofs.Framing.{after, tells-after}
 
--- ---- One byte
+-- ---- One byte after another
 
--- one byte is a run
-takes-one : (held rest : List ℕ) (new : List ℕ) (event : Option Event) → IsHeld held → 0 < length rest
-    → TakesByte held (get_or rest 0 0) new event → TakesRun held rest 1 new event
-takes-one held [] new event is some t = absurd (omega arith)
-takes-one held (b ∷ rest) new event is some t =
-    record {
-      some = omega arith;
-      within = omega arith;
-      quiet = rw (append-nil held) (events-of_open held (IsOpen-held held is));
-      told = t.told;
-      holds = t.holds;
-    }
+-- before the last byte of an answer there is no event
+first_quiet : (held front : List ℕ) (used : ℕ) (event : Option Event) → FirstEvent held front used event → 0 < used → events (held ++ take (used - 1) front) ≡ []
+first_quiet held front used None first some = quiet-piece held front (used - 1) first.1
+first_quiet held front used (Some event) first some = first.2 (used - 1) (omega (arith, some))
 
--- so it is for a framer
-pub frames-one : (kept rest : List ℕ) (new : List ℕ) (what : Option Found) → 0 < length rest
-    → Frames kept (get_or rest 0 0) new what → FramesRun kept rest 1 new what
-frames-one kept rest new what some f =
+-- and with it there is the one that is told
+first_told : (held front : List ℕ) (used : ℕ) (event : Option Event) → FirstEvent held front used event → events (held ++ take used front) ≡ at_place_if_any (length held + used) event
+first_told held front used None first = rw (first.0, take-length front) first.1
+first_told held front used (Some event) first = first.1
+
+-- what was found in the first bytes of those that are left
+pub frames-front : (kept rest : List ℕ) (n used : ℕ) (new : List ℕ) (what : Option Found) → 0 < used → used ≤ length (take n rest)
+    → FirstEvent (open_message kept) (take n rest) used (found_if_any new what) → open_message new ≡ open_message (open_message kept ++ take used (take n rest))
+    → (what ≡ Some found.Message → IsWhole new) → FramesRun kept rest used new what
+frames-front kept rest n used new what some within first held whole =
+    let up_to = length-take n rest in
+    let same : take used (take n rest) ≡ take used rest = take-take used n rest (omega (arith, within, up_to)) in
+    let early : take (used - 1) (take n rest) ≡ take (used - 1) rest = take-take (used - 1) n rest (omega (arith, within, up_to)) in
     record {
-      takes = takes-one (open_message kept) rest (open_message new) (found_if_any new what) (IsHeld-open kept) some f.takes;
-      message = f.message;
+      takes =
+          record {
+            some = some;
+            within = omega (arith, within, up_to);
+            quiet = rw (← early) (first_quiet (open_message kept) (take n rest) used (found_if_any new what) first some);
+            told = rw (← same) (first_told (open_message kept) (take n rest) used (found_if_any new what) first);
+            holds = rw (← same) held;
+          };
+      message = whole;
     }
 
 -- ---- In a body

@@ -15,7 +15,7 @@ use std::marker::Model;
 /// The most bytes of a message, its header of three bytes counted.
 pub const MAX_TOTAL: usize = 16383;
 
-// Where so many bytes of a message are missing, they are taken by runs.
+// Fewer bytes than this are taken one by one.
 const MANY: usize = 16;
 
 /// How far a message has come.
@@ -153,8 +153,7 @@ impl Framer {
         }
     }
 
-    // Takes the run at the front where it goes on with a message of which many bytes are missing, and else one
-    // byte.
+    // Takes the run at the front where many bytes of a message are missing, and else a few bytes one by one.
     fn take_front(&mut self, rest: &[u8]) -> Advanced
         requires { 0 < length rest.now }
         ensures { FramesRun self.old rest.now result.used self.new result.found }
@@ -166,10 +165,29 @@ impl Framer {
                 self.state = state;
                 Advanced { used, found }
             }
-            _ => Advanced {
-                used: 1,
-                found: self.take_byte(rest[0]),
-            },
+            _ => self.take_bytes(&rest[..rest.len().min(MANY)]),
+        }
+    }
+
+    // Uses bytes one by one, up to and including the first that makes something known, or all of them.
+    fn take_bytes(&mut self, bytes: &[u8]) -> Advanced
+        ensures within { result.used ≤ length bytes.now }
+        ensures first { FirstEvent (open_message self.old) bytes.now result.used (found_if_any self.new result.found) }
+        ensures held { open_message self.new ≡ open_message (open_message self.old ++ take result.used bytes.now) }
+        ensures whole { result.found ≡ Some Found.Message → IsWhole self.new }
+        ensures progress { 0 < length bytes.now → 0 < result.used }
+    {
+        for (index, byte) in bytes.iter().enumerate() {
+            if let Some(found) = self.take_byte(*byte) {
+                return Advanced {
+                    used: index + 1,
+                    found: Some(found),
+                };
+            }
+        }
+        Advanced {
+            used: bytes.len(),
+            found: None,
         }
     }
 

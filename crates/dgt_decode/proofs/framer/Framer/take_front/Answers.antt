@@ -1,8 +1,9 @@
 use Rattle.std.proofs.Common.{subst, arith}
+use Rattle.std.proofs.lemmas.List.{length-take}
 use Rattle.dgt_decode.specs.declared.framer.State.TheVariants.{Body}
 use Rattle.dgt_decode.specs.Keeping.{IsKept}
 use Rattle.dgt_decode.proofs.Bytes.{held_total}
-use Rattle.dgt_decode.proofs.Runs.{IsBodyRun, body_run, frames-one, frames-body_run}
+use Rattle.dgt_decode.proofs.Runs.{IsBodyRun, body_run, frames-front, frames-body_run}
 use Rattle.dgt_decode.proofs.framer.Framer.take_front.Goals as goal
 
 pub append_run-used-requires : goal.append_run-used-requires
@@ -31,4 +32,7 @@ returns-in-Body c =
     rw (← c.self.view_is, c.after_byte-state.ensures, c.append_run-used.ensures.appended) (frames-body_run kept c.args.rest.now c.in-Body.left _ is run).0
 
 pub returns-in_default : goal.returns-in_default
-returns-in_default c = frames-one c.args.self.now c.args.rest.now c.take_byte.new.self c.take_byte.result c.requires c.take_byte.ensures
+returns-in_default c =
+    let some = c.take_bytes.ensures.progress (omega (arith, length-take c.min.result c.args.rest.now, c.min.ensures, c.requires)) in
+    frames-front c.args.self.now c.args.rest.now _ c.take_bytes.result.used c.take_bytes.new.self c.take_bytes.result.found
+    some c.take_bytes.ensures.within c.take_bytes.ensures.first c.take_bytes.ensures.held c.take_bytes.ensures.whole
