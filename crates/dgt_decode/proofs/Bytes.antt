@@ -2,7 +2,7 @@
 use Rattle.std.proofs.Common.{◌≡◌, ℕ, zero, suc, ◌<◌, ◌≤◌, Bool, true, false, cond, List, [], ◌∷◌, ◌++◌, length, get_or, Some, None, refl, sym, subst, arith}
 use Rattle.std.proofs.lemmas.List.{get_or_append_left}
 use Rattle.std.proofs.lemmas.Bool.{leb-true}
-use Rattle.dgt_decode.specs.Grammar.{IsSevenBit, Cut, Stray, has_top_bit, lead, segments, verdict, open_message}
+use Rattle.dgt_decode.specs.Grammar.{IsSevenBit, Cut, Stray, has_top_bit, lead, segments, total_of, verdict, open_message}
 use Rattle.dgt_decode.specs.Taking.{TakesByte}
 use Rattle.dgt_decode.proofs.Verdicts.{Stage, short, waits, bad, whole, stage_of, verdict-bad, verdict-whole}
 use Rattle.dgt_decode.proofs.More.{IsAlone, IsSevenBit-lead}
@@ -53,9 +53,16 @@ pub held_begins : (held : List ℕ) → IsHeld held → 0 < length held → 128 
 held_begins [] h some = absurd (omega arith)
 held_begins (b ∷ held) h some = (IsAlone-parts b held (alone_held (b ∷ held) h some).0).0
 
--- and still does with one more byte
-pub held_begins_more : (held : List ℕ) (b : ℕ) → IsHeld held → 0 < length held → 128 ≤ get_or (held ++ b ∷ []) 0 0
-held_begins_more held b h some = rw (get_or_append_left held (b ∷ []) 0 0 some) (held_begins held h some)
+-- and still does with more bytes
+pub held_begins_more : (held run : List ℕ) → IsHeld held → 0 < length held → 128 ≤ get_or (held ++ run) 0 0
+held_begins_more held run h some = rw (get_or_append_left held run 0 0 some) (held_begins held h some)
+
+-- no header that is held says more than the longest total
+pub held_total : (held : List ℕ) → IsHeld held → 0 < length held → total_of held ≤ 16383
+held_total [] h some = absurd (omega arith)
+held_total (b ∷ held) h some =
+    let seven = (IsAlone-parts b held (alone_held (b ∷ held) h some).0).1 in
+    omega (arith, IsSevenBit-get held 0 seven, IsSevenBit-get held 1 seven)
 
 -- what is held is shorter than the longest total
 pub held_room : (held : List ℕ) → IsHeld held → length held < 16383
@@ -70,9 +77,7 @@ held_room (b ∷ held) h = go (stage_of (b ∷ held))
 
     go : Stage (b ∷ held) → length (b ∷ held) < 16383
     go (short few) = omega arith
-    go (waits less) =
-        let seven = (IsAlone-parts b held alone.0).1 in
-        omega (arith, IsSevenBit-get held 0 seven, IsSevenBit-get held 1 seven)
+    go (waits less) = omega (arith, less, held_total (b ∷ held) h some)
     go (bad long small) = let none = alone.1 in let no = verdict-bad (b ∷ held) long small in absurd cc
     go (whole large enough) = let none = alone.1 in let no = verdict-whole (b ∷ held) large enough in absurd cc
 

@@ -7,8 +7,8 @@ use Rattle.dgt_decode.specs.declared.event.Found.{Found}
 use Rattle.dgt_decode.specs.declared.event.Found.TheVariants as found
 use Rattle.dgt_decode.specs.declared.framer.State.{State}
 use Rattle.dgt_decode.specs.declared.framer.State.TheVariants.{Hunting, Head, Body, Whole}
-use Rattle.dgt_decode.specs.Grammar.{IsSevenBit, BadLength, at_place, message_event, total_of, open_message}
-use Rattle.dgt_decode.specs.Feeding.{IsWhole}
+use Rattle.dgt_decode.specs.Grammar.{IsSevenBit, BadLength, at_place, message_event, total_of, events, open_message}
+use Rattle.dgt_decode.specs.Feeding.{IsWhole, at_place_if_any, found_if_any}
 use Rattle.dgt_decode.specs.Keeping.{IsKept}
 use Rattle.dgt_decode.specs.Taking.{Frames}
 use Rattle.dgt_decode.proofs.Verdicts.{total_of-append}
@@ -109,36 +109,53 @@ later_seven : (g : List ℕ) → IsAlone g → IsSevenBit (drop 1 g)
 later_seven [] alone = tt
 later_seven (b ∷ bytes) alone = (IsAlone-parts b bytes alone).1
 
--- a byte of a message ends it where none is left, and tells nothing otherwise
-pub frames-after : (kept : List ℕ) (b left : ℕ) → IsHeld kept → 2 ≤ length kept → b < 128 → total_of (kept ++ b ∷ []) ≡ length (kept ++ b ∷ []) + left
-    → Frames kept b (kept ++ b ∷ []) (after left).1 × IsKept (after left).0 (kept ++ b ∷ [])
-frames-after kept b zero h two seven all =
+-- what seven-bit bytes of a message make known
+pub record Tells (kept run : List ℕ) (what : Option Found) : Type 0 where
+  pub told : events (kept ++ run) ≡ at_place_if_any (length kept + length run) (found_if_any (kept ++ run) what)
+  pub message : what ≡ Some found.Message → IsWhole (kept ++ run)
+
+-- they end it where none is left, and tell nothing otherwise
+pub tells-after : (kept run : List ℕ) (left : ℕ) → IsHeld kept → 2 ≤ length kept → 0 < length run → IsSevenBit run → total_of (kept ++ run) ≡ length (kept ++ run) + left
+    → Tells kept run (after left).1 × IsKept (after left).0 (kept ++ run)
+tells-after kept run zero h two more seven all =
     let some : 0 < length kept = omega arith in
-    let count : length (kept ++ b ∷ []) ≡ length kept + 1 = length-append kept (b ∷ []) in
-    let long : 3 ≤ length (kept ++ b ∷ []) = omega arith in
-    let same : total_of (kept ++ b ∷ []) ≡ length (kept ++ b ∷ []) = omega (arith, all) in
-    let g = next-whole kept (b ∷ []) h some (seven, tt) long same in
-    let alone = IsAlone-more kept (b ∷ []) (alone_held kept h some).0 (seven, tt) in
-    let whole : IsWhole (kept ++ b ∷ []) = record { first = held_begins_more kept b h some; later = later_seven (kept ++ b ∷ []) alone; long = long; whole = same } in (
+    let count : length (kept ++ run) ≡ length kept + length run = length-append kept run in
+    let long : 3 ≤ length (kept ++ run) = omega arith in
+    let same : total_of (kept ++ run) ≡ length (kept ++ run) = omega (arith, all) in
+    let g = next-whole kept run h some seven long same in
+    let alone = IsAlone-more kept run (alone_held kept h some).0 seven in
+    let whole : IsWhole (kept ++ run) = record { first = held_begins_more kept run h some; later = later_seven (kept ++ run) alone; long = long; whole = same } in (
       record {
-        takes = rw (h, g.leaves) (record { told = g.told ∙ ap (λ (n : ℕ). at_place n (message_event (kept ++ b ∷ [])) ∷ []) count; holds = sym g.leaves });
+        told = g.told ∙ ap (λ (n : ℕ). at_place n (message_event (kept ++ run)) ∷ []) count;
         message = λ e. whole;
       },
       whole,
     )
-frames-after kept b (suc left) h two seven all =
-    let count : length (kept ++ b ∷ []) ≡ length kept + 1 = length-append kept (b ∷ []) in
-    let g = next-waits kept (b ∷ []) h (omega arith) (seven, tt) (omega (arith, all)) in
-    let more : nat_eq (suc left) 0 ≡ false = ne_eqb (suc left) 0 (λ (z : suc left ≡ 0). absurd (omega (arith, z))) in
-    rw more (
+tells-after kept run (suc left) h two more seven all =
+    let count : length (kept ++ run) ≡ length kept + length run = length-append kept run in
+    let g = next-waits kept run h (omega arith) seven (omega (arith, all)) in
+    let waits : nat_eq (suc left) 0 ≡ false = ne_eqb (suc left) 0 (λ (z : suc left ≡ 0). absurd (omega (arith, z))) in
+    rw waits (
       record {
-        takes = rw (h, g.leaves) (record { told = g.told; holds = sym g.leaves });
+        told = g.told;
         message = λ e. absurd cc;
       },
       (g.leaves, omega arith, omega arith, all),
     )
 
--- so does a byte of the body
+-- so does one byte
+pub frames-after : (kept : List ℕ) (b left : ℕ) → IsHeld kept → 2 ≤ length kept → b < 128 → total_of (kept ++ b ∷ []) ≡ length (kept ++ b ∷ []) + left
+    → Frames kept b (kept ++ b ∷ []) (after left).1 × IsKept (after left).0 (kept ++ b ∷ [])
+frames-after kept b left h two seven all =
+    let t = tells-after kept (b ∷ []) left h two (omega arith) (seven, tt) all in (
+      record {
+        takes = rw h (record { told = t.0.told; holds = refl });
+        message = t.0.message;
+      },
+      t.1,
+    )
+
+-- a byte of the body does
 pub frames-body : (kept : List ℕ) (b left : ℕ) → IsKept (Body left) kept → b < 128
     → Frames kept b (kept ++ b ∷ []) (after (left - 1)).1 × IsKept (after (left - 1)).0 (kept ++ b ∷ [])
 frames-body kept b left is seven =

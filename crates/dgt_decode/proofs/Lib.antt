@@ -13,3 +13,5 @@ pub mod Division
 pub mod Framing
 pub mod AnyPieces
 pub mod Cutting
+pub mod Chunks
+pub mod Runs

@@ -1,5 +1,5 @@
--- What a framer does with one byte.
-use Rattle.std.specs.Prelude.{◌≡◌, ℕ, ◌+◌, List, [], ◌∷◌, ◌++◌, length, Option, Some}
+-- What a framer does with one byte, or with a run of bytes.
+use Rattle.std.specs.Prelude.{◌≡◌, ◌≤◌, ◌<◌, ℕ, ◌+◌, ◌-◌, List, [], ◌∷◌, ◌++◌, length, take, Option, Some}
 use Rattle.dgt_decode.specs.declared.event.Found.{Found}
 use Rattle.dgt_decode.specs.declared.event.Found.TheVariants as found
 use Rattle.dgt_decode.specs.Grammar.{Event, events, open_message}
@@ -13,4 +13,17 @@ pub record TakesByte (held : List ℕ) (byte : ℕ) (new : List ℕ) (event : Op
 -- A reader that kept these bytes has taken one more, which ended a message that is kept now if it made one known.
 pub record Frames (kept : List ℕ) (byte : ℕ) (new : List ℕ) (what : Option Found) : Type 0 where
   pub takes : TakesByte (open_message kept) byte (open_message new) (found_if_any new what)
+  pub message : what ≡ Some found.Message → IsWhole new
+
+-- A reader that held these bytes has taken the first of those that are left of a piece. Only the last of them may make an event.
+pub record TakesRun (held rest : List ℕ) (used : ℕ) (new : List ℕ) (event : Option Event) : Type 0 where
+  pub some : 0 < used
+  pub within : used ≤ length rest
+  pub quiet : events (held ++ take (used - 1) rest) ≡ []
+  pub told : events (held ++ take used rest) ≡ at_place_if_any (length held + used) event
+  pub holds : new ≡ open_message (held ++ take used rest)
+
+-- The same of a reader that keeps a message that a run made known.
+pub record FramesRun (kept rest : List ℕ) (used : ℕ) (new : List ℕ) (what : Option Found) : Type 0 where
+  pub takes : TakesRun (open_message kept) rest used (open_message new) (found_if_any new what)
   pub message : what ≡ Some found.Message → IsWhole new

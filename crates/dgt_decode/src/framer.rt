@@ -1,16 +1,22 @@
 //! The reading of one message after another: its states, and the bytes that have come.
 
 ghost use Rattle.std.specs.Prelude.{◌≡◌, ◌≤◌, ◌<◌, ◌+◌, List, ℕ, [], ◌∷◌, ◌++◌, length, take, ◌==◌, if◌then◌else◌, Some, None};
-ghost use Rattle.dgt_decode.specs.Grammar.{open_message};
+ghost use Rattle.std.specs.List.{position_or_len};
+ghost use Rattle.arrayvec.specs.ArrayVec.{array_vec_len};
+ghost use Rattle.dgt_decode.specs.Grammar.{has_top_bit, open_message};
 ghost use Rattle.dgt_decode.specs.Feeding.{FirstEvent, IsWhole, event_content, found_if_any, found_in};
-ghost use Rattle.dgt_decode.specs.Taking.{Frames};
+ghost use Rattle.dgt_decode.specs.Taking.{Frames, FramesRun};
 
 use crate::event::{Event, Found, whole_message};
+use crate::lanes::first_top;
 use arrayvec::ArrayVec;
 use std::marker::Model;
 
 /// The most bytes of a message, its header of three bytes counted.
 pub const MAX_TOTAL: usize = 16383;
+
+// Fewer bytes than this are taken one by one.
+const MANY: usize = 16;
 
 /// How far a message has come.
 #[derive(Clone, Copy)]
@@ -58,7 +64,7 @@ impl Model for Framer {
     ghost invariant = { λ framer. IsKept framer.state framer.kept.items };
 }
 
-// The state after a byte of a message, where so many are still to come, and what the byte made known.
+// The state after bytes of a message, where so many are still to come, and what the last byte made known.
 fn after_byte(left: usize) -> (State, Option<Found>)
     ensures { result ≡ (if left == 0 then (State.Whole, Some Found.Message) else (State.Body left, None)) }
 {
@@ -67,6 +73,19 @@ fn after_byte(left: usize) -> (State, Option<Found>)
     } else {
         (State::Body { left }, None)
     }
+}
+
+// Appends the bytes at the front of the piece that are below 128, and no more than are missing. Answers how
+// many they are.
+fn append_run(kept: &mut ArrayVec<u8, MAX_TOTAL>, missing: usize, piece: &[u8]) -> usize
+    requires { array_vec_len kept.old + missing ≤ MAX_TOTAL }
+    ensures count { result ≡ position_or_len has_top_bit (take missing piece.now) }
+    ensures appended { kept.new.items ≡ kept.old.items ++ take result piece.now }
+{
+    let wanted = &piece[..piece.len().min(missing)];
+    let run = first_top(wanted);
+    kept.try_extend_from_slice(&wanted[..run]).unwrap();
+    run
 }
 
 impl Framer {
@@ -106,18 +125,18 @@ impl Framer {
         ensures whole { result.found ≡ Some Found.Message → IsWhole self.new }
         ensures progress { 0 < length piece.now → 0 < result.used }
     {
-        for (index, byte) in piece.iter().enumerate() {
-            if let Some(found) = self.take_byte(*byte) {
+        let mut used = 0;
+        while used < piece.len() {
+            let front = self.take_front(&piece[used..]);
+            used += front.used;
+            if front.found.is_some() {
                 return Advanced {
-                    used: index + 1,
-                    found: Some(found),
+                    used,
+                    found: front.found,
                 };
             }
         }
-        Advanced {
-            used: piece.len(),
-            found: None,
-        }
+        Advanced { used, found: None }
     }
 
     /// The event of what was found. A message that was found is still kept here: `advance` says so, and no
@@ -131,6 +150,44 @@ impl Framer {
             Found::Cut { have } => Event::Cut { have },
             Found::BadLength => Event::BadLength,
             Found::Stray(byte) => Event::Stray(byte),
+        }
+    }
+
+    // Takes the run at the front where many bytes of a message are missing, and else a few bytes one by one.
+    fn take_front(&mut self, rest: &[u8]) -> Advanced
+        requires { 0 < length rest.now }
+        ensures { FramesRun self.old rest.now result.used self.new result.found }
+    {
+        match self.state {
+            State::Body { left } if left >= MANY && rest[0] < 128 => {
+                let used = append_run(&mut self.kept, left, rest);
+                let (state, found) = after_byte(left - used);
+                self.state = state;
+                Advanced { used, found }
+            }
+            _ => self.take_bytes(&rest[..rest.len().min(MANY)]),
+        }
+    }
+
+    // Uses bytes one by one, up to and including the first that makes something known, or all of them.
+    fn take_bytes(&mut self, bytes: &[u8]) -> Advanced
+        ensures within { result.used ≤ length bytes.now }
+        ensures first { FirstEvent (open_message self.old) bytes.now result.used (found_if_any self.new result.found) }
+        ensures held { open_message self.new ≡ open_message (open_message self.old ++ take result.used bytes.now) }
+        ensures whole { result.found ≡ Some Found.Message → IsWhole self.new }
+        ensures progress { 0 < length bytes.now → 0 < result.used }
+    {
+        for (index, byte) in bytes.iter().enumerate() {
+            if let Some(found) = self.take_byte(*byte) {
+                return Advanced {
+                    used: index + 1,
+                    found: Some(found),
+                };
+            }
+        }
+        Advanced {
+            used: bytes.len(),
+            found: None,
         }
     }
 

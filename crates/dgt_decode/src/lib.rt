@@ -17,6 +17,7 @@
 mod decoder;
 mod event;
 mod framer;
+mod lanes;
 pub mod laws;
 #[cfg(test)]
 mod plain;
@@ -26,3 +27,4 @@ mod tests;
 pub use decoder::{Decoder, Fed, Unfinished};
 pub use event::{Event, Found};
 pub use framer::{Advanced, Framer, MAX_TOTAL};
+pub use lanes::first_top;

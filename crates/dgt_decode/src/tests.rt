@@ -5,6 +5,7 @@ ghost use Rattle.std.specs.Prelude.{◌≡◌, ◌≤◌, length};
 use crate::decoder::{Decoder, Unfinished};
 use crate::event::{Event, Found};
 use crate::framer::Framer;
+use crate::lanes::first_top;
 use crate::plain;
 use dgt_message::{BodyFault, Message, Reading};
 use dgt_values::SevenBit;
@@ -250,6 +251,46 @@ fn plain_lines(alloc: Global, bytes: &[u8]) -> Result<Vec<String>, AllocError> {
     Ok(lines)
 }
 
+/// The bytes in two pieces, cut at this place, come to what the plain program says of all of them.
+fn assert_as_plain(
+    rt: &impl Abort,
+    alloc: Global,
+    bytes: &[u8],
+    cut: usize,
+) -> Result<(), AllocError>
+    requires { cut ≤ length bytes.now }
+{
+    let mut decoder = Decoder::new();
+    let mut lines = Vec::new(alloc);
+    feed_part(rt, alloc, &mut decoder, bytes, 0, cut, &mut lines)?;
+    feed_part(rt, alloc, &mut decoder, bytes, cut, bytes.len(), &mut lines)?;
+    let told = plain_lines(alloc, bytes)?;
+    assert_eq!(rt; lines.len(), told.len());
+    for (line, want) in lines.iter().zip(&told) {
+        assert_eq!(rt; line.as_str(), want.as_str());
+    }
+    Ok(())
+}
+
+/// A message of 70 bytes, with one byte in place of another, and a message behind it.
+#[test]
+fn one_byte_at_any_place_of_a_lane(rt: HostRuntime) -> Result<(), Fail> {
+    for place in 1..72 {
+        for byte in [0x80, 0x8e, 0x05] {
+            let mut bytes = [0; 75];
+            bytes[0] = 0xb0;
+            bytes[2] = 70;
+            bytes[70] = 0x8e;
+            bytes[72] = 0x05;
+            bytes[place] = byte;
+            for cut in [0, 1, 3, 34, 35, 36, 66, 67, 68, 69, 70, place, place + 1] {
+                assert_as_plain(&rt, rt.alloc(), &bytes, cut)?;
+            }
+        }
+    }
+    Ok(())
+}
+
 fn assert_lines(rt: &impl Abort, lines: &[String], told: &[&str]) {
     assert_eq!(rt; lines.len(), told.len());
     for (line, want) in lines.iter().zip(told) {
@@ -366,6 +407,47 @@ fn the_longest_message(rt: HostRuntime) -> Result<(), Fail> {
         assert_longest(&rt, &bytes, LONGEST - 1 - cut);
     }
     Ok(())
+}
+
+/// Feeds the longest message in pieces of this length.
+fn assert_longest_in_pieces(rt: &impl Abort, bytes: &[u8], most: usize)
+    requires { 0 < most }
+{
+    let mut decoder = Decoder::new();
+    let mut at = 0;
+    for piece in bytes.chunks(most) {
+        let fed = decoder.feed(piece);
+        assert_eq!(rt; fed.used, piece.len());
+        at += fed.used;
+        match &fed.event {
+            Some(event) => assert!(rt; at == LONGEST && is_longest(event)),
+            None => assert!(rt; at < LONGEST),
+        }
+    }
+    assert_eq!(rt; at, LONGEST);
+    assert_eq!(rt; decoder.rest(), 0);
+}
+
+#[test]
+fn the_longest_message_in_pieces(rt: HostRuntime) {
+    let bytes = longest_message();
+    for most in [31, 32, 33, 16383] {
+        assert_longest_in_pieces(&rt, &bytes, most);
+    }
+}
+
+#[test]
+fn the_first_top_bit(rt: HostRuntime) {
+    let mut bytes = [0; 40];
+    assert_eq!(rt; first_top(&[]), 0);
+    assert_eq!(rt; first_top(&[0x8e]), 0);
+    assert_eq!(rt; first_top(&bytes[..32]), 32);
+    bytes[31] = 0x80;
+    assert_eq!(rt; first_top(&bytes[..32]), 31);
+    bytes[31] = 0x00;
+    bytes[32] = 0x8e;
+    assert_eq!(rt; first_top(&bytes[..33]), 32);
+    assert_eq!(rt; first_top(&[0xff; 40]), 0);
 }
 
 #[test]

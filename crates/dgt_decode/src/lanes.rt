@@ -1,0 +1,51 @@
+//! The search for the next byte that begins a message, 32 bytes at a time.
+
+ghost use Rattle.std.specs.Prelude.{◌≡◌, ◌≤◌, map};
+ghost use Rattle.std.specs.List.{position_or_len};
+ghost use Rattle.std.specs.Simd.Lanes.{mask_l};
+ghost use Rattle.dgt_decode.specs.Grammar.{has_top_bit};
+
+use std::simd::prelude::*;
+
+// How many bytes are compared at once.
+const LANES: usize = 32;
+
+/// The index of the first byte with a set top bit, or the length where there is none.
+pub fn first_top(bytes: &[u8]) -> usize
+    ensures { result ≡ position_or_len has_top_bit bytes.now }
+{
+    let mut at = 0;
+    while bytes.len() - at >= LANES {
+        let run = first_top_lane(u8x32::from_slice(&bytes[at..]));
+        if run < LANES {
+            return at + run;
+        }
+        at += LANES;
+    }
+    'tail: while at < bytes.len() && bytes[at] < 128 {
+        at += 1;
+    }
+    at
+}
+
+// The first lane with a set top bit, or 32 where there is none.
+#[inline(always)]
+fn first_top_lane(lanes: u8x32) -> usize
+    ensures value { result ≡ position_or_len has_top_bit lanes }
+    ensures within { result ≤ LANES }
+{
+    let tops = top_bits(lanes);
+    if tops == 0 {
+        LANES
+    } else {
+        tops.trailing_zeros() as usize
+    }
+}
+
+// The lanes' top bits, the first lane's lowest.
+#[inline(always)]
+fn top_bits(lanes: u8x32) -> u64
+    ensures { result ≡ mask_l (map has_top_bit lanes) }
+{
+    lanes.simd_ge(u8x32::splat(128)).to_bitmask()
+}
