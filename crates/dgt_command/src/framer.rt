@@ -1,6 +1,6 @@
 //! The words of the line, one by one, as their bytes come.
 
-ghost use Rattle.std.specs.Prelude.{◌≡◌, ◌+◌, ◌<◌, ◌≤◌, [], ◌++◌, length, take, true, false, Some, IsTrue, IfSome, IfNone};
+ghost use Rattle.std.specs.Prelude.{◌≡◌, ◌+◌, ◌<◌, ◌≤◌, [], ◌++◌, length, take, true, false, Some, IsTrue, IfSome, IfNone, is_some};
 ghost use Rattle.dgt_command.specs.Content.{event_content};
 ghost use Rattle.dgt_command.specs.Framing.{IsSpelling, found_in, rest_after, rest_of};
 ghost use Rattle.dgt_command.specs.Telling.{command_in};
@@ -151,6 +151,7 @@ impl WordFramer {
         ensures rest { rest_of self.new ≡ rest_after result.found (rest_of self.old ++ take result.used piece.now) }
         ensures part_of_a_word { IsPartial (rest_of self.new) }
         ensures limit { length self.new.word ≤ 257 }
+        ensures kept { self.new ≡ record { word = rest_of self.old ++ take result.used piece.now; is_whole = is_some result.found } }
     {
         if self.is_whole {
             self.word.clear();
