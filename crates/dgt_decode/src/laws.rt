@@ -1,9 +1,16 @@
 //! Laws of the bytes that a board sends, over lists of bytes as such. Nothing here runs: each function
 //! stands for the fact that its contract states.
 
+ghost use Rattle.std.specs.Prelude.{◌≡◌};
 ghost use Rattle.dgt_decode.specs.Laws.{EventsAppend, InAnyPieces, OneCut, OneEvent, OneFirstEvent, OpenAppend, OpenIsShort, QuietHeld, Recovery, SpellingInPieces, SpellingIsRead};
 
+use crate::framer::MAX_TOTAL;
 use dgt_message::laws as messages;
+
+/// The limits by their numbers.
+pub fn limits()
+    ensures { MAX_TOTAL ≡ 16383 }
+{}
 
 /// Cut before each byte with a set top bit, a list is a seven-bit lead and segments, and no other way of
 /// dividing it makes such parts.
