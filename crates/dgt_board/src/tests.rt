@@ -304,3 +304,18 @@ fn eight_replies_make_it_busy(rt: HostRuntime) -> Result<(), Fail> {
     play(&rt, &mut board, &[Sends(&START); 8])?;
     play(&rt, &mut board, &[IsSettled])
 }
+
+#[test]
+fn texts_of_faults(rt: HostRuntime) -> Result<(), Fail> {
+    let alloc = rt.alloc();
+    for (text, want) in [
+        (
+            Busy.to_string(alloc)?,
+            "the board owes as many replies as it can",
+        ),
+        (TooLong.to_string(alloc)?, "a body has more than 64 bytes"),
+    ] {
+        assert_eq!(rt; text.as_str(), want);
+    }
+    Ok(())
+}

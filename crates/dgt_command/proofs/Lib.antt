@@ -4,3 +4,5 @@ pub mod WordLemmas
 pub mod DivisionLemmas
 pub mod ContentLemmas
 pub mod ReaderLemmas
+pub mod Equal
+pub mod EqualCommands

@@ -8,3 +8,4 @@ pub mod Telling
 pub mod Laws
 pub mod Lengths
 pub mod Framing
+pub mod Equality

@@ -7,3 +7,7 @@ raw_id raw = raw.id
 
 abbrev pub raw_payload : RawClock → List ℕ
 raw_payload raw = raw.payload.bytes.now
+
+-- both
+abbrev pub raw_seen : RawClock → ℕ × List ℕ
+raw_seen raw = (raw_id raw, raw_payload raw)

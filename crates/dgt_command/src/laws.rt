@@ -1,6 +1,39 @@
 //! What holds of commands, of the words on the line and of how bytes divide into them, whoever reads or writes them.
 
+ghost use Rattle.std.specs.Prelude.{◌≡◌};
+ghost use Rattle.dgt_values.specs.Equality.{EqualIsSame, EqualIsSameRead};
+ghost use Rattle.dgt_command.specs.Carried.{led_bytes, payload_bytes};
+ghost use Rattle.dgt_command.specs.Content.{clock_content, command_content, event_content};
+ghost use Rattle.dgt_command.specs.Equality.{CommandHasArrays, EqualIsSameReadOf, EventHasArrays, FedHasArrays, HasArrays, fed_seen};
 ghost use Rattle.dgt_command.specs.Laws.{CommandsAreReadBack, DivisionsAppend, EachDividesOnce, NoWordBeginsAnother, SpellingsTellCommands, WordsAreShort, ZerosSettleTheReader};
+ghost use Rattle.dgt_command.specs.Raw.{raw_seen};
+
+use crate::carried::{LedBytes, MAX_LED_BYTES, MAX_PAYLOAD, Payload};
+use crate::clock::{ClockCommand, RawClock};
+use crate::command::{Command, CommandEvent};
+use crate::decoder::CommandFed;
+use crate::framer::{AdvancedWord, FoundWord, MAX_WORD};
+
+/// The limits by their numbers.
+pub fn limits()
+    ensures word { MAX_WORD ≡ 257 }
+    ensures payload { MAX_PAYLOAD ≡ 252 }
+    ensures led_bytes { MAX_LED_BYTES ≡ 255 }
+{}
+
+/// Two values are equal, as `==` compares them, exactly where they say the same. Of lent bytes the bytes count, and
+/// not where they lie.
+pub fn equal_is_same()
+    ensures payload { EqualIsSameRead payload_bytes ⟦<Payload<'static> as PartialEq>⟧.eq }
+    ensures led_bytes { EqualIsSameRead led_bytes ⟦<LedBytes<'static> as PartialEq>⟧.eq }
+    ensures raw { EqualIsSameRead raw_seen ⟦<RawClock<'static> as PartialEq>⟧.eq }
+    ensures clock { EqualIsSameReadOf HasArrays clock_content ⟦<ClockCommand<'static> as PartialEq>⟧.eq }
+    ensures command { EqualIsSameReadOf CommandHasArrays command_content ⟦<Command<'static> as PartialEq>⟧.eq }
+    ensures event { EqualIsSameReadOf EventHasArrays event_content ⟦<CommandEvent<'static> as PartialEq>⟧.eq }
+    ensures fed { EqualIsSameReadOf FedHasArrays fed_seen ⟦<CommandFed<'static> as PartialEq>⟧.eq }
+    ensures found { EqualIsSame ⟦<FoundWord as PartialEq>⟧.eq }
+    ensures advanced { EqualIsSame ⟦<AdvancedWord as PartialEq>⟧.eq }
+{}
 
 /// One division: each list of bytes divides into words and a rest that some word extends, and in only one way.
 pub fn one_division()

@@ -170,3 +170,18 @@ fn a_clock_in_pieces(rt: HostRuntime) {
     assert!(rt; !host.hear(&no_clock).unasked);
     assert!(rt; matches!(host.clock(), Some(Clock::NoClock(_))));
 }
+
+#[test]
+fn texts_of_faults(rt: HostRuntime) -> Result<(), Fail> {
+    for (fault, want) in [
+        (SendFault::TooMany, "16 replies are awaited already"),
+        (SendFault::NoRoom { need: 1 }, "this takes 1 bytes of room"),
+        (
+            SendFault::NoRoom { need: 257 },
+            "this takes 257 bytes of room",
+        ),
+    ] {
+        assert_eq!(rt; fault.to_string(rt.alloc())?.as_str(), want);
+    }
+    Ok(())
+}

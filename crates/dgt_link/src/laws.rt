@@ -3,6 +3,7 @@
 
 ghost use Rattle.std.specs.Prelude.{◌≡◌, List, [], ◌∷◌, ◌++◌, All, Option, Some, None, length, IsTrue, IsSome};
 ghost use Rattle.dgt_values.specs.declared.pieces.Piece.{Piece};
+ghost use Rattle.dgt_values.specs.Equality.{EqualIsSame};
 ghost use Rattle.dgt_message.specs.Content.{Content};
 ghost use Rattle.dgt_message.specs.ClockState.{ClockState};
 ghost use Rattle.dgt_command.specs.Content.{CommandContent};
@@ -26,6 +27,20 @@ ghost use Rattle.dgt_link.specs.declared.acts.Outcome.{Outcome};
 ghost use Rattle.dgt_link.specs.Stands.{IsExactWorld, IsWorld, StandsFor};
 ghost use Rattle.dgt_link.specs.Step.{Runs, Step};
 ghost use Rattle.dgt_link.specs.View.{IsQuietWorld, WorldView};
+
+use crate::{MIN_DOWN, MIN_UP, Outcome as ActOutcome, WorldFault};
+
+/// The limits by their numbers.
+pub fn limits()
+    ensures up { MIN_UP ≡ 67 }
+    ensures down { MIN_DOWN ≡ 257 }
+{}
+
+/// Two values are equal, as `==` compares them, exactly where they are the same.
+pub fn equal_is_same()
+    ensures outcome { EqualIsSame ⟦<ActOutcome as PartialEq>⟧.eq }
+    ensures world_fault { EqualIsSame ⟦<WorldFault as PartialEq>⟧.eq }
+{}
 
 /// A board and a host just made are sound, and exact.
 pub fn new_is_sound()

@@ -1,4 +1,4 @@
-//! A line of bytes, all of whose memory is taken where it is made.
+//! Lines of bytes, all of whose memory is taken where they are made.
 
 ghost use Rattle.std.specs.Prelude.{◌≡◌, ◌+◌, ◌≤◌, ◌==◌, [], length, slice_get, IfOk};
 ghost use Rattle.dgt_link.specs.Line.{line_of, with_bytes, without_first};
@@ -26,8 +26,8 @@ impl Model for Line {
 }
 
 impl Line {
-    /// An empty line of this capacity. No other call takes memory.
-    pub fn new(alloc: Global, capacity: usize) -> Result<Self, AllocError>
+    // An empty line of this capacity. No other call takes memory.
+    fn new(alloc: Global, capacity: usize) -> Result<Self, AllocError>
         ensures { IfOk result (λ line. line ≡ line_of [] capacity) }
     {
         Ok(Line {
@@ -75,5 +75,28 @@ impl Line {
             return None;
         }
         Some(self.bytes.remove(0))
+    }
+}
+
+/// Memory that can be taken once, for two lines.
+#[derive(Drop)]
+pub struct LineMemory {
+    alloc: Global,
+}
+
+impl LineMemory {
+    /// Memory of this allocator, none of which is taken yet.
+    pub fn new(alloc: Global) -> Self {
+        LineMemory { alloc }
+    }
+
+    /// Takes it, for two empty lines of these capacities.
+    pub fn lines(self, first: usize, second: usize) -> Result<(Line, Line), AllocError>
+        ensures { IfOk result (λ lines. (lines.0 ≡ line_of [] first) × (lines.1 ≡ line_of [] second)) }
+    {
+        Ok((
+            Line::new(self.alloc, first)?,
+            Line::new(self.alloc, second)?,
+        ))
     }
 }

@@ -246,3 +246,14 @@ fn a_clock_is_told_where_it_differs(rt: HostRuntime) -> Result<(), Fail> {
     assert!(rt; world.host().clock() == Some(&running));
     Ok(())
 }
+
+#[test]
+fn texts_of_faults(rt: HostRuntime) -> Result<(), Fail> {
+    for (fault, want) in [
+        (WorldFault::LineTooSmall, "a line is too small"),
+        (WorldFault::OutOfMemory, "out of memory"),
+    ] {
+        assert_eq!(rt; fault.to_string(rt.alloc())?.as_str(), want);
+    }
+    Ok(())
+}

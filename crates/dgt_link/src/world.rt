@@ -1,6 +1,6 @@
 //! The world: a board, a host, and the two lines between them.
 
-ghost use Rattle.std.specs.Prelude.{◌≡◌, ◌≢◌, ◌↔◌, ◌⊎◌, ◌<◌, ◌≤◌, List, [], ◌∷◌, ◌++◌, All, Some, None, IsTrue, IfOk, IsErrOf, map, length};
+ghost use Rattle.std.specs.Prelude.{◌≡◌, ◌≢◌, ◌↔◌, ◌⊎◌, ◌<◌, ◌≤◌, List, [], ◌∷◌, ◌++◌, All, Some, None, IsTrue, IfOk, IsErr, IsErrOf, map, length};
 ghost use Rattle.dgt_values.specs.Pieces.{pieces_of};
 ghost use Rattle.dgt_message.specs.Content.{Content};
 ghost use Rattle.dgt_message.specs.ClockState.{clock_seen};
@@ -21,13 +21,13 @@ ghost use Rattle.dgt_link.specs.View.{IsQuietWorld, new_world};
 
 use crate::acts::{Act, Outcome};
 use crate::laws;
-use crate::line::Line;
+use crate::line::{Line, LineMemory};
 use crate::moving::{ask, send_next, to_board, to_host};
 use dgt_board::{Board, Identity};
 use dgt_host::Host;
 use dgt_message::Clock;
 use dgt_values::Position;
-use std::alloc::Global;
+use std::alloc::{AllocError, Global};
 use std::marker::Model;
 use thiserror::Error;
 
@@ -112,17 +112,41 @@ impl World {
             StandsFor world (new_state (pieces_of position) (clock_seen clock) identity)) }
         ensures exact { IfOk result (λ world. IsExactWorld world) }
     {
-        if up < MIN_UP || down < MIN_DOWN {
-            return Err(WorldFault::LineTooSmall);
+        let memory = LineMemory::new(alloc);
+        match World::with_memory(memory, position, clock, identity, up, down) {
+            Ok(Ok(world)) => Ok(world),
+            Ok(Err(_refused)) => Err(WorldFault::OutOfMemory),
+            Err(_untaken) => Err(WorldFault::LineTooSmall),
         }
-        let up = Line::new(alloc, up).map_err(|_| WorldFault::OutOfMemory)?;
-        let down = Line::new(alloc, down).map_err(|_| WorldFault::OutOfMemory)?;
-        Ok(World {
-            board: Board::new(position, clock, identity),
-            host: Host::new(),
-            up,
-            down,
-        })
+    }
+
+    // A new world whose lines have this memory, where it isn't refused. It comes back, with none taken, where a
+    // line would be too small.
+    fn with_memory(
+        memory: LineMemory,
+        position: Position,
+        clock: Clock,
+        identity: Identity,
+        up: usize,
+        down: usize,
+    ) -> Result<Result<Self, AllocError>, LineMemory>
+        ensures too_small { IsErr result ↔ ((up < MIN_UP) ⊎ (down < MIN_DOWN)) }
+        ensures made { IfOk result (λ made. IfOk made (λ world.
+            world ≡ new_world (pieces_of position) (clock_seen clock) identity up down)) }
+        ensures exact { IfOk result (λ made. IfOk made (λ world. IsExactWorld world)) }
+    {
+        if up < MIN_UP || down < MIN_DOWN {
+            return Err(memory);
+        }
+        match memory.lines(up, down) {
+            Ok((up, down)) => Ok(Ok(World {
+                board: Board::new(position, clock, identity),
+                host: Host::new(),
+                up,
+                down,
+            })),
+            Err(refused) => Ok(Err(refused)),
+        }
     }
 
     fn act(&mut self, act: Act<'_>) -> Outcome

@@ -5,3 +5,4 @@ pub mod AtMostOne
 pub mod Headers
 pub mod SpellingSpells
 pub mod ReadingFits
+pub mod Equal

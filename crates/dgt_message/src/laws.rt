@@ -2,12 +2,35 @@
 //! for the fact that its contract states.
 
 ghost use Rattle.std.specs.Prelude.{◌≡◌, ◌<◌, ◌-◌, ◌++◌, ◌↔◌, ℕ, List, [], drop, slice_index, Ok, Err};
+ghost use Rattle.dgt_values.specs.Equality.{EqualIsSame, EqualIsSameRead};
 ghost use Rattle.dgt_message.specs.declared.bodies.BodyFault.{BodyFault};
-ghost use Rattle.dgt_message.specs.Content.{Content, IsCarried, IsMessage};
+ghost use Rattle.dgt_message.specs.ClockState.{clock_seen};
+ghost use Rattle.dgt_message.specs.Content.{content, Content, IsCarried, IsMessage};
 ghost use Rattle.dgt_message.specs.Fault.{IsFaultOf};
 ghost use Rattle.dgt_message.specs.Laws.{HasOneReading};
 ghost use Rattle.dgt_message.specs.Reading.{reading};
 ghost use Rattle.dgt_message.specs.Spelling.{Fits, Spells, message_bytes, spelling};
+ghost use Rattle.dgt_message.specs.Values.{absence_seen, answer_seen, code_number, status_code, time_seen, times_seen};
+
+use crate::bodies::BodyFault;
+use crate::clock::{Clock, ClockAck, NoClock, Times};
+use crate::message::Message;
+use crate::other::OtherCode;
+use crate::readings::{Reading, Status};
+
+/// Two values are equal, as `==` compares them, exactly where they say the same. Of a body its bytes
+/// count, and not where they lie.
+pub fn equal_is_same()
+    ensures reading { EqualIsSameRead time_seen ⟦<Reading as PartialEq>⟧.eq }
+    ensures status { EqualIsSameRead status_code ⟦<Status as PartialEq>⟧.eq }
+    ensures times { EqualIsSameRead times_seen ⟦<Times as PartialEq>⟧.eq }
+    ensures no_clock { EqualIsSameRead absence_seen ⟦<NoClock as PartialEq>⟧.eq }
+    ensures clock { EqualIsSameRead clock_seen ⟦<Clock as PartialEq>⟧.eq }
+    ensures ack { EqualIsSameRead answer_seen ⟦<ClockAck as PartialEq>⟧.eq }
+    ensures other_code { EqualIsSameRead code_number ⟦<OtherCode as PartialEq>⟧.eq }
+    ensures message { EqualIsSameRead content ⟦<Message<'static> as PartialEq>⟧.eq }
+    ensures body_fault { EqualIsSame ⟦<BodyFault as PartialEq>⟧.eq }
+{}
 
 /// Exactly one message fits each code and each body, or exactly one fault does.
 pub fn one_reading()

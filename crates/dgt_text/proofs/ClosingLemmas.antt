@@ -22,8 +22,8 @@ closing_lines-parts world quiet empty board picture clock all e b p c q =
     q ∙ ap (λ l. l ++ fourth) (c ∙ ap (λ l. l ++ third) (p ∙ ap (λ l. l ++ second) (b ∙ ap (λ l. l ++ first) e)))
 
 -- what was held is written, and the text is held behind it
-pub gathered_behind : {S : Type 0} (written : S → Option (List ℕ)) (failed : S → Bool) (h text : List ℕ) (a b : S) → Wrote written failed a b h → Gathered written failed h text a b text
-gathered_behind written failed h text a b p = record { out = h; whole = refl; wrote = p }
+pub gathered_behind : {S : Type 0} (written : S → Option (List ℕ)) (failed late : S → Bool) (h text : List ℕ) (a b : S) → Wrote written failed late a b h → Gathered written failed late h text a b text
+gathered_behind written failed late h text a b p = record { out = h; whole = refl; wrote = p }
 
 -- a text that ends one line and the next
 text-twice : (text : List ℕ) → (text ++ codes "\n") ++ named_line (codes "host") text ≡ text ++ codes "\nhost " ++ text ++ codes "\n"

@@ -4,7 +4,7 @@ use Rattle.std.specs.Prelude.{◌↔◌, All, flat_map}
 use Rattle.std.specs.Io.KnownBytes.{Appends}
 use Rattle.std.proofs.KnownBytes.{Appends-trans, Appends-nil}
 use Rattle.std.proofs.Math.Seq.{take-suc}
-use Rattle.std.proofs.lemmas.List.{take-append-drop, length-drop}
+use Rattle.std.proofs.lemmas.List.{take-append-drop}
 use Rattle.std.proofs.lemmas.List.Elements.{All-append}
 use Rattle.std.proofs.lemmas.Grind.{flat_map-append}
 use Rattle.dgt_link.specs.Act.{ActContent}
@@ -20,7 +20,7 @@ use Rattle.dgt_text.specs.Runs.{Writes, Stopped}
 use Rattle.dgt_text.specs.Script.{IsAsked, IsBadAt}
 use Rattle.dgt_text.specs.ScriptLines.{HasNoFeed, IsCut, Keeps, ended}
 use Rattle.dgt_text.specs.Simulating.{BeginsWith, IsSimulatedFrom, Plays, PlaysLine, PlaysOn, PlaysPiece, PlaysTorn, Stops, Took, all_lines}
-use Rattle.dgt_text.proofs.RunLemmas.{slice_from, slice_more}
+use Rattle.dgt_text.proofs.RunLemmas.{slice_from, slice_more, slice_room}
 
 -- ---- lines
 
@@ -55,25 +55,26 @@ all_lines-append lines more [] = refl
 all_lines-append lines more (b ∷ rest) = append_assoc lines more ((b ∷ rest) ∷ [])
 
 -- a script begins with no line
-pub begins_none : (bytes : List ℕ) → BeginsWith bytes []
-begins_none bytes = inl (bytes, refl, all_none)
+pub begins_none : (at_end : Bool) (bytes : List ℕ) → BeginsWith at_end bytes []
+begins_none at_end bytes = inl (bytes, refl, all_none)
 
 -- a line with its line feed
-pub begins_ended : (line rest bytes : List ℕ) → HasNoFeed line → bytes ≡ (line ++ 10 ∷ []) ++ rest → BeginsWith bytes (line ∷ [])
-begins_ended line rest bytes h e = inl (rest, e ∙ ap (λ l. l ++ rest) (sym (flat_one line)), all_one line h)
+pub begins_ended : (at_end : Bool) (line rest bytes : List ℕ) → HasNoFeed line → bytes ≡ (line ++ 10 ∷ []) ++ rest → BeginsWith at_end bytes (line ∷ [])
+begins_ended at_end line rest bytes h e = inl (rest, e ∙ ap (λ l. l ++ rest) (sym (flat_one line)), all_one line h)
 
 -- a last line
-pub begins_last : (line : List ℕ) → HasNoFeed line → line ≢ [] → BeginsWith line (line ∷ [])
-begins_last [] h n = absurd (n refl)
-begins_last (b ∷ line) h n = inr ([], b ∷ line, record { whole = refl; each = all_none; last = h }, refl)
+pub begins_last : (at_end : Bool) (line : List ℕ) → IsTrue at_end → HasNoFeed line → line ≢ [] → BeginsWith at_end line (line ∷ [])
+begins_last at_end [] e h n = absurd (n refl)
+begins_last at_end (b ∷ line) e h n = inr ([], b ∷ line, record { whole = refl; each = all_none; last = h }, refl, e)
 
-begins_after : (bytes tail : List ℕ) (lines more : List (List ℕ)) → bytes ≡ flat_map ended lines ++ tail → All HasNoFeed lines → BeginsWith tail more → BeginsWith bytes (lines ++ more)
-begins_after bytes tail lines more e h (inl p) = inl (p.0, whole_after bytes tail p.0 lines more e p.1, All-append HasNoFeed lines more h p.2)
-begins_after bytes tail lines more e h (inr p) = inr (
+begins_after : (at_end : Bool) (bytes tail : List ℕ) (lines more : List (List ℕ)) → bytes ≡ flat_map ended lines ++ tail → All HasNoFeed lines → BeginsWith at_end tail more → BeginsWith at_end bytes (lines ++ more)
+begins_after at_end bytes tail lines more e h (inl p) = inl (p.0, whole_after bytes tail p.0 lines more e p.1, All-append HasNoFeed lines more h p.2)
+begins_after at_end bytes tail lines more e h (inr p) = inr (
   lines ++ p.0,
   p.1,
   cut_after bytes tail p.1 lines p.0 e h p.2,
   ap (λ l. lines ++ l) p.3 ∙ sym (all_lines-append lines p.0 p.1),
+  p.4,
 )
 
 -- ---- playing
@@ -146,15 +147,15 @@ torn_after w m l ls ks t out p q = record {
 
 -- ---- lines, and then what is made of the rest
 
-stops_after : (e : RunFault) (w m l : WorldView) (number number' : ℕ) (bytes tail t out : List ℕ) (ls : List (List ℕ)) → bytes ≡ flat_map ended ls ++ tail → All HasNoFeed ls → number' ≡ number + length ls
-    → Plays w ls t m → Stops e m l number' tail out → Stops e w l number bytes (t ++ out)
-stops_after ReadFailed w m l number number' bytes tail t out ls e h n p s = absurd s
-stops_after TooManyTurns w m l number number' bytes tail t out ls e h n p s = absurd s
-stops_after WriteFailed w m l number number' bytes tail t out ls e h n p s = (ls ++ s.0, begins_after bytes tail ls s.0 e h s.1, torn_after w m l ls s.0 t out p s.2)
-stops_after (BadLine bad at) w m l number number' bytes tail t out ls e h n p s = (
+stops_after : (at_end : Bool) (e : RunFault) (w m l : WorldView) (number number' : ℕ) (bytes tail t out : List ℕ) (ls : List (List ℕ)) → bytes ≡ flat_map ended ls ++ tail → All HasNoFeed ls → number' ≡ number + length ls
+    → Plays w ls t m → Stops at_end e m l number' tail out → Stops at_end e w l number bytes (t ++ out)
+stops_after at_end ReadFailed w m l number number' bytes tail t out ls e h n p s = absurd s
+stops_after at_end TooManyTurns w m l number number' bytes tail t out ls e h n p s = absurd s
+stops_after at_end WriteFailed w m l number number' bytes tail t out ls e h n p s = (ls ++ s.0, begins_after at_end bytes tail ls s.0 e h s.1, torn_after w m l ls s.0 t out p s.2)
+stops_after at_end (BadLine bad at) w m l number number' bytes tail t out ls e h n p s = (
   ls ++ s.0,
   s.1,
-  subst (λ x. BeginsWith bytes x) (sym (append_assoc ls s.0 (s.1 ∷ []))) (begins_after bytes tail ls (s.0 ++ s.1 ∷ []) e h s.2),
+  subst (λ x. BeginsWith at_end bytes x) (sym (append_assoc ls s.0 (s.1 ∷ []))) (begins_after at_end bytes tail ls (s.0 ++ s.1 ∷ []) e h s.2),
   plays_append w m l ls s.0 t out p s.3,
   s.4,
   (let k = length-append ls s.0 in let f = s.5 in omega arith),
@@ -163,9 +164,9 @@ stops_after (BadLine bad at) w m l number number' bytes tail t out ls e h n p s 
 all_after : (w m l : WorldView) (bytes tail rest t u : List ℕ) (ls ks : List (List ℕ)) → Plays w ls t m → Plays m (all_lines ks rest) u l → Plays w (all_lines (ls ++ ks) rest) (t ++ u) l
 all_after w m l bytes tail rest t u ls ks p q = subst (λ x. Plays w x (t ++ u) l) (sym (all_lines-append ls ks rest)) (plays_append w m l ls (all_lines ks rest) t u p q)
 
-simulated_after : {A : Type 0} (r : Result A RunFault) (w m l : WorldView) (number number' : ℕ) (bytes tail t out : List ℕ) (ls : List (List ℕ)) → bytes ≡ flat_map ended ls ++ tail → All HasNoFeed ls
-    → number' ≡ number + length ls → Plays w ls t m → IsSimulatedFrom number' r m l tail out → IsSimulatedFrom number r w l bytes (t ++ out)
-simulated_after (Ok x) w m l number number' bytes tail t out ls e h n p s = (
+simulated_after : {A : Type 0} (at_end : Bool) (r : Result A RunFault) (w m l : WorldView) (number number' : ℕ) (bytes tail t out : List ℕ) (ls : List (List ℕ)) → bytes ≡ flat_map ended ls ++ tail → All HasNoFeed ls
+    → number' ≡ number + length ls → Plays w ls t m → IsSimulatedFrom at_end number' r m l tail out → IsSimulatedFrom at_end number r w l bytes (t ++ out)
+simulated_after at_end (Ok x) w m l number number' bytes tail t out ls e h n p s = (
   ls ++ s.0,
   s.1,
   t ++ s.2,
@@ -175,11 +176,11 @@ simulated_after (Ok x) w m l number number' bytes tail t out ls e h n p s = (
   s.6,
   ap (λ x. t ++ x) s.7 ∙ sym (append_assoc t s.2 (closing_lines l s.3)),
 )
-simulated_after (Err ReadFailed) w m l number number' bytes tail t out ls e h n p s = (ls ++ s.0, s.1, cut_after bytes tail s.1 ls s.0 e h s.2, plays_append w m l ls s.0 t out p s.3)
-simulated_after (Err TooManyTurns) w m l number number' bytes tail t out ls e h n p s = (ls ++ s.0, s.1, cut_after bytes tail s.1 ls s.0 e h s.2, plays_append w m l ls s.0 t out p s.3)
-simulated_after (Err (BadLine bad at)) w m l number number' bytes tail t out ls e h n p s = stops_after (BadLine bad at) w m l number number' bytes tail t out ls e h n p s
-simulated_after (Err WriteFailed) w m l number number' bytes tail t out ls e h n p (inl s) = inl (stops_after WriteFailed w m l number number' bytes tail t out ls e h n p s)
-simulated_after (Err WriteFailed) w m l number number' bytes tail t out ls e h n p (inr s) = inr (
+simulated_after at_end (Err ReadFailed) w m l number number' bytes tail t out ls e h n p s = (ls ++ s.0, s.1, cut_after bytes tail s.1 ls s.0 e h s.2, plays_append w m l ls s.0 t out p s.3)
+simulated_after at_end (Err TooManyTurns) w m l number number' bytes tail t out ls e h n p s = (ls ++ s.0, s.1, cut_after bytes tail s.1 ls s.0 e h s.2, plays_append w m l ls s.0 t out p s.3)
+simulated_after at_end (Err (BadLine bad at)) w m l number number' bytes tail t out ls e h n p s = stops_after at_end (BadLine bad at) w m l number number' bytes tail t out ls e h n p s
+simulated_after at_end (Err WriteFailed) w m l number number' bytes tail t out ls e h n p (inl s) = inl (stops_after at_end WriteFailed w m l number number' bytes tail t out ls e h n p s)
+simulated_after at_end (Err WriteFailed) w m l number number' bytes tail t out ls e h n p (inr s) = inr (
   ls ++ s.0,
   s.1,
   t ++ s.2,
@@ -190,13 +191,14 @@ simulated_after (Err WriteFailed) w m l number number' bytes tail t out ls e h n
   s.7,
   s.8,
   ap (λ x. t ++ x) s.9 ∙ sym (append_assoc t s.2 s.4),
+  s.10,
 )
 
-stops_simulated : (A : Type 0) (e : RunFault) (w l : WorldView) (number : ℕ) (bytes out : List ℕ) → Stops e w l number bytes out → IsSimulatedFrom {A = A} number (Err e) w l bytes out
-stops_simulated A WriteFailed w l number bytes out s = inl s
-stops_simulated A (BadLine bad at) w l number bytes out s = s
-stops_simulated A ReadFailed w l number bytes out s = absurd s
-stops_simulated A TooManyTurns w l number bytes out s = absurd s
+stops_simulated : (at_end : Bool) (A : Type 0) (e : RunFault) (w l : WorldView) (number : ℕ) (bytes out : List ℕ) → Stops at_end e w l number bytes out → IsSimulatedFrom {A = A} at_end number (Err e) w l bytes out
+stops_simulated at_end A WriteFailed w l number bytes out s = inl s
+stops_simulated at_end A (BadLine bad at) w l number bytes out s = s
+stops_simulated at_end A ReadFailed w l number bytes out s = absurd s
+stops_simulated at_end A TooManyTurns w l number bytes out s = absurd s
 
 -- a line that is too long
 pub long_is_bad : (line : List ℕ) → 519 < length line → IsBadAt line 519
@@ -209,28 +211,28 @@ front_none : (front rest : List ℕ) → [] ≡ front ++ rest → front ≡ []
 front_none [] rest h = refl
 front_none (b ∷ front) rest h = cc
 
-module _ {S : Type 0} (written : S → Option (List ℕ)) (failed : S → Bool) where
-  pub stopped_none : (a b : S) → Stopped written failed a b [] → Appends (written a) (written b) []
+module _ {S : Type 0} (written : S → Option (List ℕ)) (failed late : S → Bool) where
+  pub stopped_none : (a b : S) → Stopped written failed late a b [] → Appends (written a) (written b) []
   stopped_none a b p = subst (λ l. Appends (written a) (written b) l) (front_none p.front p.rest p.whole) p.appends
 
   -- the line of an outcome, or a front of it
-  pub line_put : {A : Type 0} (r : Result A RunFault) (w l : WorldView) (a b : S) (number : ℕ) (line bytes : List ℕ) (act : ActContent) (o : Outcome) → Writes written failed a b r (outcome_line o)
-      → IsAsked line act → Step act w o l → BeginsWith bytes (line ∷ []) → PlaysLine written w l a b r number line bytes
-  line_put (Ok x) w l a b number line bytes act o p h s g = (outcome_line o, p.appends, plays_one w l line act o h s)
-  line_put (Err e) w l a b number line bytes act o p h s g =
-      subst (λ f. Took written a b (Stops f w l number bytes)) (sym p.0)
+  pub line_put : {A : Type 0} (at_end : Bool) (r : Result A RunFault) (w l : WorldView) (a b : S) (number : ℕ) (line bytes : List ℕ) (act : ActContent) (o : Outcome) → Writes written failed late a b r (outcome_line o)
+      → IsAsked line act → Step act w o l → BeginsWith at_end bytes (line ∷ []) → PlaysLine written at_end w l a b r number line bytes
+  line_put at_end (Ok x) w l a b number line bytes act o p h s g = (outcome_line o, p.appends, plays_one w l line act o h s)
+  line_put at_end (Err e) w l a b number line bytes act o p h s g =
+      subst (λ f. Took written a b (Stops at_end f w l number bytes)) (sym p.0)
       (p.1.front, p.1.appends, (line ∷ [], g, torn_one w l line p.1.front (outcome_line o) (plays_one w l line act o h s) (p.1.rest, p.1.whole)))
 
 module _ {S : Type 0} (written : S → Option (List ℕ)) where
   -- a line that asks for no act
-  pub line_refused : {A : Type 0} (r : Result A RunFault) (w : WorldView) (a b : S) (number at : ℕ) (line bytes : List ℕ) → (r ≡ Err (BadLine number at)) ⊎ (r ≡ Err WriteFailed)
-      → Appends (written a) (written b) [] → IsBadAt line at → BeginsWith bytes (line ∷ []) → PlaysLine written w w a b r number line bytes
-  line_refused {A = A} r w a b number at line bytes (inl e) p h g =
-      subst (λ x. PlaysLine {A = A} written w w a b x number line bytes) (sym e)
+  pub line_refused : {A : Type 0} (at_end : Bool) (r : Result A RunFault) (w : WorldView) (a b : S) (number at : ℕ) (line bytes : List ℕ) → (r ≡ Err (BadLine number at)) ⊎ (r ≡ Err WriteFailed)
+      → Appends (written a) (written b) [] → IsBadAt line at → BeginsWith at_end bytes (line ∷ []) → PlaysLine written at_end w w a b r number line bytes
+  line_refused {A = A} at_end r w a b number at line bytes (inl e) p h g =
+      subst (λ x. PlaysLine {A = A} written at_end w w a b x number line bytes) (sym e)
       ([], p, ([], line, g, (refl, refl), h, omega arith))
-  line_refused {A = A} r w a b number at line bytes (inr e) p h g =
-      subst (λ x. PlaysLine {A = A} written w w a b x number line bytes) (sym e)
-      ([], p, ([], begins_none bytes, torn_none w))
+  line_refused {A = A} at_end r w a b number at line bytes (inr e) p h g =
+      subst (λ x. PlaysLine {A = A} written at_end w w a b x number line bytes) (sym e)
+      ([], p, ([], begins_none at_end bytes, torn_none w))
 
   -- ---- pieces
 
@@ -289,35 +291,35 @@ module _ {S : Type 0} (written : S → Option (List ℕ)) where
       (on_one m l b c line' n' (q.rest ++ p) k (All-append (λ x. x ≢ 10) q.rest p q.cut.last h) t))
 
   -- what stops the run after them
-  pub on_stops : (e : RunFault) (w m l : WorldView) (a b c : S) (line : LineBuffer) (n n' : ℕ) (bytes p : List ℕ) (q : PlaysOn written w m a b line n n' bytes) → Took written b c (Stops e m l n' (q.rest ++ p))
-      → Took written a c (Stops e w l n (bytes ++ p))
-  on_stops e w m l a b c line n n' bytes p q t = (
+  pub on_stops : (at_end : Bool) (e : RunFault) (w m l : WorldView) (a b c : S) (line : LineBuffer) (n n' : ℕ) (bytes p : List ℕ) (q : PlaysOn written w m a b line n n' bytes) → Took written b c (Stops at_end e m l n' (q.rest ++ p))
+      → Took written a c (Stops at_end e w l n (bytes ++ p))
+  on_stops at_end e w m l a b c line n n' bytes p q t = (
     q.text ++ t.0,
     Appends-trans _ _ _ q.text t.0 q.wrote t.1,
-    stops_after e w m l n n' (bytes ++ p) (q.rest ++ p) q.text t.0 q.lines (on_whole bytes q p) q.cut.each q.counted q.plays t.2,
+    stops_after at_end e w m l n n' (bytes ++ p) (q.rest ++ p) q.text t.0 q.lines (on_whole bytes q p) q.cut.each q.counted q.plays t.2,
   )
 
-  pub on_simulated : {A : Type 0} (r : Result A RunFault) (w m l : WorldView) (a b c : S) (line : LineBuffer) (n n' : ℕ) (bytes p : List ℕ) (q : PlaysOn written w m a b line n n' bytes)
-      → Took written b c (IsSimulatedFrom n' r m l (q.rest ++ p)) → Took written a c (IsSimulatedFrom n r w l (bytes ++ p))
-  on_simulated r w m l a b c line n n' bytes p q t = (
+  pub on_simulated : {A : Type 0} (at_end : Bool) (r : Result A RunFault) (w m l : WorldView) (a b c : S) (line : LineBuffer) (n n' : ℕ) (bytes p : List ℕ) (q : PlaysOn written w m a b line n n' bytes)
+      → Took written b c (IsSimulatedFrom at_end n' r m l (q.rest ++ p)) → Took written a c (IsSimulatedFrom at_end n r w l (bytes ++ p))
+  on_simulated at_end r w m l a b c line n n' bytes p q t = (
     q.text ++ t.0,
     Appends-trans _ _ _ q.text t.0 q.wrote t.1,
-    simulated_after r w m l n n' (bytes ++ p) (q.rest ++ p) q.text t.0 q.lines (on_whole bytes q p) q.cut.each q.counted q.plays t.2,
+    simulated_after at_end r w m l n n' (bytes ++ p) (q.rest ++ p) q.text t.0 q.lines (on_whole bytes q p) q.cut.each q.counted q.plays t.2,
   )
 
   -- the exit of a `?` in a piece
-  pub piece_exit : {A : Type 0} (r : Result A RunFault) (e : RunFault) (w l : WorldView) (a b : S) (line : LineBuffer) (n n' : ℕ) (bytes : List ℕ) → IsErrAnd r (λ y. y ≡ e) → Took written a b (Stops e w l n bytes)
-      → PlaysPiece written w l a b line n n' r bytes
-  piece_exit (Ok x) e w l a b line n n' bytes k t = absurd k
-  piece_exit (Err y) e w l a b line n n' bytes k t = subst (λ f. Took written a b (Stops f w l n bytes)) (sym k) t
+  pub piece_exit : {A : Type 0} (at_end : Bool) (r : Result A RunFault) (e : RunFault) (w l : WorldView) (a b : S) (line : LineBuffer) (n n' : ℕ) (bytes : List ℕ) → IsErrAnd r (λ y. y ≡ e) → Took written a b (Stops at_end e w l n bytes)
+      → PlaysPiece written at_end w l a b line n n' r bytes
+  piece_exit at_end (Ok x) e w l a b line n n' bytes k t = absurd k
+  piece_exit at_end (Err y) e w l a b line n n' bytes k t = subst (λ f. Took written a b (Stops at_end f w l n bytes)) (sym k) t
 
   -- ---- the end
 
   -- the exit of a `?` at the end
-  pub end_exit : {A : Type 0} (r : Result A RunFault) (e : RunFault) (w l : WorldView) (a b : S) (n : ℕ) (bytes : List ℕ) → IsErrAnd r (λ y. y ≡ e) → Took written a b (Stops e w l n bytes)
-      → Took written a b (IsSimulatedFrom n r w l bytes)
-  end_exit (Ok x) e w l a b n bytes k t = absurd k
-  end_exit {A = A} (Err y) e w l a b n bytes k t = subst (λ f. let r : Result A RunFault = Err f in Took written a b (IsSimulatedFrom n r w l bytes)) (sym k) (t.0, t.1, stops_simulated A e w l n bytes t.0 t.2)
+  pub end_exit : {A : Type 0} (at_end : Bool) (r : Result A RunFault) (e : RunFault) (w l : WorldView) (a b : S) (n : ℕ) (bytes : List ℕ) → IsErrAnd r (λ y. y ≡ e) → Took written a b (Stops at_end e w l n bytes)
+      → Took written a b (IsSimulatedFrom at_end n r w l bytes)
+  end_exit at_end (Ok x) e w l a b n bytes k t = absurd k
+  end_exit {A = A} at_end (Err y) e w l a b n bytes k t = subst (λ f. let r : Result A RunFault = Err f in Took written a b (IsSimulatedFrom at_end n r w l bytes)) (sym k) (t.0, t.1, stops_simulated at_end A e w l n bytes t.0 t.2)
 
   pub end_some : (w l : WorldView) (a b : S) (rest : List ℕ) → rest ≢ [] → Took written a b (λ out. Plays w (rest ∷ []) out l) → Took written a b (λ out. Plays w (all_lines [] rest) out l)
   end_some w l a b [] n t = absurd (n refl)
@@ -327,26 +329,23 @@ module _ {S : Type 0} (written : S → Option (List ℕ)) where
   end_none w l a b rest e f h = rw (e, f, h) ([], Appends-nil (written a), (refl, refl))
 
   -- the closing lines, or a front of them
-  pub end_closing : {A : Type 0} (failed : S → Bool) (r : Result A RunFault) (w l : WorldView) (a b c : S) (n : ℕ) (rest : List ℕ) (quiet : Bool) → HasNoFeed rest
-      → Took written a b (λ out. Plays w (all_lines [] rest) out l) → (IsTrue quiet ↔ IsQuietWorld l) → Writes written failed b c r (closing_lines l quiet) → Took written a c (IsSimulatedFrom n r w l rest)
-  end_closing failed (Ok x) w l a b c n rest quiet h t k p = (
+  pub end_closing : {A : Type 0} (at_end : Bool) (failed late : S → Bool) (r : Result A RunFault) (w l : WorldView) (a b c : S) (n : ℕ) (rest : List ℕ) (quiet : Bool) → IsTrue at_end → HasNoFeed rest
+      → Took written a b (λ out. Plays w (all_lines [] rest) out l) → (IsTrue quiet ↔ IsQuietWorld l) → Writes written failed late b c r (closing_lines l quiet) → Took written a c (IsSimulatedFrom at_end n r w l rest)
+  end_closing at_end failed late (Ok x) w l a b c n rest quiet e h t k p = (
     t.0 ++ closing_lines l quiet,
     Appends-trans _ _ _ t.0 (closing_lines l quiet) t.1 p.appends,
     ([], rest, t.0, quiet, record { whole = refl; each = all_none; last = h }, t.2, k, refl),
   )
-  end_closing {A = A} failed (Err e) w l a b c n rest quiet h t k p = subst (λ f. let r : Result A RunFault = Err f in Took written a c (IsSimulatedFrom n r w l rest)) (sym p.0) (
+  end_closing {A = A} at_end failed late (Err f) w l a b c n rest quiet e h t k p = subst (λ g. let r : Result A RunFault = Err g in Took written a c (IsSimulatedFrom at_end n r w l rest)) (sym p.0) (
     t.0 ++ p.1.front,
     Appends-trans _ _ _ t.0 p.1.front t.1 p.1.appends,
-    inr ([], rest, t.0, quiet, p.1.front, record { whole = refl; each = all_none; last = h }, t.2, k, (p.1.rest, p.1.whole), refl),
+    inr ([], rest, t.0, quiet, p.1.front, record { whole = refl; each = all_none; last = h }, t.2, k, (p.1.rest, p.1.whole), refl, e),
   )
 
 -- ---- the bytes of a piece
 
 pub held_bytes : (rest piece : List ℕ) (i n : ℕ) → (rest ++ take i piece) ++ take n (take (length piece - i) (drop i piece)) ≡ rest ++ take (i + n) piece
 held_bytes rest piece i n = append_assoc rest (take i piece) _ ∙ ap (λ l. rest ++ l) (sym (slice_more piece i n))
-
-slice_room : (piece : List ℕ) (i n : ℕ) → i + n < length piece → n < length (take (length piece - i) (drop i piece))
-slice_room piece i n h = let e = ap length (slice_from piece i) ∙ length-drop i piece in omega arith
 
 line_feed : (piece : List ℕ) (i n : ℕ) → i + n < length piece → (n < length (take (length piece - i) (drop i piece)) → slice_index (take (length piece - i) (drop i piece)) n ≡ 10)
     → take (n + 1) (take (length piece - i) (drop i piece)) ≡ take n (take (length piece - i) (drop i piece)) ++ 10 ∷ []
@@ -365,11 +364,11 @@ pub left_bytes : (rest piece : List ℕ) (i : ℕ) → (rest ++ take i piece) ++
 left_bytes rest piece i = append_assoc rest (take i piece) (drop i piece) ∙ ap (λ l. rest ++ l) (take-append-drop i piece)
 
 -- they begin with a line
-pub feed_begins : (rest piece : List ℕ) (i n : ℕ) → i + n < length piece → (n < length (take (length piece - i) (drop i piece)) → slice_index (take (length piece - i) (drop i piece)) n ≡ 10) → HasNoFeed rest
-    → HasNoFeed (take n (take (length piece - i) (drop i piece))) → BeginsWith (rest ++ drop i piece) ((rest ++ take n (take (length piece - i) (drop i piece))) ∷ [])
-feed_begins rest piece i n h k none clean =
+pub feed_begins : (at_end : Bool) (rest piece : List ℕ) (i n : ℕ) → i + n < length piece → (n < length (take (length piece - i) (drop i piece)) → slice_index (take (length piece - i) (drop i piece)) n ≡ 10) → HasNoFeed rest
+    → HasNoFeed (take n (take (length piece - i) (drop i piece))) → BeginsWith at_end (rest ++ drop i piece) ((rest ++ take n (take (length piece - i) (drop i piece))) ∷ [])
+feed_begins at_end rest piece i n h k none clean =
     let left = take (length piece - i) (drop i piece) in
     let line = take n left in
-    begins_ended (rest ++ line) (drop (n + 1) left) (rest ++ drop i piece) (All-append (λ x. x ≢ 10) rest line none clean)
+    begins_ended at_end (rest ++ line) (drop (n + 1) left) (rest ++ drop i piece) (All-append (λ x. x ≢ 10) rest line none clean)
     (ap (λ l. rest ++ l) (sym (slice_from piece i) ∙ sym (take-append-drop (n + 1) left) ∙ ap (λ l. l ++ drop (n + 1) left) (line_feed piece i n h k))
     ∙ sym (append_assoc rest (line ++ 10 ∷ []) (drop (n + 1) left)) ∙ ap (λ l. l ++ drop (n + 1) left) (sym (append_assoc rest line (10 ∷ []))))

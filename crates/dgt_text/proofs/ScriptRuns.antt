@@ -1,39 +1,70 @@
 -- What holds between two reads of `simulate`.
-use Rattle.std.proofs.Common.{◌≡◌, ℕ, List, [], ◌++◌, Bool, Option, Result, IsErrAnd, sym, subst, append-nil}
+use Rattle.std.proofs.Common.{◌≡◌, ℕ, List, [], ◌++◌, ◌+◌, ◌<◌, ◌≤◌, Bool, true, Option, Some, Result, Ok, Err, IsErrAnd, IsTrue, OnOk, refl, sym, ◌∙◌, ap, subst, append-nil, arith, length}
+use Rattle.std.specs.Prelude.{IfErr}
 use Rattle.std.specs.Io.KnownBytes.{Appends, Consumes}
 use Rattle.std.proofs.KnownBytes.{Appends-trans, Consumes-nil, Consumes-trans}
-use Rattle.dgt_link.specs.View.{WorldView}
+use Rattle.dgt_link.specs.Machine.{State}
+use Rattle.dgt_link.specs.Promise.{IsPromised}
+use Rattle.dgt_link.specs.Stands.{StandsFor}
+use Rattle.dgt_link.specs.View.{IsQuietWorld, WorldView}
 use Rattle.dgt_text.specs.declared.faults.RunFault.{RunFault}
-use Rattle.dgt_text.specs.declared.faults.RunFault.TheVariants.{WriteFailed}
+use Rattle.dgt_text.specs.declared.faults.RunFault.TheVariants.{ReadFailed, WriteFailed, TooManyTurns, BadLine}
 use Rattle.dgt_text.specs.declared.script_lines.LineBuffer.{LineBuffer}
-use Rattle.dgt_text.specs.Runs.{Ran, Stopped}
+use Rattle.dgt_text.specs.Closing.{ClosingLinesAgree, closing_lines}
+use Rattle.dgt_text.specs.Runs.{HasTurns, Ran, Stopped}
 use Rattle.dgt_text.specs.ScriptLines.{Keeps as KeepsLine}
-use Rattle.dgt_text.specs.Simulating.{IsSimulated, IsSimulatedFrom, PlaysOn, Stops, Took}
+use Rattle.dgt_text.specs.Simulating.{IsOfLine, IsSimulated, IsSimulatedFrom, PlaysOn, Stops, TellsPicture, Took}
+use Rattle.dgt_text.proofs.RunLemmas.{turn_more}
 use Rattle.dgt_text.proofs.PlayLemmas.{begins_none, end_exit, no_byte, on_more, on_none, on_simulated, stopped_none, torn_none}
 
--- the source gave some bytes, whose whole lines were played, and the buffer keeps the bytes after them
-pub record Scripted {S T : Type 0} (left : S → Option (List ℕ)) (written : T → Option (List ℕ)) (source source' : S) (sink sink' : T) (world last : WorldView) (line : LineBuffer) (number : ℕ) : Type 0 where
+-- a fault of a line is none of turns
+line_turns : {A : Type 0} (limit : ℕ) (r : Result A RunFault) (bytes : List ℕ) → IfErr r IsOfLine → HasTurns limit r bytes
+line_turns limit (Ok x) bytes f = tt
+line_turns limit (Err WriteFailed) bytes f = tt
+line_turns limit (Err (BadLine number at)) bytes f = tt
+line_turns limit (Err ReadFailed) bytes f = absurd f
+line_turns limit (Err TooManyTurns) bytes f = absurd f
+
+-- what stops a run at a line is a fault of a line
+stop_line : {A : Type 0} (at_end : Bool) (r : Result A RunFault) (e : RunFault) (w l : WorldView) (n : ℕ) (bytes out : List ℕ) → IsErrAnd r (λ y. y ≡ e) → Stops at_end e w l n bytes out → IfErr r IsOfLine
+stop_line at_end (Ok x) e w l n bytes out k s = absurd k
+stop_line at_end (Err y) e w l n bytes out k s = subst IsOfLine (sym k) (go e s)
+  where
+    go : (e : RunFault) → Stops at_end e w l n bytes out → IsOfLine e
+    go WriteFailed s = tt
+    go (BadLine number at) s = tt
+    go ReadFailed s = absurd s
+    go TooManyTurns s = absurd s
+
+is_true : {b : Bool} → IsTrue b → b ≡ true
+is_true h = cc
+
+-- the source gave some bytes in so many turns, one in each at least, whose whole lines were played, and the buffer keeps the bytes after them
+pub record Scripted {S T : Type 0} (left : S → Option (List ℕ)) (written : T → Option (List ℕ)) (source source' : S) (sink sink' : T) (world last : WorldView) (line : LineBuffer) (number turns : ℕ) : Type 0 where
   pub bytes : List ℕ
+  pub each : turns ≤ length bytes
   pub given : Consumes (left source) (left source') bytes
   pub plays : PlaysOn written world last sink sink' line 1 number bytes
 
 module _ {S T : Type 0} (left : S → Option (List ℕ)) (written : T → Option (List ℕ)) where
-  pub scripted_none : (a : S) (c : T) (w : WorldView) (line : LineBuffer) → KeepsLine line [] → Scripted left written a a c c w w line 1
-  scripted_none a c w line h = record { bytes = []; given = Consumes-nil (left a); plays = on_none written w c line 1 [] h no_byte }
+  pub scripted_none : (a : S) (c : T) (w : WorldView) (line : LineBuffer) → KeepsLine line [] → Scripted left written a a c c w w line 1 0
+  scripted_none a c w line h = record { bytes = []; each = omega arith; given = Consumes-nil (left a); plays = on_none written w c line 1 [] h no_byte }
 
   -- a piece
-  pub scripted_more : (a b b' : S) (c d d' : T) (w m l : WorldView) (line line' : LineBuffer) (n n' : ℕ) (piece : List ℕ) (q : Scripted left written a b c d w m line n) → Consumes (left b) (left b') piece
-      → PlaysOn written m l d d' line' n n' (q.plays.rest ++ piece) → Scripted left written a b' c d' w l line' n'
-  scripted_more a b b' c d d' w m l line line' n n' piece q p r = record {
+  pub scripted_more : (a b b' : S) (c d d' : T) (w m l : WorldView) (line line' : LineBuffer) (n n' turns : ℕ) (piece : List ℕ) (q : Scripted left written a b c d w m line n turns) → Consumes (left b) (left b') piece
+      → 0 < length piece → PlaysOn written m l d d' line' n n' (q.plays.rest ++ piece) → Scripted left written a b' c d' w l line' n' (turns + 1)
+  scripted_more a b b' c d d' w m l line line' n n' turns piece q p some r = record {
     bytes = q.bytes ++ piece;
+    each = turn_more turns q.bytes piece q.each some;
     given = Consumes-trans _ _ _ q.bytes piece q.given p;
     plays = on_more written w m l c d d' line line' 1 n n' q.bytes piece q.plays r;
   }
 
   -- and a flush
-  pub scripted_flushed : (a b : S) (c d d' : T) (w m : WorldView) (line : LineBuffer) (n : ℕ) (q : Scripted left written a b c d w m line n) → Appends (written d) (written d') [] → Scripted left written a b c d' w m line n
-  scripted_flushed a b c d d' w m line n q p = record {
+  pub scripted_flushed : (a b : S) (c d d' : T) (w m : WorldView) (line : LineBuffer) (n turns : ℕ) (q : Scripted left written a b c d w m line n turns) → Appends (written d) (written d') [] → Scripted left written a b c d' w m line n turns
+  scripted_flushed a b c d d' w m line n turns q p = record {
     bytes = q.bytes;
+    each = q.each;
     given = q.given;
     plays = record {
       lines = q.plays.lines;
@@ -48,21 +79,41 @@ module _ {S T : Type 0} (left : S → Option (List ℕ)) (written : T → Option
   }
 
   -- how the run ends
-  pub scripted_ends : {A : Type 0} (r : Result A RunFault) (a b b' : S) (c d d' : T) (w m l : WorldView) (line : LineBuffer) (n : ℕ) (piece : List ℕ) (q : Scripted left written a b c d w m line n)
-      → Consumes (left b) (left b') piece → Took written d d' (IsSimulatedFrom n r m l (q.plays.rest ++ piece)) → Ran left written a b' c d' (IsSimulated r w l)
-  scripted_ends r a b b' c d d' w m l line n piece q p t =
-      let whole = on_simulated written r w m l c d d' line 1 n q.bytes piece q.plays t in
-      (q.bytes ++ piece, whole.0, Consumes-trans _ _ _ q.bytes piece q.given p, whole.1, whole.2)
+  pub scripted_ends : {A : Type 0} (at_end : Bool) (limit : ℕ) (r : Result A RunFault) (a b b' : S) (c d d' : T) (w m l : WorldView) (line : LineBuffer) (n turns : ℕ) (piece : List ℕ) (q : Scripted left written a b c d w m line n turns)
+      → Consumes (left b) (left b') piece → IfErr r IsOfLine → Took written d d' (IsSimulatedFrom at_end n r m l (q.plays.rest ++ piece)) → Ran left written a b' c d' limit r (IsSimulated at_end r w l)
+  scripted_ends at_end limit r a b b' c d d' w m l line n turns piece q p f t =
+      let whole = on_simulated written at_end r w m l c d d' line 1 n q.bytes piece q.plays t in
+      (q.bytes ++ piece, whole.0, Consumes-trans _ _ _ q.bytes piece q.given p, whole.1, line_turns limit r (q.bytes ++ piece) f, whole.2)
 
   -- the exit of a `?` on a piece
-  pub scripted_stops : {A : Type 0} (r : Result A RunFault) (e : RunFault) (a b b' : S) (c d d' : T) (w m l : WorldView) (line : LineBuffer) (n : ℕ) (piece : List ℕ) (q : Scripted left written a b c d w m line n)
-      → Consumes (left b) (left b') piece → IsErrAnd r (λ y. y ≡ e) → Took written d d' (Stops e m l n (q.plays.rest ++ piece)) → Ran left written a b' c d' (IsSimulated r w l)
-  scripted_stops r e a b b' c d d' w m l line n piece q p k t =
-      scripted_ends r a b b' c d d' w m l line n piece q p (end_exit written r e m l d d' n (q.plays.rest ++ piece) k t)
+  pub scripted_stops : {A : Type 0} (at_end : Bool) (limit : ℕ) (r : Result A RunFault) (e : RunFault) (a b b' : S) (c d d' : T) (w m l : WorldView) (line : LineBuffer) (n turns : ℕ) (piece : List ℕ) (q : Scripted left written a b c d w m line n turns)
+      → Consumes (left b) (left b') piece → IsErrAnd r (λ y. y ≡ e) → Took written d d' (Stops at_end e m l n (q.plays.rest ++ piece)) → Ran left written a b' c d' limit r (IsSimulated at_end r w l)
+  scripted_stops at_end limit r e a b b' c d d' w m l line n turns piece q p k t =
+      scripted_ends at_end limit r a b b' c d d' w m l line n turns piece q p (stop_line at_end r e m l n (q.plays.rest ++ piece) t.0 k t.2)
+      (end_exit written at_end r e m l d d' n (q.plays.rest ++ piece) k t)
 
   -- and on a flush
-  pub scripted_unflushed : {A : Type 0} (failed : T → Bool) (r : Result A RunFault) (e : RunFault) (a b : S) (c d d' : T) (w m : WorldView) (line : LineBuffer) (n : ℕ) → Scripted left written a b c d w m line n
-      → IsErrAnd r (λ y. y ≡ e) → (e ≡ WriteFailed) × Stopped written failed d d' [] → Ran left written a b c d' (IsSimulated r w m)
-  scripted_unflushed failed r e a b c d d' w m line n q k s =
-      scripted_stops r e a b b c d d' w m m line n [] q (Consumes-nil (left b)) k
-      (subst (λ f. Took written d d' (Stops f m m n (q.plays.rest ++ []))) (sym s.0) ([], stopped_none written failed d d' s.1, ([], begins_none (q.plays.rest ++ []), torn_none m)))
+  pub scripted_unflushed : {A : Type 0} (failed late : T → Bool) (at_end : Bool) (limit : ℕ) (r : Result A RunFault) (e : RunFault) (a b : S) (c d d' : T) (w m : WorldView) (line : LineBuffer) (n turns : ℕ)
+      → Scripted left written a b c d w m line n turns → IsErrAnd r (λ y. y ≡ e) → (e ≡ WriteFailed) × Stopped written failed late d d' [] → Ran left written a b c d' limit r (IsSimulated at_end r w m)
+  scripted_unflushed failed late at_end limit r e a b c d d' w m line n turns q k s =
+      scripted_stops at_end limit r e a b b c d d' w m m line n turns [] q (Consumes-nil (left b)) k
+      (subst (λ f. Took written d d' (Stops at_end f m m n (q.plays.rest ++ []))) (sym s.0) ([], stopped_none written failed late d d' s.1, ([], begins_none at_end (q.plays.rest ++ []), torn_none m)))
+
+  -- the closing lines of a world that is promised and quiet
+  pub simulated_pictures : {A : Type 0} (at_end : Bool) (limit : ℕ) (r : Result A RunFault) (a b : S) (c d : T) (w l : WorldView) → ClosingLinesAgree
+      → ((x : State) → StandsFor l x → IsPromised x → IsQuietWorld l → l.host.picture ≡ Some l.board.state.squares)
+      → Ran left written a b c d limit r (IsSimulated at_end r w l) → Ran left written a b c d limit r (λ _ out. OnOk r (TellsPicture l out))
+  simulated_pictures at_end limit (Ok x) a b c d w l agree same p =
+      let s = p.5 in (
+        p.0,
+        p.1,
+        p.2,
+        p.3,
+        p.4,
+        λ y stands promised quiet. (
+          s.2,
+          s.7 ∙ ap (λ q. s.2 ++ closing_lines l q) (is_true (s.6.1 quiet)),
+          agree l true (same y stands promised quiet),
+        ),
+      )
+  simulated_pictures at_end limit (Err e) a b c d w l agree same p = (p.0, p.1, p.2, p.3, p.4, tt)

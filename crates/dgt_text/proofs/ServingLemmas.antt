@@ -1,5 +1,5 @@
 -- What a board's conversation leaves in a sink.
-use Rattle.std.proofs.Common.{◌≡◌, ℕ, ◌+◌, ◌-◌, ◌≤◌, List, [], ◌∷◌, ◌++◌, Option, Some, None, Bool, Result, Ok, Err, IsErrAnd, refl, sym, ◌∙◌, ap, subst, append_assoc, append-nil, length, take, drop, arith, true, false, is_some, IfSome, IfNone, option_map}
+use Rattle.std.proofs.Common.{◌≡◌, ℕ, ◌+◌, ◌-◌, ◌<◌, ◌≤◌, List, [], ◌∷◌, ◌++◌, Option, Some, None, Bool, Result, Ok, Err, IsErrAnd, refl, sym, ◌∙◌, ap, subst, append_assoc, append-nil, length, take, drop, arith, true, false, is_some, IfSome, IfNone, option_map}
 use Rattle.std.proofs.Math.Seq.{take-append_seam}
 use Rattle.std.proofs.lemmas.List.{take-append-drop, take_all}
 use Rattle.std.specs.Io.KnownBytes.{Consumes}
@@ -18,7 +18,7 @@ use Rattle.dgt_text.specs.declared.faults.RunFault.TheVariants.{WriteFailed}
 use Rattle.dgt_text.specs.Runs.{Wrote, Stopped, Writes, Ran}
 use Rattle.dgt_text.specs.Conversation.{Step, told, heard, Converses, events_heard, bytes_told, Hears, Answers}
 use Rattle.dgt_text.specs.Serving.{IsAlmostTold, IsServed, Served, Halted, Serves}
-use Rattle.dgt_text.proofs.RunLemmas.{wrote_none, wrote_then, slice_more}
+use Rattle.dgt_text.proofs.RunLemmas.{turn_more, wrote_none, wrote_then, slice_more}
 use Rattle.dgt_text.proofs.ConversationLemmas.{events_heard-append, bytes_told-append, converses-told, hears_then, hears_nothing, hears_word, hears_part, front_then, front_longer, front_whole}
 
 -- ---- pieces
@@ -87,39 +87,40 @@ almost_told_then steps more out p =
     }
 
 -- the board sent some of what it had to send, and took nothing
-pub record Sent {S : Type 0} (written : S → Option (List ℕ)) (failed : S → Bool) (before after : BoardView) (old new : S) : Type 0 where
+pub record Sent {S : Type 0} (written : S → Option (List ℕ)) (failed late : S → Bool) (before after : BoardView) (old new : S) : Type 0 where
   pub steps : List Step
   pub conversation : Converses before.state steps after.state
   pub none_heard : events_heard steps ≡ []
   pub partial : after.partial ≡ before.partial
-  pub wrote : Wrote written failed old new (bytes_told steps)
+  pub wrote : Wrote written failed late old new (bytes_told steps)
 
--- the source gave some bytes, and the sink has all that the board answers to them
-pub record Talked {S T : Type 0} (left : S → Option (List ℕ)) (written : T → Option (List ℕ)) (failed : T → Bool) (source source' : S) (sink sink' : T) (before after : BoardView) : Type 0 where
+-- the source gave some bytes in so many turns, one in each at least, and the sink has all that the board answers to them
+pub record Talked {S T : Type 0} (left : S → Option (List ℕ)) (written : T → Option (List ℕ)) (failed late : T → Bool) (source source' : S) (sink sink' : T) (before after : BoardView) (turns : ℕ) : Type 0 where
   pub bytes : List ℕ
+  pub each : turns ≤ length bytes
   pub given : Consumes (left source) (left source') bytes
   pub steps : List Step
   pub answers : Answers before bytes steps after
-  pub wrote : Wrote written failed sink sink' (bytes_told steps)
+  pub wrote : Wrote written failed late sink sink' (bytes_told steps)
 
-module _ {S : Type 0} (written : S → Option (List ℕ)) (failed : S → Bool) where
-  pub sent_none : (board : BoardView) (a : S) → Sent written failed board board a a
-  sent_none board a = record { steps = []; conversation = refl; none_heard = refl; partial = refl; wrote = wrote_none written failed a }
+module _ {S : Type 0} (written : S → Option (List ℕ)) (failed late : S → Bool) where
+  pub sent_none : (board : BoardView) (a : S) → Sent written failed late board board a a
+  sent_none board a = record { steps = []; conversation = refl; none_heard = refl; partial = refl; wrote = wrote_none written failed late a }
 
-  pub sent_more : (old mid new : BoardView) (a b c : S) (message : Content) → Sent written failed old mid a b → next_message mid.state ≡ Some message
-      → new ≡ record mid { state = after_sending mid.state message } → Wrote written failed b c (spelling message) → Sent written failed old new a c
+  pub sent_more : (old mid new : BoardView) (a b c : S) (message : Content) → Sent written failed late old mid a b → next_message mid.state ≡ Some message
+      → new ≡ record mid { state = after_sending mid.state message } → Wrote written failed late b c (spelling message) → Sent written failed late old new a c
   sent_more old mid new a b c message p next is q =
       record {
         steps = p.steps ++ told message ∷ [];
         conversation = converses-told old.state mid.state new.state p.steps message p.conversation next (ap (λ (v : BoardView). v.state) is);
         none_heard = events_heard-append p.steps (told message ∷ []) ∙ ap (λ (l : List EventContent). l ++ []) p.none_heard;
         partial = ap (λ (v : BoardView). v.partial) is ∙ p.partial;
-        wrote = subst (λ (l : List ℕ). Wrote written failed a c l) (ap (λ (l : List ℕ). bytes_told p.steps ++ l) (sym (append-nil (spelling message))) ∙ sym (bytes_told-append p.steps (told message ∷ [])))
-            (wrote_then written failed a b c (bytes_told p.steps) (spelling message) p.wrote q);
+        wrote = subst (λ (l : List ℕ). Wrote written failed late a c l) (ap (λ (l : List ℕ). bytes_told p.steps ++ l) (sym (append-nil (spelling message))) ∙ sym (bytes_told-append p.steps (told message ∷ [])))
+            (wrote_then written failed late a b c (bytes_told p.steps) (spelling message) p.wrote q);
       }
 
   -- nothing is left to tell
-  pub sent_all : (old mid new : BoardView) (a b : S) → Sent written failed old mid a b → IsPartial mid.partial → next_message mid.state ≡ None → new ≡ mid → Served written failed old new a b []
+  pub sent_all : (old mid new : BoardView) (a b : S) → Sent written failed late old mid a b → IsPartial mid.partial → next_message mid.state ≡ None → new ≡ mid → Served written failed late old new a b []
   sent_all old mid new a b p partial none is =
       rw is (record {
         steps = p.steps;
@@ -128,8 +129,8 @@ module _ {S : Type 0} (written : S → Option (List ℕ)) (failed : S → Bool) 
       })
 
   -- the sink refused a message
-  pub sent_halts : (old mid new : BoardView) (a b c : S) (message : Content) → Sent written failed old mid a b → IsPartial mid.partial → next_message mid.state ≡ Some message
-      → new ≡ record mid { state = after_sending mid.state message } → Stopped written failed b c (spelling message) → Halted written failed old new a c []
+  pub sent_halts : (old mid new : BoardView) (a b c : S) (message : Content) → Sent written failed late old mid a b → IsPartial mid.partial → next_message mid.state ≡ Some message
+      → new ≡ record mid { state = after_sending mid.state message } → Stopped written failed late b c (spelling message) → Halted written failed late old new a c []
   sent_halts old mid new a b c message p partial next is q =
       let steps = p.steps ++ told message ∷ [] in
       let conversation = converses-told old.state mid.state new.state p.steps message p.conversation next (ap (λ (v : BoardView). v.state) is) in
@@ -144,13 +145,14 @@ module _ {S : Type 0} (written : S → Option (List ℕ)) (failed : S → Bool) 
         };
         appends = Appends-trans _ _ _ (bytes_told p.steps) q.front p.wrote.appends q.appends;
         refused = q.refused;
+        in_time = λ h. q.in_time (p.wrote.kept ∙ h) ∙ p.wrote.in_time h;
       }
 
   -- ---- bytes in a row
 
   -- steps that tell nothing, and what follows them
-  pub served_then : DivisionsAppend → (old mid between new : BoardView) (a b c : S) (s t : List ℕ) (steps : List Step) → Served written failed old mid a b s → Hears mid t steps between → bytes_told steps ≡ []
-      → Served written failed between new b c [] → Served written failed old new a c (s ++ t)
+  pub served_then : DivisionsAppend → (old mid between new : BoardView) (a b c : S) (s t : List ℕ) (steps : List Step) → Served written failed late old mid a b s → Hears mid t steps between → bytes_told steps ≡ []
+      → Served written failed late between new b c [] → Served written failed late old new a c (s ++ t)
   served_then append old mid between new a b c s t steps p h none q =
       let all = p.steps ++ (steps ++ q.steps) in
       let later : Hears mid (t ++ []) (steps ++ q.steps) new = hears_then append mid between new t [] steps q.steps h q.answers.hears in
@@ -162,20 +164,21 @@ module _ {S : Type 0} (written : S → Option (List ℕ)) (failed : S → Bool) 
           hears = hears_then append old mid new s t p.steps (steps ++ q.steps) p.answers.hears (rw (append-nil t) at later);
           settled = q.answers.settled;
         };
-        wrote = subst (λ (l : List ℕ). Wrote written failed a c l) (sym told) (wrote_then written failed a b c (bytes_told p.steps) (bytes_told q.steps) p.wrote q.wrote);
+        wrote = subst (λ (l : List ℕ). Wrote written failed late a c l) (sym told) (wrote_then written failed late a b c (bytes_told p.steps) (bytes_told q.steps) p.wrote q.wrote);
       }
 
-  pub halted_longer : (old new : BoardView) (a b : S) (s t : List ℕ) → Halted written failed old new a b s → Halted written failed old new a b (s ++ t)
+  pub halted_longer : (old new : BoardView) (a b : S) (s t : List ℕ) → Halted written failed late old new a b s → Halted written failed late old new a b (s ++ t)
   halted_longer old new a b s t p =
       record {
         out = p.out;
         breaks = record { steps = p.breaks.steps; hears = front_longer old new s t p.breaks.steps p.breaks.hears; told = p.breaks.told };
         appends = p.appends;
         refused = p.refused;
+        in_time = p.in_time;
       }
 
-  halted_then : DivisionsAppend → (old mid new : BoardView) (a b c : S) (s t : List ℕ) (steps : List Step) → Hears old s steps mid → Wrote written failed a b (bytes_told steps) → Halted written failed mid new b c t
-      → Halted written failed old new a c (s ++ t)
+  halted_then : DivisionsAppend → (old mid new : BoardView) (a b c : S) (s t : List ℕ) (steps : List Step) → Hears old s steps mid → Wrote written failed late a b (bytes_told steps) → Halted written failed late mid new b c t
+      → Halted written failed late old new a c (s ++ t)
   halted_then append old mid new a b c s t steps h w q =
       record {
         out = bytes_told steps ++ q.out;
@@ -186,18 +189,19 @@ module _ {S : Type 0} (written : S → Option (List ℕ)) (failed : S → Bool) 
         };
         appends = Appends-trans _ _ _ (bytes_told steps) q.out w.appends q.appends;
         refused = q.refused;
+        in_time = λ h. q.in_time (w.kept ∙ h) ∙ w.in_time h;
       }
 
   -- the sink refused after a word
-  pub served_halts : DivisionsAppend → (old mid between new : BoardView) (a b c : S) (s t : List ℕ) (event : EventContent) → Served written failed old mid a b s → Hears mid t (heard event ∷ []) between
-      → Halted written failed between new b c [] → Halted written failed old new a c (s ++ t)
+  pub served_halts : DivisionsAppend → (old mid between new : BoardView) (a b c : S) (s t : List ℕ) (event : EventContent) → Served written failed late old mid a b s → Hears mid t (heard event ∷ []) between
+      → Halted written failed late between new b c [] → Halted written failed late old new a c (s ++ t)
   served_halts append old mid between new a b c s t event p h q =
-      let later = halted_then append mid between new b b c t [] (heard event ∷ []) h (wrote_none written failed b) q in
+      let later = halted_then append mid between new b b c t [] (heard event ∷ []) h (wrote_none written failed late b) q in
       halted_then append old mid new a b c s t p.steps p.answers.hears p.wrote (rw (append-nil t) at later)
 
   -- bytes that end no word
-  pub served_part : DivisionsAppend → (old mid new : BoardView) (a b : S) (s t : List ℕ) → Served written failed old mid a b s → IsPartial (mid.partial ++ t) → new ≡ after_bytes mid t None
-      → Served written failed old new a b (s ++ t)
+  pub served_part : DivisionsAppend → (old mid new : BoardView) (a b : S) (s t : List ℕ) → Served written failed late old mid a b s → IsPartial (mid.partial ++ t) → new ≡ after_bytes mid t None
+      → Served written failed late old new a b (s ++ t)
   served_part append old mid new a b s t p partial is =
       record {
         steps = p.steps ++ [];
@@ -205,16 +209,16 @@ module _ {S : Type 0} (written : S → Option (List ℕ)) (failed : S → Bool) 
           hears = hears_then append old mid new s t p.steps [] p.answers.hears (hears_part mid new t partial is);
           settled = ap (λ (v : BoardView). next_message v.state) is ∙ p.answers.settled;
         };
-        wrote = subst (λ (l : List Step). Wrote written failed a b (bytes_told l)) (sym (append-nil p.steps)) p.wrote;
+        wrote = subst (λ (l : List Step). Wrote written failed late a b (bytes_told l)) (sym (append-nil p.steps)) p.wrote;
       }
 
   -- a flush at the end
-  pub served_flushed : {A : Type 0} (old new : BoardView) (a b c : S) (s : List ℕ) (r : Result A RunFault) → Served written failed old new a b s → Writes written failed b c r [] → Serves written failed old new a c r s
+  pub served_flushed : {A : Type 0} (old new : BoardView) (a b c : S) (s : List ℕ) (r : Result A RunFault) → Served written failed late old new a b s → Writes written failed late b c r [] → Serves written failed late old new a c r s
   served_flushed old new a b c s (Ok x) p q =
       record {
         steps = p.steps;
         answers = p.answers;
-        wrote = subst (λ (l : List ℕ). Wrote written failed a c l) (append-nil (bytes_told p.steps)) (wrote_then written failed a b c (bytes_told p.steps) [] p.wrote q);
+        wrote = subst (λ (l : List ℕ). Wrote written failed late a c l) (append-nil (bytes_told p.steps)) (wrote_then written failed late a b c (bytes_told p.steps) [] p.wrote q);
       }
   served_flushed old new a b c s (Err e) p q = (
     q.0,
@@ -227,44 +231,46 @@ module _ {S : Type 0} (written : S → Option (List ℕ)) (failed : S → Bool) 
       };
       appends = Appends-trans _ _ _ (bytes_told p.steps) q.1.front p.wrote.appends q.1.appends;
       refused = q.1.refused;
+      in_time = λ h. q.1.in_time (p.wrote.kept ∙ h) ∙ p.wrote.in_time h;
     },
   )
 
   -- the exit of a `?`
   pub halted_exit : {A : Type 0} (old new : BoardView) (a b : S) (s : List ℕ) (r : Result A RunFault) (e : RunFault) → IsErrAnd r (λ y. y ≡ e) → e ≡ WriteFailed
-      → Halted written failed old new a b s → Serves written failed old new a b r s
+      → Halted written failed late old new a b s → Serves written failed late old new a b r s
   halted_exit old new a b s (Ok x) e k w q = absurd k
   halted_exit old new a b s (Err y) e k w q = (k ∙ w, q)
 
 -- ---- runs
 
-module _ {S T : Type 0} (left : S → Option (List ℕ)) (written : T → Option (List ℕ)) (failed : T → Bool) where
-  pub talked_none : (a : S) (c d : T) (old new : BoardView) → Served written failed old new c d [] → Talked left written failed a a c d old new
-  talked_none a c d old new p = record { bytes = []; given = Consumes-nil (left a); steps = p.steps; answers = p.answers; wrote = p.wrote }
+module _ {S T : Type 0} (left : S → Option (List ℕ)) (written : T → Option (List ℕ)) (failed late : T → Bool) where
+  pub talked_none : (a : S) (c d : T) (old new : BoardView) → Served written failed late old new c d [] → Talked left written failed late a a c d old new 0
+  talked_none a c d old new p = record { bytes = []; each = omega arith; given = Consumes-nil (left a); steps = p.steps; answers = p.answers; wrote = p.wrote }
 
-  pub talked_more : DivisionsAppend → (a b b' : S) (c d d' : T) (old mid new : BoardView) (piece : List ℕ) → Talked left written failed a b c d old mid → Consumes (left b) (left b') piece
-      → Served written failed mid new d d' piece → Talked left written failed a b' c d' old new
-  talked_more append a b b' c d d' old mid new piece p k q =
+  pub talked_more : DivisionsAppend → (a b b' : S) (c d d' : T) (old mid new : BoardView) (piece : List ℕ) (turns : ℕ) → Talked left written failed late a b c d old mid turns → Consumes (left b) (left b') piece
+      → 0 < length piece → Served written failed late mid new d d' piece → Talked left written failed late a b' c d' old new (turns + 1)
+  talked_more append a b b' c d d' old mid new piece turns p k some q =
       record {
         bytes = p.bytes ++ piece;
+        each = turn_more turns p.bytes piece p.each some;
         given = Consumes-trans _ _ _ p.bytes piece p.given k;
         steps = p.steps ++ q.steps;
         answers = record {
           hears = hears_then append old mid new p.bytes piece p.steps q.steps p.answers.hears q.answers.hears;
           settled = q.answers.settled;
         };
-        wrote = subst (λ (l : List ℕ). Wrote written failed c d' l) (sym (bytes_told-append p.steps q.steps)) (wrote_then written failed c d d' (bytes_told p.steps) (bytes_told q.steps) p.wrote q.wrote);
+        wrote = subst (λ (l : List ℕ). Wrote written failed late c d' l) (sym (bytes_told-append p.steps q.steps)) (wrote_then written failed late c d d' (bytes_told p.steps) (bytes_told q.steps) p.wrote q.wrote);
       }
 
   -- the sink refused
-  pub halted_run : {A : Type 0} (a b : S) (c d : T) (old new : BoardView) (bytes : List ℕ) (r : Result A RunFault) (e : RunFault) → Consumes (left a) (left b) bytes
-      → Halted written failed old new c d bytes → IsErrAnd r (λ y. y ≡ e) → e ≡ WriteFailed → Ran left written a b c d (IsServed r old new)
-  halted_run a b c d old new bytes (Ok x) e k q h w = absurd h
-  halted_run {A = A} a b c d old new bytes (Err y) e k q h w =
-      subst (λ f. let r : Result A RunFault = Err f in Ran left written a b c d (IsServed r old new)) (sym (h ∙ w)) (bytes, q.out, k, q.appends, q.breaks)
+  pub halted_run : {A : Type 0} (limit : ℕ) (a b : S) (c d : T) (old new : BoardView) (bytes : List ℕ) (r : Result A RunFault) (e : RunFault) → Consumes (left a) (left b) bytes
+      → Halted written failed late old new c d bytes → IsErrAnd r (λ y. y ≡ e) → e ≡ WriteFailed → Ran left written a b c d limit r (IsServed r old new)
+  halted_run limit a b c d old new bytes (Ok x) e k q h w = absurd h
+  halted_run {A = A} limit a b c d old new bytes (Err y) e k q h w =
+      subst (λ f. let r : Result A RunFault = Err f in Ran left written a b c d limit r (IsServed r old new)) (sym (h ∙ w)) (bytes, q.out, k, q.appends, tt, q.breaks)
 
-  pub talked_stops : {A : Type 0} → DivisionsAppend → (a b b' : S) (c d d' : T) (old mid new : BoardView) (piece : List ℕ) (r : Result A RunFault) (e : RunFault) → Talked left written failed a b c d old mid
-      → Consumes (left b) (left b') piece → Halted written failed mid new d d' piece → IsErrAnd r (λ y. y ≡ e) → e ≡ WriteFailed → Ran left written a b' c d' (IsServed r old new)
-  talked_stops append a b b' c d d' old mid new piece r e p k q h w =
-      halted_run a b' c d' old new (p.bytes ++ piece) r e (Consumes-trans _ _ _ p.bytes piece p.given k)
-      (halted_then written failed append old mid new c d d' p.bytes piece p.steps p.answers.hears p.wrote q) h w
+  pub talked_stops : {A : Type 0} (limit : ℕ) → DivisionsAppend → (a b b' : S) (c d d' : T) (old mid new : BoardView) (piece : List ℕ) (turns : ℕ) (r : Result A RunFault) (e : RunFault) → Talked left written failed late a b c d old mid turns
+      → Consumes (left b) (left b') piece → Halted written failed late mid new d d' piece → IsErrAnd r (λ y. y ≡ e) → e ≡ WriteFailed → Ran left written a b' c d' limit r (IsServed r old new)
+  talked_stops limit append a b b' c d d' old mid new piece turns r e p k q h w =
+      halted_run limit a b' c d' old new (p.bytes ++ piece) r e (Consumes-trans _ _ _ p.bytes piece p.given k)
+      (halted_then written failed late append old mid new c d d' p.bytes piece p.steps p.answers.hears p.wrote q) h w

@@ -1,5 +1,5 @@
 -- What `serve` leaves in its sink, and how it leaves its board.
-use Rattle.std.specs.Prelude.{◌≡◌, ℕ, ◌≤◌, Bool, true, List, ◌++◌, length, Option, Result, Ok, Err, MatchResult}
+use Rattle.std.specs.Prelude.{◌≡◌, ℕ, ◌≤◌, Bool, true, false, List, ◌++◌, length, Option, Result, Ok, Err, MatchResult}
 use Rattle.std.specs.Io.KnownBytes.{Appends}
 use Rattle.dgt_board.specs.View.{BoardView}
 use Rattle.dgt_text.specs.declared.faults.RunFault.{RunFault}
@@ -38,18 +38,19 @@ IsServed (Err (BadLine _ _)) before after bytes out = ⊥
 -- ---- a call that hands the board some bytes
 
 -- the board answered them, and the sink took what it told
-pub record Served {S : Type 0} (written : S → Option (List ℕ)) (failed : S → Bool) (before after : BoardView) (old new : S) (bytes : List ℕ) : Type 0 where
+pub record Served {S : Type 0} (written : S → Option (List ℕ)) (failed late : S → Bool) (before after : BoardView) (old new : S) (bytes : List ℕ) : Type 0 where
   pub steps : List Step
   pub answers : Answers before bytes steps after
-  pub wrote : Wrote written failed old new (bytes_told steps)
+  pub wrote : Wrote written failed late old new (bytes_told steps)
 
 -- the sink refused
-pub record Halted {S : Type 0} (written : S → Option (List ℕ)) (failed : S → Bool) (before after : BoardView) (old new : S) (bytes : List ℕ) : Type 0 where
+pub record Halted {S : Type 0} (written : S → Option (List ℕ)) (failed late : S → Bool) (before after : BoardView) (old new : S) (bytes : List ℕ) : Type 0 where
   pub out : List ℕ
   pub breaks : IsBrokenOff before after bytes out
   pub appends : Appends (written old) (written new) out
   pub refused : failed new ≡ true
+  pub in_time : failed old ≡ false → late new ≡ late old
 
-abbrev pub Serves : {S A : Type 0} → (S → Option (List ℕ)) → (S → Bool) → BoardView → BoardView → S → S → Result A RunFault → List ℕ → Type 0
-Serves written failed before after old new r bytes =
-    MatchResult r (λ _. Served written failed before after old new bytes) (λ e. (e ≡ WriteFailed) × Halted written failed before after old new bytes)
+abbrev pub Serves : {S A : Type 0} → (S → Option (List ℕ)) → (S → Bool) → (S → Bool) → BoardView → BoardView → S → S → Result A RunFault → List ℕ → Type 0
+Serves written failed late before after old new r bytes =
+    MatchResult r (λ _. Served written failed late before after old new bytes) (λ e. (e ≡ WriteFailed) × Halted written failed late before after old new bytes)

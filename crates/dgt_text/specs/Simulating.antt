@@ -1,10 +1,14 @@
 -- A script that is played in a world.
-use Rattle.std.specs.Prelude.{◌≡◌, ◌+◌, ◌≤◌, ◌↔◌, ◌⊎◌, ⊤, ℕ, Bool, List, [], ◌∷◌, ◌++◌, All, IsTrue, MatchResult, Option, Result, Ok, Err, codes, flat_map, length}
+use Rattle.std.specs.Prelude.{◌≡◌, ◌+◌, ◌≤◌, ◌↔◌, ◌⊎◌, ⊤, ℕ, Bool, true, List, [], ◌∷◌, ◌++◌, All, IsTrue, MatchResult, Option, Result, Ok, Err, codes, flat_map, length}
 use Rattle.std.specs.Io.KnownBytes.{Appends}
 use Rattle.dgt_link.specs.Act.{ActContent}
 use Rattle.dgt_link.specs.declared.acts.Outcome.{Outcome}
+use Rattle.dgt_link.specs.Machine.{State}
+use Rattle.dgt_link.specs.Promise.{IsPromised}
+use Rattle.dgt_link.specs.Stands.{StandsFor}
 use Rattle.dgt_link.specs.Step.{Step}
 use Rattle.dgt_link.specs.View.{IsQuietWorld, WorldView}
+use Rattle.dgt_values.specs.Placement.{placement_text}
 use Rattle.dgt_text.specs.declared.faults.RunFault.{RunFault}
 use Rattle.dgt_text.specs.declared.faults.RunFault.TheVariants.{ReadFailed, WriteFailed, TooManyTurns, BadLine}
 use Rattle.dgt_text.specs.declared.script_lines.LineBuffer.{LineBuffer}
@@ -20,12 +24,12 @@ abbrev pub all_lines : List (List ℕ) → List ℕ → List (List ℕ)
 all_lines lines [] = lines
 all_lines lines (byte ∷ rest) = lines ++ (byte ∷ rest) ∷ []
 
--- the script begins with these lines: each has its line feed, or they are all that it has
-abbrev pub BeginsWith : List ℕ → List (List ℕ) → Type 0
-BeginsWith bytes lines =
+-- the script begins with these lines: each has its line feed, or the source has told the end and they are all
+abbrev pub BeginsWith : Bool → List ℕ → List (List ℕ) → Type 0
+BeginsWith at_end bytes lines =
     ((rest : List ℕ) × (bytes ≡ flat_map ended lines ++ rest) × All HasNoFeed lines)
     ⊎ ((whole : List (List ℕ)) × (rest : List ℕ) × IsCut bytes whole rest
-    × (lines ≡ all_lines whole rest))
+    × (lines ≡ all_lines whole rest) × IsTrue at_end)
 
 -- ---- playing
 
@@ -54,48 +58,56 @@ pub record PlaysTorn (world : WorldView) (lines : List (List ℕ)) (out : List �
   pub out_is : out ≡ text ++ front
 
 -- a script of which the first line has this number is played up to a refused write or a bad line
-abbrev pub Stops : RunFault → WorldView → WorldView → ℕ → List ℕ → List ℕ → Type 0
-Stops WriteFailed world last number bytes out =
-    (lines : List (List ℕ)) × BeginsWith bytes lines × PlaysTorn world lines out last
-Stops (BadLine bad_number at) world last number bytes out =
-    (lines : List (List ℕ)) × (bad : List ℕ) × BeginsWith bytes (lines ++ bad ∷ [])
+abbrev pub Stops : Bool → RunFault → WorldView → WorldView → ℕ → List ℕ → List ℕ → Type 0
+Stops at_end WriteFailed world last number bytes out =
+    (lines : List (List ℕ)) × BeginsWith at_end bytes lines × PlaysTorn world lines out last
+Stops at_end (BadLine bad_number at) world last number bytes out =
+    (lines : List (List ℕ)) × (bad : List ℕ) × BeginsWith at_end bytes (lines ++ bad ∷ [])
     × Plays world lines out last × IsBadAt bad at × (bad_number ≡ number + length lines)
-Stops ReadFailed world last number bytes out = ⊥
-Stops TooManyTurns world last number bytes out = ⊥
+Stops at_end ReadFailed world last number bytes out = ⊥
+Stops at_end TooManyTurns world last number bytes out = ⊥
 
 -- what stands in the sink for these bytes of a script, of which the first line has this number, and
--- which world is left, where the answer is this
-abbrev pub IsSimulatedFrom : {A : Type 0} → ℕ → Result A RunFault → WorldView → WorldView → List ℕ → List ℕ → Type 0
+-- which world is left, where the answer is this and `at_end` says whether the source has told the end
+abbrev pub IsSimulatedFrom : {A : Type 0} → Bool → ℕ → Result A RunFault → WorldView → WorldView → List ℕ → List ℕ → Type 0
 -- all lines were played, and the closing lines are those of the world that is left
-IsSimulatedFrom number (Ok _) world last bytes out =
+IsSimulatedFrom at_end number (Ok _) world last bytes out =
     (lines : List (List ℕ)) × (rest : List ℕ) × (text : List ℕ) × (quiet : Bool)
     × IsCut bytes lines rest × Plays world (all_lines lines rest) text last
     × (IsTrue quiet ↔ IsQuietWorld last) × (out ≡ text ++ closing_lines last quiet)
 -- the whole lines were played
-IsSimulatedFrom number (Err ReadFailed) world last bytes out =
+IsSimulatedFrom at_end number (Err ReadFailed) world last bytes out =
     (lines : List (List ℕ)) × (rest : List ℕ) × IsCut bytes lines rest × Plays world lines out last
-IsSimulatedFrom number (Err TooManyTurns) world last bytes out =
+IsSimulatedFrom at_end number (Err TooManyTurns) world last bytes out =
     (lines : List (List ℕ)) × (rest : List ℕ) × IsCut bytes lines rest × Plays world lines out last
 -- the lines before the bad one were played
-IsSimulatedFrom number (Err (BadLine bad_number at)) world last bytes out =
-    Stops (BadLine bad_number at) world last number bytes out
--- an outcome was refused, or a part of the closing lines
-IsSimulatedFrom number (Err WriteFailed) world last bytes out =
-    Stops WriteFailed world last number bytes out
+IsSimulatedFrom at_end number (Err (BadLine bad_number at)) world last bytes out =
+    Stops at_end (BadLine bad_number at) world last number bytes out
+-- an outcome was refused, or at the end a part of the closing lines
+IsSimulatedFrom at_end number (Err WriteFailed) world last bytes out =
+    Stops at_end WriteFailed world last number bytes out
     ⊎ ((lines : List (List ℕ)) × (rest : List ℕ) × (text : List ℕ) × (quiet : Bool) × (front : List ℕ)
     × IsCut bytes lines rest × Plays world (all_lines lines rest) text last
     × (IsTrue quiet ↔ IsQuietWorld last) × IsFront front (closing_lines last quiet)
-    × (out ≡ text ++ front))
+    × (out ≡ text ++ front) × IsTrue at_end)
 
 -- the first line of a script has number 1
-abbrev pub IsSimulated : {A : Type 0} → Result A RunFault → WorldView → WorldView → List ℕ → List ℕ → Type 0
-IsSimulated r world last bytes out = IsSimulatedFrom 1 r world last bytes out
+abbrev pub IsSimulated : {A : Type 0} → Bool → Result A RunFault → WorldView → WorldView → List ℕ → List ℕ → Type 0
+IsSimulated at_end r world last bytes out = IsSimulatedFrom at_end 1 r world last bytes out
 
 -- the text begins with the lines of board and host, and both have this placement
 abbrev pub ShowsTwice : List ℕ → List ℕ → Type 0
 ShowsTwice placement text =
     (rest : List ℕ)
     × (text ≡ codes "board " ++ placement ++ codes "\nhost " ++ placement ++ codes "\n" ++ rest)
+
+-- Where updates and a dump were asked for and all is quiet, the text ends with the closing lines of this world, of
+-- which those of board and host have one placement.
+abbrev pub TellsPicture : WorldView → List ℕ → Type 0
+TellsPicture world out =
+    (x : State) → StandsFor world x → IsPromised x → IsQuietWorld world
+    → (text : List ℕ) × (out ≡ text ++ closing_lines world true)
+    × ShowsTwice (placement_text world.board.state.squares) (closing_lines world true)
 
 -- ---- the engine's parts
 
@@ -111,10 +123,10 @@ abbrev pub Took : {S : Type 0} → (S → Option (List ℕ)) → S → S → (Li
 Took written old new P = (out : List ℕ) × Appends (written old) (written new) out × P out
 
 -- a line with this number, with which a script of these bytes begins
-abbrev pub PlaysLine : {S A : Type 0} → (S → Option (List ℕ)) → WorldView → WorldView → S → S → Result A RunFault → ℕ → List ℕ → List ℕ → Type 0
-PlaysLine written world last old new r number line bytes =
+abbrev pub PlaysLine : {S A : Type 0} → (S → Option (List ℕ)) → Bool → WorldView → WorldView → S → S → Result A RunFault → ℕ → List ℕ → List ℕ → Type 0
+PlaysLine written at_end world last old new r number line bytes =
     MatchResult r (λ _. Took written old new (λ out. Plays world (line ∷ []) out last))
-    (λ fault. Took written old new (Stops fault world last number bytes))
+    (λ fault. Took written old new (Stops at_end fault world last number bytes))
 
 -- the lines that end among these bytes were played, and what is after them is kept
 pub record PlaysOn {S : Type 0} (written : S → Option (List ℕ)) (world last : WorldView) (old new : S) (line : LineBuffer) (number number' : ℕ) (bytes : List ℕ) : Type 0 where
@@ -128,7 +140,7 @@ pub record PlaysOn {S : Type 0} (written : S → Option (List ℕ)) (world last 
   pub wrote : Appends (written old) (written new) text
 
 -- a piece of a script; the bytes are those since the last line feed before it, and the piece
-abbrev pub PlaysPiece : {S A : Type 0} → (S → Option (List ℕ)) → WorldView → WorldView → S → S → LineBuffer → ℕ → ℕ → Result A RunFault → List ℕ → Type 0
-PlaysPiece written world last old new line number number' r bytes =
+abbrev pub PlaysPiece : {S A : Type 0} → (S → Option (List ℕ)) → Bool → WorldView → WorldView → S → S → LineBuffer → ℕ → ℕ → Result A RunFault → List ℕ → Type 0
+PlaysPiece written at_end world last old new line number number' r bytes =
     MatchResult r (λ _. PlaysOn written world last old new line number number' bytes)
-    (λ fault. Took written old new (Stops fault world last number bytes))
+    (λ fault. Took written old new (Stops at_end fault world last number bytes))

@@ -103,7 +103,7 @@ pub(crate) fn put_closing<W: Sink>(
     world: &World,
 ) -> Result<(), RunFault>
     ensures { (quiet : Bool) × (IsTrue quiet ↔ IsQuietWorld world.now)
-        × Gathers W.written W.failed outgoing.old outgoing.new writer.old writer.new result
+        × Gathers W.written W.failed W.late outgoing.old outgoing.new writer.old writer.new result
         (closing_lines world.now quiet) }
 {
     let quiet = world.quiet();

@@ -13,8 +13,9 @@ pub struct Failed;
 
 /// Gives bytes.
 ///
-/// Contracts see the bytes that are left, where a source tells them, and three marks: whether a call was
-/// refused, whether a read told the end, and how many reads there were.
+/// Contracts see the bytes that are left, where a source tells them, and four marks: whether a call was
+/// refused, whether a read told the end, how many reads there were, and whether one came after a refusal or
+/// the end.
 pub trait Source {
     // the bytes that are left, where the source tells them
     ghost left: { Self → Option (List ℕ) };
@@ -28,6 +29,9 @@ pub trait Source {
     // the reads so far
     ghost reads: { Self → ℕ };
 
+    // a read came after one that was refused or told the end
+    ghost late: { Self → Bool };
+
     /// Moves the next bytes to the front of `buffer`, and answers how many: none only at the end, or
     /// where `buffer` is empty. What the rest of `buffer` holds then is open, and so is all of it after a
     /// refusal, which moves no byte.
@@ -38,13 +42,17 @@ pub trait Source {
         ensures not_refused { OnOk result (failed self.new ≡ failed self.old) }
         ensures end { GivesEnd result (length buffer.new) → IsTrue (ended self.new) }
         ensures no_end { ¬ GivesEnd result (length buffer.new) → ended self.new ≡ ended self.old }
-        ensures counted { reads self.new ≡ min (reads self.old + 1) (2 ^ 64 - 1) };
+        ensures counted { reads self.new ≡ min (reads self.old + 1) (2 ^ 64 - 1) }
+        ensures in_time { failed self.old ≡ false → ended self.old ≡ false →
+            late self.new ≡ late self.old }
+        ensures after_refusal { IsTrue (failed self.old) → IsTrue (late self.new) }
+        ensures after_end { IsTrue (ended self.old) → IsTrue (late self.new) };
 }
 
 /// Takes bytes.
 ///
-/// Contracts see the bytes that were written, where a sink tells them, and two marks: whether a call was
-/// refused, and whether all that was written was flushed.
+/// Contracts see the bytes that were written, where a sink tells them, and three marks: whether a call was
+/// refused, whether all that was written was flushed, and whether a call came after a refusal.
 pub trait Sink {
     // the bytes that were written, where the sink tells them
     ghost written: { Self → Option (List ℕ) };
@@ -55,6 +63,9 @@ pub trait Sink {
     // no byte was written since a flush that succeeded
     ghost flushed: { Self → Bool };
 
+    // a call came after one that was refused
+    ghost late: { Self → Bool };
+
     /// Takes the first bytes of `bytes`, at least one where there is one, and answers how many. A refusal
     /// takes none.
     fn write_some(&mut self, bytes: &[u8]) -> Result<usize, Failed>
@@ -64,7 +75,9 @@ pub trait Sink {
         ensures refused { OnErr result (IsTrue (failed self.new)) }
         ensures not_refused { OnOk result (failed self.new ≡ failed self.old) }
         ensures unflushed { TakesByte result → flushed self.new ≡ false }
-        ensures same_flushed { ¬ TakesByte result → flushed self.new ≡ flushed self.old };
+        ensures same_flushed { ¬ TakesByte result → flushed self.new ≡ flushed self.old }
+        ensures in_time { failed self.old ≡ false → late self.new ≡ late self.old }
+        ensures after_refusal { IsTrue (failed self.old) → IsTrue (late self.new) };
 
     /// Passes on all that was written.
     fn flush_all(&mut self) -> Result<(), Failed>
@@ -72,5 +85,7 @@ pub trait Sink {
         ensures refused { OnErr result (IsTrue (failed self.new)) }
         ensures not_refused { OnOk result (failed self.new ≡ failed self.old) }
         ensures flushes { OnOk result (IsTrue (flushed self.new)) }
-        ensures same_flushed { OnErr result (flushed self.new ≡ flushed self.old) };
+        ensures same_flushed { OnErr result (flushed self.new ≡ flushed self.old) }
+        ensures in_time { failed self.old ≡ false → late self.new ≡ late self.old }
+        ensures after_refusal { IsTrue (failed self.old) → IsTrue (late self.new) };
 }

@@ -1,20 +1,36 @@
 //! Why an engine stops.
 
-use thiserror::Error;
+ghost use Rattle.std.specs.Prelude.{Some};
+ghost use Rattle.dgt_text.specs.FaultText.{run_fault_text};
 
-/// Why an engine stopped before the end of its input, or could not write.
-#[derive(Clone, Copy, Debug, PartialEq, Eq, Error)]
+use std::error::Error;
+use std::fmt;
+
+/// Why an engine stopped before the end of its input, or could not write. It is told in a few words, a bad
+/// line as `line 3: bad at 5`.
+#[derive(Clone, Copy, Debug, PartialEq, Eq)]
 pub enum RunFault {
     /// The source refused a read.
-    #[error("read failed")]
     ReadFailed,
     /// The sink refused a write or a flush.
-    #[error("write failed")]
     WriteFailed,
     /// The engine made as many reads as it may, and none of them told the end.
-    #[error("too many turns")]
     TooManyTurns,
     /// Line `line` of a script, counted from 1, is none; offset `at` says where.
-    #[error("line {line}: bad at {at}")]
     BadLine { line: u64, at: usize },
 }
+
+impl fmt::Display for RunFault {
+    ghost output = { λ fault. Some (run_fault_text fault) };
+
+    fn fmt<W: fmt::Write>(&self, f: &mut fmt::Formatter<W>) -> fmt::Result {
+        match self {
+            RunFault::ReadFailed => write!(f, "read failed"),
+            RunFault::WriteFailed => write!(f, "write failed"),
+            RunFault::TooManyTurns => write!(f, "too many turns"),
+            RunFault::BadLine { line, at } => write!(f, "line {line}: bad at {at}"),
+        }
+    }
+}
+
+impl Error for RunFault {}

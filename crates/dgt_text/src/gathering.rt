@@ -1,8 +1,9 @@
 //! How bytes are written: they are gathered, and go out in one write.
 
-ghost use Rattle.std.specs.Prelude.{◌≡◌, ◌+◌, ◌*◌, ◌<◌, ◌≤◌, [], ◌∷◌, ◌++◌, length, OnOk, IsTrue};
+ghost use Rattle.std.specs.Prelude.{◌≡◌, ◌≢◌, ◌+◌, ◌*◌, ◌<◌, ◌≤◌, [], ◌∷◌, ◌++◌, false, length, OnOk, IsTrue};
 ghost use Rattle.hex.specs.Hex.{encode_lower};
 ghost use Rattle.dgt_text.specs.Lines.{padded_decimal};
+ghost use Rattle.dgt_text.specs.Marks.{Waits};
 ghost use Rattle.dgt_text.specs.Runs.{Writes};
 ghost use Rattle.dgt_text.specs.Gathering.{Gathers};
 
@@ -11,9 +12,12 @@ use crate::faults::RunFault;
 use arrayvec::ArrayVec;
 use std::marker::Model;
 
-/// Writes all of these bytes, in as many writes as the sink asks for.
+/// Writes all of these bytes, in as many writes as the sink asks for, without a flush.
 pub(crate) fn put<W: Sink>(writer: &mut W, bytes: &[u8]) -> Result<(), RunFault>
-    ensures { Writes W.written W.failed writer.old writer.new result bytes.now }
+    ensures output { Writes W.written W.failed W.late writer.old writer.new result bytes.now }
+    ensures no_flush { W.flushed writer.old ≡ false → W.flushed writer.new ≡ false }
+    ensures unflushed { OnOk result (Waits bytes.now (W.flushed writer.old) →
+        W.flushed writer.new ≡ false) }
 {
     let mut at = 0;
     while at < bytes.len() {
@@ -27,7 +31,7 @@ pub(crate) fn put<W: Sink>(writer: &mut W, bytes: &[u8]) -> Result<(), RunFault>
 
 /// Flushes the sink.
 pub(crate) fn flush<W: Sink>(writer: &mut W) -> Result<(), RunFault>
-    ensures output { Writes W.written W.failed writer.old writer.new result [] }
+    ensures output { Writes W.written W.failed W.late writer.old writer.new result [] }
     ensures flushed { OnOk result (IsTrue (W.flushed writer.new)) }
 {
     match writer.flush_all() {
@@ -67,8 +71,11 @@ impl Outgoing {
 
     /// Writes all that was gathered. After a refused write the rest of it is dropped.
     pub fn write_out<W: Sink>(&mut self, writer: &mut W) -> Result<(), RunFault>
-        ensures output { Writes W.written W.failed writer.old writer.new result self.old }
+        ensures output { Writes W.written W.failed W.late writer.old writer.new result self.old }
         ensures empty { self.new ≡ [] }
+        ensures no_flush { W.flushed writer.old ≡ false → W.flushed writer.new ≡ false }
+        ensures unflushed { OnOk result (Waits self.old (W.flushed writer.old) →
+            W.flushed writer.new ≡ false) }
     {
         let answer = put(writer, self.bytes.as_slice());
         self.bytes.clear();
@@ -77,8 +84,9 @@ impl Outgoing {
 
     /// Writes what was gathered, unless there is room for a line behind it.
     pub fn make_room<W: Sink>(&mut self, writer: &mut W) -> Result<(), RunFault>
-        ensures output { Gathers W.written W.failed self.old self.new writer.old writer.new result [] }
+        ensures output { Gathers W.written W.failed W.late self.old self.new writer.old writer.new result [] }
         ensures room { OnOk result (length self.new + LINE_ROOM ≤ ROOM) }
+        ensures no_flush { W.flushed writer.old ≡ false → W.flushed writer.new ≡ false }
     {
         if self.bytes.remaining_capacity() < LINE_ROOM {
             return self.write_out(writer);
@@ -88,7 +96,9 @@ impl Outgoing {
 
     /// Adds these bytes. Where there is no room for them, what was gathered is written first.
     pub fn add<W: Sink>(&mut self, writer: &mut W, bytes: &[u8]) -> Result<(), RunFault>
-        ensures { Gathers W.written W.failed self.old self.new writer.old writer.new result bytes.now }
+        ensures output { Gathers W.written W.failed W.late self.old self.new writer.old writer.new result bytes.now }
+        ensures no_flush { W.flushed writer.old ≡ false → W.flushed writer.new ≡ false }
+        ensures waits { OnOk result (bytes.now ≢ [] → Waits self.new (W.flushed writer.new)) }
     {
         if bytes.len() > self.bytes.remaining_capacity() {
             self.write_out(writer)?;

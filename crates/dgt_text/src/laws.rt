@@ -2,6 +2,7 @@
 //! facts that its contract states.
 
 ghost use Rattle.std.specs.Prelude.{◌≡◌, ℕ, List};
+ghost use Rattle.dgt_values.specs.Equality.{EqualIsSame};
 ghost use Rattle.dgt_link.specs.Act.{ActContent};
 ghost use Rattle.dgt_link.specs.View.{WorldView};
 ghost use Rattle.dgt_text.specs.Closing.{ClosingLinesAgree};
@@ -9,6 +10,17 @@ ghost use Rattle.dgt_text.specs.Conversation.{EachFrontGoesOn, EachIsAnswered, E
 ghost use Rattle.dgt_text.specs.Script.{IsAsked, IsBadAt};
 ghost use Rattle.dgt_text.specs.ScriptLines.{IsCut};
 ghost use Rattle.dgt_text.specs.Simulating.{Plays};
+
+use crate::ends::Failed;
+use crate::faults::RunFault;
+use crate::script::LineFault;
+
+/// Two values are equal, as `==` answers, exactly where they are the same.
+pub fn equal_is_same()
+    ensures run_fault { EqualIsSame ⟦<RunFault as PartialEq>⟧.eq }
+    ensures line_fault { EqualIsSame ⟦<LineFault as PartialEq>⟧.eq }
+    ensures failed { EqualIsSame ⟦<Failed as PartialEq>⟧.eq }
+{}
 
 /// One conversation: a board and the bytes that it hears have one, and only one, and whatever the board
 /// tells and hears while it hears a front of the bytes is the front of it.

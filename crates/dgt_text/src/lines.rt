@@ -1,10 +1,11 @@
 //! The lines of events.
 
-ghost use Rattle.std.specs.Prelude.{◌≡◌, ◌+◌, ◌%◌, ◌<◌, ◌≤◌, ◌++◌, [], ◌∷◌, length};
+ghost use Rattle.std.specs.Prelude.{◌≡◌, ◌+◌, ◌%◌, ◌<◌, ◌≤◌, ◌++◌, [], ◌∷◌, false, length, OnOk};
 ghost use Rattle.hex.specs.Hex.{encode_lower};
 ghost use Rattle.dgt_decode.specs.Feeding.{event_content};
 ghost use Rattle.dgt_text.specs.Gathering.{Gathers};
 ghost use Rattle.dgt_text.specs.Lines.{bytes_text, event_line, line, offset_text, padded_decimal, unfinished_text};
+ghost use Rattle.dgt_text.specs.Marks.{Waits};
 ghost use Rattle.dgt_text.specs.Runs.{Writes};
 
 use crate::ends::Sink;
@@ -51,8 +52,9 @@ fn last_digit(number: u32) -> u8
 }
 
 fn put_bytes<W: Sink>(outgoing: &mut Outgoing, writer: &mut W, bytes: &[u8]) -> Result<(), RunFault>
-    ensures { Gathers W.written W.failed outgoing.old outgoing.new writer.old writer.new result
-        (bytes_text bytes.now) }
+    ensures output { Gathers W.written W.failed W.late outgoing.old outgoing.new writer.old writer.new
+        result (bytes_text bytes.now) }
+    ensures no_flush { W.flushed writer.old ≡ false → W.flushed writer.new ≡ false }
 {
     if bytes.is_empty() {
         return outgoing.add(writer, b"-");
@@ -65,8 +67,9 @@ fn put_digits<W: Sink>(
     writer: &mut W,
     bytes: &[u8],
 ) -> Result<(), RunFault>
-    ensures { Gathers W.written W.failed outgoing.old outgoing.new writer.old writer.new result
-        (encode_lower bytes.now) }
+    ensures output { Gathers W.written W.failed W.late outgoing.old outgoing.new writer.old writer.new
+        result (encode_lower bytes.now) }
+    ensures no_flush { W.flushed writer.old ≡ false → W.flushed writer.new ≡ false }
 {
     for byte in bytes {
         outgoing.add(writer, &hex_digits(*byte))?;
@@ -81,8 +84,10 @@ pub(crate) fn put_event<W: Sink>(
     offset: u64,
     event: &Event<'_>,
 ) -> Result<(), RunFault>
-    ensures { Gathers W.written W.failed outgoing.old outgoing.new writer.old writer.new result
-        (event_line offset (event_content event.now)) }
+    ensures output { Gathers W.written W.failed W.late outgoing.old outgoing.new writer.old writer.new
+        result (event_line offset (event_content event.now)) }
+    ensures no_flush { W.flushed writer.old ≡ false → W.flushed writer.new ≡ false }
+    ensures waits { OnOk result (Waits outgoing.new (W.flushed writer.new)) }
 {
     outgoing.make_room(writer)?;
     push_offset(outgoing, offset);
@@ -104,7 +109,7 @@ pub(crate) fn write_unfinished<W: Sink>(
     offset: u64,
     have: usize,
 ) -> Result<(), RunFault>
-    ensures { Writes W.written W.failed writer.old writer.new result
+    ensures { Writes W.written W.failed W.late writer.old writer.new result
         (line offset (unfinished_text have)) }
 {
     let mut text = Outgoing::new();
@@ -121,10 +126,14 @@ pub(crate) fn write_unfinished<W: Sink>(
 /// line feed, as in `00000005 field e4 P`. The offset is the number of bytes up to and including the one
 /// that made the event. The format is this project's own choice.
 ///
-/// `WriteFailed` comes where the writer refuses, which then took the front of the line.
+/// `WriteFailed` comes where the writer refuses, which then took the front of the line and gets nothing more.
 pub fn write_event<W: Sink>(writer: &mut W, offset: u64, event: &Event<'_>) -> Result<(), RunFault>
-    ensures { Writes W.written W.failed writer.old writer.new result
+    ensures output { Writes W.written W.failed W.late writer.old writer.new result
         (event_line offset (event_content event.now)) }
+
+    // nothing is flushed: the line waits for a flush, and what waited before still does
+    ensures unflushed { OnOk result (W.flushed writer.new ≡ false) }
+    ensures no_flush { W.flushed writer.old ≡ false → W.flushed writer.new ≡ false }
 {
     let mut outgoing = Outgoing::new();
     put_event(&mut outgoing, writer, offset, event)?;

@@ -1,6 +1,6 @@
 //! The engine that tells what comes.
 
-ghost use Rattle.std.specs.Prelude.{◌≡◌, ◌≢◌, ◌+◌, ◌^◌, ◌<◌, ◌≤◌, ◌++◌, length, IsTrue, OnOk};
+ghost use Rattle.std.specs.Prelude.{false, ◌≡◌, ◌≢◌, ◌+◌, ◌^◌, ◌<◌, ◌≤◌, ◌++◌, length, IsTrue, OnOk};
 ghost use Rattle.std.specs.Io.KnownBytes.{IsAtEnd};
 ghost use Rattle.dgt_decode.specs.Grammar.{open_message};
 ghost use Rattle.dgt_text.specs.Lines.{unfinished_line};
@@ -23,7 +23,7 @@ fn write_lines<W: Sink>(
     requires fits { offset + length piece.now < 2 ^ 64 }
     requires held { length decoder.old ≤ offset }
     requires unfinished { decoder.old ≡ open_message decoder.old }
-    ensures output { Writes W.written W.failed writer.old writer.new result
+    ensures output { Writes W.written W.failed W.late writer.old writer.new result
         (lines_after decoder.old offset piece.now) }
     ensures decoded { OnOk result (decoder.new ≡ open_message (decoder.old ++ piece.now)) }
 {
@@ -43,7 +43,7 @@ fn write_lines<W: Sink>(
 
 // A last line, where a message is unfinished.
 fn write_end<W: Sink>(decoder: &mut Decoder, offset: u64, writer: &mut W) -> Result<(), RunFault>
-    ensures output { Writes W.written W.failed writer.old writer.new result
+    ensures output { Writes W.written W.failed W.late writer.old writer.new result
         (unfinished_line offset decoder.old) }
     ensures flushed { OnOk result (IsTrue (W.flushed writer.old) → IsTrue (W.flushed writer.new)) }
 {
@@ -69,13 +69,18 @@ pub fn monitor<R: Source, W: Sink>(
     limit: u32,
 ) -> Result<(), RunFault>
     // what was read, and what was written of it
-    ensures output { Ran R.left W.written reader.old reader.new writer.old writer.new
+    ensures output { Ran R.left W.written reader.old reader.new writer.old writer.new limit result
         (IsMonitored result) }
     ensures all_read { OnOk result (IsAtEnd (R.left reader.new)) }
 
     // a fault comes with its mark, and every other answer without it
     ensures source_failed { R.failed reader.new ≡ source_mark_after result (R.failed reader.old) }
     ensures sink_failed { W.failed writer.new ≡ sink_mark_after result (W.failed writer.old) }
+
+    // no call comes after one that was refused, and no read after the end
+    ensures source_in_time { R.failed reader.old ≡ false → R.ended reader.old ≡ false →
+        R.late reader.new ≡ R.late reader.old }
+    ensures sink_in_time { W.failed writer.old ≡ false → W.late writer.new ≡ W.late writer.old }
 
     // Ok comes at the end, and TooManyTurns before it
     ensures ended { OnOk result (IsTrue (R.ended reader.new)) }

@@ -1,6 +1,6 @@
 //! The engine that answers for a board.
 
-ghost use Rattle.std.specs.Prelude.{◌≡◌, ◌≢◌, ◌+◌, ◌^◌, ◌<◌, ◌≤◌, [], IsTrue, OnOk};
+ghost use Rattle.std.specs.Prelude.{false, ◌≡◌, ◌≢◌, ◌+◌, ◌^◌, ◌<◌, ◌≤◌, [], IsTrue, OnOk};
 ghost use Rattle.std.specs.Io.KnownBytes.{IsAtEnd};
 ghost use Rattle.dgt_text.specs.Runs.{sink_mark_after, source_mark_after, Ran};
 ghost use Rattle.dgt_text.specs.Serving.{IsServed, Serves};
@@ -17,7 +17,7 @@ const MAX_SENT: usize = 67;
 // The board sends until it owes nothing. Each message is written before the next is asked for, so the board
 // is at most one message ahead of the sink.
 fn send_all<W: Sink>(board: &mut Board, writer: &mut W) -> Result<(), RunFault>
-    ensures { Serves W.written W.failed board.old board.new writer.old writer.new result [] }
+    ensures { Serves W.written W.failed W.late board.old board.new writer.old writer.new result [] }
 {
     let mut message = [0; MAX_SENT];
     while let Polled::Wrote(length) = board.poll(&mut message) {
@@ -29,7 +29,7 @@ fn send_all<W: Sink>(board: &mut Board, writer: &mut W) -> Result<(), RunFault>
 // The board sends until it owes nothing, and again after each command or fault of `piece`. Then the sink is
 // flushed.
 fn answer<W: Sink>(board: &mut Board, piece: &[u8], writer: &mut W) -> Result<(), RunFault>
-    ensures served { Serves W.written W.failed board.old board.new writer.old writer.new result
+    ensures served { Serves W.written W.failed W.late board.old board.new writer.old writer.new result
         piece.now }
     ensures flushed { OnOk result (IsTrue (W.flushed writer.new)) }
 {
@@ -64,13 +64,18 @@ pub fn serve<R: Source, W: Sink>(
     limit: u32,
 ) -> Result<(), RunFault>
     // what was read, what was written of it, and how the board answers
-    ensures output { Ran R.left W.written reader.old reader.new writer.old writer.new
+    ensures output { Ran R.left W.written reader.old reader.new writer.old writer.new limit result
         (IsServed result board.old board.new) }
     ensures all_read { OnOk result (IsAtEnd (R.left reader.new)) }
 
     // a fault comes with its mark, and every other answer without it
     ensures source_failed { R.failed reader.new ≡ source_mark_after result (R.failed reader.old) }
     ensures sink_failed { W.failed writer.new ≡ sink_mark_after result (W.failed writer.old) }
+
+    // no call comes after one that was refused, and no read after the end
+    ensures source_in_time { R.failed reader.old ≡ false → R.ended reader.old ≡ false →
+        R.late reader.new ≡ R.late reader.old }
+    ensures sink_in_time { W.failed writer.old ≡ false → W.late writer.new ≡ W.late writer.old }
 
     // Ok comes at the end, and TooManyTurns before it
     ensures ended { OnOk result (IsTrue (R.ended reader.new)) }

@@ -1,16 +1,12 @@
 //! The engine that plays a script.
 
-ghost use Rattle.std.specs.Prelude.{◌≡◌, ◌≢◌, ◌+◌, ◌^◌, ◌<◌, ◌≤◌, ◌↔◌, ◌⊎◌, ◌∷◌, ◌++◌, [], ℕ, Bool, true, List, length, IfErr, IsTrue, OnOk};
+ghost use Rattle.std.specs.Prelude.{◌≡◌, ◌≢◌, ◌+◌, ◌^◌, ◌<◌, ◌≤◌, ◌↔◌, ◌⊎◌, ◌∷◌, ◌++◌, [], ℕ, Bool, false, List, length, IfErr, IsTrue, OnOk};
 ghost use Rattle.std.specs.Io.KnownBytes.{Appends, IsAtEnd};
-ghost use Rattle.dgt_values.specs.Placement.{placement_text};
-ghost use Rattle.dgt_link.specs.Machine.{State};
-ghost use Rattle.dgt_link.specs.Promise.{IsPromised};
-ghost use Rattle.dgt_link.specs.Stands.{StandsFor};
 ghost use Rattle.dgt_link.specs.View.{IsQuietWorld};
 ghost use Rattle.dgt_text.specs.Closing.{closing_lines};
 ghost use Rattle.dgt_text.specs.Runs.{Ran, Writes, sink_mark_after, source_mark_after};
 ghost use Rattle.dgt_text.specs.ScriptLines.{HasNoFeed, Keeps};
-ghost use Rattle.dgt_text.specs.Simulating.{BeginsWith, IsOfLine, IsSimulated, IsSimulatedFrom, PlaysLine, PlaysPiece, ShowsTwice, Took};
+ghost use Rattle.dgt_text.specs.Simulating.{BeginsWith, IsOfLine, IsSimulated, IsSimulatedFrom, PlaysLine, PlaysPiece, TellsPicture, Took};
 
 use crate::closing::{outcome_text, put_closing};
 use crate::cutting::len_before;
@@ -27,6 +23,7 @@ fn refuse<W: Sink>(writer: &mut W, line: u64, at: usize) -> Result<(), RunFault>
     ensures bytes { Appends (W.written writer.old) (W.written writer.new) [] }
     ensures refused { (result ≡ Err (RunFault.BadLine line at)) ⊎ (result ≡ Err RunFault.WriteFailed) }
     ensures sink_failed { W.failed writer.new ≡ sink_mark_after result (W.failed writer.old) }
+    ensures in_time { W.failed writer.old ≡ false → W.late writer.new ≡ W.late writer.old }
     ensures flushed { IfErr result (λ fault. fault ≢ RunFault.WriteFailed →
         IsTrue (W.flushed writer.new)) }
 {
@@ -41,10 +38,11 @@ fn play_line<W: Sink>(
     number: u64,
     writer: &mut W,
 ) -> Result<(), RunFault>
-    ensures played { (whole bytes : List ℕ) → Keeps line.now whole → BeginsWith bytes (whole ∷ [])
-        → PlaysLine W.written world.old world.new writer.old writer.new result number whole bytes }
+    ensures played { (at_end : Bool) (whole bytes : List ℕ) → Keeps line.now whole
+        → BeginsWith at_end bytes (whole ∷ []) → PlaysLine W.written at_end world.old world.new writer.old writer.new result number whole bytes }
     ensures faults { IfErr result IsOfLine }
     ensures sink_failed { W.failed writer.new ≡ sink_mark_after result (W.failed writer.old) }
+    ensures in_time { W.failed writer.old ≡ false → W.late writer.new ≡ W.late writer.old }
     ensures flushed { IfErr result (λ fault. fault ≢ RunFault.WriteFailed →
         IsTrue (W.flushed writer.new)) }
 {
@@ -67,12 +65,13 @@ fn play_piece<W: Sink>(
     writer: &mut W,
 ) -> Result<(), RunFault>
     requires { number.old + length piece.now < 2 ^ 64 }
-    ensures played { (rest : List ℕ) → Keeps line.old rest → HasNoFeed rest
-        → PlaysPiece W.written world.old world.new writer.old writer.new line.new
+    ensures played { (at_end : Bool) (rest : List ℕ) → Keeps line.old rest → HasNoFeed rest
+        → PlaysPiece W.written at_end world.old world.new writer.old writer.new line.new
         number.old number.new result (rest ++ piece.now) }
     ensures counted { OnOk result (number.new ≤ number.old + length piece.now) }
     ensures faults { IfErr result IsOfLine }
     ensures sink_failed { W.failed writer.new ≡ sink_mark_after result (W.failed writer.old) }
+    ensures in_time { W.failed writer.old ≡ false → W.late writer.new ≡ W.late writer.old }
     ensures flushed { IfErr result (λ fault. fault ≢ RunFault.WriteFailed →
         IsTrue (W.flushed writer.new)) }
 {
@@ -95,7 +94,7 @@ fn play_piece<W: Sink>(
 // Writes the closing lines, and flushes.
 fn write_closing<W: Sink>(world: &World, writer: &mut W) -> Result<(), RunFault>
     ensures output { (quiet : Bool) × (IsTrue quiet ↔ IsQuietWorld world.now)
-        × Writes W.written W.failed writer.old writer.new result (closing_lines world.now quiet) }
+        × Writes W.written W.failed W.late writer.old writer.new result (closing_lines world.now quiet) }
     ensures flushed { OnOk result (IsTrue (W.flushed writer.new)) }
 {
     let mut outgoing = Outgoing::new();
@@ -111,11 +110,12 @@ fn play_end<W: Sink>(
     number: u64,
     writer: &mut W,
 ) -> Result<(), RunFault>
-    ensures played { (rest : List ℕ) → Keeps line.now rest → HasNoFeed rest
-        → Took W.written writer.old writer.new
-        (IsSimulatedFrom number result world.old world.new rest) }
+    ensures played { (at_end : Bool) (rest : List ℕ) → IsTrue at_end → Keeps line.now rest
+        → HasNoFeed rest → Took W.written writer.old writer.new
+        (IsSimulatedFrom at_end number result world.old world.new rest) }
     ensures faults { IfErr result IsOfLine }
     ensures sink_failed { W.failed writer.new ≡ sink_mark_after result (W.failed writer.old) }
+    ensures in_time { W.failed writer.old ≡ false → W.late writer.new ≡ W.late writer.old }
     ensures flushed { result ≢ Err RunFault.WriteFailed → IsTrue (W.flushed writer.new) }
 {
     if !line.is_empty() {
@@ -145,19 +145,23 @@ pub fn simulate<R: Source, W: Sink>(
     limit: u32,
 ) -> Result<(), RunFault>
     // what was read, what was written of it, and which world is left
-    ensures output { Ran R.left W.written reader.old reader.new writer.old writer.new
-        (IsSimulated result world.old world.new) }
+    ensures output { Ran R.left W.written reader.old reader.new writer.old writer.new limit result
+        (IsSimulated (R.ended reader.new) result world.old world.new) }
     ensures all_read { OnOk result (IsAtEnd (R.left reader.new)) }
 
     // where updates and a dump were asked for, and the last line tells that all is quiet, the lines of
     // board and host tell one placement
-    ensures picture { OnOk result ((x : State) → StandsFor world.new x → IsPromised x →
-        IsQuietWorld world.new →
-        ShowsTwice (placement_text world.new.board.state.squares) (closing_lines world.new true)) }
+    ensures picture { Ran R.left W.written reader.old reader.new writer.old writer.new limit result
+        (λ _ out. OnOk result (TellsPicture world.new out)) }
 
     // a fault comes with its mark, and every other answer without it
     ensures source_failed { R.failed reader.new ≡ source_mark_after result (R.failed reader.old) }
     ensures sink_failed { W.failed writer.new ≡ sink_mark_after result (W.failed writer.old) }
+
+    // no call comes after one that was refused, and no read after the end
+    ensures source_in_time { R.failed reader.old ≡ false → R.ended reader.old ≡ false →
+        R.late reader.new ≡ R.late reader.old }
+    ensures sink_in_time { W.failed writer.old ≡ false → W.late writer.new ≡ W.late writer.old }
 
     // Ok comes at the end, and TooManyTurns before it
     ensures ended { OnOk result (IsTrue (R.ended reader.new)) }

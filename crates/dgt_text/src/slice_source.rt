@@ -10,6 +10,7 @@ pub struct Bytes<'a> {
     left: &'a [u8],
     ended: bool,
     reads: u64,
+    late: bool,
 }
 
 impl<'a> Bytes<'a> {
@@ -19,11 +20,13 @@ impl<'a> Bytes<'a> {
         ensures not_failed { ⟦<Bytes<'a> as Source>⟧.failed result ≡ false }
         ensures not_ended { ⟦<Bytes<'a> as Source>⟧.ended result ≡ false }
         ensures unread { ⟦<Bytes<'a> as Source>⟧.reads result ≡ 0 }
+        ensures in_time { ⟦<Bytes<'a> as Source>⟧.late result ≡ false }
     {
         Bytes {
             left: bytes,
             ended: false,
             reads: 0,
+            late: false,
         }
     }
 }
@@ -37,7 +40,10 @@ impl Source for Bytes<'_> {
 
     ghost reads = { λ source. source.reads };
 
+    ghost late = { λ source. source.late };
+
     fn read_some(&mut self, buffer: &mut [u8]) -> Result<usize, Failed> {
+        self.late = self.late || self.ended;
         let given = self.left.len().min(buffer.len());
         buffer[..given].copy_from_slice(&self.left[..given]);
         self.left = &self.left[given..];

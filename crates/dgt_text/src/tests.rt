@@ -8,8 +8,8 @@ mod script_words;
 mod serving;
 mod simulating;
 
-use crate::tests::devices::{Broken, Lender, Recorder};
-use crate::{Bytes, Device, RunFault, monitor, write_event};
+use crate::tests::devices::{Broken, FlushCounter, Lender, Recorder};
+use crate::{Bytes, Device, Failed, LineFault, RunFault, monitor, write_event};
 use dgt_decode::Event;
 use dgt_message::{BodyFault, Message};
 use dgt_values::{Piece, SevenBit, Square};
@@ -181,6 +181,42 @@ fn a_write_and_a_flush_for_each_piece(rt: HostRuntime) {
     assert_eq!(rt; monitor(&mut Bytes::new(&updates), &mut sink, 3), Ok(()));
     assert_eq!(rt; sink.writes, 2);
     assert_eq!(rt; sink.flushes, 2);
+}
+
+#[test]
+fn each_piece_is_flushed_through_a_device(rt: HostRuntime) {
+    for (step, flushes) in [(1, 5), (2, 3), (64, 1)] {
+        let mut counter = FlushCounter { flushes: 0 };
+        assert_eq!(rt;
+            monitor(
+                &mut Lender::new(FIELD, step),
+                &mut Device::new(&mut counter),
+                10
+            ),
+            Ok(())
+        );
+        assert_eq!(rt; counter.flushes, flushes);
+    }
+}
+
+#[test]
+fn texts_of_faults(rt: HostRuntime) -> Result<(), Fail> {
+    let rows = [
+        (RunFault::ReadFailed, "read failed"),
+        (RunFault::WriteFailed, "write failed"),
+        (RunFault::TooManyTurns, "too many turns"),
+        (
+            RunFault::BadLine { line: 12, at: 345 },
+            "line 12: bad at 345",
+        ),
+    ];
+    for (fault, text) in rows {
+        assert_eq!(rt; fault.to_string(rt.alloc())?.as_str(), text);
+    }
+    let bad = LineFault::BadLine { at: 67 };
+    assert_eq!(rt; bad.to_string(rt.alloc())?.as_str(), "bad at 67");
+    assert_eq!(rt; Failed.to_string(rt.alloc())?.as_str(), "the device failed");
+    Ok(())
 }
 
 #[test]

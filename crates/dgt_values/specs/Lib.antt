@@ -1,5 +1,6 @@
 pub mod Body
 pub mod Bytes
+pub mod Equality
 pub mod Piece
 pub mod Pieces
 pub mod Placement

@@ -2,11 +2,41 @@
 //! contract states.
 
 ghost use Rattle.std.specs.Prelude.{◌≡◌, ◌≤◌, ℕ, List, length, Result, Ok};
+ghost use Rattle.dgt_values.specs.Body.{body_bytes};
+ghost use Rattle.dgt_values.specs.Bytes.{number};
+ghost use Rattle.dgt_values.specs.Equality.{EqualIsSame, EqualIsSameRead};
 ghost use Rattle.dgt_values.specs.declared.pieces.Piece.{Piece};
 ghost use Rattle.dgt_values.specs.declared.placements.BadPlacement.{BadPlacement};
 ghost use Rattle.dgt_values.specs.declared.positions.Position.{Position};
 ghost use Rattle.dgt_values.specs.Pieces.{pieces_of};
+ghost use Rattle.dgt_values.specs.Square.{square_number};
 ghost use Rattle.dgt_values.specs.Placement.{digit_count, placement_text, DigitsApart, IsPlacement, ParsesPlacement};
+
+use crate::bodies::{Body, BodyError, MAX_BODY};
+use crate::bytes::SevenBit;
+use crate::pieces::Piece;
+use crate::placements::BadPlacement;
+use crate::positions::Position;
+use crate::room::NoRoom;
+use crate::squares::Square;
+
+/// The limits by their numbers.
+pub fn limits()
+    ensures { MAX_BODY ≡ 16380 }
+{}
+
+/// Two values are equal, as `==` compares them, exactly where they are the same. Of a body its bytes count, and
+/// not where they lie.
+pub fn equal_is_same()
+    ensures seven_bit { EqualIsSameRead number ⟦<SevenBit as PartialEq>⟧.eq }
+    ensures body { EqualIsSameRead body_bytes ⟦<Body<'static> as PartialEq>⟧.eq }
+    ensures body_error { EqualIsSame ⟦<BodyError as PartialEq>⟧.eq }
+    ensures square { EqualIsSameRead square_number ⟦<Square as PartialEq>⟧.eq }
+    ensures piece { EqualIsSame ⟦<Piece as PartialEq>⟧.eq }
+    ensures position { EqualIsSameRead pieces_of ⟦<Position as PartialEq>⟧.eq }
+    ensures bad_placement { EqualIsSame ⟦<BadPlacement as PartialEq>⟧.eq }
+    ensures no_room { EqualIsSame ⟦<NoRoom as PartialEq>⟧.eq }
+{}
 
 /// An accepted text has a piece for each of the 64 squares.
 pub fn placements_fill_the_board()

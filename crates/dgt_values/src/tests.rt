@@ -1,6 +1,7 @@
 //! The tables of the protocol, and texts that are read and written.
 
 use super::*;
+use std::test::Fail;
 
 const START: &str = "rnbqkbnr/pppppppp/8/8/8/8/PPPPPPPP/RNBQKBNR";
 
@@ -180,4 +181,42 @@ fn twelve_characters_have_segments(rt: HostRuntime) {
         assert_eq!(rt; segment(character), Ok(byte));
     }
     assert_eq!(rt; segment('x'), Err(NoSegment));
+}
+
+#[test]
+fn errors_have_texts(rt: HostRuntime) -> Result<(), Fail> {
+    let alloc = rt.alloc();
+    for (said, expected) in [
+        (
+            format!(in alloc; "{}", BodyError::TooMuch)?,
+            "there are more than 16380 bytes",
+        ),
+        (
+            format!(in alloc; "{}", BodyError::NotSevenBit)?,
+            "a byte has its top bit set",
+        ),
+        (format!(in alloc; "{NotSevenBit}")?, "the top bit is set"),
+        (format!(in alloc; "{Known}")?, "this has a case of its own"),
+        (format!(in alloc; "{TooMuch}")?, "too many bytes"),
+        (format!(in alloc; "{NoPiece}")?, "this stands for no piece"),
+        (
+            format!(in alloc; "{NoSquare}")?,
+            "this stands for no square",
+        ),
+        (
+            format!(in alloc; "{NoSegment}")?,
+            "this character has no segments",
+        ),
+        (
+            format!(in alloc; "{}", BadPlacement { at: 17 })?,
+            "no placement, from offset 17 on",
+        ),
+        (
+            format!(in alloc; "{}", NoRoom { need: 67 })?,
+            "this takes 67 bytes of room",
+        ),
+    ] {
+        assert_eq!(rt; said.as_str(), expected);
+    }
+    Ok(())
 }

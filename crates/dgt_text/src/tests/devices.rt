@@ -16,6 +16,7 @@ pub struct Lender<'a> {
     failed: bool,
     pub ended: bool,
     pub reads: u64,
+    pub late: bool,
 }
 
 impl<'a> Lender<'a> {
@@ -31,6 +32,7 @@ impl<'a> Lender<'a> {
             failed: false,
             ended: false,
             reads: 0,
+            late: false,
         }
     }
 }
@@ -44,8 +46,11 @@ impl Source for Lender<'_> {
 
     ghost reads = { λ lender. lender.reads };
 
+    ghost late = { λ lender. lender.late };
+
     fn read_some(&mut self, buffer: &mut [u8]) -> Result<usize, Failed> {
         self.reads = self.reads.saturating_add(1);
+        self.late = self.late || self.failed || self.ended;
         if self.reads == self.fails_at {
             self.failed = true;
             return Err(Failed);
@@ -73,6 +78,7 @@ pub struct Recorder {
     pub flushes: u64,
     failed: bool,
     pub flushed: bool,
+    pub late: bool,
 }
 
 impl Recorder {
@@ -87,6 +93,7 @@ impl Recorder {
             flushes: 0,
             failed: false,
             flushed: true,
+            late: false,
         }
     }
 
@@ -102,8 +109,11 @@ impl Sink for Recorder {
 
     ghost flushed = { λ recorder. recorder.flushed };
 
+    ghost late = { λ recorder. recorder.late };
+
     fn write_some(&mut self, bytes: &[u8]) -> Result<usize, Failed> {
         self.writes = self.writes.saturating_add(1);
+        self.late = self.late || self.failed;
         let room = self.room.saturating_sub(self.taken.len());
         let taken = bytes.len().min(room).min(self.step.max(1));
         if self.writes == self.write_fails_at
@@ -121,11 +131,29 @@ impl Sink for Recorder {
 
     fn flush_all(&mut self) -> Result<(), Failed> {
         self.flushes = self.flushes.saturating_add(1);
+        self.late = self.late || self.failed;
         if self.flushes == self.flush_fails_at {
             self.failed = true;
             return Err(Failed);
         }
         self.flushed = true;
+        Ok(())
+    }
+}
+
+/// A writer of the standard library, which takes every byte and counts its flushes.
+#[derive(Drop)]
+pub struct FlushCounter {
+    pub flushes: u64,
+}
+
+impl Write for FlushCounter {
+    fn write(&mut self, buf: &[u8]) -> io::Result<usize> {
+        Ok(buf.len())
+    }
+
+    fn flush(&mut self) -> io::Result<()> {
+        self.flushes = self.flushes.saturating_add(1);
         Ok(())
     }
 }

@@ -1,11 +1,13 @@
-use Rattle.std.proofs.Common.{◌≤◌, ◌-◌, length, take}
+use Rattle.std.proofs.Common.{◌≡◌, ◌<◌, ◌≤◌, ◌-◌, false, length, take}
 use Rattle.dgt_text.specs.Runs.{Wrote}
 use Rattle.dgt_text.proofs.gathering.put.Given as goal
 
 abbrev pub invariant-loop-at : goal.invariant-loop-at
 invariant-loop-at g l = record {
   bound : l.at ≤ length l.bytes;
-  output : Wrote g.W.Sink.written g.W.Sink.failed l.fn.writer l.writer (take l.at l.bytes);
+  output : Wrote g.W.Sink.written g.W.Sink.failed g.W.Sink.late l.fn.writer l.writer (take l.at l.bytes);
+  no_flush : g.W.Sink.flushed l.fn.writer ≡ false → g.W.Sink.flushed l.writer ≡ false;
+  unflushed : 0 < l.at → g.W.Sink.flushed l.writer ≡ false;
 }
 
 abbrev pub decreases-loop-at : goal.decreases-loop-at

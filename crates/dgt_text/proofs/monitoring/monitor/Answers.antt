@@ -7,15 +7,17 @@ use Rattle.dgt_text.proofs.monitoring.monitor.Goals as goal
 pub loop-init : goal.loop-init
 loop-init g c = record {
   heard = heard_none _ _ _ c.new-decoder.ensures;
+  each = omega arith;
   short = omega arith;
   not_failed = refl;
   not_ended = refl;
+  source_in_time = λ _ _. refl;
   turns = λ _. omega arith;
   flushed = λ h. h;
 }
 
 pub returns-then-given-eq0-clause-output : goal.returns-then-given-eq0-clause-output
-returns-then-given-eq0-clause-output g c = heard_end _ _ _ _ _ _ _ _ _ c.loop.invariant.heard (rw c.if-given-eq0.true at c.in-Ok.ensures.bytes.0) c.write_end.ensures.output
+returns-then-given-eq0-clause-output g c = heard_end _ _ _ _ _ _ _ _ _ _ c.loop.invariant.heard (rw c.if-given-eq0.true at c.in-Ok.ensures.bytes.0) c.write_end.ensures.output
 
 pub write_lines-requires-clause-held : goal.write_lines-requires-clause-held
 write_lines-requires-clause-held g c = heard_bound _ _ _ _ _ _ c.loop.invariant.heard
@@ -24,20 +26,22 @@ pub write_lines-requires-clause-unfinished : goal.write_lines-requires-clause-un
 write_lines-requires-clause-unfinished g c = heard_open c.open_append.ensures _ _ _ _ _ _ c.loop.invariant.heard
 
 pub returns-in_err-write_lines-clause-output : goal.returns-in_err-write_lines-clause-output
-returns-in_err-write_lines-clause-output g c = heard_stopped c.events_append.ensures c.open_append.ensures _ _ _ _ _ _ _ _ _ _ _ c.loop.invariant.heard c.in-Ok.ensures.bytes.0 c.in_err-write_lines.ensures.output.1 c.from_residual.ensures.1 c.in_err-write_lines.ensures.output.0
+returns-in_err-write_lines-clause-output g c = heard_stopped c.events_append.ensures c.open_append.ensures _ _ _ _ _ _ _ _ _ _ _ _ c.loop.invariant.heard c.in-Ok.ensures.bytes.0 c.in_err-write_lines.ensures.output.1 c.from_residual.ensures.1 c.in_err-write_lines.ensures.output.0
 
 pub returns-in_err-flush-clause-output : goal.returns-in_err-flush-clause-output
 returns-in_err-flush-clause-output g c =
-    let stop = stopped_after g.W.Sink.written g.W.Sink.failed _ _ _ _ c.in_ok-write_lines.ensures.output c.in_err-flush.ensures.output.1 in
-    heard_stopped c.events_append.ensures c.open_append.ensures _ _ _ _ _ _ _ _ _ _ _ c.loop.invariant.heard c.in-Ok.ensures.bytes.0 stop c.from_residual-in_err-flush.ensures.1 c.in_err-flush.ensures.output.0
+    let stop = stopped_after g.W.Sink.written g.W.Sink.failed g.W.Sink.late _ _ _ _ c.in_ok-write_lines.ensures.output c.in_err-flush.ensures.output.1 in
+    heard_stopped c.events_append.ensures c.open_append.ensures _ _ _ _ _ _ _ _ _ _ _ _ c.loop.invariant.heard c.in-Ok.ensures.bytes.0 stop c.from_residual-in_err-flush.ensures.1 c.in_err-flush.ensures.output.0
 
 pub loop-preserved : goal.loop-preserved
 loop-preserved g c = record {
   heard = heard_more c.events_append.ensures c.open_append.ensures _ _ _ _ _ _ _ _ _ _ _ _ c.loop.invariant.heard c.in-Ok.ensures.bytes.0 (length-take-le c.in-Ok.given c.read_some.new.buffer c.in-Ok.ensures.bound)
       c.in_ok-write_lines.ensures.output c.in_ok-flush.ensures.output c.in_ok-write_lines.ensures.decoded;
+  each = let k = c.loop.invariant.each in let some = c.if-given-eq0.false in omega arith;
   short = omega (arith, c.in-Ok.ensures.bound, c.read_some.auto.buffer);
   not_failed = c.in-Ok.ensures.not_refused ∙ c.loop.invariant.not_failed;
   not_ended = c.in-Ok.ensures.no_end (λ h. c.if-given-eq0.false h.0) ∙ c.loop.invariant.not_ended;
+  source_in_time = λ f e. c.in-Ok.ensures.in_time (c.loop.invariant.not_failed ∙ f) (c.loop.invariant.not_ended ∙ e) ∙ c.loop.invariant.source_in_time f e;
   turns = λ room. let e = c.loop.invariant.turns room in let n = c.in-Ok.ensures.counted in let k = c.loop-test.true in omega arith;
   flushed = λ _. c.in_ok-flush.ensures.flushed;
 }

@@ -11,7 +11,7 @@ use Rattle.dgt_text.proofs.monitoring.write_lines.Goals as goal
 pub loop-at-init : goal.loop-at-init
 loop-at-init g c = record {
   bound = omega arith;
-  output = rw (lines_after-none c.events_append.ensures c.open_append.ensures c.args.decoder.now c.args.offset c.requires.unfinished, c.new-outgoing.ensures) (gathered_none g.W.Sink.written g.W.Sink.failed [] c.args.writer.now);
+  output = rw (lines_after-none c.events_append.ensures c.open_append.ensures c.args.decoder.now c.args.offset c.requires.unfinished, c.new-outgoing.ensures) (gathered_none g.W.Sink.written g.W.Sink.failed g.W.Sink.late [] c.args.writer.now);
   decoded = c.requires.unfinished ∙ ap open_message (sym (append-nil c.args.decoder.now));
 }
 
@@ -19,7 +19,7 @@ pub loop-at-preserved-in-Continue-1 : goal.loop-at-preserved-in-Continue-1
 loop-at-preserved-in-Continue-1 g c = record {
   bound = feed_bound c.args.piece.now c.loop-at.at c.feed.result.used c.loop-at.invariant.bound c.feed.ensures.within;
   output =
-      let step = gathered_then _ _ _ _ _ _ _ _ (lines_after c.args.decoder.now c.args.offset (take c.loop-at.at c.args.piece.now)) _ c.loop-at.invariant.output c.in_ok-put_event.ensures in
+      let step = gathered_then _ _ _ _ _ _ _ _ _ (lines_after c.args.decoder.now c.args.offset (take c.loop-at.at c.args.piece.now)) _ c.loop-at.invariant.output c.in_ok-put_event.ensures.output in
       let e = feed_line c.events_append.ensures c.open_append.ensures c.args.decoder.now c.args.piece.now c.loop-at.decoder c.args.offset c.loop-at.at c.feed.result.used (event_content c.in-Some.event) c.requires.held c.loop-at.invariant.bound c.loop-at.invariant.decoded
       (rw c.in-Some.is at c.feed.ensures.first).1 in
       rw e step;
@@ -30,7 +30,7 @@ pub returns-in_err-put_event-clause-output : goal.returns-in_err-put_event-claus
 returns-in_err-put_event-clause-output g c =
     let e = feed_whole c.events_append.ensures c.open_append.ensures c.args.decoder.now c.args.piece.now c.loop-at.decoder c.args.offset c.loop-at.at c.feed.result.used (event_content c.in-Some.event) c.requires.held c.loop-at.invariant.bound c.loop-at.invariant.decoded
     (rw c.in-Some.is at c.feed.ensures.first).1 in
-    gathered_exit _ _ _ _ _ _ _ _ _ _ _ _ c.loop-at.invariant.output e c.from_residual.ensures.1 c.in_err-put_event.ensures
+    gathered_exit _ _ _ _ _ _ _ _ _ _ _ _ _ c.loop-at.invariant.output e c.from_residual.ensures.1 c.in_err-put_event.ensures.output
 
 pub loop-at-preserved : goal.loop-at-preserved
 loop-at-preserved g c = record {
@@ -45,7 +45,7 @@ loop-at-preserved g c = record {
 pub returns-clause-output : goal.returns-clause-output
 returns-clause-output g c =
     let whole = take_all _ c.args.piece.now c.loop-at-test.false in
-    gathered_out _ _ _ _ _ _ _ _ (rw whole at c.loop-at.invariant.output) c.write_out.ensures.output
+    gathered_out _ _ _ _ _ _ _ _ _ (rw whole at c.loop-at.invariant.output) c.write_out.ensures.output
 
 pub returns-clause-decoded : goal.returns-clause-decoded
 returns-clause-decoded g c = on_ok c.write_out.result (c.loop-at.invariant.decoded ∙ ap (λ l. open_message (c.args.decoder.now ++ l)) (take_all _ c.args.piece.now c.loop-at-test.false))

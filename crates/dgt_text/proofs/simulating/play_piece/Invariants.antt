@@ -1,4 +1,4 @@
-use Rattle.std.proofs.Common.{◌≡◌, ◌≤◌, ◌-◌, ◌+◌, ◌++◌, List, ℕ, length, take}
+use Rattle.std.proofs.Common.{◌≡◌, ◌≤◌, ◌-◌, ◌+◌, ◌++◌, false, List, ℕ, length, take}
 use Rattle.dgt_text.specs.ScriptLines.{HasNoFeed, Keeps}
 use Rattle.dgt_text.specs.Simulating.{PlaysOn}
 use Rattle.dgt_text.proofs.simulating.play_piece.Given as goal
@@ -8,6 +8,7 @@ invariant-loop-at g l = record {
   bound : l.at ≤ length l.piece;
   count : l.number ≤ l.fn.number + l.at;
   not_failed : g.W.Sink.failed l.writer ≡ g.W.Sink.failed l.fn.writer;
+  in_time : g.W.Sink.failed l.fn.writer ≡ false → g.W.Sink.late l.writer ≡ g.W.Sink.late l.fn.writer;
   played : (rest : List ℕ) → Keeps l.fn.line rest → HasNoFeed rest
       → PlaysOn g.W.Sink.written l.fn.world l.world l.fn.writer l.writer l.line l.fn.number l.number (rest ++ take l.at l.piece);
 }

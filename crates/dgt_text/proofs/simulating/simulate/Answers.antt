@@ -1,7 +1,7 @@
 use Rattle.std.proofs.Common.{arith, refl, true, ◌∙◌, [], append-nil}
 use Rattle.std.proofs.lemmas.List.{length-take-le}
-use Rattle.dgt_text.proofs.RunLemmas.{on_ok}
-use Rattle.dgt_text.proofs.ScriptRuns.{scripted_none, scripted_more, scripted_flushed, scripted_ends, scripted_stops, scripted_unflushed}
+use Rattle.dgt_text.proofs.RunLemmas.{piece_some}
+use Rattle.dgt_text.proofs.ScriptRuns.{scripted_none, scripted_more, scripted_flushed, scripted_ends, scripted_stops, scripted_unflushed, simulated_pictures}
 use Rattle.dgt_text.proofs.simulating.simulate.Goals as goal
 
 pub loop-init : goal.loop-init
@@ -11,6 +11,8 @@ loop-init g c = record {
   not_failed = refl;
   written = refl;
   not_ended = refl;
+  source_in_time = λ _ _. refl;
+  sink_in_time = λ _. refl;
   turns = λ _. omega arith;
   flushed = λ h. h;
 }
@@ -19,13 +21,15 @@ pub loop-preserved : goal.loop-preserved
 loop-preserved g c =
     let q = c.loop.invariant.scripted in
     let piece = length-take-le c.in-Ok.given c.read_some.new.buffer c.in-Ok.ensures.bound in record {
-      scripted = scripted_flushed g.R.Source.left g.W.Sink.written _ _ _ _ _ _ _ _ _
-          (scripted_more g.R.Source.left g.W.Sink.written _ _ _ _ _ _ _ _ _ _ _ _ _ _ q c.in-Ok.ensures.bytes.0 (c.in_ok-play_piece.ensures.played q.plays.rest q.plays.kept q.plays.cut.last))
+      scripted = scripted_flushed g.R.Source.left g.W.Sink.written _ _ _ _ _ _ _ _ _ _
+          (scripted_more g.R.Source.left g.W.Sink.written _ _ _ _ _ _ _ _ _ _ _ _ _ _ _ q c.in-Ok.ensures.bytes.0 (piece_some c.in-Ok.given c.read_some.new.buffer c.in-Ok.ensures.bound c.if-given-eq0.false) (c.in_ok-play_piece.ensures.played true q.plays.rest q.plays.kept q.plays.cut.last))
           c.in_ok-flush.ensures.output.appends;
       short = omega (arith, c.in-Ok.ensures.bound, c.read_some.auto.buffer, c.in_ok-play_piece.ensures.counted);
       not_failed = c.in-Ok.ensures.not_refused ∙ c.loop.invariant.not_failed;
       written = rw (c.in_ok-flush.ensures.output.kept, c.in_ok-play_piece.ensures.sink_failed) c.loop.invariant.written;
       not_ended = c.in-Ok.ensures.no_end (λ h. c.if-given-eq0.false h.0) ∙ c.loop.invariant.not_ended;
+      source_in_time = λ f e. c.in-Ok.ensures.in_time (c.loop.invariant.not_failed ∙ f) (c.loop.invariant.not_ended ∙ e) ∙ c.loop.invariant.source_in_time f e;
+      sink_in_time = λ h. let before = c.loop.invariant.written ∙ h in c.in_ok-flush.ensures.output.in_time (c.in_ok-play_piece.ensures.sink_failed ∙ before) ∙ c.in_ok-play_piece.ensures.in_time before ∙ c.loop.invariant.sink_in_time h;
       turns = λ room. let e = c.loop.invariant.turns room in let n = c.in-Ok.ensures.counted in let k = c.loop-test.true in omega arith;
       flushed = λ _. c.in_ok-flush.ensures.flushed;
     }
@@ -33,22 +37,37 @@ loop-preserved g c =
 pub returns-then-given-eq0-clause-output : goal.returns-then-given-eq0-clause-output
 returns-then-given-eq0-clause-output g c =
     let q = c.loop.invariant.scripted in
-    scripted_ends g.R.Source.left g.W.Sink.written _ _ _ _ _ _ _ _ _ _ _ _ [] q (rw c.if-given-eq0.true at c.in-Ok.ensures.bytes.0)
-    (rw (append-nil q.plays.rest) (c.play_end.ensures.played q.plays.rest q.plays.kept q.plays.cut.last))
+    let at_end = g.R.Source.ended c.read_some.new.self in
+    let ends = c.in-Ok.ensures.end (c.if-given-eq0.true, omega (arith, c.read_some.auto.buffer)) in
+    scripted_ends g.R.Source.left g.W.Sink.written at_end c.args.limit _ _ _ _ _ _ _ _ _ _ _ _ _ [] q (rw c.if-given-eq0.true at c.in-Ok.ensures.bytes.0) c.play_end.ensures.faults
+    (rw (append-nil q.plays.rest) (c.play_end.ensures.played at_end q.plays.rest ends q.plays.kept q.plays.cut.last))
 
 pub returns-then-given-eq0-clause-picture : goal.returns-then-given-eq0-clause-picture
-returns-then-given-eq0-clause-picture g c = on_ok c.play_end.result (λ x stands promised quiet.
-    c.closing_lines_agree.ensures c.play_end.new.world true (c.at_quiet_world.ensures.picture c.play_end.new.world x stands quiet promised))
+returns-then-given-eq0-clause-picture g c =
+    simulated_pictures g.R.Source.left g.W.Sink.written _ _ _ _ _ _ _ _ _ c.closing_lines_agree.ensures (λ x stands promised quiet. c.at_quiet_world.ensures.picture c.play_end.new.world x stands quiet promised)
+    (returns-then-given-eq0-clause-output g c)
 
 pub returns-in_err-play_piece-clause-output : goal.returns-in_err-play_piece-clause-output
 returns-in_err-play_piece-clause-output g c =
     let q = c.loop.invariant.scripted in
-    scripted_stops g.R.Source.left g.W.Sink.written _ _ _ _ _ _ _ _ _ _ _ _ _ _ q c.in-Ok.ensures.bytes.0 c.from_residual.ensures.1
-    (c.in_err-play_piece.ensures.played q.plays.rest q.plays.kept q.plays.cut.last)
+    let at_end = g.R.Source.ended c.read_some.new.self in
+    scripted_stops g.R.Source.left g.W.Sink.written at_end c.args.limit _ _ _ _ _ _ _ _ _ _ _ _ _ _ _ q c.in-Ok.ensures.bytes.0 c.from_residual.ensures.1
+    (c.in_err-play_piece.ensures.played at_end q.plays.rest q.plays.kept q.plays.cut.last)
+
+pub returns-in_err-play_piece-clause-picture : goal.returns-in_err-play_piece-clause-picture
+returns-in_err-play_piece-clause-picture g c =
+    simulated_pictures g.R.Source.left g.W.Sink.written _ _ _ _ _ _ _ _ _ c.closing_lines_agree.ensures (λ x stands promised quiet. c.at_quiet_world.ensures.picture c.play_piece.new.world x stands quiet promised)
+    (returns-in_err-play_piece-clause-output g c)
 
 pub returns-in_err-flush-clause-output : goal.returns-in_err-flush-clause-output
 returns-in_err-flush-clause-output g c =
     let q = c.loop.invariant.scripted in
-    scripted_unflushed g.R.Source.left g.W.Sink.written g.W.Sink.failed _ _ _ _ _ _ _ _ _ _ _
-    (scripted_more g.R.Source.left g.W.Sink.written _ _ _ _ _ _ _ _ _ _ _ _ _ _ q c.in-Ok.ensures.bytes.0 (c.in_ok-play_piece.ensures.played q.plays.rest q.plays.kept q.plays.cut.last))
+    let at_end = g.R.Source.ended c.read_some.new.self in
+    scripted_unflushed g.R.Source.left g.W.Sink.written g.W.Sink.failed g.W.Sink.late at_end c.args.limit _ _ _ _ _ _ _ _ _ _ _ _
+    (scripted_more g.R.Source.left g.W.Sink.written _ _ _ _ _ _ _ _ _ _ _ _ _ _ _ q c.in-Ok.ensures.bytes.0 (piece_some c.in-Ok.given c.read_some.new.buffer c.in-Ok.ensures.bound c.if-given-eq0.false) (c.in_ok-play_piece.ensures.played at_end q.plays.rest q.plays.kept q.plays.cut.last))
     c.from_residual-in_err-flush.ensures.1 c.in_err-flush.ensures.output
+
+pub returns-in_err-flush-clause-picture : goal.returns-in_err-flush-clause-picture
+returns-in_err-flush-clause-picture g c =
+    simulated_pictures g.R.Source.left g.W.Sink.written _ _ _ _ _ _ _ _ _ c.closing_lines_agree.ensures (λ x stands promised quiet. c.at_quiet_world.ensures.picture c.play_piece.new.world x stands quiet promised)
+    (returns-in_err-flush-clause-output g c)

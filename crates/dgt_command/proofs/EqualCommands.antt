@@ -1,0 +1,152 @@
+-- What the derived `==` says of commands and of events. Different cases are told apart by a number a case.
+use Rattle.std.proofs.Common.{◌≡◌, ℕ, nat_eq, refl, ap, List, [], false}
+use Rattle.std.specs.Prelude.{◌↔◌, IsTrue, Option, Some, None, IfSome}
+use Rattle.std.specs.Option.{option_eq, option_map}
+use Rattle.dgt_command.specs.declared.command.Command.TheVariants as command
+use Rattle.dgt_command.specs.declared.command.CommandEvent.{CommandEvent}
+use Rattle.dgt_command.specs.declared.command.CommandEvent.TheVariants as event
+use Rattle.dgt_command.specs.Content as content
+use Rattle.dgt_command.specs.Content.{ClockContent, CommandContent, EventContent, command_content, event_content}
+use Rattle.dgt_command.specs.Equality.{CommandHasArrays, EqualIsSameReadOf, EventHasArrays, FedHasArrays, fed_seen}
+use Rattle.dgt_command.specs.contracts.command.CommandPartialEq.TheImpl as derived_command
+use Rattle.dgt_command.specs.contracts.command.CommandEventPartialEq.TheImpl as derived_event
+use Rattle.dgt_command.specs.contracts.decoder.CommandFedPartialEq.TheImpl as derived_fed
+use Rattle.dgt_command.proofs.Equal.{both, equal_numbers, equal_bytes, equal_clocks}
+
+-- no test that is false is true
+never : IsTrue false → ⊥
+never t = cc
+
+-- numbers that are not equal are not the same
+apart : (m n : ℕ) → nat_eq m n ≡ false → m ≡ n → ⊥
+apart m n differ e =
+    let same : IsTrue (nat_eq m n) = (equal_numbers m n).1 e in
+    cc
+
+-- the number of a command's case
+abbrev case_of : CommandContent → ℕ
+case_of content.Reset = 0
+case_of content.Clock = 1
+case_of content.Dump = 2
+case_of content.Update = 3
+case_of content.UpdateBoard = 4
+case_of content.UpdateNice = 5
+case_of content.Serial = 6
+case_of content.Trademark = 7
+case_of content.Battery = 8
+case_of content.Version = 9
+case_of (content.ClockMessage message) = 10
+case_of (content.Leds leds) = 11
+
+-- the clock message of a command, and its LED bytes
+abbrev message_of : CommandContent → ClockContent
+message_of (content.ClockMessage message) = message
+message_of _ = content.End
+
+abbrev leds_of : CommandContent → List ℕ
+leds_of (content.Leds leds) = leds
+leds_of _ = []
+
+-- commands of different cases are neither equal nor the same
+differ : (a b : CommandContent) → nat_eq (case_of a) (case_of b) ≡ false → IsTrue false ↔ (a ≡ b)
+differ a b cases = (λ t. absurd (never t), λ e. absurd (apart (case_of a) (case_of b) cases (ap case_of e)))
+
+-- two commands are equal exactly where they say the same
+pub equal_commands : EqualIsSameReadOf CommandHasArrays command_content (derived_command.eq-value).it
+equal_commands command.Reset command.Reset h k = (λ _. refl, λ _. refl)
+equal_commands command.Clock command.Clock h k = (λ _. refl, λ _. refl)
+equal_commands command.Dump command.Dump h k = (λ _. refl, λ _. refl)
+equal_commands command.Update command.Update h k = (λ _. refl, λ _. refl)
+equal_commands command.UpdateBoard command.UpdateBoard h k = (λ _. refl, λ _. refl)
+equal_commands command.UpdateNice command.UpdateNice h k = (λ _. refl, λ _. refl)
+equal_commands command.Serial command.Serial h k = (λ _. refl, λ _. refl)
+equal_commands command.Trademark command.Trademark h k = (λ _. refl, λ _. refl)
+equal_commands command.Battery command.Battery h k = (λ _. refl, λ _. refl)
+equal_commands command.Version command.Version h k = (λ _. refl, λ _. refl)
+equal_commands (command.ClockMessage a) (command.ClockMessage b) h k =
+    let same = equal_clocks a b h k in
+    (λ t. ap (λ (message : ClockContent). content.ClockMessage message) (same.0 t), λ e. same.1 (ap message_of e))
+equal_commands (command.Leds a) (command.Leds b) h k =
+    let same = equal_bytes a.bytes.now b.bytes.now in
+    (λ t. ap (λ (leds : List ℕ). content.Leds leds) (same.0 t), λ e. same.1 (ap leds_of e))
+equal_commands command.Reset b h k = differ content.Reset (command_content b) refl
+equal_commands command.Clock b h k = differ content.Clock (command_content b) refl
+equal_commands command.Dump b h k = differ content.Dump (command_content b) refl
+equal_commands command.Update b h k = differ content.Update (command_content b) refl
+equal_commands command.UpdateBoard b h k = differ content.UpdateBoard (command_content b) refl
+equal_commands command.UpdateNice b h k = differ content.UpdateNice (command_content b) refl
+equal_commands command.Serial b h k = differ content.Serial (command_content b) refl
+equal_commands command.Trademark b h k = differ content.Trademark (command_content b) refl
+equal_commands command.Battery b h k = differ content.Battery (command_content b) refl
+equal_commands command.Version b h k = differ content.Version (command_content b) refl
+equal_commands (command.ClockMessage a) b h k = differ (command_content (command.ClockMessage a)) (command_content b) refl
+equal_commands (command.Leds a) b h k = differ (command_content (command.Leds a)) (command_content b) refl
+
+-- the number of an event's case
+abbrev event_case_of : EventContent → ℕ
+event_case_of (content.Read read) = 0
+event_case_of content.BadSize = 1
+event_case_of content.BadStart = 2
+event_case_of content.BadEnd = 3
+event_case_of (content.Stray byte) = 4
+
+-- the command that an event tells, and the byte of a stray one
+abbrev read_of : EventContent → CommandContent
+read_of (content.Read read) = read
+read_of _ = content.Reset
+
+abbrev byte_of : EventContent → ℕ
+byte_of (content.Stray byte) = byte
+byte_of _ = 0
+
+-- events of different cases are neither equal nor the same
+differ_events : (a b : EventContent) → nat_eq (event_case_of a) (event_case_of b) ≡ false → IsTrue false ↔ (a ≡ b)
+differ_events a b cases = (λ t. absurd (never t), λ e. absurd (apart (event_case_of a) (event_case_of b) cases (ap event_case_of e)))
+
+-- two events are equal exactly where they tell the same
+pub equal_events : EqualIsSameReadOf EventHasArrays event_content (derived_event.eq-value).it
+equal_events (event.Command a) (event.Command b) h k =
+    let same = equal_commands a b h k in
+    (λ t. ap (λ (read : CommandContent). content.Read read) (same.0 t), λ e. same.1 (ap read_of e))
+equal_events event.BadSize event.BadSize h k = (λ _. refl, λ _. refl)
+equal_events event.BadStart event.BadStart h k = (λ _. refl, λ _. refl)
+equal_events event.BadEnd event.BadEnd h k = (λ _. refl, λ _. refl)
+equal_events (event.Stray a) (event.Stray b) h k =
+    let same = equal_numbers a b in
+    (λ t. ap (λ (byte : ℕ). content.Stray byte) (same.0 t), λ e. same.1 (ap byte_of e))
+equal_events (event.Command a) b h k = differ_events (event_content (event.Command a)) (event_content b) refl
+equal_events event.BadSize b h k = differ_events content.BadSize (event_content b) refl
+equal_events event.BadStart b h k = differ_events content.BadStart (event_content b) refl
+equal_events event.BadEnd b h k = differ_events content.BadEnd (event_content b) refl
+equal_events (event.Stray a) b h k = differ_events (event_content (event.Stray a)) (event_content b) refl
+
+-- the event that is there
+abbrev there : Option EventContent → EventContent
+there (Some told) = told
+there None = content.BadSize
+
+-- whether an event is there, as a number
+abbrev how_many : Option EventContent → ℕ
+how_many (Some told) = 1
+how_many None = 0
+
+-- two events, or none, are equal exactly where they tell the same
+equal_found : (a b : Option CommandEvent) → IfSome a EventHasArrays → IfSome b EventHasArrays → IsTrue (option_eq (derived_event.eq-value).it a b) ↔ (option_map event_content a ≡ option_map event_content b)
+equal_found (Some a) (Some b) h k =
+    let same = equal_events a b h k in
+    (λ t. ap (λ (told : EventContent). Some told) (same.0 t), λ e. same.1 (ap there e))
+equal_found None None h k = (λ _. refl, λ _. refl)
+equal_found (Some a) None h k = (λ t. absurd (never t), λ e. absurd (apart 1 0 refl (ap how_many e)))
+equal_found None (Some b) h k = (λ t. absurd (never t), λ e. absurd (apart 0 1 refl (ap how_many e)))
+
+-- two answers are equal exactly where they use and tell the same
+pub equal_fed : EqualIsSameReadOf FedHasArrays fed_seen (derived_fed.eq-value).it
+equal_fed a b h k =
+    let same = both _ _ (equal_numbers a.used b.used) (equal_found a.event b.event h k) in
+    (λ t. let found = same.0 t in λ i. (found.0 i, found.1 i), λ e. same.1 (ap used_of e, ap event_of e))
+  where
+    used_of : ℕ × Option EventContent → ℕ
+    used_of seen = seen.0
+
+    event_of : ℕ × Option EventContent → Option EventContent
+    event_of seen = seen.1

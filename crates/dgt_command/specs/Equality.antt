@@ -1,0 +1,37 @@
+-- What `==` says of commands. An array is a list here, so it is said of those that are as long as their types say.
+use Rattle.std.specs.Prelude.{◌≡◌, ◌↔◌, ℕ, length, Bool, IsTrue, Option, IfSome}
+use Rattle.std.specs.Option.{option_map}
+use Rattle.dgt_command.specs.declared.clock.ClockCommand.{ClockCommand}
+use Rattle.dgt_command.specs.declared.clock.ClockCommand.TheVariants as clock
+use Rattle.dgt_command.specs.declared.command.Command.{Command}
+use Rattle.dgt_command.specs.declared.command.Command.TheVariants as command
+use Rattle.dgt_command.specs.declared.command.CommandEvent.{CommandEvent}
+use Rattle.dgt_command.specs.declared.command.CommandEvent.TheVariants as event
+use Rattle.dgt_command.specs.declared.decoder.CommandFed.{CommandFed}
+use Rattle.dgt_command.specs.Content.{EventContent, event_content}
+
+-- two values that are as they should be are equal exactly where a clause reads the same of them
+abbrev pub EqualIsSameReadOf : {T Read : Type 0} → (T → Type 0) → (T → Read) → (T → T → Bool) → Type 0
+EqualIsSameReadOf Holds read eq = (a b : _) → Holds a → Holds b → IsTrue (eq a b) ↔ (read a ≡ read b)
+
+-- a display has six places, and the times that a clock is set to have three bytes each
+abbrev pub HasArrays : ClockCommand → Type 0
+HasArrays (clock.Display places dots beep) = length places ≡ 6
+HasArrays (clock.SetAndRun left right control) = (length left ≡ 3) × (length right ≡ 3)
+HasArrays _ = Unit {0}
+
+-- the same of the clock message that a command, an event or an answer has
+abbrev pub CommandHasArrays : Command → Type 0
+CommandHasArrays (command.ClockMessage message) = HasArrays message
+CommandHasArrays _ = Unit {0}
+
+abbrev pub EventHasArrays : CommandEvent → Type 0
+EventHasArrays (event.Command read) = CommandHasArrays read
+EventHasArrays _ = Unit {0}
+
+abbrev pub FedHasArrays : CommandFed → Type 0
+FedHasArrays fed = IfSome fed.event EventHasArrays
+
+-- how many bytes were used, and the event
+abbrev pub fed_seen : CommandFed → ℕ × Option EventContent
+fed_seen fed = (fed.used, option_map event_content fed.event)

@@ -1,0 +1,96 @@
+-- What the derived `==` says of lists, of clocks and of messages.
+use Rattle.std.proofs.Common.{◌≡◌, ℕ, nat_eq, refl, ap, rules, arith, List, [], ◌∷◌, Bool, true, false, ◌&&◌, map}
+use Rattle.std.specs.Prelude.{◌↔◌, IsTrue}
+use Rattle.std.proofs.lemmas.Slice.Eq.{slice_eq-Decides}
+use Rattle.std.proofs.lemmas.Grind.{common_steps}
+use lib.Pointwise.{pointwise}
+use Rattle.dgt_values.specs.Equality.{EqualIsSameRead}
+use Rattle.dgt_values.specs.Bytes.{number}
+use Rattle.dgt_message.specs.declared.clock.Clock.TheVariants as clock_variants
+use Rattle.dgt_message.specs.declared.message.Message.TheVariants.{Dump, Field, Times, NoClock, Ack, Serial, Trademark, Version, Battery, Other}
+use Rattle.dgt_message.specs.Clock.{Absence}
+use Rattle.dgt_message.specs.ClockState.{clock_seen}
+use Rattle.dgt_message.specs.Content.{content}
+use Rattle.dgt_message.specs.Values.{absence_seen, times_seen}
+use Rattle.dgt_values.specs.contracts.bytes.SevenBitPartialEq.TheImpl as byte
+use Rattle.dgt_values.specs.contracts.pieces.PiecePartialEq.TheImpl as piece
+use Rattle.dgt_message.specs.contracts.clock.NoClockPartialEq.TheImpl as absence
+use Rattle.dgt_message.specs.contracts.clock.TimesPartialEq.TheImpl as times
+use Rattle.dgt_message.specs.contracts.clock.ClockPartialEq.TheImpl as clock
+use Rattle.dgt_message.specs.contracts.message.MessagePartialEq.TheImpl as message
+
+-- two tests are both true exactly where each is
+both : {P Q : Type 0} → (p q : Bool) → IsTrue p ↔ P → IsTrue q ↔ Q → IsTrue (p && q) ↔ (P × Q)
+both true q p_is q_is = (λ t. (p_is.0 refl, q_is.0 t), λ h. q_is.1 h.1)
+both false q p_is q_is = (λ t. cc, λ h. p_is.1 h.0)
+
+-- two numbers are equal exactly where they are the same
+equal_numbers : (m n : ℕ) → IsTrue (nat_eq m n) ↔ (m ≡ n)
+equal_numbers m n = search rules
+
+-- lists are equal exactly where the same is read of them, if that holds of their elements
+pub equal_lists : {T Read : Type 0} → (read : T → Read) (eq : T → T → Bool) → EqualIsSameRead read eq → EqualIsSameRead (map read) (pointwise eq)
+equal_lists read eq same [] [] = (λ _. refl, λ _. refl)
+equal_lists read eq same [] (y ∷ ys) = (λ t. cc, λ e. cc)
+equal_lists read eq same (x ∷ xs) [] = (λ t. cc, λ e. cc)
+equal_lists read eq same (x ∷ xs) (y ∷ ys) =
+    let each = both (eq x y) (pointwise eq xs ys) (same x y) (equal_lists read eq same xs ys) in
+    (λ t. let found = each.0 t in let first = found.0 in let rest = found.1 in cc, λ e. each.1 (cc, cc))
+
+-- the times of two clocks are equal exactly where they are the same
+pub equal_times : EqualIsSameRead times_seen (times.eq-value).it
+equal_times a b = grind (arith, common_steps)
+
+-- boards without a clock are equal exactly where they tell the same bytes and status
+pub equal_absences : EqualIsSameRead absence_seen (absence.eq-value).it
+equal_absences a b =
+    let same = both _ _ (equal_lists number (byte.eq-value).it (search rules) a.raw b.raw) (equal_numbers a.status.code.value b.status.code.value) in
+    (λ t. let found = same.0 t in let raw = found.0 in let status = found.1 in cc, λ e. same.1 (ap raw_of e, ap status_of e))
+  where
+    raw_of : Absence → List ℕ
+    raw_of seen = seen.raw
+
+    status_of : Absence → ℕ
+    status_of seen = seen.status
+
+-- two clocks are equal exactly where they tell the same
+pub equal_clocks : EqualIsSameRead clock_seen (clock.eq-value).it
+equal_clocks (clock_variants.Times a) (clock_variants.Times b) =
+    let same = equal_times a b in
+    (λ t. let seen = same.0 t in cc, λ e. same.1 cc)
+equal_clocks (clock_variants.NoClock a) (clock_variants.NoClock b) =
+    let same = equal_absences a b in
+    (λ t. let seen = same.0 t in cc, λ e. same.1 cc)
+equal_clocks (clock_variants.Times a) _ = (λ t. cc, λ e. cc)
+equal_clocks _ _ = (λ t. cc, λ e. cc)
+
+-- two messages are equal exactly where they say the same
+pub equal_messages : EqualIsSameRead content (message.eq-value).it
+equal_messages (Dump a) (Dump b) =
+    let same = slice_eq-Decides {E = (piece.eq-value).it} (search rules) a.pieces b.pieces _ refl in
+    (λ t. let pieces = same.0 t in cc, λ e. same.1 cc)
+equal_messages (Field square first) (Field other second) = search rules
+equal_messages (Times a) (Times b) =
+    let same = equal_times a b in
+    (λ t. let seen = same.0 t in cc, λ e. same.1 cc)
+equal_messages (NoClock a) (NoClock b) =
+    let same = equal_absences a b in
+    (λ t. let seen = same.0 t in cc, λ e. same.1 cc)
+equal_messages (Ack a) (Ack b) = search rules
+equal_messages (Serial a) (Serial b) =
+    let same = equal_lists number (byte.eq-value).it (search rules) a b in
+    (λ t. let bytes = same.0 t in cc, λ e. same.1 cc)
+equal_messages (Trademark a) (Trademark b) = search rules
+equal_messages (Version main sub) (Version mains subs) = search rules
+equal_messages (Battery a) (Battery b) = search rules
+equal_messages (Other code a) (Other codes b) = search rules
+equal_messages (Dump a) _ = (λ t. cc, λ e. cc)
+equal_messages (Field square piece) _ = (λ t. cc, λ e. cc)
+equal_messages (Times a) _ = (λ t. cc, λ e. cc)
+equal_messages (NoClock a) _ = (λ t. cc, λ e. cc)
+equal_messages (Ack a) _ = (λ t. cc, λ e. cc)
+equal_messages (Serial a) _ = (λ t. cc, λ e. cc)
+equal_messages (Trademark a) _ = (λ t. cc, λ e. cc)
+equal_messages (Version main sub) _ = (λ t. cc, λ e. cc)
+equal_messages (Battery a) _ = (λ t. cc, λ e. cc)
+equal_messages (Other code a) _ = (λ t. cc, λ e. cc)

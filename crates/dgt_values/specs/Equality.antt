@@ -1,0 +1,10 @@
+-- What `==` says of two values.
+use Rattle.std.specs.Prelude.{◌≡◌, ◌↔◌, Bool, IsTrue}
+
+-- two values are equal exactly where they are the same
+abbrev pub EqualIsSame : {T : Type 0} → (T → T → Bool) → Type 0
+EqualIsSame eq = (a b : _) → IsTrue (eq a b) ↔ (a ≡ b)
+
+-- two values are equal exactly where a clause reads the same of them
+abbrev pub EqualIsSameRead : {T Read : Type 0} → (T → Read) → (T → T → Bool) → Type 0
+EqualIsSameRead read eq = (a b : _) → IsTrue (eq a b) ↔ (read a ≡ read b)
