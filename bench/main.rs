@@ -1,114 +1,98 @@
-//! Times the lines of field messages: by the proved library, and by the same work in plain Rust. Both write to a
-//! writer that only counts bytes, so no system call is timed.
+//! Times the proved library, and beside it the same work in plain Rust. Lines go to a writer that only counts bytes, so
+//! no system call is timed.
 use std::hint::black_box;
-use std::io::{self, Write};
 use std::time::Instant;
+
+mod plain;
 
 // A slice crosses as a pointer and a length.
 unsafe extern "C" {
+    fn dgt_bench_decode(bytes: *const u8, len: usize, most: usize) -> u64;
     fn dgt_bench_monitor(bytes: *const u8, len: usize) -> u64;
     fn dgt_bench_write_event(lines: u64) -> u64;
 }
 
-const LINES: u64 = 2_000_000;
-const LETTERS: &[u8; 16] = b".PRNBKQprnbkqXYZ";
+const LINES: u64 = 200_000;
+const LONGEST: usize = 16383;
+const BACK: [u8; 8] = [8, 9, 10, 12, 11, 10, 9, 8];
 
-struct Counter(u64);
-
-impl Write for Counter {
-    fn write(&mut self, bytes: &[u8]) -> io::Result<usize> {
-        self.0 += bytes.len() as u64;
-        Ok(bytes.len())
-    }
-
-    fn flush(&mut self) -> io::Result<()> {
-        Ok(())
-    }
+fn message(code: u8, body: &[u8]) -> Vec<u8> {
+    let total = body.len() + 3;
+    let mut bytes = vec![0x80 | code, (total >> 7) as u8, (total & 0x7f) as u8];
+    bytes.extend_from_slice(body);
+    bytes
 }
 
-fn write_field(out: &mut impl Write, offset: u64, square: u8, piece: u8) -> io::Result<()> {
-    let (file, rank) = ((b'a' + square % 8) as char, 8 - square / 8);
-    writeln!(out, "{offset:08} field {file}{rank} {}", LETTERS[piece as usize] as char)
-}
-
-/// The event that a byte of the line makes is written; a message without a line here is passed over.
-fn plain_monitor(bytes: &[u8], out: &mut impl Write) -> io::Result<()> {
-    let (mut held, mut have, mut offset) = ([0; 16383], 0, 0u64);
-    let mut text = Vec::with_capacity(1024);
-    for piece in bytes.chunks(64) {
-        for &byte in piece {
-            offset += 1;
-            if byte >= 0x80 {
-                if have > 0 {
-                    writeln!(text, "{offset:08} cut {have}")?;
-                }
-                have = 0;
-            } else if have == 0 {
-                writeln!(text, "{offset:08} stray {byte:02x}")?;
-                continue;
-            }
-            held[have] = byte;
-            have += 1;
-            if have < 3 {
-                continue;
-            }
-            match (128 * held[1] as usize + held[2] as usize, &held[..have]) {
-                (0..3, _) => writeln!(text, "{offset:08} badlength")?,
-                (total, _) if have < total => continue,
-                (5, [0x8e, _, _, square @ 0..64, piece @ 0..16]) => write_field(&mut text, offset, *square, *piece)?,
-                _ => {}
-            }
-            have = 0;
-        }
-        out.write_all(&text)?;
-        text.clear();
-    }
-    out.flush()
-}
-
-fn plain_write_event(lines: u64, out: &mut impl Write) -> io::Result<()> {
-    let mut text = Vec::with_capacity(1024);
-    for offset in 0..lines {
-        write_field(&mut text, offset, (offset % 64) as u8, (offset % 16) as u8)?;
-        out.write_all(&text)?;
-        text.clear();
-    }
-    Ok(())
-}
-
-/// The nanoseconds that a line takes, the least of several runs, and how many bytes of text there are.
+/// The microseconds that some work takes, the least of many runs, and its answer.
 fn timed(work: impl Fn() -> u64) -> (f64, u64) {
-    let runs = (0..7).map(|_| {
+    let runs = (0..100).map(|_| {
         let start = Instant::now();
-        let bytes = work();
-        (start.elapsed().as_secs_f64() * 1e9 / LINES as f64, bytes)
+        let answer = work();
+        (start.elapsed().as_secs_f64() * 1e6, answer)
     });
     runs.min_by(|a, b| a.0.total_cmp(&b.0)).unwrap()
 }
 
-fn compare(name: &str, proved: impl Fn() -> u64, plain: impl Fn() -> u64) {
-    let ((proved, bytes), (plain, same)) = (timed(proved), timed(plain));
-    assert_eq!(bytes, same, "{name}: the texts differ");
-    println!("{name}: {proved:.1} ns a line, plain Rust {plain:.1} ns");
+fn compare(name: &str, parts: usize, proved: impl Fn() -> u64, plain: impl Fn() -> u64) {
+    let ((proved, answer), (plain, same)) = (timed(proved), timed(plain));
+    assert_eq!(answer, same, "{name}: the answers differ");
+    let each = |time: f64| time * 1e3 / parts as f64;
+    println!("{name}: {:.1} ns each, plain Rust {:.1} ns, {:.2} times", each(proved), each(plain), proved / plain);
 }
 
-fn counted(work: impl Fn(&mut Counter) -> io::Result<()>) -> u64 {
-    let mut counter = Counter(0);
-    work(&mut counter).unwrap();
-    counter.0
+fn compare_decode(name: &str, parts: usize, bytes: &[u8], most: usize) {
+    compare(
+        name,
+        parts,
+        || unsafe { dgt_bench_decode(black_box(bytes.as_ptr()), bytes.len(), most) },
+        || plain::decode(black_box(bytes), most),
+    );
+}
+
+fn compare_monitor(name: &str, parts: usize, bytes: &[u8]) {
+    compare(
+        name,
+        parts,
+        || unsafe { dgt_bench_monitor(black_box(bytes.as_ptr()), bytes.len()) },
+        || plain::monitor(black_box(bytes)),
+    );
+}
+
+/// Bytes that look random, the same in each run. None is zero, so no short message comes whole.
+fn garbage(len: usize) -> Vec<u8> {
+    let mut state = 1u64;
+    let step = |_| {
+        state = state.wrapping_mul(6364136223846793005).wrapping_add(1442695040888963407);
+        ((state >> 56) as u8).max(1)
+    };
+    (0..len).map(step).collect()
 }
 
 fn main() {
-    let field = |number: u64| [0x8e, 0, 5, (number % 64) as u8, (number % 16) as u8];
-    let fields: Vec<u8> = (0..LINES).flat_map(field).collect();
+    let fields: Vec<u8> = (0..LINES).flat_map(|n| message(0x0e, &[(n % 64) as u8, (n % 16) as u8])).collect();
+    let squares = [BACK, [7; 8], [0; 8], [0; 8], [0; 8], [0; 8], [1; 8], BACK.map(|piece| piece - 6)].concat();
+    let dumps = message(0x06, &squares).repeat(10_000);
+    let longest = message(0x30, &[1; LONGEST - 3]).repeat(200);
+    let noise = garbage(200_000);
+
+    compare_decode("decode, fields", LINES as usize, &fields, 64);
+    compare_decode("decode, dumps", 10_000, &dumps, 64);
+    compare_decode("decode, longest messages", 200, &longest, 4096);
+    compare_decode("decode, random bytes", noise.len(), &noise, 64);
     compare(
-        "monitor",
-        || unsafe { dgt_bench_monitor(black_box(fields.as_ptr()), fields.len()) },
-        || counted(|out| plain_monitor(black_box(&fields), out)),
+        "decode, longest messages in whole pieces, beside memcpy",
+        200,
+        || unsafe { dgt_bench_decode(black_box(longest.as_ptr()), longest.len(), LONGEST) },
+        || plain::copies(black_box(&longest), LONGEST),
     );
+    compare_monitor("monitor, fields", LINES as usize, &fields);
+    compare_monitor("monitor, dumps", 10_000, &dumps);
+    compare_monitor("monitor, longest messages", 200, &longest);
+    compare_monitor("monitor, random bytes", noise.len(), &noise);
     compare(
         "write_event",
+        LINES as usize,
         || unsafe { dgt_bench_write_event(black_box(LINES)) },
-        || counted(|out| plain_write_event(black_box(LINES), out)),
+        || plain::write_events(black_box(LINES)),
     );
 }

@@ -15,3 +15,4 @@ pub mod AnyPieces
 pub mod Cutting
 pub mod Chunks
 pub mod Runs
+pub mod Equal

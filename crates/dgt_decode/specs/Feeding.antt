@@ -3,6 +3,7 @@
 use Rattle.std.specs.Prelude.{◌≡◌, ℕ, ◌+◌, ◌<◌, ◌≤◌, List, [], ◌∷◌, ◌++◌, length, drop, take, slice_index, Option, Some, None}
 use Rattle.dgt_values.specs.Bytes.{number}
 use Rattle.dgt_message.specs.Content.{content}
+use Rattle.dgt_decode.specs.declared.decoder.Fed.{Fed}
 use Rattle.dgt_decode.specs.declared.event.Event as code
 use Rattle.dgt_decode.specs.declared.event.Event.TheVariants as code_events
 use Rattle.dgt_decode.specs.declared.event.Found.{Found}
@@ -29,6 +30,10 @@ event_content (code_events.Stray byte) = Stray byte
 abbrev pub event_content_if_any : Option code.Event → Option Event
 event_content_if_any None = None
 event_content_if_any (Some event) = Some (event_content event)
+
+-- an answer to a piece
+abbrev pub fed_content : Fed → ℕ × Option Event
+fed_content fed = (fed.used, event_content_if_any fed.event)
 
 -- what was found, where these bytes are kept
 abbrev pub found_in : List ℕ → Found → Event

@@ -1,9 +1,32 @@
 //! Laws of the bytes that a board sends, over lists of bytes as such. Nothing here runs: each function
 //! stands for the fact that its contract states.
 
+ghost use Rattle.std.specs.Prelude.{◌≡◌};
+ghost use Rattle.dgt_values.specs.Equality.{EqualIsSame, EqualIsSameRead};
+ghost use Rattle.dgt_decode.specs.Feeding.{event_content, fed_content};
 ghost use Rattle.dgt_decode.specs.Laws.{EventsAppend, InAnyPieces, OneCut, OneEvent, OneFirstEvent, OpenAppend, OpenIsShort, QuietHeld, Recovery, SpellingInPieces, SpellingIsRead};
 
+use crate::decoder::{Fed, Unfinished};
+use crate::event::{Event, Found};
+use crate::framer::{Advanced, MAX_TOTAL};
 use dgt_message::laws as messages;
+
+/// The limits by their numbers.
+pub fn limits()
+    ensures { MAX_TOTAL ≡ 16383 }
+{}
+
+/// Two values are equal, as `==` compares them, exactly where they are the same. Of an event what it tells counts,
+/// and not where its bytes lie.
+pub fn equal_is_same()
+    ensures unfinished { EqualIsSame ⟦<Unfinished as PartialEq>⟧.eq }
+    ensures found { EqualIsSame ⟦<Found as PartialEq>⟧.eq }
+    ensures advanced { EqualIsSame ⟦<Advanced as PartialEq>⟧.eq }
+    ensures event { EqualIsSameRead event_content ⟦<Event<'static> as PartialEq>⟧.eq }
+    ensures fed { EqualIsSameRead fed_content ⟦<Fed<'static> as PartialEq>⟧.eq }
+{
+    messages::equal_is_same();
+}
 
 /// Cut before each byte with a set top bit, a list is a seven-bit lead and segments, and no other way of
 /// dividing it makes such parts.

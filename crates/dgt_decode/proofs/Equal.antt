@@ -1,0 +1,24 @@
+-- What the derived `==` says of events and of answers to a piece.
+use Rattle.std.proofs.Common.{rules}
+use Rattle.dgt_values.specs.Equality.{EqualIsSameRead}
+use Rattle.dgt_message.specs.Content.{content}
+use Rattle.dgt_message.specs.contracts.message.MessagePartialEq.TheImpl as message
+use Rattle.dgt_decode.specs.declared.event.Event.TheVariants as code_events
+use Rattle.dgt_decode.specs.Feeding.{event_content}
+use Rattle.dgt_decode.specs.contracts.event.EventPartialEq.TheImpl as event
+
+module _ (equal_messages : EqualIsSameRead content (message.eq-value).it) where
+  -- two events are equal exactly where they tell the same
+  pub equal_events : EqualIsSameRead event_content (event.eq-value).it
+  equal_events (code_events.Message a) (code_events.Message b) =
+      let same = equal_messages a b in
+      (λ t. let said = same.0 t in cc, λ e. same.1 cc)
+  equal_events (code_events.Refused code fault) (code_events.Refused other second) = search rules
+  equal_events (code_events.Cut have) (code_events.Cut other) = search rules
+  equal_events code_events.BadLength code_events.BadLength = search rules
+  equal_events (code_events.Stray byte) (code_events.Stray other) = search rules
+  equal_events (code_events.Message a) _ = (λ t. cc, λ e. cc)
+  equal_events (code_events.Refused code fault) _ = (λ t. cc, λ e. cc)
+  equal_events (code_events.Cut have) _ = (λ t. cc, λ e. cc)
+  equal_events code_events.BadLength _ = (λ t. cc, λ e. cc)
+  equal_events (code_events.Stray byte) _ = (λ t. cc, λ e. cc)
