@@ -1,33 +1,37 @@
--- What has been moved out of a line, byte by byte.
-use Rattle.std.proofs.Common.{◌≡◌, refl, sym, ap, ◌∙◌, ◌⊎◌, inl, inr, ℕ, ◌+◌, ◌<◌, ◌≤◌, List, [], ◌∷◌, ◌++◌, length, take, drop, false, IsTrue, arith, drop-cons, append_assoc}
+-- What has been moved out of a line, some bytes at a time.
+use Rattle.std.proofs.Common.{◌≡◌, refl, sym, subst, ap, ◌∙◌, ◌⊎◌, inl, inr, ℕ, ◌+◌, ◌-◌, ◌<◌, ◌≤◌, List, [], ◌∷◌, ◌++◌, Option, Some, None, length, take, drop, get_or, suc, false, IsTrue, IfSome, IfNone, arith, drop-cons, append_assoc}
 use Rattle.std.specs.Prelude.{nat_le}
+use Rattle.std.proofs.Math.Seq.{take-add}
 use Rattle.std.proofs.lemmas.Bool.{lt-leb}
 use Rattle.std.proofs.lemmas.Bool.Decides.{leb_tells}
-use Rattle.std.proofs.lemmas.List.{drop-drop, take_more}
+use Rattle.std.proofs.lemmas.List.{drop-drop, length-drop, length-take, length-take-le, take-take, take-append-drop, take_all}
 use Rattle.dgt_command.specs.Content.{EventContent}
 use Rattle.dgt_command.specs.Laws.{DivisionsAppend}
+use Rattle.dgt_command.specs.Words.{IsPartial, IsWord}
 use Rattle.dgt_board.specs.State.{BoardState}
 use Rattle.dgt_board.specs.Effect.{effect, effects}
-use Rattle.dgt_board.specs.View.{BoardView, HasTaken}
+use Rattle.dgt_board.specs.View.{BoardView, HasTaken, after_bytes}
 use Rattle.dgt_host.specs.Host.{HostView, host_after}
 use Rattle.dgt_host.specs.Laws.{HeardInPieces}
 use Rattle.dgt_link.specs.Line.{LineContents, line_of, without_first}
+use Rattle.dgt_link.specs.Moving.{StaysOpen}
 use Rattle.dgt_link.specs.Step.{Delivers, is_full}
 
--- the first of the bytes that are left is the next one
-next_byte : (bytes : List ℕ) (i : ℕ) → i < length bytes → take (i + 1) bytes ≡ take i bytes ++ take 1 (drop i bytes)
-next_byte bytes i within = take_more bytes i 0 within ∙ ap (λ (rest : List ℕ). take i bytes ++ take 1 rest) (sym (drop-cons bytes i 0 within))
-
-left_on : (line now left : LineContents) (i : ℕ) → now ≡ without_first line i → left ≡ without_first now 1 → left ≡ without_first line (i + 1)
-left_on line now left i e f =
-    f ∙ ap (λ (before : LineContents). without_first before 1) e ∙ ap (λ (bytes : List ℕ). line_of bytes line.capacity) (drop-drop 1 i line.bytes ∙ ap (λ (n : ℕ). drop n line.bytes) (omega arith))
-
-less_or_same : (a b : ℕ) → a < b + 1 → (a < b) ⊎ (a ≡ b)
-less_or_same a b h = elim (leb_tells b a) [ inl most ↦ inr (omega (arith, h, most.1)) | inr less ↦ inl less.1 ]
+left_on : (line now left : LineContents) (i n : ℕ) → now ≡ without_first line i → left ≡ without_first now n → left ≡ without_first line (i + n)
+left_on line now left i n e f =
+    f ∙ ap (λ (before : LineContents). without_first before n) e ∙ ap (λ (bytes : List ℕ). line_of bytes line.capacity) (drop-drop n i line.bytes)
 
 effects-append : (board : BoardState) (events more : List EventContent) → effects board (events ++ more) ≡ effects (effects board events) more
 effects-append board [] more = refl
 effects-append board (event ∷ events) more = effects-append (effect board event) events more
+
+-- bytes of a piece of the front are bytes of the line
+pub front_bytes : (bytes front : List ℕ) (k used : ℕ) → front ≡ take (length front) bytes → used ≤ length (take k front) → take used (take k front) ≡ take used bytes
+front_bytes bytes front k used is within =
+    let short = length-take k front in
+    let in_piece : used ≤ k = omega (arith, short, within) in
+    let in_front : used ≤ length front = omega (arith, short, within) in
+    take-take used k front in_piece ∙ ap (λ (l : List ℕ). take used l) is ∙ take-take used (length front) bytes in_front
 
 -- ---- the board takes
 
@@ -39,6 +43,45 @@ taken_on append before between after bytes more first next =
       divided = rw (← append_assoc before.partial bytes more) (append (before.partial ++ bytes) more first.events next.events between.partial after.partial first.divided next.divided);
       state = next.state ∙ ap (λ (board : BoardState). effects board next.events) first.state ∙ sym (effects-append before.state first.events next.events);
     }
+
+not_full : (n : ℕ) → n < 8 → nat_le 8 n ≡ false
+not_full n h = lt-leb 8 n h
+
+-- bytes behind others, cut before one of them
+cut_bytes : (before bytes : List ℕ) (n : ℕ) → n < length bytes → before ++ bytes ≡ (before ++ take n bytes) ++ (get_or bytes n 0 ∷ drop (suc n) bytes)
+cut_bytes before bytes n within =
+    ap (λ (l : List ℕ). before ++ l) (sym (take-append-drop n bytes) ∙ ap (λ (l : List ℕ). take n bytes ++ l) (drop-cons bytes n 0 within))
+    ∙ sym (append_assoc before (take n bytes) (get_or bytes n 0 ∷ drop (suc n) bytes))
+
+-- a proper prefix of a word
+word_front : (event : EventContent) (before bytes : List ℕ) (n : ℕ) → n < length bytes → IsWord event (before ++ bytes) → IsPartial (before ++ take n bytes)
+word_front event before bytes n within word =
+    record { event = event; next = get_or bytes n 0; more = drop (suc n) bytes; word = subst (IsWord event) (cut_bytes before bytes n within) word }
+
+-- a prefix of a proper prefix
+partial_front : (before bytes : List ℕ) (n : ℕ) → n < length bytes → IsPartial (before ++ bytes) → IsPartial (before ++ take n bytes)
+partial_front before bytes n within part =
+    record {
+      event = part.event;
+      next = get_or bytes n 0;
+      more = drop (suc n) bytes ++ (part.next ∷ part.more);
+      word = subst (IsWord part.event)
+          (ap (λ (l : List ℕ). l ++ (part.next ∷ part.more)) (cut_bytes before bytes n within) ∙ append_assoc (before ++ take n bytes) (get_or bytes n 0 ∷ drop (suc n) bytes) (part.next ∷ part.more))
+          part.word;
+    }
+
+-- with bytes that end no word a board owes no more
+stays : (board : BoardView) (bytes : List ℕ) → length board.state.owed < 8 → IsPartial (board.partial ++ bytes) → (between : BoardView) × HasTaken board bytes between × (is_full between.state ≡ false)
+stays board bytes room part = (after_bytes board bytes None, record { events = []; divided = (refl, part); state = refl }, not_full (length board.state.owed) room)
+
+-- bytes of which only the last may end a word
+pub stays_open : {E : Type 0} (content : E → EventContent) (board : BoardView) (bytes piece : List ℕ) (used : ℕ) (event : Option E) → take used piece ≡ take used bytes → length board.state.owed < 8
+    → IfSome event (λ e. IsWord (content e) (board.partial ++ take used piece)) → IfNone event ((used ≡ length piece) × IsPartial (board.partial ++ piece)) → StaysOpen board (take used bytes)
+stays_open content board bytes piece used (Some e) same room word part =
+    λ fewer some less. stays board (take fewer (take used bytes)) room (word_front (content e) board.partial (take used bytes) fewer less (subst (λ (l : List ℕ). IsWord (content e) (board.partial ++ l)) same word))
+stays_open content board bytes piece used None same room word part =
+    let whole : piece ≡ take used bytes = sym (take_all used piece (omega (arith, part.0))) ∙ same in
+    λ fewer some less. stays board (take fewer (take used bytes)) room (partial_front board.partial (take used bytes) fewer less (subst (λ (l : List ℕ). IsPartial (board.partial ++ l)) whole part.1))
 
 -- the board as it was, or as these bytes left it
 abbrev HasTakenAny : BoardView → List ℕ → ℕ → BoardView → Type 0
@@ -54,29 +97,61 @@ pub record IsTaking (before : BoardView) (line : LineContents) (moved : ℕ) (no
 pub taking_begins : (before : BoardView) (line : LineContents) → IsTaking before line 0 before line
 taking_begins before line = record { within = omega arith; taken = inl (refl, refl); left_is = refl; earlier = λ fewer some less. absurd (omega (arith, some, less)) }
 
-not_full : (n : ℕ) → n < 8 → nat_le 8 n ≡ false
-not_full n h = lt-leb 8 n h
-
 some_taken : (before now : BoardView) (bytes : List ℕ) (moved : ℕ) → 0 < moved → HasTakenAny before bytes moved now → HasTaken before (take moved bytes) now
 some_taken before now bytes moved some (inl (none, same)) = absurd (omega (arith, some, none))
 some_taken before now bytes moved some (inr taken) = taken.1
 
-taken_more : DivisionsAppend → (before now new : BoardView) (bytes : List ℕ) (moved : ℕ) → moved < length bytes → HasTakenAny before bytes moved now → HasTaken now (take 1 (drop moved bytes)) new → HasTaken before (take (moved + 1) bytes) new
-taken_more append before now new bytes moved within (inl (none, same)) next = rw (next_byte bytes moved within, none) (rw (none, same) at next)
-taken_more append before now new bytes moved within (inr taken) next = rw (next_byte bytes moved within) (taken_on append before now new (take moved bytes) (take 1 (drop moved bytes)) taken.1 next)
+taken_more : DivisionsAppend → (before now new : BoardView) (bytes : List ℕ) (moved n : ℕ) → HasTakenAny before bytes moved now → HasTaken now (take n (drop moved bytes)) new → HasTaken before (take (moved + n) bytes) new
+taken_more append before now new bytes moved n (inl (none, same)) next = rw (take-add moved n bytes, none) (rw (none, same) at next)
+taken_more append before now new bytes moved n (inr taken) next = rw (take-add moved n bytes) (taken_on append before now new (take moved bytes) (take n (drop moved bytes)) taken.1 next)
 
-pub taking_more : DivisionsAppend → (before now new : BoardView) (line left after : LineContents) (moved : ℕ) → IsTaking before line moved now left → moved < length line.bytes → length now.state.owed < 8 → HasTaken now (take 1 left.bytes) new → after ≡ without_first left 1 → IsTaking before line (moved + 1) new after
-taking_more append before now new line left after moved taking within room next e =
+-- fewer than so many before, so many, or more
+data Fewer (fewer moved n : ℕ) : Type 0 where
+  sooner : (less : fewer < moved) → Fewer fewer moved n
+  just : (same : fewer ≡ moved) → Fewer fewer moved n
+  later : (k : ℕ) (some : 0 < k) (less : k < n) (is : fewer ≡ moved + k) → Fewer fewer moved n
+
+fewer_than : (fewer moved n : ℕ) → fewer < moved + n → Fewer fewer moved n
+fewer_than fewer moved n h = elim (leb_tells moved fewer) [
+  | inr less ↦ sooner less.1
+  | inl most ↦ elim (leb_tells fewer moved) [
+    | inl least ↦ just (omega (arith, most.1, least.1))
+    | inr more ↦ later (fewer - moved) (omega (arith, more.1)) (omega (arith, h, more.1)) (omega (arith, more.1))
+  ]
+]
+
+pub taking_more : DivisionsAppend → (board now new : BoardView) (line left after : LineContents) (moved n : ℕ) → IsTaking board line moved now left → 0 < n → moved + n ≤ length line.bytes → length now.state.owed < 8
+    → HasTaken now (take n left.bytes) new → StaysOpen now (take n left.bytes) → after ≡ without_first left n → IsTaking board line (moved + n) new after
+taking_more append board now new line left after moved n taking more within room next calm e =
+    let rest : left.bytes ≡ drop moved line.bytes = ap (λ (l : LineContents). l.bytes) taking.left_is in
+    let next' : HasTaken now (take n (drop moved line.bytes)) new = subst (λ (l : List ℕ). HasTaken now (take n l) new) rest next in
+    let calm' : StaysOpen now (take n (drop moved line.bytes)) = subst (λ (l : List ℕ). StaysOpen now (take n l)) rest calm in
+    let long : length (take n (drop moved line.bytes)) ≡ n = length-take-le n (drop moved line.bytes) (omega (arith, within, length_rest)) in
     record {
-      within = omega (arith, within);
-      taken = inr (omega arith, taken_more append before now new line.bytes moved within taking.taken (rw taking.left_is at next));
-      left_is = left_on line left after moved taking.left_is e;
-      earlier = λ fewer some less. before_that fewer some (less_or_same fewer moved less);
+      within = within;
+      taken = inr (omega (arith, more), taken_more append board now new line.bytes moved n taking.taken next');
+      left_is = left_on line left after moved n taking.left_is e;
+      earlier = λ fewer some less. earlier_than fewer some (fewer_than fewer moved n less) calm' long;
     }
   where
-    before_that : (fewer : ℕ) → 0 < fewer → (fewer < moved) ⊎ (fewer ≡ moved) → (board : BoardView) × HasTaken before (take fewer line.bytes) board × (is_full board.state ≡ false)
-    before_that fewer some (inl less) = taking.earlier fewer some less
-    before_that fewer some (inr same) = (now, rw same (some_taken before now line.bytes moved (rw same at some) taking.taken), not_full (length now.state.owed) room)
+    length_rest : length (drop moved line.bytes) ≡ length line.bytes - moved
+    length_rest = length-drop moved line.bytes
+
+    earlier_than : (fewer : ℕ) → 0 < fewer → Fewer fewer moved n → StaysOpen now (take n (drop moved line.bytes)) → length (take n (drop moved line.bytes)) ≡ n
+        → (between : BoardView) × HasTaken board (take fewer line.bytes) between × (is_full between.state ≡ false)
+    earlier_than fewer some (sooner less) calm long = taking.earlier fewer some less
+    earlier_than fewer some (just same) calm long = (now, rw same (some_taken board now line.bytes moved (rw same at some) taking.taken), not_full (length now.state.owed) room)
+    earlier_than fewer some (later k positive less is) calm long =
+        let found = calm k positive (omega (arith, less, long)) in
+        let bytes : take k (take n (drop moved line.bytes)) ≡ take k (drop moved line.bytes) = take-take k n (drop moved line.bytes) (omega (arith, less)) in (
+          found.0,
+          subst (λ (m : ℕ). HasTaken board (take m line.bytes) found.0) (sym is) (taken_more append board now found.0 line.bytes moved k taking.taken (subst (λ (l : List ℕ). HasTaken now l found.0) bytes found.1)),
+          found.2,
+        )
+
+-- what is left of the line
+pub left_length : (before now : BoardView) (line left : LineContents) (moved : ℕ) → IsTaking before line moved now left → length left.bytes ≡ length line.bytes - moved
+left_length before now line left moved taking = ap (λ (l : LineContents). length l.bytes) taking.left_is ∙ length-drop moved line.bytes
 
 -- a board that is full by now has taken some
 pub some_moved : (before now : BoardView) (line left : LineContents) (moved : ℕ) → IsTaking before line moved now left → length before.state.owed < 8 → 8 ≤ length now.state.owed → 0 < moved
@@ -109,15 +184,15 @@ pub record IsHearing (before : HostView) (line : LineContents) (moved : ℕ) (no
   pub heard : HasHeardAny before line.bytes moved now
   pub left_is : left ≡ without_first line moved
 
-heard_more : HeardInPieces → (before now new : HostView) (bytes : List ℕ) (moved : ℕ) → moved < length bytes → HasHeardAny before bytes moved now → new ≡ host_after now (take 1 (drop moved bytes)) → new ≡ host_after before (take (moved + 1) bytes)
-heard_more pieces before now new bytes moved within (inl (none, same)) next = rw (next_byte bytes moved within, none) (rw (none, same) at next)
-heard_more pieces before now new bytes moved within (inr heard) next =
-    next ∙ ap (λ (host : HostView). host_after host (take 1 (drop moved bytes))) heard
-    ∙ pieces before (take moved bytes) (take 1 (drop moved bytes)) ∙ ap (host_after before) (sym (next_byte bytes moved within))
+heard_more : HeardInPieces → (before now new : HostView) (bytes : List ℕ) (moved n : ℕ) → HasHeardAny before bytes moved now → new ≡ host_after now (take n (drop moved bytes)) → new ≡ host_after before (take (moved + n) bytes)
+heard_more pieces before now new bytes moved n (inl (none, same)) next = rw (take-add moved n bytes, none) (rw (none, same) at next)
+heard_more pieces before now new bytes moved n (inr heard) next =
+    next ∙ ap (λ (host : HostView). host_after host (take n (drop moved bytes))) heard
+    ∙ pieces before (take moved bytes) (take n (drop moved bytes)) ∙ ap (host_after before) (sym (take-add moved n bytes))
 
-pub hearing_more : HeardInPieces → (before now new : HostView) (line left after : LineContents) (moved : ℕ) → IsHearing before line moved now left → moved < length line.bytes → new ≡ host_after now (take 1 left.bytes) → after ≡ without_first left 1 → IsHearing before line (moved + 1) new after
-hearing_more pieces before now new line left after moved hearing within next e =
+pub hearing_more : HeardInPieces → (before now new : HostView) (line left after : LineContents) (moved n : ℕ) → IsHearing before line moved now left → new ≡ host_after now (take n left.bytes) → after ≡ without_first left n → IsHearing before line (moved + n) new after
+hearing_more pieces before now new line left after moved n hearing next e =
     record {
-      heard = inr (heard_more pieces before now new line.bytes moved within hearing.heard (rw hearing.left_is at next));
-      left_is = left_on line left after moved hearing.left_is e;
+      heard = inr (heard_more pieces before now new line.bytes moved n hearing.heard (rw hearing.left_is at next));
+      left_is = left_on line left after moved n hearing.left_is e;
     }

@@ -1,11 +1,11 @@
 -- What each of the moves of bytes answers and leaves, by the end and the line that it touches.
-use Rattle.std.specs.Prelude.{◌≡◌, ℕ, take, Option, Some, None, false, IsTrue}
+use Rattle.std.specs.Prelude.{◌≡◌, ◌<◌, ℕ, List, length, take, Option, Some, None, false, IsTrue}
 use Rattle.dgt_message.specs.Content.{Content}
 use Rattle.dgt_message.specs.Spelling.{Spells, spelling}
 use Rattle.dgt_command.specs.Content.{CommandContent}
 use Rattle.dgt_command.specs.Words.{Spells as SpellsCommand, spelling as command_spelling}
 use Rattle.dgt_board.specs.Sending.{after_sending}
-use Rattle.dgt_board.specs.View.{BoardView}
+use Rattle.dgt_board.specs.View.{BoardView, HasTaken}
 use Rattle.dgt_host.specs.Host.{HostView, host_after}
 use Rattle.dgt_host.specs.Kind.{kind_of_command}
 use Rattle.dgt_host.specs.Sending.{awaits_too_many, host_awaiting}
@@ -40,6 +40,13 @@ SendsInto Outcome.Done (Some message) board line after left =
     × (after ≡ record board { state = after_sending board.state message })
     × (left ≡ with_bytes line (spelling message))
 SendsInto _ _ board line after left = ⊥
+
+-- fewer of these bytes leave the board with room for a reply
+abbrev pub StaysOpen : BoardView → List ℕ → Type 0
+StaysOpen board bytes =
+    (fewer : ℕ) → 0 < fewer → fewer < length bytes
+    → (between : BoardView) × HasTaken board (take fewer bytes) between
+    × (is_full between.state ≡ false)
 
 -- the board takes at most so many bytes of the line
 abbrev pub DeliversDown :

@@ -1,28 +1,24 @@
 //! Lines of bytes, all of whose memory is taken where they are made.
 
-ghost use Rattle.std.specs.Prelude.{◌≡◌, ◌+◌, ◌≤◌, ◌==◌, [], length, slice_get, IfOk};
+ghost use Rattle.std.specs.Prelude.{◌≡◌, ◌+◌, ◌<◌, ◌≤◌, ◌==◌, [], length, take, IfOk};
 ghost use Rattle.dgt_link.specs.Line.{line_of, with_bytes, without_first};
 
+use circular_buffer::HeapCircularBuffer;
 use std::alloc::{AllocError, Global};
 use std::marker::Model;
 
 /// A line of bytes, the oldest first. It never has more bytes than its capacity.
 #[derive(Drop)]
 pub struct Line {
-    bytes: Vec<u8>,
-    capacity: usize,
+    ring: HeapCircularBuffer<u8>,
 }
 
 impl Model for Line {
-    ghost use Rattle.std.specs.Prelude.{◌≤◌, vec_capacity, vec_len};
     ghost use Rattle.dgt_link.specs.Line.{LineContents, line_of};
 
     ghost Value = { LineContents };
 
-    ghost view = { λ line. line_of line.bytes.items line.capacity };
-
-    ghost invariant = { λ line.
-        (vec_len line.bytes ≤ line.capacity) × (line.capacity ≤ vec_capacity line.bytes) };
+    ghost view = { λ line. line_of line.ring.items line.ring.capacity };
 }
 
 impl Line {
@@ -31,8 +27,7 @@ impl Line {
         ensures { IfOk result (λ line. line ≡ line_of [] capacity) }
     {
         Ok(Line {
-            bytes: Vec::with_capacity(alloc, capacity)?,
-            capacity,
+            ring: HeapCircularBuffer::with_capacity(alloc, capacity)?,
         })
     }
 
@@ -41,21 +36,21 @@ impl Line {
         ensures len { result ≡ length self.now.bytes }
         ensures within { result ≤ self.now.capacity }
     {
-        self.bytes.len()
+        self.ring.len()
     }
 
     /// Whether the line has no byte.
     pub fn is_empty(&self) -> bool
         ensures { result ≡ (length self.now.bytes == 0) }
     {
-        self.bytes.is_empty()
+        self.ring.is_empty()
     }
 
     /// How many more bytes the line takes.
     pub fn room(&self) -> usize
         ensures { result + length self.now.bytes ≡ self.now.capacity }
     {
-        self.capacity - self.bytes.len()
+        self.ring.capacity() - self.ring.len()
     }
 
     /// Puts bytes at the end.
@@ -63,18 +58,25 @@ impl Line {
         requires { length self.old.bytes + length bytes.now ≤ self.old.capacity }
         ensures { self.new ≡ with_bytes self.old bytes.now }
     {
-        self.bytes.extend_from_slice(bytes).unwrap();
+        self.ring.fill_from_slice(bytes);
     }
 
-    /// Takes the oldest byte.
-    pub fn pop(&mut self) -> Option<u8>
-        ensures byte { result ≡ slice_get self.old.bytes 0 }
-        ensures rest { self.new ≡ without_first self.old 1 }
+    /// The oldest bytes: as many as stand in memory in a row, and at least one where there is one.
+    pub fn front(&self) -> &[u8]
+        ensures front { result.now ≡ take (length result.now) self.now.bytes }
+        ensures within { length result.now ≤ length self.now.bytes }
+        ensures some { 0 < length self.now.bytes → 0 < length result.now }
     {
-        if self.bytes.is_empty() {
-            return None;
-        }
-        Some(self.bytes.remove(0))
+        let (first, second) = self.ring.as_slices();
+        if first.is_empty() { second } else { first }
+    }
+
+    /// Takes so many of the oldest bytes out.
+    pub fn drop_first(&mut self, count: usize)
+        requires { count ≤ length self.old.bytes }
+        ensures { self.new ≡ without_first self.old count }
+    {
+        self.ring.truncate_front(self.ring.len() - count);
     }
 }
 

@@ -1,12 +1,12 @@
 //! Bytes go into the lines and out of them.
 
-ghost use Rattle.std.specs.Prelude.{◌≡◌, ◌<◌, length, take};
+ghost use Rattle.std.specs.Prelude.{◌≡◌, ◌<◌, ◌≤◌, length, take};
 ghost use Rattle.dgt_command.specs.Content.{command_content};
 ghost use Rattle.dgt_board.specs.Sending.{next_message};
 ghost use Rattle.dgt_board.specs.View.{HasTaken};
 ghost use Rattle.dgt_host.specs.Host.{host_after};
 ghost use Rattle.dgt_link.specs.Line.{without_first};
-ghost use Rattle.dgt_link.specs.Moving.{AsksInto, DeliversDown, DeliversUp, SendsInto};
+ghost use Rattle.dgt_link.specs.Moving.{AsksInto, DeliversDown, DeliversUp, SendsInto, StaysOpen};
 
 use crate::acts::Outcome;
 use crate::line::Line;
@@ -49,27 +49,39 @@ pub fn send_next(board: &mut Board, line: &mut Line) -> Outcome
     }
 }
 
-// The board takes the line's first byte.
-fn take_byte(board: &mut Board, line: &mut Line)
-    requires byte { 0 < length line.old.bytes }
+// The board takes bytes at the front of the line, at most so many, up to the end of a command or a fault.
+// Answers how many.
+fn take_front(board: &mut Board, line: &mut Line, most: usize) -> usize
+    requires most { 0 < most }
+    requires some { 0 < length line.old.bytes }
     requires room { length board.old.state.owed < MAX_OWED }
-    ensures taken { HasTaken board.old (take 1 line.old.bytes) board.new }
-    ensures left { line.new ≡ without_first line.old 1 }
+    ensures some { 0 < result }
+    ensures most { result ≤ most }
+    ensures within { result ≤ length line.old.bytes }
+    ensures taken { HasTaken board.old (take result line.old.bytes) board.new }
+    ensures earlier { StaysOpen board.old (take result line.old.bytes) }
+    ensures left { line.new ≡ without_first line.old result }
 {
-    if let Some(byte) = line.pop() {
-        let _taken = board.take(&[byte]);
-    }
+    let front = line.front();
+    let used = board.take(&front[..front.len().min(most)]).unwrap().used;
+    line.drop_first(used);
+    used
 }
 
-// The host hears the line's first byte.
-fn hear_byte(host: &mut Host, line: &mut Line)
-    requires { 0 < length line.old.bytes }
-    ensures heard { host.new ≡ host_after host.old (take 1 line.old.bytes) }
-    ensures left { line.new ≡ without_first line.old 1 }
+// The host hears bytes at the front of the line, at most so many, up to its next event. Answers how many.
+fn hear_front(host: &mut Host, line: &mut Line, most: usize) -> usize
+    requires most { 0 < most }
+    requires some { 0 < length line.old.bytes }
+    ensures some { 0 < result }
+    ensures most { result ≤ most }
+    ensures within { result ≤ length line.old.bytes }
+    ensures heard { host.new ≡ host_after host.old (take result line.old.bytes) }
+    ensures left { line.new ≡ without_first line.old result }
 {
-    if let Some(byte) = line.pop() {
-        host.hear(&[byte]);
-    }
+    let front = line.front();
+    let used = host.hear(&front[..front.len().min(most)]).used;
+    line.drop_first(used);
+    used
 }
 
 /// The board takes bytes of the line, one by one, until so many are taken, none is left or it owes
@@ -87,8 +99,7 @@ pub fn to_board(board: &mut Board, line: &mut Line, count: usize) -> Outcome
     let most = count.min(line.len());
     let mut moved = 0;
     while moved < most && board.owed_len() < MAX_OWED {
-        take_byte(board, line);
-        moved += 1;
+        moved += take_front(board, line, most - moved);
     }
     Outcome::Done
 }
@@ -101,8 +112,10 @@ pub fn to_host(host: &mut Host, line: &mut Line, count: usize) -> Outcome
     if count == 0 || line.is_empty() {
         return Outcome::Nothing;
     }
-    for _moved in 0..count.min(line.len()) {
-        hear_byte(host, line);
+    let most = count.min(line.len());
+    let mut moved = 0;
+    while moved < most {
+        moved += hear_front(host, line, most - moved);
     }
     Outcome::Done
 }

@@ -248,6 +248,29 @@ fn a_clock_is_told_where_it_differs(rt: HostRuntime) -> Result<(), Fail> {
 }
 
 #[test]
+fn answers_go_round_the_end_of_a_line(rt: HostRuntime) -> Result<(), Fail> {
+    let deliveries: [&[(Act<'_>, Outcome)]; 2] = [
+        &[(ToHost(5), Done)],
+        &[(ToHost(2), Done), (ToHost(3), Done)],
+    ];
+    for delivery in deliveries {
+        let mut world = world_of(rt.alloc(), 67, 257)??;
+        for _ in 0..30 {
+            let question = [
+                (Host(Command::Version), Done),
+                (ToBoard(1), Done),
+                (BoardSend, Done),
+            ];
+            play(&rt, &mut world, &question);
+            play(&rt, &mut world, delivery);
+        }
+        assert!(rt; world.host().awaited().is_empty());
+        assert!(rt; world.quiet());
+    }
+    Ok(())
+}
+
+#[test]
 fn texts_of_faults(rt: HostRuntime) -> Result<(), Fail> {
     for (fault, want) in [
         (WorldFault::LineTooSmall, "a line is too small"),

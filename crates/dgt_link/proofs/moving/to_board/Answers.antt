@@ -1,12 +1,14 @@
 use Rattle.std.proofs.Common.{arith, inr, rules}
-use Rattle.dgt_link.proofs.Moved.{taking_more, taking_ends, some_moved}
+use Rattle.dgt_link.proofs.Moved.{taking_more, taking_ends, some_moved, left_length}
 use Rattle.dgt_link.proofs.moving.to_board.Goals as goal
 
 pub loop-moved-preserved : goal.loop-moved-preserved
 loop-moved-preserved c =
+    let rest = left_length _ _ c.args.line.now c.loop-moved.line c.loop-moved.moved c.loop-moved.invariant.taking in
     record {
       most = omega arith;
-      taking = taking_more c.divisions_append.ensures _ _ _ c.args.line.now c.loop-moved.line _ c.loop-moved.moved c.loop-moved.invariant.taking (omega arith) (omega arith) c.take_byte.ensures.taken c.take_byte.ensures.left;
+      taking = taking_more c.divisions_append.ensures _ _ _ c.args.line.now c.loop-moved.line _ c.loop-moved.moved c.take_front-moved.result c.loop-moved.invariant.taking c.take_front-moved.ensures.some (omega (arith, rest, c.take_front-moved.ensures.within)) (omega arith)
+          c.take_front-moved.ensures.taken c.take_front-moved.ensures.earlier c.take_front-moved.ensures.left;
     }
 
 pub returns-else-owed_len-lt-MAX_OWED : goal.returns-else-owed_len-lt-MAX_OWED
