@@ -6,3 +6,4 @@ pub mod View
 pub mod Kept
 pub mod Due
 pub mod Polls
+pub mod Equality

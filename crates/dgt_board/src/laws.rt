@@ -4,11 +4,13 @@
 ghost use Rattle.std.specs.Prelude.{◌≡◌, ◌↔◌, ◌≤◌, ◌<◌, ◌+◌, ◌++◌, ℕ, List, [], Some, None, length};
 ghost use Rattle.dgt_values.specs.Equality.{EqualIsSame};
 ghost use Rattle.dgt_message.specs.Content.{Content};
+ghost use Rattle.dgt_command.specs.Equality.{EqualIsSameReadOf};
+ghost use Rattle.dgt_board.specs.Equality.{TakenHasArrays, taken_seen};
 ghost use Rattle.dgt_board.specs.State.{BoardState};
 ghost use Rattle.dgt_board.specs.Sending.{after_sending, left_to_send, next_message};
 ghost use Rattle.dgt_board.specs.View.{BoardView, HasTaken};
 
-use crate::{Busy, MAX_KEPT_BODY, MAX_OWED, Mode, Polled, TooLong};
+use crate::{Busy, MAX_KEPT_BODY, MAX_OWED, Mode, Polled, Taken, TooLong};
 
 /// The limits by their numbers.
 pub fn limits()
@@ -16,12 +18,14 @@ pub fn limits()
     ensures kept_body { MAX_KEPT_BODY ≡ 64 }
 {}
 
-/// Two values are equal, as `==` compares them, exactly where they are the same.
+/// Two values are equal, as `==` compares them, exactly where they are the same. Of lent bytes the bytes count, and
+/// not where they lie.
 pub fn equal_is_same()
     ensures mode { EqualIsSame ⟦<Mode as PartialEq>⟧.eq }
     ensures polled { EqualIsSame ⟦<Polled as PartialEq>⟧.eq }
     ensures busy { EqualIsSame ⟦<Busy as PartialEq>⟧.eq }
     ensures too_long { EqualIsSame ⟦<TooLong as PartialEq>⟧.eq }
+    ensures taken { EqualIsSameReadOf TakenHasArrays taken_seen ⟦<Taken<'static> as PartialEq>⟧.eq }
 {}
 
 /// A board has nothing to send exactly where nothing is left to send, and then it owes no reply.

@@ -18,3 +18,4 @@ pub mod Asking
 pub mod Resting
 pub mod Running
 pub mod Halves
+pub mod Equal

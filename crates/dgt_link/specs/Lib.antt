@@ -10,3 +10,4 @@ pub mod Promise
 pub mod Stands
 pub mod ActMoves
 pub mod Asked
+pub mod Equality

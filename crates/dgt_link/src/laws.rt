@@ -7,6 +7,7 @@ ghost use Rattle.dgt_values.specs.Equality.{EqualIsSame};
 ghost use Rattle.dgt_message.specs.Content.{Content};
 ghost use Rattle.dgt_message.specs.ClockState.{ClockState};
 ghost use Rattle.dgt_command.specs.Content.{CommandContent};
+ghost use Rattle.dgt_command.specs.Equality.{EqualIsSameReadOf};
 ghost use Rattle.dgt_decode.specs.Grammar.{Event};
 ghost use Rattle.dgt_board.specs.declared.replies.Reply.{Reply};
 ghost use Rattle.dgt_board.specs.Identity.{IdentityContent};
@@ -20,7 +21,8 @@ ghost use Rattle.dgt_link.specs.Machine.{State, after_move, after_moves, new_sta
 ghost use Rattle.dgt_link.specs.Sound.{IsExact, IsSound, IsUnknownOr, coming_picture};
 ghost use Rattle.dgt_link.specs.Promise.{IsAsked, IsPromised, IsQuiet, PictureIsComing, coming_mode, commands_after_moves, mode_after};
 ghost use Rattle.dgt_host.specs.Hearing.{picture_after_all};
-ghost use Rattle.dgt_link.specs.Act.{ActContent};
+ghost use Rattle.dgt_link.specs.Act.{ActContent, act_content};
+ghost use Rattle.dgt_link.specs.Equality.{ActHasArrays};
 ghost use Rattle.dgt_link.specs.ActMoves.{StandsAfterRun, StandsAfterStep};
 ghost use Rattle.dgt_link.specs.Asked.{IsAskedBy, mode_after_step};
 ghost use Rattle.dgt_link.specs.declared.acts.Outcome.{Outcome};
@@ -28,7 +30,7 @@ ghost use Rattle.dgt_link.specs.Stands.{IsExactWorld, IsWorld, StandsFor};
 ghost use Rattle.dgt_link.specs.Step.{Runs, Step};
 ghost use Rattle.dgt_link.specs.View.{IsQuietWorld, WorldView};
 
-use crate::{MIN_DOWN, MIN_UP, Outcome as ActOutcome, WorldFault};
+use crate::{Act, MIN_DOWN, MIN_UP, Outcome as ActOutcome, WorldFault};
 
 /// The limits by their numbers.
 pub fn limits()
@@ -36,10 +38,12 @@ pub fn limits()
     ensures down { MIN_DOWN ≡ 257 }
 {}
 
-/// Two values are equal, as `==` compares them, exactly where they are the same.
+/// Two values are equal, as `==` compares them, exactly where they are the same. Of lent bytes the bytes count, and
+/// not where they lie.
 pub fn equal_is_same()
     ensures outcome { EqualIsSame ⟦<ActOutcome as PartialEq>⟧.eq }
     ensures world_fault { EqualIsSame ⟦<WorldFault as PartialEq>⟧.eq }
+    ensures act { EqualIsSameReadOf ActHasArrays act_content ⟦<Act<'static> as PartialEq>⟧.eq }
 {}
 
 /// A board and a host just made are sound, and exact.

@@ -1,0 +1,28 @@
+-- What the derived `==` says of acts.
+use Rattle.std.proofs.Common.{refl, rules}
+use Rattle.dgt_message.proofs.Equal.{equal_clocks}
+use Rattle.dgt_command.specs.Equality.{EqualIsSameReadOf}
+use Rattle.dgt_command.proofs.EqualCommands.{equal_commands}
+use Rattle.dgt_link.specs.Act.{act_content}
+use Rattle.dgt_link.specs.Equality.{ActHasArrays}
+use Rattle.dgt_link.specs.declared.acts.Act.TheVariants as act
+use Rattle.dgt_link.specs.contracts.acts.ActPartialEq.TheImpl as derived
+
+-- two acts are equal exactly where they do the same
+pub equal_acts : EqualIsSameReadOf ActHasArrays act_content (derived.eq-value).it
+equal_acts (act.Change square piece) (act.Change other second) h k = search rules
+equal_acts (act.ClockRead a) (act.ClockRead b) h k =
+    let same = equal_clocks a b in
+    (λ t. let seen = same.0 t in cc, λ e. same.1 cc)
+equal_acts (act.Host a) (act.Host b) h k =
+    let same = equal_commands a b h k in
+    (λ t. let said = same.0 t in cc, λ e. same.1 cc)
+equal_acts act.BoardSend act.BoardSend h k = (λ _. refl, λ _. refl)
+equal_acts (act.ToBoard a) (act.ToBoard b) h k = search rules
+equal_acts (act.ToHost a) (act.ToHost b) h k = search rules
+equal_acts (act.Change square piece) _ h k = (λ t. cc, λ e. cc)
+equal_acts (act.ClockRead a) _ h k = (λ t. cc, λ e. cc)
+equal_acts (act.Host a) _ h k = (λ t. cc, λ e. cc)
+equal_acts act.BoardSend _ h k = (λ t. cc, λ e. cc)
+equal_acts (act.ToBoard a) _ h k = (λ t. cc, λ e. cc)
+equal_acts (act.ToHost a) _ h k = (λ t. cc, λ e. cc)
