@@ -45,7 +45,7 @@ returns-else-total-lt3 c =
     rw (← c.self.view_is, c.after_byte-state.ensures, c.push-in-Head-2.ensures.items) (frames-head kept c.args.byte _ is.0 two c.if-byte-ge128.false limit (omega arith)).0
 
 pub push-requires-in-Body : goal.push-requires-in-Body
-push-requires-in-Body c = (omega arith, kept_room _ _ c.self.invariant (inr (c.in-Body.left, c.in-Body.is)))
+push-requires-in-Body c = (omega arith, omega (arith, kept_room _ _ c.self.invariant (inr (c.in-Body.left, c.in-Body.is))))
 
 pub invariant_of-self-in-Body : goal.invariant_of-self-in-Body
 invariant_of-self-in-Body c =
