@@ -45,6 +45,7 @@ frames-first kept b none top =
     record {
       takes = rw (first-begins b top).leaves (takes-first (open_message kept) b none top);
       message = λ e. absurd cc;
+      came = λ e. absurd cc;
     }
 
 -- it tells a Cut where a message was open
@@ -53,6 +54,7 @@ frames-cut kept b some top =
     record {
       takes = rw (first-begins b top).leaves (takes-cut (open_message kept) b (IsHeld-open kept) some top);
       message = λ e. absurd cc;
+      came = λ e. absurd cc;
     }
 
 -- ---- A byte outside a message
@@ -63,6 +65,7 @@ frames-stray kept b none seven =
     record {
       takes = rw (none, nothing_held) (takes-stray [] b refl seven);
       message = λ e. absurd cc;
+      came = λ e. absurd cc;
     }
 
 -- ---- A byte of the header
@@ -76,6 +79,7 @@ frames-short kept b h one seven =
       record {
         takes = rw (h, g.leaves) (record { told = g.told; holds = sym g.leaves });
         message = λ e. absurd cc;
+        came = λ e. absurd cc;
       },
       (g.leaves, omega arith, omega arith),
     )
@@ -96,6 +100,7 @@ frames-bad kept b h two seven small =
     record {
       takes = rw (h, nothing_held) (record { told = g.told ∙ ap (λ (n : ℕ). at_place n BadLength ∷ []) place; holds = sym g.leaves });
       message = λ e. absurd cc;
+      came = λ e. absurd cc;
     }
 
 -- ---- A later byte
@@ -151,6 +156,7 @@ frames-after kept b left h two seven all =
       record {
         takes = rw h (record { told = t.0.told; holds = refl });
         message = t.0.message;
+        came = λ e. rw h refl;
       },
       t.1,
     )

@@ -8,6 +8,7 @@ use Rattle.dgt_decode.proofs.More.{events-append}
 use Rattle.dgt_decode.proofs.Open.{events-of_open, open-append, length-open}
 use Rattle.dgt_decode.proofs.Steps.{IsHeld, IsOpen-held}
 use Rattle.dgt_decode.proofs.Feeds.{FirstEvent-some}
+use Rattle.dgt_decode.proofs.Division.{quiet_held}
 
 -- an event behind bytes stands at the sum of the places
 pub events_behind-at_place_if_any : (n m k : ℕ) (event : Option Event) → n + m ≡ k → events_behind n (at_place_if_any m event) ≡ at_place_if_any k event
@@ -63,6 +64,11 @@ run_quiet held piece i j now run r t told =
       quiet = run_told held piece i j 0 now run None r t told;
     }
 
+-- what is held and a run are what was held and the bytes to its end
+pub run_came : (held piece : List ℕ) (i j : ℕ) (now run : List ℕ) → IsRun piece i run j → HasTaken held piece i now → now ++ run ≡ held ++ take j piece
+run_came held piece i j now run r t =
+    rw (t.holds, quiet_held (held ++ take i piece) t.quiet, r) (append_assoc held (take i piece) run)
+
 -- ---- one byte
 
 -- one byte is a run
@@ -80,6 +86,10 @@ pub byte_holds : (held piece : List ℕ) (i : ℕ) (now new : List ℕ) (event :
     → TakesByte now (get_or piece i 0) new event → new ≡ open_message (held ++ take (i + 1) piece)
 byte_holds held piece i now new event within t byte =
     byte.holds ∙ run_holds held piece i (i + 1) now (get_or piece i 0 ∷ []) (is_run piece i within) t
+
+-- what is held and a byte are what was held and the bytes to this one
+pub byte_came : (held piece : List ℕ) (i : ℕ) (now : List ℕ) → i < length piece → HasTaken held piece i now → now ++ get_or piece i 0 ∷ [] ≡ held ++ take (i + 1) piece
+byte_came held piece i now within t = run_came held piece i (i + 1) now (get_or piece i 0 ∷ []) (is_run piece i within) t
 
 -- the byte that makes the first event ends the call
 pub byte_first : (held piece : List ℕ) (i : ℕ) (now new : List ℕ) (event : Event) → i < length piece → HasTaken held piece i now

@@ -16,7 +16,7 @@ use Rattle.dgt_decode.specs.Taking.{FramesRun, TakesRun}
 use Rattle.dgt_decode.proofs.Verdicts.{total_of-append}
 use Rattle.dgt_decode.proofs.Steps.{next-waits}
 use Rattle.dgt_decode.proofs.Feeds.{FirstEvent-some, quiet-piece}
-use Rattle.dgt_decode.proofs.Loops.{HasTaken, run_holds, run_told, run_quiet}
+use Rattle.dgt_decode.proofs.Loops.{HasTaken, run_holds, run_told, run_quiet, run_came}
 use Rattle.dgt_decode.proofs.Framing.{after, tells-after}
 
 -- ---- One byte after another
@@ -34,8 +34,8 @@ first_told held front used (Some event) first = first.1
 -- what was found in the first bytes of those that are left
 pub frames-front : (kept rest : List ℕ) (n used : ℕ) (new : List ℕ) (what : Option Found) → 0 < used → used ≤ length (take n rest)
     → FirstEvent (open_message kept) (take n rest) used (found_if_any new what) → open_message new ≡ open_message (open_message kept ++ take used (take n rest))
-    → (what ≡ Some found.Message → IsWhole new) → FramesRun kept rest used new what
-frames-front kept rest n used new what some within first held whole =
+    → (what ≡ Some found.Message → IsWhole new) → (what ≡ Some found.Message → new ≡ open_message kept ++ take used (take n rest)) → FramesRun kept rest used new what
+frames-front kept rest n used new what some within first held whole came =
     let up_to = length-take n rest in
     let same : take used (take n rest) ≡ take used rest = take-take used n rest (omega (arith, within, up_to)) in
     let early : take (used - 1) (take n rest) ≡ take (used - 1) rest = take-take (used - 1) n rest (omega (arith, within, up_to)) in
@@ -49,6 +49,7 @@ frames-front kept rest n used new what some within first held whole =
             holds = rw (← same) held;
           };
       message = whole;
+      came = λ e. rw (← same) (came e);
     }
 
 -- ---- In a body
@@ -123,6 +124,7 @@ frames-body_run kept rest left used is run =
             }
             );
         message = t.0.message;
+        came = λ e. rw is.0 refl;
       },
       t.1,
     )
@@ -142,6 +144,10 @@ module _ (held piece : List ℕ) (at used : ℕ) (now new : List ℕ) (within : 
   -- what is held after a run
   pub run_leaves : (event : Option Event) → TakesRun now (drop at piece) used new event → new ≡ open_message (held ++ take (at + used) piece)
   run_leaves event run = run.holds ∙ run_holds held piece at (at + used) now (take used (drop at piece)) (next used) taken
+
+  -- what is held and the run are what was held and the bytes to its end
+  pub run_is : now ++ take used (drop at piece) ≡ held ++ take (at + used) piece
+  run_is = run_came held piece at (at + used) now (take used (drop at piece)) (next used) taken
 
   -- the run that makes the first event ends the call
   pub run_first : (event : Event) → TakesRun now (drop at piece) used new (Some event) → FirstEvent held piece (at + used) (Some event)

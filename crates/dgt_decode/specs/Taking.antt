@@ -14,6 +14,7 @@ pub record TakesByte (held : List ℕ) (byte : ℕ) (new : List ℕ) (event : Op
 pub record Frames (kept : List ℕ) (byte : ℕ) (new : List ℕ) (what : Option Found) : Type 0 where
   pub takes : TakesByte (open_message kept) byte (open_message new) (found_if_any new what)
   pub message : what ≡ Some found.Message → IsWhole new
+  pub came : what ≡ Some found.Message → new ≡ open_message kept ++ byte ∷ []
 
 -- A reader that held these bytes has taken the first of those that are left of a piece. Only the last of them may make an event.
 pub record TakesRun (held rest : List ℕ) (used : ℕ) (new : List ℕ) (event : Option Event) : Type 0 where
@@ -27,3 +28,4 @@ pub record TakesRun (held rest : List ℕ) (used : ℕ) (new : List ℕ) (event 
 pub record FramesRun (kept rest : List ℕ) (used : ℕ) (new : List ℕ) (what : Option Found) : Type 0 where
   pub takes : TakesRun (open_message kept) rest used (open_message new) (found_if_any new what)
   pub message : what ≡ Some found.Message → IsWhole new
+  pub came : what ≡ Some found.Message → new ≡ open_message kept ++ take used rest

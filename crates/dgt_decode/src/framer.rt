@@ -123,6 +123,7 @@ impl Framer {
         ensures first { FirstEvent (open_message self.old) piece.now result.used (found_if_any self.new result.found) }
         ensures held { open_message self.new ≡ open_message (open_message self.old ++ take result.used piece.now) }
         ensures whole { result.found ≡ Some Found.Message → IsWhole self.new }
+        ensures came { result.found ≡ Some Found.Message → self.new ≡ open_message self.old ++ take result.used piece.now }
         ensures progress { 0 < length piece.now → 0 < result.used }
     {
         let mut used = 0;
@@ -175,6 +176,7 @@ impl Framer {
         ensures first { FirstEvent (open_message self.old) bytes.now result.used (found_if_any self.new result.found) }
         ensures held { open_message self.new ≡ open_message (open_message self.old ++ take result.used bytes.now) }
         ensures whole { result.found ≡ Some Found.Message → IsWhole self.new }
+        ensures came { result.found ≡ Some Found.Message → self.new ≡ open_message self.old ++ take result.used bytes.now }
         ensures progress { 0 < length bytes.now → 0 < result.used }
     {
         for (index, byte) in bytes.iter().enumerate() {

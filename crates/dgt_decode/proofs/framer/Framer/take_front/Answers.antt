@@ -35,4 +35,4 @@ pub returns-in_default : goal.returns-in_default
 returns-in_default c =
     let some = c.take_bytes.ensures.progress (omega (arith, length-take c.min.result c.args.rest.now, c.min.ensures, c.requires)) in
     frames-front c.args.self.now c.args.rest.now _ c.take_bytes.result.used c.take_bytes.new.self c.take_bytes.result.found
-    some c.take_bytes.ensures.within c.take_bytes.ensures.first c.take_bytes.ensures.held c.take_bytes.ensures.whole
+    some c.take_bytes.ensures.within c.take_bytes.ensures.first c.take_bytes.ensures.held c.take_bytes.ensures.whole c.take_bytes.ensures.came
