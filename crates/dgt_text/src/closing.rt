@@ -11,11 +11,14 @@ ghost use Rattle.dgt_text.specs.Lines.{message_text};
 
 use crate::ends::Sink;
 use crate::faults::RunFault;
-use crate::gathering::{Outgoing, ROOM};
+use crate::gathering::Outgoing;
 use crate::wording::{push_absence, push_times};
 use dgt_link::{Outcome, World};
 use dgt_message::Clock;
 use dgt_values::Position;
+
+/// Room for the closing lines.
+pub(crate) const CLOSING_ROOM: usize = 512;
 
 /// The line of what came of an act.
 pub(crate) fn outcome_text(outcome: Outcome) -> &'static [u8]
@@ -30,16 +33,16 @@ pub(crate) fn outcome_text(outcome: Outcome) -> &'static [u8]
     }
 }
 
-fn push_placement(text: &mut Outgoing, position: &Position)
-    requires { length text.old + 71 ≤ ROOM }
+fn push_placement(text: &mut Outgoing<CLOSING_ROOM>, position: &Position)
+    requires { length text.old + 71 ≤ CLOSING_ROOM }
     ensures text { text.new ≡ text.old ++ placement_text (pieces_of position.now) }
     ensures room { length text.new ≤ length text.old + 71 }
 {
     text.push(position.placement().as_bytes());
 }
 
-fn push_board(text: &mut Outgoing, world: &World)
-    requires { length text.old + 100 ≤ ROOM }
+fn push_board(text: &mut Outgoing<CLOSING_ROOM>, world: &World)
+    requires { length text.old + 100 ≤ CLOSING_ROOM }
     ensures text { text.new ≡ text.old
         ++ named_line (codes "board") (placement_text world.now.board.state.squares) }
     ensures room { length text.new ≤ length text.old + 100 }
@@ -49,8 +52,8 @@ fn push_board(text: &mut Outgoing, world: &World)
     text.push(b"\n");
 }
 
-fn push_picture(text: &mut Outgoing, world: &World)
-    requires { length text.old + 100 ≤ ROOM }
+fn push_picture(text: &mut Outgoing<CLOSING_ROOM>, world: &World)
+    requires { length text.old + 100 ≤ CLOSING_ROOM }
     ensures text { text.new ≡ text.old
         ++ named_line (codes "host") (picture_text world.now.host.picture) }
     ensures room { length text.new ≤ length text.old + 100 }
@@ -63,8 +66,8 @@ fn push_picture(text: &mut Outgoing, world: &World)
     text.push(b"\n");
 }
 
-fn push_clock(text: &mut Outgoing, clock: Clock)
-    requires { length text.old + 100 ≤ ROOM }
+fn push_clock(text: &mut Outgoing<CLOSING_ROOM>, clock: Clock)
+    requires { length text.old + 100 ≤ CLOSING_ROOM }
     ensures text { text.new ≡ text.old ++ message_text (clock_message (clock_seen clock)) }
     ensures room { length text.new ≤ length text.old + 28 }
 {
@@ -74,8 +77,8 @@ fn push_clock(text: &mut Outgoing, clock: Clock)
     }
 }
 
-fn push_host_clock(text: &mut Outgoing, world: &World)
-    requires { length text.old + 110 ≤ ROOM }
+fn push_host_clock(text: &mut Outgoing<CLOSING_ROOM>, world: &World)
+    requires { length text.old + 110 ≤ CLOSING_ROOM }
     ensures text { text.new ≡ text.old
         ++ named_line (codes "hostclock") (clock_text world.now.host.clock) }
     ensures room { length text.new ≤ length text.old + 100 }
@@ -88,8 +91,8 @@ fn push_host_clock(text: &mut Outgoing, world: &World)
     text.push(b"\n");
 }
 
-fn push_quiet(text: &mut Outgoing, quiet: bool)
-    requires { length text.old + 10 ≤ ROOM }
+fn push_quiet(text: &mut Outgoing<CLOSING_ROOM>, quiet: bool)
+    requires { length text.old + 10 ≤ CLOSING_ROOM }
     ensures { text.new ≡ text.old ++ named_line (codes "quiet") (quiet_text quiet) }
 {
     text.push(if quiet { b"quiet yes\n" } else { b"quiet no\n" });
@@ -98,7 +101,7 @@ fn push_quiet(text: &mut Outgoing, quiet: bool)
 /// Gathers the four closing lines of a world: the board's position, the host's picture, what the host
 /// knows of the clock, and whether all is quiet. What was gathered before is written, so there is room.
 pub(crate) fn put_closing<W: Sink>(
-    outgoing: &mut Outgoing,
+    outgoing: &mut Outgoing<CLOSING_ROOM>,
     writer: &mut W,
     world: &World,
 ) -> Result<(), RunFault>

@@ -6,6 +6,9 @@ ghost use Rattle.dgt_text.specs.Marks.{GivesEnd, TakesByte};
 
 use thiserror::Error;
 
+/// The most bytes that an engine reads at once.
+pub(crate) const MAX_PIECE: usize = 4096;
+
 /// A source or a sink refused a call.
 #[derive(Clone, Copy, Debug, PartialEq, Eq, Error)]
 #[error("the device failed")]

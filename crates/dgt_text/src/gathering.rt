@@ -40,19 +40,16 @@ pub(crate) fn flush<W: Sink>(writer: &mut W) -> Result<(), RunFault>
     }
 }
 
-/// How many bytes are gathered at most.
-pub(crate) const ROOM: usize = 1024;
-
 /// Room for all of a line but the bytes that a message carries.
 pub(crate) const LINE_ROOM: usize = 128;
 
-/// Bytes on their way to a sink. Contracts see those that were not written yet.
+/// Bytes on their way to a sink, at most `ROOM` of them. Contracts see those that were not written yet.
 #[derive(Drop)]
-pub(crate) struct Outgoing {
+pub(crate) struct Outgoing<const ROOM: usize> {
     bytes: ArrayVec<u8, ROOM>,
 }
 
-impl Model for Outgoing {
+impl<const ROOM: usize> Model for Outgoing<ROOM> {
     ghost use Rattle.std.specs.Prelude.{ℕ, List};
 
     ghost Value = { List ℕ };
@@ -60,7 +57,7 @@ impl Model for Outgoing {
     ghost view = { λ outgoing. outgoing.bytes.items };
 }
 
-impl Outgoing {
+impl<const ROOM: usize> Outgoing<ROOM> {
     pub fn new() -> Self
         ensures { result ≡ [] }
     {
@@ -84,6 +81,7 @@ impl Outgoing {
 
     /// Writes what was gathered, unless there is room for a line behind it.
     pub fn make_room<W: Sink>(&mut self, writer: &mut W) -> Result<(), RunFault>
+        requires { LINE_ROOM ≤ ROOM }
         ensures output { Gathers W.written W.failed W.late self.old self.new writer.old writer.new result [] }
         ensures room { OnOk result (length self.new + LINE_ROOM ≤ ROOM) }
         ensures no_flush { W.flushed writer.old ≡ false → W.flushed writer.new ≡ false }

@@ -10,12 +10,18 @@ ghost use Rattle.dgt_text.specs.Runs.{Writes};
 
 use crate::ends::Sink;
 use crate::faults::RunFault;
-use crate::gathering::{LINE_ROOM, Outgoing, ROOM, hex_digits};
+use crate::gathering::{LINE_ROOM, Outgoing};
 use crate::wording::push_event;
 use dgt_decode::Event;
 
+// How many carried bytes have their digits added at once.
+const PART: usize = 64;
+
+// Room for a line that is written by itself. One that carries more bytes takes more writes.
+const ROOM: usize = 1024;
+
 // Adds an offset, and a space.
-fn push_offset(text: &mut Outgoing, offset: u64)
+fn push_offset<const ROOM: usize>(text: &mut Outgoing<ROOM>, offset: u64)
     requires { length text.old + LINE_ROOM ≤ ROOM }
     ensures text { text.new ≡ text.old ++ (offset_text offset ++ 32 ∷ []) }
     ensures room { length text.new + 100 ≤ ROOM }
@@ -51,7 +57,11 @@ fn last_digit(number: u32) -> u8
     b'0' + (number % 10) as u8
 }
 
-fn put_bytes<W: Sink>(outgoing: &mut Outgoing, writer: &mut W, bytes: &[u8]) -> Result<(), RunFault>
+fn put_bytes<W: Sink, const ROOM: usize>(
+    outgoing: &mut Outgoing<ROOM>,
+    writer: &mut W,
+    bytes: &[u8],
+) -> Result<(), RunFault>
     ensures output { Gathers W.written W.failed W.late outgoing.old outgoing.new writer.old writer.new
         result (bytes_text bytes.now) }
     ensures no_flush { W.flushed writer.old ≡ false → W.flushed writer.new ≡ false }
@@ -62,8 +72,8 @@ fn put_bytes<W: Sink>(outgoing: &mut Outgoing, writer: &mut W, bytes: &[u8]) -> 
     put_digits(outgoing, writer, bytes)
 }
 
-fn put_digits<W: Sink>(
-    outgoing: &mut Outgoing,
+fn put_digits<W: Sink, const ROOM: usize>(
+    outgoing: &mut Outgoing<ROOM>,
     writer: &mut W,
     bytes: &[u8],
 ) -> Result<(), RunFault>
@@ -71,19 +81,40 @@ fn put_digits<W: Sink>(
         result (encode_lower bytes.now) }
     ensures no_flush { W.flushed writer.old ≡ false → W.flushed writer.new ≡ false }
 {
-    for byte in bytes {
-        outgoing.add(writer, &hex_digits(*byte))?;
+    let mut at = 0;
+    while at < bytes.len() {
+        let end = bytes.len().min(at + PART);
+        put_part(outgoing, writer, &bytes[at..end])?;
+        at = end;
     }
     Ok(())
 }
 
+// Two digits for each of a few bytes, added at once.
+fn put_part<W: Sink, const ROOM: usize>(
+    outgoing: &mut Outgoing<ROOM>,
+    writer: &mut W,
+    part: &[u8],
+) -> Result<(), RunFault>
+    requires { length part.now ≤ PART }
+    ensures output { Gathers W.written W.failed W.late outgoing.old outgoing.new writer.old writer.new
+        result (encode_lower part.now) }
+    ensures no_flush { W.flushed writer.old ≡ false → W.flushed writer.new ≡ false }
+{
+    let mut digits = [0; 2 * PART];
+    let text = &mut digits[..2 * part.len()];
+    hex::encode_to_slice(part, text).unwrap();
+    outgoing.add(writer, text)
+}
+
 /// Gathers the line of an event that the byte at the end of so many bytes makes.
-pub(crate) fn put_event<W: Sink>(
-    outgoing: &mut Outgoing,
+pub(crate) fn put_event<W: Sink, const ROOM: usize>(
+    outgoing: &mut Outgoing<ROOM>,
     writer: &mut W,
     offset: u64,
     event: &Event<'_>,
 ) -> Result<(), RunFault>
+    requires { LINE_ROOM ≤ ROOM }
     ensures output { Gathers W.written W.failed W.late outgoing.old outgoing.new writer.old writer.new
         result (event_line offset (event_content event.now)) }
     ensures no_flush { W.flushed writer.old ≡ false → W.flushed writer.new ≡ false }
@@ -112,7 +143,7 @@ pub(crate) fn write_unfinished<W: Sink>(
     ensures { Writes W.written W.failed W.late writer.old writer.new result
         (line offset (unfinished_text have)) }
 {
-    let mut text = Outgoing::new();
+    let mut text = Outgoing::<LINE_ROOM>::new();
     push_offset(&mut text, offset);
     text.push(b"unfinished ");
     text.push_decimal(have as u64, 1);
@@ -135,7 +166,7 @@ pub fn write_event<W: Sink>(writer: &mut W, offset: u64, event: &Event<'_>) -> R
     ensures unflushed { OnOk result (W.flushed writer.new ≡ false) }
     ensures no_flush { W.flushed writer.old ≡ false → W.flushed writer.new ≡ false }
 {
-    let mut outgoing = Outgoing::new();
+    let mut outgoing = Outgoing::<ROOM>::new();
     put_event(&mut outgoing, writer, offset, event)?;
     outgoing.write_out(writer)
 }

@@ -1,41 +1,46 @@
 //! The engine that tells what comes.
 
-ghost use Rattle.std.specs.Prelude.{false, ◌≡◌, ◌≢◌, ◌+◌, ◌^◌, ◌<◌, ◌≤◌, ◌++◌, length, IsTrue, OnOk};
+ghost use Rattle.std.specs.Prelude.{false, ◌≡◌, ◌≢◌, ◌+◌, ◌^◌, ◌<◌, ◌≤◌, [], ◌++◌, length, IsTrue, OnOk};
 ghost use Rattle.std.specs.Io.KnownBytes.{IsAtEnd};
 ghost use Rattle.dgt_decode.specs.Grammar.{open_message};
 ghost use Rattle.dgt_text.specs.Lines.{unfinished_line};
 ghost use Rattle.dgt_text.specs.Monitoring.{lines_after, IsMonitored};
 ghost use Rattle.dgt_text.specs.Runs.{sink_mark_after, source_mark_after, Ran, Writes};
 
-use crate::ends::{Sink, Source};
+use crate::ends::{MAX_PIECE, Sink, Source};
 use crate::faults::RunFault;
 use crate::gathering::{Outgoing, flush};
 use crate::lines::{put_event, write_unfinished};
 use dgt_decode::{Decoder, laws};
 
-// The lines of a piece, in one write where they are few.
+// Room for the lines of a full piece of field updates: 820 lines of at most 32 bytes.
+const ROOM: usize = 32768;
+
+// The lines of a piece, in one write where there is room for them.
 fn write_lines<W: Sink>(
     decoder: &mut Decoder,
+    outgoing: &mut Outgoing<ROOM>,
     offset: u64,
     piece: &[u8],
     writer: &mut W,
 ) -> Result<(), RunFault>
+    requires empty { outgoing.old ≡ [] }
     requires fits { offset + length piece.now < 2 ^ 64 }
     requires held { length decoder.old ≤ offset }
     requires unfinished { decoder.old ≡ open_message decoder.old }
     ensures output { Writes W.written W.failed W.late writer.old writer.new result
         (lines_after decoder.old offset piece.now) }
     ensures decoded { OnOk result (decoder.new ≡ open_message (decoder.old ++ piece.now)) }
+    ensures empty { OnOk result (outgoing.new ≡ []) }
 {
     laws::events_append();
     laws::open_append();
-    let mut outgoing = Outgoing::new();
     let mut at = 0;
     while at < piece.len() {
         let fed = decoder.feed(&piece[at..]);
         at += fed.used;
         if let Some(event) = &fed.event {
-            put_event(&mut outgoing, writer, offset + at as u64, event)?;
+            put_event(outgoing, writer, offset + at as u64, event)?;
         }
     }
     outgoing.write_out(writer)
@@ -100,8 +105,9 @@ pub fn monitor<R: Source, W: Sink>(
     laws::events_append();
     laws::open_append();
     let mut decoder = Decoder::new();
+    let mut outgoing = Outgoing::new();
     let mut offset = 0u64;
-    let mut buffer = [0; 64];
+    let mut buffer = [0; MAX_PIECE];
     for _ in 0..limit {
         let Ok(given) = reader.read_some(&mut buffer) else {
             return Err(RunFault::ReadFailed);
@@ -109,7 +115,13 @@ pub fn monitor<R: Source, W: Sink>(
         if given == 0 {
             return write_end(&mut decoder, offset, writer);
         }
-        write_lines(&mut decoder, offset, &buffer[..given], writer)?;
+        write_lines(
+            &mut decoder,
+            &mut outgoing,
+            offset,
+            &buffer[..given],
+            writer,
+        )?;
         flush(writer)?;
         offset += given as u64;
     }

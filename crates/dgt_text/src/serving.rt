@@ -5,7 +5,7 @@ ghost use Rattle.std.specs.Io.KnownBytes.{IsAtEnd};
 ghost use Rattle.dgt_text.specs.Runs.{sink_mark_after, source_mark_after, Ran};
 ghost use Rattle.dgt_text.specs.Serving.{IsServed, Serves};
 
-use crate::ends::{Sink, Source};
+use crate::ends::{MAX_PIECE, Sink, Source};
 use crate::faults::RunFault;
 use crate::gathering::{flush, put};
 use dgt_board::{Board, Polled, Taken};
@@ -94,7 +94,7 @@ pub fn serve<R: Source, W: Sink>(
 {
     laws::divisions_append();
     answer(board, &[], writer)?;
-    let mut buffer = [0; 64];
+    let mut buffer = [0; MAX_PIECE];
     for _ in 0..limit {
         let Ok(given) = reader.read_some(&mut buffer) else {
             return Err(RunFault::ReadFailed);

@@ -10,7 +10,7 @@ ghost use Rattle.dgt_text.specs.Simulating.{BeginsWith, IsOfLine, IsSimulated, I
 
 use crate::closing::{outcome_text, put_closing};
 use crate::cutting::len_before;
-use crate::ends::{Sink, Source};
+use crate::ends::{MAX_PIECE, Sink, Source};
 use crate::faults::RunFault;
 use crate::gathering::{Outgoing, flush, put};
 use crate::laws;
@@ -182,7 +182,7 @@ pub fn simulate<R: Source, W: Sink>(
     dgt_link::laws::at_quiet_world();
     let mut line = LineBuffer::new();
     let mut number = 1;
-    let mut buffer = [0; 64];
+    let mut buffer = [0; MAX_PIECE];
     for _ in 0..limit {
         let Ok(given) = reader.read_some(&mut buffer) else {
             return Err(RunFault::ReadFailed);

@@ -10,13 +10,16 @@ ghost use Rattle.dgt_decode.specs.Feeding.{event_content};
 ghost use Rattle.dgt_text.specs.Lines.{byte_text, event_text, message_text, time_text};
 ghost use Rattle.dgt_text.specs.Wording.{text_with};
 
-use crate::gathering::{Outgoing, ROOM};
+use crate::gathering::Outgoing;
 use dgt_decode::Event;
 use dgt_message::{BodyFault, ClockAck, Message, NoClock, Reading, Times};
 use dgt_values::{Body, SevenBit};
 
 /// Adds the text of an event up to the bytes that it carries, and answers these.
-pub(crate) fn push_event<'a>(text: &mut Outgoing, event: &Event<'a>) -> Option<Body<'a>>
+pub(crate) fn push_event<'a, const ROOM: usize>(
+    text: &mut Outgoing<ROOM>,
+    event: &Event<'a>,
+) -> Option<Body<'a>>
     requires { length text.old + 100 ≤ ROOM }
     ensures text { text_with text.new result ≡ text.old ++ event_text (event_content event.now) }
     ensures room { length text.new < ROOM }
@@ -37,7 +40,10 @@ pub(crate) fn push_event<'a>(text: &mut Outgoing, event: &Event<'a>) -> Option<B
     None
 }
 
-fn push_message<'a>(text: &mut Outgoing, message: &Message<'a>) -> Option<Body<'a>>
+fn push_message<'a, const ROOM: usize>(
+    text: &mut Outgoing<ROOM>,
+    message: &Message<'a>,
+) -> Option<Body<'a>>
     requires { length text.old + 100 ≤ ROOM }
     ensures text { text_with text.new result ≡ text.old ++ message_text (content message.now) }
     ensures room { length text.new < ROOM }
@@ -81,7 +87,7 @@ fn push_message<'a>(text: &mut Outgoing, message: &Message<'a>) -> Option<Body<'
 }
 
 /// Adds the text of what a clock shows.
-pub(crate) fn push_times(text: &mut Outgoing, readings: Times)
+pub(crate) fn push_times<const ROOM: usize>(text: &mut Outgoing<ROOM>, readings: Times)
     requires { length text.old + 100 ≤ ROOM }
     ensures text { text.new ≡ text.old ++ message_text (times (times_seen readings)) }
     ensures len { length text.new ≡ length text.old + 28 }
@@ -111,7 +117,7 @@ fn time_text(reading: Reading) -> [u8; 9]
 }
 
 /// Adds the text of a board without a clock.
-pub(crate) fn push_absence(text: &mut Outgoing, absence: NoClock)
+pub(crate) fn push_absence<const ROOM: usize>(text: &mut Outgoing<ROOM>, absence: NoClock)
     requires { length text.old + 100 ≤ ROOM }
     ensures text { text.new ≡ text.old ++ message_text (no_clock (absence_seen absence)) }
     ensures len { length text.new ≡ length text.old + 23 }
@@ -129,7 +135,7 @@ fn absence_bytes(absence: NoClock) -> [u8; 6]
     [a.get(), b.get(), c.get(), d.get(), e.get(), f.get()]
 }
 
-fn push_ack(text: &mut Outgoing, answer: ClockAck)
+fn push_ack<const ROOM: usize>(text: &mut Outgoing<ROOM>, answer: ClockAck)
     requires { length text.old + 100 ≤ ROOM }
     ensures text { text.new ≡ text.old ++ message_text (ack (answer_seen answer)) }
     ensures len { length text.new ≡ length text.old + 18 }
@@ -149,7 +155,7 @@ fn ack_bytes(answer: ClockAck) -> [u8; 5]
 }
 
 // A space, and a byte.
-fn push_byte(text: &mut Outgoing, byte: u8)
+fn push_byte<const ROOM: usize>(text: &mut Outgoing<ROOM>, byte: u8)
     requires { length text.old + 3 ≤ ROOM }
     ensures text { text.new ≡ text.old ++ 32 ∷ byte_text byte }
     ensures len { length text.new ≡ length text.old + 3 }
@@ -158,7 +164,7 @@ fn push_byte(text: &mut Outgoing, byte: u8)
     text.push_hex(&[byte]);
 }
 
-fn push_serial(text: &mut Outgoing, digits: &[SevenBit; 5])
+fn push_serial<const ROOM: usize>(text: &mut Outgoing<ROOM>, digits: &[SevenBit; 5])
     requires { length text.old + 100 ≤ ROOM }
     ensures text { text.new ≡ text.old ++ message_text (serial (map number digits.now)) }
     ensures len { length text.new ≡ length text.old + 17 }
@@ -175,7 +181,7 @@ fn serial_bytes(digits: &[SevenBit; 5]) -> [u8; 5]
     [a.get(), b.get(), c.get(), d.get(), e.get()]
 }
 
-fn push_refusal(text: &mut Outgoing, code: SevenBit, fault: BodyFault)
+fn push_refusal<const ROOM: usize>(text: &mut Outgoing<ROOM>, code: SevenBit, fault: BodyFault)
     requires { length text.old + 100 ≤ ROOM }
     ensures text { text.new ≡ text.old ++ event_text (Refused (number code) fault) }
     ensures room { length text.new < ROOM }
@@ -191,7 +197,7 @@ fn push_refusal(text: &mut Outgoing, code: SevenBit, fault: BodyFault)
 }
 
 // A word, and an offset.
-fn push_place(text: &mut Outgoing, word: &[u8], at: usize)
+fn push_place<const ROOM: usize>(text: &mut Outgoing<ROOM>, word: &[u8], at: usize)
     requires { length text.old + length word.now + 20 ≤ ROOM }
     ensures text { text.new ≡ text.old ++ (word.now ++ decimal at) }
     ensures room { length text.new ≤ length text.old + length word.now + 20 }

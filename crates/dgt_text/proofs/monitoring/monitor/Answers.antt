@@ -8,6 +8,7 @@ pub loop-init : goal.loop-init
 loop-init g c = record {
   heard = heard_none _ _ _ c.new-decoder.ensures;
   each = omega arith;
+  empty = c.new-outgoing.ensures;
   short = omega arith;
   not_failed = refl;
   not_ended = refl;
@@ -38,6 +39,7 @@ loop-preserved g c = record {
   heard = heard_more c.events_append.ensures c.open_append.ensures _ _ _ _ _ _ _ _ _ _ _ _ c.loop.invariant.heard c.in-Ok.ensures.bytes.0 (length-take-le c.in-Ok.given c.read_some.new.buffer c.in-Ok.ensures.bound)
       c.in_ok-write_lines.ensures.output c.in_ok-flush.ensures.output c.in_ok-write_lines.ensures.decoded;
   each = let k = c.loop.invariant.each in let some = c.if-given-eq0.false in omega arith;
+  empty = c.in_ok-write_lines.ensures.empty;
   short = omega (arith, c.in-Ok.ensures.bound, c.read_some.auto.buffer);
   not_failed = c.in-Ok.ensures.not_refused ∙ c.loop.invariant.not_failed;
   not_ended = c.in-Ok.ensures.no_end (λ h. c.if-given-eq0.false h.0) ∙ c.loop.invariant.not_ended;

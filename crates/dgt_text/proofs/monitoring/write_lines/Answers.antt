@@ -11,7 +11,7 @@ use Rattle.dgt_text.proofs.monitoring.write_lines.Goals as goal
 pub loop-at-init : goal.loop-at-init
 loop-at-init g c = record {
   bound = omega arith;
-  output = rw (lines_after-none c.events_append.ensures c.open_append.ensures c.args.decoder.now c.args.offset c.requires.unfinished, c.new-outgoing.ensures) (gathered_none g.W.Sink.written g.W.Sink.failed g.W.Sink.late [] c.args.writer.now);
+  output = rw (lines_after-none c.events_append.ensures c.open_append.ensures c.args.decoder.now c.args.offset c.requires.unfinished, c.requires.empty) (gathered_none g.W.Sink.written g.W.Sink.failed g.W.Sink.late [] c.args.writer.now);
   decoded = c.requires.unfinished ∙ ap open_message (sym (append-nil c.args.decoder.now));
 }
 

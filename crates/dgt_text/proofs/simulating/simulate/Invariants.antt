@@ -5,7 +5,7 @@ use Rattle.dgt_text.proofs.simulating.simulate.Given as goal
 abbrev pub invariant-loop : goal.invariant-loop
 invariant-loop g l = record {
   scripted : Scripted g.R.Source.left g.W.Sink.written l.fn.reader l.reader l.fn.writer l.writer l.fn.world l.world l.line l.number l.counter;
-  short : l.number ≤ 64 * l.counter + 1;
+  short : l.number ≤ 4096 * l.counter + 1;
   not_failed : g.R.Source.failed l.reader ≡ g.R.Source.failed l.fn.reader;
   written : g.W.Sink.failed l.writer ≡ g.W.Sink.failed l.fn.writer;
   not_ended : g.R.Source.ended l.reader ≡ g.R.Source.ended l.fn.reader;

@@ -7,7 +7,7 @@ use Rattle.dgt_text.proofs.wording.push_absence.Goals as goal
 
 pub returns-clause-text : goal.returns-clause-text
 unfolding message_text
-returns-clause-text c =
+returns-clause-text g c =
     let raw = (absence_seen c.args.absence).raw in
     let six : length raw ≡ 6 = ap length (sym c.absence_bytes.ensures.bytes) ∙ c.absence_bytes.ensures.len in
     let digits : encode_lower raw ≡ bytes_text raw = sym (bytes_text_some raw (omega arith)) in

@@ -5,7 +5,7 @@ use Rattle.dgt_text.proofs.TextLemmas.{spaced_text, spaced_text-take, words_text
 use Rattle.dgt_text.proofs.wording.push_ack.Goals as goal
 
 pub loop-byte-preserved : goal.loop-byte-preserved
-loop-byte-preserved c =
+loop-byte-preserved g c =
     let bytes = c.ack_bytes-byte-items.result in
     let i = c.loop-byte.byte-index in record {
       text = c.push_byte.ensures.text ∙ ap (λ l. l ++ 32 ∷ byte_text (get_or bytes i 0)) c.loop-byte.invariant.text ∙ append_assoc c.args.text.now _ _
@@ -15,7 +15,7 @@ loop-byte-preserved c =
 
 pub returns-clause-text : goal.returns-clause-text
 unfolding message_text
-returns-clause-text c =
+returns-clause-text g c =
     let bytes = c.ack_bytes-byte-items.result in
     let whole = take_all c.loop-byte.byte-index bytes (omega (arith, c.ack_bytes-byte-items.ensures.len, c.loop-byte-test.false)) in
     c.loop-byte.invariant.text

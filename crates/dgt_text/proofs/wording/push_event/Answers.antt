@@ -6,11 +6,11 @@ use Rattle.dgt_text.proofs.wording.push_event.Goals.{in-Refused, in-Cut, in-BadL
 
 pub returns-in-Message-clause-text : goal.returns-in-Message-clause-text
 unfolding event_text
-returns-in-Message-clause-text c = rw c.in-Message.is c.push_message.ensures.text
+returns-in-Message-clause-text g c = rw c.in-Message.is c.push_message.ensures.text
 
 pub returns-clause-text : goal.returns-clause-text
 unfolding event_text
-returns-clause-text c = elim c.match-event.branch [
+returns-clause-text g c = elim c.match-event.branch [
   | in-Refused w ↦ rw (w.text-is, w.in-Refused.is) w.push_refusal.ensures.text
   | in-Cut w ↦ rw (w.text-is, w.in-Cut.is, w.push_decimal.ensures.bytes, w.push.ensures.bytes, padded_one w.in-Cut.have (omega arith)) (simp append_assoc refl)
   | in-BadLength w ↦ rw (w.text-is, w.in-BadLength.is) w.push-in-BadLength.ensures.bytes

@@ -6,20 +6,20 @@ use Rattle.dgt_text.proofs.wording.push_message.Goals.{in-Dump, in-Field, in-Tim
 
 pub returns-in-Trademark-clause-text : goal.returns-in-Trademark-clause-text
 unfolding message_text
-returns-in-Trademark-clause-text c = rw (c.in-Trademark.is, c.push-in-Trademark.ensures.bytes) (simp append_assoc refl)
+returns-in-Trademark-clause-text g c = rw (c.in-Trademark.is, c.push-in-Trademark.ensures.bytes) (simp append_assoc refl)
 
 pub returns-in-Battery-clause-text : goal.returns-in-Battery-clause-text
 unfolding message_text
-returns-in-Battery-clause-text c = rw (c.in-Battery.is, c.push-in-Battery.ensures.bytes) (simp append_assoc refl)
+returns-in-Battery-clause-text g c = rw (c.in-Battery.is, c.push-in-Battery.ensures.bytes) (simp append_assoc refl)
 
 pub returns-in-Other-clause-text : goal.returns-in-Other-clause-text
 unfolding message_text
-returns-in-Other-clause-text c =
+returns-in-Other-clause-text g c =
     rw (c.in-Other.is, c.push-in-Other-2.ensures.bytes, c.push_hex.ensures.bytes, c.push-in-Other.ensures.bytes) (simp (append_assoc, c.get-in-Other-2.ensures.value, c.get-in-Other.ensures.value) refl)
 
 pub returns-clause-text : goal.returns-clause-text
 unfolding message_text
-returns-clause-text c = elim c.match-message.branch [
+returns-clause-text g c = elim c.match-message.branch [
   | in-Dump w ↦ rw (w.text-is, w.in-Dump.is, w.push-in-Dump.ensures.bytes, w.push.ensures.bytes) (append_assoc c.args.text.now (codes "dump ") _ ∙ ap (λ l. c.args.text.now ++ (codes "dump " ++ l)) (w.as_bytes.ensures.value ∙ w.deref.ensures.0 ∙ w.placement.ensures))
   | in-Field w ↦ rw (w.text-is, w.in-Field.is, w.push-in-Field-3.ensures.bytes, w.push-in-Field-2.ensures.bytes, w.push-in-Field.ensures.bytes, w.name.ensures, w.letter.ensures.value) (simp append_assoc refl)
   | in-Times w ↦ rw (w.text-is, w.in-Times.is) w.push_times.ensures.text

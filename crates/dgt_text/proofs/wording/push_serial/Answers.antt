@@ -7,7 +7,7 @@ use Rattle.dgt_text.proofs.wording.push_serial.Goals as goal
 
 pub returns-clause-text : goal.returns-clause-text
 unfolding message_text
-returns-clause-text c =
+returns-clause-text g c =
     let bytes = map number c.args.digits.now in
     let five : length bytes ≡ 5 = ap length (sym c.serial_bytes.ensures.bytes) ∙ c.serial_bytes.ensures.len in
     let digits : encode_lower bytes ≡ bytes_text bytes = sym (bytes_text_some bytes (omega arith)) in

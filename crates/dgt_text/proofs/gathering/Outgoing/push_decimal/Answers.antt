@@ -7,7 +7,7 @@ use Rattle.dgt_text.proofs.gathering.Outgoing.push_decimal.Goals as goal
 use Rattle.dgt_text.proofs.gathering.Outgoing.push_decimal.Goals.{then-rest-gt0, else-rest-gt0+then-at-width}
 
 pub loop-rest-preserved : goal.loop-rest-preserved
-loop-rest-preserved c =
+loop-rest-preserved g c =
     let at = c.loop-rest.at in
     let rest = c.loop-rest.rest in
     let width = c.args.width - (20 - at) in
@@ -33,7 +33,7 @@ loop-rest-preserved c =
     }
 
 pub returns-clause-bytes : goal.returns-clause-bytes
-returns-clause-bytes c =
+returns-clause-bytes g c =
     let digits = c.loop-rest.digits in
     let at = c.loop-rest.at in
     let none : c.loop-rest.rest ≡ 0 = omega (arith, c.if-rest-gt0.false) in

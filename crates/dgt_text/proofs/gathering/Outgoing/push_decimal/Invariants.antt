@@ -3,7 +3,7 @@ use Rattle.dgt_text.proofs.DecimalLemmas.{front}
 use Rattle.dgt_text.proofs.gathering.Outgoing.push_decimal.Given as goal
 
 abbrev pub invariant-loop-rest : goal.invariant-loop-rest
-invariant-loop-rest l = record {
+invariant-loop-rest g l = record {
   within : l.at ≤ 20;
   short : l.rest < 10 ^ l.at;
   fits : l.rest < 2 ^ 64;
@@ -12,4 +12,4 @@ invariant-loop-rest l = record {
 }
 
 abbrev pub decreases-loop-rest : goal.decreases-loop-rest
-decreases-loop-rest l = l.at
+decreases-loop-rest g l = l.at
