@@ -9,7 +9,7 @@ use Rattle.dgt_text.specs.declared.faults.RunFault.TheVariants.{WriteFailed}
 use Rattle.dgt_text.specs.Runs.{Wrote, Stopped, Writes, Ran}
 use Rattle.dgt_text.specs.Lines.{line, lines, monitor_text, unfinished_line, unfinished_text}
 use Rattle.dgt_text.specs.Monitoring.{lines_after, IsMonitored}
-use Rattle.dgt_text.proofs.PieceLemmas.{lines_after-append, lines_after-start, open_short, open-open}
+use Rattle.dgt_text.proofs.PieceLemmas.{lines_after-append, lines_after-start, open_short}
 use Rattle.dgt_text.proofs.RunLemmas.{wrote_none, wrote_then, stopped_then, stopped_longer}
 
 -- the source gave some bytes, the sink took their lines, and the decoder holds their unfinished end
@@ -28,6 +28,10 @@ unfinished_line-some (b ∷ held) offset have h e = ap (λ n. line offset (unfin
 open_none : open_message [] ≡ []
 unfolding open_message
 open_none = refl
+
+-- nothing is unfinished where nothing came
+pub open_new : {kept : List ℕ} → kept ≡ [] → open_message kept ≡ []
+open_new e = ap open_message e ∙ open_none
 
 lines-none : lines [] ≡ []
 unfolding events
@@ -50,9 +54,6 @@ module _ {S T : Type 0} {left : S → Option (List ℕ)} {written : T → Option
     decoded = h ∙ sym open_none;
     counted = refl;
   }
-
-  pub heard_open : OpenAppend → (a b : S) (c d : T) (held : List ℕ) (offset : ℕ) → Heard left written failed late a b c d held offset → held ≡ open_message held
-  heard_open opens a b c d held offset h = h.decoded ∙ open-open opens h.bytes ∙ ap open_message (sym h.decoded)
 
   pub heard_bound : (a b : S) (c d : T) (held : List ℕ) (offset : ℕ) → Heard left written failed late a b c d held offset → length held ≤ offset
   heard_bound a b c d held offset h = let short = open_short h.bytes in let e = h.counted in let l = ap length h.decoded in omega arith

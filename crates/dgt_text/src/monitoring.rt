@@ -11,14 +11,14 @@ use crate::ends::{MAX_PIECE, Sink, Source};
 use crate::faults::RunFault;
 use crate::gathering::{Outgoing, flush};
 use crate::lines::{put_event, write_unfinished};
-use dgt_decode::{Decoder, laws};
+use dgt_decode::{Framer, laws};
 
 // Room for the lines of a full piece of field updates: 820 lines of at most 32 bytes.
 const ROOM: usize = 32768;
 
 // The lines of a piece, in one write where there is room for them.
 fn write_lines<W: Sink>(
-    decoder: &mut Decoder,
+    framer: &mut Framer,
     outgoing: &mut Outgoing<ROOM>,
     offset: u64,
     piece: &[u8],
@@ -26,36 +26,37 @@ fn write_lines<W: Sink>(
 ) -> Result<(), RunFault>
     requires empty { outgoing.old ≡ [] }
     requires fits { offset + length piece.now < 2 ^ 64 }
-    requires held { length decoder.old ≤ offset }
-    requires unfinished { decoder.old ≡ open_message decoder.old }
+    requires held { length (open_message framer.old) ≤ offset }
     ensures output { Writes W.written W.failed W.late writer.old writer.new result
-        (lines_after decoder.old offset piece.now) }
-    ensures decoded { OnOk result (decoder.new ≡ open_message (decoder.old ++ piece.now)) }
+        (lines_after (open_message framer.old) offset piece.now) }
+    ensures framed { OnOk result (open_message framer.new ≡
+        open_message (open_message framer.old ++ piece.now)) }
     ensures empty { OnOk result (outgoing.new ≡ []) }
 {
     laws::events_append();
     laws::open_append();
     let mut at = 0;
     while at < piece.len() {
-        let fed = decoder.feed(&piece[at..]);
-        at += fed.used;
-        if let Some(event) = &fed.event {
-            put_event(outgoing, writer, offset + at as u64, event)?;
+        let advanced = framer.advance(&piece[at..]);
+        at += advanced.used;
+        if let Some(found) = advanced.found {
+            put_event(outgoing, writer, offset + at as u64, &framer.event(found))?;
         }
     }
     outgoing.write_out(writer)
 }
 
 // A last line, where a message is unfinished.
-fn write_end<W: Sink>(decoder: &mut Decoder, offset: u64, writer: &mut W) -> Result<(), RunFault>
+fn write_end<W: Sink>(framer: &Framer, offset: u64, writer: &mut W) -> Result<(), RunFault>
     ensures output { Writes W.written W.failed W.late writer.old writer.new result
-        (unfinished_line offset decoder.old) }
+        (unfinished_line offset (open_message framer.now)) }
     ensures flushed { OnOk result (IsTrue (W.flushed writer.old) → IsTrue (W.flushed writer.new)) }
 {
-    let Some(unfinished) = decoder.finish() else {
+    let have = framer.open_len();
+    if have == 0 {
         return Ok(());
-    };
-    write_unfinished(writer, offset, unfinished.have)?;
+    }
+    write_unfinished(writer, offset, have)?;
     flush(writer)
 }
 
@@ -104,7 +105,7 @@ pub fn monitor<R: Source, W: Sink>(
 {
     laws::events_append();
     laws::open_append();
-    let mut decoder = Decoder::new();
+    let mut framer = Framer::new();
     let mut outgoing = Outgoing::new();
     let mut offset = 0u64;
     let mut buffer = [0; MAX_PIECE];
@@ -113,10 +114,10 @@ pub fn monitor<R: Source, W: Sink>(
             return Err(RunFault::ReadFailed);
         };
         if given == 0 {
-            return write_end(&mut decoder, offset, writer);
+            return write_end(&framer, offset, writer);
         }
         write_lines(
-            &mut decoder,
+            &mut framer,
             &mut outgoing,
             offset,
             &buffer[..given],

@@ -1,12 +1,12 @@
 use Rattle.std.proofs.Common.{arith, refl, ◌∙◌}
 use Rattle.std.proofs.lemmas.List.{length-take-le}
 use Rattle.dgt_text.proofs.RunLemmas.{stopped_after}
-use Rattle.dgt_text.proofs.Heard.{heard_none, heard_open, heard_bound, heard_more, heard_stopped, heard_end}
+use Rattle.dgt_text.proofs.Heard.{heard_none, open_new, heard_bound, heard_more, heard_stopped, heard_end}
 use Rattle.dgt_text.proofs.monitoring.monitor.Goals as goal
 
 pub loop-init : goal.loop-init
 loop-init g c = record {
-  heard = heard_none _ _ _ c.new-decoder.ensures;
+  heard = heard_none _ _ _ (open_new c.new-framer.ensures);
   each = omega arith;
   empty = c.new-outgoing.ensures;
   short = omega arith;
@@ -23,9 +23,6 @@ returns-then-given-eq0-clause-output g c = heard_end _ _ _ _ _ _ _ _ _ _ c.loop.
 pub write_lines-requires-clause-held : goal.write_lines-requires-clause-held
 write_lines-requires-clause-held g c = heard_bound _ _ _ _ _ _ c.loop.invariant.heard
 
-pub write_lines-requires-clause-unfinished : goal.write_lines-requires-clause-unfinished
-write_lines-requires-clause-unfinished g c = heard_open c.open_append.ensures _ _ _ _ _ _ c.loop.invariant.heard
-
 pub returns-in_err-write_lines-clause-output : goal.returns-in_err-write_lines-clause-output
 returns-in_err-write_lines-clause-output g c = heard_stopped c.events_append.ensures c.open_append.ensures _ _ _ _ _ _ _ _ _ _ _ _ c.loop.invariant.heard c.in-Ok.ensures.bytes.0 c.in_err-write_lines.ensures.output.1 c.from_residual.ensures.1 c.in_err-write_lines.ensures.output.0
 
@@ -37,7 +34,7 @@ returns-in_err-flush-clause-output g c =
 pub loop-preserved : goal.loop-preserved
 loop-preserved g c = record {
   heard = heard_more c.events_append.ensures c.open_append.ensures _ _ _ _ _ _ _ _ _ _ _ _ c.loop.invariant.heard c.in-Ok.ensures.bytes.0 (length-take-le c.in-Ok.given c.read_some.new.buffer c.in-Ok.ensures.bound)
-      c.in_ok-write_lines.ensures.output c.in_ok-flush.ensures.output c.in_ok-write_lines.ensures.decoded;
+      c.in_ok-write_lines.ensures.output c.in_ok-flush.ensures.output c.in_ok-write_lines.ensures.framed;
   each = let k = c.loop.invariant.each in let some = c.if-given-eq0.false in omega arith;
   empty = c.in_ok-write_lines.ensures.empty;
   short = omega (arith, c.in-Ok.ensures.bound, c.read_some.auto.buffer);

@@ -1,10 +1,11 @@
 use Rattle.std.proofs.Common.{◌≡◌, ◌≤◌, ◌<◌, ◌+◌, ◌*◌, ◌^◌, [], IsTrue, false}
+use Rattle.dgt_decode.specs.Grammar.{open_message}
 use Rattle.dgt_text.proofs.Heard.{Heard}
 use Rattle.dgt_text.proofs.monitoring.monitor.Given as goal
 
 abbrev pub invariant-loop : goal.invariant-loop
 invariant-loop g l = record {
-  heard : Heard g.R.Source.left g.W.Sink.written g.W.Sink.failed g.W.Sink.late l.fn.reader l.reader l.fn.writer l.writer l.decoder l.offset;
+  heard : Heard g.R.Source.left g.W.Sink.written g.W.Sink.failed g.W.Sink.late l.fn.reader l.reader l.fn.writer l.writer (open_message l.framer) l.offset;
   each : l.counter ≤ l.offset;
   empty : l.outgoing ≡ [];
   short : l.offset ≤ 4096 * l.counter;
