@@ -109,6 +109,13 @@ impl Framer {
         }
     }
 
+    /// The bytes that are kept: those of an unfinished message, or of the one that has just become whole.
+    pub fn bytes(&self) -> &[u8]
+        ensures { result.now ≡ self.now }
+    {
+        self.kept.as_slice()
+    }
+
     /// Makes the framer as new.
     pub fn reset(&mut self)
         ensures { self.new ≡ [] }

@@ -66,6 +66,14 @@ module _ {S : Type 0} (written : S → Option (List ℕ)) (failed late : S → B
       }
       go (Err f) q whole = (q.0, subst (λ l. Stopped written failed late a c l) (sym whole) (stopped_then written failed late a b c p.out (j ++ t) p.wrote q.1))
 
+  -- a text that is held behind what is left of what was held before
+  pub gathered_pushed : (h i j : List ℕ) (a b : S) (s : List ℕ) → Gathered written failed late h i a b [] → j ≡ i ++ s → Gathered written failed late h j a b s
+  gathered_pushed h i j a b s p e = record {
+    out = p.out;
+    whole = ap (λ l. l ++ s) (sym (append-nil h) ∙ p.whole) ∙ append_assoc p.out i s ∙ ap (λ l. p.out ++ l) (sym e);
+    wrote = p.wrote;
+  }
+
   -- ---- from nothing held to nothing held
 
   pub gathered_out : {A : Type 0} (h : List ℕ) (a b c : S) (s : List ℕ) (r : Result A RunFault) → Gathered written failed late [] h a b s → Writes written failed late b c r h → Writes written failed late a c r s

@@ -1,4 +1,5 @@
 pub mod DecimalLemmas
+pub mod FieldLemmas
 pub mod GatherLemmas
 pub mod Heard
 pub mod HexLemmas

@@ -1,8 +1,11 @@
 //! The lines of events.
 
-ghost use Rattle.std.specs.Prelude.{◌≡◌, ◌+◌, ◌%◌, ◌<◌, ◌≤◌, ◌++◌, [], ◌∷◌, false, length, OnOk};
+ghost use Rattle.std.specs.Prelude.{◌≡◌, ◌+◌, ◌%◌, ◌<◌, ◌≤◌, ◌++◌, [], ◌∷◌, false, length, IfSome, OnOk};
 ghost use Rattle.hex.specs.Hex.{encode_lower};
-ghost use Rattle.dgt_decode.specs.Feeding.{event_content};
+ghost use Rattle.dgt_values.specs.Square.{square_number};
+ghost use Rattle.dgt_message.specs.Content.Content.{field};
+ghost use Rattle.dgt_decode.specs.Grammar.{Message, message_event};
+ghost use Rattle.dgt_decode.specs.Feeding.{IsWhole, event_content, found_in};
 ghost use Rattle.dgt_text.specs.Gathering.{Gathers};
 ghost use Rattle.dgt_text.specs.Lines.{bytes_text, event_line, line, offset_text, padded_decimal, unfinished_text};
 ghost use Rattle.dgt_text.specs.Marks.{Waits};
@@ -11,8 +14,9 @@ ghost use Rattle.dgt_text.specs.Runs.{Writes};
 use crate::ends::Sink;
 use crate::faults::RunFault;
 use crate::gathering::{LINE_ROOM, Outgoing};
-use crate::wording::push_event;
-use dgt_decode::Event;
+use crate::wording::{push_event, push_field};
+use dgt_decode::{Event, Found, Framer};
+use dgt_values::{Piece, Square};
 
 // How many carried bytes have their digits added at once.
 const PART: usize = 64;
@@ -131,6 +135,63 @@ pub(crate) fn put_event<W: Sink, const ROOM: usize>(
             put_bytes(outgoing, writer, body.bytes())?;
             outgoing.add(writer, b"\n")
         }
+    }
+}
+
+/// Gathers the line of what a framer found. `found` is lent, since its copies cost more than the rest.
+pub(crate) fn put_found<W: Sink, const ROOM: usize>(
+    outgoing: &mut Outgoing<ROOM>,
+    writer: &mut W,
+    offset: u64,
+    framer: &Framer,
+    found: &Found,
+) -> Result<(), RunFault>
+    requires room { LINE_ROOM ≤ ROOM }
+    requires whole { found.now ≡ Found.Message → IsWhole framer.now }
+    ensures { Gathers W.written W.failed W.late outgoing.old outgoing.new writer.old writer.new
+        result (event_line offset (found_in framer.now found.now)) }
+{
+    match found {
+        Found::Message => put_message(outgoing, writer, offset, framer),
+        other => put_event(outgoing, writer, offset, &framer.event(*other)),
+    }
+}
+
+// The line of a whole message. Most messages are fields, whose lines are formed without an event: that
+// spares copies.
+fn put_message<W: Sink, const ROOM: usize>(
+    outgoing: &mut Outgoing<ROOM>,
+    writer: &mut W,
+    offset: u64,
+    framer: &Framer,
+) -> Result<(), RunFault>
+    requires room { LINE_ROOM ≤ ROOM }
+    requires whole { IsWhole framer.now }
+    ensures { Gathers W.written W.failed W.late outgoing.old outgoing.new writer.old writer.new
+        result (event_line offset (message_event framer.now)) }
+{
+    let Some((square, piece)) = field(framer.bytes()) else {
+        return put_event(outgoing, writer, offset, &framer.event(Found::Message));
+    };
+    outgoing.make_room(writer)?;
+    push_offset(outgoing, offset);
+    push_field(outgoing, square, piece);
+    outgoing.push(b"\n");
+    Ok(())
+}
+
+// What a whole message says of one square, if it is a field.
+fn field(bytes: &[u8]) -> Option<(Square, Piece)>
+    requires { IsWhole bytes.now }
+    ensures { IfSome result (λ told. message_event bytes.now ≡
+        Message (field (square_number told.0) told.1)) }
+{
+    if bytes.len() != 5 || bytes[0] != 0x8e {
+        return None;
+    }
+    match (Square::from_index(bytes[3]), Piece::from_code(bytes[4])) {
+        (Ok(square), Ok(piece)) => Some((square, piece)),
+        _ => None,
     }
 }
 

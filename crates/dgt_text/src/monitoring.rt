@@ -10,7 +10,7 @@ ghost use Rattle.dgt_text.specs.Runs.{sink_mark_after, source_mark_after, Ran, W
 use crate::ends::{MAX_PIECE, Sink, Source};
 use crate::faults::RunFault;
 use crate::gathering::{Outgoing, flush};
-use crate::lines::{put_event, write_unfinished};
+use crate::lines::{put_found, write_unfinished};
 use dgt_decode::{Framer, laws};
 
 // Room for the lines of a full piece of field updates: 820 lines of at most 32 bytes.
@@ -39,8 +39,8 @@ fn write_lines<W: Sink>(
     while at < piece.len() {
         let advanced = framer.advance(&piece[at..]);
         at += advanced.used;
-        if let Some(found) = advanced.found {
-            put_event(outgoing, writer, offset + at as u64, &framer.event(found))?;
+        if let Some(found) = &advanced.found {
+            put_found(outgoing, writer, offset + at as u64, framer, found)?;
         }
     }
     outgoing.write_out(writer)
@@ -116,13 +116,7 @@ pub fn monitor<R: Source, W: Sink>(
         if given == 0 {
             return write_end(&framer, offset, writer);
         }
-        write_lines(
-            &mut framer,
-            &mut outgoing,
-            offset,
-            &buffer[..given],
-            writer,
-        )?;
+        write_lines(&mut framer, &mut outgoing, offset, &buffer[..given], writer)?;
         flush(writer)?;
         offset += given as u64;
     }

@@ -2,9 +2,10 @@
 
 ghost use Rattle.std.specs.Prelude.{◌≡◌, ◌+◌, ◌<◌, ◌≤◌, [], ◌++◌, ◌∷◌, length, decimal, map};
 ghost use Rattle.dgt_values.specs.Bytes.{number};
+ghost use Rattle.dgt_values.specs.Square.{square_number};
 ghost use Rattle.dgt_message.specs.Content.{content};
 ghost use Rattle.dgt_message.specs.Values.{absence_seen, answer_seen, time_seen, times_seen};
-ghost use Rattle.dgt_message.specs.Content.Content.{times, no_clock, ack, serial};
+ghost use Rattle.dgt_message.specs.Content.Content.{field, times, no_clock, ack, serial};
 ghost use Rattle.dgt_decode.specs.Grammar.{Refused};
 ghost use Rattle.dgt_decode.specs.Feeding.{event_content};
 ghost use Rattle.dgt_text.specs.Lines.{byte_text, event_text, message_text, time_text};
@@ -13,7 +14,7 @@ ghost use Rattle.dgt_text.specs.Wording.{text_with};
 use crate::gathering::Outgoing;
 use dgt_decode::Event;
 use dgt_message::{BodyFault, ClockAck, Message, NoClock, Reading, Times};
-use dgt_values::{Body, SevenBit};
+use dgt_values::{Body, Piece, SevenBit, Square};
 
 /// Adds the text of an event up to the bytes that it carries, and answers these.
 pub(crate) fn push_event<'a, const ROOM: usize>(
@@ -53,11 +54,7 @@ fn push_message<'a, const ROOM: usize>(
             text.push(b"dump ");
             text.push(position.placement().as_bytes());
         }
-        Message::Field { square, piece } => {
-            text.push(b"field ");
-            text.push(&square.name());
-            text.push(&[b' ', piece.letter() as u8]);
-        }
+        Message::Field { square, piece } => push_field(text, *square, *piece),
         Message::Times(times) => push_times(text, *times),
         Message::NoClock(absence) => push_absence(text, *absence),
         Message::Ack(answer) => push_ack(text, *answer),
@@ -84,6 +81,17 @@ fn push_message<'a, const ROOM: usize>(
         }
     }
     None
+}
+
+/// Adds the text of what stands on a square.
+pub(crate) fn push_field<const ROOM: usize>(text: &mut Outgoing<ROOM>, square: Square, piece: Piece)
+    requires { length text.old + 100 ≤ ROOM }
+    ensures text { text.new ≡ text.old ++ message_text (field (square_number square) piece) }
+    ensures len { length text.new ≡ length text.old + 10 }
+{
+    let [file, rank] = square.name();
+    text.push(b"field ");
+    text.push(&[file, rank, b' ', piece.letter() as u8]);
 }
 
 /// Adds the text of what a clock shows.

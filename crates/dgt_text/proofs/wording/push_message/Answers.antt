@@ -21,7 +21,7 @@ pub returns-clause-text : goal.returns-clause-text
 unfolding message_text
 returns-clause-text g c = elim c.match-message.branch [
   | in-Dump w ↦ rw (w.text-is, w.in-Dump.is, w.push-in-Dump.ensures.bytes, w.push.ensures.bytes) (append_assoc c.args.text.now (codes "dump ") _ ∙ ap (λ l. c.args.text.now ++ (codes "dump " ++ l)) (w.as_bytes.ensures.value ∙ w.deref.ensures.0 ∙ w.placement.ensures))
-  | in-Field w ↦ rw (w.text-is, w.in-Field.is, w.push-in-Field-3.ensures.bytes, w.push-in-Field-2.ensures.bytes, w.push-in-Field.ensures.bytes, w.name.ensures, w.letter.ensures.value) (simp append_assoc refl)
+  | in-Field w ↦ rw (w.text-is, w.in-Field.is) w.push_field.ensures.text
   | in-Times w ↦ rw (w.text-is, w.in-Times.is) w.push_times.ensures.text
   | in-NoClock w ↦ rw (w.text-is, w.in-NoClock.is) w.push_absence.ensures.text
   | in-Ack w ↦ rw (w.text-is, w.in-Ack.is) w.push_ack.ensures.text
