@@ -8,7 +8,7 @@ mod script_words;
 mod serving;
 mod simulating;
 
-use crate::tests::devices::{Broken, FlushCounter, Lender, Recorder};
+use crate::tests::devices::{Broken, CallCounter, Lender, Recorder};
 use crate::{Bytes, Device, Failed, LineFault, RunFault, monitor, write_event};
 use dgt_decode::Event;
 use dgt_message::{BodyFault, Message};
@@ -173,20 +173,23 @@ fn a_line_longer_than_the_buffer(rt: HostRuntime) {
 
 #[test]
 fn a_write_and_a_flush_for_each_piece(rt: HostRuntime) {
-    let mut updates = [0; 100];
-    for index in 0..20 {
+    let mut updates = [0; 5000];
+    for index in 0..1000 {
         updates[5 * index..5 * index + 5].copy_from_slice(FIELD);
     }
-    let mut sink = Recorder::new();
-    assert_eq!(rt; monitor(&mut Bytes::new(&updates), &mut sink, 3), Ok(()));
-    assert_eq!(rt; sink.writes, 2);
-    assert_eq!(rt; sink.flushes, 2);
+    let mut counter = CallCounter::new();
+    assert_eq!(rt;
+        monitor(&mut Bytes::new(&updates), &mut Device::new(&mut counter), 3),
+        Ok(())
+    );
+    assert_eq!(rt; counter.writes, 2);
+    assert_eq!(rt; counter.flushes, 2);
 }
 
 #[test]
 fn each_piece_is_flushed_through_a_device(rt: HostRuntime) {
     for (step, flushes) in [(1, 5), (2, 3), (64, 1)] {
-        let mut counter = FlushCounter { flushes: 0 };
+        let mut counter = CallCounter::new();
         assert_eq!(rt;
             monitor(
                 &mut Lender::new(FIELD, step),

@@ -141,14 +141,25 @@ impl Sink for Recorder {
     }
 }
 
-/// A writer of the standard library, which takes every byte and counts its flushes.
+/// A writer of the standard library, which takes every byte and counts its calls.
 #[derive(Drop)]
-pub struct FlushCounter {
+pub struct CallCounter {
+    pub writes: u64,
     pub flushes: u64,
 }
 
-impl Write for FlushCounter {
+impl CallCounter {
+    pub fn new() -> Self {
+        CallCounter {
+            writes: 0,
+            flushes: 0,
+        }
+    }
+}
+
+impl Write for CallCounter {
     fn write(&mut self, buf: &[u8]) -> io::Result<usize> {
+        self.writes = self.writes.saturating_add(1);
         Ok(buf.len())
     }
 
