@@ -53,8 +53,9 @@ impl Decoder {
     }
 }
 
-/// Hands over each event of the bytes, fed in pieces, with its offset. At the end of a piece it hands over none.
-fn each_event(bytes: &[u8], most: usize, mut take: impl FnMut(u64, Option<&Event>)) {
+/// Hands over each event of the bytes, fed in pieces, with its offset. At the end of a piece it hands over none. Answers
+/// how many bytes are left of an unfinished message.
+fn each_event(bytes: &[u8], most: usize, mut take: impl FnMut(u64, Option<&Event>)) -> usize {
     let (mut decoder, mut offset) = (Decoder::new(), 0);
     for mut piece in bytes.chunks(most) {
         while !piece.is_empty() {
@@ -67,6 +68,7 @@ fn each_event(bytes: &[u8], most: usize, mut take: impl FnMut(u64, Option<&Event
         }
         take(offset, None);
     }
+    decoder.have
 }
 
 fn weight(event: &Event) -> u64 {
@@ -166,14 +168,20 @@ fn put_line(text: &mut Vec<u8>, offset: u64, event: &Event) {
 
 pub fn monitor(bytes: &[u8]) -> u64 {
     let (mut text, mut count) = (Vec::with_capacity(40_000), 0);
-    each_event(bytes, 64, |offset, event| match event {
+    let unfinished = each_event(bytes, 64, |offset, event| match event {
         Some(event) => put_line(&mut text, offset, event),
         None => {
             count += black_box(&text).len() as u64;
             text.clear();
         }
     });
-    count
+    if unfinished > 0 {
+        put_decimal(&mut text, bytes.len() as u64, 8);
+        text.extend_from_slice(b" unfinished ");
+        put_decimal(&mut text, unfinished as u64, 1);
+        text.push(b'\n');
+    }
+    count + black_box(&text).len() as u64
 }
 
 pub fn write_events(lines: u64) -> u64 {
