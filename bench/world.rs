@@ -10,6 +10,8 @@ unsafe extern "C" {
     fn dgt_bench_differ_by_scan(rounds: u64) -> u64;
     fn dgt_bench_poll(squares: *const u8, len: usize) -> u64;
     fn dgt_bench_poll_by_scan(squares: *const u8, len: usize) -> u64;
+    fn dgt_bench_idle_poll(rounds: u64) -> u64;
+    fn dgt_bench_idle_poll_by_scan(rounds: u64) -> u64;
 }
 
 const ROUNDS: u64 = 2_000;
@@ -62,5 +64,10 @@ pub fn compare() {
         "poll, one changed square",
         || unsafe { dgt_bench_poll(squares.as_ptr(), squares.len()) },
         || unsafe { dgt_bench_poll_by_scan(squares.as_ptr(), squares.len()) },
+    );
+    compare_scan(
+        "poll, no changed square",
+        || unsafe { dgt_bench_idle_poll(TURNS / 16) },
+        || unsafe { dgt_bench_idle_poll_by_scan(TURNS / 16) },
     );
 }
