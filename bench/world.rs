@@ -34,8 +34,8 @@ fn deliver(capacity: usize) {
     let made = each(timed(|| unsafe { dgt_bench_fill(capacity, 0, ROUNDS) }), 0);
     let fill = filled - made;
     println!(
-        "deliver, {dumps} dumps ({bytes} bytes) in a line of {capacity}: {:.2} ns a byte \
-         (filling and delivering {both:.2} ns, less filling alone {fill:.2} ns)",
+        "deliver by one ToHost(65535), {dumps} dumps ({bytes} bytes) in a line of {capacity}: {:.2} ns a byte \
+         (filling and delivering one world over and over {both:.2} ns, less filling new worlds {fill:.2} ns)",
         both - fill,
     );
 }
