@@ -4,6 +4,7 @@ use std::hint::black_box;
 use std::time::Instant;
 
 mod plain;
+mod world;
 
 // A slice crosses as a pointer and a length.
 unsafe extern "C" {
@@ -95,4 +96,5 @@ fn main() {
         || unsafe { dgt_bench_write_event(black_box(LINES)) },
         || plain::write_events(black_box(LINES)),
     );
+    world::compare();
 }

@@ -1,0 +1,73 @@
+//! Times the deliveries of a world, the squares that differ and the polls of a board: the last two beside a scan of the
+//! squares, proved too.
+use super::{garbage, timed};
+
+// A parameter of the type `Global` takes no place.
+unsafe extern "C" {
+    fn dgt_bench_deliver(capacity: usize, dumps: u64, rounds: u64) -> u64;
+    fn dgt_bench_fill(capacity: usize, dumps: u64, rounds: u64) -> u64;
+    fn dgt_bench_differ(rounds: u64) -> u64;
+    fn dgt_bench_differ_by_scan(rounds: u64) -> u64;
+    fn dgt_bench_poll(squares: *const u8, len: usize) -> u64;
+    fn dgt_bench_poll_by_scan(squares: *const u8, len: usize) -> u64;
+    fn dgt_bench_idle_poll(rounds: u64) -> u64;
+    fn dgt_bench_idle_poll_by_scan(rounds: u64) -> u64;
+}
+
+const ROUNDS: u64 = 2_000;
+const TURNS: u64 = 100_000;
+const DUMP: u64 = 67;
+/// So many replies does a host await.
+const MOST_DUMPS: u64 = 16;
+
+/// One `ToHost(65535)` delivers all dumps that a line takes. A line is emptied in no other way, so the time of filling is
+/// taken over new worlds, and the time of making those is subtracted.
+fn deliver(capacity: usize) {
+    let dumps = MOST_DUMPS.min(capacity as u64 / DUMP);
+    let bytes = dumps * DUMP;
+    let each = |(time, answer): (f64, u64), bytes_each: u64| {
+        assert_eq!(answer, ROUNDS * bytes_each);
+        time * 1e3 / ROUNDS as f64 / bytes as f64
+    };
+    let both = each(timed(|| unsafe { dgt_bench_deliver(capacity, dumps, ROUNDS) }), bytes);
+    let filled = each(timed(|| unsafe { dgt_bench_fill(capacity, dumps, ROUNDS) }), bytes);
+    let made = each(timed(|| unsafe { dgt_bench_fill(capacity, 0, ROUNDS) }), 0);
+    let fill = filled - made;
+    println!(
+        "deliver by one ToHost(65535), {dumps} dumps ({bytes} bytes) in a line of {capacity}: {:.2} ns a byte \
+         (filling and delivering one world over and over {both:.2} ns, less filling new worlds {fill:.2} ns)",
+        both - fill,
+    );
+}
+
+fn compare_scan(name: &str, lanes: impl Fn() -> u64, scan: impl Fn() -> u64) {
+    let ((lanes, answer), (scan, same)) = (timed(lanes), timed(scan));
+    assert_eq!(answer, same, "{name}: the answers differ");
+    let each = |time: f64| time * 1e3 / TURNS as f64;
+    println!("{name}: {:.1} ns each, by a scan {:.1} ns, {:.1} times as fast", each(lanes), each(scan), scan / lanes);
+}
+
+pub fn compare() {
+    // A large block that is given back has the allocator keep what the worlds give back.
+    drop(std::hint::black_box(vec![1u8; 16 << 20]));
+    for capacity in [1024, 4096, 16384, 65535] {
+        deliver(capacity);
+    }
+    compare_scan(
+        "differ, two positions",
+        || unsafe { dgt_bench_differ(TURNS) },
+        || unsafe { dgt_bench_differ_by_scan(TURNS) },
+    );
+    // Each is changed twice.
+    let squares: Vec<u8> = garbage(TURNS as usize / 2).iter().map(|byte| byte % 64).collect();
+    compare_scan(
+        "poll, one changed square",
+        || unsafe { dgt_bench_poll(squares.as_ptr(), squares.len()) },
+        || unsafe { dgt_bench_poll_by_scan(squares.as_ptr(), squares.len()) },
+    );
+    compare_scan(
+        "poll, no changed square",
+        || unsafe { dgt_bench_idle_poll(TURNS / 16) },
+        || unsafe { dgt_bench_idle_poll_by_scan(TURNS / 16) },
+    );
+}
