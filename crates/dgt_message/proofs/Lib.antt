@@ -6,3 +6,4 @@ pub mod Headers
 pub mod SpellingSpells
 pub mod ReadingFits
 pub mod Equal
+pub mod CodeLemmas

@@ -1,10 +1,9 @@
 -- The reading of a code and a body is the message that fits them, or the fault of the body.
-use Rattle.std.proofs.Common.{◌≡◌, ◌≢◌, ℕ, zero, suc, ◌<◌, ◌≤◌, ◌+◌, ◌*◌, ◌/◌, ◌%◌, ◌⊎◌, inl, inr, Bool, true, false, cond, IsTrue, refl, sym, ap, subst, List, [], ◌∷◌, length, map, take, drop, get_or, arith, ◌-◌, Option, Some, None, Result, Ok, Err, below_more}
-use Rattle.std.specs.Prelude.{◌==◌, ◌||◌, ◌&&◌, ◌↔◌, nat_le, bit_and, All, IfSome, IsSomeAnd, MatchResult, slice_index}
+use Rattle.std.proofs.Common.{◌≡◌, ◌≢◌, ℕ, zero, suc, ◌<◌, ◌≤◌, ◌+◌, ◌*◌, ◌/◌, ◌%◌, ◌⊎◌, inl, inr, Bool, true, false, cond, refl, sym, ap, ◌∙◌, List, [], ◌∷◌, length, map, drop, get_or, arith, ◌-◌, Option, Some, None, Result, Ok, Err, below_more}
+use Rattle.std.specs.Prelude.{◌==◌, ◌↔◌, nat_le, All, IfSome, IsSomeAnd, MatchResult, slice_index}
 use Rattle.std.specs.Option.{option_or}
 use Rattle.std.specs.List.{AllByRecursion}
-use Rattle.std.proofs.lemmas.Bool.{leb-true, leb-false, ltb-true, ltb-false}
-use Rattle.std.proofs.lemmas.Bool.Decides.{eqb_tells}
+use Rattle.std.proofs.lemmas.Bool.{and_cases, and_parts, eqb-false, eqb-true, leb-true, leb-false, ltb-true, ltb-false}
 use Rattle.std.proofs.lemmas.List.{length-map, length-drop}
 use Rattle.std.proofs.lemmas.List.Elements.{All-from_recursion, recursion_from_All}
 use Rattle.dgt_values.specs.Piece.{piece_code}
@@ -12,19 +11,23 @@ use Rattle.dgt_message.specs.declared.bodies.BodyFault.{BodyFault}
 use Rattle.dgt_message.specs.declared.bodies.BodyFault.TheVariants.{WrongSize}
 use Rattle.dgt_message.specs.declared.message.Message.{Message}
 use Rattle.dgt_message.specs.Ack.{ack_in}
-use Rattle.dgt_message.specs.Clock.{IsMark}
+use Rattle.dgt_message.specs.declared.known.KnownCode.{KnownCode}
+use Rattle.dgt_message.specs.declared.known.KnownCode.TheVariants.{Dump, Clock, Field, Serial, Version}
+use Rattle.dgt_message.specs.Clock.{IsMarked, SaysNoClock, is_marked, says_no_clock}
+use Rattle.dgt_message.specs.Code.{known_number, known_with}
+use Rattle.dgt_message.specs.Layout.{Column, Layout, column_of, known_layout, layout_of, times_column, total_of}
 use Rattle.dgt_message.specs.Content.{Content, code_of, content, IsCarried}
-use Rattle.dgt_message.specs.Content.Content.{dump, field, times, no_clock, ack, version}
-use Rattle.dgt_message.specs.Fault.{Allows, AllowsAt, Column, IsFaultOf, IsFirstBad, IsRightSize, Views, column, has_times, total_of}
-use Rattle.dgt_message.specs.Fault.Column.{square, piece, hours, sixty, anything}
+use Rattle.dgt_message.specs.Content.Content.{dump, field, version}
+use Rattle.dgt_message.specs.Fault.{Allows, IsFaultOf, IsFirstBad, IsRightSize, Views}
+use Rattle.dgt_message.specs.Layout.Column.{square, piece, hours, sixty, anything}
 use Rattle.dgt_message.specs.Laws.{HasOneReading}
-use Rattle.dgt_message.specs.Other.{HasCase}
 use Rattle.dgt_message.specs.Time.{IsTime}
-use Rattle.dgt_message.specs.Reading.{is_allowed, clock_in, content_if_any, fault_of, first_bad_place, first_failure, is_right_size, message_in, message_or_fault, piece_with_code, reading, time_in}
+use Rattle.dgt_message.specs.Reading.{is_allowed, content_if_any, fault_of, first_bad_place, first_failure, is_right_size, message_or_fault, said_in, piece_with_code, reading, time_in}
 use Rattle.dgt_message.specs.Spelling.{Fits, Spells, packed_decimal}
 use Rattle.dgt_message.proofs.Absence.{absence_fits}
-use Rattle.dgt_message.proofs.MessageIn.{piece_code-piece_with_code, last_chosen}
-use Rattle.dgt_message.proofs.AtMostOne.{one_message, one_fault, not_both, all_true}
+use Rattle.dgt_message.proofs.CodeLemmas.{found_number}
+use Rattle.dgt_message.proofs.MessageIn.{piece_code-piece_with_code}
+use Rattle.dgt_message.proofs.AtMostOne.{one_message, one_fault, not_both}
 use Rattle.dgt_message.proofs.SpellingSpells.{small_code}
 
 -- ---- The first bad place
@@ -44,23 +47,13 @@ searched test (suc n) = go (first_failure test n) (searched test n) (test n) ref
     go None (all h) false e = fails n (omega arith) e h
     go (Some at) (fails _ l f h) t e = fails at (omega arith) f h
 
--- both tests pass
-both_true : (a b : Bool) → (a && b) ≡ true → (a ≡ true) × (b ≡ true)
-both_true true b h = (refl, h)
-both_true false b h = cc
-
--- one of two tests fails
-some_false : (a b : Bool) → (a && b) ≡ false → (a ≡ false) ⊎ (b ≡ false)
-some_false true b h = inr h
-some_false false b h = inl refl
-
 -- a byte that passes the test of its column is allowed
 allowed : (c : Column) (byte : ℕ) → is_allowed c byte ≡ true → Allows c byte
 allowed square byte h = ltb-true byte 64 h
 allowed piece byte h = ltb-true byte 16 h
 allowed hours byte h = leb-true (byte % 16) 9 h
 allowed sixty byte h =
-    let both = both_true (nat_le (byte / 16) 5) (nat_le (byte % 16) 9) h in
+    let both = and_parts (nat_le (byte / 16) 5) (nat_le (byte % 16) 9) h in
     (leb-true (byte / 16) 5 both.0, leb-true (byte % 16) 9 both.1)
 allowed anything byte h = tt
 
@@ -70,7 +63,7 @@ not_allowed square byte h a = omega (arith, ltb-false byte 64 h)
 not_allowed piece byte h a = omega (arith, ltb-false byte 16 h)
 not_allowed hours byte h a = omega (arith, leb-false (byte % 16) 9 h)
 not_allowed sixty byte h a =
-    elim (some_false (nat_le (byte / 16) 5) (nat_le (byte % 16) 9) h) [
+    elim (and_cases (nat_le (byte / 16) 5) (nat_le (byte % 16) 9) h) [
       | inl e ↦ omega (arith, leb-false (byte / 16) 5 e, a.0)
       | inr e ↦ omega (arith, leb-false (byte % 16) 9 e, a.1)
     ]
@@ -78,40 +71,35 @@ not_allowed anything byte h a = cc
 
 -- ---- The fault
 
--- a column that is for no piece, no square and not for anything is one of the times
-clock_only : (a b p c t : Bool) (x y : Column) → cond a piece (cond b (cond p square piece) (cond (c && t) x anything)) ≡ y → (y ≡ piece → ⊥) → (y ≡ square → ⊥) → (y ≡ anything → ⊥) → c ≡ true
-clock_only true b p c t x y e no_piece no_square no_anything = absurd (no_piece (sym e))
-clock_only false true true c t x y e no_piece no_square no_anything = absurd (no_square (sym e))
-clock_only false true false c t x y e no_piece no_square no_anything = absurd (no_piece (sym e))
-clock_only false false p true t x y e no_piece no_square no_anything = refl
-clock_only false false p false t x y e no_piece no_square no_anything = absurd (no_anything (sym e))
+-- a column is a square or a piece
+field_column : (b : Bool) → (cond b square piece ≡ piece → ⊥) → (cond b square piece ≡ square → ⊥) → ⊥
+field_column true no_piece no_square = no_square refl
+field_column false no_piece no_square = no_piece refl
 
--- the test of equality tells equality
-eqb_is : (a b : ℕ) → (a == b) ≡ true → a ≡ b
-eqb_is a b h = elim (eqb_tells a b) [ inl t ↦ t.1 | inr f ↦ (let no = f.0 in absurd cc) ]
-
--- such a column stands only in a message of the clock
-clock_column : (code : ℕ) (body : List ℕ) (at : ℕ) (c : Column) → column code body at ≡ c → (c ≡ piece → ⊥) → (c ≡ square → ⊥) → (c ≡ anything → ⊥) → code ≡ 0x0d
-clock_column code body at c e no_piece no_square no_anything =
-    eqb_is code 0x0d (clock_only (code == 0x06) (code == 0x0e) (at == 0) (code == 0x0d) (has_times body) _ c e no_piece no_square no_anything)
+-- only times have other columns than those of pieces, squares and anything
+digits_of_times : (l : Layout) (at : ℕ) → (column_of l at ≡ piece → ⊥) → (column_of l at ≡ square → ⊥) → (column_of l at ≡ anything → ⊥) → l ≡ Layout.times
+digits_of_times Layout.times at no_piece no_square no_anything = refl
+digits_of_times Layout.dump at no_piece no_square no_anything = absurd (no_piece refl)
+digits_of_times Layout.field at no_piece no_square no_anything = absurd (field_column (at == 0) no_piece no_square)
+digits_of_times _ at no_piece no_square no_anything = absurd (no_anything refl)
 
 -- the fault at the first bad place is a fault of the body
-bad_says : (code : ℕ) (body : List ℕ) (at : ℕ) → IsFirstBad code body at → (c : Column) → column code body at ≡ c → IsFaultOf code body (fault_of c at)
+bad_says : (code : ℕ) (body : List ℕ) (at : ℕ) → IsFirstBad code body at → (c : Column) → column_of (layout_of code body) at ≡ c → IsFaultOf code body (fault_of c at)
 bad_says code body at h square e = (h, e)
 bad_says code body at h piece e = (h, e)
-bad_says code body at h hours e = (h, clock_column code body at hours e (λ p. cc) (λ p. cc) (λ p. cc))
-bad_says code body at h sixty e = (h, clock_column code body at sixty e (λ p. cc) (λ p. cc) (λ p. cc))
+bad_says code body at h hours e = (h, digits_of_times (layout_of code body) at (λ p. cc) (λ p. cc) (λ p. cc))
+bad_says code body at h sixty e = (h, digits_of_times (layout_of code body) at (λ p. cc) (λ p. cc) (λ p. cc))
 bad_says code body at h anything e = absurd (h.bad (rw e tt))
 
 -- the test of the size tells a right one
 right_size : (o : Option ℕ) (n : ℕ) → is_right_size n o ≡ true → IfSome o (λ total. n ≡ total)
 right_size None n h = tt
-right_size (Some total) n h = eqb_is n total h
+right_size (Some total) n h = eqb-true n total h
 
 -- the test of the size tells a wrong one
 wrong_size : (o : Option ℕ) (n : ℕ) → is_right_size n o ≡ false → IsSomeAnd o (λ total. n ≢ total)
 wrong_size None n h = cc
-wrong_size (Some total) n h = elim (eqb_tells n total) [ inl t ↦ (let yes = t.0 in absurd cc) | inr f ↦ f.1 ]
+wrong_size (Some total) n h = eqb-false n total h
 
 -- ---- The message
 
@@ -122,11 +110,11 @@ codes_back (b ∷ body) h =
     rw (piece_code-piece_with_code b (h 0 (omega arith)), ← codes_back body (λ k l. h (suc k) (omega arith))) refl
 
 -- 64 codes are a dump
-dump_fits : (body : List ℕ) → length body + 3 ≡ 67 → ((k : ℕ) → k < length body → slice_index body k < 16) → Fits (dump (map piece_with_code body)) 0x06 body
+dump_fits : (body : List ℕ) → length body + 3 ≡ 67 → ((k : ℕ) → k < length body → slice_index body k < 16) → Fits (dump (map piece_with_code body)) (known_number Dump) body
 dump_fits body size h = record { is_message = omega (arith, length-map body piece_with_code); code_is = refl; spelled = codes_back body h }
 
 -- a square and a code are a field
-field_fits : (body : List ℕ) → length body + 3 ≡ 5 → ((k : ℕ) → k < length body → AllowsAt 0x0e body k) → Fits (field (slice_index body 0) (piece_with_code (slice_index body 1))) 0x0e body
+field_fits : (body : List ℕ) → length body + 3 ≡ 5 → ((k : ℕ) → k < length body → Allows (column_of Layout.field k) (slice_index body k)) → Fits (field (slice_index body 0) (piece_with_code (slice_index body 1))) (known_number Field) body
 field_fits (a ∷ b ∷ []) size h =
     let is : piece_code (piece_with_code b) ≡ b = piece_code-piece_with_code b (h 1 (omega arith)) in
     record { is_message = h 0 (omega arith); code_is = refl; spelled = rw is refl }
@@ -135,7 +123,7 @@ field_fits (a ∷ []) size h = absurd (omega arith)
 field_fits [] size h = absurd (omega arith)
 
 -- two bytes are a version
-version_fits : (body : List ℕ) → length body + 3 ≡ 5 → All (λ byte. byte < 128) body → Fits (version (slice_index body 0) (slice_index body 1)) 0x13 body
+version_fits : (body : List ℕ) → length body + 3 ≡ 5 → All (λ byte. byte < 128) body → Fits (version (slice_index body 0) (slice_index body 1)) (known_number Version) body
 version_fits (a ∷ b ∷ []) size seven = record { is_message = (seven 0 0 (omega arith), seven 1 0 (omega arith)); code_is = refl; spelled = refl }
 version_fits (a ∷ b ∷ c ∷ body) size seven = absurd (omega arith)
 version_fits (a ∷ []) size seven = absurd (omega arith)
@@ -159,54 +147,29 @@ same_seven : (a b c d e f g a' b' c' d' e' f' : ℕ) → a' ≡ a → b' ≡ b �
 same_seven a b c d e f g a' b' c' d' e' f' p q r s t u = cc
 
 -- seven allowed bytes, with no mark and with a clock, are times
-times_fits : (body : List ℕ) → length body + 3 ≡ 10 → All (λ byte. byte < 128) body
-    → (slice_index body 0 % 16 == 0x0a || slice_index body 3 % 16 == 0x0a) ≡ false → (bit_and (slice_index body 6) 0x20 == 0) ≡ true
-    → ((k : ℕ) → k < length body → AllowsAt 0x0d body k)
-    → Fits (times (record { first = time_in (slice_index body 0) (slice_index body 1) (slice_index body 2); second = time_in (slice_index body 3) (slice_index body 4) (slice_index body 5); status = slice_index body 6 })) 0x0d body
-times_fits (a ∷ b ∷ c ∷ d ∷ e ∷ f ∷ g ∷ []) size seven unmarked shown h =
-    let has : has_times (a ∷ b ∷ c ∷ d ∷ e ∷ f ∷ g ∷ []) ≡ true = all_true (a % 16 == 0x0a) (d % 16 == 0x0a) (bit_and g 0x20 == 0) unmarked shown in
-    let at0 : Allows hours a = rw has at (h 0 (omega arith)) in
-    let at1 : Allows sixty b = rw has at (h 1 (omega arith)) in
-    let at2 : Allows sixty c = rw has at (h 2 (omega arith)) in
-    let at3 : Allows hours d = rw has at (h 3 (omega arith)) in
-    let at4 : Allows sixty e = rw has at (h 4 (omega arith)) in
-    let at5 : Allows sixty f = rw has at (h 5 (omega arith)) in
-    let set : bit_and g 0x20 ≡ 0 = eqb_is (bit_and g 0x20) 0 shown in
+times_fits : (body : List ℕ) → length body + 3 ≡ 10 → All (λ byte. byte < 128) body → says_no_clock (slice_index body 6) ≡ false
+    → ((k : ℕ) → k < length body → Allows (times_column k) (slice_index body k)) → Fits (said_in Layout.times (known_number Clock) body) (known_number Clock) body
+times_fits (a ∷ b ∷ c ∷ d ∷ e ∷ f ∷ g ∷ []) size seven shown h =
+    let at1 : Allows sixty b = h 1 (omega arith) in
+    let at2 : Allows sixty c = h 2 (omega arith) in
+    let at4 : Allows sixty e = h 4 (omega arith) in
+    let at5 : Allows sixty f = h 5 (omega arith) in
     record {
       is_message = (
-        time_is a b c (seven 0 0 (omega arith)) at0 at1 at2,
-        time_is d e f (seven 3 0 (omega arith)) at3 at4 at5,
+        time_is a b c (seven 0 0 (omega arith)) (h 0 (omega arith)) at1 at2,
+        time_is d e f (seven 3 0 (omega arith)) (h 3 (omega arith)) at4 at5,
         seven 6 0 (omega arith),
-        λ no. no set,
+        λ no. absurd (let k : true ≡ false = sym no ∙ shown in cc),
       );
       code_is = refl;
       spelled = same_seven a b c d e f g _ _ _ _ _ _ (joined a) (repacked b at1) (repacked c at2) (joined d) (repacked e at4) (repacked f at5);
     }
-times_fits (a ∷ b ∷ c ∷ d ∷ e ∷ f ∷ g ∷ i ∷ body) size seven unmarked shown h = absurd (omega arith)
-times_fits _ size seven unmarked shown h = absurd (omega arith)
-
--- one of two tests passes
-or_is : (a b : Bool) → (a || b) ≡ true → (a ≡ true) ⊎ (b ≡ true)
-or_is true b h = inl refl
-or_is false b h = inr h
-
--- both tests fail
-or_none : (a b : Bool) → (a || b) ≡ false → (a ≡ false) × (b ≡ false)
-or_none false b h = (refl, h)
-or_none true b h = cc
-
--- the test of the marks tells one
-marks : (a b : ℕ) → (a % 16 == 0x0a || b % 16 == 0x0a) ≡ true → IsMark a ⊎ IsMark b
-marks a b h = elim (or_is (a % 16 == 0x0a) (b % 16 == 0x0a) h) [ inl e ↦ inl (eqb_is (a % 16) 0x0a e) | inr e ↦ inr (eqb_is (b % 16) 0x0a e) ]
-
--- the test of equality tells a difference
-ne_is : (a b : ℕ) → (a == b) ≡ false → a ≡ b → ⊥
-ne_is a b h = elim (eqb_tells a b) [ inl t ↦ (let yes = t.0 in absurd cc) | inr f ↦ f.1 ]
+times_fits (a ∷ b ∷ c ∷ d ∷ e ∷ f ∷ g ∷ i ∷ body) size seven shown h = absurd (omega arith)
+times_fits _ size seven shown h = absurd (omega arith)
 
 -- seven bytes with a mark are an acknowledgement
 ack_fits : (body : List ℕ) → length body + 3 ≡ 10 → All (λ byte. byte < 128) body
-    → (slice_index body 0 % 16 == 0x0a || slice_index body 3 % 16 == 0x0a) ≡ true
-    → Fits (ack (record { ack = ack_in body; status = slice_index body 6 })) 0x0d body
+    → IsMarked body → Fits (said_in Layout.ack (known_number Clock) body) (known_number Clock) body
 ack_fits body size seven marked =
     let at : (k : ℕ) → k < 7 → get_or body k 0 < 128 = λ k less. seven k 0 (omega arith) in
     record {
@@ -216,98 +179,45 @@ ack_fits body size seven marked =
         at 6 (omega arith),
       );
       code_is = refl;
-      spelled = (omega arith, marks (slice_index body 0) (slice_index body 3) marked, refl, refl);
+      spelled = (omega arith, marked, refl, refl);
     }
 
 -- seven bytes with no mark and with no clock are those of a board without one
-none_fits : (body : List ℕ) → length body + 3 ≡ 10 → All (λ byte. byte < 128) body
-    → (slice_index body 0 % 16 == 0x0a || slice_index body 3 % 16 == 0x0a) ≡ false → (bit_and (slice_index body 6) 0x20 == 0) ≡ false
-    → Fits (no_clock (record { raw = take 6 body; status = slice_index body 6 })) 0x0d body
+none_fits : (body : List ℕ) → length body + 3 ≡ 10 → All (λ byte. byte < 128) body → is_marked body ≡ false → SaysNoClock (slice_index body 6)
+    → Fits (said_in Layout.no_clock (known_number Clock) body) (known_number Clock) body
 none_fits (a ∷ b ∷ c ∷ d ∷ e ∷ f ∷ g ∷ []) size seven unmarked set =
-    let apart = or_none (a % 16 == 0x0a) (d % 16 == 0x0a) unmarked in
-    absence_fits (a ∷ b ∷ c ∷ d ∷ e ∷ f ∷ g ∷ []) refl seven (ne_is (a % 16) 0x0a apart.0, ne_is (d % 16) 0x0a apart.1) (ne_is (bit_and g 0x20) 0 set)
+    absence_fits (a ∷ b ∷ c ∷ d ∷ e ∷ f ∷ g ∷ []) refl seven (λ is. absurd (let k : true ≡ false = sym is ∙ unmarked in cc)) set
 none_fits (a ∷ b ∷ c ∷ d ∷ e ∷ f ∷ g ∷ i ∷ body) size seven unmarked set = absurd (omega arith)
 none_fits _ size seven unmarked set = absurd (omega arith)
 
--- seven allowed bytes are a message of the clock
-clock_fits : (body : List ℕ) → length body + 3 ≡ 10 → All (λ byte. byte < 128) body
-    → ((k : ℕ) → k < length body → AllowsAt 0x0d body k) → Fits (clock_in body) 0x0d body
-clock_fits body size seven h =
-    go (slice_index body 0 % 16 == 0x0a || slice_index body 3 % 16 == 0x0a) refl (bit_and (slice_index body 6) 0x20 == 0) refl
-  where
-    go : (m : Bool) → (slice_index body 0 % 16 == 0x0a || slice_index body 3 % 16 == 0x0a) ≡ m → (s : Bool) → (bit_and (slice_index body 6) 0x20 == 0) ≡ s
-        → Fits (cond m (ack (record { ack = ack_in body; status = slice_index body 6 }))
-        (cond s (times (record { first = time_in (slice_index body 0) (slice_index body 1) (slice_index body 2); second = time_in (slice_index body 3) (slice_index body 4) (slice_index body 5); status = slice_index body 6 }))
-        (no_clock (record { raw = take 6 body; status = slice_index body 6 })))) 0x0d body
-    go true e s f = ack_fits body size seven e
-    go false e true f = times_fits body size seven e f h
-    go false e false f = none_fits body size seven e f
+-- a body has the size of its layout
+abbrev HasSize : Layout → List ℕ → Type 0
+HasSize l body = IfSome (total_of l) (λ total. length body + 3 ≡ total)
 
--- with seven tests failed, a code has no case of its own
-no_case : (a b c d e f g : Bool) → a ≡ false → b ≡ false → c ≡ false → d ≡ false → e ≡ false → f ≡ false → g ≡ false
-    → IsTrue (a || b || c || d || e || f || g) → ⊥
-no_case false false false false false false false p q r s t u v h = cc
-no_case true b c d e f g p q r s t u v h = cc
-no_case false true c d e f g p q r s t u v h = cc
-no_case false false true d e f g p q r s t u v h = cc
-no_case false false false true e f g p q r s t u v h = cc
-no_case false false false false true f g p q r s t u v h = cc
-no_case false false false false false true g p q r s t u v h = cc
-no_case false false false false false false true p q r s t u v h = cc
+-- its bytes are allowed in their places
+abbrev AreAllowed : Layout → List ℕ → Type 0
+AreAllowed l body = (k : ℕ) → k < length body → Allows (column_of l k) (slice_index body k)
 
--- a property of codes, by their cases
-by_code : (P : ℕ → Type 0) → P 0x06 → P 0x0d → P 0x0e → P 0x11 → P 0x12 → P 0x13 → P 0x20
-    → ((code : ℕ) → (HasCase code → ⊥) → P code) → (code : ℕ) → P code
-by_code P a b c d e f g others code =
-    elim (eqb_tells code 0x06) [
-      | inl t ↦ subst P (sym t.1) a
-      | inr a' ↦
-          elim (eqb_tells code 0x0d) [
-            | inl t ↦ subst P (sym t.1) b
-            | inr b' ↦
-                elim (eqb_tells code 0x0e) [
-                  | inl t ↦ subst P (sym t.1) c
-                  | inr c' ↦
-                      elim (eqb_tells code 0x11) [
-                        | inl t ↦ subst P (sym t.1) d
-                        | inr d' ↦
-                            elim (eqb_tells code 0x12) [
-                              | inl t ↦ subst P (sym t.1) e
-                              | inr e' ↦
-                                  elim (eqb_tells code 0x13) [
-                                    | inl t ↦ subst P (sym t.1) f
-                                    | inr f' ↦
-                                        elim (eqb_tells code 0x20) [
-                                          | inl t ↦ subst P (sym t.1) g
-                                          | inr g' ↦
-                                              others code (no_case (code == 0x06) (code == 0x0d) (code == 0x0e) (code == 0x11) (code == 0x12) (code == 0x13) (code == 0x20) a'.0 b'.0 c'.0 d'.0 e'.0 f'.0 g'.0)
-                                        ]
-                                  ]
-                            ]
-                      ]
-                ]
-          ]
-    ]
+-- seven allowed bytes are a message of the clock, by their marks and then by their status
+clock_fits : (body : List ℕ) → All (λ byte. byte < 128) body → (m : Bool) → is_marked body ≡ m → (s : Bool) → says_no_clock (slice_index body 6) ≡ s
+    → HasSize (cond m Layout.ack (cond s Layout.no_clock Layout.times)) body → AreAllowed (cond m Layout.ack (cond s Layout.no_clock Layout.times)) body
+    → Fits (said_in (cond m Layout.ack (cond s Layout.no_clock Layout.times)) (known_number Clock) body) (known_number Clock) body
+clock_fits body seven true e s f size h = ack_fits body size seven e
+clock_fits body seven false e true f size h = none_fits body size seven e f
+clock_fits body seven false e false f size h = times_fits body size seven f h
 
--- a body of the right size, each of whose places allows its byte, says this message
-abbrev GoodFits : ℕ → Type 0
-GoodFits code = (body : List ℕ) → code < 128 → IsCarried body → IsRightSize code body
-    → ((k : ℕ) → k < length body → AllowsAt code body k) → Fits (message_in code body) code body
-
--- such a message fits
-good_fits : (code : ℕ) → GoodFits code
-good_fits =
-    by_code GoodFits
-    (λ body small carried size h. dump_fits body size h)
-    (λ body small carried size h. clock_fits body size carried.1 h)
-    (λ body small carried size h. field_fits body size h)
-    (λ body small carried size h. record { is_message = (omega arith, carried.1); code_is = refl; spelled = refl })
-    (λ body small carried size h. record { is_message = carried; code_is = refl; spelled = refl })
-    (λ body small carried size h. version_fits body size carried.1)
-    (λ body small carried size h. record { is_message = carried; code_is = refl; spelled = refl })
-    (λ code none body small carried size h.
-    rw (last_chosen (code == 0x06) (code == 0x0d) (code == 0x0e) (code == 0x11) (code == 0x12) (code == 0x13) (code == 0x20) _ _ _ _ _ _ _ _ none)
-    (record { is_message = (small, none, carried); code_is = refl; spelled = refl }))
+-- a body of the right size whose bytes are all allowed says the message of its layout
+by_known : (known : Option KnownCode) (code : ℕ) (body : List ℕ) → code < 128 → IsCarried body → known_with code ≡ known
+    → HasSize (known_layout known body) body → AreAllowed (known_layout known body) body → Fits (said_in (known_layout known body) code body) code body
+by_known (Some Dump) code body small carried e size h = rw (found_number code Dump e) (dump_fits body size h)
+by_known (Some Clock) code body small carried e size h =
+    rw (found_number code Clock e) (clock_fits body carried.1 (is_marked body) refl (says_no_clock (slice_index body 6)) refl size h)
+by_known (Some Field) code body small carried e size h = rw (found_number code Field e) (field_fits body size h)
+by_known (Some Serial) code body small carried e size h =
+    rw (found_number code Serial e) (record { is_message = (omega arith, carried.1); code_is = refl; spelled = refl })
+by_known (Some Version) code body small carried e size h = rw (found_number code Version e) (version_fits body size carried.1)
+by_known _ code body small carried e size h =
+    record { is_message = (small, ap (λ known. known_layout known body) e, carried); code_is = refl; spelled = refl }
 
 -- ---- Both
 
@@ -317,25 +227,25 @@ Says code body r = MatchResult r (λ said. Fits said code body) (IsFaultOf code 
 
 -- so is the fault at the place that a search found, or the message where it found none
 by_search : (code : ℕ) (body : List ℕ) → code < 128 → IsCarried body → IsRightSize code body → (found : Option ℕ)
-    → Search (λ place. is_allowed (column code body place) (slice_index body place)) (length body) found → Says code body (message_or_fault code body found)
+    → Search (λ place. is_allowed (column_of (layout_of code body) place) (slice_index body place)) (length body) found → Says code body (message_or_fault code body found)
 by_search code body small carried size None (all h) =
-    good_fits code body small carried size (λ k l. allowed (column code body k) (slice_index body k) (h k l))
+    by_known (known_with code) code body small carried refl size (λ k l. allowed (column_of (layout_of code body) k) (slice_index body k) (h k l))
 by_search code body small carried size (Some at) (fails _ l f h) =
     bad_says code body at (record {
       size = size;
       within = l;
-      bad = not_allowed (column code body at) (slice_index body at) f;
-      first = λ k less. allowed (column code body k) (slice_index body k) (h k less);
-    }) (column code body at) refl
+      bad = not_allowed (column_of (layout_of code body) at) (slice_index body at) f;
+      first = λ k less. allowed (column_of (layout_of code body) k) (slice_index body k) (h k less);
+    }) (column_of (layout_of code body) at) refl
 
 -- so is the reading
 reading_says : (code : ℕ) (body : List ℕ) → code < 128 → IsCarried body → Says code body (reading code body)
 unfolding reading
-reading_says code body small carried = go (is_right_size (length body + 3) (total_of code)) refl
+reading_says code body small carried = go (is_right_size (length body + 3) (total_of (layout_of code body))) refl
   where
-    go : (t : Bool) → is_right_size (length body + 3) (total_of code) ≡ t → Says code body (cond t (message_or_fault code body (first_bad_place code body)) (Err WrongSize))
-    go true e = by_search code body small carried (right_size (total_of code) (length body + 3) e) (first_bad_place code body) (searched _ (length body))
-    go false e = wrong_size (total_of code) (length body + 3) e
+    go : (t : Bool) → is_right_size (length body + 3) (total_of (layout_of code body)) ≡ t → Says code body (cond t (message_or_fault code body (first_bad_place code body)) (Err WrongSize))
+    go true e = by_search code body small carried (right_size (total_of (layout_of code body)) (length body + 3) e) (first_bad_place code body) (searched _ (length body))
+    go false e = wrong_size (total_of (layout_of code body)) (length body + 3) e
 
 -- what fits is the reading
 said_is : (code : ℕ) (body : List ℕ) (r : Result Content BodyFault) (said : Content) → Says code body r → Fits said code body → r ≡ Ok said
