@@ -3,14 +3,13 @@ use Rattle.std.specs.Prelude.{◌≡◌, ℕ, ◌<◌, ◌≤◌, List, length, 
 use Rattle.dgt_values.specs.declared.pieces.Piece.{Piece}
 use Rattle.dgt_values.specs.Body.{body_bytes}
 use Rattle.dgt_message.specs.declared.message.Message.{Message}
-use Rattle.dgt_message.specs.declared.message.Message.TheVariants as message
 use Rattle.dgt_values.specs.Bytes.{number}
 use Rattle.dgt_values.specs.Square.{square_number}
 use Rattle.dgt_values.specs.Pieces.{pieces_of}
 use Rattle.dgt_message.specs.Ack.{Answer}
 use Rattle.dgt_message.specs.Values.{absence_seen, answer_seen, code_number, times_seen}
 use Rattle.dgt_message.specs.Clock.{Times as BothTimes, Absence, AreTimes, IsAbsence}
-use Rattle.dgt_message.specs.declared.known.KnownCode.TheVariants as code
+use Rattle.dgt_message.specs.declared.known.KnownCode.{KnownCode}
 use Rattle.dgt_message.specs.Code.{known_number}
 use Rattle.dgt_message.specs.Layout.{Layout, layout_of}
 
@@ -24,27 +23,31 @@ pub data Content : Type 0 where
   version : (main sub : ℕ) → Content
   carried : (code : ℕ) (body : List ℕ) → Content
 
+-- the body of a known code, carried unread
+abbrev pub carried_as : KnownCode → List ℕ → Content
+carried_as code body = carried (known_number code) body
+
 abbrev pub content : Message → Content
-content (message.Dump position) = dump (pieces_of position)
-content (message.Field square piece) = field (square_number square) piece
-content (message.Times readings) = times (times_seen readings)
-content (message.NoClock absence) = no_clock (absence_seen absence)
-content (message.Ack answer) = ack (answer_seen answer)
-content (message.Serial digits) = serial (map number digits)
-content (message.Version main sub) = version (number main) (number sub)
-content (message.Trademark body) = carried (known_number code.Trademark) (body_bytes body)
-content (message.Battery body) = carried (known_number code.Battery) (body_bytes body)
-content (message.Other other body) = carried (code_number other) (body_bytes body)
+content (Message.Dump position) = dump (pieces_of position)
+content (Message.Field square piece) = field (square_number square) piece
+content (Message.Times readings) = times (times_seen readings)
+content (Message.NoClock absence) = no_clock (absence_seen absence)
+content (Message.Ack answer) = ack (answer_seen answer)
+content (Message.Serial digits) = serial (map number digits)
+content (Message.Version main sub) = version (number main) (number sub)
+content (Message.Trademark body) = carried_as KnownCode.Trademark (body_bytes body)
+content (Message.Battery body) = carried_as KnownCode.Battery (body_bytes body)
+content (Message.Other other body) = carried (code_number other) (body_bytes body)
 
 -- the code that a message is sent under
 abbrev pub code_of : Content → ℕ
-code_of (dump pieces) = known_number code.Dump
-code_of (field square piece) = known_number code.Field
-code_of (times readings) = known_number code.Clock
-code_of (no_clock absence) = known_number code.Clock
-code_of (ack answer) = known_number code.Clock
-code_of (serial digits) = known_number code.Serial
-code_of (version main sub) = known_number code.Version
+code_of (dump pieces) = known_number KnownCode.Dump
+code_of (field square piece) = known_number KnownCode.Field
+code_of (times readings) = known_number KnownCode.Clock
+code_of (no_clock absence) = known_number KnownCode.Clock
+code_of (ack answer) = known_number KnownCode.Clock
+code_of (serial digits) = known_number KnownCode.Serial
+code_of (version main sub) = known_number KnownCode.Version
 code_of (carried own body) = own
 
 -- bytes that a body may have
