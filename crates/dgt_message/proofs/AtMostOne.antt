@@ -1,5 +1,5 @@
 -- At most one message fits a code and a body, at most one fault does, and never both.
-use Rattle.std.proofs.Common.{◌≡◌, ◌≢◌, ℕ, zero, suc, ◌<◌, ◌+◌, ◌%◌, Bool, true, false, cond, refl, sym, ap, ◌∙◌, List, [], ◌∷◌, length, map, arith, length-append, Option, Some, None}
+use Rattle.std.proofs.Common.{◌≡◌, ◌≢◌, ℕ, zero, suc, ◌<◌, ◌+◌, ◌%◌, Bool, true, false, cond, refl, sym, ap, ◌∙◌, ◌⊎◌, inl, inr, List, [], ◌∷◌, length, map, arith, length-append, Option, Some, None}
 use Rattle.std.specs.Prelude.{◌==◌, IfSome, IsSomeAnd, slice_index}
 use Rattle.std.proofs.lemmas.List.{length-map, get_or-map}
 use Rattle.dgt_values.specs.Piece.{piece_code}
@@ -9,10 +9,11 @@ use Rattle.dgt_message.specs.declared.bodies.BodyFault.{BodyFault}
 use Rattle.dgt_message.specs.declared.bodies.BodyFault.TheVariants.{WrongSize, BadPiece, BadSquare, BadReading}
 use Rattle.dgt_message.specs.Content.{Content, IsMessage}
 use Rattle.dgt_message.specs.Content.Content.{dump, field, times, no_clock, ack, serial, version, carried}
-use Rattle.dgt_message.specs.Fault.{Allows, AllowsAt, IsFaultOf, IsFirstBad, IsRightSize, IsWrongSize}
-use Rattle.dgt_message.specs.Layout.{Column, Layout, column_of, layout_of, times_column, total_of}
-use Rattle.dgt_message.specs.Layout.Column.{square, piece, hours, sixty, anything}
+use Rattle.dgt_message.specs.Fault.{Allows, AllowsBefore, HasFault, IsFaultOf, IsFirstBad, IsRightSize, IsWrongSize}
+use Rattle.dgt_message.specs.Layout.{Layout, column_of, layout_of, times_column, total_of}
+use Rattle.dgt_message.specs.Layout.Column.{hours, sixty, anything}
 use Rattle.dgt_message.specs.Clock.{Times as BothTimes, AreTimes}
+use Rattle.dgt_message.specs.Reading.{fault_of}
 use Rattle.dgt_message.specs.Spelling.{BodySpells, Fits, times_bytes}
 use Rattle.dgt_message.proofs.MessageIn.{laid_out, said_layout, message_in-fits}
 use Rattle.dgt_message.proofs.Codes.{piece_code-below}
@@ -22,8 +23,8 @@ pub one_message : (code : ℕ) (body : List ℕ) (first second : Content) → Fi
 one_message code body first second h k = sym (message_in-fits first code body h) ∙ message_in-fits second code body k
 
 -- of two first bad places neither stands before the other
-one_place : (code : ℕ) (body : List ℕ) (a b : ℕ) → IsFirstBad code body a → IsFirstBad code body b → a ≡ b
-one_place code body a b h k =
+one_place : (layout : Layout) (body : List ℕ) (a b : ℕ) → IsFirstBad layout body a → IsFirstBad layout body b → a ≡ b
+one_place layout body a b h k =
     let not_before : a < b → ⊥ = λ l. h.bad (k.first a l) in
     let not_after : b < a → ⊥ = λ l. k.bad (h.first b l) in
     omega (arith, not_before, not_after)
@@ -34,58 +35,39 @@ sizes (Some t) n h k = k h
 sizes None n h k = k
 
 -- a size is right or wrong
-not_both_sizes : (code : ℕ) (body : List ℕ) → IsRightSize code body → IsWrongSize code body → ⊥
-not_both_sizes code body h k = sizes (total_of (layout_of code body)) (length body + 3) h k
+not_both_sizes : (layout : Layout) (body : List ℕ) → IsRightSize layout body → IsWrongSize layout body → ⊥
+not_both_sizes layout body h k = sizes (total_of layout) (length body + 3) h k
 
--- no column of the times holds a piece
-times_no_piece : (a b : Bool) → cond a anything (cond b hours sixty) ≡ piece → ⊥
-times_no_piece true b h = cc
-times_no_piece false true h = cc
-times_no_piece false false h = cc
+-- the fault of a byte of times is that of a reading
+pub times_fault : (a b : Bool) (at : ℕ) → fault_of (cond a anything (cond b hours sixty)) at ≡ BadReading at
+times_fault true b at = refl
+times_fault false true at = refl
+times_fault false false at = refl
 
--- no column of the times holds a square
-times_no_square : (a b : Bool) → cond a anything (cond b hours sixty) ≡ square → ⊥
-times_no_square true b h = cc
-times_no_square false true h = cc
-times_no_square false false h = cc
+-- a fault is that of the size, or that of the first bad place
+abbrev Arises : Layout → List ℕ → BodyFault → Type 0
+Arises layout body why =
+    (IsWrongSize layout body × (why ≡ WrongSize)) ⊎ ((at : ℕ) × IsFirstBad layout body at × (why ≡ fault_of (column_of layout at) at))
 
--- a piece is no square
-no_clash : piece ≡ square → ⊥
-no_clash h = cc
+arises : (layout : Layout) (body : List ℕ) (why : BodyFault) → HasFault layout body why → Arises layout body why
+arises layout body WrongSize h = inl (h, refl)
+arises layout body (BadPiece at) h = inr (at, h.0, ap (λ column. fault_of column at) (sym h.1))
+arises layout body (BadSquare at) h = inr (at, h.0, ap (λ column. fault_of column at) (sym h.1))
+arises layout body (BadReading at) h =
+    inr (at, h.0, sym (ap (λ l. fault_of (column_of l at) at) h.1 ∙ times_fault (at == 6) (at % 3 == 0) at))
 
--- the column of a place in a body
-abbrev column : ℕ → List ℕ → ℕ → Column
-column code body at = column_of (layout_of code body) at
+-- one size is right or wrong, and one place is the first bad one
+same_fault : (layout : Layout) (body : List ℕ) (f g : BodyFault) → Arises layout body f → Arises layout body g → f ≡ g
+same_fault layout body f g (inl h) (inl k) = h.1 ∙ sym k.1
+same_fault layout body f g (inl h) (inr (at, bad, e)) = absurd (not_both_sizes layout body bad.size h.0)
+same_fault layout body f g (inr (at, bad, e)) (inl k) = absurd (not_both_sizes layout body bad.size k.0)
+same_fault layout body f g (inr (a, h, e)) (inr (b, k, d)) =
+    e ∙ ap (λ at. fault_of (column_of layout at) at) (one_place layout body a b h k) ∙ sym d
 
--- where a byte of times is bad, no piece and no square is
-piece_or_reading : (code : ℕ) (body : List ℕ) (a b : ℕ) → IsFaultOf code body (BadPiece a) → IsFaultOf code body (BadReading b) → ⊥
-piece_or_reading code body a b h k =
-    times_no_piece (a == 6) (a % 3 == 0) (ap (λ l. column_of l a) (sym k.1) ∙ h.1)
-
-square_or_reading : (code : ℕ) (body : List ℕ) (a b : ℕ) → IsFaultOf code body (BadSquare a) → IsFaultOf code body (BadReading b) → ⊥
-square_or_reading code body a b h k =
-    times_no_square (a == 6) (a % 3 == 0) (ap (λ l. column_of l a) (sym k.1) ∙ h.1)
-
--- one size is right or wrong, one place is the first bad one, and one column stands there
 pub one_fault : (code : ℕ) (body : List ℕ) (f g : BodyFault) → IsFaultOf code body f → IsFaultOf code body g → f ≡ g
-one_fault code body WrongSize WrongSize h k = refl
-one_fault code body WrongSize (BadPiece a) h k = absurd (not_both_sizes code body k.0.size h)
-one_fault code body WrongSize (BadSquare a) h k = absurd (not_both_sizes code body k.0.size h)
-one_fault code body WrongSize (BadReading a) h k = absurd (not_both_sizes code body k.0.size h)
-one_fault code body (BadPiece a) WrongSize h k = absurd (not_both_sizes code body h.0.size k)
-one_fault code body (BadSquare a) WrongSize h k = absurd (not_both_sizes code body h.0.size k)
-one_fault code body (BadReading a) WrongSize h k = absurd (not_both_sizes code body h.0.size k)
-one_fault code body (BadPiece a) (BadPiece b) h k = ap BadPiece (one_place code body a b h.0 k.0)
-one_fault code body (BadSquare a) (BadSquare b) h k = ap BadSquare (one_place code body a b h.0 k.0)
-one_fault code body (BadReading a) (BadReading b) h k = ap BadReading (one_place code body a b h.0 k.0)
-one_fault code body (BadPiece a) (BadSquare b) h k =
-    absurd (no_clash (sym h.1 ∙ ap (column code body) (one_place code body a b h.0 k.0) ∙ k.1))
-one_fault code body (BadSquare a) (BadPiece b) h k =
-    absurd (no_clash (sym k.1 ∙ ap (column code body) (one_place code body b a k.0 h.0) ∙ h.1))
-one_fault code body (BadPiece a) (BadReading b) h k = absurd (piece_or_reading code body a b h k)
-one_fault code body (BadReading a) (BadPiece b) h k = absurd (piece_or_reading code body b a k h)
-one_fault code body (BadSquare a) (BadReading b) h k = absurd (square_or_reading code body a b h k)
-one_fault code body (BadReading a) (BadSquare b) h k = absurd (square_or_reading code body b a k h)
+one_fault code body f g h k =
+    let layout = layout_of code body in
+    same_fault layout body f g (arises layout body f h) (arises layout body g k)
 
 -- each byte of written times is allowed in its place
 times_allowed : (t : BothTimes) → AreTimes t → (at : ℕ) → at < 7 → Allows (times_column at) (slice_index (times_bytes t) at)
@@ -111,21 +93,14 @@ field_allowed s p (suc zero) h l = piece_code-below p
 field_allowed s p (suc (suc k)) h l = absurd (omega arith)
 
 -- each byte of a body that says something is allowed in its place
-said_allowed : (said : Content) (body : List ℕ) → IsMessage said → BodySpells said body → (at : ℕ) → at < length body
-    → Allows (column_of (said_layout said) at) (slice_index body at)
+said_allowed : (said : Content) (body : List ℕ) → IsMessage said → BodySpells said body → AllowsBefore (said_layout said) body (length body)
 said_allowed (dump pieces) body h s at l = rw s (codes_allowed pieces at (rw (← s) l))
 said_allowed (field where_ what) body h s at l = rw s (field_allowed where_ what at h (omega (arith, ap length s)))
 said_allowed (times readings) body h s at l = rw s (times_allowed readings h at (omega (arith, ap length s)))
 said_allowed _ body h s at l = tt
 
--- the same, of a message that fits
-fits_allowed : (said : Content) (code : ℕ) (body : List ℕ) → Fits said code body → (at : ℕ) → at < length body → AllowsAt code body at
-fits_allowed said code body h at k =
-    rw (h.code_is, laid_out said body h.is_message h.spelled) (said_allowed said body h.is_message h.spelled at k)
-
 -- a body that says something has the size of its layout
-said_size : (said : Content) (body : List ℕ) → IsMessage said → BodySpells said body
-    → IfSome (total_of (said_layout said)) (λ total. length body + 3 ≡ total)
+said_size : (said : Content) (body : List ℕ) → IsMessage said → BodySpells said body → IsRightSize (said_layout said) body
 said_size (dump pieces) body h s = rw s (omega (arith, length-map pieces piece_code))
 said_size (field where_ what) body h s = rw s refl
 said_size (times readings) body h s = rw s refl
@@ -135,14 +110,15 @@ said_size (serial number) body h s = rw s (omega (arith, h.0))
 said_size (version main sub) body h s = rw s refl
 said_size (carried own bytes) body h s = tt
 
--- the same, of a message that fits
-fits_size : (said : Content) (code : ℕ) (body : List ℕ) → Fits said code body → IsRightSize code body
-fits_size said code body h =
-    rw (h.code_is, laid_out said body h.is_message h.spelled) (said_size said body h.is_message h.spelled)
+-- so it has no fault
+faultless : (layout : Layout) (body : List ℕ) (why : BodyFault) → IsRightSize layout body → AllowsBefore layout body (length body) → Arises layout body why → ⊥
+faultless layout body why size allowed (inl h) = not_both_sizes layout body size h.0
+faultless layout body why size allowed (inr (at, h, e)) = h.bad (allowed at h.within)
 
 -- where a message fits, the size is right and each place allows its byte
 pub not_both : (code : ℕ) (body : List ℕ) (said : Content) (fault : BodyFault) → Fits said code body → IsFaultOf code body fault → ⊥
-not_both code body said WrongSize h k = not_both_sizes code body (fits_size said code body h) k
-not_both code body said (BadPiece a) h k = k.0.bad (fits_allowed said code body h a k.0.within)
-not_both code body said (BadSquare a) h k = k.0.bad (fits_allowed said code body h a k.0.within)
-not_both code body said (BadReading a) h k = k.0.bad (fits_allowed said code body h a k.0.within)
+not_both code body said fault h k =
+    let has : HasFault (said_layout said) body fault =
+    rw (← laid_out said body h.is_message h.spelled, ← h.code_is) k in
+    faultless (said_layout said) body fault (said_size said body h.is_message h.spelled) (said_allowed said body h.is_message h.spelled)
+    (arises (said_layout said) body fault has)

@@ -8,13 +8,13 @@ use Rattle.dgt_message.specs.Layout.{Layout, Column, column_of, layout_of, total
 use Rattle.dgt_message.specs.Layout.Column.{square, piece, hours, sixty, anything}
 use Rattle.dgt_message.specs.Spelling.{Fits}
 
--- a whole message with this body has the length that its code fixes, if it fixes one
-abbrev pub IsRightSize : ℕ → List ℕ → Type 0
-IsRightSize code body = IfSome (total_of (layout_of code body)) (λ total. length body + 3 ≡ total)
+-- a whole message with this body has the length of the layout, if it has one
+abbrev pub IsRightSize : Layout → List ℕ → Type 0
+IsRightSize layout body = IfSome (total_of layout) (λ total. length body + 3 ≡ total)
 
--- the code fixes a length, and a whole message with this body has another one
-abbrev pub IsWrongSize : ℕ → List ℕ → Type 0
-IsWrongSize code body = IsSomeAnd (total_of (layout_of code body)) (λ total. length body + 3 ≢ total)
+-- the layout has a length, and a whole message with this body has another one
+abbrev pub IsWrongSize : Layout → List ℕ → Type 0
+IsWrongSize layout body = IsSomeAnd (total_of layout) (λ total. length body + 3 ≢ total)
 
 -- a column allows a byte: digits are packed, with tens in the high four bits and units in the low four
 abbrev pub Allows : Column → ℕ → Type 0
@@ -25,22 +25,30 @@ Allows sixty byte = (byte / 16 ≤ 5) × (byte % 16 ≤ 9)
 Allows anything byte = Unit {0}
 
 -- the byte at this place is allowed there
-abbrev pub AllowsAt : ℕ → List ℕ → ℕ → Type 0
-AllowsAt code body place = Allows (column_of (layout_of code body) place) (slice_index body place)
+abbrev pub AllowsAt : Layout → List ℕ → ℕ → Type 0
+AllowsAt layout body place = Allows (column_of layout place) (slice_index body place)
+
+-- so is each byte before this place
+abbrev pub AllowsBefore : Layout → List ℕ → ℕ → Type 0
+AllowsBefore layout body end = (place : ℕ) → place < end → AllowsAt layout body place
 
 -- a body of the right size has its first byte that isn't allowed at this place
-pub record IsFirstBad (code : ℕ) (body : List ℕ) (at : ℕ) : Type 0 where
-  pub size : IsRightSize code body
+pub record IsFirstBad (layout : Layout) (body : List ℕ) (at : ℕ) : Type 0 where
+  pub size : IsRightSize layout body
   pub within : at < length body
-  pub bad : ¬ (AllowsAt code body at)
-  pub first : (k : ℕ) → k < at → AllowsAt code body k
+  pub bad : ¬ (AllowsAt layout body at)
+  pub first : AllowsBefore layout body at
+
+-- a body that is laid out so has this fault
+abbrev pub HasFault : Layout → List ℕ → BodyFault → Type 0
+HasFault layout body WrongSize = IsWrongSize layout body
+HasFault layout body (BadPiece at) = IsFirstBad layout body at × (column_of layout at ≡ piece)
+HasFault layout body (BadSquare at) = IsFirstBad layout body at × (column_of layout at ≡ square)
+HasFault layout body (BadReading at) = IsFirstBad layout body at × (layout ≡ Layout.times)
 
 -- the body has this fault under this code
 abbrev pub IsFaultOf : ℕ → List ℕ → BodyFault → Type 0
-IsFaultOf code body WrongSize = IsWrongSize code body
-IsFaultOf code body (BadPiece at) = IsFirstBad code body at × (column_of (layout_of code body) at ≡ piece)
-IsFaultOf code body (BadSquare at) = IsFirstBad code body at × (column_of (layout_of code body) at ≡ square)
-IsFaultOf code body (BadReading at) = IsFirstBad code body at × (layout_of code body ≡ Layout.times)
+IsFaultOf code body why = HasFault (layout_of code body) body why
 
 -- the result is what the body says, or why it says nothing
 abbrev pub Views : ℕ → List ℕ → Result Message BodyFault → Type 0

@@ -57,9 +57,9 @@ first_failure test zero = None
 first_failure test (suc n) = option_or (first_failure test n) (if test n then None else Some n)
 
 -- the first place in a body that doesn't allow its byte
-abbrev pub first_bad_place : ℕ → List ℕ → Option ℕ
-first_bad_place code body =
-    first_failure (λ place. is_allowed (column_of (layout_of code body) place) (slice_index body place)) (length body)
+abbrev pub first_bad_place : Layout → List ℕ → Option ℕ
+first_bad_place layout body =
+    first_failure (λ place. is_allowed (column_of layout place) (slice_index body place)) (length body)
 
 -- ---- Both
 
@@ -72,21 +72,22 @@ is_right_size size (Some total) = size == total
 abbrev pub fault_of : Column → ℕ → BodyFault
 fault_of square at = BadSquare at
 fault_of piece at = BadPiece at
-fault_of hours at = BadReading at
-fault_of sixty at = BadReading at
-fault_of anything at = BadReading at
+fault_of _ at = BadReading at
 
 -- the fault at the first bad place, or the message where there is none
-abbrev pub message_or_fault : ℕ → List ℕ → Option ℕ → Result Content BodyFault
-message_or_fault code body None = Ok (message_in code body)
-message_or_fault code body (Some at) = Err (fault_of (column_of (layout_of code body) at) at)
+abbrev pub message_or_fault : Layout → ℕ → List ℕ → Option ℕ → Result Content BodyFault
+message_or_fault layout code body None = Ok (said_in layout code body)
+message_or_fault layout code body (Some at) = Err (fault_of (column_of layout at) at)
 
 -- the fault of a wrong size, or else that of the first bad place, or else the message
-unfoldable pub reading : ℕ → List ℕ → Result Content BodyFault
-reading code body =
-    if is_right_size (length body + 3) (total_of (layout_of code body))
-    then message_or_fault code body (first_bad_place code body)
+abbrev pub reading_as : Layout → ℕ → List ℕ → Result Content BodyFault
+reading_as layout code body =
+    if is_right_size (length body + 3) (total_of layout)
+    then message_or_fault layout code body (first_bad_place layout body)
     else Err WrongSize
+
+unfoldable pub reading : ℕ → List ℕ → Result Content BodyFault
+reading code body = reading_as (layout_of code body) code body
 
 -- the content of a message of the program, or its fault
 abbrev pub content_if_any : Result Message BodyFault → Result Content BodyFault
