@@ -8,14 +8,12 @@ use Rattle.dgt_values.specs.Equality.{EqualIsSameRead}
 use Rattle.dgt_values.specs.Bytes.{number}
 use Rattle.dgt_message.specs.declared.clock.Clock.TheVariants as clock_variants
 use Rattle.dgt_message.specs.declared.message.Message.TheVariants.{Dump, Field, Times, NoClock, Ack, Serial, Trademark, Version, Battery, Other}
-use Rattle.dgt_message.specs.declared.known.KnownCode.{KnownCode}
 use Rattle.dgt_message.specs.declared.other.OtherCode.{OtherCode}
 use Rattle.dgt_message.specs.Clock.{Absence}
 use Rattle.dgt_message.specs.ClockState.{clock_seen}
-use Rattle.dgt_message.specs.Code.{known_number}
+use Rattle.dgt_message.specs.Code.{HasCase}
 use Rattle.dgt_message.specs.Content.{code_of, content}
 use Rattle.dgt_message.specs.Values.{absence_seen, code_number, times_seen}
-use Rattle.dgt_message.proofs.CodeLemmas.{found_code}
 use Rattle.dgt_values.specs.contracts.bytes.SevenBitPartialEq.TheImpl as byte
 use Rattle.dgt_values.specs.contracts.pieces.PiecePartialEq.TheImpl as piece
 use Rattle.dgt_message.specs.contracts.clock.NoClockPartialEq.TheImpl as absence
@@ -68,9 +66,9 @@ equal_clocks (clock_variants.NoClock a) (clock_variants.NoClock b) =
 equal_clocks (clock_variants.Times a) _ = (λ t. cc, λ e. cc)
 equal_clocks _ _ = (λ t. cc, λ e. cc)
 
--- another code is not that of a code with a case of its own
-not_known : (code : KnownCode) (other : OtherCode) → known_number code ≡ code_number other → ⊥
-not_known code other e = other.unread (rw (← e, found_code code) refl)
+-- another code is none that has a case of its own
+not_known : (other : OtherCode) (number : ℕ) → code_number other ≡ number → HasCase number → ⊥
+not_known other number e has = other.unread (rw e has)
 
 -- two messages are equal exactly where they say the same
 pub equal_messages : EqualIsSameRead content (message.eq-value).it
@@ -92,8 +90,6 @@ equal_messages (Trademark a) (Trademark b) = search rules
 equal_messages (Version main sub) (Version mains subs) = search rules
 equal_messages (Battery a) (Battery b) = search rules
 equal_messages (Other code a) (Other codes b) = search rules
-equal_messages (Trademark a) (Other code b) = (λ t. cc, λ e. absurd (not_known KnownCode.Trademark code (ap code_of e)))
-equal_messages (Battery a) (Other code b) = (λ t. cc, λ e. absurd (not_known KnownCode.Battery code (ap code_of e)))
-equal_messages (Other code a) (Trademark b) = (λ t. cc, λ e. absurd (not_known KnownCode.Trademark code (sym (ap code_of e))))
-equal_messages (Other code a) (Battery b) = (λ t. cc, λ e. absurd (not_known KnownCode.Battery code (sym (ap code_of e))))
+equal_messages (Other code a) _ = (λ t. cc, λ e. absurd (not_known code _ (ap code_of e) refl))
+equal_messages _ (Other code b) = (λ t. cc, λ e. absurd (not_known code _ (sym (ap code_of e)) refl))
 equal_messages _ _ = (λ t. cc, λ e. cc)
