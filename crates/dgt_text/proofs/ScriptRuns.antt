@@ -1,5 +1,5 @@
 -- What holds between two reads of `simulate`.
-use Rattle.std.proofs.Common.{◌≡◌, ℕ, List, [], ◌++◌, ◌+◌, ◌<◌, ◌≤◌, Bool, true, Option, Some, Result, Ok, Err, IsErrAnd, IsTrue, OnOk, sym, ◌∙◌, ap, subst, append-nil, arith, length}
+use Rattle.std.proofs.Common.{◌≡◌, ℕ, List, [], ◌++◌, ◌+◌, ◌<◌, ◌≤◌, Bool, true, Option, Some, Result, Ok, Err, IsErrAnd, IsTrue, OnOk, refl, sym, ◌∙◌, ap, subst, append-nil, arith, length}
 use Rattle.std.specs.Prelude.{IfErr}
 use Rattle.std.specs.Io.KnownBytes.{Appends, Consumes}
 use Rattle.std.proofs.KnownBytes.{Appends-trans, Consumes-nil, Consumes-trans}
