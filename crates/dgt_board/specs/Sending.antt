@@ -3,8 +3,9 @@ use Rattle.std.specs.Prelude.{ℕ, ◌+◌, List, [], ◌∷◌, ◌++◌, lengt
 use Rattle.std.specs.List.{range_with_len}
 use Rattle.dgt_values.specs.declared.pieces.Piece.{Piece}
 use Rattle.dgt_values.specs.Piece.{piece_code}
+use Rattle.dgt_message.specs.declared.known.KnownCode.{KnownCode}
 use Rattle.dgt_message.specs.ClockState.{ClockState, clock_message}
-use Rattle.dgt_message.specs.Content.{Content}
+use Rattle.dgt_message.specs.Content.{Content, carried_as}
 use Rattle.dgt_board.specs.declared.replies.Reply.{Reply}
 use Rattle.dgt_board.specs.State.{BoardState, updates}
 
@@ -13,9 +14,9 @@ abbrev pub reply_message : BoardState → Reply → Content
 reply_message board Reply.Dump = Content.dump board.squares
 reply_message board Reply.Clock = clock_message board.clock
 reply_message board Reply.Serial = Content.serial board.identity.serial
-reply_message board Reply.Trademark = Content.trademark board.identity.trademark
+reply_message board Reply.Trademark = carried_as KnownCode.Trademark board.identity.trademark
 reply_message board Reply.Version = Content.version board.identity.main board.identity.sub
-reply_message board Reply.Battery = Content.battery board.identity.battery
+reply_message board Reply.Battery = carried_as KnownCode.Battery board.identity.battery
 reply_message board (Reply.Ack id version) = Content.ack (record { ack = 0x10 ∷ id ∷ version ∷ 0x00 ∷ []; status = 0x00 })
 
 abbrev pub piece_on : List Piece → ℕ → Piece

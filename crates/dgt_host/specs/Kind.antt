@@ -1,18 +1,23 @@
 -- Which messages answer which commands.
 use Rattle.std.specs.Prelude.{Option, Some, None, Bool, true, false}
-use Rattle.dgt_message.specs.Content.{Content}
-use Rattle.dgt_message.specs.Content.Content.{dump, serial, trademark, version, battery}
+use Rattle.dgt_message.specs.declared.known.KnownCode.{KnownCode}
+use Rattle.dgt_message.specs.Code.{known_with}
+use Rattle.dgt_message.specs.Content.{Content, code_of}
 use Rattle.dgt_command.specs.Content.{CommandContent}
 use Rattle.dgt_host.specs.declared.kind.Kind.{Kind}
 
--- the kind of a message, where it answers a command that has one
+-- the kind of the messages under a code, where they answer a command that has one
+abbrev pub kind_with : Option KnownCode → Option Kind
+kind_with (Some KnownCode.Dump) = Some Kind.Dump
+kind_with (Some KnownCode.Serial) = Some Kind.Serial
+kind_with (Some KnownCode.Trademark) = Some Kind.Trademark
+kind_with (Some KnownCode.Version) = Some Kind.Version
+kind_with (Some KnownCode.Battery) = Some Kind.Battery
+kind_with _ = None
+
+-- the kind of a message
 abbrev pub kind_of : Content → Option Kind
-kind_of (dump pieces) = Some Kind.Dump
-kind_of (serial digits) = Some Kind.Serial
-kind_of (trademark body) = Some Kind.Trademark
-kind_of (version main sub) = Some Kind.Version
-kind_of (battery body) = Some Kind.Battery
-kind_of _ = None
+kind_of said = kind_with (known_with (code_of said))
 
 -- the kind of the reply that a command asks for, where the host awaits it
 abbrev pub kind_of_command : CommandContent → Option Kind

@@ -1,5 +1,5 @@
 -- What the derived `==` says of lists, of clocks and of messages.
-use Rattle.std.proofs.Common.{◌≡◌, ℕ, nat_eq, refl, ap, rules, arith, List, [], ◌∷◌, Bool, true, false, ◌&&◌, map}
+use Rattle.std.proofs.Common.{◌≡◌, ℕ, nat_eq, refl, sym, ap, rules, arith, List, [], ◌∷◌, Bool, true, false, ◌&&◌, map}
 use Rattle.std.specs.Prelude.{◌↔◌, IsTrue}
 use Rattle.std.proofs.lemmas.Slice.Eq.{slice_eq-Decides}
 use Rattle.std.proofs.lemmas.Grind.{common_steps}
@@ -8,10 +8,12 @@ use Rattle.dgt_values.specs.Equality.{EqualIsSameRead}
 use Rattle.dgt_values.specs.Bytes.{number}
 use Rattle.dgt_message.specs.declared.clock.Clock.TheVariants as clock_variants
 use Rattle.dgt_message.specs.declared.message.Message.TheVariants.{Dump, Field, Times, NoClock, Ack, Serial, Trademark, Version, Battery, Other}
+use Rattle.dgt_message.specs.declared.other.OtherCode.{OtherCode}
 use Rattle.dgt_message.specs.Clock.{Absence}
 use Rattle.dgt_message.specs.ClockState.{clock_seen}
-use Rattle.dgt_message.specs.Content.{content}
-use Rattle.dgt_message.specs.Values.{absence_seen, times_seen}
+use Rattle.dgt_message.specs.Code.{HasCase}
+use Rattle.dgt_message.specs.Content.{code_of, content}
+use Rattle.dgt_message.specs.Values.{absence_seen, code_number, times_seen}
 use Rattle.dgt_values.specs.contracts.bytes.SevenBitPartialEq.TheImpl as byte
 use Rattle.dgt_values.specs.contracts.pieces.PiecePartialEq.TheImpl as piece
 use Rattle.dgt_message.specs.contracts.clock.NoClockPartialEq.TheImpl as absence
@@ -64,6 +66,10 @@ equal_clocks (clock_variants.NoClock a) (clock_variants.NoClock b) =
 equal_clocks (clock_variants.Times a) _ = (λ t. cc, λ e. cc)
 equal_clocks _ _ = (λ t. cc, λ e. cc)
 
+-- another code is none that has a case of its own
+not_known : (other : OtherCode) (number : ℕ) → code_number other ≡ number → HasCase number → ⊥
+not_known other number e has = other.unread (rw e has)
+
 -- two messages are equal exactly where they say the same
 pub equal_messages : EqualIsSameRead content (message.eq-value).it
 equal_messages (Dump a) (Dump b) =
@@ -84,13 +90,6 @@ equal_messages (Trademark a) (Trademark b) = search rules
 equal_messages (Version main sub) (Version mains subs) = search rules
 equal_messages (Battery a) (Battery b) = search rules
 equal_messages (Other code a) (Other codes b) = search rules
-equal_messages (Dump a) _ = (λ t. cc, λ e. cc)
-equal_messages (Field square piece) _ = (λ t. cc, λ e. cc)
-equal_messages (Times a) _ = (λ t. cc, λ e. cc)
-equal_messages (NoClock a) _ = (λ t. cc, λ e. cc)
-equal_messages (Ack a) _ = (λ t. cc, λ e. cc)
-equal_messages (Serial a) _ = (λ t. cc, λ e. cc)
-equal_messages (Trademark a) _ = (λ t. cc, λ e. cc)
-equal_messages (Version main sub) _ = (λ t. cc, λ e. cc)
-equal_messages (Battery a) _ = (λ t. cc, λ e. cc)
-equal_messages (Other code a) _ = (λ t. cc, λ e. cc)
+equal_messages (Other code a) _ = (λ t. cc, λ e. absurd (not_known code _ (ap code_of e) refl))
+equal_messages _ (Other code b) = (λ t. cc, λ e. absurd (not_known code _ (sym (ap code_of e)) refl))
+equal_messages _ _ = (λ t. cc, λ e. cc)

@@ -1,8 +1,11 @@
+pub mod CodeLemmas
 pub mod Absence
 pub mod Codes
 pub mod MessageIn
 pub mod AtMostOne
 pub mod Headers
 pub mod SpellingSpells
+pub mod FirstBad
+pub mod BodyFits
 pub mod ReadingFits
 pub mod Equal

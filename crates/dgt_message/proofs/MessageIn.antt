@@ -1,19 +1,17 @@
 -- What a code and a body say, computed: a message that fits them is this one.
-use Rattle.std.proofs.Common.{◌≡◌, ℕ, zero, suc, ◌<◌, ◌≤◌, ◌+◌, ◌-◌, ◌*◌, ◌/◌, ◌%◌, ◌⊎◌, inl, inr, Bool, true, false, cond, IsTrue, refl, ap, List, [], ◌∷◌, ◌++◌, map, drop, arith, eq-eqb}
-use Rattle.std.specs.Prelude.{◌==◌, ◌||◌, bit_and, slice_index}
-use Rattle.std.proofs.lemmas.Bool.{ne_eqb}
-use Rattle.std.proofs.lemmas.Bool.Decides.{eqb_tells}
-use Rattle.std.proofs.Math.Bool.{or-true}
+use Rattle.std.proofs.Common.{◌≡◌, ℕ, zero, suc, ◌<◌, ◌≤◌, ◌+◌, ◌-◌, ◌*◌, ◌/◌, ◌%◌, false, refl, ap, List, [], ◌∷◌, ◌++◌, length, map, take, drop, arith}
+use Rattle.std.specs.Prelude.{◌||◌, slice_index}
+use Rattle.std.proofs.lemmas.Bool.{ne_eqb, false_from_ne_true}
 use Rattle.dgt_values.specs.Piece.{piece_code}
 use Rattle.dgt_values.specs.declared.pieces.Piece.{Piece}
 use Rattle.dgt_values.specs.declared.pieces.Piece.TheVariants.{Empty, WhitePawn, WhiteRook, WhiteKnight, WhiteBishop, WhiteKing, WhiteQueen, BlackPawn, BlackRook, BlackKnight, BlackBishop, BlackKing, BlackQueen, FirstExtra, SecondExtra, ThirdExtra}
-use Rattle.dgt_message.specs.Ack.{Answer, SpellsAck}
-use Rattle.dgt_message.specs.Clock.{Times as BothTimes, Absence, AreTimes, IsAbsence, IsMark}
-use Rattle.dgt_message.specs.Content.{Content, code_of}
-use Rattle.dgt_message.specs.Content.Content.{dump, field, times, no_clock, ack, serial, trademark, version, battery, other}
+use Rattle.dgt_message.specs.Clock.{Times as BothTimes, AreTimes, IsAbsence, absence_of, is_mark}
+use Rattle.dgt_message.specs.Content.{Content, code_of, IsMessage}
+use Rattle.dgt_message.specs.Content.Content.{dump, field, times, no_clock, ack, serial, version, carried}
+use Rattle.dgt_message.specs.Layout.{Layout, clock_layout, layout_of}
 use Rattle.dgt_message.specs.Time.{Time, IsTime}
-use Rattle.dgt_message.specs.Reading.{piece_with_code, time_in, clock_in, message_in}
-use Rattle.dgt_message.specs.Spelling.{Fits, Spells, times_bytes, packed_decimal}
+use Rattle.dgt_message.specs.Reading.{piece_with_code, time_in, said_in, message_in}
+use Rattle.dgt_message.specs.Spelling.{BodySpells, Fits, Spells, times_bytes, packed_decimal}
 
 -- a piece is the one with its code
 pub piece_with_code-piece_code : (piece : Piece) → piece_with_code (piece_code piece) ≡ piece
@@ -76,69 +74,64 @@ same_time : (t : Time) → IsTime t → time_in (t.hours + 16 * t.flags) (packed
 same_time t is =
     rw (low_hours t.hours t.flags is.0, high_hours t.hours t.flags is.0, unpacked t.minutes is.1, unpacked t.seconds is.2) refl
 
--- with none of seven tests passed, the last one is chosen
-pub last_chosen : {X : Type 0} (a b c d e f g : Bool) (t u v w x y z last : X) → (IsTrue (a || b || c || d || e || f || g) → ⊥)
-    → cond a t (cond b u (cond c v (cond d w (cond e x (cond f y (cond g z last)))))) ≡ last
-last_chosen false false false false false false false t u v w x y z last h = refl
-last_chosen true b c d e f g t u v w x y z last h = absurd (h refl)
-last_chosen false true c d e f g t u v w x y z last h = absurd (h refl)
-last_chosen false false true d e f g t u v w x y z last h = absurd (h refl)
-last_chosen false false false true e f g t u v w x y z last h = absurd (h refl)
-last_chosen false false false false true f g t u v w x y z last h = absurd (h refl)
-last_chosen false false false false false true g t u v w x y z last h = absurd (h refl)
-last_chosen false false false false false false true t u v w x y z last h = absurd (h refl)
-
--- a mark passes the test
-pub marked_is : (b3 b6 : ℕ) → IsMark b3 ⊎ IsMark b6 → (b3 % 16 == 0x0a || b6 % 16 == 0x0a) ≡ true
-marked_is b3 b6 (inl e) = rw (eq-eqb _ _ e) refl
-marked_is b3 b6 (inr e) = rw (eq-eqb _ _ e) (or-true _)
-
--- with no mark the test fails
-pub unmarked_is : (b3 b6 : ℕ) → (IsMark b3 → ⊥) → (IsMark b6 → ⊥) → (b3 % 16 == 0x0a || b6 % 16 == 0x0a) ≡ false
-unmarked_is b3 b6 h k = rw (ne_eqb _ _ h, ne_eqb _ _ k) refl
-
 -- hours are no mark
-pub unmarked_hours : (h f : ℕ) → h ≤ 9 → IsMark (h + 16 * f) → ⊥
-unmarked_hours h f a b = omega arith
+unmarked_hours : (h f : ℕ) → h ≤ 9 → is_mark (h + 16 * f) ≡ false
+unmarked_hours h f a = ne_eqb _ _ (λ e. omega arith)
 
--- a body that spells an acknowledgement has it
-clock_in-ack : (answer : Answer) (body : List ℕ) → SpellsAck answer body → clock_in body ≡ ack answer
-clock_in-ack answer body h = rw (marked_is _ _ h.1, ← h.2, ← h.3) refl
+-- times are laid out as times
+times_laid_out : (t : BothTimes) → AreTimes t → clock_layout (times_bytes t) ≡ Layout.times
+times_laid_out t h =
+    rw (unmarked_hours t.first.hours t.first.flags h.0.0, unmarked_hours t.second.hours t.second.flags h.1.0, false_from_ne_true _ h.3) refl
 
--- a number that is not other than 0 is 0
-pub not_set : (n : ℕ) → ((n ≡ 0 → ⊥) → ⊥) → (n == 0) ≡ true
-not_set n h = elim (eqb_tells n 0) [ inl t ↦ t.0 | inr f ↦ absurd (h f.1) ]
+-- the bytes of a board without a clock are laid out as such
+absence_laid_out : (raw : List ℕ) (status : ℕ) → IsAbsence (absence_of raw status) → clock_layout (raw ++ status ∷ []) ≡ Layout.no_clock
+absence_laid_out (a ∷ b ∷ c ∷ d ∷ e ∷ f ∷ []) status h = rw (false_from_ne_true (is_mark a || is_mark d) h.2, h.4) refl
+absence_laid_out (a ∷ b ∷ c ∷ d ∷ e ∷ f ∷ g ∷ raw) status h = absurd (omega (arith, h.0))
+absence_laid_out _ status h = absurd (omega (arith, h.0))
 
--- the bytes of times have these times
-clock_in-times : (t : BothTimes) → AreTimes t → clock_in (times_bytes t) ≡ times t
-clock_in-times t h =
-    let unmarked = unmarked_is _ _ (unmarked_hours t.first.hours t.first.flags h.0.0) (unmarked_hours t.second.hours t.second.flags h.1.0) in
-    let shown = not_set (bit_and t.status 0x20) h.3 in
-    rw (unmarked, shown, same_time t.first h.0, same_time t.second h.1) refl
+-- the layout of a message
+abbrev pub said_layout : Content → Layout
+said_layout (dump pieces) = Layout.dump
+said_layout (field square piece) = Layout.field
+said_layout (times readings) = Layout.times
+said_layout (no_clock absence) = Layout.no_clock
+said_layout (ack answer) = Layout.ack
+said_layout (serial digits) = Layout.serial
+said_layout (version main sub) = Layout.version
+said_layout (carried own body) = Layout.carried
 
--- six bytes and a status of a board without a clock have these
-clock_in-raw : (raw : List ℕ) (status : ℕ) → IsAbsence (record { raw = raw; status = status }) → clock_in (raw ++ status ∷ []) ≡ no_clock (record { raw = raw; status = status })
-clock_in-raw (a ∷ b ∷ c ∷ d ∷ e ∷ f ∷ []) status h = rw (unmarked_is a d h.2.0 h.2.1, ne_eqb _ _ h.4) refl
-clock_in-raw (a ∷ b ∷ c ∷ d ∷ e ∷ f ∷ g ∷ raw) status h = absurd (omega (arith, h.0))
-clock_in-raw _ status h = absurd (omega (arith, h.0))
+-- a body that says something is laid out as this message
+pub laid_out : (said : Content) (body : List ℕ) → IsMessage said → BodySpells said body → layout_of (code_of said) body ≡ said_layout said
+laid_out (dump pieces) body h s = refl
+laid_out (field square piece) body h s = refl
+laid_out (times readings) body h s = rw s (times_laid_out readings h)
+laid_out (no_clock absence) body h s = rw s (absence_laid_out absence.raw absence.status h)
+laid_out (ack answer) body h s = rw s.1 refl
+laid_out (serial digits) body h s = refl
+laid_out (version main sub) body h s = refl
+laid_out (carried own bytes) body h s = rw s h.1
 
--- the bytes of a board without a clock have what it tells
-clock_in-absence : (a : Absence) → IsAbsence a → clock_in (a.raw ++ a.status ∷ []) ≡ no_clock a
-clock_in-absence a h = clock_in-raw a.raw a.status h
+-- six bytes and a status come back
+absence_back : (raw : List ℕ) (status : ℕ) → length raw ≡ 6 → absence_of (take 6 (raw ++ status ∷ [])) (slice_index (raw ++ status ∷ []) 6) ≡ absence_of raw status
+absence_back (a ∷ b ∷ c ∷ d ∷ e ∷ f ∷ []) status h = refl
+absence_back (a ∷ b ∷ c ∷ d ∷ e ∷ f ∷ g ∷ raw) status h = absurd (omega arith)
+absence_back _ status h = absurd (omega arith)
 
--- a message that fits is the decoded one
+-- a message comes back from its body by its layout
+said_back : (said : Content) (body : List ℕ) → IsMessage said → BodySpells said body → said_in (said_layout said) (code_of said) body ≡ said
+said_back (dump pieces) body h s = rw s (ap dump (map-piece_with_code pieces))
+said_back (field square piece) body h s = rw s (ap (field square) (piece_with_code-piece_code piece))
+said_back (times readings) body h s = rw (s, same_time readings.first h.0, same_time readings.second h.1) refl
+said_back (no_clock absence) body h s = rw s (ap no_clock (absence_back absence.raw absence.status h.0))
+said_back (ack answer) body h s = rw (← s.2, ← s.3) refl
+said_back (serial digits) body h s = ap serial s
+said_back (version main sub) body h s = rw s refl
+said_back (carried own bytes) body h s = ap (carried own) s
+
+-- a message that fits is the one in the body
 pub message_in-fits : (said : Content) (code : ℕ) (body : List ℕ) → Fits said code body → message_in code body ≡ said
-message_in-fits (dump pieces) code body h = rw (h.code_is, h.spelled) (ap dump (map-piece_with_code pieces))
-message_in-fits (field square piece) code body h = rw (h.code_is, h.spelled) (ap (field square) (piece_with_code-piece_code piece))
-message_in-fits (times readings) code body h = rw (h.code_is, h.spelled) (clock_in-times readings h.is_message)
-message_in-fits (no_clock absence) code body h = rw (h.code_is, h.spelled) (clock_in-absence absence h.is_message)
-message_in-fits (ack answer) code body h = rw h.code_is (clock_in-ack answer body h.spelled)
-message_in-fits (serial number) code body h = rw (h.code_is, h.spelled) refl
-message_in-fits (trademark carried) code body h = rw (h.code_is, h.spelled) refl
-message_in-fits (version main sub) code body h = rw (h.code_is, h.spelled) refl
-message_in-fits (battery carried) code body h = rw (h.code_is, h.spelled) refl
-message_in-fits (other own carried) code body h =
-    rw (h.code_is, h.spelled) (last_chosen (own == 0x06) (own == 0x0d) (own == 0x0e) (own == 0x11) (own == 0x12) (own == 0x13) (own == 0x20) _ _ _ _ _ _ _ _ h.is_message.1)
+message_in-fits said code body h =
+    rw (h.code_is, laid_out said body h.is_message h.spelled) (said_back said body h.is_message h.spelled)
 
 -- the whole spells what its code and its body say
 pub message_in-spells : (said : Content) (bytes : List ℕ) → Spells said bytes → message_in (slice_index bytes 0 - 128) (drop 3 bytes) ≡ said

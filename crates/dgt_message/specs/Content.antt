@@ -3,14 +3,15 @@ use Rattle.std.specs.Prelude.{◌≡◌, ℕ, ◌<◌, ◌≤◌, List, length, 
 use Rattle.dgt_values.specs.declared.pieces.Piece.{Piece}
 use Rattle.dgt_values.specs.Body.{body_bytes}
 use Rattle.dgt_message.specs.declared.message.Message.{Message}
-use Rattle.dgt_message.specs.declared.message.Message.TheVariants.{Dump, Field, Times, NoClock, Ack, Serial, Trademark, Version, Battery, Other}
 use Rattle.dgt_values.specs.Bytes.{number}
 use Rattle.dgt_values.specs.Square.{square_number}
 use Rattle.dgt_values.specs.Pieces.{pieces_of}
 use Rattle.dgt_message.specs.Ack.{Answer}
 use Rattle.dgt_message.specs.Values.{absence_seen, answer_seen, code_number, times_seen}
 use Rattle.dgt_message.specs.Clock.{Times as BothTimes, Absence, AreTimes, IsAbsence}
-use Rattle.dgt_message.specs.Other.{HasCase}
+use Rattle.dgt_message.specs.declared.known.KnownCode.{KnownCode}
+use Rattle.dgt_message.specs.Code.{known_number}
+use Rattle.dgt_message.specs.Layout.{Layout, layout_of}
 
 pub data Content : Type 0 where
   dump : (pieces : List Piece) → Content
@@ -19,22 +20,35 @@ pub data Content : Type 0 where
   no_clock : (absence : Absence) → Content
   ack : (answer : Answer) → Content
   serial : (digits : List ℕ) → Content
-  trademark : (body : List ℕ) → Content
   version : (main sub : ℕ) → Content
-  battery : (body : List ℕ) → Content
-  other : (code : ℕ) (body : List ℕ) → Content
+  carried : (code : ℕ) (body : List ℕ) → Content
+
+-- the body of a known code, carried unread
+abbrev pub carried_as : KnownCode → List ℕ → Content
+carried_as code body = carried (known_number code) body
 
 abbrev pub content : Message → Content
-content (Dump position) = dump (pieces_of position)
-content (Field square piece) = field (square_number square) piece
-content (Times readings) = times (times_seen readings)
-content (NoClock absence) = no_clock (absence_seen absence)
-content (Ack answer) = ack (answer_seen answer)
-content (Serial digits) = serial (map number digits)
-content (Trademark body) = trademark (body_bytes body)
-content (Version main sub) = version (number main) (number sub)
-content (Battery body) = battery (body_bytes body)
-content (Other code body) = other (code_number code) (body_bytes body)
+content (Message.Dump position) = dump (pieces_of position)
+content (Message.Field square piece) = field (square_number square) piece
+content (Message.Times readings) = times (times_seen readings)
+content (Message.NoClock absence) = no_clock (absence_seen absence)
+content (Message.Ack answer) = ack (answer_seen answer)
+content (Message.Serial digits) = serial (map number digits)
+content (Message.Version main sub) = version (number main) (number sub)
+content (Message.Trademark body) = carried_as KnownCode.Trademark (body_bytes body)
+content (Message.Battery body) = carried_as KnownCode.Battery (body_bytes body)
+content (Message.Other other body) = carried (code_number other) (body_bytes body)
+
+-- the code that a message is sent under
+abbrev pub code_of : Content → ℕ
+code_of (dump pieces) = known_number KnownCode.Dump
+code_of (field square piece) = known_number KnownCode.Field
+code_of (times readings) = known_number KnownCode.Clock
+code_of (no_clock absence) = known_number KnownCode.Clock
+code_of (ack answer) = known_number KnownCode.Clock
+code_of (serial digits) = known_number KnownCode.Serial
+code_of (version main sub) = known_number KnownCode.Version
+code_of (carried own body) = own
 
 -- bytes that a body may have
 abbrev pub IsCarried : List ℕ → Type 0
@@ -52,20 +66,5 @@ IsMessage (times readings) = AreTimes readings
 IsMessage (no_clock absence) = IsAbsence absence
 IsMessage (ack answer) = IsAck answer
 IsMessage (serial digits) = (length digits ≡ 5) × All (λ byte. byte < 128) digits
-IsMessage (trademark body) = IsCarried body
 IsMessage (version main sub) = (main < 128) × (sub < 128)
-IsMessage (battery body) = IsCarried body
-IsMessage (other code body) = (code < 128) × ¬ (HasCase code) × IsCarried body
-
--- the code that a message is sent under
-abbrev pub code_of : Content → ℕ
-code_of (dump pieces) = 0x06
-code_of (field square piece) = 0x0e
-code_of (times readings) = 0x0d
-code_of (no_clock absence) = 0x0d
-code_of (ack answer) = 0x0d
-code_of (serial digits) = 0x11
-code_of (trademark body) = 0x12
-code_of (version main sub) = 0x13
-code_of (battery body) = 0x20
-code_of (other code body) = code
+IsMessage (carried own body) = (own < 128) × (layout_of own body ≡ Layout.carried) × IsCarried body

@@ -1,6 +1,6 @@
 -- What a code and a body are, computed: the message that fits them, or the fault of the body. The
 -- law `reading_is_exact` ties it to `Fits` and to `IsFaultOf`.
-use Rattle.std.specs.Prelude.{ℕ, zero, suc, ◌+◌, ◌*◌, ◌/◌, ◌%◌, ◌==◌, ◌||◌, ◌&&◌, Bool, true, if◌then◌else◌, nat_lt, nat_le, bit_and, List, [], ◌∷◌, length, map, take, get_or, slice_index, Option, Some, None, Result, Ok, Err}
+use Rattle.std.specs.Prelude.{ℕ, zero, suc, ◌+◌, ◌*◌, ◌/◌, ◌%◌, ◌==◌, ◌&&◌, Bool, true, if◌then◌else◌, nat_lt, nat_le, List, [], ◌∷◌, length, map, take, get_or, slice_index, Option, Some, None, Result, Ok, Err}
 use Rattle.std.specs.Option.{option_or}
 use Rattle.dgt_values.specs.declared.pieces.Piece.{Piece}
 use Rattle.dgt_values.specs.declared.pieces.Piece.TheVariants.{Empty, WhitePawn, WhiteRook, WhiteKnight, WhiteBishop, WhiteKing, WhiteQueen, BlackPawn, BlackRook, BlackKnight, BlackBishop, BlackKing, BlackQueen, FirstExtra, SecondExtra, ThirdExtra}
@@ -10,9 +10,9 @@ use Rattle.dgt_message.specs.declared.message.Message.{Message}
 use Rattle.dgt_message.specs.Ack.{ack_in}
 use Rattle.dgt_message.specs.Clock.{absence_of, times_of}
 use Rattle.dgt_message.specs.Content.{Content, content}
-use Rattle.dgt_message.specs.Content.Content.{dump, field, times, no_clock, ack, serial, trademark, version, battery, other}
-use Rattle.dgt_message.specs.Fault.{Column, column, total_of}
-use Rattle.dgt_message.specs.Fault.Column.{square, piece, hours, sixty, anything}
+use Rattle.dgt_message.specs.Content.Content.{dump, field, times, no_clock, ack, serial, version, carried}
+use Rattle.dgt_message.specs.Layout.{Column, Layout, column_of, layout_of, total_of}
+use Rattle.dgt_message.specs.Layout.Column.{square, piece, hours, sixty, anything}
 use Rattle.dgt_message.specs.Time.{Time, time_of}
 
 -- ---- The message in a body whose size is right and whose bytes are all allowed
@@ -25,26 +25,21 @@ piece_with_code n = get_or (Empty ∷ WhitePawn ∷ WhiteRook ∷ WhiteKnight �
 abbrev pub time_in : ℕ → ℕ → ℕ → Time
 time_in h m s = time_of (h % 16) (10 * (m / 16) + m % 16) (10 * (s / 16) + s % 16) (h / 16)
 
--- the message of the clock in a body, by its marks and then by its status
-abbrev pub clock_in : List ℕ → Content
-clock_in body =
+-- the message in a body, by its layout
+abbrev pub said_in : Layout → ℕ → List ℕ → Content
+said_in Layout.dump code body = dump (map piece_with_code body)
+said_in Layout.field code body = field (slice_index body 0) (piece_with_code (slice_index body 1))
+said_in Layout.times code body =
     let at : ℕ → ℕ = slice_index body in
-    if at 0 % 16 == 0x0a || at 3 % 16 == 0x0a then ack (record { ack = ack_in body; status = at 6 })
-    else if bit_and (at 6) 0x20 == 0
-    then times (times_of (time_in (at 0) (at 1) (at 2)) (time_in (at 3) (at 4) (at 5)) (at 6))
-    else no_clock (absence_of (take 6 body) (at 6))
+    times (times_of (time_in (at 0) (at 1) (at 2)) (time_in (at 3) (at 4) (at 5)) (at 6))
+said_in Layout.no_clock code body = no_clock (absence_of (take 6 body) (slice_index body 6))
+said_in Layout.ack code body = ack (record { ack = ack_in body; status = slice_index body 6 })
+said_in Layout.serial code body = serial body
+said_in Layout.version code body = version (slice_index body 0) (slice_index body 1)
+said_in Layout.carried code body = carried code body
 
--- the message in a body, by its code
 abbrev pub message_in : ℕ → List ℕ → Content
-message_in code body =
-    if code == 0x06 then dump (map piece_with_code body)
-    else if code == 0x0d then clock_in body
-    else if code == 0x0e then field (slice_index body 0) (piece_with_code (slice_index body 1))
-    else if code == 0x11 then serial body
-    else if code == 0x12 then trademark body
-    else if code == 0x13 then version (slice_index body 0) (slice_index body 1)
-    else if code == 0x20 then battery body
-    else other code body
+message_in code body = said_in (layout_of code body) code body
 
 -- ---- The first byte that its place doesn't allow
 
@@ -62,9 +57,9 @@ first_failure test zero = None
 first_failure test (suc n) = option_or (first_failure test n) (if test n then None else Some n)
 
 -- the first place in a body that doesn't allow its byte
-abbrev pub first_bad_place : ℕ → List ℕ → Option ℕ
-first_bad_place code body =
-    first_failure (λ place. is_allowed (column code body place) (slice_index body place)) (length body)
+abbrev pub first_bad_place : Layout → List ℕ → Option ℕ
+first_bad_place layout body =
+    first_failure (λ place. is_allowed (column_of layout place) (slice_index body place)) (length body)
 
 -- ---- Both
 
@@ -77,21 +72,22 @@ is_right_size size (Some total) = size == total
 abbrev pub fault_of : Column → ℕ → BodyFault
 fault_of square at = BadSquare at
 fault_of piece at = BadPiece at
-fault_of hours at = BadReading at
-fault_of sixty at = BadReading at
-fault_of anything at = BadReading at
+fault_of _ at = BadReading at
 
 -- the fault at the first bad place, or the message where there is none
-abbrev pub message_or_fault : ℕ → List ℕ → Option ℕ → Result Content BodyFault
-message_or_fault code body None = Ok (message_in code body)
-message_or_fault code body (Some at) = Err (fault_of (column code body at) at)
+abbrev pub message_or_fault : Layout → ℕ → List ℕ → Option ℕ → Result Content BodyFault
+message_or_fault layout code body None = Ok (said_in layout code body)
+message_or_fault layout code body (Some at) = Err (fault_of (column_of layout at) at)
 
 -- the fault of a wrong size, or else that of the first bad place, or else the message
-unfoldable pub reading : ℕ → List ℕ → Result Content BodyFault
-reading code body =
-    if is_right_size (length body + 3) (total_of code)
-    then message_or_fault code body (first_bad_place code body)
+abbrev pub reading_as : Layout → ℕ → List ℕ → Result Content BodyFault
+reading_as layout code body =
+    if is_right_size (length body + 3) (total_of layout)
+    then message_or_fault layout code body (first_bad_place layout body)
     else Err WrongSize
+
+unfoldable pub reading : ℕ → List ℕ → Result Content BodyFault
+reading code body = reading_as (layout_of code body) code body
 
 -- the content of a message of the program, or its fault
 abbrev pub content_if_any : Result Message BodyFault → Result Content BodyFault

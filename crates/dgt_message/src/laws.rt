@@ -1,10 +1,12 @@
 //! What holds of the messages and their spellings as such. Nothing here runs: each function stands
 //! for the fact that its contract states.
 
-ghost use Rattle.std.specs.Prelude.{◌≡◌, ◌<◌, ◌-◌, ◌++◌, ◌↔◌, ℕ, List, [], drop, slice_index, Ok, Err};
+ghost use Rattle.std.specs.Prelude.{◌≡◌, ◌<◌, ◌-◌, ◌++◌, ◌↔◌, ℕ, List, [], drop, slice_index, Some, Ok, Err};
 ghost use Rattle.dgt_values.specs.Equality.{EqualIsSame, EqualIsSameRead};
 ghost use Rattle.dgt_message.specs.declared.bodies.BodyFault.{BodyFault};
+ghost use Rattle.dgt_message.specs.declared.known.KnownCode.{KnownCode};
 ghost use Rattle.dgt_message.specs.ClockState.{clock_seen};
+ghost use Rattle.dgt_message.specs.Code.{known_number, known_with};
 ghost use Rattle.dgt_message.specs.Content.{content, Content, IsCarried, IsMessage};
 ghost use Rattle.dgt_message.specs.Fault.{IsFaultOf};
 ghost use Rattle.dgt_message.specs.Laws.{HasOneReading};
@@ -14,6 +16,7 @@ ghost use Rattle.dgt_message.specs.Values.{absence_seen, answer_seen, code_numbe
 
 use crate::bodies::BodyFault;
 use crate::clock::{Clock, ClockAck, NoClock, Times};
+use crate::known::KnownCode;
 use crate::message::Message;
 use crate::other::OtherCode;
 use crate::readings::{Reading, Status};
@@ -28,8 +31,16 @@ pub fn equal_is_same()
     ensures clock { EqualIsSameRead clock_seen ⟦<Clock as PartialEq>⟧.eq }
     ensures ack { EqualIsSameRead answer_seen ⟦<ClockAck as PartialEq>⟧.eq }
     ensures other_code { EqualIsSameRead code_number ⟦<OtherCode as PartialEq>⟧.eq }
+    ensures known_code { EqualIsSame ⟦<KnownCode as PartialEq>⟧.eq }
     ensures message { EqualIsSameRead content ⟦<Message<'static> as PartialEq>⟧.eq }
     ensures body_fault { EqualIsSame ⟦<BodyFault as PartialEq>⟧.eq }
+{}
+
+/// A number is that of at most one code with a case of its own, and each such code is found by its
+/// number.
+pub fn a_number_has_one_code()
+    ensures { (number : ℕ) (code : KnownCode)
+        → (known_with number ≡ Some code) ↔ (number ≡ known_number code) }
 {}
 
 /// Exactly one message fits each code and each body, or exactly one fault does.

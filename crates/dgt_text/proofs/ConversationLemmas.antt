@@ -95,14 +95,7 @@ record IsWhole (board : BoardState) : Type 0 where
 told_length : (board : BoardState) (message : Content) → IsWhole board → length (told_squares_after board message) ≡ 64
 told_length board (Content.dump pieces) whole = whole.squares
 told_length board (Content.field square piece) whole = length-set board.told_squares square (piece_on board.squares square) ∙ whole.told_squares
-told_length board (Content.times readings) whole = whole.told_squares
-told_length board (Content.no_clock absence) whole = whole.told_squares
-told_length board (Content.ack acknowledgement) whole = whole.told_squares
-told_length board (Content.serial number) whole = whole.told_squares
-told_length board (Content.trademark body) whole = whole.told_squares
-told_length board (Content.version main sub) whole = whole.told_squares
-told_length board (Content.battery body) whole = whole.told_squares
-told_length board (Content.other code body) whole = whole.told_squares
+told_length board _ whole = whole.told_squares
 
 whole_after_sending : (board : BoardState) (message : Content) → IsWhole board → IsWhole (after_sending board message)
 whole_after_sending board message whole = record { squares = whole.squares; told_squares = told_length board message whole }

@@ -21,8 +21,10 @@ use Rattle.dgt_values.specs.Piece.{piece_letter}
 use Rattle.dgt_values.specs.Square.{square_name}
 use Rattle.dgt_message.specs.declared.bodies.BodyFault.{BodyFault}
 use Rattle.dgt_message.specs.declared.clock.Clock.{Clock}
+use Rattle.dgt_message.specs.declared.known.KnownCode.{KnownCode}
 use Rattle.dgt_message.specs.Clock.{AreTimes, Times as BothTimes}
 use Rattle.dgt_message.specs.ClockState.{ClockState, clock_message, clock_seen}
+use Rattle.dgt_message.specs.Code.{known_number}
 use Rattle.dgt_message.specs.Content.{Content}
 use Rattle.dgt_message.specs.Fault.{IsFaultOf}
 use Rattle.dgt_message.specs.Spelling.{Fits, times_bytes}
@@ -139,12 +141,12 @@ times_small t h =
     (omega (arith, h.0), (omega (arith, h.0), (omega (arith, h.0), (omega (arith, h.1), (omega (arith, h.1), (omega (arith, h.1), (h.2, tt)))))))
 
 -- the bytes of a clock are seven
-pub length-clock : (clock : ClockState) (body : List ℕ) → Fits (clock_message clock) 0x0d body → length body ≡ 7
+pub length-clock : (clock : ClockState) (body : List ℕ) → Fits (clock_message clock) (known_number KnownCode.Clock) body → length body ≡ 7
 length-clock (ClockState.times readings) body h = rw h.spelled refl
 length-clock (ClockState.no_clock absence) body h = rw h.spelled (omega (arith, h.is_message.0, length-append absence.raw (absence.status ∷ [])))
 
 -- each byte of a clock is below 128
-pub clock_is_seven_bit : (clock : ClockState) (body : List ℕ) → Fits (clock_message clock) 0x0d body → All (λ byte. byte < 128) body
+pub clock_is_seven_bit : (clock : ClockState) (body : List ℕ) → Fits (clock_message clock) (known_number KnownCode.Clock) body → All (λ byte. byte < 128) body
 clock_is_seven_bit (ClockState.times readings) body h = rw h.spelled (All-from_recursion (λ byte. byte < 128) (times_bytes readings) (times_small readings h.is_message))
 clock_is_seven_bit (ClockState.no_clock absence) body h =
     rw h.spelled (All-append (λ byte. byte < 128) absence.raw (absence.status ∷ []) h.is_message.1 (All-from_recursion (λ byte. byte < 128) (absence.status ∷ []) (h.is_message.3, tt)))
@@ -154,7 +156,7 @@ pub clock_decoded : (word : List ℕ) (clock : ClockState) (h : IsClockWord word
 clock_decoded word clock h = hex_sized word 7 h.body h.digits (length-clock clock h.body h.fits)
 
 -- what the word of a clock is decoded to is the body of that clock
-pub clock_fits : (word bytes : List ℕ) (clock : ClockState) → decode_sized word 7 ≡ Ok bytes → IsClockWord word clock → Fits (clock_message clock) 0x0d bytes
+pub clock_fits : (word bytes : List ℕ) (clock : ClockState) → decode_sized word 7 ≡ Ok bytes → IsClockWord word clock → Fits (clock_message clock) (known_number KnownCode.Clock) bytes
 clock_fits word bytes clock e h =
     let same : h.body ≡ bytes = decode_of-same word h.body bytes h.digits (sized_hex word 7 bytes e) in
     rw same at h.fits
@@ -168,20 +170,20 @@ clock_not_refused word bytes clock NotSevenBit e h r =
     omega (arith, high.4)
 
 -- what the word of a clock is decoded to has no fault
-pub clock_not_faulty : (word bytes : List ℕ) (clock : ClockState) (why : BodyFault) → decode_sized word 7 ≡ Ok bytes → IsClockWord word clock → IsFaultOf 0x0d bytes why → ⊥
-clock_not_faulty word bytes clock why e h r = not_both 0x0d bytes (clock_message clock) why (clock_fits word bytes clock e h) r
+pub clock_not_faulty : (word bytes : List ℕ) (clock : ClockState) (why : BodyFault) → decode_sized word 7 ≡ Ok bytes → IsClockWord word clock → IsFaultOf (known_number KnownCode.Clock) bytes why → ⊥
+clock_not_faulty word bytes clock why e h r = not_both _ bytes (clock_message clock) why (clock_fits word bytes clock e h) r
 
 -- what a message of these bytes tells of the clock is what the word tells
-pub clock_told : (word bytes : List ℕ) (said : Content) (r : Option Clock) → decode_sized word 7 ≡ Ok bytes → Fits said 0x0d bytes
+pub clock_told : (word bytes : List ℕ) (said : Content) (r : Option Clock) → decode_sized word 7 ≡ Ok bytes → Fits said (known_number KnownCode.Clock) bytes
     → MatchOption r ((clock : ClockState) → ¬ (Tells said clock)) (λ clock. Tells said (clock_seen clock))
     → MatchOption r ((clock : ClockState) → ¬ (IsClockWord word clock)) (λ clock. IsClockWord word (clock_seen clock))
-clock_told word bytes said None e f m = λ clock h. m clock (one_message 0x0d bytes (clock_message clock) said (clock_fits word bytes clock e h) f)
+clock_told word bytes said None e f m = λ clock h. m clock (one_message _ bytes (clock_message clock) said (clock_fits word bytes clock e h) f)
 clock_told word bytes said (Some clock) e f m = record { body = bytes; digits = sized_hex word 7 bytes e; fits = rw m f }
 
 -- a word tells one clock at most
 pub one_clock : (word : List ℕ) (a b : ClockState) → IsClockWord word a → IsClockWord word b → a ≡ b
 one_clock word a b h k =
-    same_clock a b (one_message 0x0d h.body (clock_message a) (clock_message b) h.fits (rw (decode_of-same word k.body h.body k.digits h.digits) at k.fits))
+    same_clock a b (one_message _ h.body (clock_message a) (clock_message b) h.fits (rw (decode_of-same word k.body h.body k.digits h.digits) at k.fits))
 
 -- ---- Commands
 

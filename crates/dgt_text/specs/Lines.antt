@@ -1,5 +1,5 @@
 -- The lines that say what a board sends. A line is an offset, a space, a text and a line feed.
-use Rattle.std.specs.Prelude.{ℕ, ◌-◌, List, [], ◌∷◌, ◌++◌, length, replicate, map, codes, decimal}
+use Rattle.std.specs.Prelude.{ℕ, ◌-◌, Option, Some, List, [], ◌∷◌, ◌++◌, length, replicate, map, codes, decimal}
 use Rattle.std.specs.List.{join_with_byte, flat_map}
 use Rattle.hex.specs.Hex.{encode_lower}
 use Rattle.dgt_values.specs.Piece.{piece_letter}
@@ -7,8 +7,10 @@ use Rattle.dgt_values.specs.Placement.{placement_text}
 use Rattle.dgt_values.specs.Square.{square_name}
 use Rattle.dgt_message.specs.declared.bodies.BodyFault.{BodyFault}
 use Rattle.dgt_message.specs.declared.bodies.BodyFault.TheVariants.{WrongSize, BadPiece, BadSquare, BadReading}
+use Rattle.dgt_message.specs.declared.known.KnownCode.{KnownCode}
+use Rattle.dgt_message.specs.Code.{known_with}
 use Rattle.dgt_message.specs.Content.{Content}
-use Rattle.dgt_message.specs.Content.Content.{dump, field, times, no_clock, ack, serial, trademark, version, battery, other}
+use Rattle.dgt_message.specs.Content.Content.{dump, field, times, no_clock, ack, serial, version, carried}
 use Rattle.dgt_message.specs.Time.{Time}
 use Rattle.dgt_decode.specs.Grammar.{Event, Message, Refused, Cut, BadLength, Stray, Placed, events, open_message}
 
@@ -39,6 +41,12 @@ time_text t =
     decimal t.hours ++ codes ":" ++ padded_decimal 2 t.minutes ++ codes ":" ++ padded_decimal 2 t.seconds
     ++ codes " " ++ decimal t.flags
 
+-- what a body is that is carried unread
+abbrev pub carried_words : Option KnownCode → ℕ → List (List ℕ)
+carried_words (Some KnownCode.Trademark) code = codes "trademark" ∷ []
+carried_words (Some KnownCode.Battery) code = codes "battery" ∷ []
+carried_words _ code = codes "other" ∷ byte_text code ∷ []
+
 unfoldable pub message_text : Content → List ℕ
 message_text (dump pieces) = words_text (codes "dump" ∷ placement_text pieces ∷ [])
 message_text (field square piece) = words_text (codes "field" ∷ square_name square ∷ (piece_letter piece ∷ []) ∷ [])
@@ -46,10 +54,8 @@ message_text (times t) = words_text (codes "times" ∷ time_text t.first ∷ tim
 message_text (no_clock absence) = words_text (codes "noclock" ∷ bytes_text absence.raw ∷ byte_text absence.status ∷ [])
 message_text (ack answer) = words_text (codes "ack" ∷ map byte_text (answer.ack ++ answer.status ∷ []))
 message_text (serial digits) = words_text (codes "serial" ∷ bytes_text digits ∷ [])
-message_text (trademark body) = words_text (codes "trademark" ∷ bytes_text body ∷ [])
 message_text (version main sub) = words_text (codes "version" ∷ (decimal main ++ codes "." ++ decimal sub) ∷ [])
-message_text (battery body) = words_text (codes "battery" ∷ bytes_text body ∷ [])
-message_text (other code body) = words_text (codes "other" ∷ byte_text code ∷ bytes_text body ∷ [])
+message_text (carried code body) = words_text (carried_words (known_with code) code ++ bytes_text body ∷ [])
 
 abbrev pub fault_text : BodyFault → List ℕ
 fault_text WrongSize = codes "wrongsize"

@@ -4,6 +4,8 @@ use Rattle.hex.specs.Hex.{decode_of}
 use Rattle.dgt_values.specs.declared.pieces.Piece.{Piece}
 use Rattle.dgt_values.specs.Piece.{piece_letter}
 use Rattle.dgt_values.specs.Square.{square_name}
+use Rattle.dgt_message.specs.declared.known.KnownCode.{KnownCode}
+use Rattle.dgt_message.specs.Code.{known_number}
 use Rattle.dgt_message.specs.ClockState.{ClockState, clock_message}
 use Rattle.dgt_message.specs.Content.{Content}
 use Rattle.dgt_message.specs.Spelling.{Fits}
@@ -30,7 +32,7 @@ Tells said clock = clock_message clock ≡ said
 pub record IsClockWord (word : List ℕ) (clock : ClockState) : Type 0 where
   pub body : List ℕ
   pub digits : IsHexOf word body
-  pub fits : Fits (clock_message clock) 0x0d body
+  pub fits : Fits (clock_message clock) (known_number KnownCode.Clock) body
 
 -- hexadecimal digits of the bytes of the command
 pub record IsCommandWord (word : List ℕ) (command : CommandContent) : Type 0 where

@@ -9,7 +9,7 @@ ghost use Rattle.dgt_command.specs.Content.{command_content, CommandContent};
 ghost use Rattle.dgt_text.specs.ScriptWords.{IsClockWord, IsCommandWord, IsCountWord, IsPieceWord, IsSquareWord, Tells};
 
 use dgt_command::{Command, view_command};
-use dgt_message::{Clock, Message, view};
+use dgt_message::{Clock, KnownCode, Message, view};
 use dgt_values::{Body, Piece, SevenBit, Square};
 use hex::FromHex;
 
@@ -40,7 +40,7 @@ pub(crate) fn clock_word(word: &[u8]) -> Option<Clock>
         (λ clock. IsClockWord word.now (clock_seen clock)) }
 {
     let bytes = <[u8; 7] as FromHex>::from_hex(word).ok()?;
-    let code = SevenBit::try_from(0x0d).unwrap();
+    let code = SevenBit::try_from(KnownCode::Clock.number()).unwrap();
     clock_of(view(code, Body::new(&bytes).ok()?).ok()?)
 }
 

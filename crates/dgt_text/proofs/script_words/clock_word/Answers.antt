@@ -18,7 +18,7 @@ returns-in_err-ok-2 c =
     let decoded = sym c.from_hex.ensures ∙ ok_of c.from_hex.result _ c.in_ok-bytes.ensures.value in
     let code = rw c.unwrap-code.ensures at c.try_from.ensures in
     let body = value_of _ _ c.new.result _ c.in_ok-ok.ensures.value c.new.ensures in
-    let says = rw (code.0, body) at c.view.ensures.says in
+    let says = rw (code.0, c.number.ensures.value, body) at c.view.ensures.says in
     let faulty = error_of _ _ c.view.result c.in_err-ok-2.ensures.variant says in
     rw c.from_residual-in_err-ok-2.ensures (λ clock h. clock_not_faulty c.args.word.now _ clock faulty.0 decoded h faulty.1)
 
@@ -28,4 +28,4 @@ returns c =
     let code = rw c.unwrap-code.ensures at c.try_from.ensures in
     let body = value_of _ _ c.new.result _ c.in_ok-ok.ensures.value c.new.ensures in
     let said = value_of _ _ c.view.result _ c.in_ok-ok-2.ensures.value c.view.ensures.says in
-    clock_told c.args.word.now _ _ c.clock_of.result decoded (rw (code.0, body) at said) c.clock_of.ensures
+    clock_told c.args.word.now _ _ c.clock_of.result decoded (rw (code.0, c.number.ensures.value, body) at said) c.clock_of.ensures

@@ -15,7 +15,7 @@ returns-in-Battery-clause-text g c = rw (c.in-Battery.is, c.push-in-Battery.ensu
 pub returns-in-Other-clause-text : goal.returns-in-Other-clause-text
 unfolding message_text
 returns-in-Other-clause-text g c =
-    rw (c.in-Other.is, c.push-in-Other-2.ensures.bytes, c.push_hex.ensures.bytes, c.push-in-Other.ensures.bytes) (simp (append_assoc, c.get-in-Other-2.ensures.value, c.get-in-Other.ensures.value) refl)
+    rw (c.in-Other.is, c.get-in-Other.ensures.unknown, c.push-in-Other-2.ensures.bytes, c.push_hex.ensures.bytes, c.push-in-Other.ensures.bytes) (simp (append_assoc, c.get-in-Other-2.ensures.value, c.get-in-Other.ensures.value) refl)
 
 pub returns-clause-text : goal.returns-clause-text
 unfolding message_text
