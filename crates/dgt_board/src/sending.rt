@@ -5,7 +5,8 @@ ghost use Rattle.dgt_values.specs.Bytes.{number};
 ghost use Rattle.dgt_values.specs.Square.{square_number};
 ghost use Rattle.dgt_message.specs.ClockState.{clock_message};
 ghost use Rattle.dgt_message.specs.Content.{Content, content};
-ghost use Rattle.dgt_message.specs.Spelling.{spelling};
+ghost use Rattle.dgt_message.specs.Spelling.{Spells, spelling};
+ghost use Rattle.dgt_values.specs.Room.{WritesFront};
 ghost use Rattle.dgt_board.specs.Sending.{after_sending, after_telling, differs, every_square, left_to_send, next_message, reply_message};
 ghost use Rattle.dgt_board.specs.Due.{IsDue, IsFirst, due_message};
 ghost use Rattle.dgt_board.specs.Polls.{Polls};
@@ -13,7 +14,7 @@ ghost use Rattle.dgt_board.specs.Polls.{Polls};
 use crate::modes::Mode;
 use crate::replies::Reply;
 use crate::state::State;
-use dgt_message::{Clock, ClockAck, Message, encode};
+use dgt_message::{Clock, ClockAck, Message, encode, encode_field};
 use dgt_values::{NoRoom, SevenBit, Square};
 
 /// What a board answers that is asked to send.
@@ -129,18 +130,17 @@ impl State {
         }
     }
 
-    // What is due, as the board stands.
-    fn message(&self, due: Due) -> Message<'_>
-        ensures value { content result ≡ due_message (state_of self.now) due }
-        ensures short { length (spelling (content result)) ≤ 67 }
+    // Writes what is due into the front of the slice, as the board stands. Each message is encoded where it is made: one
+    // that is first brought together with the others is copied as long as a dump is.
+    fn write(&self, due: Due, out: &mut [u8]) -> Result<usize, NoRoom>
+        ensures wrote { WritesFront (spelling (due_message (state_of self.now) due)) out.old out.new result }
+        ensures spells { Spells (due_message (state_of self.now) due) (spelling (due_message (state_of self.now) due)) }
+        ensures short { length (spelling (due_message (state_of self.now) due)) ≤ 67 }
     {
         match due {
-            Due::Reply(reply) => self.reply_message(reply),
-            Due::Field(square) => Message::Field {
-                square,
-                piece: self.squares.get(square),
-            },
-            Due::Times => self.clock_message(),
+            Due::Reply(reply) => encode(&self.reply_message(reply), out),
+            Due::Field(square) => encode_field(square, self.squares.get(square), out),
+            Due::Times => encode(&self.clock_message(), out),
         }
     }
 
@@ -199,7 +199,7 @@ impl State {
         let Some(due) = self.due() else {
             return Polled::Nothing;
         };
-        match encode(&self.message(due), out) {
+        match self.write(due, out) {
             Ok(count) => {
                 self.settle(due);
                 Polled::Wrote(count)
