@@ -10,12 +10,14 @@ unsafe extern "C" {
     fn dgt_bench_differ_by_scan(rounds: u64) -> u64;
     fn dgt_bench_poll(squares: *const u8, len: usize) -> u64;
     fn dgt_bench_poll_by_scan(squares: *const u8, len: usize) -> u64;
+    fn dgt_bench_poll_later(squares: *const u8, len: usize, poll: bool) -> u64;
+    fn dgt_bench_poll_later_by_scan(squares: *const u8, len: usize, poll: bool) -> u64;
     fn dgt_bench_idle_poll(rounds: u64) -> u64;
     fn dgt_bench_idle_poll_by_scan(rounds: u64) -> u64;
 }
 
 const ROUNDS: u64 = 2_000;
-const TURNS: u64 = 100_000;
+const TURNS: u64 = 128_000;
 const DUMP: u64 = 67;
 /// So many replies does a host await.
 const MOST_DUMPS: u64 = 16;
@@ -43,8 +45,23 @@ fn deliver(capacity: usize) {
 fn compare_scan(name: &str, lanes: impl Fn() -> u64, scan: impl Fn() -> u64) {
     let ((lanes, answer), (scan, same)) = (timed(lanes), timed(scan));
     assert_eq!(answer, same, "{name}: the answers differ");
-    let each = |time: f64| time * 1e3 / TURNS as f64;
+    print_scan(name, lanes, scan, TURNS);
+}
+
+fn print_scan(name: &str, lanes: f64, scan: f64, turns: u64) {
+    let each = |time: f64| time * 1e3 / turns as f64;
     println!("{name}: {:.1} ns each, by a scan {:.1} ns, {:.1} times as fast", each(lanes), each(scan), scan / lanes);
+}
+
+/// Polls of boards on which one square changed a while ago: 64 boards are changed, and then all are polled. The time of
+/// the same changes with no poll is subtracted.
+fn poll_later(squares: &[u8]) {
+    let lanes = |poll| timed(|| unsafe { dgt_bench_poll_later(squares.as_ptr(), squares.len(), poll) });
+    let scan = |poll| timed(|| unsafe { dgt_bench_poll_later_by_scan(squares.as_ptr(), squares.len(), poll) });
+    let ((by_lanes, answer), (by_scan, same)) = (lanes(true), scan(true));
+    assert_eq!(answer, same, "the answers of polls differ");
+    let turns = 2 * 64 * squares.len() as u64;
+    print_scan("poll, one square changed before", by_lanes - lanes(false).0, by_scan - scan(false).0, turns);
 }
 
 pub fn compare() {
@@ -60,14 +77,15 @@ pub fn compare() {
     );
     // Each is changed twice.
     let squares: Vec<u8> = garbage(TURNS as usize / 2).iter().map(|byte| byte % 64).collect();
+    poll_later(&squares[..1000]);
     compare_scan(
-        "poll, one changed square",
+        "poll, right behind the change of a square",
         || unsafe { dgt_bench_poll(squares.as_ptr(), squares.len()) },
         || unsafe { dgt_bench_poll_by_scan(squares.as_ptr(), squares.len()) },
     );
     compare_scan(
         "poll, no changed square",
-        || unsafe { dgt_bench_idle_poll(TURNS / 16) },
-        || unsafe { dgt_bench_idle_poll_by_scan(TURNS / 16) },
+        || unsafe { dgt_bench_idle_poll(TURNS / 64) },
+        || unsafe { dgt_bench_idle_poll_by_scan(TURNS / 64) },
     );
 }
