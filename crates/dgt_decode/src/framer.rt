@@ -2,14 +2,13 @@
 
 ghost use Rattle.std.specs.Prelude.{◌≡◌, ◌≤◌, ◌<◌, ◌+◌, List, ℕ, [], ◌∷◌, ◌++◌, length, take, ◌==◌, if◌then◌else◌, Some, None};
 ghost use Rattle.std.specs.List.{position_or_len};
-ghost use Rattle.arrayvec.specs.ArrayVec.{array_vec_len};
 ghost use Rattle.dgt_decode.specs.Grammar.{has_top_bit, open_message};
 ghost use Rattle.dgt_decode.specs.Feeding.{FirstEvent, IsWhole, event_content, found_if_any, found_in};
 ghost use Rattle.dgt_decode.specs.Taking.{Frames, FramesRun};
 
 use crate::event::{Event, Found, whole_message};
+use crate::kept::Kept;
 use crate::lanes::first_top;
-use arrayvec::ArrayVec;
 use std::marker::Model;
 
 /// The most bytes of a message, its header of three bytes counted.
@@ -50,7 +49,7 @@ pub struct Advanced {
 #[derive(Drop)]
 pub struct Framer {
     state: State,
-    kept: ArrayVec<u8, MAX_TOTAL>,
+    kept: Kept,
 }
 
 impl Model for Framer {
@@ -59,9 +58,9 @@ impl Model for Framer {
 
     ghost Value = { List ℕ };
 
-    ghost view = { λ framer. framer.kept.items };
+    ghost view = { λ framer. framer.kept };
 
-    ghost invariant = { λ framer. IsKept framer.state framer.kept.items };
+    ghost invariant = { λ framer. IsKept framer.state framer.kept };
 }
 
 // The state after bytes of a message, where so many are still to come, and what the last byte made known.
@@ -77,14 +76,14 @@ fn after_byte(left: usize) -> (State, Option<Found>)
 
 // Appends the bytes at the front of the piece that are below 128, and no more than are missing. Answers how
 // many they are.
-fn append_run(kept: &mut ArrayVec<u8, MAX_TOTAL>, missing: usize, piece: &[u8]) -> usize
-    requires { array_vec_len kept.old + missing ≤ MAX_TOTAL }
+fn append_run(kept: &mut Kept, missing: usize, piece: &[u8]) -> usize
+    requires { length kept.old + missing ≤ MAX_TOTAL }
     ensures count { result ≡ position_or_len has_top_bit (take missing piece.now) }
-    ensures appended { kept.new.items ≡ kept.old.items ++ take result piece.now }
+    ensures appended { kept.new ≡ kept.old ++ take result piece.now }
 {
     let wanted = &piece[..piece.len().min(missing)];
     let run = first_top(wanted);
-    kept.try_extend_from_slice(&wanted[..run]).unwrap();
+    kept.append(&wanted[..run]);
     run
 }
 
@@ -95,7 +94,7 @@ impl Framer {
     {
         Framer {
             state: State::Hunting,
-            kept: ArrayVec::new(),
+            kept: Kept::new(),
         }
     }
 
@@ -147,7 +146,7 @@ impl Framer {
         ensures { event_content result ≡ found_in self.now found }
     {
         match found {
-            Found::Message => whole_message(&self.kept),
+            Found::Message => whole_message(self.kept.as_slice()),
             Found::Cut { have } => Event::Cut { have },
             Found::BadLength => Event::BadLength,
             Found::Stray(byte) => Event::Stray(byte),
@@ -225,7 +224,7 @@ impl Framer {
                 None
             }
             State::Head => {
-                let total = 128 * usize::from(self.kept[1]) + usize::from(byte);
+                let total = 128 * usize::from(self.kept.as_slice()[1]) + usize::from(byte);
                 if total < 3 {
                     self.reset();
                     return Some(Found::BadLength);

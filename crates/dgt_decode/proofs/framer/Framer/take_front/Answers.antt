@@ -8,7 +8,7 @@ use Rattle.dgt_decode.proofs.framer.Framer.take_front.Goals as goal
 
 pub append_run-used-requires : goal.append_run-used-requires
 append_run-used-requires c =
-    let kept = c.self.inside.kept.items in
+    let kept = c.self.inside.kept in
     let is : IsKept (Body c.in-Body.left) kept = subst (λ s. IsKept s kept) c.in-Body.is c.self.invariant in
     omega (arith, is.1, is.3, held_total kept is.0 (omega (arith, is.1)))
 
@@ -19,14 +19,14 @@ overflow_sub-left c =
 
 pub invariant_of-self : goal.invariant_of-self
 invariant_of-self c =
-    let kept = c.self.inside.kept.items in
+    let kept = c.self.inside.kept in
     let is : IsKept (Body c.in-Body.left) kept = subst (λ s. IsKept s kept) c.in-Body.is c.self.invariant in
     let run = body_run c.in-Body.left _ c.args.rest.now (omega arith) c.requires c.if-rest-lt128.true c.append_run-used.ensures.count in
     rw (c.after_byte-state.ensures, c.append_run-used.ensures.appended) (frames-body_run kept c.args.rest.now c.in-Body.left _ is run).1
 
 pub returns-in-Body : goal.returns-in-Body
 returns-in-Body c =
-    let kept = c.self.inside.kept.items in
+    let kept = c.self.inside.kept in
     let is : IsKept (Body c.in-Body.left) kept = subst (λ s. IsKept s kept) c.in-Body.is c.self.invariant in
     let run = body_run c.in-Body.left _ c.args.rest.now (omega arith) c.requires c.if-rest-lt128.true c.append_run-used.ensures.count in
     rw (← c.self.view_is, c.after_byte-state.ensures, c.append_run-used.ensures.appended) (frames-body_run kept c.args.rest.now c.in-Body.left _ is run).0
