@@ -4,9 +4,10 @@ ghost use Rattle.std.specs.Prelude.{◌≡◌, ◌≤◌, ◌<◌, ◌+◌, List
 ghost use Rattle.std.specs.List.{position_or_len};
 ghost use Rattle.dgt_decode.specs.Grammar.{has_top_bit, open_message};
 ghost use Rattle.dgt_decode.specs.Feeding.{FirstEvent, IsWhole, event_content, found_if_any, found_in};
-ghost use Rattle.dgt_decode.specs.Taking.{Frames, FramesRun};
+ghost use Rattle.dgt_decode.specs.Taking.{Begins, Frames, FramesRun};
 
 use crate::event::{Event, Found, whole_message};
+use crate::header::total_at_front;
 use crate::kept::Kept;
 use crate::lanes::first_top;
 use std::marker::Model;
@@ -153,7 +154,8 @@ impl Framer {
         }
     }
 
-    // Takes the run at the front where many bytes of a message are missing, and else a few bytes one by one.
+    // Takes the run at the front where a message begins, or where many bytes of one are missing, and else a few
+    // bytes one by one.
     fn take_front(&mut self, rest: &[u8]) -> Advanced
         requires { 0 < length rest.now }
         ensures { FramesRun self.old rest.now result.used self.new result.found }
@@ -163,10 +165,29 @@ impl Framer {
                 let used = append_run(&mut self.kept, left, rest);
                 let (state, found) = after_byte(left - used);
                 self.state = state;
-                Advanced { used, found }
+                return Advanced { used, found };
             }
-            _ => self.take_bytes(&rest[..rest.len().min(MANY)]),
+            State::Hunting | State::Whole => {
+                if let Some(total) = total_at_front(rest) {
+                    return self.take_beginning(total, rest);
+                }
+            }
+            _ => {}
         }
+        self.take_bytes(&rest[..rest.len().min(MANY)])
+    }
+
+    // Takes a message's header, and the run of its body behind it.
+    fn take_beginning(&mut self, total: usize, rest: &[u8]) -> Advanced
+        requires closed { open_message self.old ≡ [] }
+        requires begins { Begins total rest.now }
+        ensures { FramesRun self.old rest.now result.used self.new result.found }
+    {
+        let used = 3 + first_top(&rest[3..rest.len().min(total)]);
+        self.kept.set_front(rest, used);
+        let (state, found) = after_byte(total - used);
+        self.state = state;
+        Advanced { used, found }
     }
 
     // Uses bytes one by one, up to and including the first that makes something known, or all of them.

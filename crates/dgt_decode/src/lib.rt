@@ -17,6 +17,7 @@
 mod decoder;
 mod event;
 mod framer;
+mod header;
 mod kept;
 mod lanes;
 pub mod laws;

@@ -3,6 +3,7 @@ use Rattle.std.proofs.lemmas.List.{length-take}
 use Rattle.dgt_decode.specs.declared.framer.State.TheVariants.{Body}
 use Rattle.dgt_decode.specs.Keeping.{IsKept}
 use Rattle.dgt_decode.proofs.Bytes.{held_total}
+use Rattle.dgt_decode.proofs.Framing.{closed}
 use Rattle.dgt_decode.proofs.Runs.{IsBodyRun, body_run, frames-front, frames-body_run}
 use Rattle.dgt_decode.proofs.framer.Framer.take_front.Goals as goal
 
@@ -31,8 +32,11 @@ returns-in-Body c =
     let run = body_run c.in-Body.left _ c.args.rest.now (omega arith) c.requires c.if-rest-lt128.true c.append_run-used.ensures.count in
     rw (← c.self.view_is, c.after_byte-state.ensures, c.append_run-used.ensures.appended) (frames-body_run kept c.args.rest.now c.in-Body.left _ is run).0
 
-pub returns-in_default : goal.returns-in_default
-returns-in_default c =
+pub take_beginning-requires-clause-closed : goal.take_beginning-requires-clause-closed
+take_beginning-requires-clause-closed c = rw (← c.self.view_is) (closed _ _ c.self.invariant c.in-Hunting.is)
+
+pub returns : goal.returns
+returns c =
     let some = c.take_bytes.ensures.progress (omega (arith, length-take c.min.result c.args.rest.now, c.min.ensures, c.requires)) in
     frames-front c.args.self.now c.args.rest.now _ c.take_bytes.result.used c.take_bytes.new.self c.take_bytes.result.found
     some c.take_bytes.ensures.within c.take_bytes.ensures.first c.take_bytes.ensures.held c.take_bytes.ensures.whole c.take_bytes.ensures.came
