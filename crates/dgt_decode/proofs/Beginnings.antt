@@ -1,14 +1,13 @@
 -- A run that begins a message.
-use Rattle.std.proofs.Common.{◌≡◌, ℕ, zero, suc, ◌+◌, ◌-◌, ◌<◌, ◌≤◌, List, [], ◌∷◌, ◌++◌, length, take, drop, min, not, refl, ap, ◌∙◌, arith}
+use Rattle.std.proofs.Common.{◌≡◌, ℕ, zero, suc, ◌+◌, ◌-◌, ◌<◌, ◌≤◌, List, [], ◌∷◌, length, take, drop, min, not, Some, refl, ap, ◌∙◌, arith}
 use Rattle.std.specs.List.{position_or_len}
-use Rattle.std.specs.Prelude.{slice_index}
-use Rattle.std.proofs.lemmas.List.{length-take, length-drop, take-take}
+use Rattle.dgt_decode.specs.declared.event.Found.TheVariants as found
+use Rattle.std.proofs.lemmas.List.{length-take, take-take}
 use Rattle.std.proofs.lemmas.List.Sums.{prefix_len-le-length}
 use Rattle.dgt_decode.specs.Grammar.{IsSevenBit, has_top_bit, events, open_message, total_of}
-use Rattle.dgt_decode.specs.Feeding.{at_place_if_any, found_if_any}
+use Rattle.dgt_decode.specs.Feeding.{IsWhole, at_place_if_any, found_if_any}
 use Rattle.dgt_decode.specs.Keeping.{IsKept}
 use Rattle.dgt_decode.specs.Taking.{Begins, FramesRun}
-use Rattle.dgt_decode.proofs.Verdicts.{total_of-append}
 use Rattle.dgt_decode.proofs.Steps.{Gives, first-begins, next-short, next-waits}
 use Rattle.dgt_decode.proofs.Framing.{after, tells-after}
 use Rattle.dgt_decode.proofs.Runs.{seven-before, seven-take}
@@ -92,3 +91,23 @@ frames-beginning kept (b ∷ h ∷ l ∷ more) total (suc (suc (suc n))) none be
       },
       t.1,
     )
+
+-- A message that has come whole is told at once.
+pub frames-whole : (kept rest : List ℕ) (total : ℕ) → open_message kept ≡ [] → total ≤ length rest → IsWhole (take total rest)
+    → FramesRun kept rest total (take total rest) (Some found.Message)
+frames-whole kept rest zero none within whole = absurd (omega (arith, whole.long))
+frames-whole kept rest (suc zero) none within whole = absurd (omega (arith, whole.long, length-take 1 rest))
+frames-whole kept rest (suc (suc zero)) none within whole = absurd (omega (arith, whole.long, length-take 2 rest))
+frames-whole kept [] (suc (suc (suc n))) none within whole = absurd (omega (arith, within))
+frames-whole kept (b ∷ []) (suc (suc (suc n))) none within whole = absurd (omega (arith, within))
+frames-whole kept (b ∷ h ∷ []) (suc (suc (suc n))) none within whole = absurd (omega (arith, within))
+frames-whole kept (b ∷ h ∷ l ∷ more) (suc (suc (suc n))) none within whole =
+    let total = suc (suc (suc n)) in
+    let rest = b ∷ h ∷ l ∷ more in
+    let is : total ≡ total_of rest = omega (arith, whole.whole, length-take total rest, within) in
+    let begins : Begins total rest = record { first = whole.first; header = (whole.later.0, (whole.later.1.0, tt)); enough = omega arith; is = is; large = omega arith } in
+    let behind : total - 3 ≡ n = omega arith in
+    let all : IsBeginning total rest total =
+    record { header = omega arith; within = within; fits = omega arith; short = omega (arith, is, whole.later.0, whole.later.1.0); seven = rw behind whole.later.1.1 } in
+    let none_left : total - total ≡ 0 = omega arith in
+    rw none_left at (frames-beginning kept rest total total none begins all).0

@@ -1,13 +1,12 @@
 //! The reading of one message after another: its states, and the bytes that have come.
 
-ghost use Rattle.std.specs.Prelude.{◌≡◌, ◌≤◌, ◌<◌, ◌+◌, List, ℕ, [], ◌∷◌, ◌++◌, length, take, ◌==◌, if◌then◌else◌, Some, None};
-ghost use Rattle.std.specs.List.{position_or_len};
-ghost use Rattle.dgt_decode.specs.Grammar.{has_top_bit, open_message};
+ghost use Rattle.std.specs.Prelude.{◌≡◌, ◌≤◌, ◌<◌, ◌+◌, List, ℕ, [], ◌∷◌, ◌++◌, true, length, take, ◌==◌, if◌then◌else◌, Some, None};
+ghost use Rattle.dgt_decode.specs.Grammar.{open_message};
 ghost use Rattle.dgt_decode.specs.Feeding.{FirstEvent, IsWhole, event_content, found_if_any, found_in};
 ghost use Rattle.dgt_decode.specs.Taking.{Begins, Frames, FramesRun};
 
 use crate::event::{Event, Found, whole_message};
-use crate::header::total_at_front;
+use crate::header::{FIELD, is_field_at_front, total_at_front};
 use crate::kept::Kept;
 use crate::lanes::first_top;
 use std::marker::Model;
@@ -23,12 +22,12 @@ const MANY: usize = 16;
 enum State {
     /// No message has begun.
     Hunting,
+    /// All of it has come. It is kept until the next byte.
+    Whole,
     /// One or two bytes of its header have come.
     Head,
     /// Its header has come, and so many bytes are still to come.
     Body { left: usize },
-    /// All of it has come. It is kept until the next byte.
-    Whole,
 }
 
 /// A framer's answer to a piece.
@@ -73,19 +72,6 @@ fn after_byte(left: usize) -> (State, Option<Found>)
     } else {
         (State::Body { left }, None)
     }
-}
-
-// Appends the bytes at the front of the piece that are below 128, and no more than are missing. Answers how
-// many they are.
-fn append_run(kept: &mut Kept, missing: usize, piece: &[u8]) -> usize
-    requires { length kept.old + missing ≤ MAX_TOTAL }
-    ensures count { result ≡ position_or_len has_top_bit (take missing piece.now) }
-    ensures appended { kept.new ≡ kept.old ++ take result piece.now }
-{
-    let wanted = &piece[..piece.len().min(missing)];
-    let run = first_top(wanted);
-    kept.append(&wanted[..run]);
-    run
 }
 
 impl Framer {
@@ -154,15 +140,40 @@ impl Framer {
         }
     }
 
+    // Takes the front: a whole message as long as a field at once, and else a run.
+    #[inline(always)]
+    fn take_front(&mut self, rest: &[u8]) -> Advanced
+        requires { 0 < length rest.now }
+        ensures { FramesRun self.old rest.now result.used self.new result.found }
+    {
+        if !self.is_between() || !is_field_at_front(rest) {
+            return self.take_run(rest);
+        }
+        self.kept.set_front(rest, FIELD);
+        self.state = State::Whole;
+        Advanced {
+            used: FIELD,
+            found: Some(Found::Message),
+        }
+    }
+
+    // Whether no message is unfinished.
+    #[inline(always)]
+    fn is_between(&self) -> bool
+        ensures { result ≡ true → open_message self.now ≡ [] }
+    {
+        matches!(self.state, State::Hunting | State::Whole)
+    }
+
     // Takes the run at the front where a message begins, or where many bytes of one are missing, and else a few
     // bytes one by one.
-    fn take_front(&mut self, rest: &[u8]) -> Advanced
+    fn take_run(&mut self, rest: &[u8]) -> Advanced
         requires { 0 < length rest.now }
         ensures { FramesRun self.old rest.now result.used self.new result.found }
     {
         match self.state {
             State::Body { left } if left >= MANY && rest[0] < 128 => {
-                let used = append_run(&mut self.kept, left, rest);
+                let used = self.kept.append_run(left, rest);
                 let (state, found) = after_byte(left - used);
                 self.state = state;
                 return Advanced { used, found };

@@ -1,9 +1,13 @@
 //! The bytes of one message, kept in place.
 
 ghost use Rattle.std.specs.Prelude.{◌≡◌, ◌≤◌, ◌<◌, ◌+◌, [], ◌∷◌, ◌++◌, length, take};
+ghost use Rattle.std.specs.List.{position_or_len};
+ghost use Rattle.dgt_decode.specs.Grammar.{has_top_bit};
 
 use crate::framer::MAX_TOTAL;
+use crate::lanes::first_top;
 use std::marker::Model;
+use std::simd::prelude::*;
 
 // A message of no more bytes than this is copied in one step, with bytes behind it where there are some.
 const FEW: usize = 8;
@@ -70,6 +74,19 @@ impl Kept {
         self.len = end;
     }
 
+    /// Appends the bytes at the front of the piece that are below 128, and no more than are missing. Answers how
+    /// many they are.
+    pub fn append_run(&mut self, missing: usize, piece: &[u8]) -> usize
+        requires { length self.old + missing ≤ MAX_TOTAL }
+        ensures count { result ≡ position_or_len has_top_bit (take missing piece.now) }
+        ensures appended { self.new ≡ self.old ++ take result piece.now }
+    {
+        let wanted = &piece[..piece.len().min(missing)];
+        let run = first_top(wanted);
+        self.append(&wanted[..run]);
+        run
+    }
+
     /// Keeps so many bytes at the front of these, and none from before.
     pub fn set_front(&mut self, bytes: &[u8], len: usize)
         requires within { len ≤ length bytes.now }
@@ -77,7 +94,7 @@ impl Kept {
         ensures { self.new ≡ take len bytes.now }
     {
         if len <= FEW && bytes.len() >= FEW {
-            self.bytes[..FEW].copy_from_slice(&bytes[..FEW]);
+            u8x8::from_slice(bytes).copy_to_slice(&mut self.bytes);
         } else {
             self.bytes[..len].copy_from_slice(&bytes[..len]);
         }

@@ -1,4 +1,4 @@
-use Rattle.std.proofs.Common.{◌≡◌, ◌≤◌, ◌+◌, length, refl, ap, ◌∙◌, arith}
+use Rattle.std.proofs.Common.{◌+◌, refl, ◌∙◌, arith}
 use Rattle.dgt_decode.proofs.Beginnings.{IsBeginning, beginning, frames-beginning}
 use Rattle.dgt_decode.proofs.framer.Framer.take_beginning.Goals as goal
 
