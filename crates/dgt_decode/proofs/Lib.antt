@@ -15,4 +15,5 @@ pub mod AnyPieces
 pub mod Cutting
 pub mod Chunks
 pub mod Runs
+pub mod Beginnings
 pub mod Equal

@@ -55,7 +55,7 @@ frames-front kept rest n used new what some within first held whole came =
 -- ---- In a body
 
 -- the bytes before the first with a set top bit are seven-bit
-seven-before : (bytes : List ℕ) → IsSevenBit (take (position_or_len has_top_bit bytes) bytes)
+pub seven-before : (bytes : List ℕ) → IsSevenBit (take (position_or_len has_top_bit bytes) bytes)
 seven-before [] = tt
 seven-before (b ∷ bytes) = go (has_top_bit b) refl (seven-before bytes)
   where
@@ -94,7 +94,7 @@ body_run (suc more) used (b ∷ rest) room some seven is =
     }
 
 -- the front of seven-bit bytes is so
-seven-take : (n : ℕ) (bytes : List ℕ) → IsSevenBit bytes → IsSevenBit (take n bytes)
+pub seven-take : (n : ℕ) (bytes : List ℕ) → IsSevenBit bytes → IsSevenBit (take n bytes)
 seven-take zero bytes seven = tt
 seven-take (suc n) [] seven = tt
 seven-take (suc n) (b ∷ bytes) seven = (seven.0, seven-take n bytes seven.1)

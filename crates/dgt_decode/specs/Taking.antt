@@ -1,8 +1,8 @@
 -- What a framer does with one byte, or with a run of bytes.
-use Rattle.std.specs.Prelude.{◌≡◌, ◌≤◌, ◌<◌, ℕ, ◌+◌, ◌-◌, List, [], ◌∷◌, ◌++◌, length, take, Option, Some}
+use Rattle.std.specs.Prelude.{◌≡◌, ◌≤◌, ◌<◌, ℕ, ◌+◌, ◌-◌, List, [], ◌∷◌, ◌++◌, length, take, drop, slice_index, Option, Some}
 use Rattle.dgt_decode.specs.declared.event.Found.{Found}
 use Rattle.dgt_decode.specs.declared.event.Found.TheVariants as found
-use Rattle.dgt_decode.specs.Grammar.{Event, events, open_message}
+use Rattle.dgt_decode.specs.Grammar.{Event, IsSevenBit, events, open_message, total_of}
 use Rattle.dgt_decode.specs.Feeding.{IsWhole, at_place_if_any, found_if_any}
 
 -- A reader that held these bytes has taken one more: it tells its event, and holds what is open then.
@@ -29,3 +29,11 @@ pub record FramesRun (kept rest : List ℕ) (used : ℕ) (new : List ℕ) (what 
   pub takes : TakesRun (open_message kept) rest used (open_message new) (found_if_any new what)
   pub message : what ≡ Some found.Message → IsWhole new
   pub came : what ≡ Some found.Message → new ≡ open_message kept ++ take used rest
+
+-- A message of so many bytes begins with the first of these, and all of its header has come.
+pub record Begins (total : ℕ) (bytes : List ℕ) : Type 0 where
+  pub first : 128 ≤ slice_index bytes 0
+  pub header : IsSevenBit (take 2 (drop 1 bytes))
+  pub enough : 3 ≤ length bytes
+  pub is : total ≡ total_of bytes
+  pub large : 3 ≤ total

@@ -1,15 +1,14 @@
 //! The reading of one message after another: its states, and the bytes that have come.
 
-ghost use Rattle.std.specs.Prelude.{◌≡◌, ◌≤◌, ◌<◌, ◌+◌, List, ℕ, [], ◌∷◌, ◌++◌, length, take, ◌==◌, if◌then◌else◌, Some, None};
-ghost use Rattle.std.specs.List.{position_or_len};
-ghost use Rattle.arrayvec.specs.ArrayVec.{array_vec_len};
-ghost use Rattle.dgt_decode.specs.Grammar.{has_top_bit, open_message};
+ghost use Rattle.std.specs.Prelude.{◌≡◌, ◌≤◌, ◌<◌, ◌+◌, List, ℕ, [], ◌∷◌, ◌++◌, true, length, take, ◌==◌, if◌then◌else◌, Some, None};
+ghost use Rattle.dgt_decode.specs.Grammar.{open_message};
 ghost use Rattle.dgt_decode.specs.Feeding.{FirstEvent, IsWhole, event_content, found_if_any, found_in};
-ghost use Rattle.dgt_decode.specs.Taking.{Frames, FramesRun};
+ghost use Rattle.dgt_decode.specs.Taking.{Begins, Frames, FramesRun};
 
 use crate::event::{Event, Found, whole_message};
+use crate::header::{FIELD, is_field_at_front, total_at_front};
+use crate::kept::Kept;
 use crate::lanes::first_top;
-use arrayvec::ArrayVec;
 use std::marker::Model;
 
 /// The most bytes of a message, its header of three bytes counted.
@@ -23,12 +22,12 @@ const MANY: usize = 16;
 enum State {
     /// No message has begun.
     Hunting,
+    /// All of it has come. It is kept until the next byte.
+    Whole,
     /// One or two bytes of its header have come.
     Head,
     /// Its header has come, and so many bytes are still to come.
     Body { left: usize },
-    /// All of it has come. It is kept until the next byte.
-    Whole,
 }
 
 /// A framer's answer to a piece.
@@ -50,7 +49,7 @@ pub struct Advanced {
 #[derive(Drop)]
 pub struct Framer {
     state: State,
-    kept: ArrayVec<u8, MAX_TOTAL>,
+    kept: Kept,
 }
 
 impl Model for Framer {
@@ -59,9 +58,9 @@ impl Model for Framer {
 
     ghost Value = { List ℕ };
 
-    ghost view = { λ framer. framer.kept.items };
+    ghost view = { λ framer. framer.kept };
 
-    ghost invariant = { λ framer. IsKept framer.state framer.kept.items };
+    ghost invariant = { λ framer. IsKept framer.state framer.kept };
 }
 
 // The state after bytes of a message, where so many are still to come, and what the last byte made known.
@@ -75,19 +74,6 @@ fn after_byte(left: usize) -> (State, Option<Found>)
     }
 }
 
-// Appends the bytes at the front of the piece that are below 128, and no more than are missing. Answers how
-// many they are.
-fn append_run(kept: &mut ArrayVec<u8, MAX_TOTAL>, missing: usize, piece: &[u8]) -> usize
-    requires { array_vec_len kept.old + missing ≤ MAX_TOTAL }
-    ensures count { result ≡ position_or_len has_top_bit (take missing piece.now) }
-    ensures appended { kept.new.items ≡ kept.old.items ++ take result piece.now }
-{
-    let wanted = &piece[..piece.len().min(missing)];
-    let run = first_top(wanted);
-    kept.try_extend_from_slice(&wanted[..run]).unwrap();
-    run
-}
-
 impl Framer {
     /// A framer that has read nothing.
     pub fn new() -> Self
@@ -95,7 +81,7 @@ impl Framer {
     {
         Framer {
             state: State::Hunting,
-            kept: ArrayVec::new(),
+            kept: Kept::new(),
         }
     }
 
@@ -154,27 +140,72 @@ impl Framer {
         ensures { event_content result ≡ found_in self.now found }
     {
         match found {
-            Found::Message => whole_message(&self.kept),
+            Found::Message => whole_message(self.kept.as_slice()),
             Found::Cut { have } => Event::Cut { have },
             Found::BadLength => Event::BadLength,
             Found::Stray(byte) => Event::Stray(byte),
         }
     }
 
-    // Takes the run at the front where many bytes of a message are missing, and else a few bytes one by one.
+    // Takes the front: a whole message as long as a field at once, and else a run.
+    #[inline(always)]
     fn take_front(&mut self, rest: &[u8]) -> Advanced
+        requires { 0 < length rest.now }
+        ensures { FramesRun self.old rest.now result.used self.new result.found }
+    {
+        if !self.is_between() || !is_field_at_front(rest) {
+            return self.take_run(rest);
+        }
+        self.kept.set_front(rest, FIELD);
+        self.state = State::Whole;
+        Advanced {
+            used: FIELD,
+            found: Some(Found::Message),
+        }
+    }
+
+    // Whether no message is unfinished.
+    #[inline(always)]
+    fn is_between(&self) -> bool
+        ensures { result ≡ true → open_message self.now ≡ [] }
+    {
+        matches!(self.state, State::Hunting | State::Whole)
+    }
+
+    // Takes the run at the front where a message begins, or where many bytes of one are missing, and else a few
+    // bytes one by one.
+    fn take_run(&mut self, rest: &[u8]) -> Advanced
         requires { 0 < length rest.now }
         ensures { FramesRun self.old rest.now result.used self.new result.found }
     {
         match self.state {
             State::Body { left } if left >= MANY && rest[0] < 128 => {
-                let used = append_run(&mut self.kept, left, rest);
+                let used = self.kept.append_run(left, rest);
                 let (state, found) = after_byte(left - used);
                 self.state = state;
-                Advanced { used, found }
+                return Advanced { used, found };
             }
-            _ => self.take_bytes(&rest[..rest.len().min(MANY)]),
+            State::Hunting | State::Whole => {
+                if let Some(total) = total_at_front(rest) {
+                    return self.take_beginning(total, rest);
+                }
+            }
+            _ => {}
         }
+        self.take_bytes(&rest[..rest.len().min(MANY)])
+    }
+
+    // Takes a message's header, and the run of its body behind it.
+    fn take_beginning(&mut self, total: usize, rest: &[u8]) -> Advanced
+        requires closed { open_message self.old ≡ [] }
+        requires begins { Begins total rest.now }
+        ensures { FramesRun self.old rest.now result.used self.new result.found }
+    {
+        let used = 3 + first_top(&rest[3..rest.len().min(total)]);
+        self.kept.set_front(rest, used);
+        let (state, found) = after_byte(total - used);
+        self.state = state;
+        Advanced { used, found }
     }
 
     // Uses bytes one by one, up to and including the first that makes something known, or all of them.
@@ -232,7 +263,7 @@ impl Framer {
                 None
             }
             State::Head => {
-                let total = 128 * usize::from(self.kept[1]) + usize::from(byte);
+                let total = 128 * usize::from(self.kept.as_slice()[1]) + usize::from(byte);
                 if total < 3 {
                     self.reset();
                     return Some(Found::BadLength);

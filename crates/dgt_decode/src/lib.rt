@@ -17,6 +17,8 @@
 mod decoder;
 mod event;
 mod framer;
+mod header;
+mod kept;
 mod lanes;
 pub mod laws;
 #[cfg(test)]

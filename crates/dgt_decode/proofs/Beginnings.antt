@@ -1,0 +1,113 @@
+-- A run that begins a message.
+use Rattle.std.proofs.Common.{◌≡◌, ℕ, zero, suc, ◌+◌, ◌-◌, ◌<◌, ◌≤◌, List, [], ◌∷◌, length, take, drop, min, not, Some, refl, ap, ◌∙◌, arith}
+use Rattle.std.specs.List.{position_or_len}
+use Rattle.dgt_decode.specs.declared.event.Found.TheVariants as found
+use Rattle.std.proofs.lemmas.List.{length-take, take-take}
+use Rattle.std.proofs.lemmas.List.Sums.{prefix_len-le-length}
+use Rattle.dgt_decode.specs.Grammar.{IsSevenBit, has_top_bit, events, open_message, total_of}
+use Rattle.dgt_decode.specs.Feeding.{IsWhole, at_place_if_any, found_if_any}
+use Rattle.dgt_decode.specs.Keeping.{IsKept}
+use Rattle.dgt_decode.specs.Taking.{Begins, FramesRun}
+use Rattle.dgt_decode.proofs.Steps.{Gives, first-begins, next-short, next-waits}
+use Rattle.dgt_decode.proofs.Framing.{after, tells-after}
+use Rattle.dgt_decode.proofs.Runs.{seven-before, seven-take}
+
+-- so many bytes at the front are a header and a run of its body
+pub record IsBeginning (total : ℕ) (rest : List ℕ) (used : ℕ) : Type 0 where
+  pub header : 3 ≤ used
+  pub within : used ≤ length rest
+  pub fits : used ≤ total
+  pub short : total ≤ 16383
+  pub seven : IsSevenBit (take (used - 3) (drop 3 rest))
+
+-- these are those before the next set top bit behind the header
+pub beginning : (total run : ℕ) (rest : List ℕ) → Begins total rest
+    → run ≡ position_or_len has_top_bit (take (min (length rest) total - 3) (drop 3 rest)) → IsBeginning total rest (3 + run)
+beginning total run [] begins is = absurd (omega (arith, begins.enough))
+beginning total run (b ∷ []) begins is = absurd (omega (arith, begins.enough))
+beginning total run (b ∷ h ∷ []) begins is = absurd (omega (arith, begins.enough))
+beginning total run (b ∷ h ∷ l ∷ more) begins is =
+    let missing = min (length (b ∷ h ∷ l ∷ more)) total - 3 in
+    let wanted = take missing more in
+    let up_to : run ≤ length wanted = omega (arith, is, prefix_len-le-length (λ x. not (has_top_bit x)) wanted) in
+    let long = length-take missing more in
+    let front : take run wanted ≡ take run more = take-take run missing more (omega (arith, up_to, long)) in
+    let less : 3 + run - 3 ≡ run = omega arith in
+    record {
+      header = omega arith;
+      within = omega (arith, up_to, long, begins.large);
+      fits = omega (arith, up_to, long, begins.large);
+      short = omega (arith, begins.is, begins.header.0, begins.header.1.0);
+      seven = rw less (rw (← front, is) (seven-before wanted));
+    }
+
+-- before the last of them there is no event
+early : (b h l n total : ℕ) (more : List ℕ) → Gives (b ∷ h ∷ []) [] (b ∷ h ∷ []) → l < 128 → IsSevenBit (take n more) → n ≤ length more → 3 + n ≤ total
+    → total ≡ total_of (b ∷ h ∷ l ∷ more) → events (take (suc (suc n)) (b ∷ h ∷ l ∷ more)) ≡ []
+early b h l zero total more two low seven within fits is = two.told
+early b h l (suc n) total [] two low seven within fits is = absurd (omega (arith, within))
+early b h l (suc n) total (x ∷ more) two low seven within fits is =
+    (next-waits (b ∷ h ∷ []) (l ∷ take n (x ∷ more)) two.leaves (omega arith) (low, shorter) (omega (arith, is, fits, length-take n (x ∷ more)))).told
+  where
+    fewer : take n (take (suc n) (x ∷ more)) ≡ take n (x ∷ more)
+    fewer = take-take n (suc n) (x ∷ more) (omega arith)
+
+    shorter : IsSevenBit (take n (x ∷ more))
+    shorter = rw (← fewer) (seven-take n (take (suc n) (x ∷ more)) seven)
+
+-- A message that begins is whole where none of it is missing then, and tells nothing otherwise.
+pub frames-beginning : (kept rest : List ℕ) (total used : ℕ) → open_message kept ≡ [] → Begins total rest → IsBeginning total rest used
+    → FramesRun kept rest used (take used rest) (after (total - used)).1 × IsKept (after (total - used)).0 (take used rest)
+frames-beginning kept [] total used none begins run = absurd (omega (arith, begins.enough))
+frames-beginning kept (b ∷ []) total used none begins run = absurd (omega (arith, begins.enough))
+frames-beginning kept (b ∷ h ∷ []) total used none begins run = absurd (omega (arith, begins.enough))
+frames-beginning kept (b ∷ h ∷ l ∷ more) total zero none begins run = absurd (omega (arith, run.header))
+frames-beginning kept (b ∷ h ∷ l ∷ more) total (suc zero) none begins run = absurd (omega (arith, run.header))
+frames-beginning kept (b ∷ h ∷ l ∷ more) total (suc (suc zero)) none begins run = absurd (omega (arith, run.header))
+frames-beginning kept (b ∷ h ∷ l ∷ more) total (suc (suc (suc n))) none begins run =
+    let used = suc (suc (suc n)) in
+    let body = take n more in
+    let count : length body ≡ n = omega (arith, length-take n more, run.within) in
+    let is_n : used - 3 ≡ n = omega arith in
+    let seven : IsSevenBit body = rw is_n at run.seven in
+    let two = next-short (b ∷ []) (h ∷ []) (first-begins b begins.first).leaves (omega arith) (begins.header.0, tt) (omega arith) in
+    let left = total - used in
+    let all : total_of (b ∷ h ∷ l ∷ body) ≡ length (b ∷ h ∷ l ∷ body) + left = omega (arith, begins.is, count, run.fits) in
+    let t = tells-after (b ∷ h ∷ []) (l ∷ body) left two.leaves (omega arith) (omega arith) (begins.header.1.0, seven) all in
+    let long : 2 + length (l ∷ body) ≡ 0 + used = omega (arith, count) in
+    let less : used - 1 ≡ suc (suc n) = omega arith in (
+      record {
+        takes = rw none (
+            record {
+              some = omega arith;
+              within = run.within;
+              quiet = rw less (early b h l n total more two begins.header.1.0 seven (omega (arith, run.within)) (omega (arith, run.fits)) begins.is);
+              told = t.0.told ∙ ap (λ (n : ℕ). at_place_if_any n (found_if_any (b ∷ h ∷ l ∷ body) (after left).1)) long;
+              holds = refl;
+            }
+            );
+        message = t.0.message;
+        came = λ e. rw none refl;
+      },
+      t.1,
+    )
+
+-- A message that has come whole is told at once.
+pub frames-whole : (kept rest : List ℕ) (total : ℕ) → open_message kept ≡ [] → total ≤ length rest → IsWhole (take total rest)
+    → FramesRun kept rest total (take total rest) (Some found.Message)
+frames-whole kept rest zero none within whole = absurd (omega (arith, whole.long))
+frames-whole kept rest (suc zero) none within whole = absurd (omega (arith, whole.long, length-take 1 rest))
+frames-whole kept rest (suc (suc zero)) none within whole = absurd (omega (arith, whole.long, length-take 2 rest))
+frames-whole kept [] (suc (suc (suc n))) none within whole = absurd (omega (arith, within))
+frames-whole kept (b ∷ []) (suc (suc (suc n))) none within whole = absurd (omega (arith, within))
+frames-whole kept (b ∷ h ∷ []) (suc (suc (suc n))) none within whole = absurd (omega (arith, within))
+frames-whole kept (b ∷ h ∷ l ∷ more) (suc (suc (suc n))) none within whole =
+    let total = suc (suc (suc n)) in
+    let rest = b ∷ h ∷ l ∷ more in
+    let is : total ≡ total_of rest = omega (arith, whole.whole, length-take total rest, within) in
+    let begins : Begins total rest = record { first = whole.first; header = (whole.later.0, (whole.later.1.0, tt)); enough = omega arith; is = is; large = omega arith } in
+    let behind : total - 3 ≡ n = omega arith in
+    let all : IsBeginning total rest total =
+    record { header = omega arith; within = within; fits = omega arith; short = omega (arith, is, whole.later.0, whole.later.1.0); seven = rw behind whole.later.1.1 } in
+    let none_left : total - total ≡ 0 = omega arith in
+    rw none_left at (frames-beginning kept rest total total none begins all).0
