@@ -1,0 +1,441 @@
+"""docs/PROTOCOL.md once more, as plain as it can be said in Python: what `dgt monitor`, `dgt board` and `dgt simulate` write.
+
+Written from that page, README.md and the program's help, and not from its sources, so that both can be held against each other:
+checks/hostile does that. Squares are numbers, pieces their codes, a position is a list of 64 pieces. A clock is the seven bytes
+of its message's body, since each times or no-clock message has one spelling.
+"""
+
+import re
+
+LETTERS = ".PRNBKQprnbkqXYZ"
+START = "rnbqkbnr/pppppppp/8/8/8/8/PPPPPPPP/RNBQKBNR"
+
+# Codes of messages, and the size of the body where a code has but one.
+DUMP, CLOCK, FIELD, SERIAL, TRADEMARK, VERSION, BATTERY = 0x06, 0x0D, 0x0E, 0x11, 0x12, 0x13, 0x20
+SIZES = {DUMP: 64, CLOCK: 7, FIELD: 2, SERIAL: 5, VERSION: 2}
+
+# The commands of one byte: those that ask for a message, with its code, and those that set the mode.
+REPLIES = {0x41: CLOCK, 0x42: DUMP, 0x45: SERIAL, 0x47: TRADEMARK, 0x4C: BATTERY, 0x4D: VERSION}
+IDLE, UPDATE, UPDATE_BOARD, UPDATE_NICE = MODES = 0x40, 0x43, 0x44, 0x4B
+# The first bytes of the commands of several bytes.
+CLOCK_MESSAGE, LIGHTS = 0x2B, 0x60
+CLOCK_VERSION_ID = 0x09
+
+# What the program's board is.
+FIRST_CLOCK = bytes(7)
+BODIES = {SERIAL: b"00001", TRADEMARK: b"SIMULATED BOARD", VERSION: bytes([1, 3]), BATTERY: bytes([0x64])}
+CLOCK_VERSION = 0x14
+MOST_OWED = 8
+MOST_AWAITED = 16
+LONGEST_LINE = 519
+
+
+def square_name(square):
+    return "abcdefgh"[square % 8] + str(8 - square // 8)
+
+
+def placement(position):
+    """A position as text, with the fewest digits."""
+    letters = "".join(LETTERS[piece] for piece in position)
+    ranks = [letters[start : start + 8] for start in range(0, 64, 8)]
+    return "/".join(re.sub(r"\.+", lambda run: str(len(run[0])), rank) for rank in ranks)
+
+
+def read_placement(text):
+    """The position and None, or None and the offset of the first byte with which the text begins no placement."""
+    position = []
+    rank = 1  # how many have been begun
+    for offset, letter in enumerate(text):
+        room = 8 * rank - len(position)
+        if letter == "/" and room == 0 and rank < 8:
+            rank += 1
+        elif letter in "12345678" and int(letter) <= room:
+            position += [0] * int(letter)
+        elif letter in LETTERS[1:] and room > 0:
+            position.append(LETTERS.index(letter))
+        else:
+            return None, offset
+    return (position, None) if len(position) == 64 else (None, len(text))
+
+
+def spell(code, body):
+    """The bytes of a message: its head, with the total in two halves of seven bits, and its body."""
+    total = 3 + len(body)
+    return bytes([0x80 | code, total >> 7, total & 0x7F, *body])
+
+
+def hexadecimal(body):
+    return bytes(body).hex() or "-"
+
+
+def is_acknowledgement(body):
+    """The low four bits of b3 or of b6 are a: one of them is enough."""
+    return body[0] & 0x0F == 0x0A or body[3] & 0x0F == 0x0A
+
+
+def acknowledgement(ack0, ack1, ack2, ack3):
+    """The body of an acknowledgement with status 00: b3 and b6 hold the mark, and the top bits of the four bytes."""
+    b3 = 0x0A | (ack2 & 0x80) >> 3 | (ack3 & 0x80) >> 2
+    b6 = 0x0A | (ack0 & 0x80) >> 3 | (ack1 & 0x80) >> 2
+    return bytes([b3, ack0 & 0x7F, ack1 & 0x7F, b6, ack2 & 0x7F, ack3 & 0x7F, 0x00])
+
+
+def clock_text(body):
+    """The tests are made in this order: an acknowledgement, no clock, a bad digit. Else these are times."""
+    b3, b4, b5, b6, b7, b8, status = body
+    if is_acknowledgement(body):
+        ack0, ack1 = b4 | b6 << 3 & 0x80, b5 | b6 << 2 & 0x80
+        ack2, ack3 = b7 | b3 << 3 & 0x80, b8 | b3 << 2 & 0x80
+        return f"ack {ack0:02x} {ack1:02x} {ack2:02x} {ack3:02x} {status:02x}"
+    if status & 0x20:
+        return f"noclock {hexadecimal(body[:6])} {status:02x}"
+    for offset, byte in enumerate(body[:6]):
+        # Above the hours are flags, above the units of minutes and seconds are tens.
+        is_hours = offset in (0, 3)
+        if byte & 0x0F > 9 or byte >> 4 > 5 and not is_hours:
+            return f"badreading {offset}"
+    first = f"{b3 & 0x0F}:{b4:02x}:{b5:02x} {b3 >> 4}"
+    second = f"{b6 & 0x0F}:{b7:02x}:{b8:02x} {b6 >> 4}"
+    return f"times {first} {second} {status:02x}"
+
+
+def dump_text(body):
+    for offset, piece in enumerate(body):
+        if piece > 15:
+            return f"badpiece {offset}"
+    return f"dump {placement(body)}"
+
+
+def field_text(body):
+    """The square is looked at before the piece."""
+    square, piece = body
+    if square > 63:
+        return "badsquare 0"
+    if piece > 15:
+        return "badpiece 1"
+    return f"field {square_name(square)} {LETTERS[piece]}"
+
+
+def message_text(code, body):
+    """The text of a whole message, or of its refusal: for its size, or for the first byte that its place doesn't allow."""
+    if code in SIZES and len(body) != SIZES[code]:
+        return f"refused {code:02x} wrongsize"
+    if code in (DUMP, CLOCK, FIELD):
+        text = {DUMP: dump_text, CLOCK: clock_text, FIELD: field_text}[code](body)
+        return f"refused {code:02x} {text}" if text.startswith("bad") else text
+    if code == VERSION:
+        return f"version {body[0]}.{body[1]}"
+    names = {SERIAL: "serial", TRADEMARK: "trademark", BATTERY: "battery"}
+    return f"{names.get(code, f'other {code:02x}')} {hexadecimal(body)}"
+
+
+class Decoder:
+    """Reads messages from any bytes."""
+
+    def __init__(self):
+        self.unfinished = bytearray()
+        self.message = None  # the last whole one, its code and its body
+
+    def take(self, byte):
+        """The text of the event of this byte, or None where it has none."""
+        have = len(self.unfinished)
+        if byte & 0x80:
+            # Always begins a message.
+            self.unfinished = bytearray([byte])
+            return f"cut {have}" if have else None
+        if not have:
+            return f"stray {byte:02x}"
+        self.unfinished.append(byte)
+        if have < 2:
+            return None
+        total = 128 * self.unfinished[1] + self.unfinished[2]
+        if have + 1 < total:
+            return None
+        message, self.unfinished = self.unfinished, bytearray()
+        if total < 3:
+            return "badlength"
+        self.message = message[0] & 0x7F, bytes(message[3:])
+        return message_text(*self.message)
+
+
+def monitor(data):
+    """What `dgt monitor` writes."""
+    decoder, lines = Decoder(), []
+    for offset, byte in enumerate(data, 1):
+        text = decoder.take(byte)
+        if text:
+            lines.append(f"{offset:08} {text}\n")
+    if decoder.unfinished:
+        lines.append(f"{len(data):08} unfinished {len(decoder.unfinished)}\n")
+    return "".join(lines).encode()
+
+
+def word_kind(word):
+    """What these bytes of the host are, or None while more of the word is to come."""
+    first, have = word[0], len(word)
+    if first in MODES or first in REPLIES:
+        return "command"
+    if first not in (CLOCK_MESSAGE, LIGHTS):
+        return "stray"
+    if have == 1:
+        return None
+    size = word[1]  # of what follows it
+    if first == LIGHTS:
+        return "command" if have == 2 + size else None
+    if size < 3:
+        return "bad size"
+    if have > 2 and word[2] != 0x03:
+        return "bad start"
+    if have < 2 + size:
+        return None
+    return "command" if word[-1] == 0x00 else "bad end"
+
+
+class CommandReader:
+    """Divides the bytes of a host into words."""
+
+    def __init__(self):
+        self.unfinished = bytearray()
+
+    def take(self, byte):
+        """The command that this byte completes, or None. A word that is no command is passed over."""
+        self.unfinished.append(byte)
+        kind = word_kind(self.unfinished)
+        if kind is None:
+            return None
+        word, self.unfinished = bytes(self.unfinished), bytearray()
+        return word if kind == "command" else None
+
+
+class Board:
+    def __init__(self, squares):
+        self.squares, self.told_squares = list(squares), list(squares)
+        self.clock, self.told_clock = FIRST_CLOCK, None
+        self.mode = IDLE
+        self.owes_times = False
+        self.owed = []  # codes of messages, and bodies of acknowledgements
+        self.reader = CommandReader()
+
+    def is_busy(self):
+        return len(self.owed) == MOST_OWED
+
+    def change(self, square, piece):
+        self.squares[square] = piece
+
+    def hand_clock(self, clock):
+        self.clock = clock
+        self.owes_times = self.mode == UPDATE or self.mode == UPDATE_NICE and self.told_clock != clock
+
+    def take(self, byte):
+        command = self.reader.take(byte)
+        if command is None or command[0] == LIGHTS:
+            return
+        if command[0] in MODES:
+            self.mode = command[0]
+            self.owes_times = self.mode in (UPDATE, UPDATE_NICE) and self.told_clock != self.clock
+        elif command[0] in REPLIES:
+            self.owed.append(REPLIES[command[0]])
+        elif not self.clock[6] & 0x20:  # a clock is connected
+            clock_id = command[3]
+            version = CLOCK_VERSION if clock_id == CLOCK_VERSION_ID else 0
+            self.owed.append(acknowledgement(0x10, clock_id, version, 0))
+
+    def form(self, code):
+        """A message of this code as it is at this moment."""
+        return spell(code, BODIES.get(code) or {DUMP: self.squares, CLOCK: self.clock}[code])
+
+    def next_message(self):
+        """The message that is to be sent first, or None: owed replies, then fields, then the clock."""
+        if self.owed:
+            return spell(CLOCK, self.owed[0]) if isinstance(self.owed[0], bytes) else self.form(self.owed[0])
+        if self.mode != IDLE:
+            for square in range(64):
+                if self.squares[square] != self.told_squares[square]:
+                    return spell(FIELD, [square, self.squares[square]])
+        return self.form(CLOCK) if self.owes_times else None
+
+    def sent(self, message):
+        """The next message is on its way."""
+        if self.owed:
+            self.owed.pop(0)
+        code, body = message[0] & 0x7F, message[3:]
+        if code == DUMP:
+            self.told_squares = list(body)
+        elif code == FIELD:
+            self.told_squares[body[0]] = body[1]
+        elif code == CLOCK and not is_acknowledgement(body):
+            self.told_clock, self.owes_times = body, False
+
+
+def serve(commands, squares):
+    """What `dgt board` writes: after each byte all that there is to send."""
+    board, answers = Board(squares), bytearray()
+    for byte in commands:
+        board.take(byte)
+        while message := board.next_message():
+            answers += message
+            board.sent(message)
+    return bytes(answers)
+
+
+class Host:
+    def __init__(self):
+        self.decoder = Decoder()
+        self.picture = self.clock = None
+        self.awaited = []  # codes of replies that have a kind: all but the clock's
+
+    def hear(self, byte):
+        if self.decoder.take(byte) is None:
+            return
+        code, body = self.decoder.message
+        if self.awaited and self.awaited[0] == code:
+            self.awaited.pop(0)
+        if code == DUMP:
+            self.picture = list(body)
+        elif code == FIELD and self.picture:
+            self.picture[body[0]] = body[1]
+        elif code == CLOCK and not is_acknowledgement(body):
+            self.clock = body
+
+
+class World:
+    """A board and a host, with a line each way. Each act gives its outcome; what isn't done changes nothing."""
+
+    def __init__(self, squares, up_room, down_room):
+        self.board, self.host = Board(squares), Host()
+        self.up, self.down = bytearray(), bytearray()
+        self.up_room, self.down_room = up_room, down_room
+
+    def change(self, square, piece):
+        self.board.change(square, piece)
+        return "done"
+
+    def hand_clock(self, clock):
+        self.board.hand_clock(clock)
+        return "done"
+
+    def host_sends(self, command):
+        kind = REPLIES.get(command[0])
+        has_kind = kind not in (None, CLOCK)
+        if has_kind and len(self.host.awaited) == MOST_AWAITED:
+            return "toomany"
+        if len(self.down) + len(command) > self.down_room:
+            return "noroom"
+        self.down += command
+        if has_kind:
+            self.host.awaited.append(kind)
+        return "done"
+
+    def board_sends(self):
+        message = self.board.next_message()
+        if message is None:
+            return "nothing"
+        if len(self.up) + len(message) > self.up_room:
+            return "noroom"
+        self.up += message
+        self.board.sent(message)
+        return "done"
+
+    def to_board(self, count):
+        if not self.down:
+            return "nothing"
+        if self.board.is_busy():
+            return "busy"
+        while count and self.down and not self.board.is_busy():
+            self.board.take(self.down.pop(0))
+            count -= 1
+        return "done"
+
+    def to_host(self, count):
+        if not self.up:
+            return "nothing"
+        for byte in self.up[:count]:
+            self.host.hear(byte)
+        del self.up[:count]
+        return "done"
+
+    def is_quiet(self):
+        unread = self.up or self.down or self.host.decoder.unfinished or self.board.reader.unfinished
+        return not unread and self.board.next_message() is None
+
+    def closing_lines(self):
+        host = self.host
+        picture = placement(host.picture) if host.picture else "unknown"
+        clock = clock_text(host.clock) if host.clock else "unknown"
+        quiet = "yes" if self.is_quiet() else "no"
+        return f"board {placement(self.board.squares)}\nhost {picture}\nhostclock {clock}\nquiet {quiet}\n"
+
+
+# How the words of a script's line are read. Each gives what the word means, or None where it isn't allowed.
+
+
+def read_square(word):
+    return 8 * (ord("8") - word[1]) + word[0] - ord("a") if re.fullmatch(rb"[a-h][1-8]", word) else None
+
+
+def read_letter(word):
+    return LETTERS.index(word.decode()) if re.fullmatch(rb"[.PRNBKQprnbkqXYZ]", word) else None
+
+
+def read_count(word):
+    return int(word) if re.fullmatch(rb"[1-9][0-9]{0,4}", word) and int(word) <= 65535 else None
+
+
+def read_hexadecimal(word):
+    return bytes.fromhex(word.decode()) if re.fullmatch(rb"([0-9A-Fa-f]{2})+", word) else None
+
+
+def read_clock(word):
+    """The body of a times or no-clock message."""
+    body = read_hexadecimal(word)
+    is_body = body and len(body) == 7 and max(body) < 0x80
+    return body if is_body and clock_text(body).startswith(("times", "noclock")) else None
+
+
+def read_command(word):
+    """The bytes of exactly one command."""
+    data, reader = read_hexadecimal(word) or b"", CommandReader()
+    commands = [command for command in map(reader.take, data) if command]
+    return data if commands == [data] else None
+
+
+ACTS = {
+    b"change": (World.change, [read_square, read_letter]),
+    b"clock": (World.hand_clock, [read_clock]),
+    b"host": (World.host_sends, [read_command]),
+    b"send": (World.board_sends, []),
+    b"toboard": (World.to_board, [read_count]),
+    b"tohost": (World.to_host, [read_count]),
+}
+
+
+def read_line(line):
+    """The act of a script's line, its arguments and None; or None twice, and the offset where the line goes bad."""
+    if len(line) > LONGEST_LINE:
+        return None, None, LONGEST_LINE
+    name, *words = line.split(b" ")
+    if name not in ACTS:
+        return None, None, 0
+    act, readers = ACTS[name]
+    offset, arguments = len(name) + 1, []
+    for place, word in enumerate(words):
+        argument = readers[place](word) if place < len(readers) else None
+        if argument is None:
+            return None, None, offset
+        arguments.append(argument)
+        offset += len(word) + 1
+    return (act, arguments, None) if len(words) == len(readers) else (None, None, len(line))
+
+
+def simulate(script, squares, up_room, down_room):
+    """What `dgt simulate` gives: its status, standard output and standard error."""
+    world, output = World(squares, up_room, down_room), ""
+    lines = script.split(b"\n")
+    if not lines[-1]:
+        lines.pop()
+    for number, line in enumerate(lines, 1):
+        act, arguments, fault = read_line(line)
+        if fault is not None:
+            return 1, output.encode(), f"dgt: line {number}: bad at {fault}\n".encode()
+        output += act(world, *arguments) + "\n"
+    return 0, (output + world.closing_lines()).encode(), b""
