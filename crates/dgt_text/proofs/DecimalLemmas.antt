@@ -71,9 +71,38 @@ front-last_digits (suc k) n h b =
     ∙ ap (λ l. l ++ (48 + n % 10) ∷ []) (front-last_digits k (n / 10) (tenth n k h) (omega arith))
 
 -- eight digits
-pub padded_eight : (n : ℕ) → n < 100000000
+padded_eight : (n : ℕ) → n < 100000000
     → padded_decimal 8 n ≡ (48 + n / 10000000 % 10) ∷ (48 + n / 1000000 % 10) ∷ (48 + n / 100000 % 10) ∷ (48 + n / 10000 % 10) ∷ (48 + n / 1000 % 10) ∷ (48 + n / 100 % 10) ∷ (48 + n / 10 % 10) ∷ (48 + n % 10) ∷ []
 padded_eight n h = sym (front-all 8 n (omega arith)) ∙ front-last_digits 8 n h (omega arith) ∙ simp div-div-eq-div-mul refl
+
+-- eight digits, from four pairs
+pub padded_pairs : (n : ℕ) → n < 100000000
+    → padded_decimal 8 n ≡ (48 + n / 10000 / 100 / 10) ∷ (48 + n / 10000 / 100 % 10) ∷ (48 + n / 10000 % 100 / 10) ∷ (48 + n / 10000 % 100 % 10) ∷ (48 + n % 10000 / 100 / 10) ∷ (48 + n % 10000 / 100 % 10) ∷ (48 + n % 10000 % 100 / 10) ∷ (48 + n % 10000 % 100 % 10) ∷ []
+padded_pairs n small = padded_eight n small ∙ rw (a, b, c, d, e, f, g, h) refl
+  where
+    a : n / 10000000 % 10 ≡ n / 10000 / 100 / 10
+    a = omega (arith, small)
+
+    b : n / 1000000 % 10 ≡ n / 10000 / 100 % 10
+    b = omega arith
+
+    c : n / 100000 % 10 ≡ n / 10000 % 100 / 10
+    c = omega arith
+
+    d : n / 10000 % 10 ≡ n / 10000 % 100 % 10
+    d = omega arith
+
+    e : n / 1000 % 10 ≡ n % 10000 / 100 / 10
+    e = omega arith
+
+    f : n / 100 % 10 ≡ n % 10000 / 100 % 10
+    f = omega arith
+
+    g : n / 10 % 10 ≡ n % 10000 % 100 / 10
+    g = omega arith
+
+    h : n % 10 ≡ n % 10000 % 100 % 10
+    h = omega arith
 
 -- the same where there is a digit
 pub tenth_below : (n k : ℕ) → n < 10 ^ k → 0 < k → n / 10 < 10 ^ (k - 1)

@@ -1,6 +1,6 @@
 //! The lines of events.
 
-ghost use Rattle.std.specs.Prelude.{◌≡◌, ◌+◌, ◌%◌, ◌<◌, ◌≤◌, ◌++◌, [], ◌∷◌, false, length, IfSome, OnOk};
+ghost use Rattle.std.specs.Prelude.{◌≡◌, ◌+◌, ◌/◌, ◌%◌, ◌<◌, ◌≤◌, ◌++◌, [], ◌∷◌, false, length, IfSome, OnOk};
 ghost use Rattle.hex.specs.Hex.{encode_lower};
 ghost use Rattle.dgt_values.specs.Square.{square_number};
 ghost use Rattle.dgt_message.specs.Content.Content.{field};
@@ -38,27 +38,24 @@ fn push_offset<const ROOM: usize>(text: &mut Outgoing<ROOM>, offset: u64)
     text.push(b" ");
 }
 
-// Eight digits, each by itself: this is faster than one after another.
+// Eight digits, from pairs of them: this is faster than one after another.
 fn eight_digits(number: u32) -> [u8; 8]
     requires { number < 100000000 }
     ensures { result ≡ padded_decimal 8 number }
 {
-    [
-        last_digit(number / 10_000_000),
-        last_digit(number / 1_000_000),
-        last_digit(number / 100_000),
-        last_digit(number / 10_000),
-        last_digit(number / 1000),
-        last_digit(number / 100),
-        last_digit(number / 10),
-        last_digit(number),
-    ]
+    let (high, low) = (number / 10_000, number % 10_000);
+    let [a, b] = two_digits(high / 100);
+    let [c, d] = two_digits(high % 100);
+    let [e, f] = two_digits(low / 100);
+    let [g, h] = two_digits(low % 100);
+    [a, b, c, d, e, f, g, h]
 }
 
-fn last_digit(number: u32) -> u8
-    ensures { result ≡ 48 + number % 10 }
+fn two_digits(number: u32) -> [u8; 2]
+    requires { number < 100 }
+    ensures { result ≡ (48 + number / 10) ∷ (48 + number % 10) ∷ [] }
 {
-    b'0' + (number % 10) as u8
+    [b'0' + (number / 10) as u8, b'0' + (number % 10) as u8]
 }
 
 fn put_bytes<W: Sink, const ROOM: usize>(
@@ -153,8 +150,26 @@ pub(crate) fn put_found<W: Sink, const ROOM: usize>(
 {
     match found {
         Found::Message => put_message(outgoing, writer, offset, framer),
-        other => put_event(outgoing, writer, offset, &framer.event(*other)),
+        other => put_event_of(outgoing, writer, offset, framer, *other),
     }
+}
+
+// The line of what a framer found, by its event. Not inlined, since room for an event would be cleared for each
+// field too.
+#[inline(never)]
+fn put_event_of<W: Sink, const ROOM: usize>(
+    outgoing: &mut Outgoing<ROOM>,
+    writer: &mut W,
+    offset: u64,
+    framer: &Framer,
+    found: Found,
+) -> Result<(), RunFault>
+    requires room { LINE_ROOM ≤ ROOM }
+    requires whole { found ≡ Found.Message → IsWhole framer.now }
+    ensures { Gathers W.written W.failed W.late outgoing.old outgoing.new writer.old writer.new
+        result (event_line offset (found_in framer.now found)) }
+{
+    put_event(outgoing, writer, offset, &framer.event(found))
 }
 
 // The line of a whole message. Most messages are fields, whose lines are formed without an event: that
@@ -171,7 +186,7 @@ fn put_message<W: Sink, const ROOM: usize>(
         result (event_line offset (message_event framer.now)) }
 {
     let Some((square, piece)) = field(framer.bytes()) else {
-        return put_event(outgoing, writer, offset, &framer.event(Found::Message));
+        return put_event_of(outgoing, writer, offset, framer, Found::Message);
     };
     outgoing.make_room(writer)?;
     push_offset(outgoing, offset);
