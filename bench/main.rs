@@ -1,5 +1,6 @@
 //! Times the proved library, and beside it the same work in plain Rust. Lines go to a writer that only counts bytes, so
 //! no system call is timed.
+use std::cell::RefCell;
 use std::hint::black_box;
 use std::time::Instant;
 
@@ -10,7 +11,6 @@ mod world;
 unsafe extern "C" {
     fn dgt_bench_decode(bytes: *const u8, len: usize, most: usize) -> u64;
     fn dgt_bench_monitor(bytes: *const u8, len: usize) -> u64;
-    fn dgt_bench_write_event(lines: u64) -> u64;
 }
 
 const LINES: u64 = 200_000;
@@ -80,8 +80,16 @@ fn main() {
     compare_decode("decode, dumps", 10_000, &dumps, 64);
     compare_decode("decode, longest messages", 200, &longest, 4096);
     compare_decode("decode, random bytes", noise.len(), &noise, 64);
+    let many = message(0x30, &[1; LONGEST - 3]).repeat(1000);
+    let copy = RefCell::new(vec![1; many.len()]);
     compare(
-        "decode, longest messages in whole pieces, beside memcpy",
+        "decode, longest messages in whole pieces, beside one memcpy of them all",
+        1000,
+        || unsafe { dgt_bench_decode(black_box(many.as_ptr()), many.len(), LONGEST) },
+        || plain::copy_all(black_box(&many), LONGEST, &mut copy.borrow_mut()),
+    );
+    compare(
+        "decode, longest messages in whole pieces, beside memcpy of one after another to one place",
         200,
         || unsafe { dgt_bench_decode(black_box(longest.as_ptr()), longest.len(), LONGEST) },
         || plain::copies(black_box(&longest), LONGEST),
@@ -90,11 +98,5 @@ fn main() {
     compare_monitor("monitor, dumps", 10_000, &dumps);
     compare_monitor("monitor, longest messages", 200, &longest);
     compare_monitor("monitor, random bytes", noise.len(), &noise);
-    compare(
-        "write_event",
-        LINES as usize,
-        || unsafe { dgt_bench_write_event(black_box(LINES)) },
-        || plain::write_events(black_box(LINES)),
-    );
     world::compare();
 }

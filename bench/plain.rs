@@ -85,6 +85,12 @@ pub fn decode(bytes: &[u8], most: usize) -> u64 {
     sum
 }
 
+/// Copies all of the bytes at once, and reads the last byte of each part.
+pub fn copy_all(bytes: &[u8], part: usize, copy: &mut [u8]) -> u64 {
+    copy.copy_from_slice(bytes);
+    black_box(&*copy).chunks(part).map(|part| part[part.len() - 1] as u64).sum()
+}
+
 /// Copies each part of the bytes into one buffer, and reads its last byte.
 pub fn copies(bytes: &[u8], part: usize) -> u64 {
     let mut held = [0; 16383];
@@ -182,15 +188,4 @@ pub fn monitor(bytes: &[u8]) -> u64 {
         text.push(b'\n');
     }
     count + black_box(&text).len() as u64
-}
-
-pub fn write_events(lines: u64) -> u64 {
-    let (mut text, mut count) = (Vec::with_capacity(1024), 0);
-    for offset in 0..lines {
-        let body = [(offset % 64) as u8, (offset % 16) as u8];
-        put_line(&mut text, offset, &Event::Message(0x0e, &body));
-        count += black_box(&text).len() as u64;
-        text.clear();
-    }
-    count
 }
