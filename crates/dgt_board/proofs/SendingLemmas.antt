@@ -4,6 +4,7 @@ use Rattle.std.proofs.lemmas.Bool.{eqb-true, eq-eqb, false≢true}
 use Rattle.std.proofs.lemmas.List.FromFn.{length-range_with_len}
 use Rattle.std.specs.Prelude.{filter}
 use Rattle.std.specs.List.{range_with_len}
+use Rattle.dgt_values.specs.declared.kinds.Kind.{Kind}
 use Rattle.dgt_values.specs.declared.pieces.Piece.{Piece}
 use Rattle.dgt_values.specs.Piece.{piece_code}
 use Rattle.dgt_message.specs.ClockState.{ClockState, clock_message}
@@ -76,23 +77,15 @@ after_clock board (ClockState.no_clock absence) = refl
 
 -- a reply makes no square differ
 reply_tells : (board : BoardState) (reply : Reply) (k : ℕ) → differs board k ≡ false → differs (after_telling board (reply_message board reply)) k ≡ false
-reply_tells board Reply.Dump k h = same_square (piece_on board.squares k) (piece_on board.squares k) refl
+reply_tells board (Reply.Of Kind.Dump) k h = same_square (piece_on board.squares k) (piece_on board.squares k) refl
 reply_tells board Reply.Clock k h = ap (λ (after : BoardState). differs after k) (after_clock board board.clock) ∙ h
-reply_tells board Reply.Serial k h = h
-reply_tells board Reply.Trademark k h = h
-reply_tells board Reply.Version k h = h
-reply_tells board Reply.Battery k h = h
-reply_tells board (Reply.Ack id version) k h = h
+reply_tells board _ k h = h
 
 -- a reply makes no times owed
 reply_news : (board : BoardState) (reply : Reply) → board.times_owed ≡ false → times_owed_after board (reply_message board reply) ≡ false
-reply_news board Reply.Dump h = h
 reply_news board Reply.Clock h = ap (λ (b : BoardState). b.times_owed) (after_clock board board.clock)
-reply_news board Reply.Serial h = h
-reply_news board Reply.Trademark h = h
-reply_news board Reply.Version h = h
-reply_news board Reply.Battery h = h
-reply_news board (Reply.Ack id version) h = h
+reply_news board (Reply.Of Kind.Dump) h = h
+reply_news board _ h = h
 
 -- a reply less
 reply_lowers : (board : BoardState) (reply : Reply) (rest : List Reply) → board.owed ≡ reply ∷ rest → left_to_send (after_sending board (reply_message board reply)) < left_to_send board

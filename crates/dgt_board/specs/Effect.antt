@@ -1,7 +1,8 @@
 -- What a command makes of a board.
-use Rattle.std.specs.Prelude.{List, [], ◌∷◌, ◌++◌, Option, Some, None, Bool, false, not, ◌==◌, if◌then◌else◌, unwrap_or}
+use Rattle.std.specs.Prelude.{List, [], ◌∷◌, ◌++◌, Option, Some, None, Bool, false, not, ◌==◌, if◌then◌else◌, map, option_to_list, unwrap_or}
 use Rattle.dgt_message.specs.ClockState.{ClockState}
 use Rattle.dgt_command.specs.Content.{ClockContent, CommandContent, EventContent}
+use Rattle.dgt_command.specs.Kind.{kind_of_command}
 use Rattle.dgt_command.specs.Words.{clock_id}
 use Rattle.dgt_board.specs.declared.modes.Mode.{Mode}
 use Rattle.dgt_board.specs.declared.replies.Reply.{Reply}
@@ -28,14 +29,9 @@ acknowledgements (ClockState.no_clock absence) identity message = []
 
 -- the replies that a command adds
 abbrev pub replies_to : BoardState → CommandContent → List Reply
-replies_to board CommandContent.Dump = Reply.Dump ∷ []
 replies_to board CommandContent.Clock = Reply.Clock ∷ []
-replies_to board CommandContent.Serial = Reply.Serial ∷ []
-replies_to board CommandContent.Trademark = Reply.Trademark ∷ []
-replies_to board CommandContent.Version = Reply.Version ∷ []
-replies_to board CommandContent.Battery = Reply.Battery ∷ []
 replies_to board (CommandContent.ClockMessage message) = acknowledgements board.clock board.identity message
-replies_to board _ = []
+replies_to board command = map Reply.Of (option_to_list (kind_of_command command))
 
 -- whether times are owed after a command
 abbrev pub times_owed_after_command : BoardState → CommandContent → Bool

@@ -1,6 +1,7 @@
 -- What a board has to send, in its order, and what sending makes of it.
 use Rattle.std.specs.Prelude.{ℕ, ◌+◌, List, [], ◌∷◌, ◌++◌, length, map, filter, drop, Option, Some, None, Bool, false, not, ◌==◌, if◌then◌else◌, slice_index_or, slice_set}
 use Rattle.std.specs.List.{range_with_len}
+use Rattle.dgt_values.specs.declared.kinds.Kind.{Kind}
 use Rattle.dgt_values.specs.declared.pieces.Piece.{Piece}
 use Rattle.dgt_values.specs.Piece.{piece_code}
 use Rattle.dgt_message.specs.declared.known.KnownCode.{KnownCode}
@@ -11,12 +12,12 @@ use Rattle.dgt_board.specs.State.{BoardState, updates}
 
 -- the message of an owed reply, as the board stands
 abbrev pub reply_message : BoardState → Reply → Content
-reply_message board Reply.Dump = Content.dump board.squares
+reply_message board (Reply.Of Kind.Dump) = Content.dump board.squares
+reply_message board (Reply.Of Kind.Serial) = Content.serial board.identity.serial
+reply_message board (Reply.Of Kind.Trademark) = carried_as KnownCode.Trademark board.identity.trademark
+reply_message board (Reply.Of Kind.Version) = Content.version board.identity.main board.identity.sub
+reply_message board (Reply.Of Kind.Battery) = carried_as KnownCode.Battery board.identity.battery
 reply_message board Reply.Clock = clock_message board.clock
-reply_message board Reply.Serial = Content.serial board.identity.serial
-reply_message board Reply.Trademark = carried_as KnownCode.Trademark board.identity.trademark
-reply_message board Reply.Version = Content.version board.identity.main board.identity.sub
-reply_message board Reply.Battery = carried_as KnownCode.Battery board.identity.battery
 reply_message board (Reply.Ack id version) = Content.ack (record { ack = 0x10 ∷ id ∷ version ∷ 0x00 ∷ []; status = 0x00 })
 
 abbrev pub piece_on : List Piece → ℕ → Piece

@@ -15,7 +15,7 @@ use crate::modes::Mode;
 use crate::replies::Reply;
 use crate::state::State;
 use dgt_message::{Clock, ClockAck, Message, encode, encode_field};
-use dgt_values::{NoRoom, SevenBit, Square};
+use dgt_values::{Kind, NoRoom, SevenBit, Square};
 
 /// What a board answers that is asked to send.
 #[derive(Clone, Copy, Debug, PartialEq, Eq)]
@@ -106,15 +106,15 @@ impl State {
         ensures short { length (spelling (content result)) ≤ 67 }
     {
         match reply {
-            Reply::Dump => Message::Dump(self.squares),
-            Reply::Clock => self.clock_message(),
-            Reply::Serial => Message::Serial(self.identity.serial()),
-            Reply::Trademark => Message::Trademark(self.identity.trademark()),
-            Reply::Version => Message::Version {
+            Reply::Of(Kind::Dump) => Message::Dump(self.squares),
+            Reply::Of(Kind::Serial) => Message::Serial(self.identity.serial()),
+            Reply::Of(Kind::Trademark) => Message::Trademark(self.identity.trademark()),
+            Reply::Of(Kind::Version) => Message::Version {
                 main: self.identity.main(),
                 sub: self.identity.sub(),
             },
-            Reply::Battery => Message::Battery(self.identity.battery()),
+            Reply::Of(Kind::Battery) => Message::Battery(self.identity.battery()),
+            Reply::Clock => self.clock_message(),
             Reply::Ack { id, version } => acknowledgement(id, version),
         }
     }
@@ -160,7 +160,7 @@ impl State {
         ensures { state_of self.new ≡ after_telling (state_of self.old) (reply_message (state_of self.old) reply) }
     {
         match reply {
-            Reply::Dump => self.told_squares = self.squares,
+            Reply::Of(Kind::Dump) => self.told_squares = self.squares,
             Reply::Clock => self.settle_clock(),
             _ => {}
         }

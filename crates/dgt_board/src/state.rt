@@ -13,7 +13,7 @@ use crate::identities::Identity;
 use crate::modes::Mode;
 use crate::replies::Reply;
 use arrayvec::ArrayVec;
-use dgt_command::{ClockCommand, Command, CommandEvent, clock_id};
+use dgt_command::{ClockCommand, Command, CommandEvent, clock_id, kind_of_command};
 use dgt_message::Clock;
 use dgt_values::{Piece, Position, Square};
 
@@ -100,14 +100,13 @@ impl State {
             Command::Update => self.enter(Mode::Update),
             Command::UpdateBoard => self.enter(Mode::UpdateBoard),
             Command::UpdateNice => self.enter(Mode::UpdateNice),
-            Command::Dump => self.owed.push(Reply::Dump),
             Command::Clock => self.owed.push(Reply::Clock),
-            Command::Serial => self.owed.push(Reply::Serial),
-            Command::Trademark => self.owed.push(Reply::Trademark),
-            Command::Version => self.owed.push(Reply::Version),
-            Command::Battery => self.owed.push(Reply::Battery),
             Command::ClockMessage(message) => self.acknowledge(message),
-            Command::Leds(_) => {}
+            _ => {
+                if let Some(kind) = kind_of_command(command) {
+                    self.owed.push(Reply::Of(kind));
+                }
+            }
         }
     }
 

@@ -2,6 +2,7 @@ pub mod Carried
 pub mod ClockForm
 pub mod Raw
 pub mod Content
+pub mod Kind
 pub mod Display
 pub mod Words
 pub mod Telling

@@ -9,7 +9,7 @@
 //! A host writes by [`encode`], whose room [`length`] tells. A board hands what came, in any pieces, to a
 //! [`CommandDecoder`], which tells one event after another; the event lends what the command carries. A type that
 //! owns a reader beside a state of its own, and hands events on, keeps a [`WordFramer`]. [`view_command`] reads one
-//! whole command. Nothing here allocates.
+//! whole command. [`kind_of_command`] tells what a command asks for. Nothing here allocates.
 //!
 //! [`laws`] says what holds of the bytes themselves: they divide into words in one way, what was encoded is read
 //! back, and zeros settle a reader that was left in the middle of a word.
@@ -23,6 +23,7 @@ mod displaying;
 mod framer;
 pub mod laws;
 mod lengths;
+mod questions;
 mod viewing;
 mod writing;
 
@@ -32,6 +33,7 @@ pub use command::{Command, CommandEvent};
 pub use decoder::{CommandDecoder, CommandFed};
 pub use displaying::display;
 pub use framer::{AdvancedWord, FoundWord, MAX_WORD, WordFramer};
+pub use questions::kind_of_command;
 pub use viewing::view_command;
 pub use writing::{clock_id, encode, length};
 

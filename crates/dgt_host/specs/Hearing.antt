@@ -1,12 +1,12 @@
 -- What messages make of a picture, of a clock and of what is awaited.
-use Rattle.std.specs.Prelude.{◌≡◌, ◌≢◌, List, [], ◌∷◌, Option, Some, None, option_map, if◌then◌else◌, slice_get, slice_set}
+use Rattle.std.specs.Prelude.{◌≡◌, ◌≢◌, List, [], ◌∷◌, Option, Some, None, Bool, true, false, option_map, if◌then◌else◌, slice_get, slice_set}
+use Rattle.dgt_values.specs.declared.kinds.Kind.{Kind}
 use Rattle.dgt_values.specs.declared.pieces.Piece.{Piece}
 use Rattle.dgt_message.specs.Content.{Content}
 use Rattle.dgt_message.specs.Content.Content.{dump, field, times, no_clock}
 use Rattle.dgt_message.specs.ClockState.{ClockState}
+use Rattle.dgt_message.specs.Kind.{kind_of}
 use Rattle.dgt_decode.specs.Grammar.{Event, Message}
-use Rattle.dgt_host.specs.declared.kind.Kind.{Kind}
-use Rattle.dgt_host.specs.Kind.{is_same_kind, kind_of}
 
 -- the picture after a message: a dump sets it, and a field sets one square of a picture that is
 -- known
@@ -28,6 +28,14 @@ clock_after before _ = before
 abbrev pub clock_after_all : Option ClockState → List Content → Option ClockState
 clock_after_all before [] = before
 clock_after_all before (said ∷ more) = clock_after_all (clock_after before said) more
+
+abbrev pub is_same_kind : Kind → Kind → Bool
+is_same_kind Kind.Dump Kind.Dump = true
+is_same_kind Kind.Serial Kind.Serial = true
+is_same_kind Kind.Trademark Kind.Trademark = true
+is_same_kind Kind.Version Kind.Version = true
+is_same_kind Kind.Battery Kind.Battery = true
+is_same_kind _ _ = false
 
 -- what is awaited after a message of this kind: the kind is taken off where it is the first
 abbrev pub awaited_after : List Kind → Option Kind → List Kind

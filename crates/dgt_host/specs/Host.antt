@@ -1,14 +1,14 @@
 -- What contracts see of a host, and what bytes make of it.
 use Rattle.std.specs.Prelude.{ℕ, List, [], ◌∷◌, ◌++◌, Option, None, option_map}
+use Rattle.dgt_values.specs.declared.kinds.Kind.{Kind}
 use Rattle.dgt_values.specs.declared.pieces.Piece.{Piece}
 use Rattle.dgt_values.specs.declared.positions.Position.{Position}
 use Rattle.dgt_values.specs.Pieces.{pieces_of}
 use Rattle.dgt_message.specs.declared.clock.Clock.{Clock}
 use Rattle.dgt_message.specs.Content.{Content}
+use Rattle.dgt_message.specs.Kind.{kind_of}
 use Rattle.dgt_message.specs.ClockState.{ClockState, clock_seen}
 use Rattle.dgt_decode.specs.Grammar.{Event, Message, Placed, events, open_message}
-use Rattle.dgt_host.specs.declared.kind.Kind.{Kind}
-use Rattle.dgt_host.specs.Kind.{kind_of}
 use Rattle.dgt_host.specs.Hearing.{awaited_after, clock_after, picture_after}
 
 pub record HostView : Type 0 where

@@ -1,4 +1,3 @@
-pub mod Kind
 pub mod Hearing
 pub mod Host
 pub mod Sending

@@ -1,8 +1,8 @@
 -- What a host answers that sends a command, and what it leaves.
 use Rattle.std.specs.Prelude.{◌≡◌, ℕ, ◌<◌, ◌≤◌, ◌&&◌, Bool, false, List, ◌++◌, length, drop, Option, is_some, option_to_list, nat_le, IsTrue, Result, Ok, Err}
+use Rattle.dgt_values.specs.declared.kinds.Kind.{Kind}
 use Rattle.dgt_command.specs.Content.CommandContent.{Dump, UpdateBoard}
 use Rattle.dgt_command.specs.Words.{spelling}
-use Rattle.dgt_host.specs.declared.kind.Kind.{Kind}
 use Rattle.dgt_host.specs.declared.sending.SendFault.{SendFault}
 use Rattle.dgt_host.specs.declared.sending.SendFault.TheVariants.{TooMany, NoRoom}
 use Rattle.dgt_host.specs.Host.{HostView}

@@ -4,17 +4,16 @@ ghost use Rattle.std.specs.Prelude.{◌≡◌, ◌↔◌, ℕ, List, IsTrue, Som
 ghost use Rattle.dgt_values.specs.Pieces.{pieces_of};
 ghost use Rattle.dgt_message.specs.ClockState.{clock_seen};
 ghost use Rattle.dgt_message.specs.Content.{content};
+ghost use Rattle.dgt_message.specs.Kind.{kind_of};
 ghost use Rattle.dgt_decode.specs.Feeding.{event_content};
-ghost use Rattle.dgt_host.specs.Hearing.{awaited_after, clock_after, picture_after, IsUnasked};
+ghost use Rattle.dgt_host.specs.Hearing.{awaited_after, clock_after, is_same_kind, picture_after, IsUnasked};
 ghost use Rattle.dgt_host.specs.Host.{host_after_event, host_seen};
-ghost use Rattle.dgt_host.specs.Kind.{kind_of};
 
 use crate::host::MAX_AWAITED;
-use crate::kind::{Kind, is_same, kind_of};
 use arrayvec::ArrayVec;
 use dgt_decode::Event;
-use dgt_message::{Clock, Message};
-use dgt_values::Position;
+use dgt_message::{Clock, Message, kind_of};
+use dgt_values::{Kind, Position};
 
 /// What a host heard in a piece.
 #[derive(Clone, Copy, Debug)]
@@ -56,6 +55,12 @@ fn clock_after(clock: Option<Clock>, message: &Message<'_>) -> Option<Clock>
         Message::NoClock(absence) => Some(Clock::NoClock(*absence)),
         _ => clock,
     }
+}
+
+fn is_same(first: Kind, second: Kind) -> bool
+    ensures { result ≡ is_same_kind first second }
+{
+    first == second
 }
 
 // Takes the kind of a message off where it is the first awaited, and tells whether the message has

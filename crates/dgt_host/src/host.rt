@@ -6,22 +6,21 @@ ghost use Rattle.std.specs.Io.BufRead.{Rests};
 ghost use Rattle.dgt_values.specs.Pieces.{pieces_of};
 ghost use Rattle.dgt_message.specs.ClockState.{clock_seen};
 ghost use Rattle.dgt_command.specs.Content.{command_content};
+ghost use Rattle.dgt_command.specs.Kind.{kind_of_command};
 ghost use Rattle.dgt_command.specs.Words.{spelling, Spells};
 ghost use Rattle.dgt_decode.specs.Grammar.{open_message};
 ghost use Rattle.dgt_decode.specs.Feeding.{FirstEvent, event_content_if_any};
 ghost use Rattle.dgt_host.specs.Hearing.{IsUnasked};
 ghost use Rattle.dgt_host.specs.Host.{host_after, new_host};
-ghost use Rattle.dgt_host.specs.Kind.{kind_of_command};
 ghost use Rattle.dgt_host.specs.Sending.{Sends, awaits_too_many, follow_bytes};
 
 use crate::hearing::{Heard, hear_event};
-use crate::kind::{Kind, kind_of_command};
 use crate::sending::SendFault;
 use arrayvec::ArrayVec;
-use dgt_command::{Command, encode, length};
+use dgt_command::{Command, encode, kind_of_command, length};
 use dgt_decode::{Framer, laws};
 use dgt_message::Clock;
-use dgt_values::Position;
+use dgt_values::{Kind, Position};
 use std::marker::Model;
 
 /// The most replies that a host awaits.

@@ -14,13 +14,12 @@
 
 mod hearing;
 mod host;
-mod kind;
 pub mod laws;
 mod sending;
 #[cfg(test)]
 mod tests;
 
+pub use dgt_values::Kind;
 pub use hearing::Heard;
 pub use host::{Host, MAX_AWAITED};
-pub use kind::Kind;
 pub use sending::SendFault;

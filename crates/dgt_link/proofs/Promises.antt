@@ -4,6 +4,7 @@ use Rattle.std.proofs.lemmas.List.Elements.{filter_map-append, Contains-append_l
 use Rattle.std.proofs.lemmas.Bool.{cond_both, false≢true}
 use Rattle.std.specs.Prelude.{IsSome, Contains, filter_map, unwrap_or}
 use Rattle.std.specs.List.{cons_option}
+use Rattle.dgt_values.specs.declared.kinds.Kind.{Kind}
 use Rattle.dgt_values.specs.declared.pieces.Piece.{Piece}
 use Rattle.dgt_message.specs.Content.{Content}
 use Rattle.dgt_message.specs.ClockState.{clock_message}
@@ -54,7 +55,7 @@ nothing_contained x (k, within, same) = omega arith
 
 -- a picture that comes, by its three ways: under way, owed, asked for
 abbrev Comes : Option (List Piece) → List Reply → List EventContent → Type 0
-Comes seen owed down = IsSome seen ⊎ (Contains owed Reply.Dump ⊎ Contains down (EventContent.Read CommandContent.Dump))
+Comes seen owed down = IsSome seen ⊎ (Contains owed (Reply.Of Kind.Dump) ⊎ Contains down (EventContent.Read CommandContent.Dump))
 
 -- another message under way
 sent_comes : (picture : Option (List Piece)) (up : List Content) (message : Content) (owed : List Reply) (down : List EventContent) → Comes (picture_after_all picture up) owed down → Comes (picture_after_all picture (up ++ message ∷ [])) owed down
@@ -62,14 +63,14 @@ sent_comes picture up message owed down (inl known) = inl (rw (picture_after_all
 sent_comes picture up message owed down (inr later) = inr later
 
 -- the first owed reply is sent
-dump_known : (board : BoardState) (seen : Option (List Piece)) (owed : Reply) → owed ≡ Reply.Dump → IsSome (picture_after seen (reply_message board owed))
+dump_known : (board : BoardState) (seen : Option (List Piece)) (owed : Reply) → owed ≡ Reply.Of Kind.Dump → IsSome (picture_after seen (reply_message board owed))
 dump_known board seen owed e = rw e
 
 reply_comes : (board : BoardState) (picture : Option (List Piece)) (up : List Content) (first : Reply) (rest : List Reply) (down : List EventContent) → Comes (picture_after_all picture up) (first ∷ rest) down → Comes (picture_after_all picture (up ++ reply_message board first ∷ [])) rest down
 reply_comes board picture up first rest down (inl known) = inl (rw (picture_after_all-append picture up (reply_message board first)) (picture_after_known (picture_after_all picture up) (reply_message board first) known))
-reply_comes board picture up first rest down (inr (inl owed)) = go (Contains-cons Reply.Dump first rest owed)
+reply_comes board picture up first rest down (inr (inl owed)) = go (Contains-cons (Reply.Of Kind.Dump) first rest owed)
   where
-    go : (first ≡ Reply.Dump) ⊎ Contains rest Reply.Dump → Comes (picture_after_all picture (up ++ reply_message board first ∷ [])) rest down
+    go : (first ≡ Reply.Of Kind.Dump) ⊎ Contains rest (Reply.Of Kind.Dump) → Comes (picture_after_all picture (up ++ reply_message board first ∷ [])) rest down
     go (inl e) = inl (rw (picture_after_all-append picture up (reply_message board first)) (dump_known board (picture_after_all picture up) first e))
     go (inr owed) = inr (inl owed)
 reply_comes board picture up first rest down (inr (inr asked)) = inr (inr asked)
@@ -86,12 +87,12 @@ effect_owes board EventContent.BadStart reply h = h
 effect_owes board EventContent.BadEnd reply h = h
 effect_owes board (EventContent.Stray byte) reply h = h
 
-dump_owed : (board : BoardState) (event : EventContent) → event ≡ EventContent.Read CommandContent.Dump → Contains (effect board event).owed Reply.Dump
-dump_owed board event e = rw e (Contains-push board.owed Reply.Dump)
+dump_owed : (board : BoardState) (event : EventContent) → event ≡ EventContent.Read CommandContent.Dump → Contains (effect board event).owed (Reply.Of Kind.Dump)
+dump_owed board event e = rw e (Contains-push board.owed (Reply.Of Kind.Dump))
 
 take_comes : (board : BoardState) (seen : Option (List Piece)) (event : EventContent) (rest : List EventContent) → Comes seen board.owed (event ∷ rest) → Comes seen (effect board event).owed rest
 take_comes board seen event rest (inl known) = inl known
-take_comes board seen event rest (inr (inl owed)) = inr (inl (effect_owes board event Reply.Dump owed))
+take_comes board seen event rest (inr (inl owed)) = inr (inl (effect_owes board event (Reply.Of Kind.Dump) owed))
 take_comes board seen event rest (inr (inr asked)) = go (Contains-cons (EventContent.Read CommandContent.Dump) event rest asked)
   where
     go : (event ≡ EventContent.Read CommandContent.Dump) ⊎ Contains rest (EventContent.Read CommandContent.Dump) → Comes seen (effect board event).owed rest
@@ -228,10 +229,10 @@ keeps_promise commands x keeps asks =
 
 -- ---- the picture that the host comes to have
 
-dump_seen : (x : State) (owed rest : List Reply) → owed ≡ Reply.Dump ∷ rest → coming_picture (after_reply x owed) ≡ Some (after_reply x owed).board.told_squares
+dump_seen : (x : State) (owed rest : List Reply) → owed ≡ Reply.Of Kind.Dump ∷ rest → coming_picture (after_reply x owed) ≡ Some (after_reply x owed).board.told_squares
 dump_seen x owed rest e = rw e (picture_after_all-append x.picture x.up (Content.dump x.board.squares))
 
-pub dump_is_seen : (x : State) (rest : List Reply) → x.board.owed ≡ Reply.Dump ∷ rest → coming_picture (after_move x Move.Reply) ≡ Some (after_move x Move.Reply).board.told_squares
+pub dump_is_seen : (x : State) (rest : List Reply) → x.board.owed ≡ Reply.Of Kind.Dump ∷ rest → coming_picture (after_move x Move.Reply) ≡ Some (after_move x Move.Reply).board.told_squares
 dump_is_seen x rest e = dump_seen x x.board.owed rest e
 
 sent_known : (x : State) (message : Content) → IsSome (coming_picture x) → IsSome (picture_after_all x.picture (x.up ++ message ∷ []))

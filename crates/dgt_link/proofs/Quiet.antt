@@ -4,6 +4,7 @@ use Rattle.std.proofs.lemmas.Bool.{cond-true, false≢true, eqb-true, not-false}
 use Rattle.std.proofs.lemmas.List.{get_or_default, same_lists}
 use Rattle.std.proofs.lemmas.List.FromFn.{get_or-range_with_len}
 use Rattle.std.specs.Prelude.{◌==◌, not, IsTrue, IsSome, is_some, filter, map}
+use Rattle.dgt_values.specs.declared.kinds.Kind.{Kind}
 use Rattle.dgt_values.specs.declared.pieces.Piece.{Piece}
 use Rattle.dgt_values.specs.Piece.{piece_code}
 use Rattle.dgt_message.specs.Content.{Content}
@@ -118,7 +119,7 @@ known picture told some (inr same) = same
 -- at quiet a picture that was coming has come
 picture_has_come : (x : State) → IsSound x → IsQuiet x → PictureIsComing x → IsSome x.picture
 picture_has_come x sound quiet (inl seen) = rw quiet.up at seen
-picture_has_come x sound quiet (inr (inl owed)) = absurd (nothing_contained Reply.Dump (rw (quiet_up_to_date x sound quiet).owed at owed))
+picture_has_come x sound quiet (inr (inl owed)) = absurd (nothing_contained (Reply.Of Kind.Dump) (rw (quiet_up_to_date x sound quiet).owed at owed))
 picture_has_come x sound quiet (inr (inr asked)) = absurd (nothing_contained (EventContent.Read CommandContent.Dump) (rw quiet.down at asked))
 
 quiet_mode : (x : State) → IsQuiet x → coming_mode x ≡ x.board.mode

@@ -6,16 +6,17 @@ use Rattle.std.proofs.lemmas.Bool.{cond_both, false≢true}
 use Rattle.std.specs.Prelude.{filter_map, option_to_list}
 use Rattle.std.specs.List.{cons_option}
 use Rattle.dgt_values.specs.declared.pieces.Piece.{Piece}
+use Rattle.dgt_values.specs.declared.kinds.Kind.{Kind}
 use Rattle.dgt_message.specs.Content.{Content}
 use Rattle.dgt_message.specs.ClockState.{ClockState, clock_message}
+use Rattle.dgt_message.specs.Kind.{kind_of}
 use Rattle.dgt_command.specs.Content.{CommandContent, EventContent}
+use Rattle.dgt_command.specs.Kind.{kind_of_command}
 use Rattle.dgt_board.specs.declared.replies.Reply.{Reply}
 use Rattle.dgt_board.specs.Identity.{IdentityContent}
 use Rattle.dgt_board.specs.State.{updates}
 use Rattle.dgt_board.specs.Effect.{effect}
 use Rattle.dgt_board.specs.Sending.{differs, field_of, reply_message}
-use Rattle.dgt_host.specs.declared.kind.Kind.{Kind}
-use Rattle.dgt_host.specs.Kind.{kind_of, kind_of_command}
 use Rattle.dgt_host.specs.Hearing.{awaited_after}
 use Rattle.dgt_link.specs.Move.{Move}
 use Rattle.dgt_link.specs.Machine.{State, new_state, after_move, after_told, after_take, after_reply, after_hear}

@@ -4,6 +4,7 @@ use Rattle.std.proofs.lemmas.List.{append-nil, take-append-drop}
 use Rattle.std.proofs.lemmas.Grind.{flat_map-append}
 use Rattle.std.specs.List.{AllByRecursion, flat_map}
 use Rattle.dgt_values.specs.declared.pieces.Piece.{Piece}
+use Rattle.dgt_values.specs.declared.kinds.Kind.{Kind}
 use Rattle.dgt_message.specs.Content.{Content, IsMessage}
 use Rattle.dgt_message.specs.ClockState.{ClockState}
 use Rattle.dgt_message.specs.Spelling.{Spells, spelling}
@@ -11,13 +12,12 @@ use Rattle.dgt_command.specs.Content.{CommandContent, EventContent}
 use Rattle.dgt_command.specs.Words.{spelling as command_spelling}
 use Rattle.dgt_command.specs.Laws.{DivisionsAppend, NoWordBeginsAnother}
 use Rattle.dgt_command.proofs.DivisionLemmas.{nothing_is_partial}
+use Rattle.dgt_command.specs.Kind.{kind_of_command}
 use Rattle.dgt_board.specs.Identity.{IdentityContent}
 use Rattle.dgt_board.specs.State.{BoardState, after_change, after_hand_clock}
 use Rattle.dgt_board.specs.Effect.{effect, effects}
 use Rattle.dgt_board.specs.Sending.{after_sending, next_message}
-use Rattle.dgt_host.specs.declared.kind.Kind.{Kind}
 use Rattle.dgt_host.specs.Host.{HostView, host_after_message}
-use Rattle.dgt_host.specs.Kind.{kind_of_command}
 use Rattle.dgt_link.specs.Act.{ActContent}
 use Rattle.dgt_link.specs.declared.acts.Outcome.{Outcome}
 use Rattle.dgt_link.specs.Move.{Move}

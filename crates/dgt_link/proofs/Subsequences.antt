@@ -4,9 +4,8 @@ use Rattle.std.proofs.lemmas.List.{append-nil}
 use Rattle.std.proofs.lemmas.Bool.{cond_both, cond-true, false≢true}
 use Rattle.std.specs.List.{cons_option}
 use Rattle.std.specs.Option.{option_to_list}
-use Rattle.dgt_host.specs.declared.kind.Kind.{Kind}
-use Rattle.dgt_host.specs.Kind.{is_same_kind}
-use Rattle.dgt_host.specs.Hearing.{awaited_after}
+use Rattle.dgt_values.specs.declared.kinds.Kind.{Kind}
+use Rattle.dgt_host.specs.Hearing.{awaited_after, is_same_kind}
 use Rattle.dgt_link.specs.Sound.{IsSubsequence}
 
 -- the second list may have more in front
@@ -41,10 +40,7 @@ subsequence_of_nothing (x ∷ xs) h = absurd h
 
 same_kind_itself : (kind : Kind) → is_same_kind kind kind ≡ true
 same_kind_itself Kind.Dump = refl
-same_kind_itself Kind.Serial = refl
-same_kind_itself Kind.Trademark = refl
-same_kind_itself Kind.Version = refl
-same_kind_itself Kind.Battery = refl
+same_kind_itself _ = refl
 
 tail_after_head : {X : Type 0} (x y : X) (xs ys : List X) → IsSubsequence (x ∷ xs) (y ∷ ys) → IsSubsequence xs ys
 tail_after_head x y xs ys (inl h) = h.1

@@ -5,13 +5,13 @@ use Rattle.std.proofs.lemmas.List.Elements.{filter_map-append}
 use Rattle.std.proofs.lemmas.Bool.{false≢true}
 use Rattle.std.specs.Prelude.{IsTrue, filter_map, option_to_list}
 use Rattle.std.specs.List.{cons_option}
+use Rattle.dgt_values.specs.declared.kinds.Kind.{Kind}
 use Rattle.dgt_message.specs.ClockState.{ClockState}
 use Rattle.dgt_command.specs.Content.{ClockContent, CommandContent, EventContent}
+use Rattle.dgt_command.specs.Kind.{kind_of_command}
 use Rattle.dgt_board.specs.Identity.{IdentityContent}
 use Rattle.dgt_board.specs.State.{BoardState, follows_clock}
 use Rattle.dgt_board.specs.Effect.{acknowledgements, after_command, effect, replies_to}
-use Rattle.dgt_host.specs.declared.kind.Kind.{Kind}
-use Rattle.dgt_host.specs.Kind.{kind_of_command}
 use Rattle.dgt_link.specs.Sound.{kind_of_event, kind_of_reply}
 use Rattle.dgt_link.proofs.Telling.{owed_or_told}
 
@@ -21,18 +21,8 @@ acknowledgements-kinds (ClockState.no_clock absence) identity message = refl
 
 -- the replies to a command are of its kind
 replies_to-kinds : (board : BoardState) (command : CommandContent) → filter_map kind_of_reply (replies_to board command) ≡ option_to_list (kind_of_command command)
-replies_to-kinds board CommandContent.Reset = refl
-replies_to-kinds board CommandContent.Clock = refl
-replies_to-kinds board CommandContent.Dump = refl
-replies_to-kinds board CommandContent.Update = refl
-replies_to-kinds board CommandContent.UpdateBoard = refl
-replies_to-kinds board CommandContent.UpdateNice = refl
-replies_to-kinds board CommandContent.Serial = refl
-replies_to-kinds board CommandContent.Trademark = refl
-replies_to-kinds board CommandContent.Battery = refl
-replies_to-kinds board CommandContent.Version = refl
 replies_to-kinds board (CommandContent.ClockMessage message) = acknowledgements-kinds board.clock board.identity message
-replies_to-kinds board (CommandContent.Leds leds) = refl
+replies_to-kinds board _ = refl
 
 kinds_moved : (owed : List Kind) (kind : Option Kind) (down : List Kind) → (owed ++ option_to_list kind) ++ down ≡ owed ++ cons_option kind down
 kinds_moved owed None down = ap (λ (left : List Kind). left ++ down) (append-nil owed)
@@ -54,17 +44,10 @@ IsFollowed board = IsTrue (follows_clock board.mode) → IsTrue board.times_owed
 
 command_followed : (board : BoardState) (command : CommandContent) → IsFollowed board → IsFollowed (after_command board command)
 command_followed board CommandContent.Reset before = λ h. absurd (false≢true h)
-command_followed board CommandContent.Clock before = before
-command_followed board CommandContent.Dump before = before
 command_followed board CommandContent.Update before = λ h. owed_or_told board.told_clock board.clock
 command_followed board CommandContent.UpdateBoard before = λ h. absurd (false≢true h)
 command_followed board CommandContent.UpdateNice before = λ h. owed_or_told board.told_clock board.clock
-command_followed board CommandContent.Serial before = before
-command_followed board CommandContent.Trademark before = before
-command_followed board CommandContent.Battery before = before
-command_followed board CommandContent.Version before = before
-command_followed board (CommandContent.ClockMessage message) before = before
-command_followed board (CommandContent.Leds leds) before = before
+command_followed board _ before = before
 
 pub effect_followed : (board : BoardState) (event : EventContent) → IsFollowed board → IsFollowed (effect board event)
 effect_followed board (EventContent.Read command) before = command_followed board command before

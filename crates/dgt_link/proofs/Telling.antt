@@ -4,15 +4,16 @@ use Rattle.std.proofs.lemmas.Bool.{and_parts, eqb-true, false≢true}
 use Rattle.std.proofs.lemmas.Slice.Eq.{bytes_eq-Decides}
 use Rattle.std.specs.Prelude.{◌&&◌, ◌==◌, IsTrue, bytes_eq, not}
 use Rattle.std.proofs.lemmas.List.{length-set}
+use Rattle.dgt_values.specs.declared.kinds.Kind.{Kind}
 use Rattle.dgt_values.specs.declared.pieces.Piece.{Piece}
 use Rattle.dgt_message.specs.Time.{Time, time_of}
 use Rattle.dgt_message.specs.Content.{Content}
 use Rattle.dgt_message.specs.ClockState.{ClockState, clock_eq, clock_message, time_eq}
+use Rattle.dgt_message.specs.Kind.{kind_of}
 use Rattle.dgt_board.specs.declared.modes.Mode.{Mode}
 use Rattle.dgt_board.specs.declared.replies.Reply.{Reply}
 use Rattle.dgt_board.specs.State.{BoardState, is_told, owed_when_handed, follows_clock}
 use Rattle.dgt_board.specs.Sending.{field_of, reply_message, told_squares_after, told_clock_after, times_owed_after}
-use Rattle.dgt_host.specs.Kind.{kind_of}
 use Rattle.dgt_host.specs.Hearing.{clock_after, clock_after_all, picture_after, picture_after_all}
 use Rattle.dgt_link.specs.Sound.{IsUnknownOr, kind_of_reply}
 
@@ -133,7 +134,7 @@ plain_tells board message plain =
     }
 
 pub reply_tells : (board : BoardState) (reply : Reply) → Tells board (reply_message board reply)
-reply_tells board Reply.Dump =
+reply_tells board (Reply.Of Kind.Dump) =
     record {
       squares = λ s t. s;
       picture = refl;
@@ -143,11 +144,7 @@ reply_tells board Reply.Dump =
       followed = inr (refl, refl);
     }
 reply_tells board Reply.Clock = clock_tells board
-reply_tells board Reply.Serial = plain_tells board _ (record { squares = refl; picture = λ seen. refl; told_clock = refl; clock = λ seen. refl; times_owed = refl })
-reply_tells board Reply.Trademark = plain_tells board _ (record { squares = refl; picture = λ seen. refl; told_clock = refl; clock = λ seen. refl; times_owed = refl })
-reply_tells board Reply.Version = plain_tells board _ (record { squares = refl; picture = λ seen. refl; told_clock = refl; clock = λ seen. refl; times_owed = refl })
-reply_tells board Reply.Battery = plain_tells board _ (record { squares = refl; picture = λ seen. refl; told_clock = refl; clock = λ seen. refl; times_owed = refl })
-reply_tells board (Reply.Ack id version) = plain_tells board _ (record { squares = refl; picture = λ seen. refl; told_clock = refl; clock = λ seen. refl; times_owed = refl })
+reply_tells board _ = plain_tells board _ (record { squares = refl; picture = λ seen. refl; told_clock = refl; clock = λ seen. refl; times_owed = refl })
 
 -- the message of an owed reply is of its kind, and so has the clock's message none
 pub clock_message-kind : (clock : ClockState) → kind_of (clock_message clock) ≡ None
@@ -155,13 +152,9 @@ clock_message-kind (ClockState.times readings) = refl
 clock_message-kind (ClockState.no_clock absence) = refl
 
 pub reply_message-kind : (board : BoardState) (reply : Reply) → kind_of (reply_message board reply) ≡ kind_of_reply reply
-reply_message-kind board Reply.Dump = refl
 reply_message-kind board Reply.Clock = clock_message-kind board.clock
-reply_message-kind board Reply.Serial = refl
-reply_message-kind board Reply.Trademark = refl
-reply_message-kind board Reply.Version = refl
-reply_message-kind board Reply.Battery = refl
-reply_message-kind board (Reply.Ack id version) = refl
+reply_message-kind board (Reply.Of Kind.Dump) = refl
+reply_message-kind board _ = refl
 
 -- the picture and the clock that the host comes to have, once one more message is under way
 seen_after : (told told' : List Piece) (message : Content) → picture_after (Some told) message ≡ Some told' → IsUnknownOr (picture_after None message) (Some told') → (seen : Option (List Piece)) → IsUnknownOr seen (Some told) → IsUnknownOr (picture_after seen message) (Some told')

@@ -2,16 +2,17 @@
 -- come into it.
 use Rattle.std.specs.Prelude.{List, [], ◌∷◌, ◌++◌, Option, None, ◌&&◌, if◌then◌else◌, option_to_list}
 use Rattle.dgt_values.specs.declared.pieces.Piece.{Piece}
+use Rattle.dgt_values.specs.declared.kinds.Kind.{Kind}
 use Rattle.dgt_message.specs.Content.{Content}
 use Rattle.dgt_message.specs.ClockState.{ClockState, clock_message}
+use Rattle.dgt_message.specs.Kind.{kind_of}
 use Rattle.dgt_command.specs.Content.{EventContent}
+use Rattle.dgt_command.specs.Kind.{kind_of_command}
 use Rattle.dgt_board.specs.declared.replies.Reply.{Reply}
 use Rattle.dgt_board.specs.Identity.{IdentityContent}
 use Rattle.dgt_board.specs.State.{BoardState, new_board, after_change, after_hand_clock, updates}
 use Rattle.dgt_board.specs.Effect.{effect}
 use Rattle.dgt_board.specs.Sending.{after_telling, differs, field_of, reply_message}
-use Rattle.dgt_host.specs.declared.kind.Kind.{Kind}
-use Rattle.dgt_host.specs.Kind.{kind_of, kind_of_command}
 use Rattle.dgt_host.specs.Hearing.{awaited_after, clock_after, picture_after}
 use Rattle.dgt_link.specs.Move.{Move}
 

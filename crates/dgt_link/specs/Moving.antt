@@ -4,10 +4,10 @@ use Rattle.dgt_message.specs.Content.{Content}
 use Rattle.dgt_message.specs.Spelling.{Spells, spelling}
 use Rattle.dgt_command.specs.Content.{CommandContent}
 use Rattle.dgt_command.specs.Words.{Spells as SpellsCommand, spelling as command_spelling}
+use Rattle.dgt_command.specs.Kind.{kind_of_command}
 use Rattle.dgt_board.specs.Sending.{after_sending}
 use Rattle.dgt_board.specs.View.{BoardView, HasTaken}
 use Rattle.dgt_host.specs.Host.{HostView, host_after}
-use Rattle.dgt_host.specs.Kind.{kind_of_command}
 use Rattle.dgt_host.specs.Sending.{awaits_too_many, host_awaiting}
 use Rattle.dgt_link.specs.declared.acts.Outcome.{Outcome}
 use Rattle.dgt_link.specs.Line.{LineContents, overflows, with_bytes, without_first}

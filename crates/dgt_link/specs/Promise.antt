@@ -1,5 +1,6 @@
 -- When the host's picture is promised to be the board's squares.
 use Rattle.std.specs.Prelude.{◌≡◌, ◌⊎◌, List, [], ◌∷◌, ◌++◌, Option, None, IsTrue, Contains, IsSome, filter_map, unwrap_or}
+use Rattle.dgt_values.specs.declared.kinds.Kind.{Kind}
 use Rattle.dgt_command.specs.Content.{CommandContent, EventContent}
 use Rattle.dgt_board.specs.declared.modes.Mode.{Mode}
 use Rattle.dgt_board.specs.declared.replies.Reply.{Reply}
@@ -52,7 +53,7 @@ mode_after before _ = before
 abbrev pub PictureIsComing : State → Type 0
 PictureIsComing x =
     IsSome (coming_picture x)
-    ⊎ (Contains x.board.owed Reply.Dump ⊎ Contains x.down (EventContent.Read CommandContent.Dump))
+    ⊎ (Contains x.board.owed (Reply.Of Kind.Dump) ⊎ Contains x.down (EventContent.Read CommandContent.Dump))
 
 -- the last mode command under way, or else the board's mode, asks for updates
 abbrev pub UpdatesAreComing : State → Type 0

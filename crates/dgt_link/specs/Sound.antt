@@ -1,12 +1,13 @@
 -- What holds between a board and its host whatever has happened.
 use Rattle.std.specs.Prelude.{◌≡◌, ◌⊎◌, List, [], ◌∷◌, ◌++◌, Option, Some, None, IsTrue, length, filter_map}
 use Rattle.dgt_values.specs.declared.pieces.Piece.{Piece}
+use Rattle.dgt_values.specs.declared.kinds.Kind.{Kind}
 use Rattle.dgt_message.specs.ClockState.{ClockState}
+use Rattle.dgt_message.specs.Kind.{kind_of}
 use Rattle.dgt_command.specs.Content.{EventContent}
+use Rattle.dgt_command.specs.Kind.{kind_of_command}
 use Rattle.dgt_board.specs.declared.replies.Reply.{Reply}
 use Rattle.dgt_board.specs.State.{follows_clock}
-use Rattle.dgt_host.specs.declared.kind.Kind.{Kind}
-use Rattle.dgt_host.specs.Kind.{kind_of, kind_of_command}
 use Rattle.dgt_host.specs.Hearing.{clock_after_all, picture_after_all}
 use Rattle.dgt_link.specs.Machine.{State}
 
@@ -14,11 +15,7 @@ use Rattle.dgt_link.specs.Machine.{State}
 
 -- the kind of the message that a reply becomes
 abbrev pub kind_of_reply : Reply → Option Kind
-kind_of_reply Reply.Dump = Some Kind.Dump
-kind_of_reply Reply.Serial = Some Kind.Serial
-kind_of_reply Reply.Trademark = Some Kind.Trademark
-kind_of_reply Reply.Version = Some Kind.Version
-kind_of_reply Reply.Battery = Some Kind.Battery
+kind_of_reply (Reply.Of kind) = Some kind
 kind_of_reply _ = None
 
 -- the kind of the reply that a command under way asks for

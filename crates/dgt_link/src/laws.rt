@@ -4,8 +4,10 @@
 ghost use Rattle.std.specs.Prelude.{◌≡◌, List, [], ◌∷◌, ◌++◌, All, Option, Some, None, length, IsTrue, IsSome};
 ghost use Rattle.dgt_values.specs.declared.pieces.Piece.{Piece};
 ghost use Rattle.dgt_values.specs.Equality.{EqualIsSame};
+ghost use Rattle.dgt_values.specs.declared.kinds.Kind.{Kind};
 ghost use Rattle.dgt_message.specs.Content.{Content};
 ghost use Rattle.dgt_message.specs.ClockState.{ClockState};
+ghost use Rattle.dgt_message.specs.Kind.{kind_of};
 ghost use Rattle.dgt_command.specs.Content.{CommandContent};
 ghost use Rattle.dgt_command.specs.Equality.{EqualIsSameReadOf};
 ghost use Rattle.dgt_decode.specs.Grammar.{Event};
@@ -13,8 +15,6 @@ ghost use Rattle.dgt_board.specs.declared.replies.Reply.{Reply};
 ghost use Rattle.dgt_board.specs.Identity.{IdentityContent};
 ghost use Rattle.dgt_board.specs.State.{follows_clock, updates};
 ghost use Rattle.dgt_board.specs.Sending.{after_sending, next_message};
-ghost use Rattle.dgt_host.specs.declared.kind.Kind.{Kind};
-ghost use Rattle.dgt_host.specs.Kind.{kind_of};
 ghost use Rattle.dgt_host.specs.Hearing.{IsUnasked};
 ghost use Rattle.dgt_link.specs.Move.{IsSending, Move};
 ghost use Rattle.dgt_link.specs.Machine.{State, after_move, after_moves, new_state};
@@ -63,7 +63,7 @@ pub fn moves_keep()
 /// A dump that is sent makes the picture to come the squares as the board has told them, and no
 /// move makes it unknown.
 pub fn dump_is_told()
-    ensures told { (x : State) (later : List Reply) → x.board.owed ≡ Reply.Dump ∷ later →
+    ensures told { (x : State) (later : List Reply) → x.board.owed ≡ Reply.Of Kind.Dump ∷ later →
         coming_picture (after_move x Move.Reply)
         ≡ Some (after_move x Move.Reply).board.told_squares }
     ensures known { (x : State) (move : Move) →

@@ -14,6 +14,7 @@ ghost use Rattle.dgt_values.specs.Placement.{digit_count, placement_text, Digits
 
 use crate::bodies::{Body, BodyError, MAX_BODY};
 use crate::bytes::SevenBit;
+use crate::kinds::Kind;
 use crate::pieces::Piece;
 use crate::placements::BadPlacement;
 use crate::positions::Position;
@@ -34,6 +35,7 @@ pub fn equal_is_same()
     ensures square { EqualIsSameRead square_number ⟦<Square as PartialEq>⟧.eq }
     ensures piece { EqualIsSame ⟦<Piece as PartialEq>⟧.eq }
     ensures position { EqualIsSameRead pieces_of ⟦<Position as PartialEq>⟧.eq }
+    ensures kind { EqualIsSame ⟦<Kind as PartialEq>⟧.eq }
     ensures bad_placement { EqualIsSame ⟦<BadPlacement as PartialEq>⟧.eq }
     ensures no_room { EqualIsSame ⟦<NoRoom as PartialEq>⟧.eq }
 {}

@@ -1,0 +1,22 @@
+//! What commands ask for.
+
+ghost use Rattle.std.specs.Prelude.{◌≡◌};
+ghost use Rattle.dgt_command.specs.Content.{command_content};
+ghost use Rattle.dgt_command.specs.Kind.{kind_of_command};
+
+use crate::command::Command;
+use dgt_values::Kind;
+
+/// The kind of the reply that a command asks for, where it has one.
+pub fn kind_of_command(command: &Command<'_>) -> Option<Kind>
+    ensures { result ≡ kind_of_command (command_content command.now) }
+{
+    match command {
+        Command::Dump => Some(Kind::Dump),
+        Command::Serial => Some(Kind::Serial),
+        Command::Trademark => Some(Kind::Trademark),
+        Command::Version => Some(Kind::Version),
+        Command::Battery => Some(Kind::Battery),
+        _ => None,
+    }
+}

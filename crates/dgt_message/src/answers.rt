@@ -1,0 +1,22 @@
+//! What messages answer.
+
+ghost use Rattle.std.specs.Prelude.{◌≡◌};
+ghost use Rattle.dgt_message.specs.Kind.{kind_of};
+ghost use Rattle.dgt_message.specs.Content.{content};
+
+use crate::message::Message;
+use dgt_values::Kind;
+
+/// The kind of a message, where it answers a command that has one.
+pub fn kind_of(message: &Message<'_>) -> Option<Kind>
+    ensures { result ≡ kind_of (content message.now) }
+{
+    match message {
+        Message::Dump(_) => Some(Kind::Dump),
+        Message::Serial(_) => Some(Kind::Serial),
+        Message::Trademark(_) => Some(Kind::Trademark),
+        Message::Version { .. } => Some(Kind::Version),
+        Message::Battery(_) => Some(Kind::Battery),
+        _ => None,
+    }
+}
