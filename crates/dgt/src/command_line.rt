@@ -111,7 +111,14 @@ fn command<'a>(alloc: Global) -> Result<Command<'a>, AllocError> {
 /// The task of the words, of which the first is the program's name.
 pub fn read<'a>(alloc: Global, words: &'a [String]) -> Result<Task<'a>, Fault> {
     match command(alloc)?.try_get_matches_from(words) {
-        Ok(matches) => Ok(requested(&matches)),
+        Ok(matches) => match requested(&matches) {
+            Some(task) => Ok(task),
+            None => Err(refuse(
+                alloc,
+                ErrorKind::InvalidSubcommand,
+                "a subcommand has no task",
+            )),
+        },
         Err(error) => unmatched(error),
     }
 }
@@ -125,21 +132,22 @@ fn unmatched<'a>(error: clap::Error) -> Result<Task<'a>, Fault> {
     }
 }
 
-// `monitor` is the one command with no arguments.
-fn requested<'a>(matches: &ArgMatches<'a>) -> Task<'a> {
-    match matches.subcommand() {
-        Some(("show", show)) => Task::Show {
+// Each subcommand of `command` has its task here: one that hasn't is refused.
+fn requested<'a>(matches: &ArgMatches<'a>) -> Option<Task<'a>> {
+    match matches.subcommand()? {
+        ("show", show) => Some(Task::Show {
             word: show.get_str("hex").unwrap_or(""),
-        },
-        Some(("board", board)) => Task::Board {
+        }),
+        ("monitor", _) => Some(Task::Monitor),
+        ("board", board) => Some(Task::Board {
             placement: board.get_str("position").unwrap_or(START),
-        },
-        Some(("simulate", simulate)) => Task::Simulate {
+        }),
+        ("simulate", simulate) => Some(Task::Simulate {
             placement: simulate.get_str("position").unwrap_or(START),
             up: simulate.get_one::<u16>("up").unwrap_or(LINE_BYTES),
             down: simulate.get_one::<u16>("down").unwrap_or(LINE_BYTES),
-        },
-        _ => Task::Monitor,
+        }),
+        _ => None,
     }
 }
 
@@ -148,12 +156,21 @@ pub fn refuse_arguments(alloc: Global, error: &io::Error) -> Fault {
     if error.kind() == io::ErrorKind::OutOfMemory {
         return Fault::OutOfMemory;
     }
-    match argument_error(alloc) {
+    refuse(
+        alloc,
+        ErrorKind::InvalidValue,
+        "an argument is not UTF-8 text",
+    )
+}
+
+// The fault of a command line, with a text of this program.
+fn refuse(alloc: Global, kind: ErrorKind, text: &str) -> Fault {
+    match command_error(alloc, kind, text) {
         Ok(error) => Fault::CommandLine(error),
         Err(AllocError) => Fault::OutOfMemory,
     }
 }
 
-fn argument_error(alloc: Global) -> Result<clap::Error, AllocError> {
-    command(alloc)?.error(ErrorKind::InvalidValue, "an argument is not UTF-8 text")
+fn command_error(alloc: Global, kind: ErrorKind, text: &str) -> Result<clap::Error, AllocError> {
+    command(alloc)?.error(kind, text)
 }

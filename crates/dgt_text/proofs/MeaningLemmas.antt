@@ -1,12 +1,12 @@
 -- No line of a script has two meanings.
-use Rattle.std.proofs.Common.{◌≡◌, ℕ, List, [], ◌∷◌, Option, Some, None, refl, sym, ◌∙◌, ap, subst, arith, inl, inr, length, codes}
+use Rattle.std.proofs.Common.{◌≡◌, ℕ, List, [], ◌∷◌, Option, Some, None, refl, sym, ◌∙◌, ap, subst, arith, inl, inr, length}
 use Rattle.std.specs.Prelude.{bytes_eq, if◌then◌else◌}
 use Rattle.dgt_link.specs.Act.{ActContent, Change, ClockRead, Host, BoardSend, ToBoard, ToHost}
-use Rattle.dgt_text.specs.declared.script.Verb.{Verb}
-use Rattle.dgt_text.specs.declared.script.Verb.TheVariants as verb
+use Rattle.dgt_text.specs.declared.script_words.Verb.{Verb}
+use Rattle.dgt_text.specs.declared.script_words.Verb.TheVariants as verb
 use Rattle.dgt_text.specs.Lines.{words_text}
-use Rattle.dgt_text.specs.Script.{Asks, GoesWrong, IsAsked, IsBadAt, IsBadFrom, IsOf, Kind, kinds_after, verb_text, words}
-use Rattle.dgt_text.specs.ScriptWords.{IsClockWord, IsCommandWord, IsCountWord, IsPieceWord, IsSquareWord}
+use Rattle.dgt_text.specs.Script.{Asks, GoesWrong, IsAsked, IsBadAt, IsBadFrom, IsOf, Kind, kinds_after, words}
+use Rattle.dgt_text.specs.ScriptWords.{verb_text, IsClockWord, IsCommandWord, IsCountWord, IsPieceWord, IsSquareWord}
 use Rattle.dgt_text.proofs.ScriptWordLemmas.{one_clock, one_command, one_count, one_piece, one_square}
 
 -- ---- Words behind the first one
@@ -38,12 +38,12 @@ one_wrong (kind ∷ kinds) (word ∷ parts) a b (inr g) (inr h) = one_wrong kind
 
 abbrev verb_named : List ℕ → Option Verb
 verb_named word =
-    if bytes_eq word (codes "change") then Some verb.Change
-    else if bytes_eq word (codes "clock") then Some verb.Clock
-    else if bytes_eq word (codes "host") then Some verb.Host
-    else if bytes_eq word (codes "send") then Some verb.Send
-    else if bytes_eq word (codes "toboard") then Some verb.ToBoard
-    else if bytes_eq word (codes "tohost") then Some verb.ToHost
+    if bytes_eq word (verb_text verb.Change) then Some verb.Change
+    else if bytes_eq word (verb_text verb.Clock) then Some verb.Clock
+    else if bytes_eq word (verb_text verb.Host) then Some verb.Host
+    else if bytes_eq word (verb_text verb.Send) then Some verb.Send
+    else if bytes_eq word (verb_text verb.ToBoard) then Some verb.ToBoard
+    else if bytes_eq word (verb_text verb.ToHost) then Some verb.ToHost
     else None
 
 verb_named-verb_text : (named : Verb) → verb_named (verb_text named) ≡ Some named
@@ -80,31 +80,27 @@ asks_in_order parts (ToHost count) h = (h.0 ∷ [], h.1, ((count, h.2), tt))
 
 -- ---- Lines
 
+-- behind one first word, one word
+same_word : (parts : List (List ℕ)) (first a b : List ℕ) → parts ≡ first ∷ a ∷ [] → parts ≡ first ∷ b ∷ [] → a ≡ b
+same_word parts first a b h k = let both : first ∷ a ∷ [] ≡ first ∷ b ∷ [] = sym h ∙ k in cc both
+
 same_first : (parts : List (List ℕ)) (a b : ActContent) → verb_of a ≡ verb_of b → Asks parts a → Asks parts b → a ≡ b
 same_first parts (Change s p) (Change t q) e h k =
-    let both : codes "change" ∷ h.0 ∷ h.1 ∷ [] ≡ codes "change" ∷ k.0 ∷ k.1 ∷ [] = sym h.2 ∙ k.2 in
+    let both : verb_text verb.Change ∷ h.0 ∷ h.1 ∷ [] ≡ verb_text verb.Change ∷ k.0 ∷ k.1 ∷ [] = sym h.2 ∙ k.2 in
     let first : h.0 ≡ k.0 = cc both in
     let second : h.1 ≡ k.1 = cc both in
     let square : s ≡ t = one_square k.0 s t (subst (λ w. IsSquareWord w s) first h.3) k.3 in
     let piece : p ≡ q = one_piece k.1 p q (subst (λ w. IsPieceWord w p) second h.4) k.4 in
     cc (square, piece)
 same_first parts (ClockRead s) (ClockRead t) e h k =
-    let both : codes "clock" ∷ h.0 ∷ [] ≡ codes "clock" ∷ k.0 ∷ [] = sym h.1 ∙ k.1 in
-    let word : h.0 ≡ k.0 = cc both in
-    ap ClockRead (one_clock k.0 s t (subst (λ w. IsClockWord w s) word h.2) k.2)
+    ap ClockRead (one_clock k.0 s t (subst (λ w. IsClockWord w s) (same_word parts (verb_text verb.Clock) h.0 k.0 h.1 k.1) h.2) k.2)
 same_first parts (Host s) (Host t) e h k =
-    let both : codes "host" ∷ h.0 ∷ [] ≡ codes "host" ∷ k.0 ∷ [] = sym h.1 ∙ k.1 in
-    let word : h.0 ≡ k.0 = cc both in
-    ap Host (one_command k.0 s t (subst (λ w. IsCommandWord w s) word h.2) k.2)
+    ap Host (one_command k.0 s t (subst (λ w. IsCommandWord w s) (same_word parts (verb_text verb.Host) h.0 k.0 h.1 k.1) h.2) k.2)
 same_first parts BoardSend BoardSend e h k = refl
 same_first parts (ToBoard s) (ToBoard t) e h k =
-    let both : codes "toboard" ∷ h.0 ∷ [] ≡ codes "toboard" ∷ k.0 ∷ [] = sym h.1 ∙ k.1 in
-    let word : h.0 ≡ k.0 = cc both in
-    ap ToBoard (one_count k.0 s t (subst (λ w. IsCountWord w s) word h.2) k.2)
+    ap ToBoard (one_count k.0 s t (subst (λ w. IsCountWord w s) (same_word parts (verb_text verb.ToBoard) h.0 k.0 h.1 k.1) h.2) k.2)
 same_first parts (ToHost s) (ToHost t) e h k =
-    let both : codes "tohost" ∷ h.0 ∷ [] ≡ codes "tohost" ∷ k.0 ∷ [] = sym h.1 ∙ k.1 in
-    let word : h.0 ≡ k.0 = cc both in
-    ap ToHost (one_count k.0 s t (subst (λ w. IsCountWord w s) word h.2) k.2)
+    ap ToHost (one_count k.0 s t (subst (λ w. IsCountWord w s) (same_word parts (verb_text verb.ToHost) h.0 k.0 h.1 k.1) h.2) k.2)
 same_first parts a b e h k = cc e
 
 pub one_act : (line : List ℕ) (a b : ActContent) → IsAsked line a → IsAsked line b → a ≡ b

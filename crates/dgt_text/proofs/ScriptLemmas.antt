@@ -8,10 +8,11 @@ use Rattle.std.proofs.lemmas.Bool.Decides.{eqb_tells}
 use Rattle.std.proofs.lemmas.List.{get_or-take, length-drop, length-take-le, take_all}
 use Rattle.std.proofs.lemmas.List.Splits.{join_with_byte-slice_split, length-slice_split, slice_split_first, slice_split_none}
 use Rattle.std.proofs.lemmas.List.Sums.{fails_before_first, position_or_len_is}
-use Rattle.dgt_text.specs.declared.script.Verb.{Verb}
+use Rattle.dgt_text.specs.declared.script_words.Verb.{Verb}
 use Rattle.dgt_text.specs.declared.script.Wrong.{Wrong}
 use Rattle.dgt_text.specs.Lines.{words_text}
-use Rattle.dgt_text.specs.Script.{GoesWrong, IsBadAt, IsBadFrom, IsOf, Kind, kinds_after, verb_text, words}
+use Rattle.dgt_text.specs.Script.{GoesWrong, IsBadAt, IsBadFrom, IsOf, Kind, kinds_after, words}
+use Rattle.dgt_text.specs.ScriptWords.{verb_text}
 use Rattle.dgt_text.specs.ScriptReading.{left_words, GoesWrongBefore}
 
 -- the words of a line make the line

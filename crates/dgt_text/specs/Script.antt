@@ -1,5 +1,5 @@
 -- The lines of a script, and the acts that they ask for.
-use Rattle.std.specs.Prelude.{◌≡◌, ◌≢◌, ℕ, ◌+◌, ◌<◌, ◌≤◌, ◌==◌, ◌⊎◌, List, [], ◌∷◌, length, codes}
+use Rattle.std.specs.Prelude.{◌≡◌, ◌≢◌, ℕ, ◌+◌, ◌<◌, ◌≤◌, ◌==◌, ◌⊎◌, List, [], ◌∷◌, length}
 use Rattle.std.specs.List.{slice_split}
 use Rattle.dgt_values.specs.declared.pieces.Piece.{Piece}
 use Rattle.dgt_message.specs.ClockState.{ClockState}
@@ -7,10 +7,10 @@ use Rattle.dgt_command.specs.Content.{CommandContent}
 use Rattle.dgt_link.specs.Act.{ActContent, Change, ClockRead, Host, BoardSend, ToBoard, ToHost}
 use Rattle.dgt_text.specs.declared.script.LineFault.{LineFault}
 use Rattle.dgt_text.specs.declared.script.LineFault.TheVariants.{BadLine}
-use Rattle.dgt_text.specs.declared.script.Verb.{Verb}
-use Rattle.dgt_text.specs.declared.script.Verb.TheVariants as verb
+use Rattle.dgt_text.specs.declared.script_words.Verb.{Verb}
+use Rattle.dgt_text.specs.declared.script_words.Verb.TheVariants as verb
 use Rattle.dgt_text.specs.Lines.{words_text}
-use Rattle.dgt_text.specs.ScriptWords.{IsSquareWord, IsPieceWord, IsClockWord, IsCommandWord, IsCountWord}
+use Rattle.dgt_text.specs.ScriptWords.{verb_text, IsSquareWord, IsPieceWord, IsClockWord, IsCommandWord, IsCountWord}
 
 -- the words of a line are its parts between single spaces; an empty part is an empty word
 abbrev pub words : List ℕ → List (List ℕ)
@@ -21,12 +21,12 @@ words line = slice_split (λ byte. byte == 32) line
 -- these words ask for this act
 abbrev pub Asks : List (List ℕ) → ActContent → Type 0
 Asks parts (Change square piece) =
-    (first : List ℕ) × (second : List ℕ) × (parts ≡ codes "change" ∷ first ∷ second ∷ []) × IsSquareWord first square × IsPieceWord second piece
-Asks parts (ClockRead clock) = (word : List ℕ) × (parts ≡ codes "clock" ∷ word ∷ []) × IsClockWord word clock
-Asks parts (Host command) = (word : List ℕ) × (parts ≡ codes "host" ∷ word ∷ []) × IsCommandWord word command
-Asks parts BoardSend = parts ≡ codes "send" ∷ []
-Asks parts (ToBoard count) = (word : List ℕ) × (parts ≡ codes "toboard" ∷ word ∷ []) × IsCountWord word count
-Asks parts (ToHost count) = (word : List ℕ) × (parts ≡ codes "tohost" ∷ word ∷ []) × IsCountWord word count
+    (first : List ℕ) × (second : List ℕ) × (parts ≡ verb_text verb.Change ∷ first ∷ second ∷ []) × IsSquareWord first square × IsPieceWord second piece
+Asks parts (ClockRead clock) = (word : List ℕ) × (parts ≡ verb_text verb.Clock ∷ word ∷ []) × IsClockWord word clock
+Asks parts (Host command) = (word : List ℕ) × (parts ≡ verb_text verb.Host ∷ word ∷ []) × IsCommandWord word command
+Asks parts BoardSend = parts ≡ verb_text verb.Send ∷ []
+Asks parts (ToBoard count) = (word : List ℕ) × (parts ≡ verb_text verb.ToBoard ∷ word ∷ []) × IsCountWord word count
+Asks parts (ToHost count) = (word : List ℕ) × (parts ≡ verb_text verb.ToHost ∷ word ∷ []) × IsCountWord word count
 
 -- this line asks for this act
 abbrev pub IsAsked : List ℕ → ActContent → Type 0
@@ -50,16 +50,7 @@ IsOf a_clock word = (clock : ClockState) × IsClockWord word clock
 IsOf a_command word = (command : CommandContent) × IsCommandWord word command
 IsOf a_count word = (count : ℕ) × IsCountWord word count
 
--- the words that a line may begin with
-abbrev pub verb_text : Verb → List ℕ
-verb_text verb.Change = codes "change"
-verb_text verb.Clock = codes "clock"
-verb_text verb.Host = codes "host"
-verb_text verb.Send = codes "send"
-verb_text verb.ToBoard = codes "toboard"
-verb_text verb.ToHost = codes "tohost"
-
--- what has to follow them, word for word
+-- what has to follow a first word, word for word
 abbrev pub kinds_after : Verb → List Kind
 kinds_after verb.Change = a_square ∷ a_letter ∷ []
 kinds_after verb.Clock = a_clock ∷ []

@@ -3,11 +3,11 @@ use Rattle.std.specs.Prelude.{◌≡◌, ℕ, List, [], ◌∷◌, length, Optio
 use Rattle.std.specs.Borrow.{Bor}
 use Rattle.dgt_link.specs.declared.acts.Act.{Act}
 use Rattle.dgt_link.specs.Act.{act_content}
-use Rattle.dgt_text.specs.declared.script.Verb.{Verb}
+use Rattle.dgt_text.specs.declared.script_words.Verb.{Verb}
 use Rattle.dgt_text.specs.declared.script.Wrong.{Wrong}
 use Rattle.dgt_text.specs.Lines.{words_text}
-use Rattle.dgt_text.specs.Script.{Asks, GoesWrong, IsBadFrom, Kind, a_count, kinds_after, verb_text, words}
-use Rattle.dgt_text.specs.ScriptWords.{IsCountWord}
+use Rattle.dgt_text.specs.Script.{Asks, GoesWrong, IsBadFrom, Kind, a_count, kinds_after, words}
+use Rattle.dgt_text.specs.ScriptWords.{verb_text, IsCountWord}
 
 -- the words that are left, where this is what stands behind the last space
 abbrev pub left_words : Option (Bor (List ℕ)) → List (List ℕ)

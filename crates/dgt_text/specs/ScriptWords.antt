@@ -1,5 +1,5 @@
 -- The words of a script line, and what each one stands for.
-use Rattle.std.specs.Prelude.{◌≡◌, ℕ, ◌<◌, ◌≤◌, List, [], ◌∷◌, Ok, decimal}
+use Rattle.std.specs.Prelude.{◌≡◌, ℕ, ◌<◌, ◌≤◌, List, [], ◌∷◌, Ok, codes, decimal}
 use Rattle.hex.specs.Hex.{decode_of}
 use Rattle.dgt_values.specs.declared.pieces.Piece.{Piece}
 use Rattle.dgt_values.specs.Piece.{piece_letter}
@@ -11,6 +11,21 @@ use Rattle.dgt_message.specs.Content.{Content}
 use Rattle.dgt_message.specs.Spelling.{Fits}
 use Rattle.dgt_command.specs.Content.{CommandContent}
 use Rattle.dgt_command.specs.Words.{Spells}
+use Rattle.dgt_text.specs.declared.script_words.Verb.{Verb}
+use Rattle.dgt_text.specs.declared.script_words.Verb.TheVariants as verb
+
+-- ---- The first word
+
+-- the words that a line may begin with
+abbrev pub verb_text : Verb → List ℕ
+verb_text verb.Change = codes "change"
+verb_text verb.Clock = codes "clock"
+verb_text verb.Host = codes "host"
+verb_text verb.Send = codes "send"
+verb_text verb.ToBoard = codes "toboard"
+verb_text verb.ToHost = codes "tohost"
+
+-- ---- The words behind it
 
 -- the name of the square
 abbrev pub IsSquareWord : List ℕ → ℕ → Type 0

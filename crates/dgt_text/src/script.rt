@@ -1,16 +1,17 @@
 //! The lines of a script.
 
-ghost use Rattle.std.specs.Prelude.{◌≡◌, ◌≢◌, [], ◌∷◌, length, IfOk, IfErr, MatchOption, MatchResult};
+ghost use Rattle.std.specs.Prelude.{◌≡◌, [], ◌∷◌, length, IfOk, IfErr, MatchResult};
 ghost use Rattle.dgt_link.specs.Act.{act_content};
 ghost use Rattle.dgt_text.specs.Lines.{words_text};
-ghost use Rattle.dgt_text.specs.Script.{bad_offset, verb_text, words, IsAsked, IsBadAt};
+ghost use Rattle.dgt_text.specs.Script.{bad_offset, words, IsAsked, IsBadAt};
 ghost use Rattle.dgt_text.specs.ScriptReading.{left_words, GoesWrongBefore, Reads, ReadsCount, ReadsLine};
-ghost use Rattle.dgt_text.specs.declared.script.Verb.{Verb};
-ghost use Rattle.dgt_text.specs.declared.script.Verb.TheVariants as verb;
+ghost use Rattle.dgt_text.specs.declared.script_words.Verb.TheVariants as verb;
 
 use crate::cutting::len_before;
 use crate::script_lines::MAX_LINE;
-use crate::script_words::{clock_word, command_word, count_word, piece_word, square_word};
+use crate::script_words::{
+    Verb, clock_word, command_word, count_word, piece_word, square_word, verb_word,
+};
 use dgt_link::Act;
 use thiserror::Error;
 
@@ -21,17 +22,6 @@ pub enum LineFault {
     /// and `at` is the length of the line; or the line has more than 519 bytes, and `at` is 519.
     #[error("bad at {at}")]
     BadLine { at: usize },
-}
-
-// The words that a line may begin with.
-#[derive(Clone, Copy)]
-enum Verb {
-    Change,
-    Clock,
-    Host,
-    Send,
-    ToBoard,
-    ToHost,
 }
 
 // Where a line goes wrong: so many of its bytes are left.
@@ -85,20 +75,6 @@ fn read_words<'a>(line: &[u8], store: &'a mut [u8; 257]) -> Result<Act<'a>, Wron
         Verb::Send => send_line(rest),
         Verb::ToBoard => Ok(Act::ToBoard(count_line(rest)?)),
         Verb::ToHost => Ok(Act::ToHost(count_line(rest)?)),
-    }
-}
-
-fn verb_word(word: &[u8]) -> Option<Verb>
-    ensures { MatchOption result ((verb : Verb) → word.now ≢ verb_text verb) (λ verb. word.now ≡ verb_text verb) }
-{
-    match word {
-        b"change" => Some(Verb::Change),
-        b"clock" => Some(Verb::Clock),
-        b"host" => Some(Verb::Host),
-        b"send" => Some(Verb::Send),
-        b"toboard" => Some(Verb::ToBoard),
-        b"tohost" => Some(Verb::ToHost),
-        _ => None,
     }
 }
 

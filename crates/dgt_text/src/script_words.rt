@@ -1,17 +1,44 @@
-//! The words of a script line: squares, pieces, clocks, commands and counts.
+//! The words of a script line: the first one, and squares, pieces, clocks, commands and counts.
 
-ghost use Rattle.std.specs.Prelude.{◌≡◌, ℕ, MatchOption};
+ghost use Rattle.std.specs.Prelude.{◌≡◌, ◌≢◌, ℕ, MatchOption};
 ghost use Rattle.dgt_values.specs.declared.pieces.Piece.{Piece};
 ghost use Rattle.dgt_values.specs.Square.{square_number};
 ghost use Rattle.dgt_message.specs.ClockState.{clock_seen, ClockState};
 ghost use Rattle.dgt_message.specs.Content.{content};
 ghost use Rattle.dgt_command.specs.Content.{command_content, CommandContent};
-ghost use Rattle.dgt_text.specs.ScriptWords.{IsClockWord, IsCommandWord, IsCountWord, IsPieceWord, IsSquareWord, Tells};
+ghost use Rattle.dgt_text.specs.ScriptWords.{verb_text, IsClockWord, IsCommandWord, IsCountWord, IsPieceWord, IsSquareWord, Tells};
+ghost use Rattle.dgt_text.specs.declared.script_words.Verb.{Verb};
 
 use dgt_command::{Command, view_command};
 use dgt_message::{Clock, KnownCode, Message, view};
 use dgt_values::{Body, Piece, SevenBit, Square};
 use hex::FromHex;
+
+/// The words that a line may begin with.
+#[derive(Clone, Copy)]
+pub(crate) enum Verb {
+    Change,
+    Clock,
+    Host,
+    Send,
+    ToBoard,
+    ToHost,
+}
+
+/// What a first word begins.
+pub(crate) fn verb_word(word: &[u8]) -> Option<Verb>
+    ensures { MatchOption result ((verb : Verb) → word.now ≢ verb_text verb) (λ verb. word.now ≡ verb_text verb) }
+{
+    match word {
+        b"change" => Some(Verb::Change),
+        b"clock" => Some(Verb::Clock),
+        b"host" => Some(Verb::Host),
+        b"send" => Some(Verb::Send),
+        b"toboard" => Some(Verb::ToBoard),
+        b"tohost" => Some(Verb::ToHost),
+        _ => None,
+    }
+}
 
 /// The square of a name such as `e4`.
 pub(crate) fn square_word(word: &[u8]) -> Option<Square>
