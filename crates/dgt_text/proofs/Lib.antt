@@ -6,6 +6,7 @@ pub mod HexLemmas
 pub mod LineLemmas
 pub mod PieceLemmas
 pub mod RunLemmas
+pub mod TurnLemmas
 pub mod TextLemmas
 pub mod ConversationLemmas
 pub mod ServingLemmas

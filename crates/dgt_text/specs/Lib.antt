@@ -3,6 +3,7 @@ pub mod Device
 pub mod Lines
 pub mod Wording
 pub mod Runs
+pub mod Turns
 pub mod FaultText
 pub mod Gathering
 pub mod Monitoring

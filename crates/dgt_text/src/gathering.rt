@@ -82,7 +82,8 @@ impl<const ROOM: usize> Outgoing<ROOM> {
     /// Writes what was gathered, unless there is room for a line behind it.
     pub fn make_room<W: Sink>(&mut self, writer: &mut W) -> Result<(), RunFault>
         requires { LINE_ROOM ≤ ROOM }
-        ensures output { Gathers W.written W.failed W.late self.old self.new writer.old writer.new result [] }
+        ensures output { Gathers W.written W.failed W.late self.old self.new writer.old writer.new
+            result [] }
         ensures room { OnOk result (length self.new + LINE_ROOM ≤ ROOM) }
         ensures no_flush { W.flushed writer.old ≡ false → W.flushed writer.new ≡ false }
     {
@@ -94,7 +95,8 @@ impl<const ROOM: usize> Outgoing<ROOM> {
 
     /// Adds these bytes. Where there is no room for them, what was gathered is written first.
     pub fn add<W: Sink>(&mut self, writer: &mut W, bytes: &[u8]) -> Result<(), RunFault>
-        ensures output { Gathers W.written W.failed W.late self.old self.new writer.old writer.new result bytes.now }
+        ensures output { Gathers W.written W.failed W.late self.old self.new writer.old writer.new
+            result bytes.now }
         ensures no_flush { W.flushed writer.old ≡ false → W.flushed writer.new ≡ false }
         ensures waits { OnOk result (bytes.now ≢ [] → Waits self.new (W.flushed writer.new)) }
     {

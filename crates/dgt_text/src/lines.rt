@@ -63,8 +63,8 @@ fn put_bytes<W: Sink, const ROOM: usize>(
     writer: &mut W,
     bytes: &[u8],
 ) -> Result<(), RunFault>
-    ensures output { Gathers W.written W.failed W.late outgoing.old outgoing.new writer.old writer.new
-        result (bytes_text bytes.now) }
+    ensures output { Gathers W.written W.failed W.late outgoing.old outgoing.new writer.old
+        writer.new result (bytes_text bytes.now) }
     ensures no_flush { W.flushed writer.old ≡ false → W.flushed writer.new ≡ false }
 {
     if bytes.is_empty() {
@@ -78,8 +78,8 @@ fn put_digits<W: Sink, const ROOM: usize>(
     writer: &mut W,
     bytes: &[u8],
 ) -> Result<(), RunFault>
-    ensures output { Gathers W.written W.failed W.late outgoing.old outgoing.new writer.old writer.new
-        result (encode_lower bytes.now) }
+    ensures output { Gathers W.written W.failed W.late outgoing.old outgoing.new writer.old
+        writer.new result (encode_lower bytes.now) }
     ensures no_flush { W.flushed writer.old ≡ false → W.flushed writer.new ≡ false }
 {
     let mut at = 0;
@@ -98,8 +98,8 @@ fn put_part<W: Sink, const ROOM: usize>(
     part: &[u8],
 ) -> Result<(), RunFault>
     requires { length part.now ≤ PART }
-    ensures output { Gathers W.written W.failed W.late outgoing.old outgoing.new writer.old writer.new
-        result (encode_lower part.now) }
+    ensures output { Gathers W.written W.failed W.late outgoing.old outgoing.new writer.old
+        writer.new result (encode_lower part.now) }
     ensures no_flush { W.flushed writer.old ≡ false → W.flushed writer.new ≡ false }
 {
     let mut digits = [0; 2 * PART];
@@ -116,8 +116,8 @@ pub(crate) fn put_event<W: Sink, const ROOM: usize>(
     event: &Event<'_>,
 ) -> Result<(), RunFault>
     requires { LINE_ROOM ≤ ROOM }
-    ensures output { Gathers W.written W.failed W.late outgoing.old outgoing.new writer.old writer.new
-        result (event_line offset (event_content event.now)) }
+    ensures output { Gathers W.written W.failed W.late outgoing.old outgoing.new writer.old
+        writer.new result (event_line offset (event_content event.now)) }
     ensures no_flush { W.flushed writer.old ≡ false → W.flushed writer.new ≡ false }
     ensures waits { OnOk result (Waits outgoing.new (W.flushed writer.new)) }
 {

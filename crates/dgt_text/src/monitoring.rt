@@ -1,11 +1,11 @@
 //! The engine that tells what comes.
 
-ghost use Rattle.std.specs.Prelude.{false, ◌≡◌, ◌≢◌, ◌+◌, ◌^◌, ◌<◌, ◌≤◌, [], ◌++◌, length, IsTrue, OnOk};
-ghost use Rattle.std.specs.Io.KnownBytes.{IsAtEnd};
+ghost use Rattle.std.specs.Prelude.{◌≡◌, ◌+◌, ◌^◌, ◌<◌, ◌≤◌, [], ◌++◌, length, IsTrue, OnOk};
 ghost use Rattle.dgt_decode.specs.Grammar.{open_message};
 ghost use Rattle.dgt_text.specs.Lines.{unfinished_line};
 ghost use Rattle.dgt_text.specs.Monitoring.{lines_after, IsMonitored};
-ghost use Rattle.dgt_text.specs.Runs.{sink_mark_after, source_mark_after, Ran, Writes};
+ghost use Rattle.dgt_text.specs.Runs.{Ran, Writes};
+ghost use Rattle.dgt_text.specs.Turns.{RunsInTurns};
 
 use crate::ends::{MAX_PIECE, Sink, Source};
 use crate::faults::RunFault;
@@ -77,31 +77,10 @@ pub fn monitor<R: Source, W: Sink>(
     // what was read, and what was written of it
     ensures output { Ran R.left W.written reader.old reader.new writer.old writer.new limit result
         (IsMonitored result) }
-    ensures all_read { OnOk result (IsAtEnd (R.left reader.new)) }
 
-    // a fault comes with its mark, and every other answer without it
-    ensures source_failed { R.failed reader.new ≡ source_mark_after result (R.failed reader.old) }
-    ensures sink_failed { W.failed writer.new ≡ sink_mark_after result (W.failed writer.old) }
-
-    // no call comes after one that was refused, and no read after the end
-    ensures source_in_time { R.failed reader.old ≡ false → R.ended reader.old ≡ false →
-        R.late reader.new ≡ R.late reader.old }
-    ensures sink_in_time { W.failed writer.old ≡ false → W.late writer.new ≡ W.late writer.old }
-
-    // Ok comes at the end, and TooManyTurns before it
-    ensures ended { OnOk result (IsTrue (R.ended reader.new)) }
-    ensures not_ended { result ≡ Err RunFault.TooManyTurns →
-        R.ended reader.new ≡ R.ended reader.old }
-
-    // there are at most `limit` reads, and as many where they are too many
-    ensures turns { R.reads reader.old + limit < 2 ^ 64 →
-        R.reads reader.new ≤ R.reads reader.old + limit }
-    ensures all_turns { result ≡ Err RunFault.TooManyTurns → R.reads reader.old + limit < 2 ^ 64 →
-        R.reads reader.new ≡ R.reads reader.old + limit }
-
-    // nothing is left to flush
-    ensures flushed { IsTrue (W.flushed writer.old) → result ≢ Err RunFault.WriteFailed →
-        IsTrue (W.flushed writer.new) }
+    // how often it reads, when it stops, and which marks it leaves
+    ensures in_turns { RunsInTurns R.Source W.Sink reader.old reader.new writer.old writer.new limit
+        result }
 {
     laws::events_append();
     laws::open_append();

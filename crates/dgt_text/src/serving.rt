@@ -1,9 +1,9 @@
 //! The engine that answers for a board.
 
-ghost use Rattle.std.specs.Prelude.{false, ◌≡◌, ◌≢◌, ◌+◌, ◌^◌, ◌<◌, ◌≤◌, [], IsTrue, OnOk};
-ghost use Rattle.std.specs.Io.KnownBytes.{IsAtEnd};
-ghost use Rattle.dgt_text.specs.Runs.{sink_mark_after, source_mark_after, Ran};
+ghost use Rattle.std.specs.Prelude.{[], IsTrue, OnOk};
+ghost use Rattle.dgt_text.specs.Runs.{Ran};
 ghost use Rattle.dgt_text.specs.Serving.{IsServed, Serves};
+ghost use Rattle.dgt_text.specs.Turns.{RunsInTurns};
 
 use crate::ends::{MAX_PIECE, Sink, Source};
 use crate::faults::RunFault;
@@ -29,8 +29,8 @@ fn send_all<W: Sink>(board: &mut Board, writer: &mut W) -> Result<(), RunFault>
 // The board sends until it owes nothing, and again after each command or fault of `piece`. Then the sink is
 // flushed.
 fn answer<W: Sink>(board: &mut Board, piece: &[u8], writer: &mut W) -> Result<(), RunFault>
-    ensures served { Serves W.written W.failed W.late board.old board.new writer.old writer.new result
-        piece.now }
+    ensures served { Serves W.written W.failed W.late board.old board.new writer.old writer.new
+        result piece.now }
     ensures flushed { OnOk result (IsTrue (W.flushed writer.new)) }
 {
     laws::divisions_append();
@@ -66,31 +66,10 @@ pub fn serve<R: Source, W: Sink>(
     // what was read, what was written of it, and how the board answers
     ensures output { Ran R.left W.written reader.old reader.new writer.old writer.new limit result
         (IsServed result board.old board.new) }
-    ensures all_read { OnOk result (IsAtEnd (R.left reader.new)) }
 
-    // a fault comes with its mark, and every other answer without it
-    ensures source_failed { R.failed reader.new ≡ source_mark_after result (R.failed reader.old) }
-    ensures sink_failed { W.failed writer.new ≡ sink_mark_after result (W.failed writer.old) }
-
-    // no call comes after one that was refused, and no read after the end
-    ensures source_in_time { R.failed reader.old ≡ false → R.ended reader.old ≡ false →
-        R.late reader.new ≡ R.late reader.old }
-    ensures sink_in_time { W.failed writer.old ≡ false → W.late writer.new ≡ W.late writer.old }
-
-    // Ok comes at the end, and TooManyTurns before it
-    ensures ended { OnOk result (IsTrue (R.ended reader.new)) }
-    ensures not_ended { result ≡ Err RunFault.TooManyTurns →
-        R.ended reader.new ≡ R.ended reader.old }
-
-    // there are at most `limit` reads, and as many where they are too many
-    ensures turns { R.reads reader.old + limit < 2 ^ 64 →
-        R.reads reader.new ≤ R.reads reader.old + limit }
-    ensures all_turns { result ≡ Err RunFault.TooManyTurns → R.reads reader.old + limit < 2 ^ 64 →
-        R.reads reader.new ≡ R.reads reader.old + limit }
-
-    // nothing is left to flush
-    ensures flushed { IsTrue (W.flushed writer.old) → result ≢ Err RunFault.WriteFailed →
-        IsTrue (W.flushed writer.new) }
+    // how often it reads, when it stops, and which marks it leaves
+    ensures in_turns { RunsInTurns R.Source W.Sink reader.old reader.new writer.old writer.new limit
+        result }
 {
     laws::divisions_append();
     answer(board, &[], writer)?;

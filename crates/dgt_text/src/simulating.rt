@@ -1,12 +1,13 @@
 //! The engine that plays a script.
 
 ghost use Rattle.std.specs.Prelude.{◌≡◌, ◌≢◌, ◌+◌, ◌^◌, ◌<◌, ◌≤◌, ◌↔◌, ◌⊎◌, ◌∷◌, ◌++◌, [], ℕ, Bool, false, List, length, IfErr, IsTrue, OnOk};
-ghost use Rattle.std.specs.Io.KnownBytes.{Appends, IsAtEnd};
+ghost use Rattle.std.specs.Io.KnownBytes.{Appends};
 ghost use Rattle.dgt_link.specs.View.{IsQuietWorld};
 ghost use Rattle.dgt_text.specs.Closing.{closing_lines};
-ghost use Rattle.dgt_text.specs.Runs.{Ran, Writes, sink_mark_after, source_mark_after};
+ghost use Rattle.dgt_text.specs.Runs.{Ran, Writes, sink_mark_after};
 ghost use Rattle.dgt_text.specs.ScriptLines.{HasNoFeed, Keeps};
 ghost use Rattle.dgt_text.specs.Simulating.{BeginsWith, IsOfLine, IsSimulated, IsSimulatedFrom, PlaysLine, PlaysPiece, TellsPicture, Took};
+ghost use Rattle.dgt_text.specs.Turns.{RunsInTurns};
 
 use crate::closing::{outcome_text, put_closing};
 use crate::cutting::len_before;
@@ -21,7 +22,8 @@ use dgt_link::World;
 // Flushes, and then refuses a line.
 fn refuse<W: Sink>(writer: &mut W, line: u64, at: usize) -> Result<(), RunFault>
     ensures bytes { Appends (W.written writer.old) (W.written writer.new) [] }
-    ensures refused { (result ≡ Err (RunFault.BadLine line at)) ⊎ (result ≡ Err RunFault.WriteFailed) }
+    ensures refused { (result ≡ Err (RunFault.BadLine line at))
+        ⊎ (result ≡ Err RunFault.WriteFailed) }
     ensures sink_failed { W.failed writer.new ≡ sink_mark_after result (W.failed writer.old) }
     ensures in_time { W.failed writer.old ≡ false → W.late writer.new ≡ W.late writer.old }
     ensures flushed { IfErr result (λ fault. fault ≢ RunFault.WriteFailed →
@@ -39,7 +41,9 @@ fn play_line<W: Sink>(
     writer: &mut W,
 ) -> Result<(), RunFault>
     ensures played { (at_end : Bool) (whole bytes : List ℕ) → Keeps line.now whole
-        → BeginsWith at_end bytes (whole ∷ []) → PlaysLine W.written at_end world.old world.new writer.old writer.new result number whole bytes }
+        → BeginsWith at_end bytes (whole ∷ [])
+        → PlaysLine W.written at_end world.old world.new writer.old writer.new result number whole
+        bytes }
     ensures faults { IfErr result IsOfLine }
     ensures sink_failed { W.failed writer.new ≡ sink_mark_after result (W.failed writer.old) }
     ensures in_time { W.failed writer.old ≡ false → W.late writer.new ≡ W.late writer.old }
@@ -94,7 +98,8 @@ fn play_piece<W: Sink>(
 // Writes the closing lines, and flushes.
 fn write_closing<W: Sink>(world: &World, writer: &mut W) -> Result<(), RunFault>
     ensures output { (quiet : Bool) × (IsTrue quiet ↔ IsQuietWorld world.now)
-        × Writes W.written W.failed W.late writer.old writer.new result (closing_lines world.now quiet) }
+        × Writes W.written W.failed W.late writer.old writer.new result
+        (closing_lines world.now quiet) }
     ensures flushed { OnOk result (IsTrue (W.flushed writer.new)) }
 {
     let mut outgoing = Outgoing::new();
@@ -147,36 +152,15 @@ pub fn simulate<R: Source, W: Sink>(
     // what was read, what was written of it, and which world is left
     ensures output { Ran R.left W.written reader.old reader.new writer.old writer.new limit result
         (IsSimulated (R.ended reader.new) result world.old world.new) }
-    ensures all_read { OnOk result (IsAtEnd (R.left reader.new)) }
 
-    // where updates and a dump were asked for, and the last line tells that all is quiet, the lines of
-    // board and host tell one placement
+    // where updates and a dump were asked for, and the last line tells that all is quiet, the lines
+    // of board and host tell one placement
     ensures picture { Ran R.left W.written reader.old reader.new writer.old writer.new limit result
         (λ _ out. OnOk result (TellsPicture world.new out)) }
 
-    // a fault comes with its mark, and every other answer without it
-    ensures source_failed { R.failed reader.new ≡ source_mark_after result (R.failed reader.old) }
-    ensures sink_failed { W.failed writer.new ≡ sink_mark_after result (W.failed writer.old) }
-
-    // no call comes after one that was refused, and no read after the end
-    ensures source_in_time { R.failed reader.old ≡ false → R.ended reader.old ≡ false →
-        R.late reader.new ≡ R.late reader.old }
-    ensures sink_in_time { W.failed writer.old ≡ false → W.late writer.new ≡ W.late writer.old }
-
-    // Ok comes at the end, and TooManyTurns before it
-    ensures ended { OnOk result (IsTrue (R.ended reader.new)) }
-    ensures not_ended { result ≡ Err RunFault.TooManyTurns →
-        R.ended reader.new ≡ R.ended reader.old }
-
-    // there are at most `limit` reads, and as many where they are too many
-    ensures turns { R.reads reader.old + limit < 2 ^ 64 →
-        R.reads reader.new ≤ R.reads reader.old + limit }
-    ensures all_turns { result ≡ Err RunFault.TooManyTurns → R.reads reader.old + limit < 2 ^ 64 →
-        R.reads reader.new ≡ R.reads reader.old + limit }
-
-    // nothing is left to flush
-    ensures flushed { IsTrue (W.flushed writer.old) → result ≢ Err RunFault.WriteFailed →
-        IsTrue (W.flushed writer.new) }
+    // how often it reads, when it stops, and which marks it leaves
+    ensures in_turns { RunsInTurns R.Source W.Sink reader.old reader.new writer.old writer.new limit
+        result }
 {
     laws::closing_lines_agree();
     dgt_link::laws::at_quiet_world();

@@ -1,6 +1,7 @@
-use Rattle.std.proofs.Common.{arith, refl, ◌∙◌}
+use Rattle.std.proofs.Common.{arith}
 use Rattle.std.proofs.lemmas.List.{length-take-le}
 use Rattle.dgt_text.proofs.RunLemmas.{stopped_after}
+use Rattle.dgt_text.proofs.TurnLemmas.{no_turn, next_read}
 use Rattle.dgt_text.proofs.Heard.{heard_none, open_new, heard_bound, heard_more, heard_stopped, heard_end}
 use Rattle.dgt_text.proofs.monitoring.monitor.Goals as goal
 
@@ -10,11 +11,7 @@ loop-init g c = record {
   each = omega arith;
   empty = c.new-outgoing.ensures;
   short = omega arith;
-  not_failed = refl;
-  not_ended = refl;
-  source_in_time = λ _ _. refl;
-  turns = λ _. omega arith;
-  flushed = λ h. h;
+  in_turns = no_turn _ _;
 }
 
 pub returns-then-given-eq0-clause-output : goal.returns-then-given-eq0-clause-output
@@ -38,9 +35,6 @@ loop-preserved g c = record {
   each = let k = c.loop.invariant.each in let some = c.if-given-eq0.false in omega arith;
   empty = c.in_ok-write_lines.ensures.empty;
   short = omega (arith, c.in-Ok.ensures.bound, c.read_some.auto.buffer);
-  not_failed = c.in-Ok.ensures.not_refused ∙ c.loop.invariant.not_failed;
-  not_ended = c.in-Ok.ensures.no_end (λ h. c.if-given-eq0.false h.0) ∙ c.loop.invariant.not_ended;
-  source_in_time = λ f e. c.in-Ok.ensures.in_time (c.loop.invariant.not_failed ∙ f) (c.loop.invariant.not_ended ∙ e) ∙ c.loop.invariant.source_in_time f e;
-  turns = λ room. let e = c.loop.invariant.turns room in let n = c.in-Ok.ensures.counted in let k = c.loop-test.true in omega arith;
-  flushed = λ _. c.in_ok-flush.ensures.flushed;
+  in_turns = next_read c.loop.invariant.in_turns c.loop-test.true c.in-Ok.ensures.not_refused (c.in-Ok.ensures.no_end (λ h. c.if-given-eq0.false h.0)) c.in-Ok.ensures.counted c.in-Ok.ensures.in_time
+      c.in_ok-write_lines.ensures.output.kept c.in_ok-write_lines.ensures.output.in_time c.in_ok-flush.ensures.output c.in_ok-flush.ensures.flushed;
 }

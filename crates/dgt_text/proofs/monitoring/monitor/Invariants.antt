@@ -1,6 +1,7 @@
-use Rattle.std.proofs.Common.{◌≡◌, ◌≤◌, ◌<◌, ◌+◌, ◌*◌, ◌^◌, [], IsTrue, false}
+use Rattle.std.proofs.Common.{◌≡◌, ◌≤◌, ◌*◌, []}
 use Rattle.dgt_decode.specs.Grammar.{open_message}
 use Rattle.dgt_text.proofs.Heard.{Heard}
+use Rattle.dgt_text.proofs.TurnLemmas.{BetweenReads}
 use Rattle.dgt_text.proofs.monitoring.monitor.Given as goal
 
 abbrev pub invariant-loop : goal.invariant-loop
@@ -9,9 +10,5 @@ invariant-loop g l = record {
   each : l.counter ≤ l.offset;
   empty : l.outgoing ≡ [];
   short : l.offset ≤ 4096 * l.counter;
-  not_failed : g.R.Source.failed l.reader ≡ g.R.Source.failed l.fn.reader;
-  not_ended : g.R.Source.ended l.reader ≡ g.R.Source.ended l.fn.reader;
-  source_in_time : g.R.Source.failed l.fn.reader ≡ false → g.R.Source.ended l.fn.reader ≡ false → g.R.Source.late l.reader ≡ g.R.Source.late l.fn.reader;
-  turns : g.R.Source.reads l.fn.reader + l.fn.limit < 2 ^ 64 → g.R.Source.reads l.reader ≡ g.R.Source.reads l.fn.reader + l.counter;
-  flushed : IsTrue (g.W.Sink.flushed l.fn.writer) → IsTrue (g.W.Sink.flushed l.writer);
+  in_turns : BetweenReads g.R.Source g.W.Sink l.fn.reader l.reader l.fn.writer l.writer l.counter l.fn.limit;
 }

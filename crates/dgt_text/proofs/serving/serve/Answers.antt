@@ -1,7 +1,8 @@
-use Rattle.std.proofs.Common.{◌∙◌, [], arith}
+use Rattle.std.proofs.Common.{[], refl}
 use Rattle.std.proofs.KnownBytes.{Consumes-nil}
 use Rattle.dgt_text.proofs.RunLemmas.{piece_some}
 use Rattle.dgt_text.proofs.ServingLemmas.{talked_more, talked_stops, halted_run}
+use Rattle.dgt_text.proofs.TurnLemmas.{next_read}
 use Rattle.dgt_text.proofs.serving.serve.Goals as goal
 
 pub returns-in_err-answer-clause-output : goal.returns-in_err-answer-clause-output
@@ -17,9 +18,6 @@ pub loop-preserved : goal.loop-preserved
 loop-preserved g c = record {
   talked = talked_more g.R.Source.left g.W.Sink.written g.W.Sink.failed g.W.Sink.late c.divisions_append.ensures _ _ _ _ _ _ _ _ _ _ _ c.loop.invariant.talked c.in-Ok.ensures.bytes.0
       (piece_some c.in-Ok.given c.read_some.new.buffer c.in-Ok.ensures.bound c.if-given-eq0.false) c.in_ok-answer-2.ensures.served;
-  not_failed = c.in-Ok.ensures.not_refused ∙ c.loop.invariant.not_failed;
-  not_ended = c.in-Ok.ensures.no_end (λ h. c.if-given-eq0.false h.0) ∙ c.loop.invariant.not_ended;
-  source_in_time = λ f e. c.in-Ok.ensures.in_time (c.loop.invariant.not_failed ∙ f) (c.loop.invariant.not_ended ∙ e) ∙ c.loop.invariant.source_in_time f e;
-  turns = λ room. let e = c.loop.invariant.turns room in let n = c.in-Ok.ensures.counted in let k = c.loop-test.true in omega arith;
-  flushed = c.in_ok-answer-2.ensures.flushed;
+  in_turns = next_read c.loop.invariant.in_turns c.loop-test.true c.in-Ok.ensures.not_refused (c.in-Ok.ensures.no_end (λ h. c.if-given-eq0.false h.0)) c.in-Ok.ensures.counted c.in-Ok.ensures.in_time
+      refl (λ _. refl) c.in_ok-answer-2.ensures.served.wrote c.in_ok-answer-2.ensures.flushed;
 }

@@ -1,20 +1,15 @@
-use Rattle.std.proofs.Common.{arith, refl, true, ◌∙◌, [], append-nil}
+use Rattle.std.proofs.Common.{arith, true, [], append-nil}
 use Rattle.std.proofs.lemmas.List.{length-take-le}
 use Rattle.dgt_text.proofs.RunLemmas.{piece_some}
 use Rattle.dgt_text.proofs.ScriptRuns.{scripted_none, scripted_more, scripted_flushed, scripted_ends, scripted_stops, scripted_unflushed, simulated_pictures}
+use Rattle.dgt_text.proofs.TurnLemmas.{no_turn, next_read}
 use Rattle.dgt_text.proofs.simulating.simulate.Goals as goal
 
 pub loop-init : goal.loop-init
 loop-init g c = record {
   scripted = scripted_none g.R.Source.left g.W.Sink.written _ _ _ _ c.new-line.ensures;
   short = omega arith;
-  not_failed = refl;
-  written = refl;
-  not_ended = refl;
-  source_in_time = λ _ _. refl;
-  sink_in_time = λ _. refl;
-  turns = λ _. omega arith;
-  flushed = λ h. h;
+  in_turns = no_turn _ _;
 }
 
 pub loop-preserved : goal.loop-preserved
@@ -25,13 +20,8 @@ loop-preserved g c =
           (scripted_more g.R.Source.left g.W.Sink.written _ _ _ _ _ _ _ _ _ _ _ _ _ _ _ q c.in-Ok.ensures.bytes.0 (piece_some c.in-Ok.given c.read_some.new.buffer c.in-Ok.ensures.bound c.if-given-eq0.false) (c.in_ok-play_piece.ensures.played true q.plays.rest q.plays.kept q.plays.cut.last))
           c.in_ok-flush.ensures.output.appends;
       short = omega (arith, c.in-Ok.ensures.bound, c.read_some.auto.buffer, c.in_ok-play_piece.ensures.counted);
-      not_failed = c.in-Ok.ensures.not_refused ∙ c.loop.invariant.not_failed;
-      written = rw (c.in_ok-flush.ensures.output.kept, c.in_ok-play_piece.ensures.sink_failed) c.loop.invariant.written;
-      not_ended = c.in-Ok.ensures.no_end (λ h. c.if-given-eq0.false h.0) ∙ c.loop.invariant.not_ended;
-      source_in_time = λ f e. c.in-Ok.ensures.in_time (c.loop.invariant.not_failed ∙ f) (c.loop.invariant.not_ended ∙ e) ∙ c.loop.invariant.source_in_time f e;
-      sink_in_time = λ h. let before = c.loop.invariant.written ∙ h in c.in_ok-flush.ensures.output.in_time (c.in_ok-play_piece.ensures.sink_failed ∙ before) ∙ c.in_ok-play_piece.ensures.in_time before ∙ c.loop.invariant.sink_in_time h;
-      turns = λ room. let e = c.loop.invariant.turns room in let n = c.in-Ok.ensures.counted in let k = c.loop-test.true in omega arith;
-      flushed = λ _. c.in_ok-flush.ensures.flushed;
+      in_turns = next_read c.loop.invariant.in_turns c.loop-test.true c.in-Ok.ensures.not_refused (c.in-Ok.ensures.no_end (λ h. c.if-given-eq0.false h.0)) c.in-Ok.ensures.counted c.in-Ok.ensures.in_time
+          c.in_ok-play_piece.ensures.sink_failed c.in_ok-play_piece.ensures.in_time c.in_ok-flush.ensures.output c.in_ok-flush.ensures.flushed;
     }
 
 pub returns-then-given-eq0-clause-output : goal.returns-then-given-eq0-clause-output
