@@ -1,21 +1,26 @@
 -- What has been moved out of a line, some bytes at a time.
 use Rattle.std.proofs.Common.{◌≡◌, refl, sym, subst, ap, ◌∙◌, ◌⊎◌, inl, inr, ℕ, ◌+◌, ◌-◌, ◌<◌, ◌≤◌, List, [], ◌∷◌, ◌++◌, Option, Some, None, length, take, drop, get_or, suc, false, IsTrue, IfSome, IfNone, arith, drop-cons, append_assoc}
 use Rattle.std.specs.Prelude.{nat_le}
-use Rattle.std.proofs.Math.Seq.{take-add}
-use Rattle.std.proofs.lemmas.Bool.{lt-leb}
+use Rattle.std.proofs.Math.Seq.{take-add, take-append_seam}
+use Rattle.std.proofs.lemmas.Bool.{le-ltb, lt-leb}
 use Rattle.std.proofs.lemmas.Bool.Decides.{leb_tells}
 use Rattle.std.proofs.lemmas.List.{drop-drop, length-drop, length-take, length-take-le, take-take, take-append-drop, take_all}
+use Rattle.dgt_message.specs.Content.{Content}
+use Rattle.dgt_message.specs.Spelling.{Spells, spelling}
 use Rattle.dgt_command.specs.Content.{EventContent}
 use Rattle.dgt_command.specs.Laws.{DivisionsAppend}
 use Rattle.dgt_command.specs.Words.{IsPartial, IsWord}
+use Rattle.dgt_board.specs.declared.sending.Polled.{Polled}
+use Rattle.dgt_board.specs.Polls.{Polls}
 use Rattle.dgt_board.specs.State.{BoardState}
+use Rattle.dgt_board.specs.Sending.{after_sending}
 use Rattle.dgt_board.specs.Effect.{effect, effects}
 use Rattle.dgt_board.specs.View.{BoardView, HasTaken, after_bytes}
 use Rattle.dgt_host.specs.Host.{HostView, host_after}
 use Rattle.dgt_host.specs.Laws.{HeardInPieces}
-use Rattle.dgt_link.specs.Line.{LineContents, line_of, without_first}
-use Rattle.dgt_link.specs.Moving.{StaysOpen}
-use Rattle.dgt_link.specs.Step.{Delivers, is_full}
+use Rattle.dgt_link.specs.declared.acts.Outcome.{Outcome}
+use Rattle.dgt_link.specs.Line.{LineContents, line_of, overflows, with_bytes, without_first}
+use Rattle.dgt_link.specs.Moving.{Delivers, StaysOpen, is_full, sending_outcome}
 
 left_on : (line now left : LineContents) (i n : ℕ) → now ≡ without_first line i → left ≡ without_first now n → left ≡ without_first line (i + n)
 left_on line now left i n e f =
@@ -32,6 +37,25 @@ front_bytes bytes front k used is within =
     let in_piece : used ≤ k = omega (arith, short, within) in
     let in_front : used ≤ length front = omega (arith, short, within) in
     take-take used k front in_piece ∙ ap (λ (l : List ℕ). take used l) is ∙ take-take used (length front) bytes in_front
+
+-- ---- the board sends
+
+-- what was written at the front
+front_taken : (count : ℕ) (written new old more : List ℕ) → new ≡ written ++ drop count old → count ≡ length written → take count (new ++ more) ≡ written
+front_taken count written new old more e is =
+    ap (λ (l : List ℕ). take count (l ++ more)) e ∙ ap (take count) (append_assoc written (drop count old) more)
+    ∙ ap (λ (n : ℕ). take n (written ++ (drop count old ++ more))) is ∙ take-append_seam written (drop count old ++ more)
+
+-- what is polled into the front of a buffer, for which the line has room, is sent by it
+pub polled_is_sent : (count room : ℕ) (next : Option Content) (before after : BoardView) (line left : LineContents) (old new more : List ℕ) → Polls (Polled.Wrote count) next before after old new → length old ≤ room → room + length line.bytes ≡ line.capacity
+    → left ≡ with_bytes line (take count (new ++ more))
+    → (Outcome.Done ≡ sending_outcome next line)
+    × ((message : Content) × (next ≡ Some message) × Spells message (spelling message) × (after ≡ record before { state = after_sending before.state message }) × (left ≡ with_bytes line (spelling message)))
+polled_is_sent count room None before after line left old new more none short rest e = absurd none
+polled_is_sent count room (Some message) before after line left old new more (is, within, written, spells, state) short holds e =
+    let fits : overflows line (spelling message) ≡ false = le-ltb line.capacity (length line.bytes + length (spelling message)) (omega (arith, is, within, short, holds)) in
+    let same : take count (new ++ more) ≡ spelling message = front_taken count (spelling message) new old more written is in
+    (rw fits refl, (message, refl, spells, state, rw same at e))
 
 -- ---- the board takes
 
@@ -75,13 +99,22 @@ stays : (board : BoardView) (bytes : List ℕ) → length board.state.owed < 8 �
 stays board bytes room part = (after_bytes board bytes None, record { events = []; divided = (refl, part); state = refl }, not_full (length board.state.owed) room)
 
 -- bytes of which only the last may end a word
-pub stays_open : {E : Type 0} (content : E → EventContent) (board : BoardView) (bytes piece : List ℕ) (used : ℕ) (event : Option E) → take used piece ≡ take used bytes → length board.state.owed < 8
-    → IfSome event (λ e. IsWord (content e) (board.partial ++ take used piece)) → IfNone event ((used ≡ length piece) × IsPartial (board.partial ++ piece)) → StaysOpen board (take used bytes)
-stays_open content board bytes piece used (Some e) same room word part =
-    λ fewer some less. stays board (take fewer (take used bytes)) room (word_front (content e) board.partial (take used bytes) fewer less (subst (λ (l : List ℕ). IsWord (content e) (board.partial ++ l)) same word))
-stays_open content board bytes piece used None same room word part =
+front_of_word : {E : Type 0} (content : E → EventContent) (before bytes piece : List ℕ) (used : ℕ) (event : Option E) → take used piece ≡ take used bytes
+    → IfSome event (λ e. IsWord (content e) (before ++ take used piece)) → IfNone event ((used ≡ length piece) × IsPartial (before ++ piece))
+    → (fewer : ℕ) → fewer < length (take used bytes) → IsPartial (before ++ take fewer (take used bytes))
+front_of_word content before bytes piece used (Some e) same word part fewer less =
+    word_front (content e) before (take used bytes) fewer less (subst (λ (l : List ℕ). IsWord (content e) (before ++ l)) same word)
+front_of_word content before bytes piece used None same word part fewer less =
     let whole : piece ≡ take used bytes = sym (take_all used piece (omega (arith, part.0))) ∙ same in
-    λ fewer some less. stays board (take fewer (take used bytes)) room (partial_front board.partial (take used bytes) fewer less (subst (λ (l : List ℕ). IsPartial (board.partial ++ l)) whole part.1))
+    partial_front before (take used bytes) fewer less (subst (λ (l : List ℕ). IsPartial (before ++ l)) whole part.1)
+
+pub stays_open : {E : Type 0} (content : E → EventContent) (board : BoardView) (bytes piece : List ℕ) (used : ℕ) (event : Option E) → take used piece ≡ take used bytes → used ≤ length piece → length board.state.owed < 8
+    → IfSome event (λ e. IsWord (content e) (board.partial ++ take used piece)) → IfNone event ((used ≡ length piece) × IsPartial (board.partial ++ piece)) → StaysOpen board bytes used
+stays_open content board bytes piece used event same within room word part =
+    let long : length (take used bytes) ≡ used = ap length (sym same) ∙ length-take-le used piece within in
+    λ fewer some less. stays board (take fewer bytes) room
+    (subst (λ (l : List ℕ). IsPartial (board.partial ++ l)) (take-take fewer used bytes (omega (arith, less)))
+    (front_of_word content board.partial bytes piece used event same word part fewer (omega (arith, less, long))))
 
 -- the board as it was, or as these bytes left it
 abbrev HasTakenAny : BoardView → List ℕ → ℕ → BoardView → Type 0
@@ -92,7 +125,7 @@ pub record IsTaking (before : BoardView) (line : LineContents) (moved : ℕ) (no
   pub within : moved ≤ length line.bytes
   pub taken : HasTakenAny before line.bytes moved now
   pub left_is : left ≡ without_first line moved
-  pub earlier : (fewer : ℕ) → 0 < fewer → fewer < moved → (board : BoardView) × HasTaken before (take fewer line.bytes) board × (is_full board.state ≡ false)
+  pub earlier : StaysOpen before line.bytes moved
 
 pub taking_begins : (before : BoardView) (line : LineContents) → IsTaking before line 0 before line
 taking_begins before line = record { within = omega arith; taken = inl (refl, refl); left_is = refl; earlier = λ fewer some less. absurd (omega (arith, some, less)) }
@@ -121,31 +154,26 @@ fewer_than fewer moved n h = elim (leb_tells moved fewer) [
 ]
 
 pub taking_more : DivisionsAppend → (board now new : BoardView) (line left after : LineContents) (moved n : ℕ) → IsTaking board line moved now left → 0 < n → moved + n ≤ length line.bytes → length now.state.owed < 8
-    → HasTaken now (take n left.bytes) new → StaysOpen now (take n left.bytes) → after ≡ without_first left n → IsTaking board line (moved + n) new after
+    → HasTaken now (take n left.bytes) new → StaysOpen now left.bytes n → after ≡ without_first left n → IsTaking board line (moved + n) new after
 taking_more append board now new line left after moved n taking more within room next calm e =
     let rest : left.bytes ≡ drop moved line.bytes = ap (λ (l : LineContents). l.bytes) taking.left_is in
     let next' : HasTaken now (take n (drop moved line.bytes)) new = subst (λ (l : List ℕ). HasTaken now (take n l) new) rest next in
-    let calm' : StaysOpen now (take n (drop moved line.bytes)) = subst (λ (l : List ℕ). StaysOpen now (take n l)) rest calm in
-    let long : length (take n (drop moved line.bytes)) ≡ n = length-take-le n (drop moved line.bytes) (omega (arith, within, length_rest)) in
+    let calm' : StaysOpen now (drop moved line.bytes) n = subst (λ (l : List ℕ). StaysOpen now l n) rest calm in
     record {
       within = within;
       taken = inr (omega (arith, more), taken_more append board now new line.bytes moved n taking.taken next');
       left_is = left_on line left after moved n taking.left_is e;
-      earlier = λ fewer some less. earlier_than fewer some (fewer_than fewer moved n less) calm' long;
+      earlier = λ fewer some less. earlier_than fewer some (fewer_than fewer moved n less) calm';
     }
   where
-    length_rest : length (drop moved line.bytes) ≡ length line.bytes - moved
-    length_rest = length-drop moved line.bytes
-
-    earlier_than : (fewer : ℕ) → 0 < fewer → Fewer fewer moved n → StaysOpen now (take n (drop moved line.bytes)) → length (take n (drop moved line.bytes)) ≡ n
+    earlier_than : (fewer : ℕ) → 0 < fewer → Fewer fewer moved n → StaysOpen now (drop moved line.bytes) n
         → (between : BoardView) × HasTaken board (take fewer line.bytes) between × (is_full between.state ≡ false)
-    earlier_than fewer some (sooner less) calm long = taking.earlier fewer some less
-    earlier_than fewer some (just same) calm long = (now, rw same (some_taken board now line.bytes moved (rw same at some) taking.taken), not_full (length now.state.owed) room)
-    earlier_than fewer some (later k positive less is) calm long =
-        let found = calm k positive (omega (arith, less, long)) in
-        let bytes : take k (take n (drop moved line.bytes)) ≡ take k (drop moved line.bytes) = take-take k n (drop moved line.bytes) (omega (arith, less)) in (
+    earlier_than fewer some (sooner less) calm = taking.earlier fewer some less
+    earlier_than fewer some (just same) calm = (now, rw same (some_taken board now line.bytes moved (rw same at some) taking.taken), not_full (length now.state.owed) room)
+    earlier_than fewer some (later k positive less is) calm =
+        let found = calm k positive less in (
           found.0,
-          subst (λ (m : ℕ). HasTaken board (take m line.bytes) found.0) (sym is) (taken_more append board now found.0 line.bytes moved k taking.taken (subst (λ (l : List ℕ). HasTaken now l found.0) bytes found.1)),
+          subst (λ (m : ℕ). HasTaken board (take m line.bytes) found.0) (sym is) (taken_more append board now found.0 line.bytes moved k taking.taken found.1),
           found.2,
         )
 

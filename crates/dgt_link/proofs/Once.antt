@@ -14,7 +14,8 @@ use Rattle.dgt_link.specs.declared.acts.Outcome.{Outcome}
 use Rattle.dgt_link.specs.Line.{LineContents, without_first}
 use Rattle.dgt_link.specs.Machine.{State}
 use Rattle.dgt_link.specs.Stands.{StandsFor}
-use Rattle.dgt_link.specs.Step.{Becomes, Delivers, Runs, Step, is_full}
+use Rattle.dgt_link.specs.Moving.{Delivers, is_full}
+use Rattle.dgt_link.specs.Step.{Becomes, Runs, Step}
 use Rattle.dgt_link.specs.View.{WorldView}
 use Rattle.dgt_link.proofs.Fronts.{IsShorter, Reaches, fronts, not_empty}
 
@@ -67,14 +68,15 @@ module _ (law : EachDividesOnce) where
   becomes_once : (act : ActContent) (world one other : WorldView) → Becomes act world one → Becomes act world other → one ≡ other
   becomes_once (ActContent.Change square piece) world one other e f = e ∙ sym f
   becomes_once (ActContent.ClockRead clock) world one other e f = e ∙ sym f
-  becomes_once (ActContent.Host command) world one other e f = e.1 ∙ sym f.1
-  becomes_once ActContent.BoardSend world one other (message, is_next, spells, e) (also, is_also, holds, f) =
-      let same : message ≡ also = some_same message also (sym is_next ∙ is_also) in
-      rw (e, f, same) refl
+  becomes_once (ActContent.Host command) world one other (host, line, (spells, is, left), e) (also, rest, (holds, was, more), f) =
+      rw (e, f, is, left, was, more) refl
+  becomes_once ActContent.BoardSend world one other (board, line, (message, is_next, spells, is, left), e) (also, rest, (said, is_also, holds, was, more), f) =
+      let same : message ≡ said = some_same message said (sym is_next ∙ is_also) in
+      rw (e, f, is, left, was, more, same) refl
   becomes_once (ActContent.ToBoard count) world one other (board, line, delivers, e) (also, rest, again, f) =
       let same = one_delivery count world.board board also world.down line rest delivers again in
       rw (e, f, same.0, same.1) refl
-  becomes_once (ActContent.ToHost count) world one other e f = e ∙ sym f
+  becomes_once (ActContent.ToHost count) world one other (host, line, (is, left), e) (also, rest, (was, more), f) = rw (e, f, is, left, was, more) refl
 
   left_once : (act : ActContent) (world one other : WorldView) (answer also : Outcome) → answer ≡ also → Step act world answer one → Step act world also other → one ≡ other
   left_once act world one other Outcome.Done Outcome.Done e first second = becomes_once act world one other first.leaves second.leaves

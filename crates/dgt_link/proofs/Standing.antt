@@ -165,10 +165,10 @@ clock_reaches world clock after x stands same = (
 
 module _ (laws : Grammars) where
   ask_reaches : (world : WorldView) (command : CommandContent) (after : WorldView) (x : State) → StandsFor world x → Becomes (ActContent.Host command) world after → Reaches (ActContent.Host command) after x
-  ask_reaches world command after x stands (spells, same) = (
+  ask_reaches world command after x stands (host, line, (spells, is, left), same) = (
     Move.Ask command ∷ [],
     refl,
-    rw same
+    rw (same, is, left)
         (record {
           sound = move_sound x (Move.Ask command) stands.sound;
           board = stands.board;
@@ -183,11 +183,11 @@ module _ (laws : Grammars) where
   )
 
   send_reaches : (world after : WorldView) (x : State) → StandsFor world x → Becomes ActContent.BoardSend world after → Reaches ActContent.BoardSend after x
-  send_reaches world after x stands (message, is_next, spells, same) =
+  send_reaches world after x stands (sent, line, (message, is_next, spells, is, left), same) =
       let by = next_is_sent x message (ap next_message (sym stands.board) ∙ is_next) in (
         by.0 ∷ [],
         (by.0, by.1, refl),
-        rw (same, by.2)
+        rw (same, is, left, by.2)
             (record {
               sound = rw by.2 at (move_sound x by.0 stands.sound);
               board = ap (λ (board : BoardState). after_sending board message) stands.board;
@@ -224,7 +224,7 @@ module _ (laws : Grammars) where
       )
 
   hear_reaches : (world : WorldView) (count : ℕ) (after : WorldView) (x : State) → StandsFor world x → Becomes (ActContent.ToHost count) world after → Reaches (ActContent.ToHost count) after x
-  hear_reaches world count after x stands same =
+  hear_reaches world count after x stands (heard, line, (is, left), same) =
       let bytes = world.host.unread ++ take count world.up.bytes in
       let front = heard_front laws.reads bytes (drop count world.up.bytes) x.up (rw (front_of world.host.unread world.up.bytes count) at stands.up) in
       let moves : List Move = replicate (length front.heard) Move.Hear in
@@ -232,7 +232,7 @@ module _ (laws : Grammars) where
       hears front.heard front.left x world.host front.all (record { picture = stands.picture; clock = stands.clock; awaited = stands.awaited }) in (
         moves,
         (length front.heard, refl),
-        rw (same, led, front.host world.host)
+        rw (same, is, left, led, front.host world.host)
             (record {
               sound = rw led at (moves_sound x moves stands.sound);
               board = stands.board;
@@ -281,10 +281,10 @@ same_rooms world after same = record { up = ap (λ (w : WorldView). w.up.capacit
 becomes_rooms : (act : ActContent) (world after : WorldView) → Becomes act world after → HasRooms world after
 becomes_rooms (ActContent.Change square piece) world after same = rw same (record { up = refl; down = refl })
 becomes_rooms (ActContent.ClockRead clock) world after same = rw same (record { up = refl; down = refl })
-becomes_rooms (ActContent.Host command) world after (spells, same) = rw same (record { up = refl; down = refl })
-becomes_rooms ActContent.BoardSend world after (message, is_next, spells, same) = rw same (record { up = refl; down = refl })
+becomes_rooms (ActContent.Host command) world after (host, line, (spells, is, left), same) = rw (same, left) (record { up = refl; down = refl })
+becomes_rooms ActContent.BoardSend world after (board, line, (message, is_next, spells, is, left), same) = rw (same, left) (record { up = refl; down = refl })
 becomes_rooms (ActContent.ToBoard count) world after (board, line, delivers, same) = rw (same, delivers.left_is) (record { up = refl; down = refl })
-becomes_rooms (ActContent.ToHost count) world after same = rw same (record { up = refl; down = refl })
+becomes_rooms (ActContent.ToHost count) world after (host, line, (is, left), same) = rw (same, left) (record { up = refl; down = refl })
 
 step_rooms : (act : ActContent) (world : WorldView) (answer : Outcome) (after : WorldView) → Step act world answer after → HasRooms world after
 step_rooms act world Outcome.Done after step = becomes_rooms act world after step.leaves

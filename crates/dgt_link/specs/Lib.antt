@@ -1,8 +1,8 @@
 pub mod Act
 pub mod Line
 pub mod View
-pub mod Step
 pub mod Moving
+pub mod Step
 pub mod Move
 pub mod Machine
 pub mod Sound

@@ -2,7 +2,6 @@
 
 ghost use Rattle.std.specs.Prelude.{◌≡◌, ◌<◌, ◌≤◌, length, take};
 ghost use Rattle.dgt_command.specs.Content.{command_content};
-ghost use Rattle.dgt_board.specs.Sending.{next_message};
 ghost use Rattle.dgt_board.specs.View.{HasTaken};
 ghost use Rattle.dgt_host.specs.Host.{host_after};
 ghost use Rattle.dgt_link.specs.Line.{without_first};
@@ -35,7 +34,7 @@ pub fn ask(host: &mut Host, line: &mut Line, command: &Command<'_>) -> Outcome
 
 /// The board sends its next message into the line.
 pub fn send_next(board: &mut Board, line: &mut Line) -> Outcome
-    ensures { SendsInto result (next_message board.old.state) board.old line.old board.new line.new }
+    ensures { SendsInto result board.old line.old board.new line.new }
 {
     let mut bytes = [0; MAX_SENT];
     let room = bytes.len().min(line.room());
@@ -59,7 +58,7 @@ fn take_front(board: &mut Board, line: &mut Line, most: usize) -> usize
     ensures most { result ≤ most }
     ensures within { result ≤ length line.old.bytes }
     ensures taken { HasTaken board.old (take result line.old.bytes) board.new }
-    ensures earlier { StaysOpen board.old (take result line.old.bytes) }
+    ensures earlier { StaysOpen board.old line.old.bytes result }
     ensures left { line.new ≡ without_first line.old result }
 {
     let front = line.front();
