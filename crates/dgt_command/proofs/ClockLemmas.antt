@@ -2,7 +2,6 @@
 use Rattle.std.proofs.Common.{◌≡◌, ℕ, Bool, true, false, List, [], ◌∷◌, length, get_or, refl, sym, ap, ◌∙◌, arith, Option, Some, None}
 use Rattle.std.proofs.lemmas.Bool.{eqb-true}
 use Rattle.dgt_command.specs.declared.ids.KnownId.{KnownId}
-use Rattle.dgt_command.specs.declared.ids.KnownId.TheVariants as id
 use Rattle.std.specs.Prelude.{IsTrue}
 use Rattle.dgt_command.specs.ClockForm.{has_own_case, has_size, known_has_size}
 use Rattle.dgt_command.specs.Content.{ClockContent, Raw}
@@ -64,10 +63,10 @@ none (a ∷ xs) h = absurd (omega arith)
 
 -- the payload of a known id is what its case carries
 pub own_payload : (known : KnownId) (p : List ℕ) → has_size known (length p) ≡ true → payload (own_case known p) ≡ p
-own_payload id.Display p h = sym (eight p (eqb-true _ _ h))
-own_payload id.SetAndRun p h = sym (seven p (eqb-true _ _ h))
-own_payload id.Beep p h = sym (one p (eqb-true _ _ h))
-own_payload id.Icons p h = refl
+own_payload KnownId.Display p h = sym (eight p (eqb-true _ _ h))
+own_payload KnownId.SetAndRun p h = sym (seven p (eqb-true _ _ h))
+own_payload KnownId.Beep p h = sym (one p (eqb-true _ _ h))
+own_payload KnownId.Icons p h = refl
 own_payload _ p h = sym (none p (eqb-true _ _ h))
 
 -- the same, of the id with a number
@@ -76,12 +75,12 @@ sized_payload known id p e h = own_payload known p (rw e at h)
 
 -- the id of a case is its own
 own_id : (known : KnownId) (p : List ℕ) → clock_id (own_case known p) ≡ id_number known
-own_id id.Display p = refl
+own_id KnownId.Display p = refl
 own_id _ p = refl
 
 -- and no case but a raw message has a rule
 own_is_command : (known : KnownId) (p : List ℕ) → IsClockCommand (own_case known p)
-own_is_command id.Display p = tt
+own_is_command KnownId.Display p = tt
 own_is_command _ p = tt
 
 -- an id and a payload are those of a case of its own, or of a raw message

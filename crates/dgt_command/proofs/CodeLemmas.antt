@@ -1,15 +1,15 @@
 -- A number has one known id, and a byte is the code of one command of one byte.
-use Rattle.std.proofs.Common.{◌≡◌, ◌≢◌, ℕ, ◌<◌, zero, suc, Bool, true, false, cond, ◌&&◌, refl, sym, ap, subst, List, [], ◌∷◌, length, arith, Some, None}
-use Rattle.std.specs.Prelude.{◌==◌, ◌↔◌, find, slice_index}
+use Rattle.std.proofs.Common.{◌≡◌, ◌≢◌, ℕ, Bool, true, false, cond, ◌&&◌, refl, sym, ap, subst, List, [], ◌∷◌, Some, None}
+use Rattle.std.specs.Prelude.{◌==◌, ◌↔◌, find}
 use Rattle.std.proofs.lemmas.Bool.{and_parts, eqb-true}
 use Rattle.dgt_command.specs.declared.command.Command.{Command}
 use Rattle.dgt_command.specs.declared.command.Command.TheVariants as command
 use Rattle.dgt_command.specs.declared.ids.KnownId.{KnownId}
 use Rattle.dgt_command.specs.declared.ids.KnownId.TheVariants.{Display}
 use Rattle.dgt_command.specs.Code.{bare_command, bare_commands, command_code}
-use Rattle.dgt_command.specs.Content.{command_content, CommandContent, ClockMessage, Leds, Read}
+use Rattle.dgt_command.specs.Content.{command_content, ClockMessage, Leds, Read}
 use Rattle.dgt_command.specs.Id.{id_number, id_with, known_ids}
-use Rattle.dgt_command.specs.Words.{BeginsNoCommand, HasForm, spelling, Spells}
+use Rattle.dgt_command.specs.Words.{BeginsNoCommand, HasForm}
 
 -- whether each member passes a test
 abbrev each_passes : {X : Type 0} → (X → Bool) → List X → Bool

@@ -55,18 +55,7 @@ equal_commands (command.ClockMessage a) (command.ClockMessage b) h k =
 equal_commands (command.Leds a) (command.Leds b) h k =
     let same = equal_bytes a.bytes.now b.bytes.now in
     (λ t. ap (λ (leds : List ℕ). content.Leds leds) (same.0 t), λ e. same.1 (ap leds_of e))
-equal_commands command.Reset b h k = differ content.Reset (command_content b) refl
-equal_commands command.Clock b h k = differ content.Clock (command_content b) refl
-equal_commands command.Dump b h k = differ content.Dump (command_content b) refl
-equal_commands command.Update b h k = differ content.Update (command_content b) refl
-equal_commands command.UpdateBoard b h k = differ content.UpdateBoard (command_content b) refl
-equal_commands command.UpdateNice b h k = differ content.UpdateNice (command_content b) refl
-equal_commands command.Serial b h k = differ content.Serial (command_content b) refl
-equal_commands command.Trademark b h k = differ content.Trademark (command_content b) refl
-equal_commands command.Battery b h k = differ content.Battery (command_content b) refl
-equal_commands command.Version b h k = differ content.Version (command_content b) refl
-equal_commands (command.ClockMessage a) b h k = differ (command_content (command.ClockMessage a)) (command_content b) refl
-equal_commands (command.Leds a) b h k = differ (command_content (command.Leds a)) (command_content b) refl
+equal_commands a b h k = differ (command_content a) (command_content b) refl
 
 -- the number of an event's case
 abbrev event_case_of : EventContent → ℕ
@@ -100,11 +89,7 @@ equal_events event.BadEnd event.BadEnd h k = (λ _. refl, λ _. refl)
 equal_events (event.Stray a) (event.Stray b) h k =
     let same = equal_numbers a b in
     (λ t. ap (λ (byte : ℕ). content.Stray byte) (same.0 t), λ e. same.1 (ap byte_of e))
-equal_events (event.Command a) b h k = differ_events (event_content (event.Command a)) (event_content b) refl
-equal_events event.BadSize b h k = differ_events content.BadSize (event_content b) refl
-equal_events event.BadStart b h k = differ_events content.BadStart (event_content b) refl
-equal_events event.BadEnd b h k = differ_events content.BadEnd (event_content b) refl
-equal_events (event.Stray a) b h k = differ_events (event_content (event.Stray a)) (event_content b) refl
+equal_events a b h k = differ_events (event_content a) (event_content b) refl
 
 -- the event that is there
 abbrev there : Option EventContent → EventContent

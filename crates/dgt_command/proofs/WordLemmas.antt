@@ -7,7 +7,7 @@ use Rattle.dgt_command.specs.declared.command.Command.{Command}
 use Rattle.dgt_command.specs.Content.{command_content, ClockContent, End, CommandContent, ClockMessage, Leds, EventContent, Read, BadSize, BadStart, BadEnd, Stray}
 use Rattle.dgt_command.specs.Code.{bare_command}
 use Rattle.dgt_command.specs.Telling.{clock_in}
-use Rattle.dgt_command.specs.Words.{clock_id, payload, IsCommand, spelling, BeginsNoCommand, HasForm}
+use Rattle.dgt_command.specs.Words.{clock_id, payload, IsCommand, behind_code, spelling, BeginsNoCommand, HasForm}
 use Rattle.dgt_command.proofs.ClockLemmas.{clock_in_lem, clock_case}
 use Rattle.dgt_command.proofs.CodeLemmas.{bare_form, no_command}
 
@@ -33,11 +33,11 @@ word_length (first ∷ rest) = if first == 0x2b then clock_length rest else if f
 
 -- a byte that begins no command begins no clock message and no LED frame
 not_clock : (b : ℕ) → BeginsNoCommand b → (b == 0x2b) ≡ false
-not_clock b h = ne_eqb b 0x2b (λ e. h (ClockMessage End) (3 ∷ 3 ∷ 3 ∷ 0 ∷ []) (ap (λ (x : ℕ). x ∷ 3 ∷ 3 ∷ 3 ∷ 0 ∷ []) (sym e)))
+not_clock b h = ne_eqb b 0x2b (λ e. h (ClockMessage End) (behind_code (ClockMessage End)) (ap (λ (x : ℕ). x ∷ behind_code (ClockMessage End)) (sym e)))
 
 -- nor an LED frame
 not_leds : (b : ℕ) → BeginsNoCommand b → (b == 0x60) ≡ false
-not_leds b h = ne_eqb b 0x60 (λ e. h (Leds []) (0 ∷ []) (ap (λ (x : ℕ). x ∷ 0 ∷ []) (sym e)))
+not_leds b h = ne_eqb b 0x60 (λ e. h (Leds []) (behind_code (Leds [])) (ap (λ (x : ℕ). x ∷ behind_code (Leds [])) (sym e)))
 
 -- the word that a list begins with has this length
 spelling_length : (c : CommandContent) (x : List ℕ) → word_length (spelling c ++ x) ≡ length (spelling c)

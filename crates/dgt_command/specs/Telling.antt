@@ -2,7 +2,6 @@
 use Rattle.std.specs.Prelude.{ℕ, ◌-◌, List, length, slice_index, take, drop, Option, Some, None, unwrap_or, ◌==◌, if◌then◌else◌}
 use Rattle.std.specs.Option.{option_map}
 use Rattle.dgt_command.specs.declared.ids.KnownId.{KnownId}
-use Rattle.dgt_command.specs.declared.ids.KnownId.TheVariants as id
 use Rattle.dgt_command.specs.ClockForm.{has_size}
 use Rattle.dgt_command.specs.Code.{bare_command}
 use Rattle.dgt_command.specs.Content.{command_content, ClockContent, Display, Icons, End, Button, ClockVersion, SetAndRun, Beep, Raw, CommandContent, Reset, ClockMessage, Leds}
@@ -10,15 +9,15 @@ use Rattle.dgt_command.specs.Id.{id_with}
 
 -- the clock message of a known id
 abbrev pub own_case : KnownId → List ℕ → ClockContent
-own_case id.Display p =
+own_case KnownId.Display p =
     Display (slice_index p 2) (slice_index p 1) (slice_index p 0) (slice_index p 5) (slice_index p 4) (slice_index p 3) (slice_index p 6) (slice_index p 7)
-own_case id.Icons p = Icons p
-own_case id.End p = End
-own_case id.Button p = Button
-own_case id.Version p = ClockVersion
-own_case id.SetAndRun p =
+own_case KnownId.Icons p = Icons p
+own_case KnownId.End p = End
+own_case KnownId.Button p = Button
+own_case KnownId.Version p = ClockVersion
+own_case KnownId.SetAndRun p =
     SetAndRun (slice_index p 0) (slice_index p 1) (slice_index p 2) (slice_index p 3) (slice_index p 4) (slice_index p 5) (slice_index p 6)
-own_case id.Beep p = Beep (slice_index p 0)
+own_case KnownId.Beep p = Beep (slice_index p 0)
 
 -- the same of a number, where it is that of a known id that has so many bytes
 abbrev pub clock_under : Option KnownId → ℕ → List ℕ → ClockContent

@@ -4,7 +4,7 @@ use Rattle.std.specs.List.{AllByRecursion}
 use Rattle.dgt_command.specs.ClockForm.{has_own_case}
 use Rattle.dgt_command.specs.Code.{command_code}
 use Rattle.dgt_command.specs.Content.{ClockContent, Display, Icons, End, Button, ClockVersion, SetAndRun, Beep, Raw, CommandContent, ClockMessage, Leds, EventContent, Read, BadSize, BadStart, BadEnd, Stray}
-use Rattle.dgt_command.specs.declared.ids.KnownId.TheVariants as id
+use Rattle.dgt_command.specs.declared.ids.KnownId.{KnownId}
 use Rattle.dgt_command.specs.Id.{id_number}
 
 abbrev pub AreBytes : List ℕ → Type 0
@@ -12,13 +12,13 @@ AreBytes bytes = (i : ℕ) → slice_index bytes i < 256
 
 -- the id of a clock message
 abbrev pub clock_id : ClockContent → ℕ
-clock_id (Display a b c d e f dots beep) = id_number id.Display
-clock_id (Icons payload) = id_number id.Icons
-clock_id End = id_number id.End
-clock_id Button = id_number id.Button
-clock_id ClockVersion = id_number id.Version
-clock_id (SetAndRun lh lm ls rh rm rs control) = id_number id.SetAndRun
-clock_id (Beep duration) = id_number id.Beep
+clock_id (Display a b c d e f dots beep) = id_number KnownId.Display
+clock_id (Icons payload) = id_number KnownId.Icons
+clock_id End = id_number KnownId.End
+clock_id Button = id_number KnownId.Button
+clock_id ClockVersion = id_number KnownId.Version
+clock_id (SetAndRun lh lm ls rh rm rs control) = id_number KnownId.SetAndRun
+clock_id (Beep duration) = id_number KnownId.Beep
 clock_id (Raw id payload) = id
 
 -- the places of a display are sent C, B, A, F, E, D
