@@ -1,22 +1,24 @@
 -- The id and the payload of a clock message tell its case, and each id and payload have one.
-use Rattle.std.proofs.Common.{◌≡◌, ℕ, true, ◌||◌, List, [], ◌∷◌, length, get_or, refl, sym, ap, inl, inr, arith}
-use Rattle.std.proofs.lemmas.Bool.{eqb-true, cases_Bool, or_cases, and_parts}
-use Rattle.std.specs.Prelude.{◌==◌}
-use Rattle.dgt_command.specs.ClockForm.{has_own_case}
-use Rattle.dgt_command.specs.Content.{ClockContent, Display, Icons, End, Button, ClockVersion, SetAndRun, Beep, Raw}
-use Rattle.dgt_command.specs.Telling.{clock_in}
+use Rattle.std.proofs.Common.{◌≡◌, ℕ, Bool, true, false, List, [], ◌∷◌, length, get_or, refl, sym, ap, ◌∙◌, arith, Option, Some, None}
+use Rattle.std.proofs.lemmas.Bool.{eqb-true}
+use Rattle.dgt_command.specs.declared.ids.KnownId.{KnownId}
+use Rattle.std.specs.Prelude.{IsTrue}
+use Rattle.dgt_command.specs.ClockForm.{has_own_case, has_size, known_has_size}
+use Rattle.dgt_command.specs.Content.{ClockContent, Raw}
+use Rattle.dgt_command.specs.Id.{id_number, id_with}
+use Rattle.dgt_command.specs.Telling.{clock_in, clock_under, own_case}
 use Rattle.dgt_command.specs.Words.{clock_id, payload, IsClockCommand}
+use Rattle.dgt_command.proofs.CodeLemmas.{found_id}
+
+-- an id and a payload of another length, or of no known id, are those of a raw message
+raw_lem : (known : Option KnownId) (id : ℕ) (p : List ℕ) → known_has_size known (length p) ≡ false → clock_under known id p ≡ Raw id p
+raw_lem (Some known) id p h = rw h refl
+raw_lem None id p h = refl
 
 -- a clock message is told by its id and payload
 pub clock_in_lem : (c : ClockContent) → IsClockCommand c → clock_in (clock_id c) (payload c) ≡ c
-clock_in_lem (Raw id p) h = rw h refl
-clock_in_lem (Display a b c d e f dots beep) h = refl
-clock_in_lem (Icons p) h = refl
-clock_in_lem End h = refl
-clock_in_lem Button h = refl
-clock_in_lem ClockVersion h = refl
-clock_in_lem (SetAndRun lh lm ls rh rm rs control) h = refl
-clock_in_lem (Beep d) h = refl
+clock_in_lem (Raw id p) h = raw_lem (id_with id) id p h
+clock_in_lem _ h = refl
 
 -- the clock command with this id and payload
 pub record ClockCase (id : ℕ) (p : List ℕ) : Type 0 where
@@ -59,53 +61,35 @@ none : (xs : List ℕ) → length xs ≡ 0 → xs ≡ []
 none [] h = refl
 none (a ∷ xs) h = absurd (omega arith)
 
--- eight bytes under the id of a display are a display
-display_case : (id : ℕ) (p : List ℕ) → id ≡ 1 → length p ≡ 8 → ClockCase id p
-display_case id p e h = record {
-  command = Display (get_or p 2 0) (get_or p 1 0) (get_or p 0 0) (get_or p 5 0) (get_or p 4 0) (get_or p 3 0) (get_or p 6 0) (get_or p 7 0);
-  is_command = tt;
-  same_id = sym e;
-  same_payload = sym (eight p h);
-}
+-- the payload of a known id is what its case carries
+pub own_payload : (known : KnownId) (p : List ℕ) → has_size known (length p) ≡ true → payload (own_case known p) ≡ p
+own_payload KnownId.Display p h = sym (eight p (eqb-true _ _ h))
+own_payload KnownId.SetAndRun p h = sym (seven p (eqb-true _ _ h))
+own_payload KnownId.Beep p h = sym (one p (eqb-true _ _ h))
+own_payload KnownId.Icons p h = refl
+own_payload _ p h = sym (none p (eqb-true _ _ h))
 
--- seven bytes under the id of set and run are set and run
-run_case : (id : ℕ) (p : List ℕ) → id ≡ 10 → length p ≡ 7 → ClockCase id p
-run_case id p e h = record {
-  command = SetAndRun (get_or p 0 0) (get_or p 1 0) (get_or p 2 0) (get_or p 3 0) (get_or p 4 0) (get_or p 5 0) (get_or p 6 0);
-  is_command = tt;
-  same_id = sym e;
-  same_payload = sym (seven p h);
-}
+-- the same, of the id with a number
+pub sized_payload : (known : KnownId) (id : ℕ) (p : List ℕ) → id_with id ≡ Some known → IsTrue (has_own_case id (length p)) → payload (own_case known p) ≡ p
+sized_payload known id p e h = own_payload known p (rw e at h)
 
--- no byte under the id of a bare message is that message
-bare_case : (id : ℕ) (p : List ℕ) → ((id == 3 || id == 8) || id == 9) ≡ true → length p ≡ 0 → ClockCase id p
-bare_case id p e h = elim (or_cases (id == 3 || id == 8) (id == 9) e) [
-  | inl f ↦ elim (or_cases (id == 3) (id == 8) f) [
-    | inl g ↦ record { command = End; is_command = tt; same_id = sym (eqb-true id 3 g); same_payload = sym (none p h) }
-    | inr g ↦ record { command = Button; is_command = tt; same_id = sym (eqb-true id 8 g); same_payload = sym (none p h) }
-  ]
-  | inr f ↦ record { command = ClockVersion; is_command = tt; same_id = sym (eqb-true id 9 f); same_payload = sym (none p h) }
-]
+-- the id of a case is its own
+own_id : (known : KnownId) (p : List ℕ) → clock_id (own_case known p) ≡ id_number known
+own_id KnownId.Display p = refl
+own_id _ p = refl
 
--- an id and a payload of a case of its own are one of that case
-own_case_lem : (id : ℕ) (p : List ℕ) → has_own_case id (length p) ≡ true → ClockCase id p
-own_case_lem id p h = elim (or_cases _ _ h) [
-  | inr e ↦ let parts = and_parts (id == 11) (length p == 1) e in record { command = Beep (get_or p 0 0); is_command = tt; same_id = sym (eqb-true id 11 parts.0); same_payload = sym (one p (eqb-true (length p) 1 parts.1)) }
-  | inl e ↦ elim (or_cases _ _ e) [
-    | inr f ↦ let parts = and_parts (id == 10) (length p == 7) f in run_case id p (eqb-true id 10 parts.0) (eqb-true (length p) 7 parts.1)
-    | inl f ↦ elim (or_cases _ _ f) [
-      | inr g ↦ let parts = and_parts ((id == 3 || id == 8) || id == 9) (length p == 0) g in bare_case id p parts.0 (eqb-true (length p) 0 parts.1)
-      | inl g ↦ elim (or_cases _ _ g) [
-        | inr k ↦ record { command = Icons p; is_command = tt; same_id = sym (eqb-true id 2 k); same_payload = refl }
-        | inl k ↦ let parts = and_parts (id == 1) (length p == 8) k in display_case id p (eqb-true id 1 parts.0) (eqb-true (length p) 8 parts.1)
-      ]
-    ]
-  ]
-]
+-- and no case but a raw message has a rule
+own_is_command : (known : KnownId) (p : List ℕ) → IsClockCommand (own_case known p)
+own_is_command KnownId.Display p = tt
+own_is_command _ p = tt
+
+-- an id and a payload are those of a case of its own, or of a raw message
+case_under : (known : Option KnownId) (size : Bool) (id : ℕ) (p : List ℕ) → id_with id ≡ known → known_has_size known (length p) ≡ size → ClockCase id p
+case_under (Some known) true id p e h =
+    record { command = own_case known p; is_command = own_is_command known p; same_id = own_id known p ∙ sym (found_id id known e); same_payload = own_payload known p h }
+case_under known false id p e h = record { command = Raw id p; is_command = rw e h; same_id = refl; same_payload = refl }
+case_under None true id p e h = cc
 
 -- each id and payload are those of some clock message
 pub clock_case : (id : ℕ) (p : List ℕ) → ClockCase id p
-clock_case id p = elim (cases_Bool (has_own_case id (length p))) [
-  | inl h ↦ own_case_lem id p h
-  | inr h ↦ record { command = Raw id p; is_command = h; same_id = refl; same_payload = refl }
-]
+clock_case id p = case_under (id_with id) (known_has_size (id_with id) (length p)) id p refl refl

@@ -1,5 +1,5 @@
 -- Zeros complete each partial word, and each list of bytes divides into words in one way.
-use Rattle.std.proofs.Common.{◌≡◌, ◌≢◌, ℕ, suc, zero, ◌+◌, ◌-◌, ◌<◌, ◌≤◌, List, [], ◌∷◌, ◌++◌, length, refl, sym, ap, subst, ◌∙◌, inl, inr, arith, append_assoc, length-append, replicate, map}
+use Rattle.std.proofs.Common.{◌≡◌, ℕ, suc, zero, ◌+◌, ◌-◌, ◌<◌, ◌≤◌, List, [], ◌∷◌, ◌++◌, length, refl, sym, ap, subst, ◌∙◌, inl, inr, arith, append_assoc, length-append, replicate, map}
 use Rattle.std.proofs.lemmas.Bool.{cases_eq, cases_lt, le-ltb, lt-ltb, ne_eqb, eq-eqb}
 use Rattle.std.proofs.lemmas.List.{append-nil, length-replicate, replicate_more, replicate-append-replicate, get_or-replicate, get_or_past}
 use Rattle.std.specs.List.{flat_map, AllByRecursion}
@@ -7,7 +7,8 @@ use Rattle.std.specs.Prelude.{Bool, true, false, slice_index, if◌then◌else�
 use Rattle.dgt_command.specs.Content.{CommandContent, ClockMessage, Leds, EventContent, Read, BadSize, BadStart, Stray}
 use Rattle.dgt_command.specs.Words.{AreBytes, spelling, Spells, BeginsNoCommand, HasForm, IsPartial, Divides, IsNoise, IsNoiseList}
 use Rattle.dgt_command.specs.Laws.{EachDividesOnce, NoWordBeginsAnother, CommandsAreReadBack, ZerosSettleTheReader, DivisionsAppend}
-use Rattle.dgt_command.proofs.WordLemmas.{word_length, clock_length, body_length, led_length, form_length, same_word, begins, clock_word, IsNone, one_byte, no_command}
+use Rattle.dgt_command.proofs.WordLemmas.{word_length, clock_length, body_length, led_length, form_length, same_word, begins, clock_word}
+use Rattle.dgt_command.proofs.CodeLemmas.{no_command}
 
 -- so many zeros
 abbrev pub zeros : ℕ → List ℕ
@@ -49,15 +50,9 @@ pub record Completed (r : List ℕ) : Type 0 where
   pub noise : IsNoise event
   pub form : HasForm event (r ++ 0 ∷ zeros count)
 
--- zero is none of the commands of one byte
-zero_is_none : IsNone 0 one_byte
-zero_is_none =
-    let other : (n : ℕ) → 0 < n → 0 ≢ n = λ n h e. omega arith in
-    (other _ (omega arith), (other _ (omega arith), (other _ (omega arith), (other _ (omega arith), (other _ (omega arith), (other _ (omega arith), (other _ (omega arith), (other _ (omega arith), (other _ (omega arith), (other _ (omega arith), tt))))))))))
-
 -- zero begins no command
 zero_begins_none : BeginsNoCommand 0
-zero_begins_none = no_command 0 zero_is_none (λ e. omega arith) (λ e. omega arith)
+zero_begins_none = no_command 0 refl (λ e. omega arith) (λ e. omega arith)
 
 -- one zero more at the front is one more at the end
 zeros_push : (n : ℕ) → 0 ∷ zeros n ≡ zeros n ++ 0 ∷ []

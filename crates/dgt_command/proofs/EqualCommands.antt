@@ -1,10 +1,11 @@
--- What the derived `==` says of commands and of events. Different cases are told apart by a number a case.
+-- What the derived `==` says of commands and of events. Different commands are told apart by their codes, and events by a number a case.
 use Rattle.std.proofs.Common.{◌≡◌, ℕ, nat_eq, refl, ap, List, [], false}
 use Rattle.std.specs.Prelude.{◌↔◌, IsTrue, Option, Some, None, IfSome}
 use Rattle.std.specs.Option.{option_eq, option_map}
 use Rattle.dgt_command.specs.declared.command.Command.TheVariants as command
 use Rattle.dgt_command.specs.declared.command.CommandEvent.{CommandEvent}
 use Rattle.dgt_command.specs.declared.command.CommandEvent.TheVariants as event
+use Rattle.dgt_command.specs.Code.{command_code}
 use Rattle.dgt_command.specs.Content as content
 use Rattle.dgt_command.specs.Content.{ClockContent, CommandContent, EventContent, command_content, event_content}
 use Rattle.dgt_command.specs.Equality.{CommandHasArrays, EqualIsSameReadOf, EventHasArrays, FedHasArrays, fed_seen}
@@ -23,21 +24,6 @@ apart m n differ e =
     let same : IsTrue (nat_eq m n) = (equal_numbers m n).1 e in
     cc
 
--- the number of a command's case
-abbrev case_of : CommandContent → ℕ
-case_of content.Reset = 0
-case_of content.Clock = 1
-case_of content.Dump = 2
-case_of content.Update = 3
-case_of content.UpdateBoard = 4
-case_of content.UpdateNice = 5
-case_of content.Serial = 6
-case_of content.Trademark = 7
-case_of content.Battery = 8
-case_of content.Version = 9
-case_of (content.ClockMessage message) = 10
-case_of (content.Leds leds) = 11
-
 -- the clock message of a command, and its LED bytes
 abbrev message_of : CommandContent → ClockContent
 message_of (content.ClockMessage message) = message
@@ -47,9 +33,9 @@ abbrev leds_of : CommandContent → List ℕ
 leds_of (content.Leds leds) = leds
 leds_of _ = []
 
--- commands of different cases are neither equal nor the same
-differ : (a b : CommandContent) → nat_eq (case_of a) (case_of b) ≡ false → IsTrue false ↔ (a ≡ b)
-differ a b cases = (λ t. absurd (never t), λ e. absurd (apart (case_of a) (case_of b) cases (ap case_of e)))
+-- commands of different codes are neither equal nor the same
+differ : (a b : CommandContent) → nat_eq (command_code a) (command_code b) ≡ false → IsTrue false ↔ (a ≡ b)
+differ a b codes = (λ t. absurd (never t), λ e. absurd (apart (command_code a) (command_code b) codes (ap command_code e)))
 
 -- two commands are equal exactly where they say the same
 pub equal_commands : EqualIsSameReadOf CommandHasArrays command_content (derived_command.eq-value).it
@@ -69,18 +55,7 @@ equal_commands (command.ClockMessage a) (command.ClockMessage b) h k =
 equal_commands (command.Leds a) (command.Leds b) h k =
     let same = equal_bytes a.bytes.now b.bytes.now in
     (λ t. ap (λ (leds : List ℕ). content.Leds leds) (same.0 t), λ e. same.1 (ap leds_of e))
-equal_commands command.Reset b h k = differ content.Reset (command_content b) refl
-equal_commands command.Clock b h k = differ content.Clock (command_content b) refl
-equal_commands command.Dump b h k = differ content.Dump (command_content b) refl
-equal_commands command.Update b h k = differ content.Update (command_content b) refl
-equal_commands command.UpdateBoard b h k = differ content.UpdateBoard (command_content b) refl
-equal_commands command.UpdateNice b h k = differ content.UpdateNice (command_content b) refl
-equal_commands command.Serial b h k = differ content.Serial (command_content b) refl
-equal_commands command.Trademark b h k = differ content.Trademark (command_content b) refl
-equal_commands command.Battery b h k = differ content.Battery (command_content b) refl
-equal_commands command.Version b h k = differ content.Version (command_content b) refl
-equal_commands (command.ClockMessage a) b h k = differ (command_content (command.ClockMessage a)) (command_content b) refl
-equal_commands (command.Leds a) b h k = differ (command_content (command.Leds a)) (command_content b) refl
+equal_commands a b h k = differ (command_content a) (command_content b) refl
 
 -- the number of an event's case
 abbrev event_case_of : EventContent → ℕ
@@ -114,11 +89,7 @@ equal_events event.BadEnd event.BadEnd h k = (λ _. refl, λ _. refl)
 equal_events (event.Stray a) (event.Stray b) h k =
     let same = equal_numbers a b in
     (λ t. ap (λ (byte : ℕ). content.Stray byte) (same.0 t), λ e. same.1 (ap byte_of e))
-equal_events (event.Command a) b h k = differ_events (event_content (event.Command a)) (event_content b) refl
-equal_events event.BadSize b h k = differ_events content.BadSize (event_content b) refl
-equal_events event.BadStart b h k = differ_events content.BadStart (event_content b) refl
-equal_events event.BadEnd b h k = differ_events content.BadEnd (event_content b) refl
-equal_events (event.Stray a) b h k = differ_events (event_content (event.Stray a)) (event_content b) refl
+equal_events a b h k = differ_events (event_content a) (event_content b) refl
 
 -- the event that is there
 abbrev there : Option EventContent → EventContent

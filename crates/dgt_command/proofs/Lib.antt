@@ -1,3 +1,4 @@
+pub mod CodeLemmas
 pub mod ClockLemmas
 pub mod TellingLemmas
 pub mod WordLemmas

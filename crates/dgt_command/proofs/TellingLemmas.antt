@@ -1,7 +1,7 @@
 -- A spelling tells its command.
 use Rattle.std.proofs.Common.{◌≡◌, ℕ, ◌-◌, List, [], ◌∷◌, ◌++◌, length, take, refl, ap, ◌∙◌, arith, length-append}
 use Rattle.std.proofs.lemmas.List.{take_at}
-use Rattle.dgt_command.specs.Content.{CommandContent, Reset, Clock, Dump, Update, UpdateBoard, UpdateNice, Serial, Trademark, Battery, Version, ClockMessage, Leds, Read}
+use Rattle.dgt_command.specs.Content.{CommandContent, ClockMessage, Read}
 use Rattle.dgt_command.specs.Telling.{clock_in, command_in}
 use Rattle.dgt_command.specs.Words.{clock_id, payload, IsCommand, spelling, Spells, IsWord}
 use Rattle.dgt_command.proofs.ClockLemmas.{clock_in_lem}
@@ -9,22 +9,12 @@ use Rattle.dgt_command.proofs.ClockLemmas.{clock_in_lem}
 -- the one spelling of a command tells it
 spelled_command : (c : CommandContent) → IsCommand c → command_in (spelling c) ≡ c
 unfolding command_in
-spelled_command Reset h = refl
-spelled_command Clock h = refl
-spelled_command Dump h = refl
-spelled_command Update h = refl
-spelled_command UpdateBoard h = refl
-spelled_command UpdateNice h = refl
-spelled_command Serial h = refl
-spelled_command Trademark h = refl
-spelled_command Battery h = refl
-spelled_command Version h = refl
 spelled_command (ClockMessage message) h =
     let carried : List ℕ = payload message in
     let front : take (length (spelling (ClockMessage message)) - 5) (carried ++ 0 ∷ []) ≡ carried =
     take_at carried (0 ∷ []) (length (spelling (ClockMessage message)) - 5) (omega (arith, length-append carried (0 ∷ []))) in
     ap (λ (p : List ℕ). ClockMessage (clock_in (clock_id message) p)) front ∙ ap ClockMessage (clock_in_lem message h)
-spelled_command (Leds leds) h = refl
+spelled_command _ h = refl
 
 -- what spells a command tells it
 pub spells_its_command : (c : CommandContent) (word : List ℕ) → Spells c word → command_in word ≡ c

@@ -1,12 +1,15 @@
 -- No word begins another, each list that is long enough begins with one, and zeros complete each that isn't.
-use Rattle.std.proofs.Common.{◌≡◌, ◌≢◌, ℕ, ◌+◌, ◌-◌, ◌<◌, ◌≤◌, false, List, [], ◌∷◌, ◌++◌, length, get_or, take, drop, refl, sym, ap, subst, ◌∙◌, ◌⊎◌, inl, inr, arith, length-append}
+use Rattle.std.proofs.Common.{◌≡◌, ◌≢◌, ℕ, ◌+◌, ◌-◌, ◌<◌, ◌≤◌, false, List, [], ◌∷◌, ◌++◌, length, get_or, take, drop, refl, sym, ap, subst, ◌∙◌, inl, inr, arith, length-append, Option, Some, None}
 use Rattle.std.proofs.lemmas.Bool.{cases_eq, cases_lt, le-ltb, lt-ltb, ne_eqb, eq-eqb}
 use Rattle.std.proofs.lemmas.List.{append_cancel_left, take_at, get_or_push, length-take-le, take-append-drop}
 use Rattle.std.specs.Prelude.{◌==◌, nat_lt, if◌then◌else◌}
-use Rattle.dgt_command.specs.Content.{ClockContent, End, CommandContent, Reset, Clock, Dump, Update, UpdateBoard, UpdateNice, Serial, Trademark, Battery, Version, ClockMessage, Leds, EventContent, Read, BadSize, BadStart, BadEnd, Stray}
+use Rattle.dgt_command.specs.declared.command.Command.{Command}
+use Rattle.dgt_command.specs.Content.{command_content, ClockContent, End, CommandContent, ClockMessage, Leds, EventContent, Read, BadSize, BadStart, BadEnd, Stray}
+use Rattle.dgt_command.specs.Code.{bare_command}
 use Rattle.dgt_command.specs.Telling.{clock_in}
-use Rattle.dgt_command.specs.Words.{clock_id, payload, IsCommand, spelling, BeginsNoCommand, HasForm}
+use Rattle.dgt_command.specs.Words.{clock_id, payload, IsCommand, behind_code, spelling, BeginsNoCommand, HasForm}
 use Rattle.dgt_command.proofs.ClockLemmas.{clock_in_lem, clock_case}
+use Rattle.dgt_command.proofs.CodeLemmas.{bare_form, no_command}
 
 -- the length of the LED frame that a first byte begins, as far as the bytes behind it tell it
 abbrev pub led_length : List ℕ → ℕ
@@ -30,26 +33,17 @@ word_length (first ∷ rest) = if first == 0x2b then clock_length rest else if f
 
 -- a byte that begins no command begins no clock message and no LED frame
 not_clock : (b : ℕ) → BeginsNoCommand b → (b == 0x2b) ≡ false
-not_clock b h = ne_eqb b 0x2b (λ e. h (ClockMessage End) (3 ∷ 3 ∷ 3 ∷ 0 ∷ []) (ap (λ (x : ℕ). x ∷ 3 ∷ 3 ∷ 3 ∷ 0 ∷ []) (sym e)))
+not_clock b h = ne_eqb b 0x2b (λ e. h (ClockMessage End) (behind_code (ClockMessage End)) (ap (λ (x : ℕ). x ∷ behind_code (ClockMessage End)) (sym e)))
 
 -- nor an LED frame
 not_leds : (b : ℕ) → BeginsNoCommand b → (b == 0x60) ≡ false
-not_leds b h = ne_eqb b 0x60 (λ e. h (Leds []) (0 ∷ []) (ap (λ (x : ℕ). x ∷ 0 ∷ []) (sym e)))
+not_leds b h = ne_eqb b 0x60 (λ e. h (Leds []) (behind_code (Leds [])) (ap (λ (x : ℕ). x ∷ behind_code (Leds [])) (sym e)))
 
 -- the word that a list begins with has this length
 spelling_length : (c : CommandContent) (x : List ℕ) → word_length (spelling c ++ x) ≡ length (spelling c)
-spelling_length Reset x = refl
-spelling_length Clock x = refl
-spelling_length Dump x = refl
-spelling_length Update x = refl
-spelling_length UpdateBoard x = refl
-spelling_length UpdateNice x = refl
-spelling_length Serial x = refl
-spelling_length Trademark x = refl
-spelling_length Battery x = refl
-spelling_length Version x = refl
 spelling_length (ClockMessage message) x = rw (le-ltb (length (payload message) + 3) 3 (omega arith)) (omega (arith, length-append (payload message) (0 ∷ [])))
 spelling_length (Leds leds) x = omega arith
+spelling_length _ x = refl
 
 -- a word with anything behind it tells its own length
 pub form_length : (e : EventContent) (w x : List ℕ) → HasForm e w → word_length (w ++ x) ≡ length w
@@ -59,31 +53,15 @@ form_length BadStart w x (size, third, large, other, is) = subst (λ (v : List �
 form_length BadEnd w x (size, inner, last, long, other, some, is) = subst (λ (v : List ℕ). word_length (v ++ x) ≡ length v) (sym is) (rw (le-ltb size 3 (omega arith)) (omega (arith, length-append inner (last ∷ []))))
 form_length (Stray b) w x (none, is) = subst (λ (v : List ℕ). word_length (v ++ x) ≡ length v) (sym is) (rw (not_clock b none, not_leds b none) refl)
 
--- the one-byte commands
-abbrev pub one_byte : List (ℕ × CommandContent)
-one_byte =
-    (0x40, Reset) ∷ (0x41, Clock) ∷ (0x42, Dump) ∷ (0x43, Update) ∷ (0x44, UpdateBoard) ∷ (0x45, Serial) ∷ (0x47, Trademark) ∷ (0x4b, UpdateNice) ∷ (0x4c, Battery) ∷ (0x4d, Version) ∷ []
-
--- the event of one byte, by a table of commands
-abbrev pub event_of_byte : List (ℕ × CommandContent) → ℕ → EventContent
-event_of_byte [] b = Stray b
-event_of_byte (e ∷ es) b = if b == e.0 then Read e.1 else event_of_byte es b
-
--- each command of the table is spelled by its byte
-abbrev pub AreSpelled : List (ℕ × CommandContent) → Type 0
-AreSpelled [] = Unit {0}
-AreSpelled (e ∷ es) = (spelling e.1 ≡ e.0 ∷ []) × IsCommand e.1 × AreSpelled es
-
--- so are the one-byte commands
-one_byte_spelled : AreSpelled one_byte
-one_byte_spelled =
-    (refl, tt, (refl, tt, (refl, tt, (refl, tt, (refl, tt, (refl, tt, (refl, tt, (refl, tt, (refl, tt, (refl, tt, tt))))))))))
+-- the event of one byte, by the command that it is the code of
+abbrev pub event_of_byte : Option Command → ℕ → EventContent
+event_of_byte (Some each) b = Read (command_content each)
+event_of_byte None b = Stray b
 
 -- a byte that begins no command is stray
-stray_byte : (es : List (ℕ × CommandContent)) (b : ℕ) → AreSpelled es → BeginsNoCommand b → event_of_byte es b ≡ Stray b
-stray_byte [] b h none = refl
-stray_byte (e ∷ es) b h none =
-    rw (ne_eqb b e.0 (λ is. none e.1 [] (h.0 ∙ ap (λ (x : ℕ). x ∷ []) (sym is)))) (stray_byte es b h.2 none)
+stray_byte : (found : Option Command) (b : ℕ) → bare_command b ≡ found → BeginsNoCommand b → event_of_byte found b ≡ Stray b
+stray_byte None b e none = refl
+stray_byte (Some each) b e none = absurd (none (command_content each) [] (sym (bare_form b each e).1))
 
 -- the event of a clock message of this id, by what follows it
 abbrev pub end_event : ℕ → List ℕ → EventContent
@@ -100,7 +78,7 @@ clock_event _ = BadSize
 abbrev pub event_of : List ℕ → EventContent
 event_of [] = BadSize
 event_of (b ∷ rest) =
-    if b == 0x2b then clock_event rest else if b == 0x60 then Read (Leds (drop 1 rest)) else event_of_byte one_byte b
+    if b == 0x2b then clock_event rest else if b == 0x60 then Read (Leds (drop 1 rest)) else event_of_byte (bare_command b) b
 
 -- all but the last byte
 front : (p : List ℕ) (x : ℕ) → take (length (p ++ x ∷ []) - 1) (p ++ x ∷ []) ≡ p
@@ -120,19 +98,9 @@ end_bad id p x h = rw (last_of p x, ne_eqb x 0 h) refl
 
 -- the event of a spelling is its command
 event_of_spelling : (c : CommandContent) → IsCommand c → event_of (spelling c) ≡ Read c
-event_of_spelling Reset h = refl
-event_of_spelling Clock h = refl
-event_of_spelling Dump h = refl
-event_of_spelling Update h = refl
-event_of_spelling UpdateBoard h = refl
-event_of_spelling UpdateNice h = refl
-event_of_spelling Serial h = refl
-event_of_spelling Trademark h = refl
-event_of_spelling Battery h = refl
-event_of_spelling Version h = refl
 event_of_spelling (ClockMessage message) h =
     end_read (clock_id message) (payload message) ∙ ap (λ m. Read (ClockMessage m)) (clock_in_lem message h)
-event_of_spelling (Leds leds) h = refl
+event_of_spelling _ h = refl
 
 -- a clock message with a wrong last byte is a fault
 end_bad_long : (inner : List ℕ) (x : ℕ) (size : ℕ) → 0 < length inner → x ≢ 0 → clock_event (size ∷ 3 ∷ (inner ++ x ∷ [])) ≡ BadEnd
@@ -146,7 +114,7 @@ form_event BadSize w (size, small, is) = ap event_of is
 form_event BadStart w (size, third, large, other, is) = ap event_of is
 form_event BadEnd w (size, inner, final, long, other, some, is) = ap event_of is ∙ end_bad_long inner final size (omega arith) other
 form_event (Stray b) w (none, is) =
-    ap event_of is ∙ rw (not_clock b none, not_leds b none) (stray_byte one_byte b one_byte_spelled none)
+    ap event_of is ∙ rw (not_clock b none, not_leds b none) (stray_byte (bare_command b) b refl none)
 
 -- Two lists that begin alike begin with the same word.
 pub record SameWord (e f : EventContent) (w v x y : List ℕ) : Type 0 where
@@ -169,45 +137,14 @@ same_word e f w v x y h k is =
       after = append_cancel_left w x y (is ∙ ap (λ u. u ++ y) (sym word));
     }
 
--- the first byte, or 0
-abbrev pub first_byte : List ℕ → ℕ
-first_byte [] = 0
-first_byte (b ∷ rest) = b
-
--- the byte is none of the table
-abbrev pub IsNone : ℕ → List (ℕ × CommandContent) → Type 0
-IsNone b [] = Unit {0}
-IsNone b (e ∷ es) = (b ≢ e.0) × IsNone b es
-
--- a byte is one of the table or none of it
-find_byte : (es : List (ℕ × CommandContent)) (b : ℕ) → AreSpelled es → ((e : EventContent) × HasForm e (b ∷ [])) ⊎ IsNone b es
-find_byte [] b h = inr tt
-find_byte (e ∷ es) b h = elim (cases_eq b e.0) [
-  | inl is ↦ inl (Read e.1, (h.1, ap (λ (x : ℕ). x ∷ []) is ∙ sym h.0))
-  | inr other ↦ elim (find_byte es b h.2) [ inl found ↦ inl found | inr none ↦ inr (other, none) ]
-]
-
--- a byte that is none of the first bytes begins no command
-pub no_command : (b : ℕ) → IsNone b one_byte → b ≢ 0x2b → b ≢ 0x60 → BeginsNoCommand b
-no_command b n c l Reset rest h = n.0 (sym (ap first_byte h))
-no_command b n c l Clock rest h = n.1.0 (sym (ap first_byte h))
-no_command b n c l Dump rest h = n.1.1.0 (sym (ap first_byte h))
-no_command b n c l Update rest h = n.1.1.1.0 (sym (ap first_byte h))
-no_command b n c l UpdateBoard rest h = n.1.1.1.1.0 (sym (ap first_byte h))
-no_command b n c l Serial rest h = n.1.1.1.1.1.0 (sym (ap first_byte h))
-no_command b n c l Trademark rest h = n.1.1.1.1.1.1.0 (sym (ap first_byte h))
-no_command b n c l UpdateNice rest h = n.1.1.1.1.1.1.1.0 (sym (ap first_byte h))
-no_command b n c l Battery rest h = n.1.1.1.1.1.1.1.1.0 (sym (ap first_byte h))
-no_command b n c l Version rest h = n.1.1.1.1.1.1.1.1.1.0 (sym (ap first_byte h))
-no_command b n c l (ClockMessage message) rest h = c (sym (ap first_byte h))
-no_command b n c l (Leds leds) rest h = l (sym (ap first_byte h))
+-- the word of one byte, by the command that it is the code of
+word_of_byte : (found : Option Command) (b : ℕ) → bare_command b ≡ found → b ≢ 0x2b → b ≢ 0x60 → (e : EventContent) × HasForm e (b ∷ [])
+word_of_byte (Some each) b e not_clock not_leds = (Read (command_content each), bare_form b each e)
+word_of_byte None b e not_clock not_leds = (Stray b, (no_command b e not_clock not_leds, refl))
 
 -- a byte that begins no longer word is a word itself
 pub byte_word : (b : ℕ) → b ≢ 0x2b → b ≢ 0x60 → (e : EventContent) × HasForm e (b ∷ [])
-byte_word b c l = elim (find_byte one_byte b one_byte_spelled) [
-  | inl found ↦ found
-  | inr none ↦ (Stray b, (no_command b none c l, refl))
-]
+byte_word b c l = word_of_byte (bare_command b) b refl c l
 
 -- the spelling of a clock message, by its id and payload
 clock_spelling : (c : ClockContent) (id : ℕ) (p : List ℕ) (size : ℕ) → clock_id c ≡ id → payload c ≡ p → length p + 3 ≡ size → 0x2b ∷ size ∷ 3 ∷ id ∷ (p ++ 0 ∷ []) ≡ spelling (ClockMessage c)

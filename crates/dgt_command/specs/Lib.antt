@@ -1,9 +1,11 @@
 pub mod Carried
+pub mod Id
 pub mod ClockForm
 pub mod Raw
 pub mod Content
 pub mod Kind
 pub mod Display
+pub mod Code
 pub mod Words
 pub mod Telling
 pub mod Laws

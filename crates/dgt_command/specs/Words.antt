@@ -2,19 +2,23 @@
 use Rattle.std.specs.Prelude.{◌≡◌, ◌≢◌, ℕ, ◌+◌, ◌<◌, ◌≤◌, List, [], ◌∷◌, ◌++◌, length, slice_index, false}
 use Rattle.std.specs.List.{AllByRecursion}
 use Rattle.dgt_command.specs.ClockForm.{has_own_case}
-use Rattle.dgt_command.specs.Content.{ClockContent, Display, Icons, End, Button, ClockVersion, SetAndRun, Beep, Raw, CommandContent, Reset, Clock, Dump, Update, UpdateBoard, UpdateNice, Serial, Trademark, Battery, Version, ClockMessage, Leds, EventContent, Read, BadSize, BadStart, BadEnd, Stray}
+use Rattle.dgt_command.specs.Code.{command_code}
+use Rattle.dgt_command.specs.Content.{ClockContent, Display, Icons, End, Button, ClockVersion, SetAndRun, Beep, Raw, CommandContent, ClockMessage, Leds, EventContent, Read, BadSize, BadStart, BadEnd, Stray}
+use Rattle.dgt_command.specs.declared.ids.KnownId.{KnownId}
+use Rattle.dgt_command.specs.Id.{id_number}
 
 abbrev pub AreBytes : List ℕ → Type 0
 AreBytes bytes = (i : ℕ) → slice_index bytes i < 256
 
+-- the id of a clock message
 abbrev pub clock_id : ClockContent → ℕ
-clock_id (Display a b c d e f dots beep) = 0x01
-clock_id (Icons payload) = 0x02
-clock_id End = 0x03
-clock_id Button = 0x08
-clock_id ClockVersion = 0x09
-clock_id (SetAndRun lh lm ls rh rm rs control) = 0x0a
-clock_id (Beep duration) = 0x0b
+clock_id (Display a b c d e f dots beep) = id_number KnownId.Display
+clock_id (Icons payload) = id_number KnownId.Icons
+clock_id End = id_number KnownId.End
+clock_id Button = id_number KnownId.Button
+clock_id ClockVersion = id_number KnownId.Version
+clock_id (SetAndRun lh lm ls rh rm rs control) = id_number KnownId.SetAndRun
+clock_id (Beep duration) = id_number KnownId.Beep
 clock_id (Raw id payload) = id
 
 -- the places of a display are sent C, B, A, F, E, D
@@ -37,21 +41,16 @@ abbrev pub IsCommand : CommandContent → Type 0
 IsCommand (ClockMessage message) = IsClockCommand message
 IsCommand _ = Unit {0}
 
+-- what follows the code of a command
+abbrev pub behind_code : CommandContent → List ℕ
+behind_code (ClockMessage message) =
+    (length (payload message) + 3) ∷ 0x03 ∷ clock_id message ∷ (payload message ++ 0x00 ∷ [])
+behind_code (Leds leds) = length leds ∷ leds
+behind_code _ = []
+
 -- the bytes of a command
 abbrev pub spelling : CommandContent → List ℕ
-spelling Reset = 0x40 ∷ []
-spelling Clock = 0x41 ∷ []
-spelling Dump = 0x42 ∷ []
-spelling Update = 0x43 ∷ []
-spelling UpdateBoard = 0x44 ∷ []
-spelling Serial = 0x45 ∷ []
-spelling Trademark = 0x47 ∷ []
-spelling UpdateNice = 0x4b ∷ []
-spelling Battery = 0x4c ∷ []
-spelling Version = 0x4d ∷ []
-spelling (ClockMessage message) =
-    0x2b ∷ (length (payload message) + 3) ∷ 0x03 ∷ clock_id message ∷ (payload message ++ 0x00 ∷ [])
-spelling (Leds leds) = 0x60 ∷ length leds ∷ leds
+spelling command = command_code command ∷ behind_code command
 
 -- the command has this spelling, all of it bytes
 pub record Spells (command : CommandContent) (bytes : List ℕ) : Type 0 where

@@ -4,6 +4,7 @@ ghost use Rattle.std.specs.Prelude.{◌≡◌, length, false};
 ghost use Rattle.dgt_command.specs.ClockForm.{has_own_case};
 
 use crate::carried::Payload;
+use crate::ids::KnownId;
 use dgt_values::Known;
 
 /// A clock message with no case of its own: another id, or a known id with a payload of another length.
@@ -18,13 +19,13 @@ pub struct RawClock<'a> {
 fn has_case(id: u8, size: usize) -> bool
     ensures { result ≡ has_own_case id size }
 {
-    match id {
-        0x01 => size == 8,
-        0x02 => true,
-        0x03 | 0x08 | 0x09 => size == 0,
-        0x0a => size == 7,
-        0x0b => size == 1,
-        _ => false,
+    match KnownId::with_number(id) {
+        Some(KnownId::Display) => size == 8,
+        Some(KnownId::Icons) => true,
+        Some(KnownId::End | KnownId::Button | KnownId::Version) => size == 0,
+        Some(KnownId::SetAndRun) => size == 7,
+        Some(KnownId::Beep) => size == 1,
+        None => false,
     }
 }
 

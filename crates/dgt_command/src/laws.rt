@@ -1,10 +1,12 @@
 //! What holds of commands, of the words on the line and of how bytes divide into them, whoever reads or writes them.
 
-ghost use Rattle.std.specs.Prelude.{◌≡◌};
+ghost use Rattle.std.specs.Prelude.{◌≡◌, ◌↔◌, ℕ, Some};
 ghost use Rattle.dgt_values.specs.Equality.{EqualIsSame, EqualIsSameRead};
+ghost use Rattle.dgt_command.specs.declared.ids.KnownId.{KnownId};
 ghost use Rattle.dgt_command.specs.Carried.{led_bytes, payload_bytes};
 ghost use Rattle.dgt_command.specs.Content.{clock_content, command_content, event_content};
 ghost use Rattle.dgt_command.specs.Equality.{CommandHasArrays, EqualIsSameReadOf, EventHasArrays, FedHasArrays, HasArrays, fed_seen};
+ghost use Rattle.dgt_command.specs.Id.{id_number, id_with};
 ghost use Rattle.dgt_command.specs.Laws.{CommandsAreReadBack, DivisionsAppend, EachDividesOnce, NoWordBeginsAnother, SpellingsTellCommands, WordsAreShort, ZerosSettleTheReader};
 ghost use Rattle.dgt_command.specs.Raw.{raw_seen};
 
@@ -13,6 +15,7 @@ use crate::clock::{ClockCommand, RawClock};
 use crate::command::{Command, CommandEvent};
 use crate::decoder::CommandFed;
 use crate::framer::{AdvancedWord, FoundWord, MAX_WORD};
+use crate::ids::KnownId;
 
 /// The limits by their numbers.
 pub fn limits()
@@ -30,9 +33,16 @@ pub fn equal_is_same()
     ensures clock { EqualIsSameReadOf HasArrays clock_content ⟦<ClockCommand<'static> as PartialEq>⟧.eq }
     ensures command { EqualIsSameReadOf CommandHasArrays command_content ⟦<Command<'static> as PartialEq>⟧.eq }
     ensures event { EqualIsSameReadOf EventHasArrays event_content ⟦<CommandEvent<'static> as PartialEq>⟧.eq }
+    ensures known_id { EqualIsSame ⟦<KnownId as PartialEq>⟧.eq }
     ensures fed { EqualIsSameReadOf FedHasArrays fed_seen ⟦<CommandFed<'static> as PartialEq>⟧.eq }
     ensures found { EqualIsSame ⟦<FoundWord as PartialEq>⟧.eq }
     ensures advanced { EqualIsSame ⟦<AdvancedWord as PartialEq>⟧.eq }
+{}
+
+/// A number is that of at most one known id, and each known id is found by its number.
+pub fn a_number_has_one_id()
+    ensures { (number : ℕ) (known : KnownId)
+        → (id_with number ≡ Some known) ↔ (number ≡ id_number known) }
 {}
 
 /// One division: each list of bytes divides into words and a rest that some word extends, and in only one way.

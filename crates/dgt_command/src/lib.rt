@@ -1,8 +1,8 @@
 //! Commands from a host to a DGT board: how they are spelled, and how their bytes are read.
 //!
 //! A [`Command`] is one byte, a clock message `2b size 03 id payload 00`, whose size counts all bytes after itself,
-//! or an LED frame `60 size` with size further bytes. These forms, the command bytes and the ids of the
-//! [`ClockCommand`]s are those of the DGT Electronic Board Protocol Description (the `dgtbrd` header), single-board
+//! or an LED frame `60 size` with size further bytes. These forms, the command bytes and the
+//! [`KnownId`]s are those of the DGT Electronic Board Protocol Description (the `dgtbrd` header), single-board
 //! mode. That other bytes are passed over one by one, and what each fault of a clock message ends, is this project's
 //! own choice: see [`CommandEvent`].
 //!
@@ -17,10 +17,12 @@
 
 mod carried;
 mod clock;
+mod codes;
 mod command;
 mod decoder;
 mod displaying;
 mod framer;
+mod ids;
 pub mod laws;
 mod lengths;
 mod questions;
@@ -33,6 +35,7 @@ pub use command::{Command, CommandEvent};
 pub use decoder::{CommandDecoder, CommandFed};
 pub use displaying::display;
 pub use framer::{AdvancedWord, FoundWord, MAX_WORD, WordFramer};
+pub use ids::KnownId;
 pub use questions::kind_of_command;
 pub use viewing::view_command;
 pub use writing::{clock_id, encode, length};

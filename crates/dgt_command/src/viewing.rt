@@ -7,7 +7,9 @@ ghost use Rattle.dgt_command.specs.Words.{clock_id, payload, Spells};
 
 use crate::carried::{LedBytes, Payload};
 use crate::clock::{ClockCommand, RawClock};
+use crate::codes::bare_command;
 use crate::command::Command;
+use crate::ids::KnownId;
 
 /// The command whose bytes are exactly these, or `None` where there is no such command.
 ///
@@ -17,16 +19,7 @@ pub fn view_command(bytes: &[u8]) -> Option<Command<'_>>
     ensures none { IfNone result ((command : CommandContent) → Spells command bytes.now → ⊥) }
 {
     match bytes {
-        [0x40] => Some(Command::Reset),
-        [0x41] => Some(Command::Clock),
-        [0x42] => Some(Command::Dump),
-        [0x43] => Some(Command::Update),
-        [0x44] => Some(Command::UpdateBoard),
-        [0x45] => Some(Command::Serial),
-        [0x47] => Some(Command::Trademark),
-        [0x4b] => Some(Command::UpdateNice),
-        [0x4c] => Some(Command::Battery),
-        [0x4d] => Some(Command::Version),
+        [byte] => bare_command(*byte),
         [0x2b, size, 0x03, id, carried @ .., 0x00] if carried.len() + 3 == *size as usize => {
             let carried = Payload { bytes: carried };
             Some(Command::ClockMessage(clock_command(*id, carried)))
@@ -47,22 +40,22 @@ fn clock_command(id: u8, carried: Payload<'_>) -> ClockCommand<'_>
         return ClockCommand::Raw(raw);
     }
     let bytes = carried.bytes();
-    match id {
-        0x01 => ClockCommand::Display {
+    match KnownId::with_number(id) {
+        Some(KnownId::Display) => ClockCommand::Display {
             places: [bytes[2], bytes[1], bytes[0], bytes[5], bytes[4], bytes[3]],
             dots: bytes[6],
             beep: bytes[7],
         },
-        0x02 => ClockCommand::Icons(carried),
-        0x03 => ClockCommand::End,
-        0x08 => ClockCommand::Button,
-        0x09 => ClockCommand::Version,
-        0x0a => ClockCommand::SetAndRun {
+        Some(KnownId::Icons) => ClockCommand::Icons(carried),
+        Some(KnownId::End) => ClockCommand::End,
+        Some(KnownId::Button) => ClockCommand::Button,
+        Some(KnownId::Version) => ClockCommand::Version,
+        Some(KnownId::SetAndRun) => ClockCommand::SetAndRun {
             left: [bytes[0], bytes[1], bytes[2]],
             right: [bytes[3], bytes[4], bytes[5]],
             control: bytes[6],
         },
-        0x0b => ClockCommand::Beep(bytes[0]),
-        _ => unreachable!(),
+        Some(KnownId::Beep) => ClockCommand::Beep(bytes[0]),
+        None => unreachable!(),
     }
 }

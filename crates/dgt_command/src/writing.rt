@@ -6,7 +6,9 @@ ghost use Rattle.dgt_command.specs.Content.{clock_content, command_content};
 ghost use Rattle.dgt_command.specs.Words.{clock_id, payload, spelling, Spells};
 
 use crate::clock::ClockCommand;
+use crate::codes::command_code;
 use crate::command::Command;
+use crate::ids::KnownId;
 use dgt_values::NoRoom;
 
 /// How many bytes the command has: 1 to 257.
@@ -40,42 +42,27 @@ fn write(command: &Command, out: &mut [u8])
     requires { length out.old ≡ length (spelling (command_content command.now)) }
     ensures { out.new ≡ spelling (command_content command.now) }
 {
+    let (head, tail) = out.split_at_mut(1);
+    head.copy_from_slice(&[command_code(command)]);
     match command {
-        Command::ClockMessage(message) => write_clock(message, out),
+        Command::ClockMessage(message) => write_clock(message, tail),
         Command::Leds(leds) => {
-            let (head, tail) = out.split_at_mut(2);
-            head.copy_from_slice(&[0x60, leds.bytes().len() as u8]);
-            tail.copy_from_slice(leds.bytes());
+            let (size, lit) = tail.split_at_mut(1);
+            size.copy_from_slice(&[leds.bytes().len() as u8]);
+            lit.copy_from_slice(leds.bytes());
         }
-        Command::Reset => write_byte(0x40, out),
-        Command::Clock => write_byte(0x41, out),
-        Command::Dump => write_byte(0x42, out),
-        Command::Update => write_byte(0x43, out),
-        Command::UpdateBoard => write_byte(0x44, out),
-        Command::Serial => write_byte(0x45, out),
-        Command::Trademark => write_byte(0x47, out),
-        Command::UpdateNice => write_byte(0x4b, out),
-        Command::Battery => write_byte(0x4c, out),
-        Command::Version => write_byte(0x4d, out),
+        _ => {}
     }
 }
 
-// Fills the slice with this byte.
-fn write_byte(byte: u8, out: &mut [u8])
-    requires { length out.old ≡ 1 }
-    ensures { out.new ≡ byte ∷ [] }
-{
-    out.copy_from_slice(&[byte]);
-}
-
-// Fills the slice with the clock message.
+// Fills the slice with what follows the code of a clock message.
 fn write_clock(message: &ClockCommand, out: &mut [u8])
-    requires { length out.old ≡ length (payload (clock_content message.now)) + 5 }
-    ensures { out.new ≡ 0x2b ∷ (length (payload (clock_content message.now)) + 3) ∷ 0x03 ∷ clock_id (clock_content message.now) ∷ (payload (clock_content message.now) ++ 0x00 ∷ []) }
+    requires { length out.old ≡ length (payload (clock_content message.now)) + 4 }
+    ensures { out.new ≡ (length (payload (clock_content message.now)) + 3) ∷ 0x03 ∷ clock_id (clock_content message.now) ∷ (payload (clock_content message.now) ++ 0x00 ∷ []) }
 {
     let size = payload_length(message);
-    let (head, tail) = out.split_at_mut(4);
-    head.copy_from_slice(&[0x2b, (size + 3) as u8, 0x03, clock_id(message)]);
+    let (head, tail) = out.split_at_mut(3);
+    head.copy_from_slice(&[(size + 3) as u8, 0x03, clock_id(message)]);
     let (body, end) = tail.split_at_mut(size);
     write_payload(message, body);
     end.copy_from_slice(&[0x00]);
@@ -86,13 +73,13 @@ pub fn clock_id(message: &ClockCommand) -> u8
     ensures { result ≡ clock_id (clock_content message.now) }
 {
     match message {
-        ClockCommand::Display { .. } => 0x01,
-        ClockCommand::Icons(_) => 0x02,
-        ClockCommand::End => 0x03,
-        ClockCommand::Button => 0x08,
-        ClockCommand::Version => 0x09,
-        ClockCommand::SetAndRun { .. } => 0x0a,
-        ClockCommand::Beep(_) => 0x0b,
+        ClockCommand::Display { .. } => KnownId::Display.number(),
+        ClockCommand::Icons(_) => KnownId::Icons.number(),
+        ClockCommand::End => KnownId::End.number(),
+        ClockCommand::Button => KnownId::Button.number(),
+        ClockCommand::Version => KnownId::Version.number(),
+        ClockCommand::SetAndRun { .. } => KnownId::SetAndRun.number(),
+        ClockCommand::Beep(_) => KnownId::Beep.number(),
         ClockCommand::Raw(raw) => raw.id(),
     }
 }

@@ -1,0 +1,72 @@
+-- A number has one known id, and a byte is the code of one command of one byte.
+use Rattle.std.proofs.Common.{◌≡◌, ◌≢◌, ℕ, Bool, true, false, cond, ◌&&◌, refl, sym, ap, subst, List, [], ◌∷◌, Some, None}
+use Rattle.std.specs.Prelude.{◌==◌, ◌↔◌, find}
+use Rattle.std.proofs.lemmas.Bool.{and_parts, eqb-true}
+use Rattle.dgt_command.specs.declared.command.Command.{Command}
+use Rattle.dgt_command.specs.declared.command.Command.TheVariants as command
+use Rattle.dgt_command.specs.declared.ids.KnownId.{KnownId}
+use Rattle.dgt_command.specs.declared.ids.KnownId.TheVariants.{Display}
+use Rattle.dgt_command.specs.Code.{bare_command, bare_commands, command_code}
+use Rattle.dgt_command.specs.Content.{command_content, ClockMessage, Leds, Read}
+use Rattle.dgt_command.specs.Id.{id_number, id_with, known_ids}
+use Rattle.dgt_command.specs.Words.{BeginsNoCommand, HasForm}
+
+-- whether each member passes a test
+abbrev each_passes : {X : Type 0} → (X → Bool) → List X → Bool
+each_passes p [] = true
+each_passes p (x ∷ xs) = p x && each_passes p xs
+
+-- what a search finds passes its test, and each test that all members pass
+found_passes : {X : Type 0} (listed test : X → Bool) (xs : List X) (x : X) → each_passes listed xs ≡ true → find test xs ≡ Some x → (test x ≡ true) × (listed x ≡ true)
+found_passes listed test [] x all e = cc
+found_passes listed test (y ∷ xs) x all e =
+    let parts = and_parts (listed y) (each_passes listed xs) all in
+    go (test y) refl e parts.0 (found_passes listed test xs x parts.1)
+  where
+    go : (t : Bool) → test y ≡ t → cond t (Some y) (find test xs) ≡ Some x → listed y ≡ true
+        → (find test xs ≡ Some x → (test x ≡ true) × (listed x ≡ true)) → (test x ≡ true) × (listed x ≡ true)
+    go true f e first later = (cc, cc)
+    go false f e first later = later e
+
+-- the number of the id that is found
+pub found_id : (number : ℕ) (known : KnownId) → id_with number ≡ Some known → number ≡ id_number known
+found_id number known e =
+    sym (eqb-true _ _ (found_passes (λ each. true) (λ each. id_number each == number) known_ids known refl e).0)
+
+-- the id of its number
+id_found : (known : KnownId) → id_with (id_number known) ≡ Some known
+id_found Display = refl
+id_found _ = refl
+
+-- a number has one id
+pub one_id : (number : ℕ) (known : KnownId) → (id_with number ≡ Some known) ↔ (number ≡ id_number known)
+one_id number known = (found_id number known, λ e. rw e (id_found known))
+
+-- whether a command is its code alone
+abbrev is_bare : Command → Bool
+is_bare (command.ClockMessage message) = false
+is_bare (command.Leds leds) = false
+is_bare _ = true
+
+-- such a command is spelled by its code
+spelled_by_code : (each : Command) → is_bare each ≡ true → HasForm (Read (command_content each)) (command_code (command_content each) ∷ [])
+spelled_by_code (command.ClockMessage message) h = cc
+spelled_by_code (command.Leds leds) h = cc
+spelled_by_code _ h = (tt, refl)
+
+-- the command that is found is spelled by the byte
+pub bare_form : (byte : ℕ) (each : Command) → bare_command byte ≡ Some each → HasForm (Read (command_content each)) (byte ∷ [])
+bare_form byte each e =
+    let found = found_passes is_bare (λ other. command_code (command_content other) == byte) bare_commands each refl e in
+    rw (← eqb-true _ _ found.0) (spelled_by_code each found.1)
+
+-- the first byte, or 0
+abbrev pub first_byte : List ℕ → ℕ
+first_byte [] = 0
+first_byte (b ∷ rest) = b
+
+-- a byte that is the code of no command of one byte begins no command, but for the longer ones
+pub no_command : (byte : ℕ) → bare_command byte ≡ None → byte ≢ 0x2b → byte ≢ 0x60 → BeginsNoCommand byte
+no_command byte none not_clock not_leds (ClockMessage message) rest h = not_clock (sym (ap first_byte h))
+no_command byte none not_clock not_leds (Leds leds) rest h = not_leds (sym (ap first_byte h))
+no_command byte none not_clock not_leds c rest h = let gone = subst (λ (x : ℕ). bare_command x ≡ None) (sym (ap first_byte h)) none in cc

@@ -1,0 +1,49 @@
+//! The code of each command: the byte that it begins with.
+
+ghost use Rattle.std.specs.Prelude.{◌≡◌};
+ghost use Rattle.dgt_command.specs.Code.{bare_command, command_code};
+ghost use Rattle.dgt_command.specs.Content.{command_content};
+
+use crate::command::Command;
+
+// The byte that the command begins with.
+pub(crate) fn command_code(command: &Command) -> u8
+    ensures { result ≡ command_code (command_content command.now) }
+{
+    match command {
+        Command::ClockMessage(_) => 0x2b,
+        Command::Reset => 0x40,
+        Command::Clock => 0x41,
+        Command::Dump => 0x42,
+        Command::Update => 0x43,
+        Command::UpdateBoard => 0x44,
+        Command::Serial => 0x45,
+        Command::Trademark => 0x47,
+        Command::UpdateNice => 0x4b,
+        Command::Battery => 0x4c,
+        Command::Version => 0x4d,
+        Command::Leds(_) => 0x60,
+    }
+}
+
+// The command that is this byte alone, if one is.
+pub(crate) fn bare_command(byte: u8) -> Option<Command<'static>>
+    ensures { result ≡ bare_command byte }
+{
+    let bare_commands = [
+        Command::Reset,
+        Command::Clock,
+        Command::Dump,
+        Command::Update,
+        Command::UpdateBoard,
+        Command::UpdateNice,
+        Command::Serial,
+        Command::Trademark,
+        Command::Battery,
+        Command::Version,
+    ];
+    bare_commands
+        .iter()
+        .copied()
+        .find(|command| command_code(command) == byte)
+}

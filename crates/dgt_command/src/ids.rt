@@ -1,0 +1,42 @@
+//! The ids of clock messages that have a case of their own.
+
+ghost use Rattle.std.specs.Prelude.{◌≡◌};
+ghost use Rattle.dgt_command.specs.Id.{id_number, id_with};
+
+/// The id of a clock message with a case of its own in [`ClockCommand`](crate::ClockCommand).
+#[derive(Clone, Copy, Debug, PartialEq, Eq)]
+pub enum KnownId {
+    Display = 0x01,
+    Icons = 0x02,
+    End = 0x03,
+    Button = 0x08,
+    Version = 0x09,
+    SetAndRun = 0x0a,
+    Beep = 0x0b,
+}
+
+const KNOWN_IDS: &[KnownId] = &[
+    KnownId::Display,
+    KnownId::Icons,
+    KnownId::End,
+    KnownId::Button,
+    KnownId::Version,
+    KnownId::SetAndRun,
+    KnownId::Beep,
+];
+
+impl KnownId {
+    /// The number that it is sent as.
+    pub fn number(self) -> u8
+        ensures { result ≡ id_number self }
+    {
+        self as u8
+    }
+
+    /// The id with this number, if one has it.
+    pub fn with_number(number: u8) -> Option<Self>
+        ensures { result ≡ id_with number }
+    {
+        KNOWN_IDS.iter().copied().find(|id| id.number() == number)
+    }
+}
