@@ -10,18 +10,10 @@ use Rattle.std.specs.List.{range_with_len}
 use Rattle.dgt_values.specs.declared.pieces.Piece.{Piece}
 use Rattle.dgt_values.specs.Piece.{piece_code}
 use Rattle.dgt_values.specs.Position.{DifferingSquares}
-use Rattle.dgt_message.specs.Reading.{piece_with_code}
+use Rattle.dgt_values.proofs.PieceCodes.{same_code}
 use Rattle.dgt_board.specs.Due.{IsFirst}
 use Rattle.dgt_board.specs.State.{BoardState}
 use Rattle.dgt_board.specs.Sending.{differs, every_square, piece_on}
-
--- a piece is the one with its code
-piece_with_code-piece_code : (piece : Piece) → piece_with_code (piece_code piece) ≡ piece
-piece_with_code-piece_code Piece.Empty = refl
-piece_with_code-piece_code _ = refl
-
-same_code : (a b : Piece) → piece_code a ≡ piece_code b → a ≡ b
-same_code a b same = sym (piece_with_code-piece_code a) ∙ ap piece_with_code same ∙ piece_with_code-piece_code b
 
 -- a test that fails along a range keeps nothing of it
 none_kept : (test : ℕ → Bool) (a n : ℕ) → ((k : ℕ) → k < n → test (a + k) ≡ false) → filter test (range_with_len a n) ≡ []
