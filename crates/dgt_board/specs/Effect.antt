@@ -2,8 +2,10 @@
 use Rattle.std.specs.Prelude.{List, [], ◌∷◌, ◌++◌, Option, Some, None, Bool, false, not, ◌==◌, if◌then◌else◌, map, option_to_list, unwrap_or}
 use Rattle.dgt_message.specs.ClockState.{ClockState}
 use Rattle.dgt_command.specs.Content.{ClockContent, CommandContent, EventContent}
+use Rattle.dgt_command.specs.Id.{id_number}
 use Rattle.dgt_command.specs.Kind.{kind_of_command}
 use Rattle.dgt_command.specs.Words.{clock_id}
+use Rattle.dgt_command.specs.declared.ids.KnownId.{KnownId}
 use Rattle.dgt_board.specs.declared.modes.Mode.{Mode}
 use Rattle.dgt_board.specs.declared.replies.Reply.{Reply}
 use Rattle.dgt_board.specs.Identity.{IdentityContent}
@@ -20,7 +22,7 @@ command_mode _ = None
 -- the acknowledgement of a clock message: where the version is asked for it carries the clock's
 abbrev pub acknowledgement : IdentityContent → ClockContent → Reply
 acknowledgement identity message =
-    Reply.Ack (clock_id message) (if clock_id message == 0x09 then identity.clock_version else 0x00)
+    Reply.Ack (clock_id message) (if clock_id message == id_number KnownId.Version then identity.clock_version else 0x00)
 
 -- a board with no clock acknowledges nothing
 abbrev pub acknowledgements : ClockState → IdentityContent → ClockContent → List Reply

@@ -13,7 +13,7 @@ use crate::identities::Identity;
 use crate::modes::Mode;
 use crate::replies::Reply;
 use arrayvec::ArrayVec;
-use dgt_command::{ClockCommand, Command, CommandEvent, clock_id, kind_of_command};
+use dgt_command::{ClockCommand, Command, CommandEvent, KnownId, clock_id, kind_of_command};
 use dgt_message::Clock;
 use dgt_values::{Piece, Position, Square};
 
@@ -134,7 +134,7 @@ impl State {
     {
         if let Clock::Times(_) = self.clock {
             let id = clock_id(message);
-            let version = if id == 0x09 {
+            let version = if id == KnownId::Version.number() {
                 self.identity.clock_version()
             } else {
                 0
