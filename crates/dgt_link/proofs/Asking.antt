@@ -4,10 +4,10 @@ use Rattle.dgt_command.specs.Content.{CommandContent}
 use Rattle.dgt_link.specs.Act.{ActContent}
 use Rattle.dgt_link.specs.declared.acts.Outcome.{Outcome}
 use Rattle.dgt_link.specs.ActMoves.{AreMovesOfAct, AreMovesOfRun, AreMovesOfStep}
-use Rattle.dgt_link.specs.Asked.{IsAskedBy, commands_after_act, commands_after_run, commands_after_step, mode_after_act, mode_after_step}
+use Rattle.dgt_link.specs.Asked.{IsAskedBy, command_of_act, command_of_step, commands_after_run, mode_after_step}
 use Rattle.dgt_link.specs.Move.{IsSending, Move}
 use Rattle.dgt_link.specs.Machine.{State, after_move, after_moves}
-use Rattle.dgt_link.specs.Promise.{IsPromised, PictureIsComing, coming_mode, commands_after_move, commands_after_moves}
+use Rattle.dgt_link.specs.Promise.{IsPromised, PictureIsComing, coming_mode, command_of_move, commands_after_moves, mode_with, with_command}
 use Rattle.dgt_link.proofs.Promises.{dump_asked, move-mode, picture_keeps_coming}
 use Rattle.dgt_link.proofs.Runs.{moves_promise}
 
@@ -15,7 +15,7 @@ use Rattle.dgt_link.proofs.Runs.{moves_promise}
 
 commands-append : (before : List CommandContent) (moves more : List Move) → commands_after_moves before (moves ++ more) ≡ commands_after_moves (commands_after_moves before moves) more
 commands-append before [] more = refl
-commands-append before (move ∷ moves) more = commands-append (commands_after_move before move) moves more
+commands-append before (move ∷ moves) more = commands-append (with_command before (command_of_move move)) moves more
 
 commands-takes : (before : List CommandContent) (count : ℕ) → commands_after_moves before (replicate count Move.Take) ≡ before
 commands-takes before zero = refl
@@ -31,7 +31,7 @@ commands-sending before (Move.Tell square) sending = refl
 commands-sending before Move.TellClock sending = refl
 commands-sending before _ none = absurd none
 
-commands-act : (before : List CommandContent) (act : ActContent) (moves : List Move) → AreMovesOfAct act moves → commands_after_moves before moves ≡ commands_after_act before act
+commands-act : (before : List CommandContent) (act : ActContent) (moves : List Move) → AreMovesOfAct act moves → commands_after_moves before moves ≡ with_command before (command_of_act act)
 commands-act before (ActContent.Change square piece) moves e = rw e refl
 commands-act before (ActContent.ClockRead clock) moves e = rw e refl
 commands-act before (ActContent.Host command) moves e = rw e refl
@@ -39,7 +39,7 @@ commands-act before ActContent.BoardSend moves (move, sending, e) = rw e (comman
 commands-act before (ActContent.ToBoard bytes) moves (count, e) = rw e (commands-takes before count)
 commands-act before (ActContent.ToHost bytes) moves (count, e) = rw e (commands-hears before count)
 
-commands-step : (before : List CommandContent) (act : ActContent) (outcome : Outcome) (moves : List Move) → AreMovesOfStep act outcome moves → commands_after_moves before moves ≡ commands_after_step before act outcome
+commands-step : (before : List CommandContent) (act : ActContent) (outcome : Outcome) (moves : List Move) → AreMovesOfStep act outcome moves → commands_after_moves before moves ≡ with_command before (command_of_step act outcome)
 commands-step before act Outcome.Done moves are = commands-act before act moves are
 commands-step before act Outcome.Nothing moves e = rw e refl
 commands-step before act Outcome.NoRoom moves e = rw e refl
@@ -51,7 +51,7 @@ commands-run before [] [] moves e = rw e refl
 commands-run before (act ∷ acts) (outcome ∷ outcomes) moves (first, later, are, follow, e) =
     rw e (commands-append before first later)
     ∙ ap (λ (commands : List CommandContent). commands_after_moves commands later) (commands-step before act outcome first are)
-    ∙ commands-run (commands_after_step before act outcome) acts outcomes later follow
+    ∙ commands-run (with_command before (command_of_step act outcome)) acts outcomes later follow
 commands-run before [] (outcome ∷ outcomes) moves none = absurd none
 commands-run before (act ∷ acts) [] moves none = absurd none
 
@@ -84,7 +84,7 @@ mode-sending x (Move.Tell square) sending = move-mode x (Move.Tell square)
 mode-sending x Move.TellClock sending = move-mode x Move.TellClock
 mode-sending x _ none = absurd none
 
-mode-act : (x : State) (act : ActContent) (moves : List Move) → AreMovesOfAct act moves → coming_mode (after_moves x moves) ≡ mode_after_act (coming_mode x) act
+mode-act : (x : State) (act : ActContent) (moves : List Move) → AreMovesOfAct act moves → coming_mode (after_moves x moves) ≡ mode_with (coming_mode x) (command_of_act act)
 mode-act x (ActContent.Change square piece) moves e = rw e (move-mode x (Move.Change square piece))
 mode-act x (ActContent.ClockRead clock) moves e = rw e (move-mode x (Move.HandClock clock))
 mode-act x (ActContent.Host command) moves e = rw e (move-mode x (Move.Ask command))

@@ -18,7 +18,7 @@ use Rattle.dgt_host.specs.Hearing.{picture_after, picture_after_all}
 use Rattle.dgt_link.specs.Move.{Move}
 use Rattle.dgt_link.specs.Machine.{State, after_move, after_told, after_take, after_reply, after_hear}
 use Rattle.dgt_link.specs.Sound.{coming_picture}
-use Rattle.dgt_link.specs.Promise.{IsAsked, IsPromised, PictureIsComing, coming_mode, commands_after_move, event_mode, last_mode, mode_after}
+use Rattle.dgt_link.specs.Promise.{IsAsked, IsPromised, PictureIsComing, coming_mode, command_of_move, event_mode, last_mode, mode_after, with_command}
 use Rattle.dgt_link.proofs.Telling.{picture_after_all-append}
 
 -- ---- the mode that is coming
@@ -200,7 +200,7 @@ still_keeps : (commands : List CommandContent) (x : State) (move : Move) → mod
 still_keeps commands x move same keeps =
     record { picture = λ h. picture_keeps_coming x move (keeps.picture h); before = keeps.before; mode = move-mode x move ∙ same ∙ keeps.mode }
 
-pub move_keeps : (commands : List CommandContent) (x : State) (move : Move) → Keeps commands x → Keeps (commands_after_move commands move) (after_move x move)
+pub move_keeps : (commands : List CommandContent) (x : State) (move : Move) → Keeps commands x → Keeps (with_command commands (command_of_move move)) (after_move x move)
 move_keeps commands x (Move.Ask command) keeps =
     record {
       picture = ask_keeps commands x command keeps;

@@ -22,8 +22,9 @@ use Rattle.dgt_link.specs.Act.{ActContent}
 use Rattle.dgt_link.specs.declared.acts.Outcome.{Outcome}
 use Rattle.dgt_link.specs.Move.{Move}
 use Rattle.dgt_link.specs.Machine.{State, after_hear, after_move, after_moves, after_take, new_state}
+use Rattle.dgt_link.specs.Sound.{IsSound}
 use Rattle.dgt_link.specs.Stands.{AreSpelled, IsExactWorld, IsWorld, StandsFor}
-use Rattle.dgt_link.specs.Step.{Becomes, Runs, Step}
+use Rattle.dgt_link.specs.Step.{Becomes, Runs, Step, with_state}
 use Rattle.dgt_link.specs.View.{WorldView, new_world}
 use Rattle.dgt_link.specs.ActMoves.{AreMovesOfAct, StandsAfterRun, StandsAfterStep}
 use Rattle.dgt_link.proofs.Dividing.{divides_command, divides_end, divides_front}
@@ -129,21 +130,27 @@ spelled_more bytes messages message spells spelled =
 abbrev Reaches : ActContent → WorldView → State → Type 0
 Reaches act after x = (moves : List Move) × AreMovesOfAct act moves × StandsFor after (after_moves x moves)
 
+-- only the board is another
+board_stands : (world : WorldView) (x : State) (state board : BoardState) → StandsFor world x → IsSound (record x { board = board }) → state ≡ board → StandsFor (with_state world state) (record x { board = board })
+board_stands world x state board stands sound same =
+    record {
+      sound = sound;
+      board = same;
+      picture = stands.picture;
+      clock = stands.clock;
+      awaited = stands.awaited;
+      up = stands.up;
+      down = stands.down;
+      partial = stands.partial;
+    }
+
 change_reaches : (world : WorldView) (square : ℕ) (piece : Piece) (after : WorldView) (x : State) → StandsFor world x → Becomes (ActContent.Change square piece) world after → Reaches (ActContent.Change square piece) after x
 change_reaches world square piece after x stands same = (
   Move.Change square piece ∷ [],
   refl,
   rw same
-      (record {
-        sound = move_sound x (Move.Change square piece) stands.sound;
-        board = ap (λ (board : BoardState). after_change board square piece) stands.board;
-        picture = stands.picture;
-        clock = stands.clock;
-        awaited = stands.awaited;
-        up = stands.up;
-        down = stands.down;
-        partial = stands.partial;
-      }),
+      (board_stands world x (after_change world.board.state square piece) (after_change x.board square piece) stands (move_sound x (Move.Change square piece) stands.sound)
+      (ap (λ (board : BoardState). after_change board square piece) stands.board)),
 )
 
 clock_reaches : (world : WorldView) (clock : ClockState) (after : WorldView) (x : State) → StandsFor world x → Becomes (ActContent.ClockRead clock) world after → Reaches (ActContent.ClockRead clock) after x
@@ -151,16 +158,8 @@ clock_reaches world clock after x stands same = (
   Move.HandClock clock ∷ [],
   refl,
   rw same
-      (record {
-        sound = move_sound x (Move.HandClock clock) stands.sound;
-        board = ap (λ (board : BoardState). after_hand_clock board clock) stands.board;
-        picture = stands.picture;
-        clock = stands.clock;
-        awaited = stands.awaited;
-        up = stands.up;
-        down = stands.down;
-        partial = stands.partial;
-      }),
+      (board_stands world x (after_hand_clock world.board.state clock) (after_hand_clock x.board clock) stands (move_sound x (Move.HandClock clock) stands.sound)
+      (ap (λ (board : BoardState). after_hand_clock board clock) stands.board)),
 )
 
 module _ (laws : Grammars) where

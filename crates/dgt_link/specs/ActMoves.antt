@@ -3,6 +3,7 @@ use Rattle.std.specs.Prelude.{◌≡◌, ℕ, List, [], ◌∷◌, ◌++◌, rep
 use Rattle.dgt_link.specs.Act.{ActContent}
 use Rattle.dgt_link.specs.declared.acts.Outcome.{Outcome}
 use Rattle.dgt_link.specs.Move.{IsSending, Move}
+use Rattle.dgt_link.specs.Moving.{IfDone}
 use Rattle.dgt_link.specs.Machine.{State, after_moves}
 use Rattle.dgt_link.specs.Stands.{StandsFor}
 use Rattle.dgt_link.specs.View.{WorldView}
@@ -18,8 +19,7 @@ AreMovesOfAct (ActContent.ToHost bytes) moves = (count : ℕ) × (moves ≡ repl
 
 -- what isn't done is no move
 abbrev pub AreMovesOfStep : ActContent → Outcome → List Move → Type 0
-AreMovesOfStep act Outcome.Done moves = AreMovesOfAct act moves
-AreMovesOfStep act _ moves = moves ≡ []
+AreMovesOfStep act outcome moves = IfDone outcome (AreMovesOfAct act moves) (moves ≡ [])
 
 -- the moves of acts in order, each with its outcome
 abbrev pub AreMovesOfRun : List ActContent → List Outcome → List Move → Type 0
