@@ -1,5 +1,5 @@
--- What holds between two reads of `simulate`.
-use Rattle.std.proofs.Common.{◌≡◌, ℕ, List, [], ◌++◌, ◌+◌, ◌<◌, ◌≤◌, Bool, true, Option, Some, Result, Ok, Err, IsErrAnd, IsTrue, OnOk, sym, ◌∙◌, ap, subst, append-nil, arith, length}
+-- How a run of `simulate` ends.
+use Rattle.std.proofs.Common.{◌≡◌, ℕ, List, [], ◌++◌, Bool, true, Option, Some, Result, Ok, Err, IsErrAnd, IsTrue, OnOk, sym, ◌∙◌, ap, subst, append-nil}
 use Rattle.std.specs.Prelude.{IfErr}
 use Rattle.std.specs.Io.KnownBytes.{Appends, Consumes}
 use Rattle.std.proofs.KnownBytes.{Appends-trans, Consumes-nil, Consumes-trans}
@@ -12,10 +12,8 @@ use Rattle.dgt_text.specs.declared.faults.RunFault.TheVariants.{ReadFailed, Writ
 use Rattle.dgt_text.specs.declared.script_lines.LineBuffer.{LineBuffer}
 use Rattle.dgt_text.specs.Closing.{ClosingLinesAgree, closing_lines}
 use Rattle.dgt_text.specs.Runs.{HasTurns, Ran, Stopped}
-use Rattle.dgt_text.specs.ScriptLines.{Keeps as KeepsLine}
 use Rattle.dgt_text.specs.Simulating.{IsOfLine, IsSimulated, IsSimulatedFrom, PlaysOn, Stops, TellsPicture, Took}
-use Rattle.dgt_text.proofs.RunLemmas.{turn_more}
-use Rattle.dgt_text.proofs.PlayLemmas.{begins_none, end_exit, no_byte, on_more, on_none, on_simulated, stopped_none, torn_none}
+use Rattle.dgt_text.proofs.PlayLemmas.{begins_none, end_exit, on_simulated, stopped_none, torn_none}
 
 -- a fault of a line is none of turns
 line_turns : {A : Type 0} (limit : ℕ) (r : Result A RunFault) (bytes : List ℕ) → IfErr r IsOfLine → HasTurns limit r bytes
@@ -39,65 +37,41 @@ stop_line at_end (Err y) e w l n bytes out k s = subst IsOfLine (sym k) (go e s)
 is_true : {b : Bool} → IsTrue b → b ≡ true
 is_true h = cc
 
--- the source gave some bytes in so many turns, one in each at least, whose whole lines were played, and the buffer keeps the bytes after them
-pub record Scripted {S T : Type 0} (left : S → Option (List ℕ)) (written : T → Option (List ℕ)) (source source' : S) (sink sink' : T) (world last : WorldView) (line : LineBuffer) (number turns : ℕ) : Type 0 where
-  pub bytes : List ℕ
-  pub each : turns ≤ length bytes
-  pub given : Consumes (left source) (left source') bytes
-  pub plays : PlaysOn written world last sink sink' line 1 number bytes
+-- the lines that were played, and a flush
+pub plays_flushed : {T : Type 0} (written : T → Option (List ℕ)) (c d d' : T) (w m : WorldView) (line : LineBuffer) (n : ℕ) (bytes : List ℕ) → PlaysOn written w m c d line 1 n bytes → Appends (written d) (written d') []
+    → PlaysOn written w m c d' line 1 n bytes
+plays_flushed written c d d' w m line n bytes q p = record {
+  lines = q.lines;
+  rest = q.rest;
+  text = q.text;
+  cut = q.cut;
+  kept = q.kept;
+  counted = q.counted;
+  plays = q.plays;
+  wrote = subst (λ l. Appends (written c) (written d') l) (append-nil q.text) (Appends-trans _ _ _ q.text [] q.wrote p);
+}
 
 module _ {S T : Type 0} (left : S → Option (List ℕ)) (written : T → Option (List ℕ)) where
-  pub scripted_none : (a : S) (c : T) (w : WorldView) (line : LineBuffer) → KeepsLine line [] → Scripted left written a a c c w w line 1 0
-  scripted_none a c w line h = record { bytes = []; each = omega arith; given = Consumes-nil (left a); plays = on_none written w c line 1 [] h no_byte }
-
-  -- a piece
-  pub scripted_more : (a b b' : S) (c d d' : T) (w m l : WorldView) (line line' : LineBuffer) (n n' turns : ℕ) (piece : List ℕ) (q : Scripted left written a b c d w m line n turns) → Consumes (left b) (left b') piece
-      → 0 < length piece → PlaysOn written m l d d' line' n n' (q.plays.rest ++ piece) → Scripted left written a b' c d' w l line' n' (turns + 1)
-  scripted_more a b b' c d d' w m l line line' n n' turns piece q p some r = record {
-    bytes = q.bytes ++ piece;
-    each = turn_more turns q.bytes piece q.each some;
-    given = Consumes-trans _ _ _ q.bytes piece q.given p;
-    plays = on_more written w m l c d d' line line' 1 n n' q.bytes piece q.plays r;
-  }
-
-  -- and a flush
-  pub scripted_flushed : (a b : S) (c d d' : T) (w m : WorldView) (line : LineBuffer) (n turns : ℕ) (q : Scripted left written a b c d w m line n turns) → Appends (written d) (written d') [] → Scripted left written a b c d' w m line n turns
-  scripted_flushed a b c d d' w m line n turns q p = record {
-    bytes = q.bytes;
-    each = q.each;
-    given = q.given;
-    plays = record {
-      lines = q.plays.lines;
-      rest = q.plays.rest;
-      text = q.plays.text;
-      cut = q.plays.cut;
-      kept = q.plays.kept;
-      counted = q.plays.counted;
-      plays = q.plays.plays;
-      wrote = subst (λ l. Appends (written c) (written d') l) (append-nil q.plays.text) (Appends-trans _ _ _ q.plays.text [] q.plays.wrote p);
-    };
-  }
-
   -- how the run ends
-  pub scripted_ends : {A : Type 0} (at_end : Bool) (limit : ℕ) (r : Result A RunFault) (a b b' : S) (c d d' : T) (w m l : WorldView) (line : LineBuffer) (n turns : ℕ) (piece : List ℕ) (q : Scripted left written a b c d w m line n turns)
-      → Consumes (left b) (left b') piece → IfErr r IsOfLine → Took written d d' (IsSimulatedFrom at_end n r m l (q.plays.rest ++ piece)) → Ran left written a b' c d' limit r (IsSimulated at_end r w l)
-  scripted_ends at_end limit r a b b' c d d' w m l line n turns piece q p f t =
-      let whole = on_simulated written at_end r w m l c d d' line 1 n q.bytes piece q.plays t in
-      (q.bytes ++ piece, whole.0, Consumes-trans _ _ _ q.bytes piece q.given p, whole.1, line_turns limit r (q.bytes ++ piece) f, whole.2)
+  pub scripted_ends : {A : Type 0} (at_end : Bool) (limit : ℕ) (r : Result A RunFault) (a b b' : S) (c d d' : T) (w m l : WorldView) (line : LineBuffer) (n : ℕ) (bytes piece : List ℕ) → Consumes (left a) (left b) bytes → (q : PlaysOn written w m c d line 1 n bytes)
+      → Consumes (left b) (left b') piece → IfErr r IsOfLine → Took written d d' (IsSimulatedFrom at_end n r m l (q.rest ++ piece)) → Ran left written a b' c d' limit r (IsSimulated at_end r w l)
+  scripted_ends at_end limit r a b b' c d d' w m l line n bytes piece g q p f t =
+      let whole = on_simulated written at_end r w m l c d d' line 1 n bytes piece q t in
+      (bytes ++ piece, whole.0, Consumes-trans _ _ _ bytes piece g p, whole.1, line_turns limit r (bytes ++ piece) f, whole.2)
 
   -- the exit of a `?` on a piece
-  pub scripted_stops : {A : Type 0} (at_end : Bool) (limit : ℕ) (r : Result A RunFault) (e : RunFault) (a b b' : S) (c d d' : T) (w m l : WorldView) (line : LineBuffer) (n turns : ℕ) (piece : List ℕ) (q : Scripted left written a b c d w m line n turns)
-      → Consumes (left b) (left b') piece → IsErrAnd r (λ y. y ≡ e) → Took written d d' (Stops at_end e m l n (q.plays.rest ++ piece)) → Ran left written a b' c d' limit r (IsSimulated at_end r w l)
-  scripted_stops at_end limit r e a b b' c d d' w m l line n turns piece q p k t =
-      scripted_ends at_end limit r a b b' c d d' w m l line n turns piece q p (stop_line at_end r e m l n (q.plays.rest ++ piece) t.0 k t.2)
-      (end_exit written at_end r e m l d d' n (q.plays.rest ++ piece) k t)
+  pub scripted_stops : {A : Type 0} (at_end : Bool) (limit : ℕ) (r : Result A RunFault) (e : RunFault) (a b b' : S) (c d d' : T) (w m l : WorldView) (line : LineBuffer) (n : ℕ) (bytes piece : List ℕ) → Consumes (left a) (left b) bytes → (q : PlaysOn written w m c d line 1 n bytes)
+      → Consumes (left b) (left b') piece → IsErrAnd r (λ y. y ≡ e) → Took written d d' (Stops at_end e m l n (q.rest ++ piece)) → Ran left written a b' c d' limit r (IsSimulated at_end r w l)
+  scripted_stops at_end limit r e a b b' c d d' w m l line n bytes piece g q p k t =
+      scripted_ends at_end limit r a b b' c d d' w m l line n bytes piece g q p (stop_line at_end r e m l n (q.rest ++ piece) t.0 k t.2)
+      (end_exit written at_end r e m l d d' n (q.rest ++ piece) k t)
 
   -- and on a flush
-  pub scripted_unflushed : {A : Type 0} (failed late : T → Bool) (at_end : Bool) (limit : ℕ) (r : Result A RunFault) (e : RunFault) (a b : S) (c d d' : T) (w m : WorldView) (line : LineBuffer) (n turns : ℕ)
-      → Scripted left written a b c d w m line n turns → IsErrAnd r (λ y. y ≡ e) → (e ≡ WriteFailed) × Stopped written failed late d d' [] → Ran left written a b c d' limit r (IsSimulated at_end r w m)
-  scripted_unflushed failed late at_end limit r e a b c d d' w m line n turns q k s =
-      scripted_stops at_end limit r e a b b c d d' w m m line n turns [] q (Consumes-nil (left b)) k
-      (subst (λ f. Took written d d' (Stops at_end f m m n (q.plays.rest ++ []))) (sym s.0) ([], stopped_none written failed late d d' s.1, ([], begins_none at_end (q.plays.rest ++ []), torn_none m)))
+  pub scripted_unflushed : {A : Type 0} (failed late : T → Bool) (at_end : Bool) (limit : ℕ) (r : Result A RunFault) (e : RunFault) (a b : S) (c d d' : T) (w m : WorldView) (line : LineBuffer) (n : ℕ) (bytes : List ℕ)
+      → Consumes (left a) (left b) bytes → PlaysOn written w m c d line 1 n bytes → IsErrAnd r (λ y. y ≡ e) → (e ≡ WriteFailed) × Stopped written failed late d d' [] → Ran left written a b c d' limit r (IsSimulated at_end r w m)
+  scripted_unflushed failed late at_end limit r e a b c d d' w m line n bytes g q k s =
+      scripted_stops at_end limit r e a b b c d d' w m m line n bytes [] g q (Consumes-nil (left b)) k
+      (subst (λ f. Took written d d' (Stops at_end f m m n (q.rest ++ []))) (sym s.0) ([], stopped_none written failed late d d' s.1, ([], begins_none at_end (q.rest ++ []), torn_none m)))
 
   -- the closing lines of a world that is promised and quiet
   pub simulated_pictures : {A : Type 0} (at_end : Bool) (limit : ℕ) (r : Result A RunFault) (a b : S) (c d : T) (w l : WorldView) → ClosingLinesAgree

@@ -1,9 +1,9 @@
 -- What a board's conversation leaves in a sink.
-use Rattle.std.proofs.Common.{◌≡◌, ℕ, ◌+◌, ◌-◌, ◌<◌, ◌≤◌, List, [], ◌∷◌, ◌++◌, Option, Some, None, Bool, Result, Ok, Err, IsErrAnd, refl, sym, ◌∙◌, ap, subst, append_assoc, append-nil, length, take, drop, arith, true, false, is_some, IfSome, IfNone, option_map}
+use Rattle.std.proofs.Common.{◌≡◌, ℕ, ◌+◌, ◌-◌, ◌≤◌, List, [], ◌∷◌, ◌++◌, Option, Some, None, Bool, Result, Ok, Err, IsErrAnd, refl, sym, ◌∙◌, ap, subst, append_assoc, append-nil, length, take, drop, arith, true, false, is_some, IfSome, IfNone, option_map}
 use Rattle.std.proofs.Math.Seq.{take-append_seam}
 use Rattle.std.proofs.lemmas.List.{take-append-drop, take_all}
 use Rattle.std.specs.Io.KnownBytes.{Consumes}
-use Rattle.std.proofs.KnownBytes.{Appends-trans, Consumes-trans, Consumes-nil}
+use Rattle.std.proofs.KnownBytes.{Appends-trans, Consumes-trans}
 use Rattle.dgt_message.specs.Content.{Content}
 use Rattle.dgt_message.specs.Spelling.{spelling}
 use Rattle.dgt_command.specs.Content.{EventContent}
@@ -13,12 +13,15 @@ use Rattle.dgt_board.specs.declared.sending.Polled.{Polled}
 use Rattle.dgt_board.specs.Sending.{after_sending, next_message}
 use Rattle.dgt_board.specs.Polls.{Polls}
 use Rattle.dgt_board.specs.View.{BoardView, after_bytes}
+use Rattle.dgt_text.specs.declared.ends.Source.{Ghosts as Source}
+use Rattle.dgt_text.specs.declared.ends.Sink.{Ghosts as Sink}
 use Rattle.dgt_text.specs.declared.faults.RunFault.{RunFault}
 use Rattle.dgt_text.specs.declared.faults.RunFault.TheVariants.{WriteFailed}
 use Rattle.dgt_text.specs.Runs.{Wrote, Stopped, Writes, Ran}
-use Rattle.dgt_text.specs.Conversation.{Step, told, heard, Converses, events_heard, bytes_told, Hears, Answers}
+use Rattle.dgt_text.specs.Conversation.{Step, told, heard, Converses, events_heard, bytes_told, Hears}
 use Rattle.dgt_text.specs.Serving.{IsAlmostTold, IsServed, Served, Halted, Serves}
-use Rattle.dgt_text.proofs.RunLemmas.{turn_more, wrote_none, wrote_then, slice_more}
+use Rattle.dgt_text.proofs.RunLemmas.{wrote_none, wrote_then, slice_more}
+use Rattle.dgt_text.proofs.TurnLemmas.{BetweenReads}
 use Rattle.dgt_text.proofs.ConversationLemmas.{events_heard-append, bytes_told-append, converses-told, hears_then, hears_nothing, hears_word, hears_part, front_then, front_longer, front_whole}
 
 -- ---- pieces
@@ -93,15 +96,6 @@ pub record Sent {S : Type 0} (written : S → Option (List ℕ)) (failed late : 
   pub none_heard : events_heard steps ≡ []
   pub partial : after.partial ≡ before.partial
   pub wrote : Wrote written failed late old new (bytes_told steps)
-
--- the source gave some bytes in so many turns, one in each at least, and the sink has all that the board answers to them
-pub record Talked {S T : Type 0} (left : S → Option (List ℕ)) (written : T → Option (List ℕ)) (failed late : T → Bool) (source source' : S) (sink sink' : T) (before after : BoardView) (turns : ℕ) : Type 0 where
-  pub bytes : List ℕ
-  pub each : turns ≤ length bytes
-  pub given : Consumes (left source) (left source') bytes
-  pub steps : List Step
-  pub answers : Answers before bytes steps after
-  pub wrote : Wrote written failed late sink sink' (bytes_told steps)
 
 module _ {S : Type 0} (written : S → Option (List ℕ)) (failed late : S → Bool) where
   pub sent_none : (board : BoardView) (a : S) → Sent written failed late board board a a
@@ -192,6 +186,18 @@ module _ {S : Type 0} (written : S → Option (List ℕ)) (failed late : S → B
         in_time = λ h. q.in_time (w.kept ∙ h) ∙ w.in_time h;
       }
 
+  -- some bytes, and then more
+  pub served_more : DivisionsAppend → (old mid new : BoardView) (a b c : S) (s t : List ℕ) → Served written failed late old mid a b s → Served written failed late mid new b c t → Served written failed late old new a c (s ++ t)
+  served_more append old mid new a b c s t p q =
+      record {
+        steps = p.steps ++ q.steps;
+        answers = record {
+          hears = hears_then append old mid new s t p.steps q.steps p.answers.hears q.answers.hears;
+          settled = q.answers.settled;
+        };
+        wrote = subst (λ (l : List ℕ). Wrote written failed late a c l) (sym (bytes_told-append p.steps q.steps)) (wrote_then written failed late a b c (bytes_told p.steps) (bytes_told q.steps) p.wrote q.wrote);
+      }
+
   -- the sink refused after a word
   pub served_halts : DivisionsAppend → (old mid between new : BoardView) (a b c : S) (s t : List ℕ) (event : EventContent) → Served written failed late old mid a b s → Hears mid t (heard event ∷ []) between
       → Halted written failed late between new b c [] → Halted written failed late old new a c (s ++ t)
@@ -244,24 +250,6 @@ module _ {S : Type 0} (written : S → Option (List ℕ)) (failed late : S → B
 -- ---- runs
 
 module _ {S T : Type 0} (left : S → Option (List ℕ)) (written : T → Option (List ℕ)) (failed late : T → Bool) where
-  pub talked_none : (a : S) (c d : T) (old new : BoardView) → Served written failed late old new c d [] → Talked left written failed late a a c d old new 0
-  talked_none a c d old new p = record { bytes = []; each = omega arith; given = Consumes-nil (left a); steps = p.steps; answers = p.answers; wrote = p.wrote }
-
-  pub talked_more : DivisionsAppend → (a b b' : S) (c d d' : T) (old mid new : BoardView) (piece : List ℕ) (turns : ℕ) → Talked left written failed late a b c d old mid turns → Consumes (left b) (left b') piece
-      → 0 < length piece → Served written failed late mid new d d' piece → Talked left written failed late a b' c d' old new (turns + 1)
-  talked_more append a b b' c d d' old mid new piece turns p k some q =
-      record {
-        bytes = p.bytes ++ piece;
-        each = turn_more turns p.bytes piece p.each some;
-        given = Consumes-trans _ _ _ p.bytes piece p.given k;
-        steps = p.steps ++ q.steps;
-        answers = record {
-          hears = hears_then append old mid new p.bytes piece p.steps q.steps p.answers.hears q.answers.hears;
-          settled = q.answers.settled;
-        };
-        wrote = subst (λ (l : List ℕ). Wrote written failed late c d' l) (sym (bytes_told-append p.steps q.steps)) (wrote_then written failed late c d d' (bytes_told p.steps) (bytes_told q.steps) p.wrote q.wrote);
-      }
-
   -- the sink refused
   pub halted_run : {A : Type 0} (limit : ℕ) (a b : S) (c d : T) (old new : BoardView) (bytes : List ℕ) (r : Result A RunFault) (e : RunFault) → Consumes (left a) (left b) bytes
       → Halted written failed late old new c d bytes → IsErrAnd r (λ y. y ≡ e) → e ≡ WriteFailed → Ran left written a b c d limit r (IsServed r old new)
@@ -269,8 +257,10 @@ module _ {S T : Type 0} (left : S → Option (List ℕ)) (written : T → Option
   halted_run {A = A} limit a b c d old new bytes (Err y) e k q h w =
       subst (λ f. let r : Result A RunFault = Err f in Ran left written a b c d limit r (IsServed r old new)) (sym (h ∙ w)) (bytes, q.out, k, q.appends, tt, q.breaks)
 
-  pub talked_stops : {A : Type 0} (limit : ℕ) → DivisionsAppend → (a b b' : S) (c d d' : T) (old mid new : BoardView) (piece : List ℕ) (turns : ℕ) (r : Result A RunFault) (e : RunFault) → Talked left written failed late a b c d old mid turns
-      → Consumes (left b) (left b') piece → Halted written failed late mid new d d' piece → IsErrAnd r (λ y. y ≡ e) → e ≡ WriteFailed → Ran left written a b' c d' limit r (IsServed r old new)
-  talked_stops limit append a b b' c d d' old mid new piece turns r e p k q h w =
-      halted_run limit a b' c d' old new (p.bytes ++ piece) r e (Consumes-trans _ _ _ p.bytes piece p.given k)
-      (halted_then written failed late append old mid new c d d' p.bytes piece p.steps p.answers.hears p.wrote q) h w
+-- it refused after a read
+pub served_stops : {S T A : Type 0} {R : Source S} {W : Sink T} {a b : S} {c d : T} {taken limit : ℕ} → DivisionsAppend → (b' : S) (d' : T) (old mid new : BoardView) (piece : List ℕ) (r : Result A RunFault) (e : RunFault)
+    → (t : BetweenReads R W a b c d taken limit) → Served W.written W.failed W.late old mid c d t.bytes → Consumes (R.left b) (R.left b') piece → Halted W.written W.failed W.late mid new d d' piece
+    → IsErrAnd r (λ y. y ≡ e) → e ≡ WriteFailed → Ran R.left W.written a b' c d' limit r (IsServed r old new)
+served_stops {R = R} {W = W} {a = a} {b = b} {c = c} {d = d} {limit = limit} append b' d' old mid new piece r e t p k q h w =
+    halted_run R.left W.written W.failed W.late limit a b' c d' old new (t.bytes ++ piece) r e (Consumes-trans _ _ _ t.bytes piece t.given k)
+    (halted_then W.written W.failed W.late append old mid new c d d' t.bytes piece p.steps p.answers.hears p.wrote q) h w

@@ -6,9 +6,8 @@ use Rattle.dgt_text.proofs.monitoring.monitor.Given as goal
 
 abbrev pub invariant-loop : goal.invariant-loop
 invariant-loop g l = record {
-  heard : Heard g.R.Source.left g.W.Sink.written g.W.Sink.failed g.W.Sink.late l.fn.reader l.reader l.fn.writer l.writer (open_message l.framer) l.offset;
-  each : l.counter ≤ l.offset;
+  in_turns : BetweenReads g.R.Source g.W.Sink l.fn.reader l.reader l.fn.writer l.writer l.counter l.fn.limit;
+  heard : Heard g.W.Sink.written g.W.Sink.failed g.W.Sink.late l.fn.writer l.writer (open_message l.framer) l.offset in_turns.bytes;
   empty : l.outgoing ≡ [];
   short : l.offset ≤ 4096 * l.counter;
-  in_turns : BetweenReads g.R.Source g.W.Sink l.fn.reader l.reader l.fn.writer l.writer l.counter l.fn.limit;
 }

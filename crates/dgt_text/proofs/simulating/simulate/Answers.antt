@@ -1,36 +1,39 @@
 use Rattle.std.proofs.Common.{arith, true, [], append-nil}
 use Rattle.std.proofs.lemmas.List.{length-take-le}
-use Rattle.dgt_text.proofs.RunLemmas.{piece_some}
-use Rattle.dgt_text.proofs.ScriptRuns.{scripted_none, scripted_more, scripted_flushed, scripted_ends, scripted_stops, scripted_unflushed, simulated_pictures}
-use Rattle.dgt_text.proofs.TurnLemmas.{no_turn, next_read}
+use Rattle.std.proofs.KnownBytes.{Consumes-trans}
+use Rattle.dgt_text.proofs.RunLemmas.{wrote_none}
+use Rattle.dgt_text.proofs.PlayLemmas.{no_byte, on_more, on_none}
+use Rattle.dgt_text.proofs.ScriptRuns.{plays_flushed, scripted_ends, scripted_stops, scripted_unflushed, simulated_pictures}
+use Rattle.dgt_text.proofs.TurnLemmas.{no_read, next_read}
 use Rattle.dgt_text.proofs.simulating.simulate.Goals as goal
 
 pub loop-init : goal.loop-init
 loop-init g c = record {
-  scripted = scripted_none g.R.Source.left g.W.Sink.written _ _ _ _ c.new-line.ensures;
+  in_turns = no_read (wrote_none g.W.Sink.written g.W.Sink.failed g.W.Sink.late _) (λ h. h);
+  played = on_none g.W.Sink.written _ _ _ 1 [] c.new-line.ensures no_byte;
   short = omega arith;
-  in_turns = no_turn _ _;
 }
 
 pub loop-preserved : goal.loop-preserved
 loop-preserved g c =
-    let q = c.loop.invariant.scripted in
-    let piece = length-take-le c.in-Ok.given c.read_some.new.buffer c.in-Ok.ensures.bound in record {
-      scripted = scripted_flushed g.R.Source.left g.W.Sink.written _ _ _ _ _ _ _ _ _ _
-          (scripted_more g.R.Source.left g.W.Sink.written _ _ _ _ _ _ _ _ _ _ _ _ _ _ _ q c.in-Ok.ensures.bytes.0 (piece_some c.in-Ok.given c.read_some.new.buffer c.in-Ok.ensures.bound c.if-given-eq0.false) (c.in_ok-play_piece.ensures.played true q.plays.rest q.plays.kept q.plays.cut.last))
-          c.in_ok-flush.ensures.output.appends;
-      short = omega (arith, c.in-Ok.ensures.bound, c.read_some.auto.buffer, c.in_ok-play_piece.ensures.counted);
-      in_turns = next_read c.loop.invariant.in_turns c.loop-test.true c.in-Ok.ensures.not_refused (c.in-Ok.ensures.no_end (λ h. c.if-given-eq0.false h.0)) c.in-Ok.ensures.counted c.in-Ok.ensures.in_time
-          c.in_ok-play_piece.ensures.sink_failed c.in_ok-play_piece.ensures.in_time c.in_ok-flush.ensures.output c.in_ok-flush.ensures.flushed;
+    let q = c.loop.invariant.played in
+    let read = c.in-Ok.ensures in
+    let piece = c.in_ok-play_piece.ensures in
+    let flushed = c.in_ok-flush.ensures in
+    let given = length-take-le c.in-Ok.given c.read_some.new.buffer read.bound in record {
+      in_turns = next_read c.loop.invariant.in_turns c.loop-test.true _ _ read.bound read.bytes.0 read.not_refused read.no_end read.counted read.in_time c.if-given-eq0.false piece.sink_failed piece.in_time flushed.output flushed.flushed;
+      played = plays_flushed g.W.Sink.written _ _ _ _ _ _ _ _ (on_more g.W.Sink.written _ _ _ _ _ _ _ _ _ _ _ _ _ q (piece.played true q.rest q.kept q.cut.last)) flushed.output.appends;
+      short = omega (arith, read.bound, c.read_some.auto.buffer, piece.counted);
     }
 
 pub returns-then-given-eq0-clause-output : goal.returns-then-given-eq0-clause-output
 returns-then-given-eq0-clause-output g c =
-    let q = c.loop.invariant.scripted in
+    let turns = c.loop.invariant.in_turns in
+    let q = c.loop.invariant.played in
     let at_end = g.R.Source.ended c.read_some.new.self in
     let ends = c.in-Ok.ensures.end (c.if-given-eq0.true, omega (arith, c.read_some.auto.buffer)) in
-    scripted_ends g.R.Source.left g.W.Sink.written at_end c.args.limit _ _ _ _ _ _ _ _ _ _ _ _ _ [] q (rw c.if-given-eq0.true at c.in-Ok.ensures.bytes.0) c.play_end.ensures.faults
-    (rw (append-nil q.plays.rest) (c.play_end.ensures.played at_end q.plays.rest ends q.plays.kept q.plays.cut.last))
+    scripted_ends g.R.Source.left g.W.Sink.written at_end c.args.limit _ _ _ _ _ _ _ _ _ _ _ _ turns.bytes [] turns.given q (rw c.if-given-eq0.true at c.in-Ok.ensures.bytes.0) c.play_end.ensures.faults
+    (rw (append-nil q.rest) (c.play_end.ensures.played at_end q.rest ends q.kept q.cut.last))
 
 pub returns-then-given-eq0-clause-picture : goal.returns-then-given-eq0-clause-picture
 returns-then-given-eq0-clause-picture g c =
@@ -39,10 +42,11 @@ returns-then-given-eq0-clause-picture g c =
 
 pub returns-in_err-play_piece-clause-output : goal.returns-in_err-play_piece-clause-output
 returns-in_err-play_piece-clause-output g c =
-    let q = c.loop.invariant.scripted in
+    let turns = c.loop.invariant.in_turns in
+    let q = c.loop.invariant.played in
     let at_end = g.R.Source.ended c.read_some.new.self in
-    scripted_stops g.R.Source.left g.W.Sink.written at_end c.args.limit _ _ _ _ _ _ _ _ _ _ _ _ _ _ _ q c.in-Ok.ensures.bytes.0 c.from_residual.ensures.1
-    (c.in_err-play_piece.ensures.played at_end q.plays.rest q.plays.kept q.plays.cut.last)
+    scripted_stops g.R.Source.left g.W.Sink.written at_end c.args.limit _ _ _ _ _ _ _ _ _ _ _ _ _ turns.bytes _ turns.given q c.in-Ok.ensures.bytes.0 c.from_residual.ensures.1
+    (c.in_err-play_piece.ensures.played at_end q.rest q.kept q.cut.last)
 
 pub returns-in_err-play_piece-clause-picture : goal.returns-in_err-play_piece-clause-picture
 returns-in_err-play_piece-clause-picture g c =
@@ -51,11 +55,11 @@ returns-in_err-play_piece-clause-picture g c =
 
 pub returns-in_err-flush-clause-output : goal.returns-in_err-flush-clause-output
 returns-in_err-flush-clause-output g c =
-    let q = c.loop.invariant.scripted in
+    let turns = c.loop.invariant.in_turns in
+    let q = c.loop.invariant.played in
     let at_end = g.R.Source.ended c.read_some.new.self in
-    scripted_unflushed g.R.Source.left g.W.Sink.written g.W.Sink.failed g.W.Sink.late at_end c.args.limit _ _ _ _ _ _ _ _ _ _ _ _
-    (scripted_more g.R.Source.left g.W.Sink.written _ _ _ _ _ _ _ _ _ _ _ _ _ _ _ q c.in-Ok.ensures.bytes.0 (piece_some c.in-Ok.given c.read_some.new.buffer c.in-Ok.ensures.bound c.if-given-eq0.false) (c.in_ok-play_piece.ensures.played at_end q.plays.rest q.plays.kept q.plays.cut.last))
-    c.from_residual-in_err-flush.ensures.1 c.in_err-flush.ensures.output
+    scripted_unflushed g.R.Source.left g.W.Sink.written g.W.Sink.failed g.W.Sink.late at_end c.args.limit _ _ _ _ _ _ _ _ _ _ _ _ (Consumes-trans _ _ _ turns.bytes _ turns.given c.in-Ok.ensures.bytes.0)
+    (on_more g.W.Sink.written _ _ _ _ _ _ _ _ _ _ _ _ _ q (c.in_ok-play_piece.ensures.played at_end q.rest q.kept q.cut.last)) c.from_residual-in_err-flush.ensures.1 c.in_err-flush.ensures.output
 
 pub returns-in_err-flush-clause-picture : goal.returns-in_err-flush-clause-picture
 returns-in_err-flush-clause-picture g c =
