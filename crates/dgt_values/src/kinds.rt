@@ -1,7 +1,7 @@
-//! The kinds of what a board is asked for.
+//! The kinds of the replies that a host awaits.
 
-/// What a host asks for and awaits, and the kind of the message that answers it. Other replies, as
-/// of the clock, aren't awaited.
+/// A kind of reply that a host awaits once it has asked for it, and that a board owes once it was
+/// asked. Other replies, as of the clock, have none.
 ///
 /// The default stands in the unused places of a list of kinds, and means nothing.
 #[derive(Clone, Copy, Debug, Default, PartialEq, Eq)]
