@@ -315,7 +315,7 @@ struct Row<'a> {
     partial: usize,
 }
 
-// Commands of one byte, clock messages, LED frames, faults, strays, and commands that are unfinished.
+// Commands of one byte, clock messages, LED frames, faults, strays, and unfinished commands.
 const ROWS: [Row<'static>; 8] = [
     Row {
         bytes: &[0x40, 0x41, 0x42, 0x43, 0x44, 0x45, 0x47, 0x4b, 0x4c, 0x4d],
