@@ -1,5 +1,3 @@
-ghost use Rattle.std.specs.Prelude.{◌≤◌, length};
-
 use crate::{Heard, Host, Kind, SendFault};
 use dgt_command::Command;
 use dgt_decode::{Decoder, Event};
@@ -187,6 +185,7 @@ enum Told {
 ///
 /// Each list begins with the first byte of a message, and no whole message of it is of a kind that
 /// is awaited at its end. So behind a part of itself a list leaves what it leaves alone.
+#[derive(Clone, Copy)]
 struct Row {
     asked: &'static [Kind],
     parts: &'static [&'static [u8]],
@@ -381,10 +380,10 @@ fn assert_left_as(rt: &impl Abort, host: &Host, row: &Row) -> Result<(), Fail> {
 }
 
 /// The bytes of a row, cut into two at this place, and whole behind those before it.
-fn assert_row_at(rt: &impl Abort, row: &Row, bytes: &[u8], place: usize) -> Result<(), Fail>
-    requires { place ≤ length bytes.now }
-{
-    let (front, back) = bytes.split_at(place);
+fn assert_row_at(rt: &impl Abort, row: &Row, bytes: &[u8], place: usize) -> Result<(), Fail> {
+    let Some((front, back)) = bytes.split_at_checked(place) else {
+        return Err(Fail::from("no such place"));
+    };
     let mut decoder = Decoder::new();
     let mut host = host_asking(rt, row.asked);
     let before = hear_all(rt, &mut host, &mut decoder, front);
@@ -405,6 +404,25 @@ fn messages_in_two_pieces_and_behind_parts(rt: HostRuntime) -> Result<(), Fail> 
         for place in 0..=bytes.len() {
             assert_row_at(&rt, row, &bytes, place)?;
         }
+    }
+    Ok(())
+}
+
+#[test]
+fn the_longest_message_cut_off_by_a_field(rt: HostRuntime) -> Result<(), Fail> {
+    let row = Row {
+        asked: &[],
+        parts: &[&[0xb0, 0x7f, 0x7f], &[0x00; 16379], &FIELD],
+        unasked: 0,
+        awaited: &[],
+        picture: None,
+        told: Told::Nothing,
+        unread: 0,
+    };
+    let bytes = joined(rt.alloc(), row.parts)?;
+    for place in 0..=40 {
+        assert_row_at(&rt, &row, &bytes, place)?;
+        assert_row_at(&rt, &row, &bytes, bytes.len().saturating_sub(place))?;
     }
     Ok(())
 }
