@@ -25,8 +25,6 @@ mod framer;
 mod ids;
 pub mod laws;
 mod lengths;
-#[cfg(test)]
-mod plain;
 mod questions;
 mod viewing;
 mod writing;
