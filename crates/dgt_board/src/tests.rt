@@ -1,7 +1,7 @@
 //! Boards on the line, by the worked conversations.
 
 use super::*;
-use dgt_command::{ClockCommand, Command, CommandEvent};
+use dgt_command::{ClockCommand, Command, CommandDecoder, CommandEvent};
 use dgt_message::{Clock, NoClock, Reading, Status, Times};
 use dgt_values::{Body, Piece, Position, SevenBit, Square};
 use std::process::Abort;
@@ -301,6 +301,202 @@ fn eight_replies_make_it_busy(rt: HostRuntime) -> Result<(), Fail> {
     }
     assert_eq!(rt; *board.position(), Position::start());
     assert_eq!(rt; *board.clock(), times([0; 3], [0; 3], 0)?);
+    play(&rt, &mut board, &[Sends(&START); 8])?;
+    play(&rt, &mut board, &[IsSettled])
+}
+
+// A list of bytes, and a new board that took them: its mode, how many replies it owes, and how many
+// bytes it holds of an unfinished command. No list asks for more replies than a board may owe.
+#[derive(Clone, Copy)]
+struct Row<'a> {
+    bytes: &'a [u8],
+    mode: Mode,
+    owed: usize,
+    partial: usize,
+}
+
+// Commands of one byte, clock messages, LED frames, faults, strays, and unfinished commands.
+const ROWS: [Row<'static>; 8] = [
+    Row {
+        bytes: &[0x40, 0x41, 0x42, 0x43, 0x44, 0x45, 0x47, 0x4b, 0x4c, 0x4d],
+        mode: Mode::UpdateNice,
+        owed: 6,
+        partial: 0,
+    },
+    Row {
+        bytes: &[
+            0x2b, 0x0b, 0x03, 0x01, 0x5b, 0x06, 0x00, 0x66, 0x4f, 0x00, 0x00, 0x03, 0x00, //
+            0x2b, 0x05, 0x03, 0x02, 0x2b, 0x60, 0x00, //
+            0x2b, 0x03, 0x03, 0x03, 0x00, //
+            0x2b, 0x03, 0x03, 0x08, 0x00, //
+            0x2b, 0x03, 0x03, 0x09, 0x00, //
+            0x2b, 0x0a, 0x03, 0x0a, 0x01, 0x30, 0x00, 0x01, 0x30, 0x00, 0x01, 0x00, //
+            0x2b, 0x04, 0x03, 0x0b, 0x10, 0x00, //
+            0x2b, 0x04, 0x03, 0x8b, 0x10, 0x00,
+        ],
+        mode: Mode::Idle,
+        owed: 8,
+        partial: 0,
+    },
+    Row {
+        bytes: &[0x44, 0x60, 0x04, 0x01, 0x00, 0x40, 0x00, 0x42, 0x60, 0x00],
+        mode: Mode::UpdateBoard,
+        owed: 1,
+        partial: 0,
+    },
+    Row {
+        bytes: &[0x43, 0x60, 0x03, 0x40, 0x42, 0x2b, 0x45],
+        mode: Mode::Update,
+        owed: 1,
+        partial: 0,
+    },
+    Row {
+        bytes: &[
+            0x2b, 0x02, 0x2b, 0x03, 0x04, 0x2b, 0x03, 0x03, 0x09, 0x01, 0x40, 0x2b, 0x04, 0x03,
+        ],
+        mode: Mode::Idle,
+        owed: 0,
+        partial: 3,
+    },
+    Row {
+        bytes: &[
+            0x4b, 0x46, 0x50, 0x54, 0x49, 0x4e, 0x00, 0xff, 0x80, 0x3f, 0x4a, 0x4d,
+        ],
+        mode: Mode::UpdateNice,
+        owed: 1,
+        partial: 0,
+    },
+    Row {
+        bytes: &[0x42, 0x2b, 0x04],
+        mode: Mode::Idle,
+        owed: 1,
+        partial: 2,
+    },
+    Row {
+        bytes: &[0x44, 0x45, 0x60, 0x05, 0x40, 0x40],
+        mode: Mode::UpdateBoard,
+        owed: 1,
+        partial: 4,
+    },
+];
+
+// The board takes a piece, and tells what a reader of commands tells of its bytes one by one. Where
+// it is busy, it sends.
+fn take_all(
+    rt: &impl Abort,
+    board: &mut Board,
+    decoder: &mut CommandDecoder,
+    piece: &[u8],
+) -> Result<(), Fail> {
+    let mut left = piece;
+    for _ in 0..piece.len() {
+        if left.is_empty() {
+            break;
+        }
+        if board.owed_len() == MAX_OWED {
+            assert_eq!(rt; board.take(left).err(), Some(Busy));
+            assert!(rt; matches!(board.poll(&mut [0; 67]), Polled::Wrote(_)));
+        }
+        let taken = board.take(left)?;
+        let (used, rest) = left.split_at(taken.used);
+        left = rest;
+        let Some((last, front)) = used.split_last() else {
+            return Err(Fail::from("no byte was taken"));
+        };
+        for byte in front {
+            assert!(rt; decoder.feed(&[*byte]).event.is_none());
+        }
+        assert_eq!(rt; taken.event, decoder.feed(&[*last]).event);
+    }
+    assert!(rt; left.is_empty());
+    assert_eq!(rt; board.partial(), decoder.partial());
+    Ok(())
+}
+
+// Whether a board is as the row says.
+fn is_left_as(board: &Board, row: &Row<'_>) -> bool {
+    board.mode() == row.mode
+        && board.owed_len() == row.owed
+        && board.partial() == row.partial
+        && *board.position() == Position::start()
+}
+
+// Sends all that there is to send: 8 replies and the times at most.
+fn send_all(rt: &impl Abort, board: &mut Board) {
+    for _ in 0..=MAX_OWED {
+        board.poll(&mut [0; 67]);
+    }
+    assert!(rt; !board.owes());
+}
+
+// The bytes of a row, cut into two at each place, and whole behind each part of themselves. A part
+// that leaves no unfinished command makes no difference, once what it asks for was sent.
+fn assert_row(rt: &impl Abort, row: &Row<'_>) -> Result<(), Fail> {
+    for place in 0..=row.bytes.len() {
+        let (front, back) = row.bytes.split_at(place);
+        let mut decoder = CommandDecoder::new();
+        let mut board = new_board()?;
+        take_all(rt, &mut board, &mut decoder, front)?;
+        take_all(rt, &mut board, &mut decoder, back)?;
+        assert!(rt; is_left_as(&board, row), "cut at {place}");
+        let mut decoder = CommandDecoder::new();
+        let mut board = new_board()?;
+        take_all(rt, &mut board, &mut decoder, front)?;
+        send_all(rt, &mut board);
+        let is_between_words = board.partial() == 0;
+        take_all(rt, &mut board, &mut decoder, row.bytes)?;
+        assert!(rt;
+            !is_between_words || is_left_as(&board, row),
+            "behind {place}"
+        );
+    }
+    Ok(())
+}
+
+#[test]
+fn commands_in_two_pieces_and_behind_parts(rt: HostRuntime) -> Result<(), Fail> {
+    for row in &ROWS {
+        assert_row(&rt, row)?;
+    }
+    Ok(())
+}
+
+#[test]
+fn longest_commands_in_two_pieces_and_behind_parts(rt: HostRuntime) -> Result<(), Fail> {
+    let mut clock = [0x00; 257];
+    clock[..4].copy_from_slice(&[0x2b, 0xff, 0x03, 0x01]);
+    let mut bad_end = clock;
+    bad_end[256] = 0x01;
+    let mut leds = [0x42; 257];
+    leds[..2].copy_from_slice(&[0x60, 0xff]);
+    for (bytes, owed) in [(clock, 1), (bad_end, 0), (leds, 0)] {
+        let row = Row {
+            bytes: &bytes,
+            mode: Mode::Idle,
+            owed,
+            partial: 0,
+        };
+        assert_row(&rt, &row)?;
+    }
+    Ok(())
+}
+
+#[test]
+fn flood_of_requests_is_answered_one_by_one(rt: HostRuntime) -> Result<(), Fail> {
+    let mut board = new_board()?;
+    let flood = [0x42; 1000];
+    let mut left = flood.as_slice();
+    for place in 0..1000 {
+        if place >= MAX_OWED {
+            assert_eq!(rt; board.take(left).err(), Some(Busy));
+            play(&rt, &mut board, &[Sends(&START)])?;
+        }
+        let taken = board.take(left)?;
+        assert_eq!(rt; taken.used, 1);
+        left = &left[taken.used..];
+    }
+    assert!(rt; left.is_empty());
+    assert_eq!(rt; board.mode(), Mode::Idle);
     play(&rt, &mut board, &[Sends(&START); 8])?;
     play(&rt, &mut board, &[IsSettled])
 }

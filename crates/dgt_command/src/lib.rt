@@ -25,6 +25,8 @@ mod framer;
 mod ids;
 pub mod laws;
 mod lengths;
+#[cfg(test)]
+mod plain;
 mod questions;
 mod viewing;
 mod writing;

@@ -1,8 +1,56 @@
 //! Words of the line and what they tell, as the published tables give them.
 
+ghost use Rattle.std.specs.Prelude.{◌≤◌, length};
+
 use super::*;
 use dgt_values::{Known, NoRoom, NoSegment, TooMuch};
+use std::alloc::{AllocError, Global};
+use std::process::Abort;
 use std::test::Fail;
+
+/// The bytes of the words below, alone and in a row.
+const LISTS: [&[u8]; 32] = [
+    &[],
+    &[0x40],
+    &[0x41],
+    &[0x42],
+    &[0x43],
+    &[0x44],
+    &[0x45],
+    &[0x47],
+    &[0x4b],
+    &[0x4c],
+    &[0x4d],
+    &[
+        0x2b, 0x0b, 0x03, 0x01, 0x5b, 0x06, 0x00, 0x66, 0x4f, 0x00, 0x00, 0x03, 0x00,
+    ],
+    &[0x2b, 0x05, 0x03, 0x02, 0x2b, 0x60, 0x00],
+    &[0x2b, 0x03, 0x03, 0x03, 0x00],
+    &[0x2b, 0x03, 0x03, 0x08, 0x00],
+    &[0x2b, 0x03, 0x03, 0x09, 0x00],
+    &[
+        0x2b, 0x0a, 0x03, 0x0a, 0x01, 0x30, 0x00, 0x01, 0x30, 0x00, 0x01, 0x00,
+    ],
+    &[0x2b, 0x04, 0x03, 0x0b, 0x10, 0x00],
+    &[0x2b, 0x04, 0x03, 0x8b, 0x10, 0x00],
+    &[
+        0x2b, 0x0c, 0x03, 0x0c, 0x65, 0x34, 0x20, 0x20, 0x20, 0x20, 0x20, 0x20, 0x01, 0x00,
+    ],
+    &[0x60, 0x04, 0x01, 0x00, 0x40, 0x00],
+    &[0x60, 0x00],
+    &[0x2b, 0x02],
+    &[0x2b, 0x03, 0x04],
+    &[0x2b, 0x03, 0x03, 0x09, 0x01],
+    &[0x46],
+    &[0x50],
+    &[0x55],
+    &[0x40, 0x40],
+    &[0x44, 0x60, 0x04, 0x01, 0x00, 0x40, 0x00, 0x42],
+    &[
+        0x2b, 0x02, 0x2b, 0x03, 0x04, 0x2b, 0x03, 0x03, 0x09, 0x01, 0x40, 0x2b, 0x04, 0x03,
+    ],
+    &[0x60, 0x42],
+];
 
 // How many of the events are told after a piece of the bytes, where so many were told before it and `end` bytes have
 // come with it. Each event stands with the number of bytes with which it is told. `None` says that the piece told
@@ -92,6 +140,67 @@ fn is_spelled(bytes: &[u8], command: Command<'_>) -> bool {
         && out.starts_with(bytes)
         && rest_stays
         && is_read(bytes, &events, 0)
+}
+
+// The bytes, cut in two at this place, are read as the plain program says.
+fn assert_as_plain(
+    rt: &impl Abort,
+    alloc: Global,
+    bytes: &[u8],
+    cut: usize,
+) -> Result<(), AllocError> {
+    let (events, rest) = plain::events_of(alloc, bytes)?;
+    assert!(rt; is_read_cut(bytes, cut, &events, rest), "{bytes:?} {cut}");
+    Ok(())
+}
+
+// The same of the bytes cut off at this place, and of all of them behind that part, each in one
+// piece and in two.
+fn assert_cut_off(
+    rt: &impl Abort,
+    alloc: Global,
+    bytes: &[u8],
+    place: usize,
+) -> Result<(), AllocError>
+    requires { place ≤ length bytes.now }
+{
+    let part = &bytes[..place];
+    assert_as_plain(rt, alloc, part, 0)?;
+    assert_as_plain(rt, alloc, part, place / 2)?;
+    let mut list = Vec::new(alloc);
+    list.extend_from_slice(part)?;
+    list.extend_from_slice(bytes)?;
+    assert_as_plain(rt, alloc, &list, 0)?;
+    assert_as_plain(rt, alloc, &list, place)
+}
+
+// The bytes cut in two, and cut off, at each place.
+fn assert_cut_everywhere(rt: &impl Abort, alloc: Global, bytes: &[u8]) -> Result<(), AllocError> {
+    for place in 0..=bytes.len() {
+        assert_as_plain(rt, alloc, bytes, place)?;
+        assert_cut_off(rt, alloc, bytes, place)?;
+    }
+    Ok(())
+}
+
+#[test]
+fn words_cut_off_at_every_place(rt: HostRuntime) -> Result<(), Fail> {
+    for bytes in LISTS {
+        assert_cut_everywhere(&rt, rt.alloc(), bytes)?;
+    }
+    let mut clock = [0x00; 257];
+    clock[0] = 0x2b;
+    clock[1] = 0xff;
+    clock[2] = 0x03;
+    clock[3] = 0x01;
+    assert_cut_everywhere(&rt, rt.alloc(), &clock)?;
+    clock[256] = 0x01;
+    assert_cut_everywhere(&rt, rt.alloc(), &clock)?;
+    let mut leds = [0x42; 257];
+    leds[0] = 0x60;
+    leds[1] = 0xff;
+    assert_cut_everywhere(&rt, rt.alloc(), &leds)?;
+    Ok(())
 }
 
 #[test]

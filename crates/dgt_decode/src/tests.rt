@@ -6,7 +6,7 @@ use crate::decoder::{Decoder, Unfinished};
 use crate::event::{Event, Found};
 use crate::framer::Framer;
 use crate::lanes::first_top;
-use crate::plain;
+use crate::plain::{self, Told};
 use dgt_message::{BodyFault, Message, Reading};
 use dgt_values::SevenBit;
 use std::alloc::{AllocError, Global};
@@ -45,7 +45,7 @@ const NO_PIECE: [u8; 67] = [
     0x02, 0x03, 0x04, 0x06, 0x05, 0x04, 0x03, 0x10,
 ];
 
-const ROWS: [Row; 17] = [
+const ROWS: [Row; 18] = [
     Row {
         bytes: &[],
         told: &[],
@@ -119,6 +119,11 @@ const ROWS: [Row; 17] = [
     Row {
         bytes: &[0x86, 0x00, 0x43, 0x00, 0x00, 0x8e, 0x00, 0x05, 0x24, 0x01],
         told: &["00000006 cut 5", "00000010 field e4 P"],
+        rest: 0,
+    },
+    Row {
+        bytes: &[0x8e, 0x00, 0x8e, 0x00, 0x05, 0x24, 0x01],
+        told: &["00000003 cut 2", "00000007 field e4 P"],
         rest: 0,
     },
     Row {
@@ -251,6 +256,34 @@ fn plain_lines(alloc: Global, bytes: &[u8]) -> Result<Vec<String>, AllocError> {
     Ok(lines)
 }
 
+/// Feeds the decoder the bytes from one place to another, and gives what is left of the events told then.
+fn feed_as_told<'a, 'b>(
+    rt: &impl Abort,
+    decoder: &mut Decoder,
+    bytes: &[u8],
+    from: usize,
+    to: usize,
+    told: &'a [Told<'b>],
+) -> &'a [Told<'b>]
+    requires in_order { from ≤ to }
+    requires within { to ≤ length bytes.now }
+{
+    let mut at = from;
+    let mut left = told;
+    while at < to {
+        let fed = decoder.feed(&bytes[at..to]);
+        at += fed.used;
+        match (fed.event, left) {
+            (Some(event), [(place, expected), others @ ..]) => {
+                assert!(rt; at == *place && event == *expected);
+                left = others;
+            }
+            (event, _) => assert!(rt; event.is_none() && at == to),
+        }
+    }
+    left
+}
+
 /// The bytes in two pieces, cut at this place, come to what the plain program says of all of them.
 fn assert_as_plain(
     rt: &impl Abort,
@@ -260,14 +293,10 @@ fn assert_as_plain(
 ) -> Result<(), AllocError> {
     let cut = cut.min(bytes.len());
     let mut decoder = Decoder::new();
-    let mut lines = Vec::new(alloc);
-    feed_part(rt, alloc, &mut decoder, bytes, 0, cut, &mut lines)?;
-    feed_part(rt, alloc, &mut decoder, bytes, cut, bytes.len(), &mut lines)?;
-    let told = plain_lines(alloc, bytes)?;
-    assert_eq!(rt; lines.len(), told.len());
-    for (line, want) in lines.iter().zip(&told) {
-        assert_eq!(rt; line.as_str(), want.as_str());
-    }
+    let told = plain::events_of(alloc, bytes)?;
+    let left = feed_as_told(rt, &mut decoder, bytes, 0, cut, &told);
+    let left = feed_as_told(rt, &mut decoder, bytes, cut, bytes.len(), left);
+    assert!(rt; left.is_empty());
     Ok(())
 }
 
@@ -354,6 +383,95 @@ fn each_row_in_pieces_of_one_byte(rt: HostRuntime) -> Result<(), Fail> {
         assert_eq!(rt; decoder.finish(), left);
         assert_eq!(rt; decoder.finish(), None);
     }
+    Ok(())
+}
+
+/// The bytes cut off at this place, and all of them behind that part, each in one piece and in two.
+fn assert_cut_off(
+    rt: &impl Abort,
+    alloc: Global,
+    bytes: &[u8],
+    place: usize,
+) -> Result<(), AllocError>
+    requires { place ≤ length bytes.now }
+{
+    let part = &bytes[..place];
+    assert_as_plain(rt, alloc, part, 0)?;
+    assert_as_plain(rt, alloc, part, place / 2)?;
+    let mut list = Vec::new(alloc);
+    list.extend_from_slice(part)?;
+    list.extend_from_slice(bytes)?;
+    assert_as_plain(rt, alloc, &list, 0)?;
+    assert_as_plain(rt, alloc, &list, place)
+}
+
+/// The bytes cut in two, and cut off, at each place; more than 300 at the first and last 40 places.
+fn assert_cut_everywhere(rt: &impl Abort, alloc: Global, bytes: &[u8]) -> Result<(), AllocError> {
+    for place in 0..=bytes.len() {
+        if bytes.len() <= 300 || place <= 40 || bytes.len() - place <= 40 {
+            assert_as_plain(rt, alloc, bytes, place)?;
+            assert_cut_off(rt, alloc, bytes, place)?;
+        }
+    }
+    Ok(())
+}
+
+#[test]
+fn each_row_cut_off_at_every_place(rt: HostRuntime) -> Result<(), Fail> {
+    for row in &ROWS {
+        assert_cut_everywhere(&rt, rt.alloc(), row.bytes)?;
+    }
+    assert_cut_everywhere(&rt, rt.alloc(), &longest_message())?;
+    Ok(())
+}
+
+#[test]
+fn strays_without_a_message(rt: HostRuntime) -> Result<(), Fail> {
+    let bytes = [0x00; 300];
+    let told = plain::events_of(rt.alloc(), &bytes)?;
+    assert_eq!(rt; told.len(), 300);
+    for (index, (place, event)) in told.iter().enumerate() {
+        assert!(rt; *place == index + 1 && *event == Event::Stray(0x00));
+    }
+    let mut decoder = Decoder::new();
+    feed_part(
+        &rt,
+        rt.alloc(),
+        &mut decoder,
+        &bytes,
+        0,
+        300,
+        &mut Vec::new(rt.alloc()),
+    )?;
+    assert_eq!(rt; decoder.rest(), 0);
+    assert_cut_everywhere(&rt, rt.alloc(), &bytes)?;
+    Ok(())
+}
+
+/// The longest message, and a field message in place of its last byte.
+fn longest_message_cut() -> [u8; 16387]
+    ensures { length result ≡ 16387 }
+{
+    let mut bytes = [0; 16387];
+    bytes[0] = 0xb0;
+    bytes[1] = 0x7f;
+    bytes[2] = 0x7f;
+    bytes[16382] = 0x8e;
+    bytes[16384] = 0x05;
+    bytes[16385] = 0x24;
+    bytes[16386] = 0x01;
+    bytes
+}
+
+#[test]
+fn the_longest_message_cut_at_its_last_byte(rt: HostRuntime) -> Result<(), Fail> {
+    let bytes = longest_message_cut();
+    assert_lines(
+        &rt,
+        &plain_lines(rt.alloc(), &bytes)?,
+        &["00016383 cut 16382", "00016387 field e4 P"],
+    );
+    assert_cut_everywhere(&rt, rt.alloc(), &bytes)?;
     Ok(())
 }
 
