@@ -98,6 +98,21 @@ fn following(rt: HostRuntime) {
 }
 
 #[test]
+fn restarting(rt: HostRuntime) {
+    let mut host = Host::new();
+    assert_eq!(rt;
+        host.restart(&mut [0; 256]),
+        Err(SendFault::NoRoom { need: 257 })
+    );
+    assert!(rt; host.awaited().is_empty());
+    let mut out = [0xff; 258];
+    assert_eq!(rt; host.restart(&mut out), Ok(257));
+    assert_eq!(rt; &out[..255], [0; 255].as_slice());
+    assert_eq!(rt; &out[255..], [0x44, 0x42, 0xff].as_slice());
+    assert_eq!(rt; host.awaited(), [Kind::Dump].as_slice());
+}
+
+#[test]
 fn sixteen_replies_awaited(rt: HostRuntime) {
     let mut host = host_after(&rt, &[Command::Serial; 16]);
     assert_eq!(rt; host.awaited(), [Kind::Serial; 16].as_slice());
@@ -106,6 +121,7 @@ fn sixteen_replies_awaited(rt: HostRuntime) {
         Err(SendFault::TooMany)
     );
     assert_eq!(rt; host.follow(&mut []), Err(SendFault::TooMany));
+    assert_eq!(rt; host.restart(&mut []), Err(SendFault::TooMany));
     assert_eq!(rt; host.send(&Command::Reset, &mut [0]), Ok(1));
     assert_eq!(rt; host.awaited().len(), 16);
 }
