@@ -87,11 +87,12 @@ Example:
   $ printf '\\x8e\\x00\\x05\\x24\\x01' | dgt monitor
   00000005 field e4 P
 
-Example of a board on a serial port, which is asked for all squares (42) and for
-each change from then on (44). Ctrl-C ends it.
+Example of a board on a serial port. 255 zeros end what another program may have
+begun to ask of it; then it is asked for each change from now on (44, which is
+the letter D) and for all squares (42, the letter B). Ctrl-C ends it.
   $ stty -F /dev/ttyUSB0 9600 raw -echo
   $ exec 3<>/dev/ttyUSB0
-  $ printf '\\x42\\x44' >&3
+  $ { head -c 255 /dev/zero; printf DB; } >&3
   $ dgt monitor <&3
   00000067 dump rnbqkbnr/pppppppp/8/8/8/8/PPPPPPPP/RNBQKBNR
   00000072 field e2 .
