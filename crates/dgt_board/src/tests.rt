@@ -72,6 +72,7 @@ enum Step<'a> {
     Take(&'a [u8]),
     Change(&'a str, Piece),
     Hand(Clock),
+    LoseLine,
     Sends(&'a [u8]),
     IsSettled,
 }
@@ -88,6 +89,7 @@ fn play(rt: &impl Abort, board: &mut Board, steps: &[Step<'_>]) -> Result<(), Fa
             }
             Change(square, piece) => board.change(Square::parse(square)?, piece),
             Hand(clock) => board.hand_clock(clock),
+            LoseLine => board.line_lost(),
             Sends(message) => {
                 assert!(rt; board.owes());
                 assert_eq!(rt; board.poll(&mut out), Polled::Wrote(message.len()));
@@ -303,6 +305,80 @@ fn eight_replies_make_it_busy(rt: HostRuntime) -> Result<(), Fail> {
     assert_eq!(rt; *board.clock(), times([0; 3], [0; 3], 0)?);
     play(&rt, &mut board, &[Sends(&START); 8])?;
     play(&rt, &mut board, &[IsSettled])
+}
+
+#[test]
+fn lost_line_leaves_the_squares_and_the_clock(rt: HostRuntime) -> Result<(), Fail> {
+    let running = times([1, 30, 0], [1, 29, 55], 0x11)?;
+    let told = [0x8d, 0x00, 0x0a, 0x01, 0x30, 0x00, 0x01, 0x29, 0x55, 0x11];
+    // a square, the times and two replies are to be told, and a command is half taken
+    let mut board = new_board()?;
+    play(
+        &rt,
+        &mut board,
+        &[
+            Take(&[0x43]),
+            Change("e2", Piece::Empty),
+            Hand(running),
+            Take(&[0x42]),
+            Take(&[0x45]),
+            Take(&[0x2b, 0x04, 0x03]),
+            LoseLine,
+            IsSettled,
+        ],
+    )?;
+    assert_eq!(rt; board.mode(), Mode::Idle);
+    assert_eq!(rt; (board.owed_len(), board.partial()), (0, 0));
+    assert_eq!(rt; board.position().get(Square::parse("e2")?), Piece::Empty);
+    assert_eq!(rt; *board.clock(), running);
+    // the change is told by a dump alone; the clock is owed again, though it was not handed in again
+    play(
+        &rt,
+        &mut board,
+        &[
+            Take(&[0x44]),
+            IsSettled,
+            Take(&[0x42]),
+            Sends(&WITHOUT_E2),
+            Take(&[0x4b]),
+            Sends(&told),
+            IsSettled,
+            LoseLine,
+            Take(&[0x4b]),
+            Sends(&told),
+            IsSettled,
+        ],
+    )?;
+    // and a change behind the break is told as ever
+    play(
+        &rt,
+        &mut new_board()?,
+        &[
+            LoseLine,
+            Take(&[0x44]),
+            Change("e2", Piece::Empty),
+            Sends(&E2),
+            IsSettled,
+        ],
+    )
+}
+
+#[test]
+fn lost_line_ends_a_busy_time(rt: HostRuntime) -> Result<(), Fail> {
+    let mut board = new_board()?;
+    play(&rt, &mut board, &[Take(&[0x42]); 8])?;
+    assert_eq!(rt; board.take(&[0x40]).err(), Some(Busy));
+    play(
+        &rt,
+        &mut board,
+        &[
+            LoseLine,
+            IsSettled,
+            Take(&[0x45]),
+            Sends(&SERIAL),
+            IsSettled,
+        ],
+    )
 }
 
 // A list of bytes, and a new board that took them: its mode, how many replies it owes, and how many

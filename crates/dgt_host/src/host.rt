@@ -133,6 +133,19 @@ impl Host {
         Ok(need)
     }
 
+    /// The line to the board is lost, and what was under way on it. The host is as new: it knows no
+    /// picture and no clock, awaits nothing, and holds no byte of an unfinished message.
+    ///
+    /// To follow the board once the line is back, call `follow`.
+    pub fn line_lost(&mut self)
+        ensures { self.new ≡ new_host }
+    {
+        self.framer.reset();
+        self.picture = None;
+        self.clock = None;
+        self.awaited.clear();
+    }
+
     fn awaits_too_many(&self, kind: Option<Kind>) -> bool
         ensures { result ≡ awaits_too_many self.now kind }
     {

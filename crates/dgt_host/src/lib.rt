@@ -9,7 +9,8 @@
 //! project's own choice. A message that answers a command is taken off the list where it is the
 //! first, and is told as unasked where it isn't.
 //!
-//! No call takes memory.
+//! Where the line breaks, `line_lost` makes the host as new, and `follow` asks for all that it needs
+//! once the line is back. No call takes memory.
 #![tactic(auto)]
 
 mod hearing;

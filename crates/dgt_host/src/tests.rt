@@ -188,6 +188,30 @@ fn a_clock_in_pieces(rt: HostRuntime) {
     assert!(rt; matches!(host.clock(), Some(Clock::NoClock(_))));
 }
 
+#[test]
+fn a_lost_line_makes_it_as_new(rt: HostRuntime) {
+    let times = [0x8d, 0x00, 0x0a, 0x01, 0x30, 0x00, 0x01, 0x29, 0x55, 0x11];
+    let mut host = host_after(&rt, &[Command::Dump, Command::Version, Command::Dump]);
+    assert_eq!(rt; host.hear(&DUMP).used, 67);
+    assert_eq!(rt; host.hear(&times).used, 10);
+    // a field that is half heard
+    assert_eq!(rt; host.hear(&FIELD[..3]).used, 3);
+    host.line_lost();
+    assert!(rt; host.picture().is_none());
+    assert!(rt; host.clock().is_none());
+    assert!(rt; host.awaited().is_empty());
+    assert_eq!(rt; host.unread(), 0);
+    // what is left of the field is stray
+    let heard = host.hear(&FIELD[3..]);
+    assert_eq!(rt; heard.used, 1);
+    assert!(rt; matches!(heard.event, Some(Event::Stray(0x24))));
+    // and the host follows anew
+    assert_eq!(rt; host.follow(&mut [0; 2]), Ok(2));
+    assert!(rt; !host.hear(&DUMP).unasked);
+    assert!(rt; is_start(&host));
+    assert!(rt; host.awaited().is_empty());
+}
+
 /// What a host knows of the clock: hours, minutes and seconds of both.
 #[derive(Clone, Copy, Debug, PartialEq, Eq)]
 enum Told {
