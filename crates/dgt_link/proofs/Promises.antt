@@ -1,5 +1,5 @@
 -- The two halves of the promise, and what each move does to them.
-use Rattle.std.proofs.Common.{IsTrue, cond, false, true, Bool, ◌≡◌, refl, sym, ap, ◌∙◌, ◌⊎◌, inl, inr, zero, suc, List, [], ◌∷◌, ◌++◌, Option, Some, None, ◌&&◌, arith}
+use Rattle.std.proofs.Common.{IsTrue, cond, false, true, Bool, ◌≡◌, ◌≢◌, refl, sym, ap, ◌∙◌, ◌⊎◌, inl, inr, zero, suc, List, [], ◌∷◌, ◌++◌, Option, Some, None, ◌&&◌, arith}
 use Rattle.std.proofs.lemmas.List.Elements.{filter_map-append, Contains-append_left, Contains-append_cases, Contains-push}
 use Rattle.std.proofs.lemmas.Bool.{cond_both, false≢true}
 use Rattle.std.specs.Prelude.{IsSome, Contains, filter_map, unwrap_or}
@@ -18,7 +18,7 @@ use Rattle.dgt_host.specs.Hearing.{picture_after, picture_after_all}
 use Rattle.dgt_link.specs.Move.{Move}
 use Rattle.dgt_link.specs.Machine.{State, after_move, after_told, after_take, after_reply, after_hear}
 use Rattle.dgt_link.specs.Sound.{coming_picture}
-use Rattle.dgt_link.specs.Promise.{IsAsked, IsPromised, PictureIsComing, coming_mode, command_of_move, event_mode, last_mode, mode_after, with_command}
+use Rattle.dgt_link.specs.Promise.{IsAsked, IsPromised, PictureIsComing, coming_mode, commands_after_move, event_mode, last_mode, mode_after}
 use Rattle.dgt_link.proofs.Telling.{picture_after_all-append}
 
 -- ---- the mode that is coming
@@ -116,20 +116,26 @@ ask_comes seen owed down more (inr (inr asked)) = inr (inr (Contains-append_left
 pub dump_asked : (x : State) → PictureIsComing (after_move x (Move.Ask CommandContent.Dump))
 dump_asked x = inr (inr (Contains-push x.down (EventContent.Read CommandContent.Dump)))
 
--- no move ends the first half of the promise
-pub picture_keeps_coming : (x : State) (move : Move) → PictureIsComing x → PictureIsComing (after_move x move)
-picture_keeps_coming x (Move.Change square piece) coming = coming
-picture_keeps_coming x (Move.HandClock clock) coming = coming
-picture_keeps_coming x (Move.Ask command) coming = ask_comes (coming_picture x) x.board.owed x.down (EventContent.Read command ∷ []) coming
-picture_keeps_coming x Move.Take coming = take_keeps_picture x x.down refl coming
-picture_keeps_coming x Move.Reply coming = reply_keeps_picture x x.board.owed refl coming
-picture_keeps_coming x (Move.Tell square) coming =
+-- only a break ends the first half of the promise
+pub picture_keeps_coming : (x : State) (move : Move) → move ≢ Move.Break → PictureIsComing x → PictureIsComing (after_move x move)
+picture_keeps_coming x (Move.Change square piece) other coming = coming
+picture_keeps_coming x (Move.HandClock clock) other coming = coming
+picture_keeps_coming x (Move.Ask command) other coming = ask_comes (coming_picture x) x.board.owed x.down (EventContent.Read command ∷ []) coming
+picture_keeps_coming x Move.Take other coming = take_keeps_picture x x.down refl coming
+picture_keeps_coming x Move.Reply other coming = reply_keeps_picture x x.board.owed refl coming
+picture_keeps_coming x (Move.Tell square) other coming =
     cond_both (updates x.board.mode && differs x.board square) (after_told x (field_of x.board square)) x PictureIsComing
     (λ h. sent_comes x.picture x.up (field_of x.board square) x.board.owed x.down coming) (λ h. coming)
-picture_keeps_coming x Move.TellClock coming =
+picture_keeps_coming x Move.TellClock other coming =
     cond_both x.board.times_owed (after_told x (clock_message x.board.clock)) x PictureIsComing
     (λ h. sent_comes x.picture x.up (clock_message x.board.clock) x.board.owed x.down coming) (λ h. coming)
-picture_keeps_coming x Move.Hear coming = hear_keeps_picture x x.up refl coming
+picture_keeps_coming x Move.Hear other coming = hear_keeps_picture x x.up refl coming
+picture_keeps_coming x Move.Break other coming = absurd (other refl)
+
+pub break_ends : (x : State) → ¬ (PictureIsComing (after_move x Move.Break))
+break_ends x (inl known) = false≢true known
+break_ends x (inr (inl owed)) = nothing_contained (Reply.Of Kind.Dump) owed
+break_ends x (inr (inr asked)) = nothing_contained (EventContent.Read CommandContent.Dump) asked
 
 -- ---- the second half: the mode that is coming
 
@@ -156,7 +162,7 @@ sent-mode : (x : State) (message : Content) (test : Bool) → coming_mode (cond 
 sent-mode x message true = refl
 sent-mode x message false = refl
 
--- the mode that is coming is that of the last command that sets one
+-- the mode that is coming is that of the last command that sets one, or that of a break
 pub move-mode : (x : State) (move : Move) → coming_mode (after_move x move) ≡ mode_after (coming_mode x) move
 move-mode x (Move.Change square piece) = refl
 move-mode x (Move.HandClock clock) = refl
@@ -166,6 +172,7 @@ move-mode x Move.Reply = reply-mode x x.board.owed
 move-mode x (Move.Tell square) = sent-mode x (field_of x.board square) (updates x.board.mode && differs x.board square)
 move-mode x Move.TellClock = sent-mode x (clock_message x.board.clock) x.board.times_owed
 move-mode x Move.Hear = hear-mode x x.up
+move-mode x Move.Break = refl
 
 -- ---- what was asked for, and what it promises
 
@@ -192,28 +199,29 @@ ask_keeps commands x command keeps h = go (Contains-append_cases commands (comma
     new (inr none) = absurd (nothing_contained CommandContent.Dump none)
 
     go : Contains commands CommandContent.Dump ⊎ Contains (command ∷ []) CommandContent.Dump → PictureIsComing (after_move x (Move.Ask command))
-    go (inl before) = picture_keeps_coming x (Move.Ask command) (keeps.picture before)
+    go (inl before) = picture_keeps_coming x (Move.Ask command) (λ e. cc) (keeps.picture before)
     go (inr now) = new (Contains-cons CommandContent.Dump command [] now)
 
--- a move that asks for nothing
-still_keeps : (commands : List CommandContent) (x : State) (move : Move) → mode_after (coming_mode x) move ≡ coming_mode x → Keeps commands x → Keeps commands (after_move x move)
-still_keeps commands x move same keeps =
-    record { picture = λ h. picture_keeps_coming x move (keeps.picture h); before = keeps.before; mode = move-mode x move ∙ same ∙ keeps.mode }
+-- a move that asks for nothing, and is no break
+still_keeps : (commands : List CommandContent) (x : State) (move : Move) → move ≢ Move.Break → mode_after (coming_mode x) move ≡ coming_mode x → Keeps commands x → Keeps commands (after_move x move)
+still_keeps commands x move other same keeps =
+    record { picture = λ h. picture_keeps_coming x move other (keeps.picture h); before = keeps.before; mode = move-mode x move ∙ same ∙ keeps.mode }
 
-pub move_keeps : (commands : List CommandContent) (x : State) (move : Move) → Keeps commands x → Keeps (with_command commands (command_of_move move)) (after_move x move)
+pub move_keeps : (commands : List CommandContent) (x : State) (move : Move) → Keeps commands x → Keeps (commands_after_move commands move) (after_move x move)
 move_keeps commands x (Move.Ask command) keeps =
     record {
       picture = ask_keeps commands x command keeps;
       before = keeps.before;
       mode = ask-mode x command ∙ asked-mode commands command keeps.before (coming_mode x) keeps.mode;
     }
-move_keeps commands x (Move.Change square piece) keeps = still_keeps commands x (Move.Change square piece) refl keeps
-move_keeps commands x (Move.HandClock clock) keeps = still_keeps commands x (Move.HandClock clock) refl keeps
-move_keeps commands x Move.Take keeps = still_keeps commands x Move.Take refl keeps
-move_keeps commands x Move.Reply keeps = still_keeps commands x Move.Reply refl keeps
-move_keeps commands x (Move.Tell square) keeps = still_keeps commands x (Move.Tell square) refl keeps
-move_keeps commands x Move.TellClock keeps = still_keeps commands x Move.TellClock refl keeps
-move_keeps commands x Move.Hear keeps = still_keeps commands x Move.Hear refl keeps
+move_keeps commands x (Move.Change square piece) keeps = still_keeps commands x (Move.Change square piece) (λ e. cc) refl keeps
+move_keeps commands x (Move.HandClock clock) keeps = still_keeps commands x (Move.HandClock clock) (λ e. cc) refl keeps
+move_keeps commands x Move.Take keeps = still_keeps commands x Move.Take (λ e. cc) refl keeps
+move_keeps commands x Move.Reply keeps = still_keeps commands x Move.Reply (λ e. cc) refl keeps
+move_keeps commands x (Move.Tell square) keeps = still_keeps commands x (Move.Tell square) (λ e. cc) refl keeps
+move_keeps commands x Move.TellClock keeps = still_keeps commands x Move.TellClock (λ e. cc) refl keeps
+move_keeps commands x Move.Hear keeps = still_keeps commands x Move.Hear (λ e. cc) refl keeps
+move_keeps commands x Move.Break keeps = nothing_asked (after_move x Move.Break)
 
 -- a mode asked for holds whatever mode was before
 asked_from_any : (before : Mode) (modes : List Mode) → IsTrue (updates (last_mode Mode.Idle modes)) → IsTrue (updates (last_mode before modes))
@@ -250,16 +258,17 @@ hear_known : (x : State) (up : List Content) → x.up ≡ up → IsSome (coming_
 hear_known x [] e known = known
 hear_known x (message ∷ rest) e known = rw e at known
 
-pub picture_stays_known : (x : State) (move : Move) → IsSome (coming_picture x) → IsSome (coming_picture (after_move x move))
-picture_stays_known x (Move.Change square piece) known = known
-picture_stays_known x (Move.HandClock clock) known = known
-picture_stays_known x (Move.Ask command) known = known
-picture_stays_known x Move.Take known = take_known x x.down known
-picture_stays_known x Move.Reply known = reply_known x x.board.owed known
-picture_stays_known x (Move.Tell square) known =
+pub picture_stays_known : (x : State) (move : Move) → move ≢ Move.Break → IsSome (coming_picture x) → IsSome (coming_picture (after_move x move))
+picture_stays_known x (Move.Change square piece) other known = known
+picture_stays_known x (Move.HandClock clock) other known = known
+picture_stays_known x (Move.Ask command) other known = known
+picture_stays_known x Move.Take other known = take_known x x.down known
+picture_stays_known x Move.Reply other known = reply_known x x.board.owed known
+picture_stays_known x (Move.Tell square) other known =
     cond_both (updates x.board.mode && differs x.board square) (after_told x (field_of x.board square)) x (λ (y : State). IsSome (coming_picture y))
     (λ h. sent_known x (field_of x.board square) known) (λ h. known)
-picture_stays_known x Move.TellClock known =
+picture_stays_known x Move.TellClock other known =
     cond_both x.board.times_owed (after_told x (clock_message x.board.clock)) x (λ (y : State). IsSome (coming_picture y))
     (λ h. sent_known x (clock_message x.board.clock) known) (λ h. known)
-picture_stays_known x Move.Hear known = hear_known x x.up refl known
+picture_stays_known x Move.Hear other known = hear_known x x.up refl known
+picture_stays_known x Move.Break other known = absurd (other refl)

@@ -4,7 +4,7 @@ use Rattle.dgt_command.specs.Content.{CommandContent}
 use Rattle.dgt_link.specs.Move.{Move}
 use Rattle.dgt_link.specs.Machine.{State, after_move, after_moves}
 use Rattle.dgt_link.specs.Sound.{IsSound, IsExact}
-use Rattle.dgt_link.specs.Promise.{IsAsked, IsPromised, IsQuiet, command_of_move, commands_after_moves, with_command}
+use Rattle.dgt_link.specs.Promise.{IsAsked, IsPromised, IsQuiet, commands_after_move, commands_after_moves}
 use Rattle.dgt_link.proofs.Soundness.{move_sound, move_exact}
 use Rattle.dgt_link.proofs.Promises.{Keeps, nothing_asked, move_keeps, keeps_promise}
 use Rattle.dgt_link.proofs.Quiet.{promised_picture}
@@ -19,7 +19,7 @@ moves_exact x (move ∷ moves) exact = moves_exact (after_move x move) moves (mo
 
 moves_keep : (commands : List CommandContent) (x : State) (moves : List Move) → Keeps commands x → Keeps (commands_after_moves commands moves) (after_moves x moves)
 moves_keep commands x [] keeps = keeps
-moves_keep commands x (move ∷ moves) keeps = moves_keep (with_command commands (command_of_move move)) (after_move x move) moves (move_keeps commands x move keeps)
+moves_keep commands x (move ∷ moves) keeps = moves_keep (commands_after_move commands move) (after_move x move) moves (move_keeps commands x move keeps)
 
 pub moves_promise : (x : State) (moves : List Move) → IsAsked (commands_after_moves [] moves) → IsPromised (after_moves x moves)
 moves_promise x moves asked = keeps_promise (commands_after_moves [] moves) (after_moves x moves) (moves_keep [] x moves (nothing_asked x)) asked

@@ -182,6 +182,11 @@ move_sound x Move.TellClock sound =
     cond_both x.board.times_owed (after_told x (clock_message x.board.clock)) x IsSound
     (λ h. send_sound x x.board.owed (clock_message x.board.clock) (clock_tells x.board) (tell_clock_first x) sound) (λ h. sound)
 move_sound x Move.Hear sound = hear_sound x x.up refl sound
+move_sound x Move.Break sound = new_sound x.board.squares x.board.clock x.board.identity sound.squares
+
+-- both ends are as new, but for the squares, the clock and the identity
+pub break_exact : (x : State) → IsSound x → IsExact (after_move x Move.Break)
+break_exact x sound = new_exact x.board.squares x.board.clock x.board.identity sound.squares
 
 pub move_exact : (x : State) (move : Move) → IsExact x → IsExact (after_move x move)
 move_exact x (Move.Change square piece) exact = record { sound = move_sound x (Move.Change square piece) exact.sound; clock = exact.clock; awaited = exact.awaited }
@@ -201,3 +206,4 @@ move_exact x Move.TellClock exact =
     cond_both x.board.times_owed (after_told x (clock_message x.board.clock)) x IsExact
     (λ h. send_exact x x.board.owed (clock_message x.board.clock) (clock_tells x.board) (tell_clock_first x) exact) (λ h. exact)
 move_exact x Move.Hear exact = hear_exact x x.up refl exact
+move_exact x Move.Break exact = break_exact x exact.sound

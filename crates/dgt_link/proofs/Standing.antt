@@ -14,7 +14,7 @@ use Rattle.dgt_command.specs.Laws.{DivisionsAppend, NoWordBeginsAnother}
 use Rattle.dgt_command.proofs.DivisionLemmas.{nothing_is_partial}
 use Rattle.dgt_command.specs.Kind.{kind_of_command}
 use Rattle.dgt_board.specs.Identity.{IdentityContent}
-use Rattle.dgt_board.specs.State.{BoardState, after_change, after_hand_clock}
+use Rattle.dgt_board.specs.State.{BoardState, after_change, after_hand_clock, after_line_lost}
 use Rattle.dgt_board.specs.Effect.{effect, effects}
 use Rattle.dgt_board.specs.Sending.{after_sending, next_message}
 use Rattle.dgt_host.specs.Host.{HostView, host_after_message}
@@ -27,11 +27,12 @@ use Rattle.dgt_link.specs.Stands.{AreSpelled, IsExactWorld, IsWorld, StandsFor}
 use Rattle.dgt_link.specs.Step.{Becomes, Runs, Step, with_state}
 use Rattle.dgt_link.specs.View.{WorldView, new_world}
 use Rattle.dgt_link.specs.ActMoves.{AreMovesOfAct, StandsAfterRun, StandsAfterStep}
+use Rattle.dgt_link.proofs.Asking.{break_moves}
 use Rattle.dgt_link.proofs.Dividing.{divides_command, divides_end, divides_front}
 use Rattle.dgt_link.proofs.Hearing.{Reads, heard_front, host_after_messages}
 use Rattle.dgt_link.proofs.Runs.{moves_exact, moves_sound}
 use Rattle.dgt_link.proofs.Sending.{next_is_sent}
-use Rattle.dgt_link.proofs.Soundness.{move_sound, new_exact, new_sound}
+use Rattle.dgt_link.proofs.Soundness.{break_exact, move_sound, new_exact, new_sound}
 
 -- the laws of both readers
 pub record Grammars : Type 0 where
@@ -244,6 +245,23 @@ module _ (laws : Grammars) where
             }),
       )
 
+  break_reaches : (world after : WorldView) (x : State) → StandsFor world x → Becomes ActContent.Break world after → Reaches ActContent.Break after x
+  break_reaches world after x stands same = (
+    Move.Break ∷ [],
+    refl,
+    rw same
+        (record {
+          sound = move_sound x Move.Break stands.sound;
+          board = ap after_line_lost stands.board;
+          picture = refl;
+          clock = refl;
+          awaited = refl;
+          up = record { are_messages = tt; in_a_row = refl };
+          down = (refl, nothing_is_partial);
+          partial = nothing_is_partial;
+        }),
+  )
+
   done_reaches : (act : ActContent) (world after : WorldView) (x : State) → StandsFor world x → Becomes act world after → Reaches act after x
   done_reaches (ActContent.Change square piece) world after x stands becomes = change_reaches world square piece after x stands becomes
   done_reaches (ActContent.ClockRead clock) world after x stands becomes = clock_reaches world clock after x stands becomes
@@ -251,6 +269,7 @@ module _ (laws : Grammars) where
   done_reaches ActContent.BoardSend world after x stands becomes = send_reaches world after x stands becomes
   done_reaches (ActContent.ToBoard count) world after x stands becomes = take_reaches world count after x stands becomes
   done_reaches (ActContent.ToHost count) world after x stands becomes = hear_reaches world count after x stands becomes
+  done_reaches ActContent.Break world after x stands becomes = break_reaches world after x stands becomes
 
   pub step_stands : (act : ActContent) (world : WorldView) (answer : Outcome) (after : WorldView) (x : State) → StandsFor world x → Step act world answer after → StandsAfterStep act answer x after
   step_stands act world Outcome.Done after x stands step = done_reaches act world after x stands step.leaves
@@ -284,6 +303,7 @@ becomes_rooms (ActContent.Host command) world after (host, line, (spells, is, le
 becomes_rooms ActContent.BoardSend world after (board, line, (message, is_next, spells, is, left), same) = rw (same, left) (record { up = refl; down = refl })
 becomes_rooms (ActContent.ToBoard count) world after (board, line, delivers, same) = rw (same, delivers.left_is) (record { up = refl; down = refl })
 becomes_rooms (ActContent.ToHost count) world after (host, line, (is, left), same) = rw (same, left) (record { up = refl; down = refl })
+becomes_rooms ActContent.Break world after same = rw same (record { up = refl; down = refl })
 
 step_rooms : (act : ActContent) (world : WorldView) (answer : Outcome) (after : WorldView) → Step act world answer after → HasRooms world after
 step_rooms act world Outcome.Done after step = becomes_rooms act world after step.leaves
@@ -311,6 +331,13 @@ module _ (moves : (act : ActContent) (world after : WorldView) (answer : Outcome
   step_keeps_exact act world after answer is step =
       let reached = moves act world after answer is.state is.stands step in
       record { state = after_moves is.state reached.0; stands = reached.2; exact = moves_exact is.state reached.0 is.exact }
+
+  -- a break makes a world exact
+  pub break_is_exact : (world after : WorldView) (answer : Outcome) → IsWorld world → Step ActContent.Break world answer after → IsExactWorld after
+  break_is_exact world after answer is step =
+      let reached = moves ActContent.Break world after answer is.state is.stands step in
+      let broken : after_moves is.state reached.0 ≡ after_move is.state Move.Break = break_moves is.state answer reached.0 step.answers reached.1 in
+      record { state = after_moves is.state reached.0; stands = reached.2; exact = rw broken (break_exact is.state is.stands.sound) }
 
 pub run_keeps_exact : ((acts : List ActContent) (world after : WorldView) (answers : List Outcome) (x : State) → StandsFor world x → Runs acts world answers after → StandsAfterRun acts answers x after) → (acts : List ActContent) (world after : WorldView) (answers : List Outcome) → IsExactWorld world → Runs acts world answers after → IsExactWorld after
 run_keeps_exact moves acts world after answers is runs =

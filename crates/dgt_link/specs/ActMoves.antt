@@ -16,6 +16,7 @@ AreMovesOfAct (ActContent.Host command) moves = moves ≡ Move.Ask command ∷ [
 AreMovesOfAct ActContent.BoardSend moves = (move : Move) × IsSending move × (moves ≡ move ∷ [])
 AreMovesOfAct (ActContent.ToBoard bytes) moves = (count : ℕ) × (moves ≡ replicate count Move.Take)
 AreMovesOfAct (ActContent.ToHost bytes) moves = (count : ℕ) × (moves ≡ replicate count Move.Hear)
+AreMovesOfAct ActContent.Break moves = moves ≡ Move.Break ∷ []
 
 -- what isn't done is no move
 abbrev pub AreMovesOfStep : ActContent → Outcome → List Move → Type 0

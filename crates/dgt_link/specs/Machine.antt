@@ -10,7 +10,7 @@ use Rattle.dgt_command.specs.Content.{EventContent}
 use Rattle.dgt_command.specs.Kind.{kind_of_command}
 use Rattle.dgt_board.specs.declared.replies.Reply.{Reply}
 use Rattle.dgt_board.specs.Identity.{IdentityContent}
-use Rattle.dgt_board.specs.State.{BoardState, new_board, after_change, after_hand_clock, updates}
+use Rattle.dgt_board.specs.State.{BoardState, new_board, after_change, after_hand_clock, after_line_lost, updates}
 use Rattle.dgt_board.specs.Effect.{effect}
 use Rattle.dgt_board.specs.Sending.{after_telling, differs, field_of, reply_message}
 use Rattle.dgt_host.specs.Hearing.{awaited_after, clock_after, picture_after}
@@ -63,6 +63,18 @@ after_hear x (message ∷ later) =
       awaited = awaited_after x.awaited (kind_of message);
     }
 
+-- the state after both ends lose the line: nothing is under way, and the host is as new
+abbrev pub after_break : State → State
+after_break x =
+    record {
+      board = after_line_lost x.board;
+      up = [];
+      down = [];
+      picture = None;
+      host_clock = None;
+      awaited = [];
+    }
+
 -- the state after a move: one that can't happen changes nothing
 abbrev pub after_move : State → Move → State
 after_move x (Move.Change square piece) = record x { board = after_change x.board square piece }
@@ -80,6 +92,7 @@ after_move x (Move.Tell square) =
 after_move x Move.TellClock =
     if x.board.times_owed then after_told x (clock_message x.board.clock) else x
 after_move x Move.Hear = after_hear x x.up
+after_move x Move.Break = after_break x
 
 abbrev pub after_moves : State → List Move → State
 after_moves x [] = x

@@ -21,6 +21,8 @@ pub data Move : Type 0 where
   TellClock : Move
   -- the host hears the oldest message under way
   Hear : Move
+  -- both ends lose the line, and all that is under way on it
+  Break : Move
 
 -- a move by which the board sends something
 abbrev pub IsSending : Move → Type 0

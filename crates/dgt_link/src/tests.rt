@@ -4,7 +4,7 @@ use crate::Act::*;
 use crate::Outcome::*;
 use crate::{Act, Outcome, World, WorldFault};
 use dgt_board::{Identity, Mode};
-use dgt_command::Command;
+use dgt_command::{ClockCommand, Command};
 use dgt_message::{Clock, Reading, Status, Times};
 use dgt_values::{Body, Piece, Position, SevenBit, Square};
 use std::alloc::Global;
@@ -12,6 +12,8 @@ use std::process::Abort;
 use std::test::Fail;
 
 const START: &str = "rnbqkbnr/pppppppp/8/8/8/8/PPPPPPPP/RNBQKBNR";
+
+const NO_E2: &str = "rnbqkbnr/pppppppp/8/8/8/8/PPPP1PPP/RNBQKBNR";
 
 const E4_PLAYED: &str = "rnbqkbnr/pppppppp/8/8/4P3/8/PPPP1PPP/RNBQKBNR";
 
@@ -267,6 +269,139 @@ fn answers_go_round_the_end_of_a_line(rt: HostRuntime) -> Result<(), Fail> {
         assert!(rt; world.host().awaited().is_empty());
         assert!(rt; world.quiet());
     }
+    Ok(())
+}
+
+// A world that follows, with all quiet.
+fn following(rt: &impl Abort, alloc: Global) -> Result<World, Fail> {
+    let mut world = world_of(alloc, 67, 257)??;
+    let follow = [
+        (Host(Command::UpdateBoard), Done),
+        (Host(Command::Dump), Done),
+        (ToBoard(2), Done),
+        (BoardSend, Done),
+        (ToHost(67), Done),
+    ];
+    play(rt, &mut world, &follow);
+    Ok(world)
+}
+
+#[test]
+fn a_break_in_the_middle_of_a_message(rt: HostRuntime) -> Result<(), Fail> {
+    let mut world = following(&rt, rt.alloc())?;
+    let e2 = Square::parse("e2")?;
+    play(
+        &rt,
+        &mut world,
+        &[
+            (Change(e2, Piece::Empty), Done),
+            (BoardSend, Done),
+            (ToHost(3), Done),
+        ],
+    );
+    assert_eq!(rt; (world.host().unread(), world.up_len()), (3, 2));
+    play(&rt, &mut world, &[(Break, Done)]);
+    assert_eq!(rt; (world.up_len(), world.down_len()), (0, 0));
+    assert!(rt; world.board().mode() == Mode::Idle);
+    assert!(rt; world.host().picture().is_none());
+    assert!(rt; world.quiet());
+    // the change is told by a new dump alone
+    play(
+        &rt,
+        &mut world,
+        &[
+            (Host(Command::UpdateBoard), Done),
+            (ToBoard(1), Done),
+            (BoardSend, Nothing),
+        ],
+    );
+    assert!(rt; world.quiet() && world.host().picture().is_none());
+    play(
+        &rt,
+        &mut world,
+        &[
+            (Host(Command::Dump), Done),
+            (ToBoard(1), Done),
+            (BoardSend, Done),
+            (ToHost(67), Done),
+        ],
+    );
+    assert!(rt; rests_at(&world, NO_E2)?);
+    Ok(())
+}
+
+#[test]
+fn a_break_with_both_lines_full(rt: HostRuntime) -> Result<(), Fail> {
+    let mut world = following(&rt, rt.alloc())?;
+    let running = times([1, 30, 0], [1, 29, 55], 0x11)?;
+    // a dump is under way, seven and a version are owed, and commands wait
+    play(
+        &rt,
+        &mut world,
+        &[(Host(Command::Update), Done), (ToBoard(1), Done)],
+    );
+    play(&rt, &mut world, &[(Host(Command::Dump), Done); 8]);
+    play(
+        &rt,
+        &mut world,
+        &[
+            (ToBoard(8), Done),
+            (BoardSend, Done),
+            (BoardSend, NoRoom),
+            (ClockRead(running), Done),
+            (Host(Command::Version), Done),
+            (ToBoard(1), Done),
+        ],
+    );
+    play(&rt, &mut world, &[(Host(Command::Update), Done); 257]);
+    play(
+        &rt,
+        &mut world,
+        &[(ToBoard(1), Busy), (Host(Command::Update), NoRoom)],
+    );
+    assert_eq!(rt; (world.up_len(), world.down_len()), (67, 257));
+    play(
+        &rt,
+        &mut world,
+        &[
+            (Break, Done),
+            (BoardSend, Nothing),
+            (ToBoard(1), Nothing),
+            (ToHost(1), Nothing),
+            (Break, Done),
+        ],
+    );
+    assert!(rt; world.quiet());
+    assert!(rt; world.host().awaited().is_empty());
+    assert!(rt; world.host().picture().is_none() && world.host().clock().is_none());
+    assert!(rt; *world.board().clock() == running);
+    // the whole down line has room again, and so has the list of what is awaited
+    play(&rt, &mut world, &[(Host(Command::Version), Done); 16]);
+    play(&rt, &mut world, &[(Host(Command::Version), TooMany)]);
+    play(&rt, &mut world, &[(Host(Command::Reset), Done); 241]);
+    play(&rt, &mut world, &[(Host(Command::Reset), NoRoom)]);
+    assert_eq!(rt; world.down_len(), 257);
+    Ok(())
+}
+
+#[test]
+fn a_break_in_the_middle_of_a_command(rt: HostRuntime) -> Result<(), Fail> {
+    let mut world = world_of(rt.alloc(), 67, 257)??;
+    let beep = Command::ClockMessage(ClockCommand::Beep(0x10));
+    play(
+        &rt,
+        &mut world,
+        &[
+            (Host(beep), Done),
+            (ToBoard(2), Done),
+            (Break, Done),
+            (Host(Command::Dump), Done),
+            (ToBoard(1), Done),
+            (BoardSend, Done),
+            (ToHost(67), Done),
+        ],
+    );
+    assert!(rt; rests_at(&world, START)?);
     Ok(())
 }
 

@@ -166,12 +166,19 @@ impl World {
             Act::BoardSend => send_next(&mut self.board, &mut self.up),
             Act::ToBoard(count) => to_board(&mut self.board, &mut self.down, count),
             Act::ToHost(count) => to_host(&mut self.host, &mut self.up, count),
+            Act::Break => {
+                self.board.line_lost();
+                self.host.line_lost();
+                self.up.clear();
+                self.down.clear();
+                Outcome::Done
+            }
         }
     }
 
     /// Does one act, and answers what came of it. What isn't `Done` changes nothing.
     ///
-    /// `Change` and `ClockRead` are always `Done`. `Host` is first `TooMany`, where the reply would
+    /// `Change`, `ClockRead` and `Break` are always `Done`. `Host` is first `TooMany`, where the reply would
     /// have to be awaited and 16 are awaited, then `NoRoom`, where the down line has too little room
     /// for the command. `BoardSend` is first `Nothing`, where the board has nothing to send, then
     /// `NoRoom`, where the up line has too little room for the message. `ToBoard` is first
@@ -184,10 +191,13 @@ impl World {
             StandsAfterStep (act_content act.entry) result x self.new }
         ensures sound { (y : State) × StandsFor self.new y × IsSound y }
         ensures stays_exact { IsExactWorld self.old → IsExactWorld self.new }
+        ensures exact_again { act_content act.entry ≡ ActContent.Break → IsExactWorld self.new }
         ensures begun { act_content act.entry ≡ ActContent.Host CommandContent.Dump →
             result ≡ Outcome.Done → (y : State) → StandsFor self.new y → PictureIsComing y }
-        ensures kept { (x y : State) → StandsFor self.old x → StandsFor self.new y →
-            PictureIsComing x → PictureIsComing y }
+        ensures kept { act_content act.entry ≢ ActContent.Break → (x y : State) →
+            StandsFor self.old x → StandsFor self.new y → PictureIsComing x → PictureIsComing y }
+        ensures ended { act_content act.entry ≡ ActContent.Break → (y : State) →
+            StandsFor self.new y → ¬ (PictureIsComing y) }
         ensures mode { (x y : State) → StandsFor self.old x → StandsFor self.new y →
             coming_mode y ≡ mode_after_step (coming_mode x) (act_content act.entry) result }
     {
@@ -200,8 +210,9 @@ impl World {
 
     /// Does all acts in order, and answers how many were `Done`.
     ///
-    /// Where those that were done ask for a dump, and the last of them that asks for a mode asks for
-    /// updates, the host's picture is the board's position once the world is quiet.
+    /// Where those that were done after the last `Break` ask for a dump, and the last of them that
+    /// asks for a mode asks for updates, the host's picture is the board's position once the world is
+    /// quiet.
     pub fn run(&mut self, acts: &[Act<'_>]) -> usize
         ensures exact { (outcomes : List Outcome) × (result ≡ done_count outcomes)
             × Runs (map act_content acts.now) self.old outcomes self.new }
@@ -249,7 +260,7 @@ impl World {
     ///
     /// If it is, the host awaits nothing, and its picture is unknown or the board's position where
     /// the board's mode asks for updates. Where a dump was asked for as well, by an act that was
-    /// done, the picture is known.
+    /// done after the last `Break`, the picture is known.
     pub fn quiet(&self) -> bool
         ensures quiet { IsTrue result ↔ IsQuietWorld self.now }
         ensures told { IsTrue result → IsTrue (updates self.now.board.state.mode) →
