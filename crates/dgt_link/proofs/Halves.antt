@@ -6,12 +6,12 @@ use Rattle.dgt_link.specs.declared.acts.Outcome.{Outcome}
 use Rattle.dgt_link.specs.ActMoves.{StandsAfterStep}
 use Rattle.dgt_link.specs.Asked.{mode_after_step}
 use Rattle.dgt_link.specs.Machine.{State, after_move, after_moves}
-use Rattle.dgt_link.specs.Promise.{PictureIsComing, coming_mode}
+use Rattle.dgt_link.specs.Promise.{IsPromised, IsRestarted, PictureIsComing, coming_mode}
 use Rattle.dgt_link.specs.Stands.{StandsFor}
 use Rattle.dgt_link.specs.Step.{Step}
 use Rattle.dgt_link.specs.View.{WorldView}
 use Rattle.dgt_link.specs.Move.{Move}
-use Rattle.dgt_link.proofs.Asking.{break_moves, dump_is_coming, mode-step, step_keeps_coming}
+use Rattle.dgt_link.proofs.Asking.{break_moves, dump_is_coming, host_break_moves, mode-step, step_keeps_coming}
 use Rattle.dgt_link.proofs.Promises.{break_ends}
 
 module _ (moves : (act : ActContent) (world after : WorldView) (answer : Outcome) (x : State) → StandsFor world x → Step act world answer after → StandsAfterStep act answer x after)
@@ -31,6 +31,11 @@ module _ (moves : (act : ActContent) (world after : WorldView) (answer : Outcome
       let reached = moves ActContent.Break world after answer x stands step in
       let broken : after_moves x reached.0 ≡ after_move x Move.Break = break_moves x answer reached.0 step.answers reached.1 in
       rw (one after y (after_moves x reached.0) also reached.2, broken) (break_ends x)
+
+  pub anew_begins : (world after : WorldView) (answer : Outcome) (x y : State) → StandsFor world x → Step ActContent.HostBreak world answer after → StandsFor after y → IsRestarted y × IsPromised y
+  anew_begins world after answer x y stands step also =
+      let reached = moves ActContent.HostBreak world after answer x stands step in
+      rw (one after y (after_moves x reached.0) also reached.2) (host_break_moves x answer reached.0 step.answers reached.1)
 
   pub mode_is : (act : ActContent) (world after : WorldView) (answer : Outcome) (x y : State) → StandsFor world x → Step act world answer after → StandsFor after y → coming_mode y ≡ mode_after_step (coming_mode x) act answer
   mode_is act world after answer x y stands step also =

@@ -15,6 +15,7 @@ pub data ActContent : Type 0 where
   ToBoard : (count : ℕ) → ActContent
   ToHost : (count : ℕ) → ActContent
   Break : ActContent
+  HostBreak : ActContent
 
 abbrev pub act_content : Act → ActContent
 act_content (act.Change square piece) = Change (square_number square) piece
@@ -24,3 +25,4 @@ act_content act.BoardSend = BoardSend
 act_content (act.ToBoard count) = ToBoard count
 act_content (act.ToHost count) = ToHost count
 act_content act.Break = Break
+act_content act.HostBreak = HostBreak

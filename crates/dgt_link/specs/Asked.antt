@@ -5,12 +5,13 @@ use Rattle.dgt_board.specs.declared.modes.Mode.{Mode}
 use Rattle.dgt_board.specs.Effect.{command_mode}
 use Rattle.dgt_link.specs.Act.{ActContent}
 use Rattle.dgt_link.specs.declared.acts.Outcome.{Outcome}
-use Rattle.dgt_link.specs.Promise.{IsAsked}
+use Rattle.dgt_link.specs.Promise.{IsAsked, commands_anew}
 
 -- the commands sent since the last break, after an act that is done, where these were before it
 abbrev pub commands_after_act : List CommandContent → ActContent → List CommandContent
 commands_after_act before (ActContent.Host command) = before ++ command ∷ []
 commands_after_act before ActContent.Break = []
+commands_after_act before ActContent.HostBreak = before ++ commands_anew
 commands_after_act before _ = before
 
 -- and by its outcome: what isn't done sends none
@@ -32,10 +33,11 @@ abbrev pub IsAskedBy : List ActContent → List Outcome → Type 0
 IsAskedBy acts outcomes = IsAsked (commands_after_run [] acts outcomes)
 
 -- The mode to come after an act that is done, where this one was to come before it. A break counts
--- as a reset.
+-- as a reset, and a host break as `UpdateBoard`.
 abbrev pub mode_after_act : Mode → ActContent → Mode
 mode_after_act before (ActContent.Host command) = unwrap_or (command_mode command) before
 mode_after_act before ActContent.Break = Mode.Idle
+mode_after_act before ActContent.HostBreak = Mode.UpdateBoard
 mode_after_act before _ = before
 
 -- and by its outcome

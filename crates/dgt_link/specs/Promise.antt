@@ -2,13 +2,14 @@
 use Rattle.std.specs.Prelude.{◌≡◌, ◌⊎◌, List, [], ◌∷◌, ◌++◌, Option, None, IsTrue, Contains, IsSome, filter_map, unwrap_or}
 use Rattle.dgt_values.specs.declared.kinds.Kind.{Kind}
 use Rattle.dgt_command.specs.Content.{CommandContent, EventContent}
+use Rattle.dgt_command.specs.Words.{IsNoiseList}
 use Rattle.dgt_board.specs.declared.modes.Mode.{Mode}
 use Rattle.dgt_board.specs.declared.replies.Reply.{Reply}
 use Rattle.dgt_board.specs.State.{updates}
 use Rattle.dgt_board.specs.Effect.{command_mode}
 use Rattle.dgt_board.specs.Sending.{pending_messages}
 use Rattle.dgt_link.specs.Move.{Move}
-use Rattle.dgt_link.specs.Machine.{State}
+use Rattle.dgt_link.specs.Machine.{State, asked_anew}
 use Rattle.dgt_link.specs.Sound.{coming_picture}
 
 -- the last of these modes, or the one before them where there is none
@@ -18,10 +19,15 @@ last_mode before (mode ∷ modes) = last_mode mode modes
 
 -- ---- of commands
 
+-- what a host asks for that begins anew
+abbrev pub commands_anew : List CommandContent
+commands_anew = CommandContent.UpdateBoard ∷ CommandContent.Dump ∷ []
+
 -- the commands sent since the last break, after a move, where these were before it
 abbrev pub commands_after_move : List CommandContent → Move → List CommandContent
 commands_after_move before (Move.Ask command) = before ++ command ∷ []
 commands_after_move before Move.Break = []
+commands_after_move before (Move.HostBreak noise is_noise) = before ++ commands_anew
 commands_after_move before _ = before
 
 -- and after moves in order
@@ -47,10 +53,11 @@ abbrev pub coming_mode : State → Mode
 coming_mode x = last_mode x.board.mode (filter_map event_mode x.down)
 
 -- The mode to come after a move, where this one was to come before it: a command that sets a mode
--- makes it its own, and a break counts as a reset.
+-- makes it its own, a break counts as a reset, and a host break as `UpdateBoard`.
 abbrev pub mode_after : Mode → Move → Mode
 mode_after before (Move.Ask command) = unwrap_or (command_mode command) before
 mode_after before Move.Break = Mode.Idle
+mode_after before (Move.HostBreak noise is_noise) = Mode.UpdateBoard
 mode_after before _ = before
 
 -- the picture to come is known, or a dump is owed or asked for
@@ -66,6 +73,12 @@ UpdatesAreComing x = IsTrue (updates (coming_mode x))
 pub record IsPromised (x : State) : Type 0 where
   pub picture : PictureIsComing x
   pub mode : UpdatesAreComing x
+
+-- noise comes to the board, and then what a host asks for that begins anew
+pub record IsRestarted (x : State) : Type 0 where
+  pub noise : List EventContent
+  pub is_noise : IsNoiseList noise
+  pub down : x.down ≡ noise ++ asked_anew
 
 -- nothing is under way, and the board has nothing to send
 pub record IsQuiet (x : State) : Type 0 where

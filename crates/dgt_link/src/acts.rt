@@ -22,6 +22,9 @@ pub enum Act<'a> {
     ToHost(usize),
     /// Both lines lose all their bytes, and both ends see it: what `line_lost` of a board and of a host say.
     Break,
+    /// Both lines lose all their bytes, and the host alone sees it: it is as new, and sends what
+    /// `restart` of a host writes into the down line.
+    HostBreak,
 }
 
 /// What comes of an act. What isn't `Done` changes nothing.

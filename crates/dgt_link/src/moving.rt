@@ -1,10 +1,12 @@
 //! Bytes go into the lines and out of them.
 
-ghost use Rattle.std.specs.Prelude.{◌≡◌, ◌<◌, ◌≤◌, length, take};
+ghost use Rattle.std.specs.Prelude.{◌≡◌, ◌<◌, ◌≤◌, [], Some, length, take};
+ghost use Rattle.dgt_values.specs.declared.kinds.Kind.{Kind};
 ghost use Rattle.dgt_command.specs.Content.{command_content};
 ghost use Rattle.dgt_board.specs.View.{HasTaken};
-ghost use Rattle.dgt_host.specs.Host.{host_after};
-ghost use Rattle.dgt_link.specs.Line.{without_first};
+ghost use Rattle.dgt_host.specs.Host.{host_after, new_host};
+ghost use Rattle.dgt_host.specs.Sending.{host_awaiting, restart_bytes};
+ghost use Rattle.dgt_link.specs.Line.{line_of, without_first};
 ghost use Rattle.dgt_link.specs.Moving.{AsksInto, DeliversDown, DeliversUp, SendsInto, StaysOpen};
 
 use crate::acts::Outcome;
@@ -30,6 +32,19 @@ pub fn ask(host: &mut Host, line: &mut Line, command: &Command<'_>) -> Outcome
         Err(SendFault::TooMany) => Outcome::TooMany,
         Err(SendFault::NoRoom { .. }) => Outcome::NoRoom,
     }
+}
+
+/// A host that is as new begins anew, into an empty line.
+pub fn restart(host: &mut Host, line: &mut Line)
+    requires new { host.old ≡ new_host }
+    requires empty { line.old.bytes ≡ [] }
+    requires room { MAX_WORD ≤ line.old.capacity }
+    ensures host { host.new ≡ host_awaiting new_host (Some Kind.Dump) }
+    ensures line { line.new ≡ line_of restart_bytes line.old.capacity }
+{
+    let mut bytes = [0; MAX_WORD];
+    let count = host.restart(&mut bytes).unwrap();
+    line.push(&bytes[..count]);
 }
 
 /// The board sends its next message into the line.

@@ -1,6 +1,6 @@
 //! The world: a board, a host, and the two lines between them.
 
-ghost use Rattle.std.specs.Prelude.{◌≡◌, ◌≢◌, ◌↔◌, ◌⊎◌, ◌<◌, ◌≤◌, List, [], ◌∷◌, ◌++◌, All, Some, None, IsTrue, IfOk, IsErr, IsErrOf, map, length};
+ghost use Rattle.std.specs.Prelude.{◌≡◌, ◌≢◌, ◌↔◌, ◌⊎◌, ◌<◌, ◌≤◌, List, [], ◌∷◌, ◌++◌, All, Contains, Some, None, IsTrue, IfOk, IsErr, IsErrOf, map, length};
 ghost use Rattle.dgt_values.specs.Pieces.{pieces_of};
 ghost use Rattle.dgt_values.specs.declared.kinds.Kind.{Kind};
 ghost use Rattle.dgt_message.specs.Content.{Content};
@@ -13,7 +13,7 @@ ghost use Rattle.dgt_link.specs.Act.{ActContent, act_content};
 ghost use Rattle.dgt_link.specs.ActMoves.{StandsAfterRun, StandsAfterStep};
 ghost use Rattle.dgt_link.specs.Asked.{IsAskedBy, mode_after_step};
 ghost use Rattle.dgt_link.specs.Machine.{State, new_state};
-ghost use Rattle.dgt_link.specs.Promise.{IsPromised, PictureIsComing, coming_mode};
+ghost use Rattle.dgt_link.specs.Promise.{IsPromised, IsRestarted, PictureIsComing, coming_mode};
 ghost use Rattle.dgt_link.specs.Sound.{IsExact, IsSound, IsUnknownOr};
 ghost use Rattle.dgt_link.specs.Stands.{IsExactWorld, StandsFor};
 ghost use Rattle.dgt_link.specs.Step.{Runs, Step, done_count};
@@ -22,7 +22,7 @@ ghost use Rattle.dgt_link.specs.View.{IsQuietWorld, new_world};
 use crate::acts::{Act, Outcome};
 use crate::laws;
 use crate::line::{Line, LineMemory};
-use crate::moving::{ask, send_next, to_board, to_host};
+use crate::moving::{ask, restart, send_next, to_board, to_host};
 use dgt_board::{Board, Identity};
 use dgt_host::Host;
 use dgt_message::Clock;
@@ -173,6 +173,13 @@ impl World {
                 self.down.clear();
                 Outcome::Done
             }
+            Act::HostBreak => {
+                self.host.line_lost();
+                self.up.clear();
+                self.down.clear();
+                restart(&mut self.host, &mut self.down);
+                Outcome::Done
+            }
         }
     }
 
@@ -190,7 +197,8 @@ impl World {
         ensures moves { (x : State) → StandsFor self.old x →
             StandsAfterStep (act_content act.entry) result x self.new }
         ensures sound { (y : State) × StandsFor self.new y × IsSound y }
-        ensures stays_exact { IsExactWorld self.old → IsExactWorld self.new }
+        ensures stays_exact { act_content act.entry ≢ ActContent.HostBreak →
+            IsExactWorld self.old → IsExactWorld self.new }
         ensures exact_again { act_content act.entry ≡ ActContent.Break → IsExactWorld self.new }
         ensures begun { act_content act.entry ≡ ActContent.Host CommandContent.Dump →
             result ≡ Outcome.Done → (y : State) → StandsFor self.new y → PictureIsComing y }
@@ -198,6 +206,10 @@ impl World {
             StandsFor self.old x → StandsFor self.new y → PictureIsComing x → PictureIsComing y }
         ensures ended { act_content act.entry ≡ ActContent.Break → (y : State) →
             StandsFor self.new y → ¬ (PictureIsComing y) }
+        ensures host_break { act_content act.entry ≡ ActContent.HostBreak → (result ≡ Outcome.Done)
+            × (length self.new.down.bytes ≡ 257) × (self.new.board ≡ self.old.board) }
+        ensures restarted { act_content act.entry ≡ ActContent.HostBreak → (y : State) →
+            StandsFor self.new y → IsRestarted y × IsPromised y }
         ensures mode { (x y : State) → StandsFor self.old x → StandsFor self.new y →
             coming_mode y ≡ mode_after_step (coming_mode x) (act_content act.entry) result }
     {
@@ -220,7 +232,8 @@ impl World {
             Runs (map act_content acts.now) self.old outcomes self.new →
             (x : State) → StandsFor self.old x →
             StandsAfterRun (map act_content acts.now) outcomes x self.new }
-        ensures stays_exact { IsExactWorld self.old → IsExactWorld self.new }
+        ensures stays_exact { ¬ (Contains (map act_content acts.now) ActContent.HostBreak) →
+            IsExactWorld self.old → IsExactWorld self.new }
         ensures promised { (outcomes : List Outcome) →
             Runs (map act_content acts.now) self.old outcomes self.new →
             IsAskedBy (map act_content acts.now) outcomes →
