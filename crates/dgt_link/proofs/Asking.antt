@@ -160,8 +160,8 @@ pub run_is_other : (acts : List ActContent) (outcomes : List Outcome) (moves : L
 run_is_other [] [] moves none e = rw e tt
 run_is_other (act ∷ acts) (outcome ∷ outcomes) moves none (first, later, are, follow, e) =
     rw e
-        (others-append first later (step_is_other act outcome first (λ is. none (0, omega arith, is)) are)
-        (run_is_other acts outcomes later (λ has. none (suc has.0, omega (arith, has.1), has.2)) follow))
+    (others-append first later (step_is_other act outcome first (λ is. none (0, omega arith, is)) are)
+    (run_is_other acts outcomes later (λ has. none (suc has.0, omega (arith, has.1), has.2)) follow))
 run_is_other [] (outcome ∷ outcomes) moves none are = absurd are
 run_is_other (act ∷ acts) [] moves none are = absurd are
 

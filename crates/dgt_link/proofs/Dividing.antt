@@ -21,12 +21,12 @@ divides_command append bytes events command divides spells =
 -- what a host asks with that begins anew is what it asks for
 pub anew_divides : Divides follow_bytes asked_anew []
 anew_divides = (
-    0x44 ∷ [],
-    0x42 ∷ [],
-    record { form = (tt, refl); are_bytes = search rules },
-    refl,
-    (0x42 ∷ [], [], record { form = (tt, refl); are_bytes = search rules }, refl, (refl, nothing_is_partial)),
-  )
+  0x44 ∷ [],
+  0x42 ∷ [],
+  record { form = (tt, refl); are_bytes = search rules },
+  refl,
+  (0x42 ∷ [], [], record { form = (tt, refl); are_bytes = search rules }, refl, (refl, nothing_is_partial)),
+)
 
 module _ (law : NoWordBeginsAnother) where
   -- bytes begin with one word

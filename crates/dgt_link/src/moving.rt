@@ -15,6 +15,9 @@ use dgt_board::{Board, MAX_OWED, Polled};
 use dgt_command::{Command, MAX_WORD};
 use dgt_host::{Host, SendFault};
 
+/// What a host sends to begin anew: 255 zeros and two commands.
+const RESTART_LENGTH: usize = 257;
+
 /// The most bytes of a message that a board sends: a dump.
 pub const MAX_SENT: usize = 67;
 
@@ -34,17 +37,19 @@ pub fn ask(host: &mut Host, line: &mut Line, command: &Command<'_>) -> Outcome
     }
 }
 
-/// A host that is as new begins anew, into an empty line.
-pub fn restart(host: &mut Host, line: &mut Line)
-    requires new { host.old ≡ new_host }
-    requires empty { line.old.bytes ≡ [] }
-    requires room { MAX_WORD ≤ line.old.capacity }
+/// Both lines lose their bytes, and the host alone sees it: it is as new, and begins anew.
+pub fn restart(host: &mut Host, up: &mut Line, down: &mut Line)
+    requires { 257 ≤ down.old.capacity }
     ensures host { host.new ≡ host_awaiting new_host (Some Kind.Dump) }
-    ensures line { line.new ≡ line_of restart_bytes line.old.capacity }
+    ensures up { up.new ≡ line_of [] up.old.capacity }
+    ensures down { down.new ≡ line_of restart_bytes down.old.capacity }
 {
-    let mut bytes = [0; MAX_WORD];
+    host.line_lost();
+    up.clear();
+    down.clear();
+    let mut bytes = [0; RESTART_LENGTH];
     let count = host.restart(&mut bytes).unwrap();
-    line.push(&bytes[..count]);
+    down.push(&bytes[..count]);
 }
 
 /// The board sends its next message into the line.

@@ -4,9 +4,9 @@ use crate::Act::*;
 use crate::Outcome::*;
 use crate::{Act, Outcome, World, WorldFault};
 use dgt_board::{Identity, Mode};
-use dgt_command::{ClockCommand, Command};
+use dgt_command::{ClockCommand, Command, LedBytes};
 use dgt_message::{Clock, Reading, Status, Times};
-use dgt_values::{Body, Piece, Position, SevenBit, Square};
+use dgt_values::{Body, Kind, Piece, Position, SevenBit, Square};
 use std::alloc::Global;
 use std::process::Abort;
 use std::test::Fail;
@@ -402,6 +402,119 @@ fn a_break_in_the_middle_of_a_command(rt: HostRuntime) -> Result<(), Fail> {
         ],
     );
     assert!(rt; rests_at(&world, START)?);
+    Ok(())
+}
+
+#[test]
+fn a_host_begins_anew_in_the_middle_of_a_frame(rt: HostRuntime) -> Result<(), Fail> {
+    let mut world = world_of(rt.alloc(), 67, 257)??;
+    let leds = Command::Leds(LedBytes::new(&[0x42; 255])?);
+    play(
+        &rt,
+        &mut world,
+        &[(Host(leds), Done), (ToBoard(2), Done), (HostBreak, Done)],
+    );
+    assert_eq!(rt; (world.down_len(), world.board().partial()), (257, 2));
+    // the zeros are the frame's
+    play(&rt, &mut world, &[(ToBoard(257), Done)]);
+    assert!(rt; world.board().mode() == Mode::UpdateBoard);
+    assert_eq!(rt; (world.board().owed_len(), world.board().partial()), (1, 0));
+    play(&rt, &mut world, &[(BoardSend, Done), (ToHost(67), Done)]);
+    assert!(rt; rests_at(&world, START)?);
+    Ok(())
+}
+
+#[test]
+fn a_host_begins_anew_in_the_middle_of_a_display(rt: HostRuntime) -> Result<(), Fail> {
+    let mut world = world_of(rt.alloc(), 67, 257)??;
+    let display = Command::ClockMessage(ClockCommand::Display {
+        places: [0x06, 0x5b, 0x00, 0x00, 0x4f, 0x66],
+        dots: 0x00,
+        beep: 0x03,
+    });
+    play(
+        &rt,
+        &mut world,
+        &[(Host(display), Done), (ToBoard(4), Done), (HostBreak, Done)],
+    );
+    assert_eq!(rt; world.down_len(), 257);
+    play(&rt, &mut world, &[(ToBoard(257), Done)]);
+    // nine zeros end the display, which is acknowledged, and the dump was asked for
+    assert_eq!(rt; world.board().owed_len(), 2);
+    play(&rt, &mut world, &[(BoardSend, Done)]);
+    assert_eq!(rt; world.up_len(), 10);
+    play(
+        &rt,
+        &mut world,
+        &[(ToHost(10), Done), (BoardSend, Done), (ToHost(67), Done)],
+    );
+    assert!(rt; rests_at(&world, START)?);
+    Ok(())
+}
+
+#[test]
+fn stale_replies_after_a_host_break(rt: HostRuntime) -> Result<(), Fail> {
+    // a stale reply, how long it is, and what is awaited once it is heard
+    let rows: [(Command<'static>, usize, &[Kind]); 2] = [
+        (Command::Dump, 67, &[]),
+        (Command::Version, 5, &[Kind::Dump]),
+    ];
+    for (command, length, awaited) in rows {
+        let mut world = world_of(rt.alloc(), 67, 257)??;
+        play(
+            &rt,
+            &mut world,
+            &[
+                (Host(command), Done),
+                (ToBoard(1), Done),
+                (HostBreak, Done),
+                (ToBoard(257), Done),
+                (BoardSend, Done),
+                (ToHost(length), Done),
+            ],
+        );
+        assert_eq!(rt; world.host().awaited(), awaited);
+        assert_eq!(rt; world.board().owed_len(), 1);
+        play(&rt, &mut world, &[(BoardSend, Done), (ToHost(67), Done)]);
+        assert!(rt; world.host().awaited().is_empty());
+        assert!(rt; rests_at(&world, START)?);
+    }
+    Ok(())
+}
+
+#[test]
+fn a_host_breaks_twice(rt: HostRuntime) -> Result<(), Fail> {
+    let mut world = following(&rt, rt.alloc())?;
+    let e2 = Square::parse("e2")?;
+    // a change is half heard, and one of 16 awaited versions is under way
+    play(&rt, &mut world, &[(Host(Command::Version), Done); 16]);
+    play(
+        &rt,
+        &mut world,
+        &[
+            (Change(e2, Piece::Empty), Done),
+            (BoardSend, Done),
+            (ToHost(3), Done),
+            (ToBoard(1), Done),
+            (BoardSend, Done),
+            (HostBreak, Done),
+            (HostBreak, Done),
+        ],
+    );
+    assert_eq!(rt; (world.up_len(), world.down_len()), (0, 257));
+    assert_eq!(rt; (world.host().unread(), world.host().picture()), (0, None));
+    assert_eq!(rt; world.host().awaited(), [Kind::Dump].as_slice());
+    play(
+        &rt,
+        &mut world,
+        &[
+            (Host(Command::Reset), NoRoom),
+            (ToBoard(257), Done),
+            (BoardSend, Done),
+            (ToHost(67), Done),
+        ],
+    );
+    assert!(rt; rests_at(&world, NO_E2)?);
     Ok(())
 }
 

@@ -174,10 +174,7 @@ impl World {
                 Outcome::Done
             }
             Act::HostBreak => {
-                self.host.line_lost();
-                self.up.clear();
-                self.down.clear();
-                restart(&mut self.host, &mut self.down);
+                restart(&mut self.host, &mut self.up, &mut self.down);
                 Outcome::Done
             }
         }

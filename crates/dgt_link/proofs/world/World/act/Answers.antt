@@ -40,12 +40,12 @@ invariant_of-self-in-ToHost c =
 pub invariant_of-self-in-Break : goal.invariant_of-self-in-Break
 invariant_of-self-in-Break c =
     c.acts_keep.ensures.sound ActContent.Break _ _ Outcome.Done c.self.invariant
-    (record { answers = refl; leaves = rw (c.line_lost.ensures, c.line_lost-in-Break.ensures, c.clear-in-Break.ensures, c.clear.ensures) refl })
+    (record { answers = refl; leaves = rw (c.line_lost.ensures, c.line_lost-in-Break.ensures, c.clear.ensures, c.clear-in-Break.ensures) refl })
 
 pub invariant_of-self-in-HostBreak : goal.invariant_of-self-in-HostBreak
 invariant_of-self-in-HostBreak c =
     c.acts_keep.ensures.sound ActContent.HostBreak _ _ Outcome.Done c.self.invariant
-    (record { answers = refl; leaves = rw (c.restart.ensures.host, c.restart.ensures.line, c.clear-in-HostBreak.ensures, c.clear-in-HostBreak-2.ensures) refl })
+    (record { answers = refl; leaves = rw (c.restart.ensures.host, c.restart.ensures.up, c.restart.ensures.down) refl })
 
 pub returns-in-BoardSend : goal.returns-in-BoardSend
 returns-in-BoardSend c =
