@@ -226,6 +226,13 @@ class Board:
         self.clock = clock
         self.owes_times = self.mode == UPDATE or self.mode == UPDATE_NICE and self.told_clock != clock
 
+    def line_lost(self):
+        self.mode = IDLE
+        self.told_squares, self.told_clock = list(self.squares), None
+        self.owes_times = False
+        self.owed = []
+        self.reader = CommandReader()
+
     def take(self, byte):
         command = self.reader.take(byte)
         if command is None or command[0] == LIGHTS:
@@ -354,6 +361,13 @@ class World:
         del self.up[:count]
         return "done"
 
+    def line_breaks(self):
+        self.up.clear()
+        self.down.clear()
+        self.board.line_lost()
+        self.host = Host()
+        return "done"
+
     def is_quiet(self):
         unread = self.up or self.down or self.host.decoder.unfinished or self.board.reader.unfinished
         return not unread and self.board.next_message() is None
@@ -406,6 +420,7 @@ ACTS = {
     b"send": (World.board_sends, []),
     b"toboard": (World.to_board, [read_count]),
     b"tohost": (World.to_host, [read_count]),
+    b"break": (World.line_breaks, []),
 }
 
 

@@ -180,6 +180,9 @@ The acts:
                        there are fewer, or as many as until it owes 8 answers
   tohost N             N of the bytes sent there come to the host, or all if
                        there are fewer
+  break                the line is cut, and both ends know it: all bytes on
+                       their way are lost, the host forgets its picture, and
+                       the board tells no change until it is asked to again
 
 Words have one space between them. HEX is two digits a byte. N is 1 to 65535.
 

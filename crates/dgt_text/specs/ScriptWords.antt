@@ -24,6 +24,7 @@ verb_text verb.Host = codes "host"
 verb_text verb.Send = codes "send"
 verb_text verb.ToBoard = codes "toboard"
 verb_text verb.ToHost = codes "tohost"
+verb_text verb.Break = codes "break"
 
 -- ---- The words behind it
 

@@ -23,6 +23,7 @@ pub(crate) enum Verb {
     Send,
     ToBoard,
     ToHost,
+    Break,
 }
 
 /// What a first word begins.
@@ -36,6 +37,7 @@ pub(crate) fn verb_word(word: &[u8]) -> Option<Verb>
         b"send" => Some(Verb::Send),
         b"toboard" => Some(Verb::ToBoard),
         b"tohost" => Some(Verb::ToHost),
+        b"break" => Some(Verb::Break),
         _ => None,
     }
 }

@@ -13,7 +13,7 @@ fn acts_of_lines(rt: HostRuntime) -> Result<(), Fail> {
     let second = Reading::new(1, 29, 55, 0)?;
     let times = Times::new(first, second, Status::new(SevenBit::try_from(0x11)?))?;
     let beep = Command::ClockMessage(ClockCommand::Beep(0x10));
-    let rows: [(&[u8], Act<'_>); 8] = [
+    let rows: [(&[u8], Act<'_>); 9] = [
         (
             b"change e2 .",
             Act::Change(Square::parse("e2")?, Piece::Empty),
@@ -28,6 +28,7 @@ fn acts_of_lines(rt: HostRuntime) -> Result<(), Fail> {
         (b"send", Act::BoardSend),
         (b"toboard 65535", Act::ToBoard(65535)),
         (b"tohost 67", Act::ToHost(67)),
+        (b"break", Act::Break),
     ];
     for (line, act) in rows {
         let mut store = [0xff; 257];
@@ -38,7 +39,7 @@ fn acts_of_lines(rt: HostRuntime) -> Result<(), Fail> {
 
 #[test]
 fn places_where_lines_go_wrong(rt: HostRuntime) {
-    let rows: [(&[u8], usize); 24] = [
+    let rows: [(&[u8], usize); 26] = [
         (b"", 0),
         (b"change e9 P", 7),
         (b"change e9 P P", 7),
@@ -59,8 +60,10 @@ fn places_where_lines_go_wrong(rt: HostRuntime) {
         (b"send ", 5),
         (b" send", 0),
         (b"sned", 0),
-        (b"break", 0),
-        (b"break x", 0),
+        (b"break x", 6),
+        (b"break ", 6),
+        (b"breaks", 0),
+        (b"hostbreak", 0),
         (b"toboard 0", 8),
         (b"tohost", 6),
     ];
