@@ -24,6 +24,7 @@ pub(crate) enum Verb {
     ToBoard,
     ToHost,
     Break,
+    HostBreak,
 }
 
 /// What a first word begins.
@@ -38,6 +39,7 @@ pub(crate) fn verb_word(word: &[u8]) -> Option<Verb>
         b"toboard" => Some(Verb::ToBoard),
         b"tohost" => Some(Verb::ToHost),
         b"break" => Some(Verb::Break),
+        b"hostbreak" => Some(Verb::HostBreak),
         _ => None,
     }
 }

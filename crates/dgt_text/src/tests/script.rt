@@ -13,7 +13,7 @@ fn acts_of_lines(rt: HostRuntime) -> Result<(), Fail> {
     let second = Reading::new(1, 29, 55, 0)?;
     let times = Times::new(first, second, Status::new(SevenBit::try_from(0x11)?))?;
     let beep = Command::ClockMessage(ClockCommand::Beep(0x10));
-    let rows: [(&[u8], Act<'_>); 9] = [
+    let rows: [(&[u8], Act<'_>); 10] = [
         (
             b"change e2 .",
             Act::Change(Square::parse("e2")?, Piece::Empty),
@@ -29,6 +29,7 @@ fn acts_of_lines(rt: HostRuntime) -> Result<(), Fail> {
         (b"toboard 65535", Act::ToBoard(65535)),
         (b"tohost 67", Act::ToHost(67)),
         (b"break", Act::Break),
+        (b"hostbreak", Act::HostBreak),
     ];
     for (line, act) in rows {
         let mut store = [0xff; 257];
@@ -63,7 +64,7 @@ fn places_where_lines_go_wrong(rt: HostRuntime) {
         (b"break x", 6),
         (b"break ", 6),
         (b"breaks", 0),
-        (b"hostbreak", 0),
+        (b"hostbreak 1", 10),
         (b"toboard 0", 8),
         (b"tohost", 6),
     ];

@@ -90,6 +90,17 @@ fn a_break_makes_it_quiet(rt: HostRuntime) -> Result<(), Fail> {
 }
 
 #[test]
+fn a_host_begins_anew(rt: HostRuntime) -> Result<(), Fail> {
+    // in the middle of a display, which nine zeros end
+    assert_simulated(
+        &rt,
+        rt.alloc(),
+        b"host 2b0b03015b0600664f00000300\ntoboard 4\nhostbreak\ntoboard 257\nsend\ntohost 10\nsend\ntohost 67\n",
+        b"done\ndone\ndone\ndone\ndone\ndone\ndone\ndone\nboard rnbqkbnr/pppppppp/8/8/8/8/PPPPPPPP/RNBQKBNR\nhost rnbqkbnr/pppppppp/8/8/8/8/PPPPPPPP/RNBQKBNR\nhostclock unknown\nquiet yes\n",
+    )
+}
+
+#[test]
 fn a_last_line_needs_no_line_feed(rt: HostRuntime) -> Result<(), Fail> {
     assert_simulated(&rt, rt.alloc(), b"", NEW_LINES)?;
     assert_simulated(&rt, rt.alloc(), b"send\nsend\n", TWO_SENDS)?;
