@@ -11,7 +11,7 @@ LETTERS = ".PRNBKQprnbkqXYZ"
 START = "rnbqkbnr/pppppppp/8/8/8/8/PPPPPPPP/RNBQKBNR"
 
 # Codes of messages, and the size of the body where a code has but one.
-DUMP, CLOCK, FIELD, SERIAL, TRADEMARK, VERSION, BATTERY = 0x06, 0x0D, 0x0E, 0x11, 0x12, 0x13, 0x20
+DUMP, CLOCK, FIELD, SERIAL, TRADEMARK, VERSION, BATTERY, LONG_SERIAL = 0x06, 0x0D, 0x0E, 0x11, 0x12, 0x13, 0x20, 0x22
 SIZES = {DUMP: 64, CLOCK: 7, FIELD: 2, SERIAL: 5, VERSION: 2}
 
 # The commands of one byte: those that ask for a message, with its code, and those that set the mode.
@@ -125,7 +125,7 @@ def message_text(code, body):
         return f"refused {code:02x} {text}" if text.startswith("bad") else text
     if code == VERSION:
         return f"version {body[0]}.{body[1]}"
-    names = {SERIAL: "serial", TRADEMARK: "trademark", BATTERY: "battery"}
+    names = {SERIAL: "serial", TRADEMARK: "trademark", BATTERY: "battery", LONG_SERIAL: "longserial"}
     return f"{names.get(code, f'other {code:02x}')} {hexadecimal(body)}"
 
 

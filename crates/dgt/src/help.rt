@@ -14,6 +14,7 @@ macro_rules! with_lines {
   trademark BYTES         the trademark
   version MAIN.SUB        the version of the board
   battery BYTES           the state of the battery
+  longserial BYTES        the long serial number
   other CODE BYTES        a message of another kind
   refused CODE FAULT      a message whose body says nothing
   cut N                   N bytes of a message, cut off by the next one
