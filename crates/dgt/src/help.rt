@@ -132,6 +132,7 @@ The commands, in hexadecimal, and what they ask for:
   4b      as 43
   4c      the state of the battery, one byte 64
   4d      the version, 1.3
+  55      the long serial number, 0000000001
   2b ..   a message for the clock: size, 03, id, payload, 00. It is
           acknowledged, with the version 1.4 of the clock where the id is 09
   60 ..   lights: size, and so many bytes. They are passed over

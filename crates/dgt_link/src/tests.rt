@@ -6,7 +6,7 @@ use crate::{Act, Outcome, World, WorldFault};
 use dgt_board::{Identity, Mode};
 use dgt_command::Command;
 use dgt_message::{Clock, Reading, Status, Times};
-use dgt_values::{Body, Piece, Position, SevenBit, Square};
+use dgt_values::{Body, Kind, Piece, Position, SevenBit, Square};
 use std::alloc::Global;
 use std::process::Abort;
 use std::test::Fail;
@@ -33,6 +33,7 @@ fn identity() -> Result<Identity, Fail> {
         SevenBit::try_from(3)?,
         Body::new(&[0x64])?,
         0x14,
+        Body::new(b"0000000001")?,
     )?)
 }
 
@@ -111,6 +112,19 @@ fn a_board_that_owes_eight_replies_is_busy(rt: HostRuntime) -> Result<(), Fail> 
     assert_eq!(rt; world.up_len(), 5);
     play(&rt, &mut world, &[(ToBoard(1), Done)]);
     assert_eq!(rt; world.down_len(), 7);
+    Ok(())
+}
+
+#[test]
+fn a_long_serial_is_asked_for_and_told(rt: HostRuntime) -> Result<(), Fail> {
+    let mut world = world_of(rt.alloc(), 67, 257)??;
+    play(&rt, &mut world, &[(Host(Command::LongSerial), Done)]);
+    assert_eq!(rt; world.host().awaited(), [Kind::LongSerial].as_slice());
+    play(&rt, &mut world, &[(ToBoard(1), Done), (BoardSend, Done)]);
+    assert_eq!(rt; world.up_len(), 13);
+    play(&rt, &mut world, &[(ToHost(13), Done)]);
+    assert!(rt; world.host().awaited().is_empty());
+    assert!(rt; world.quiet());
     Ok(())
 }
 

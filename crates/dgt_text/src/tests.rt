@@ -41,7 +41,7 @@ fn assert_monitored(rt: &impl Abort, bytes: &[u8], lines: &[u8]) {
 
 #[test]
 fn lines_of_messages(rt: HostRuntime) {
-    let rows: [(&[u8], &[u8]); 16] = [
+    let rows: [(&[u8], &[u8]); 18] = [
         (&[], b""),
         (&[0x8e, 0x00, 0x05, 0x34, 0x00], b"00000005 field e2 .\n"),
         (FIELD, FIELD_LINE),
