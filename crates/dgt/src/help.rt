@@ -14,6 +14,7 @@ macro_rules! with_lines {
   trademark BYTES         the trademark
   version MAIN.SUB        the version of the board
   battery BYTES           the state of the battery
+  longserial BYTES        the long serial number
   other CODE BYTES        a message of another kind
   refused CODE FAULT      a message whose body says nothing
   cut N                   N bytes of a message, cut off by the next one
@@ -132,6 +133,7 @@ The commands, in hexadecimal, and what they ask for:
   4b      as 43
   4c      the state of the battery, one byte 64
   4d      the version, 1.3
+  55      the long serial number, 0000000001
   2b ..   a message for the clock: size, 03, id, payload, 00. It is
           acknowledged, with the version 1.4 of the clock where the id is 09
   60 ..   lights: size, and so many bytes. They are passed over

@@ -24,11 +24,19 @@ const E2: [u8; 5] = [0x8e, 0x00, 0x05, 0x34, 0x00];
 
 const SERIAL: [u8; 8] = [0x91, 0x00, 0x08, 0x30, 0x30, 0x30, 0x30, 0x31];
 
+const LONG_SERIAL: [u8; 13] = [
+    0xa2, 0x00, 0x0d, 0x30, 0x30, 0x30, 0x30, 0x30, 0x30, 0x30, 0x30, 0x30, 0x31,
+];
+
 const ZEROS: [u8; 10] = [0x8d, 0x00, 0x0a, 0x00, 0x00, 0x00, 0x00, 0x00, 0x00, 0x00];
 
 const BEEP: [u8; 6] = [0x2b, 0x04, 0x03, 0x0b, 0x10, 0x00];
 
-fn identity(trademark: &[u8], battery: &[u8]) -> Result<Result<Identity, TooLong>, Fail> {
+fn identity(
+    trademark: &[u8],
+    battery: &[u8],
+    long_serial: &[u8],
+) -> Result<Result<Identity, TooLong>, Fail> {
     let zero = SevenBit::try_from(0x30)?;
     let serial = [zero, zero, zero, zero, SevenBit::try_from(0x31)?];
     let (main, sub) = (SevenBit::try_from(1)?, SevenBit::try_from(3)?);
@@ -39,6 +47,7 @@ fn identity(trademark: &[u8], battery: &[u8]) -> Result<Result<Identity, TooLong
         sub,
         Body::new(battery)?,
         0x14,
+        Body::new(long_serial)?,
     ))
 }
 
@@ -62,7 +71,7 @@ fn new_board() -> Result<Board, Fail> {
     Ok(Board::new(
         Position::start(),
         clock,
-        identity(b"SIMULATED BOARD", &[0x64])??,
+        identity(b"SIMULATED BOARD", &[0x64], b"0000000001")??,
     ))
 }
 
@@ -209,16 +218,19 @@ fn board_tells_what_it_is(rt: HostRuntime) -> Result<(), Fail> {
             Take(&[0x4d]),
             Take(&[0x4c]),
             Take(&[0x2b, 0x03, 0x03, 0x09, 0x00]),
+            Take(&[0x55]),
             Sends(&trademark),
             Sends(&[0x93, 0x00, 0x05, 0x01, 0x03]),
             Sends(&[0xa0, 0x00, 0x04, 0x64]),
             Sends(&[0x8d, 0x00, 0x0a, 0x0a, 0x10, 0x09, 0x0a, 0x14, 0x00, 0x00]),
+            Sends(&LONG_SERIAL),
             IsSettled,
         ],
     )?;
-    assert!(rt; identity(&[0x20; 64], &[0x20; 64])?.is_ok());
-    assert!(rt; identity(&[0x20; 65], &[])?.is_err());
-    assert!(rt; identity(&[], &[0x20; 65])?.is_err());
+    assert!(rt; identity(&[0x20; 64], &[0x20; 64], &[0x20; 64])?.is_ok());
+    assert_eq!(rt; identity(&[0x20; 65], &[], &[])?.err(), Some(TooLong));
+    assert_eq!(rt; identity(&[], &[0x20; 65], &[])?.err(), Some(TooLong));
+    assert_eq!(rt; identity(&[], &[], &[0x20; 65])?.err(), Some(TooLong));
     Ok(())
 }
 
@@ -241,6 +253,14 @@ fn clock_messages_are_lent_and_acknowledged(rt: HostRuntime) -> Result<(), Fail>
     let beep = board.take(&BEEP)?;
     let command = Command::ClockMessage(ClockCommand::Beep(0x10));
     assert_eq!(rt; beep.event, Some(CommandEvent::Command(command)));
+    let text = board.take(&[
+        0x2b, 0x0c, 0x03, 0x0c, 0x65, 0x34, 0x20, 0x20, 0x20, 0x20, 0x20, 0x20, 0x01, 0x00,
+    ])?;
+    let command = Command::ClockMessage(ClockCommand::Text {
+        letters: *b"e4      ",
+        beep: 0x01,
+    });
+    assert_eq!(rt; text.event, Some(CommandEvent::Command(command)));
     let raw = board.take(&[0x2b, 0x04, 0x03, 0x8b, 0x10, 0x00])?;
     let Some(CommandEvent::Command(Command::ClockMessage(ClockCommand::Raw(raw)))) = raw.event
     else {
@@ -253,6 +273,7 @@ fn clock_messages_are_lent_and_acknowledged(rt: HostRuntime) -> Result<(), Fail>
         &mut board,
         &[
             Sends(&[0x8d, 0x00, 0x0a, 0x0a, 0x10, 0x0b, 0x0a, 0x00, 0x00, 0x00]),
+            Sends(&[0x8d, 0x00, 0x0a, 0x0a, 0x10, 0x0c, 0x0a, 0x00, 0x00, 0x00]),
             Sends(&[0x8d, 0x00, 0x0a, 0x0a, 0x10, 0x0b, 0x2a, 0x00, 0x00, 0x00]),
             IsSettled,
         ],
@@ -394,9 +415,11 @@ struct Row<'a> {
 // Commands of one byte, clock messages, LED frames, faults, strays, and unfinished commands.
 const ROWS: [Row<'static>; 8] = [
     Row {
-        bytes: &[0x40, 0x41, 0x42, 0x43, 0x44, 0x45, 0x47, 0x4b, 0x4c, 0x4d],
+        bytes: &[
+            0x40, 0x41, 0x42, 0x43, 0x44, 0x45, 0x47, 0x4b, 0x4c, 0x4d, 0x55,
+        ],
         mode: Mode::UpdateNice,
-        owed: 6,
+        owed: 7,
         partial: 0,
     },
     Row {

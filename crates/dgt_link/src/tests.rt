@@ -35,6 +35,7 @@ fn identity() -> Result<Identity, Fail> {
         SevenBit::try_from(3)?,
         Body::new(&[0x64])?,
         0x14,
+        Body::new(b"0000000001")?,
     )?)
 }
 
@@ -113,6 +114,19 @@ fn a_board_that_owes_eight_replies_is_busy(rt: HostRuntime) -> Result<(), Fail> 
     assert_eq!(rt; world.up_len(), 5);
     play(&rt, &mut world, &[(ToBoard(1), Done)]);
     assert_eq!(rt; world.down_len(), 7);
+    Ok(())
+}
+
+#[test]
+fn a_long_serial_is_asked_for_and_told(rt: HostRuntime) -> Result<(), Fail> {
+    let mut world = world_of(rt.alloc(), 67, 257)??;
+    play(&rt, &mut world, &[(Host(Command::LongSerial), Done)]);
+    assert_eq!(rt; world.host().awaited(), [Kind::LongSerial].as_slice());
+    play(&rt, &mut world, &[(ToBoard(1), Done), (BoardSend, Done)]);
+    assert_eq!(rt; world.up_len(), 13);
+    play(&rt, &mut world, &[(ToHost(13), Done)]);
+    assert!(rt; world.host().awaited().is_empty());
+    assert!(rt; world.quiet());
     Ok(())
 }
 

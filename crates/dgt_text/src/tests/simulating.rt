@@ -30,6 +30,7 @@ fn new_world(alloc: Global) -> Result<World, Fail> {
         SevenBit::try_from(3)?,
         Body::new(&[0x64])?,
         0x14,
+        Body::new(b"0000000001")?,
     )?;
     Ok(World::new(alloc, Position::start(), clock, identity, 67, 257)?)
 }
