@@ -368,6 +368,13 @@ class World:
         self.host = Host()
         return "done"
 
+    def host_breaks(self):
+        self.up.clear()
+        self.host = Host()
+        self.down[:] = bytes(255) + b"\x44\x42"
+        self.host.awaited.append(DUMP)
+        return "done"
+
     def is_quiet(self):
         unread = self.up or self.down or self.host.decoder.unfinished or self.board.reader.unfinished
         return not unread and self.board.next_message() is None
@@ -421,6 +428,7 @@ ACTS = {
     b"toboard": (World.to_board, [read_count]),
     b"tohost": (World.to_host, [read_count]),
     b"break": (World.line_breaks, []),
+    b"hostbreak": (World.host_breaks, []),
 }
 
 

@@ -185,6 +185,9 @@ The acts:
   break                the line is cut, and both ends know it: all bytes on
                        their way are lost, the host forgets its picture, and
                        the board tells no change until it is asked to again
+  hostbreak            the line is cut, and only the host knows it: all bytes
+                       on their way are lost, and the host, which forgets its
+                       picture, sends 255 zeros, 44 and 42 to begin anew
 
 Words have one space between them. HEX is two digits a byte. N is 1 to 65535.
 

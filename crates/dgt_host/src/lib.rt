@@ -10,7 +10,9 @@
 //! first, and is told as unasked where it isn't.
 //!
 //! Where the line breaks, `line_lost` makes the host as new, and `follow` asks for all that it needs
-//! once the line is back. No call takes memory.
+//! once the line is back. Where the board can't know of the break, as where a program is started
+//! again, `restart` asks in place of `follow`: whatever command the board was in the middle of, it
+//! ends it. No call takes memory.
 #![tactic(auto)]
 
 mod hearing;

@@ -182,12 +182,15 @@ impl World {
 
     /// Does one act, and answers what came of it. What isn't `Done` changes nothing.
     ///
-    /// `Change`, `ClockRead` and `Break` are always `Done`. `Host` is first `TooMany`, where the reply would
-    /// have to be awaited and 16 are awaited, then `NoRoom`, where the down line has too little room
-    /// for the command. `BoardSend` is first `Nothing`, where the board has nothing to send, then
-    /// `NoRoom`, where the up line has too little room for the message. `ToBoard` is first
-    /// `Nothing`, where the count is 0 or the down line is empty, then `Busy`, where the board owes
-    /// 8 replies. `ToHost` is `Nothing` where the count is 0 or the up line is empty.
+    /// `Change`, `ClockRead`, `Break` and `HostBreak` are always `Done`. `Host` is first `TooMany`,
+    /// where the reply would have to be awaited and 16 are awaited, then `NoRoom`, where the down line
+    /// has too little room for the command. `BoardSend` is first `Nothing`, where the board has nothing
+    /// to send, then `NoRoom`, where the up line has too little room for the message. `ToBoard` is
+    /// first `Nothing`, where the count is 0 or the down line is empty, then `Busy`, where the board
+    /// owes 8 replies. `ToHost` is `Nothing` where the count is 0 or the up line is empty.
+    ///
+    /// After a `HostBreak` the down line holds 257 bytes and the board is as it was. What it takes of
+    /// them is noise, and then `UpdateBoard` and `Dump`.
     pub fn step(&mut self, act: Act<'_>) -> Outcome
         ensures exact { Step (act_content act.entry) self.old result self.new }
         ensures unchanged { result ≢ Outcome.Done → self.new ≡ self.old }
@@ -221,7 +224,7 @@ impl World {
     ///
     /// Where those that were done after the last `Break` ask for a dump, and the last of them that
     /// asks for a mode asks for updates, the host's picture is the board's position once the world is
-    /// quiet.
+    /// quiet. A `HostBreak` asks for both.
     pub fn run(&mut self, acts: &[Act<'_>]) -> usize
         ensures exact { (outcomes : List Outcome) × (result ≡ done_count outcomes)
             × Runs (map act_content acts.now) self.old outcomes self.new }
