@@ -51,8 +51,8 @@ fn run<I: Read + Drop, O: Write + Drop>(
     }
 }
 
-// Each task has room of its own on the stack, and is not inlined: room for all of them at once would be more than a
-// process has from its start, so it could end by a signal where the system gives no more.
+// Each task has room of its own on the stack, and is not inlined. Room for all of them at once is more than a process
+// has from its start, and where the address space is limited, a stack that can't grow ends the process by a signal.
 
 #[inline(never)]
 fn show<O: Write + Drop>(alloc: Global, word: &str, output: O) -> Result<(), Fault> {
