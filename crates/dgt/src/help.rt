@@ -48,6 +48,9 @@ The five bytes 8e 00 05 24 01 are one message: a white pawn now stands on e4.
   00000005 version 1.3
 The byte 4d is the command that asks for the version of the board.
 
+A failure is told on standard error, and by the exit status. That nobody reads
+standard output any more is one: 'dgt: write failed', status 1.
+
 'dgt show --help' and so on tell the rest of each command.";
 
 /// What follows clap's own text in the help of `show`.
