@@ -178,10 +178,10 @@ impl World {
 
     /// Does one act, and answers what came of it. What isn't `Done` changes nothing.
     ///
-    /// `Change`, `ClockRead` and `Break` are always `Done`. `Host` is first `TooMany`, where the reply would
-    /// have to be awaited and 16 are awaited, then `NoRoom`, where the down line has too little room
-    /// for the command. `BoardSend` is first `Nothing`, where the board has nothing to send, then
-    /// `NoRoom`, where the up line has too little room for the message. `ToBoard` is first
+    /// `Change`, `ClockRead` and `Break` are always `Done`. `Host` is first `TooMany`, where the
+    /// reply would have to be awaited and 16 are awaited, then `NoRoom`, where the down line has too
+    /// little room for the command. `BoardSend` is first `Nothing`, where the board has nothing to
+    /// send, then `NoRoom`, where the up line has too little room for the message. `ToBoard` is first
     /// `Nothing`, where the count is 0 or the down line is empty, then `Busy`, where the board owes
     /// 8 replies. `ToHost` is `Nothing` where the count is 0 or the up line is empty.
     pub fn step(&mut self, act: Act<'_>) -> Outcome
