@@ -7,7 +7,7 @@ use crate::ends::{Failed, Sink, Source};
 use std::io::{ErrorKind, Read, Write};
 
 // How often a call is made, at most, where each time it is interrupted.
-const MAX_TRIES: u32 = 1 << 24;
+const MAX_TRIES: u32 = 1 << 20;
 
 // A read, made again where it is interrupted.
 fn read_retrying<T: Read>(reader: &mut T, buffer: &mut [u8]) -> Result<usize, Failed>
@@ -56,13 +56,14 @@ fn flush_retrying<T: Write>(writer: &mut T) -> Result<(), Failed>
 
 /// A source or a sink over any reader or writer of the standard library.
 ///
-/// It keeps its marks and its count, and tells the bytes that the reader or the writer tells. It refuses a
-/// call where the reader or the writer fails, and where a writer takes none of the bytes that it is given.
+/// It keeps its marks and its count, and tells the bytes that the reader or the writer tells. It
+/// refuses a call where the reader or the writer fails, and where a writer takes none of the bytes
+/// that it is given.
 ///
-/// A read, write or flush that answers `ErrorKind::Interrupted`, as where a signal came while it waited, is
-/// no failure: it moved no byte, and is made again, as the standard library's own loops (`read_to_end`,
-/// `write_all`) do. So a run goes on over signals, and counts one read. A call that is interrupted 2^24 times
-/// in a row is refused, so that it returns over every reader and writer.
+/// A read, write or flush that answers `ErrorKind::Interrupted`, as where a signal came while it
+/// waited, is no failure: it moved no byte, and is made again, as the standard library's own loops
+/// (`read_to_end`, `write_all`) do. So a run goes on over signals, and counts one read. A call that
+/// is interrupted 2^20 times in a row is refused, so that it returns over every reader and writer.
 #[derive(Drop)]
 pub struct Device<T> {
     inner: T,

@@ -64,8 +64,8 @@ impl Source for Lender<'_> {
     }
 }
 
-/// A sink that takes at most `step` bytes a write and `room` bytes in all, and refuses its write number
-/// `write_fails_at` and its flush number `flush_fails_at`.
+/// A sink that takes at most `step` bytes a write and `room` bytes in all, and refuses its write
+/// number `write_fails_at` and its flush number `flush_fails_at`.
 #[derive(Drop)]
 pub struct Recorder {
     taken: ArrayVec<u8, 8192>,
@@ -204,8 +204,8 @@ impl Read for Zeros {
     }
 }
 
-/// A reader and writer of the standard library that moves one byte at a call, of which each, each flush
-/// included, is interrupted `times` times before it succeeds.
+/// A reader and writer of the standard library that moves one byte at a call, of which each, each
+/// flush included, is interrupted `times` times before it succeeds.
 #[derive(Drop)]
 pub struct Trickle<'a> {
     left: &'a [u8],

@@ -3,6 +3,7 @@
 use crate::tests::devices::{Broken, Recorder, Trickle, Zeros};
 use crate::tests::serving::{VERSION, new_board};
 use crate::tests::simulating::new_world;
+use crate::tests::troubles::Trouble::{Flush, Read, Room, Turns};
 use crate::tests::troubles::{Ends, Trouble};
 use crate::tests::{FIELD, FIELD_LINE, START};
 use crate::{Bytes, Device, RunFault, Source, monitor, serve, simulate, write_event};
@@ -18,6 +19,18 @@ const READ_FAILED: Result<(), RunFault> = Err(RunFault::ReadFailed);
 
 const TOO_MANY_TURNS: Result<(), RunFault> = Err(RunFault::TooManyTurns);
 
+// The bytes, how many of them a read gives, what fails and where; the answer, the reads and what is
+// written.
+type Run<'a> = (
+    &'a [u8],
+    usize,
+    Trouble,
+    u32,
+    Result<(), RunFault>,
+    u64,
+    &'a [u8],
+);
+
 // After a run of so many reads the sink has these bytes.
 fn assert_ran(rt: &impl Abort, ends: &Ends<'_>, reads: u64, taken: &[u8]) {
     assert_eq!(rt; ends.source.reads, reads);
@@ -27,22 +40,23 @@ fn assert_ran(rt: &impl Abort, ends: &Ends<'_>, reads: u64, taken: &[u8]) {
 
 #[test]
 fn monitors_that_fail(rt: HostRuntime) {
-    for room in 0..20 {
-        let mut ends = Ends::new(FIELD, 64, Trouble::Room, room);
+    for room in 0..20u8 {
+        let mut ends = Ends::new(FIELD, 64, Room, u32::from(room));
         assert_eq!(rt; monitor(&mut ends.source, &mut ends.sink, 10), WRITE_FAILED);
-        assert_ran(&rt, &ends, 1, &FIELD_LINE[..room]);
+        assert_ran(&rt, &ends, 1, &FIELD_LINE[..usize::from(room)]);
     }
     let cut = [0x8e, 0x00, 0x05, 0x24, 0x01, 0x8e];
-    let rows: [(&[u8], usize, Trouble, usize, Result<(), RunFault>, u64, &[u8]); 9] = [
-        (FIELD, 64, Trouble::Room, 20, Ok(()), 2, FIELD_LINE),
-        (FIELD, 64, Trouble::Room, 9, WRITE_FAILED, 1, b"00000005 "),
-        (FIELD, 64, Trouble::Flush, 1, WRITE_FAILED, 1, FIELD_LINE),
-        (&[0, 0], 1, Trouble::Flush, 1, WRITE_FAILED, 1, b"00000001 stray 00\n"),
-        (&cut, 64, Trouble::Read, 2, READ_FAILED, 2, FIELD_LINE),
-        (&[], 64, Trouble::Turns, 0, TOO_MANY_TURNS, 0, b""),
-        (&[], 64, Trouble::Turns, 1, Ok(()), 1, b""),
-        (FIELD, 1, Trouble::Turns, 5, TOO_MANY_TURNS, 5, FIELD_LINE),
-        (FIELD, 1, Trouble::Turns, 6, Ok(()), 6, FIELD_LINE),
+    let stray = b"00000001 stray 00\n";
+    let rows: [Run<'_>; 9] = [
+        (FIELD, 64, Room, 20, Ok(()), 2, FIELD_LINE),
+        (FIELD, 64, Room, 9, WRITE_FAILED, 1, b"00000005 "),
+        (FIELD, 64, Flush, 1, WRITE_FAILED, 1, FIELD_LINE),
+        (&[0, 0], 1, Flush, 1, WRITE_FAILED, 1, stray),
+        (&cut, 64, Read, 2, READ_FAILED, 2, FIELD_LINE),
+        (&[], 64, Turns, 0, TOO_MANY_TURNS, 0, b""),
+        (&[], 64, Turns, 1, Ok(()), 1, b""),
+        (FIELD, 1, Turns, 5, TOO_MANY_TURNS, 5, FIELD_LINE),
+        (FIELD, 1, Turns, 6, Ok(()), 6, FIELD_LINE),
     ];
     for (bytes, step, trouble, at, answer, reads, taken) in rows {
         let mut ends = Ends::new(bytes, step, trouble, at);
@@ -65,13 +79,15 @@ fn a_reader_that_never_ends(rt: HostRuntime) {
 
 #[test]
 fn servings_that_fail(rt: HostRuntime) -> Result<(), Fail> {
-    let rows: [(&[u8], usize, Trouble, usize, Result<(), RunFault>, u64, &[u8], usize); 4] = [
-        (&[0x4d, 0x4d], 1, Trouble::Flush, 2, WRITE_FAILED, 1, VERSION, 0),
-        (&[0x42, 0x2b, 0x04], 64, Trouble::Read, 2, READ_FAILED, 2, START, 2),
-        (&[0x4d, 0x4d], 1, Trouble::Turns, 0, TOO_MANY_TURNS, 0, b"", 0),
-        (&[0x4d, 0x4d], 1, Trouble::Turns, 1, TOO_MANY_TURNS, 1, VERSION, 0),
+    let versions = [0x4d, 0x4d];
+    let unfinished = [0x42, 0x2b, 0x04];
+    let rows: [Run<'_>; 4] = [
+        (&versions, 1, Flush, 2, WRITE_FAILED, 1, VERSION),
+        (&versions, 1, Turns, 0, TOO_MANY_TURNS, 0, b""),
+        (&versions, 1, Turns, 1, TOO_MANY_TURNS, 1, VERSION),
+        (&unfinished, 64, Read, 2, READ_FAILED, 2, START),
     ];
-    for (bytes, step, trouble, at, answer, reads, taken, partial) in rows {
+    for (bytes, step, trouble, at, answer, reads, taken) in rows {
         let mut board = new_board()?;
         let mut ends = Ends::new(bytes, step, trouble, at);
         let limit = ends.limit;
@@ -80,6 +96,7 @@ fn servings_that_fail(rt: HostRuntime) -> Result<(), Fail> {
             answer
         );
         assert_ran(&rt, &ends, reads, taken);
+        let partial = if bytes == unfinished.as_slice() { 2 } else { 0 };
         assert_eq!(rt; board.partial(), partial);
     }
     Ok(())
@@ -87,11 +104,12 @@ fn servings_that_fail(rt: HostRuntime) -> Result<(), Fail> {
 
 #[test]
 fn scripts_that_fail(rt: HostRuntime) -> Result<(), Fail> {
-    let rows: [(&[u8], usize, Trouble, usize, Result<(), RunFault>, u64, &[u8]); 4] = [
-        (b"send\nsend\n", 5, Trouble::Flush, 1, WRITE_FAILED, 1, b"nothing\n"),
-        (b"send\nsen", 64, Trouble::Read, 2, READ_FAILED, 2, b"nothing\n"),
-        (b"send\nsen", 1, Trouble::Read, 9, READ_FAILED, 9, b"nothing\n"),
-        (b"send\nsend", 64, Trouble::Turns, 1, TOO_MANY_TURNS, 1, b"nothing\n"),
+    let one = b"nothing\n";
+    let rows: [Run<'_>; 4] = [
+        (b"send\nsend\n", 5, Flush, 1, WRITE_FAILED, 1, one),
+        (b"send\nsen", 64, Read, 2, READ_FAILED, 2, one),
+        (b"send\nsen", 1, Read, 9, READ_FAILED, 9, one),
+        (b"send\nsend", 64, Turns, 1, TOO_MANY_TURNS, 1, one),
     ];
     for (bytes, step, trouble, at, answer, reads, taken) in rows {
         let mut world = new_world(rt.alloc())?;
@@ -162,8 +180,18 @@ fn readers_and_writers_of_std_that_fail(rt: HostRuntime) -> Result<(), Fail> {
     let answers = [
         write_event(&mut Device::new(Broken), 1, &event),
         monitor(&mut Bytes::new(FIELD), &mut Device::new(Broken), 10),
-        serve(&mut board, &mut Bytes::new(&[0x4d]), &mut Device::new(Broken), 10),
-        simulate(&mut world, &mut Bytes::new(b"send\n"), &mut Device::new(Broken), 10),
+        serve(
+            &mut board,
+            &mut Bytes::new(&[0x4d]),
+            &mut Device::new(Broken),
+            10,
+        ),
+        simulate(
+            &mut world,
+            &mut Bytes::new(b"send\n"),
+            &mut Device::new(Broken),
+            10,
+        ),
     ];
     assert_eq!(rt; answers, [WRITE_FAILED; 4]);
     let answers = [
@@ -189,11 +217,19 @@ fn readers_and_writers_of_std_that_are_interrupted(rt: HostRuntime) -> Result<()
 
         let mut reader = Device::new(Trickle::new(&[0x4d, 0x42], times));
         let mut taken = Trickle::new(&[], times);
-        let answer = serve(&mut new_board()?, &mut reader, &mut Device::new(&mut taken), 3);
+        let answer = serve(
+            &mut new_board()?,
+            &mut reader,
+            &mut Device::new(&mut taken),
+            3,
+        );
         assert_eq!(rt; answer, Ok(()));
         let sent = taken.taken.as_slice();
         assert!(rt; sent.starts_with(VERSION) && sent.ends_with(START));
-        assert_eq!(rt; (sent.len(), taken.flushes), (VERSION.len() + START.len(), 3));
+        assert_eq!(rt;
+            (sent.len(), taken.flushes),
+            (VERSION.len() + START.len(), 3)
+        );
 
         let mut world = new_world(rt.alloc())?;
         let mut reader = Device::new(Trickle::new(b"send\nsned\n", times));

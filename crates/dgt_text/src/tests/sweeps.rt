@@ -91,8 +91,8 @@ fn send_some(board: &mut Board, most: usize) -> usize {
     left
 }
 
-// A board that was asked these questions, then took these bytes, and sent at most so many messages, each as soon
-// as it could.
+// A board that was asked these questions, then took these bytes, and sent at most so many messages,
+// each as soon as it could.
 fn board_after(asked: &[u8], bytes: &[u8], most: usize) -> Result<Board, Fail> {
     let mut board = new_board()?;
     for byte in asked {
@@ -265,7 +265,8 @@ fn a_script_meets_each_trouble_at_each_place(rt: HostRuntime) -> Result<(), Fail
         (b"send\n", b"done\n"),
         (b"tohost 9", b""),
     ];
-    let closing = b"done\nboard rnbqkbnr/pppppppp/8/8/8/8/PPPP1PPP/RNBQKBNR\nhost rnbqkbnr/pppppppp/8/8/8/8/PPPP1PPP/RNBQKBNR\nhostclock unknown\nquiet yes\n";
+    let closing =
+        b"done\nboard rnbqkbnr/pppppppp/8/8/8/8/PPPP1PPP/RNBQKBNR\nhost rnbqkbnr/pppppppp/8/8/8/8/PPPP1PPP/RNBQKBNR\nhostclock unknown\nquiet yes\n";
     let bad: [(&[u8], &[u8]); 4] = [
         (b"host 44\n", b"done\n"),
         (b"host 42\n", b"done\n"),

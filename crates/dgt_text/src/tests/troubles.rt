@@ -6,8 +6,8 @@ use arrayvec::ArrayVec;
 use std::process::Abort;
 use std::test::Fail;
 
-/// What fails in a run: a read, a write or a flush by its number, or a sink that is full, or there are
-/// too few turns.
+/// What fails in a run: a read, a write or a flush by its number, or a sink that is full, or there
+/// are too few turns.
 #[derive(Clone, Copy, Debug, PartialEq, Eq)]
 pub enum Trouble {
     Read,
@@ -32,7 +32,7 @@ impl Trouble {
     }
 
     /// Its first place: reads, writes and flushes count from 1.
-    pub fn first(self) -> usize {
+    pub fn first(self) -> u32 {
         match self {
             Trouble::Read | Trouble::Write | Trouble::Flush => 1,
             Trouble::Room | Trouble::Turns => 0,
@@ -56,13 +56,14 @@ pub struct Ends<'a> {
     pub sink: Recorder,
     pub limit: u32,
     trouble: Trouble,
-    at: usize,
+    at: u32,
 }
 
 impl<'a> Ends<'a> {
-    /// A source of these bytes, `step` in a read, and a sink, with this trouble: the read, write or flush of
-    /// number `at` fails, or there is room for `at` bytes alone, or there are `at` turns alone.
-    pub fn new(bytes: &'a [u8], step: usize, trouble: Trouble, at: usize) -> Self {
+    /// A source of these bytes, `step` in a read, and a sink, with this trouble: the read, write or
+    /// flush of number `at` fails, or there is room for `at` bytes alone, or there are `at` turns
+    /// alone.
+    pub fn new(bytes: &'a [u8], step: usize, trouble: Trouble, at: u32) -> Self {
         let mut source = Lender::new(bytes, step);
         let mut sink = Recorder::new();
         let mut limit = 1000;
@@ -70,8 +71,8 @@ impl<'a> Ends<'a> {
             Trouble::Read => source.fails_at = at as u64,
             Trouble::Write => sink.write_fails_at = at as u64,
             Trouble::Flush => sink.flush_fails_at = at as u64,
-            Trouble::Room => sink.room = at,
-            Trouble::Turns => limit = at as u32,
+            Trouble::Room => sink.room = at as usize,
+            Trouble::Turns => limit = at,
         }
         Ends {
             source,
@@ -82,8 +83,8 @@ impl<'a> Ends<'a> {
         }
     }
 
-    /// Whether the run met its trouble, without which it answers `whole`. The answer and the marks tell it, and it
-    /// came at its place.
+    /// Whether the run met its trouble, without which it answers `whole`. The answer and the marks
+    /// tell it, and it came at its place.
     pub fn has_met(
         &self,
         rt: &impl Abort,
@@ -94,7 +95,10 @@ impl<'a> Ends<'a> {
         let is_torn = answer == Err(RunFault::WriteFailed);
         assert_eq!(rt; source.failed, answer == Err(RunFault::ReadFailed));
         assert_eq!(rt; sink.failed, is_torn);
-        assert!(rt; !source.late && !sink.late, "a call after a refusal or the end");
+        assert!(rt;
+            !source.late && !sink.late,
+            "a call after a refusal or the end"
+        );
         assert!(rt; sink.flushed || is_torn);
         if answer == whole {
             return false;
@@ -112,8 +116,8 @@ impl<'a> Ends<'a> {
     }
 }
 
-/// What a run reads and writes: for each row, once its first bytes have come, its second ones are written, and
-/// at the end of the bytes these last ones.
+/// What a run reads and writes: for each row, once its first bytes have come, its second ones are
+/// written, and at the end of the bytes these last ones.
 #[derive(Clone, Copy)]
 pub struct Text<'a> {
     pub rows: &'a [(&'a [u8], &'a [u8])],
@@ -145,8 +149,8 @@ impl Text<'_> {
         Ok(text)
     }
 
-    /// How many bytes had come, and how many rows were written or begun, when a sink with so many bytes
-    /// refused the next. At the end of the bytes these are all.
+    /// How many bytes had come, and how many rows were written or begun, when a sink with so many
+    /// bytes refused the next. At the end of the bytes these are all.
     pub fn torn_at(&self, taken: usize) -> (usize, usize) {
         let (mut came, mut begun, mut written) = (0usize, 0usize, 0usize);
         for (bytes, more) in self.rows {
