@@ -1,12 +1,69 @@
 //! The standard library's readers and writers as sources and sinks.
 
+ghost use Rattle.std.specs.Prelude.{◌≤◌, length, IfOk};
+ghost use Rattle.std.specs.Io.KnownBytes.{Keeps, ReadConsumes, WriteAppends};
+
 use crate::ends::{Failed, Sink, Source};
-use std::io::{Read, Write};
+use std::io::{ErrorKind, Read, Write};
+
+// How often a call is made, at most, where each time it is interrupted.
+const MAX_TRIES: u32 = 1 << 20;
+
+// A read, made again where it is interrupted.
+fn read_retrying<T: Read>(reader: &mut T, buffer: &mut [u8]) -> Result<usize, Failed>
+    ensures bound { IfOk result (λ n. n ≤ length buffer.new) }
+    ensures bytes { ReadConsumes (T.remaining reader.old) (T.remaining reader.new) result
+        buffer.new }
+{
+    for _ in 0..MAX_TRIES {
+        match reader.read(buffer) {
+            Ok(given) => return Ok(given),
+            Err(error) if error.kind() == ErrorKind::Interrupted => {}
+            Err(_) => return Err(Failed),
+        }
+    }
+    Err(Failed)
+}
+
+// A write, made again where it is interrupted.
+fn write_retrying<T: Write>(writer: &mut T, bytes: &[u8]) -> Result<usize, Failed>
+    ensures bound { IfOk result (λ n. n ≤ length bytes.now) }
+    ensures bytes { WriteAppends (T.contents writer.old) (T.contents writer.new) result bytes.now }
+{
+    for _ in 0..MAX_TRIES {
+        match writer.write(bytes) {
+            Ok(taken) => return Ok(taken),
+            Err(error) if error.kind() == ErrorKind::Interrupted => {}
+            Err(_) => return Err(Failed),
+        }
+    }
+    Err(Failed)
+}
+
+// A flush, made again where it is interrupted.
+fn flush_retrying<T: Write>(writer: &mut T) -> Result<(), Failed>
+    ensures { Keeps (T.contents writer.old) (T.contents writer.new) }
+{
+    for _ in 0..MAX_TRIES {
+        match writer.flush() {
+            Ok(()) => return Ok(()),
+            Err(error) if error.kind() == ErrorKind::Interrupted => {}
+            Err(_) => return Err(Failed),
+        }
+    }
+    Err(Failed)
+}
 
 /// A source or a sink over any reader or writer of the standard library.
 ///
-/// It keeps its marks and its count, and tells the bytes that the reader or the writer tells. It refuses a
-/// call where the reader or the writer fails, and where a writer takes none of the bytes that it is given.
+/// It keeps its marks and its count, and tells the bytes that the reader or the writer tells. It
+/// refuses a call where the reader or the writer fails, and where a writer takes none of the bytes
+/// that it is given.
+///
+/// A read, write or flush that answers `ErrorKind::Interrupted`, as where a signal came while it
+/// waited, is no failure: it moved no byte, and is made again, as the standard library's own loops
+/// (`read_to_end`, `write_all`) do. So a run goes on over signals, and counts one read. A call that
+/// is interrupted 2^20 times in a row is refused, so that it returns over every reader and writer.
 #[derive(Drop)]
 pub struct Device<T> {
     inner: T,
@@ -51,14 +108,14 @@ impl<T: Read> Source for Device<T> {
     fn read_some(&mut self, buffer: &mut [u8]) -> Result<usize, Failed> {
         self.reads = self.reads.saturating_add(1);
         self.late = self.late || self.failed || self.ended;
-        match self.inner.read(buffer) {
+        match read_retrying(&mut self.inner, buffer) {
             Ok(given) => {
                 if given == 0 && !buffer.is_empty() {
                     self.ended = true;
                 }
                 Ok(given)
             }
-            Err(_) => {
+            Err(Failed) => {
                 self.failed = true;
                 Err(Failed)
             }
@@ -79,7 +136,7 @@ impl<T: Write> Sink for Device<T> {
 
     fn write_some(&mut self, bytes: &[u8]) -> Result<usize, Failed> {
         self.late = self.late || self.failed;
-        match self.inner.write(bytes) {
+        match write_retrying(&mut self.inner, bytes) {
             Ok(taken) if taken > 0 => {
                 self.flushed = false;
                 Ok(taken)
@@ -94,12 +151,12 @@ impl<T: Write> Sink for Device<T> {
 
     fn flush_all(&mut self) -> Result<(), Failed> {
         self.late = self.late || self.failed;
-        match self.inner.flush() {
+        match flush_retrying(&mut self.inner) {
             Ok(()) => {
                 self.flushed = true;
                 Ok(())
             }
-            Err(_) => {
+            Err(Failed) => {
                 self.failed = true;
                 Err(Failed)
             }

@@ -1,24 +1,26 @@
-//! The lines of worked messages, and runs over sources and sinks that fail.
+//! The lines of worked messages.
 
 mod closing;
 mod devices;
+mod failures;
 mod script;
 mod script_lines;
 mod script_words;
 mod serving;
 mod simulating;
+mod sweeps;
+mod troubles;
 
-use crate::tests::devices::{Broken, CallCounter, Lender, Recorder};
-use crate::{Bytes, Device, Failed, LineFault, RunFault, monitor, write_event};
-use dgt_decode::Event;
-use dgt_message::{BodyFault, Message};
-use dgt_values::{Piece, SevenBit, Square};
+use crate::tests::devices::{CallCounter, Lender, Recorder};
+use crate::{Bytes, Device, Failed, LineFault, RunFault, monitor};
 use std::process::Abort;
 use std::test::Fail;
 
 const FIELD: &[u8] = &[0x8e, 0x00, 0x05, 0x24, 0x01];
 
 const FIELD_LINE: &[u8] = b"00000005 field e4 P\n";
+
+const START_LINE: &[u8] = b"00000067 dump rnbqkbnr/pppppppp/8/8/8/8/PPPPPPPP/RNBQKBNR\n";
 
 const START: &[u8] = &[
     0x86, 0x00, 0x43, 0x08, 0x09, 0x0a, 0x0c, 0x0b, 0x0a, 0x09, 0x08, 0x07, 0x07, 0x07, 0x07, 0x07,
@@ -45,10 +47,7 @@ fn lines_of_messages(rt: HostRuntime) {
         (&[], b""),
         (&[0x8e, 0x00, 0x05, 0x34, 0x00], b"00000005 field e2 .\n"),
         (FIELD, FIELD_LINE),
-        (
-            START,
-            b"00000067 dump rnbqkbnr/pppppppp/8/8/8/8/PPPPPPPP/RNBQKBNR\n",
-        ),
+        (START, START_LINE),
         (
             &[0x8d, 0x00, 0x0a, 0x01, 0x30, 0x00, 0x01, 0x29, 0x55, 0x11],
             b"00000010 times 1:30:00 0 1:29:55 0 11\n",
@@ -128,44 +127,6 @@ fn lines_of_refusals(rt: HostRuntime) {
 }
 
 #[test]
-fn the_line_of_one_event(rt: HostRuntime) -> Result<(), Fail> {
-    let square = Square::parse("h1")?;
-    let events = [
-        (
-            Event::Message(Message::Field {
-                square,
-                piece: Piece::BlackQueen,
-            }),
-            b"123456789 field h1 q\n".as_slice(),
-        ),
-        (
-            Event::Refused {
-                code: SevenBit::try_from(0x0e)?,
-                fault: BodyFault::BadSquare { at: 0 },
-            },
-            b"123456789 refused 0e badsquare 0\n".as_slice(),
-        ),
-    ];
-    for (event, line) in &events {
-        for room in 0..line.len() {
-            let mut sink = Recorder::new();
-            sink.room = room;
-            assert_eq!(rt;
-                write_event(&mut sink, 123456789, event),
-                Err(RunFault::WriteFailed)
-            );
-            assert_eq!(rt; sink.taken(), &line[..room]);
-        }
-        let mut sink = Recorder::new();
-        assert_eq!(rt; write_event(&mut sink, 123456789, event), Ok(()));
-        assert_eq!(rt; sink.taken(), *line);
-        assert_eq!(rt; sink.writes, 1);
-        assert_eq!(rt; sink.flushes, 0);
-    }
-    Ok(())
-}
-
-#[test]
 fn a_line_longer_than_the_buffer(rt: HostRuntime) {
     let mut message = [0x33; 2048];
     message[0] = 0xa0;
@@ -227,97 +188,4 @@ fn texts_of_faults(rt: HostRuntime) -> Result<(), Fail> {
     assert_eq!(rt; bad.to_string(rt.alloc())?.as_str(), "bad at 67");
     assert_eq!(rt; Failed.to_string(rt.alloc())?.as_str(), "the device failed");
     Ok(())
-}
-
-#[test]
-fn a_sink_that_is_full(rt: HostRuntime) {
-    for room in 0..FIELD_LINE.len() {
-        let mut sink = Recorder::new();
-        sink.room = room;
-        assert_eq!(rt;
-            monitor(&mut Bytes::new(FIELD), &mut sink, 10),
-            Err(RunFault::WriteFailed)
-        );
-        assert_eq!(rt; sink.taken(), &FIELD_LINE[..room]);
-    }
-}
-
-#[test]
-fn each_read_fails(rt: HostRuntime) {
-    for at in 1..7 {
-        let mut source = Lender::failing(FIELD, 1, at);
-        let mut sink = Recorder::new();
-        assert_eq!(rt;
-            monitor(&mut source, &mut sink, 10),
-            Err(RunFault::ReadFailed)
-        );
-        assert_eq!(rt; source.reads, at);
-        assert_eq!(rt;
-            sink.taken(),
-            if at == 6 { FIELD_LINE } else { b"".as_slice() }
-        );
-    }
-}
-
-#[test]
-fn each_write_and_each_flush_fails(rt: HostRuntime) {
-    let bytes = [0x05, 0x06, 0x8e];
-    let lines = b"00000001 stray 05\n00000002 stray 06\n00000003 unfinished 1\n";
-    for at in 1..4 {
-        let mut sink = Recorder::new();
-        sink.write_fails_at = at;
-        assert_eq!(rt;
-            monitor(&mut Lender::new(&bytes, 1), &mut sink, 10),
-            Err(RunFault::WriteFailed)
-        );
-        assert!(rt; lines.starts_with(sink.taken()));
-        assert_eq!(rt; sink.writes, at);
-    }
-    for at in 1..5 {
-        let mut source = Lender::new(&bytes, 1);
-        let mut sink = Recorder::new();
-        sink.flush_fails_at = at;
-        assert_eq!(rt;
-            monitor(&mut source, &mut sink, 10),
-            Err(RunFault::WriteFailed)
-        );
-        assert_eq!(rt; source.reads, at);
-        assert!(rt; lines.starts_with(sink.taken()));
-    }
-}
-
-#[test]
-fn a_limit_of_reads(rt: HostRuntime) {
-    for limit in 0..6 {
-        let mut source = Lender::new(FIELD, 1);
-        let mut sink = Recorder::new();
-        assert_eq!(rt;
-            monitor(&mut source, &mut sink, limit),
-            Err(RunFault::TooManyTurns)
-        );
-        assert_eq!(rt; source.reads, limit as u64);
-        assert_eq!(rt;
-            sink.taken(),
-            if limit == 5 {
-                FIELD_LINE
-            } else {
-                b"".as_slice()
-            }
-        );
-    }
-    assert_eq!(rt;
-        monitor(&mut Bytes::new(&[]), &mut Recorder::new(), 1),
-        Ok(())
-    );
-}
-
-#[test]
-fn readers_and_writers_of_std(rt: HostRuntime) {
-    let mut sink = Recorder::new();
-    assert_eq!(rt; monitor(&mut Device::new(FIELD), &mut sink, 10), Ok(()));
-    assert_eq!(rt; sink.taken(), FIELD_LINE);
-    let answer = monitor(&mut Bytes::new(FIELD), &mut Device::new(Broken), 10);
-    assert_eq!(rt; answer, Err(RunFault::WriteFailed));
-    let answer = monitor(&mut Device::new(Broken), &mut Recorder::new(), 10);
-    assert_eq!(rt; answer, Err(RunFault::ReadFailed));
 }

@@ -12,8 +12,9 @@ use std::io::{Read, Write};
 pub struct Lender<'a> {
     left: &'a [u8],
     step: usize,
-    fails_at: u64,
-    failed: bool,
+    pub fails_at: u64,
+    pub given: usize,
+    pub failed: bool,
     pub ended: bool,
     pub reads: u64,
     pub late: bool,
@@ -21,14 +22,11 @@ pub struct Lender<'a> {
 
 impl<'a> Lender<'a> {
     pub fn new(left: &'a [u8], step: usize) -> Self {
-        Lender::failing(left, step, 0)
-    }
-
-    pub fn failing(left: &'a [u8], step: usize, fails_at: u64) -> Self {
         Lender {
             left,
             step,
-            fails_at,
+            fails_at: 0,
+            given: 0,
             failed: false,
             ended: false,
             reads: 0,
@@ -58,6 +56,7 @@ impl Source for Lender<'_> {
         let given = self.left.len().min(buffer.len()).min(self.step.max(1));
         buffer[..given].copy_from_slice(&self.left[..given]);
         self.left = &self.left[given..];
+        self.given = self.given.saturating_add(given);
         if given == 0 && !buffer.is_empty() {
             self.ended = true;
         }
@@ -65,8 +64,8 @@ impl Source for Lender<'_> {
     }
 }
 
-/// A sink that takes at most `step` bytes a write and `room` bytes in all, and refuses its write number
-/// `write_fails_at` and its flush number `flush_fails_at`.
+/// A sink that takes at most `step` bytes a write and `room` bytes in all, and refuses its write
+/// number `write_fails_at` and its flush number `flush_fails_at`.
 #[derive(Drop)]
 pub struct Recorder {
     taken: ArrayVec<u8, 8192>,
@@ -76,7 +75,7 @@ pub struct Recorder {
     pub flush_fails_at: u64,
     pub writes: u64,
     pub flushes: u64,
-    failed: bool,
+    pub failed: bool,
     pub flushed: bool,
     pub late: bool,
 }
@@ -186,5 +185,80 @@ impl Write for Broken {
 
     fn flush(&mut self) -> io::Result<()> {
         Err(io::Error::from(io::ErrorKind::Other))
+    }
+}
+
+/// A reader of the standard library that gives a zero at each call, for ever.
+#[derive(Drop)]
+pub struct Zeros;
+
+impl Read for Zeros {
+    fn read(&mut self, buf: &mut [u8]) -> io::Result<usize> {
+        match buf.first_mut() {
+            Some(first) => {
+                *first = 0;
+                Ok(1)
+            }
+            None => Ok(0),
+        }
+    }
+}
+
+/// A reader and writer of the standard library that moves one byte at a call, of which each, each
+/// flush included, is interrupted `times` times before it succeeds.
+#[derive(Drop)]
+pub struct Trickle<'a> {
+    left: &'a [u8],
+    pub taken: ArrayVec<u8, 256>,
+    times: u32,
+    waits: u32,
+    pub flushes: u64,
+}
+
+impl<'a> Trickle<'a> {
+    pub fn new(left: &'a [u8], times: u32) -> Self {
+        Trickle {
+            left,
+            taken: ArrayVec::new(),
+            times,
+            waits: times,
+            flushes: 0,
+        }
+    }
+
+    fn wait(&mut self) -> io::Result<()> {
+        if self.waits > 0 {
+            self.waits -= 1;
+            return Err(io::Error::from(io::ErrorKind::Interrupted));
+        }
+        self.waits = self.times;
+        Ok(())
+    }
+}
+
+impl Read for Trickle<'_> {
+    fn read(&mut self, buf: &mut [u8]) -> io::Result<usize> {
+        self.wait()?;
+        let given = self.left.len().min(buf.len()).min(1);
+        buf[..given].copy_from_slice(&self.left[..given]);
+        self.left = &self.left[given..];
+        Ok(given)
+    }
+}
+
+impl Write for Trickle<'_> {
+    fn write(&mut self, buf: &[u8]) -> io::Result<usize> {
+        self.wait()?;
+        let taken = buf.len().min(1);
+        if self.taken.try_extend_from_slice(&buf[..taken]).is_err() {
+            return Err(io::Error::from(io::ErrorKind::Other));
+        }
+        Ok(taken)
+    }
+
+    fn flush(&mut self) -> io::Result<()> {
+        self.wait()?;
+        self.flushes = self.flushes.saturating_add(1);
+        Ok(())
     }
 }

@@ -1,15 +1,15 @@
-//! What a board answers on the line, and what is written of it where a call fails.
+//! What a board answers on the line.
 
 use crate::tests::START;
-use crate::tests::devices::{Broken, Lender, Recorder};
-use crate::{Bytes, Device, RunFault, serve};
+use crate::tests::devices::{Lender, Recorder};
+use crate::{RunFault, serve};
 use dgt_board::{Board, Identity};
 use dgt_message::{Clock, Reading, Status, Times};
 use dgt_values::{Body, Position, SevenBit};
 use std::process::Abort;
 use std::test::Fail;
 
-const VERSION: &[u8] = &[0x93, 0x00, 0x05, 0x01, 0x03];
+pub const SERIAL: &[u8] = &[0x91, 0x00, 0x08, 0x30, 0x30, 0x30, 0x30, 0x31];
 
 const LONG_SERIAL: &[u8] = &[
     0xa2, 0x00, 0x0d, 0x30, 0x30, 0x30, 0x30, 0x30, 0x30, 0x30, 0x30, 0x30, 0x31,
@@ -22,7 +22,16 @@ const TEXT: &[u8] = &[
 
 const TEXT_TAKEN: &[u8] = &[0x8d, 0x00, 0x0a, 0x0a, 0x10, 0x0c, 0x0a, 0x00, 0x00, 0x00];
 
-const ZERO_TIMES: &[u8] = &[0x8d, 0x00, 0x0a, 0x00, 0x00, 0x00, 0x00, 0x00, 0x00, 0x00];
+pub const TRADEMARK: &[u8] = &[
+    0x92, 0x00, 0x12, 0x53, 0x49, 0x4d, 0x55, 0x4c, 0x41, 0x54, 0x45, 0x44, 0x20, 0x42, 0x4f, 0x41,
+    0x52, 0x44,
+];
+
+pub const VERSION: &[u8] = &[0x93, 0x00, 0x05, 0x01, 0x03];
+
+pub const BATTERY: &[u8] = &[0xa0, 0x00, 0x04, 0x64];
+
+pub const ZERO_TIMES: &[u8] = &[0x8d, 0x00, 0x0a, 0x00, 0x00, 0x00, 0x00, 0x00, 0x00, 0x00];
 
 // Serial, trademark, version, battery and the version of the clock.
 const QUESTIONS: &[u8] = &[0x45, 0x47, 0x4d, 0x4c, 0x2b, 0x03, 0x03, 0x09, 0x00];
@@ -36,11 +45,8 @@ const REPLIES: &[u8] = &[
     0x8d, 0x00, 0x0a, 0x0a, 0x10, 0x09, 0x0a, 0x14, 0x00, 0x00,
 ];
 
-// Where the replies end.
-const ENDS: [usize; 5] = [8, 26, 31, 35, 45];
-
-// A board with the starting position and a clock at zero.
-fn new_board() -> Result<Board, Fail> {
+/// A board with the starting position and a clock at zero.
+pub fn new_board() -> Result<Board, Fail> {
     let zero = Reading::new(0, 0, 0, 0)?;
     let status = Status::new(SevenBit::try_from(0)?);
     let digit = SevenBit::try_from(b'0')?;
@@ -103,7 +109,8 @@ fn sends_before_it_reads(rt: HostRuntime) -> Result<(), Fail> {
     for limit in [0, 1] {
         let mut board = new_board()?;
         board.take(&[0x4d])?;
-        let mut source = Lender::failing(&[], 1, 1);
+        let mut source = Lender::new(&[], 1);
+        source.fails_at = 1;
         let mut sink = Recorder::new();
         let fault = if limit == 0 {
             RunFault::TooManyTurns
@@ -118,101 +125,5 @@ fn sends_before_it_reads(rt: HostRuntime) -> Result<(), Fail> {
         assert_eq!(rt; sink.taken(), VERSION);
         assert!(rt; sink.flushed);
     }
-    Ok(())
-}
-
-#[test]
-fn a_limit_of_reads(rt: HostRuntime) -> Result<(), Fail> {
-    for limit in 0..3 {
-        let mut source = Lender::new(&[0x4d, 0x4d, 0x4d], 1);
-        let mut sink = Recorder::new();
-        assert_eq!(rt;
-            serve(&mut new_board()?, &mut source, &mut sink, limit),
-            Err(RunFault::TooManyTurns)
-        );
-        assert_eq!(rt; source.reads, limit as u64);
-        assert_eq!(rt; sink.taken().len(), limit as usize * VERSION.len());
-    }
-    Ok(())
-}
-
-#[test]
-fn a_read_that_fails(rt: HostRuntime) -> Result<(), Fail> {
-    let mut board = new_board()?;
-    let mut source = Lender::failing(&[0x42, 0x2b, 0x04], 64, 2);
-    let mut sink = Recorder::new();
-    assert_eq!(rt;
-        serve(&mut board, &mut source, &mut sink, 10),
-        Err(RunFault::ReadFailed)
-    );
-    assert_eq!(rt; sink.taken(), START);
-    assert_eq!(rt; board.partial(), 2);
-    Ok(())
-}
-
-#[test]
-fn a_flush_that_fails(rt: HostRuntime) -> Result<(), Fail> {
-    let mut source = Lender::new(&[0x4d, 0x4d], 1);
-    let mut sink = Recorder::new();
-    sink.flush_fails_at = 2;
-    assert_eq!(rt;
-        serve(&mut new_board()?, &mut source, &mut sink, 10),
-        Err(RunFault::WriteFailed)
-    );
-    assert_eq!(rt; sink.taken(), VERSION);
-    assert_eq!(rt; source.reads, 1);
-    Ok(())
-}
-
-#[test]
-fn a_sink_that_is_full(rt: HostRuntime) -> Result<(), Fail> {
-    for room in 0..REPLIES.len() {
-        let mut board = new_board()?;
-        // what is asked is owed from the start
-        for question in [
-            &QUESTIONS[..1],
-            &QUESTIONS[1..2],
-            &QUESTIONS[2..3],
-            &QUESTIONS[3..4],
-            &QUESTIONS[4..],
-        ] {
-            board.take(question)?;
-        }
-        let mut sink = Recorder::new();
-        sink.room = room;
-        assert_eq!(rt;
-            serve(&mut board, &mut Bytes::new(&[]), &mut sink, 10),
-            Err(RunFault::WriteFailed)
-        );
-        assert_eq!(rt; sink.taken(), &REPLIES[..room]);
-        // of the replies that are not whole the board has sent one
-        let torn = ENDS.iter().filter(|end| **end > room).count();
-        assert_eq!(rt; board.owed_len(), torn.saturating_sub(1));
-    }
-    Ok(())
-}
-
-#[test]
-fn readers_and_writers_of_std(rt: HostRuntime) -> Result<(), Fail> {
-    let mut board = new_board()?;
-    let question = [0x4d];
-    let mut sink = Recorder::new();
-    assert_eq!(rt;
-        serve(
-            &mut board,
-            &mut Device::new(question.as_slice()),
-            &mut sink,
-            10
-        ),
-        Ok(())
-    );
-    assert_eq!(rt; sink.taken(), VERSION);
-    let answer = serve(
-        &mut board,
-        &mut Bytes::new(&question),
-        &mut Device::new(Broken),
-        10,
-    );
-    assert_eq!(rt; answer, Err(RunFault::WriteFailed));
     Ok(())
 }

@@ -1,4 +1,4 @@
-//! Scripts that are played, over sources and sinks that fail.
+//! Scripts that are played.
 
 use crate::tests::devices::{Lender, Recorder};
 use crate::{Bytes, RunFault, simulate};
@@ -10,14 +10,14 @@ use std::alloc::Global;
 use std::process::Abort;
 use std::test::Fail;
 
-const NEW_LINES: &[u8] =
+pub const NEW_LINES: &[u8] =
     b"board rnbqkbnr/pppppppp/8/8/8/8/PPPPPPPP/RNBQKBNR\nhost unknown\nhostclock unknown\nquiet yes\n";
 
 const TWO_SENDS: &[u8] =
     b"nothing\nnothing\nboard rnbqkbnr/pppppppp/8/8/8/8/PPPPPPPP/RNBQKBNR\nhost unknown\nhostclock unknown\nquiet yes\n";
 
-// A world with the starting position, a clock that shows zeros, and lines of 67 and 257 bytes.
-fn new_world(alloc: Global) -> Result<World, Fail> {
+/// A world with the starting position, a clock that shows zeros, and lines of 67 and 257 bytes.
+pub fn new_world(alloc: Global) -> Result<World, Fail> {
     let reading = Reading::new(0, 0, 0, 0)?;
     let status = Status::new(SevenBit::try_from(0)?);
     let clock = Clock::Times(Times::new(reading, reading, status)?);
@@ -168,124 +168,5 @@ fn a_write_for_each_outcome_and_a_flush_for_each_piece(rt: HostRuntime) -> Resul
     );
     assert_eq!(rt; sink.writes, 3);
     assert_eq!(rt; sink.flushes, 2);
-    Ok(())
-}
-
-#[test]
-fn each_read_fails(rt: HostRuntime) -> Result<(), Fail> {
-    let rows: [(&[u8], &[u8]); 3] = [
-        (b"send\nsen", b"nothing\n"),
-        (b"sned", b""),
-        (b"send\nsend\n", b"nothing\nnothing\n"),
-    ];
-    for (script, lines) in rows {
-        let mut world = new_world(rt.alloc())?;
-        let mut source = Lender::failing(script, 64, 2);
-        let mut sink = Recorder::new();
-        assert_eq!(rt;
-            simulate(&mut world, &mut source, &mut sink, 10),
-            Err(RunFault::ReadFailed)
-        );
-        assert_eq!(rt; source.reads, 2);
-        assert_eq!(rt; sink.taken(), lines);
-        assert!(rt; sink.flushed);
-    }
-    Ok(())
-}
-
-#[test]
-fn each_write_and_each_flush_fails(rt: HostRuntime) -> Result<(), Fail> {
-    let script = b"send\nsend\n";
-    let rows: [(u64, &[u8]); 3] = [(1, b""), (2, b"nothing\n"), (3, b"nothing\nnothing\n")];
-    for (at, lines) in rows {
-        let mut world = new_world(rt.alloc())?;
-        let mut sink = Recorder::new();
-        sink.write_fails_at = at;
-        assert_eq!(rt;
-            simulate(&mut world, &mut Lender::new(script, 5), &mut sink, 10),
-            Err(RunFault::WriteFailed)
-        );
-        assert_eq!(rt; sink.taken(), lines);
-        assert_eq!(rt; sink.writes, at);
-    }
-    let rows: [(u64, &[u8]); 3] = [
-        (1, b"nothing\n"),
-        (2, b"nothing\nnothing\n"),
-        (3, TWO_SENDS),
-    ];
-    for (at, lines) in rows {
-        let mut world = new_world(rt.alloc())?;
-        let mut source = Lender::new(script, 5);
-        let mut sink = Recorder::new();
-        sink.flush_fails_at = at;
-        assert_eq!(rt;
-            simulate(&mut world, &mut source, &mut sink, 10),
-            Err(RunFault::WriteFailed)
-        );
-        assert_eq!(rt; sink.taken(), lines);
-        assert_eq!(rt; source.reads, at);
-    }
-    Ok(())
-}
-
-#[test]
-fn a_flush_that_fails_before_a_bad_line(rt: HostRuntime) -> Result<(), Fail> {
-    for (script, at) in [
-        (b"send\nsned\n".as_slice(), 1),
-        (b"send\nsned".as_slice(), 2),
-    ] {
-        let mut world = new_world(rt.alloc())?;
-        let mut sink = Recorder::new();
-        sink.flush_fails_at = at;
-        assert_eq!(rt;
-            simulate(&mut world, &mut Bytes::new(script), &mut sink, 10),
-            Err(RunFault::WriteFailed)
-        );
-        assert_eq!(rt; sink.taken(), b"nothing\n".as_slice());
-        assert_eq!(rt; sink.flushes, at);
-    }
-    Ok(())
-}
-
-#[test]
-fn a_sink_that_is_full(rt: HostRuntime) -> Result<(), Fail> {
-    for room in 0..TWO_SENDS.len() {
-        let mut world = new_world(rt.alloc())?;
-        let mut sink = Recorder::new();
-        sink.room = room;
-        assert_eq!(rt;
-            simulate(&mut world, &mut Bytes::new(b"send\nsend\n"), &mut sink, 10),
-            Err(RunFault::WriteFailed)
-        );
-        assert_eq!(rt; sink.taken(), &TWO_SENDS[..room]);
-    }
-    Ok(())
-}
-
-#[test]
-fn a_limit_of_reads(rt: HostRuntime) -> Result<(), Fail> {
-    for limit in 0..11 {
-        let mut world = new_world(rt.alloc())?;
-        let mut source = Lender::new(b"send\nsend\n", 1);
-        let mut sink = Recorder::new();
-        assert_eq!(rt;
-            simulate(&mut world, &mut source, &mut sink, limit),
-            Err(RunFault::TooManyTurns)
-        );
-        assert_eq!(rt; source.reads, limit as u64);
-        assert_eq!(rt; sink.taken(), &TWO_SENDS[..8 * (limit as usize / 5)]);
-    }
-    let mut world = new_world(rt.alloc())?;
-    let mut sink = Recorder::new();
-    assert_eq!(rt;
-        simulate(
-            &mut world,
-            &mut Lender::new(b"send\nsend\n", 1),
-            &mut sink,
-            11
-        ),
-        Ok(())
-    );
-    assert_eq!(rt; sink.taken(), TWO_SENDS);
     Ok(())
 }
