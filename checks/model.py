@@ -11,11 +11,11 @@ LETTERS = ".PRNBKQprnbkqXYZ"
 START = "rnbqkbnr/pppppppp/8/8/8/8/PPPPPPPP/RNBQKBNR"
 
 # Codes of messages, and the size of the body where a code has but one.
-DUMP, CLOCK, FIELD, SERIAL, TRADEMARK, VERSION, BATTERY = 0x06, 0x0D, 0x0E, 0x11, 0x12, 0x13, 0x20
+DUMP, CLOCK, FIELD, SERIAL, TRADEMARK, VERSION, BATTERY, LONG_SERIAL = 0x06, 0x0D, 0x0E, 0x11, 0x12, 0x13, 0x20, 0x22
 SIZES = {DUMP: 64, CLOCK: 7, FIELD: 2, SERIAL: 5, VERSION: 2}
 
 # The commands of one byte: those that ask for a message, with its code, and those that set the mode.
-REPLIES = {0x41: CLOCK, 0x42: DUMP, 0x45: SERIAL, 0x47: TRADEMARK, 0x4C: BATTERY, 0x4D: VERSION}
+REPLIES = {0x41: CLOCK, 0x42: DUMP, 0x45: SERIAL, 0x47: TRADEMARK, 0x4C: BATTERY, 0x4D: VERSION, 0x55: LONG_SERIAL}
 IDLE, UPDATE, UPDATE_BOARD, UPDATE_NICE = MODES = 0x40, 0x43, 0x44, 0x4B
 # The first bytes of the commands of several bytes.
 CLOCK_MESSAGE, LIGHTS = 0x2B, 0x60
@@ -23,7 +23,7 @@ CLOCK_VERSION_ID = 0x09
 
 # What the program's board is.
 FIRST_CLOCK = bytes(7)
-BODIES = {SERIAL: b"00001", TRADEMARK: b"SIMULATED BOARD", VERSION: bytes([1, 3]), BATTERY: bytes([0x64])}
+BODIES = {SERIAL: b"00001", TRADEMARK: b"SIMULATED BOARD", VERSION: bytes([1, 3]), BATTERY: b"\x64", LONG_SERIAL: b"0000000001"}
 CLOCK_VERSION = 0x14
 MOST_OWED = 8
 MOST_AWAITED = 16
@@ -125,7 +125,7 @@ def message_text(code, body):
         return f"refused {code:02x} {text}" if text.startswith("bad") else text
     if code == VERSION:
         return f"version {body[0]}.{body[1]}"
-    names = {SERIAL: "serial", TRADEMARK: "trademark", BATTERY: "battery"}
+    names = {SERIAL: "serial", TRADEMARK: "trademark", BATTERY: "battery", LONG_SERIAL: "longserial"}
     return f"{names.get(code, f'other {code:02x}')} {hexadecimal(body)}"
 
 
@@ -225,6 +225,13 @@ class Board:
     def hand_clock(self, clock):
         self.clock = clock
         self.owes_times = self.mode == UPDATE or self.mode == UPDATE_NICE and self.told_clock != clock
+
+    def line_lost(self):
+        self.mode = IDLE
+        self.told_squares, self.told_clock = list(self.squares), None
+        self.owes_times = False
+        self.owed = []
+        self.reader = CommandReader()
 
     def take(self, byte):
         command = self.reader.take(byte)
@@ -354,6 +361,20 @@ class World:
         del self.up[:count]
         return "done"
 
+    def line_breaks(self):
+        self.up.clear()
+        self.down.clear()
+        self.board.line_lost()
+        self.host = Host()
+        return "done"
+
+    def host_breaks(self):
+        self.up.clear()
+        self.host = Host()
+        self.down[:] = bytes(255) + b"\x44\x42"
+        self.host.awaited.append(DUMP)
+        return "done"
+
     def is_quiet(self):
         unread = self.up or self.down or self.host.decoder.unfinished or self.board.reader.unfinished
         return not unread and self.board.next_message() is None
@@ -406,6 +427,8 @@ ACTS = {
     b"send": (World.board_sends, []),
     b"toboard": (World.to_board, [read_count]),
     b"tohost": (World.to_host, [read_count]),
+    b"break": (World.line_breaks, []),
+    b"hostbreak": (World.host_breaks, []),
 }
 
 

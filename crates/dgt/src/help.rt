@@ -14,6 +14,7 @@ macro_rules! with_lines {
   trademark BYTES         the trademark
   version MAIN.SUB        the version of the board
   battery BYTES           the state of the battery
+  longserial BYTES        the long serial number
   other CODE BYTES        a message of another kind
   refused CODE FAULT      a message whose body says nothing
   cut N                   N bytes of a message, cut off by the next one
@@ -46,6 +47,9 @@ The five bytes 8e 00 05 24 01 are one message: a white pawn now stands on e4.
   $ printf '\\x4d' | dgt board | dgt monitor
   00000005 version 1.3
 The byte 4d is the command that asks for the version of the board.
+
+A failure is told on standard error, and by the exit status. That nobody reads
+standard output any more is one: 'dgt: write failed', status 1.
 
 'dgt show --help' and so on tell the rest of each command.";
 
@@ -87,11 +91,12 @@ Example:
   $ printf '\\x8e\\x00\\x05\\x24\\x01' | dgt monitor
   00000005 field e4 P
 
-Example of a board on a serial port, which is asked for all squares (42) and for
-each change from then on (44). Ctrl-C ends it.
+Example of a board on a serial port. 255 zeros end what another program may have
+begun to ask of it; then it is asked for each change from now on (44, which is
+the letter D) and for all squares (42, the letter B). Ctrl-C ends it.
   $ stty -F /dev/ttyUSB0 9600 raw -echo
   $ exec 3<>/dev/ttyUSB0
-  $ printf '\\x42\\x44' >&3
+  $ { head -c 255 /dev/zero; printf DB; } >&3
   $ dgt monitor <&3
   00000067 dump rnbqkbnr/pppppppp/8/8/8/8/PPPPPPPP/RNBQKBNR
   00000072 field e2 .
@@ -131,6 +136,7 @@ The commands, in hexadecimal, and what they ask for:
   4b      as 43
   4c      the state of the battery, one byte 64
   4d      the version, 1.3
+  55      the long serial number, 0000000001
   2b ..   a message for the clock: size, 03, id, payload, 00. It is
           acknowledged, with the version 1.4 of the clock where the id is 09
   60 ..   lights: size, and so many bytes. They are passed over
@@ -179,6 +185,12 @@ The acts:
                        there are fewer, or as many as until it owes 8 answers
   tohost N             N of the bytes sent there come to the host, or all if
                        there are fewer
+  break                the line is cut, and both ends know it: all bytes on
+                       their way are lost, the host forgets its picture, and
+                       the board tells no change until it is asked to again
+  hostbreak            the line is cut, and only the host knows it: all bytes
+                       on their way are lost, and the host, which forgets its
+                       picture, sends 255 zeros, 44 and 42 to begin anew
 
 Words have one space between them. HEX is two digits a byte. N is 1 to 65535.
 

@@ -3,7 +3,7 @@ use crate::command_line::Task;
 use crate::fault::Fault;
 use crate::{command_line, simulated};
 use dgt_board::Board;
-use dgt_link::World;
+use dgt_link::{World, WorldFault};
 use dgt_text::{Bytes, Device, RunFault, monitor, serve, simulate};
 use dgt_values::Position;
 use hex::FromHexError;
@@ -38,40 +38,60 @@ fn run<I: Read + Drop, O: Write + Drop>(
     input: I,
     mut output: O,
 ) -> Result<(), Fault> {
-    let mut reader = Device::new(input);
     match command_line::read(alloc, words)? {
-        Task::Help(text) => write_help(&text, &mut output)?,
-        Task::Show { word } => {
-            let bytes = decode(alloc, word)?;
-            let mut shown = Bytes::new(bytes.as_slice());
-            monitor(&mut shown, &mut Device::new(output), MOST_TURNS)?;
-        }
-        Task::Monitor => monitor(&mut reader, &mut Device::new(output), MOST_TURNS)?,
-        Task::Board { placement } => {
-            let position = Position::parse_placement(placement)?;
-            let mut board = Board::new(position, simulated::clock(), simulated::identity());
-            serve(
-                &mut board,
-                &mut reader,
-                &mut Device::new(output),
-                MOST_TURNS,
-            )?;
-        }
+        Task::Help(text) => Ok(write_help(&text, &mut output)?),
+        Task::Show { word } => show(alloc, word, output),
+        Task::Monitor => show_input(input, output),
+        Task::Board { placement } => answer(placement, input, output),
         Task::Simulate {
             placement,
             up,
             down,
-        } => {
-            let mut world = make_world(alloc, placement, up, down)?;
-            simulate(
-                &mut world,
-                &mut reader,
-                &mut Device::new(output),
-                MOST_TURNS,
-            )?;
-        }
+        } => play(alloc, placement, up, down, input, output),
     }
-    Ok(())
+}
+
+// Each task has room of its own on the stack, and is not inlined. Room for all of them at once is more than a process
+// has from its start, and where the address space is limited, a stack that can't grow ends the process by a signal.
+
+#[inline(never)]
+fn show<O: Write + Drop>(alloc: Global, word: &str, output: O) -> Result<(), Fault> {
+    let bytes = decode(alloc, word)?;
+    let mut shown = Bytes::new(bytes.as_slice());
+    Ok(monitor(&mut shown, &mut Device::new(output), MOST_TURNS)?)
+}
+
+#[inline(never)]
+fn show_input<I: Read + Drop, O: Write + Drop>(input: I, output: O) -> Result<(), Fault> {
+    let mut output = Device::new(output);
+    Ok(monitor(&mut Device::new(input), &mut output, MOST_TURNS)?)
+}
+
+#[inline(never)]
+fn answer<I: Read + Drop, O: Write + Drop>(
+    placement: &str,
+    input: I,
+    output: O,
+) -> Result<(), Fault> {
+    let position = Position::parse_placement(placement)?;
+    let mut board = Board::new(position, simulated::clock(), simulated::identity());
+    let (mut input, mut output) = (Device::new(input), Device::new(output));
+    Ok(serve(&mut board, &mut input, &mut output, MOST_TURNS)?)
+}
+
+#[inline(never)]
+fn play<I: Read + Drop, O: Write + Drop>(
+    alloc: Global,
+    placement: &str,
+    up: u16,
+    down: u16,
+    input: I,
+    output: O,
+) -> Result<(), Fault> {
+    let position = Position::parse_placement(placement)?;
+    let mut world = new_world(alloc, position, up, down)?;
+    let (mut input, mut output) = (Device::new(input), Device::new(output));
+    Ok(simulate(&mut world, &mut input, &mut output, MOST_TURNS)?)
 }
 
 fn decode(alloc: Global, word: &str) -> Result<Vec<u8>, Fault> {
@@ -81,18 +101,11 @@ fn decode(alloc: Global, word: &str) -> Result<Vec<u8>, Fault> {
     })
 }
 
-fn make_world(alloc: Global, placement: &str, up: u16, down: u16) -> Result<World, Fault> {
-    let position = Position::parse_placement(placement)?;
+#[inline(never)]
+fn new_world(alloc: Global, position: Position, up: u16, down: u16) -> Result<World, WorldFault> {
     let (clock, identity) = (simulated::clock(), simulated::identity());
-    let world = World::new(
-        alloc,
-        position,
-        clock,
-        identity,
-        usize::from(up),
-        usize::from(down),
-    );
-    Ok(world?)
+    let (up, down) = (usize::from(up), usize::from(down));
+    World::new(alloc, position, clock, identity, up, down)
 }
 
 fn write_help<O: Write>(text: &clap::Error, output: &mut O) -> Result<(), RunFault> {

@@ -16,7 +16,8 @@ fn seven_bit(byte: u8) -> SevenBit
     SevenBit::try_from(byte).unwrap()
 }
 
-/// Its serial number, its trademark, its version 1.3, one byte of its battery, and version 1.4 of its clock.
+/// Its serial number, its trademark, its version 1.3, one byte of its battery, version 1.4 of its clock, and its long
+/// serial number.
 pub fn identity() -> Identity
     ensures { result ≡ record {
       serial = codes "00001";
@@ -25,13 +26,16 @@ pub fn identity() -> Identity
       sub = 3;
       battery = 0x64 ∷ [];
       clock_version = 0x14;
+      long_serial = codes "0000000001";
     } }
 {
     let zero = seven_bit(b'0');
     let serial = [zero, zero, zero, zero, seven_bit(b'1')];
     let trademark = Body::new(b"SIMULATED BOARD").unwrap();
+    let (main, sub) = (seven_bit(1), seven_bit(3));
     let battery = Body::new(&[0x64]).unwrap();
-    Identity::new(serial, trademark, seven_bit(1), seven_bit(3), battery, 0x14).unwrap()
+    let long_serial = Body::new(b"0000000001").unwrap();
+    Identity::new(serial, trademark, main, sub, battery, 0x14, long_serial).unwrap()
 }
 
 /// Its clock, which shows 0:00:00 for both players, and doesn't run.

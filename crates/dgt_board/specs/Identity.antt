@@ -8,6 +8,7 @@ pub record IdentityContent : Type 0 where
   pub sub : ℕ
   pub battery : List ℕ
   pub clock_version : ℕ
+  pub long_serial : List ℕ
 
 -- the bytes of a body that a board keeps
 pub record IsKeptBody (body : List ℕ) : Type 0 where

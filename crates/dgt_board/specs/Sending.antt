@@ -17,6 +17,7 @@ reply_message board (Reply.Of Kind.Serial) = Content.serial board.identity.seria
 reply_message board (Reply.Of Kind.Trademark) = carried_as KnownCode.Trademark board.identity.trademark
 reply_message board (Reply.Of Kind.Version) = Content.version board.identity.main board.identity.sub
 reply_message board (Reply.Of Kind.Battery) = carried_as KnownCode.Battery board.identity.battery
+reply_message board (Reply.Of Kind.LongSerial) = carried_as KnownCode.LongSerial board.identity.long_serial
 reply_message board Reply.Clock = clock_message board.clock
 reply_message board (Reply.Ack id version) = Content.ack (record { ack = 0x10 ∷ id ∷ version ∷ 0x00 ∷ []; status = 0x00 })
 

@@ -64,3 +64,14 @@ owed_when_handed Mode.UpdateNice told = not told
 abbrev pub after_hand_clock : BoardState → ClockState → BoardState
 after_hand_clock board clock =
     record board { clock = clock; times_owed = owed_when_handed board.mode (is_told board.told_clock clock) }
+
+-- the board after its line is lost: it is idle, has told its squares and not its clock, and owes nothing
+abbrev pub after_line_lost : BoardState → BoardState
+after_line_lost board =
+    record board {
+      mode = Mode.Idle;
+      told_squares = board.squares;
+      told_clock = None;
+      times_owed = false;
+      owed = [];
+    }

@@ -5,7 +5,7 @@ use Rattle.dgt_message.specs.ClockState.{ClockState}
 use Rattle.dgt_command.specs.Content.{EventContent}
 use Rattle.dgt_command.specs.Words.{Divides, IsPartial}
 use Rattle.dgt_board.specs.Identity.{IdentityContent}
-use Rattle.dgt_board.specs.State.{BoardState, new_board}
+use Rattle.dgt_board.specs.State.{BoardState, after_line_lost, new_board}
 use Rattle.dgt_board.specs.Effect.{effect, effects}
 
 pub record BoardView : Type 0 where
@@ -15,6 +15,10 @@ pub record BoardView : Type 0 where
 -- a board just made, which has taken no byte
 abbrev pub new_view : List Piece → ClockState → IdentityContent → BoardView
 new_view position clock identity = record { state = new_board position clock identity; partial = [] }
+
+-- the board after its line is lost, and with it the bytes of an unfinished command
+abbrev pub view_after_line_lost : BoardView → BoardView
+view_after_line_lost board = record { state = after_line_lost board.state; partial = [] }
 
 -- what holds of each board
 pub record IsBoard (board : BoardView) : Type 0 where

@@ -12,7 +12,7 @@ ghost use Rattle.dgt_command.specs.Words.{IsPartial, IsWord};
 ghost use Rattle.dgt_board.specs.State.{after_change, after_hand_clock};
 ghost use Rattle.dgt_board.specs.Sending.{left_to_send, next_message};
 ghost use Rattle.dgt_board.specs.Polls.{Polls};
-ghost use Rattle.dgt_board.specs.View.{HasTaken, IsBoard, after_bytes, new_view};
+ghost use Rattle.dgt_board.specs.View.{HasTaken, IsBoard, after_bytes, new_view, view_after_line_lost};
 
 use crate::identities::Identity;
 use crate::modes::Mode;
@@ -88,6 +88,19 @@ impl Board {
             record self.old { state = after_hand_clock self.old.state (clock_seen clock) } }
     {
         self.state.hand_clock(clock);
+    }
+
+    /// The line to the host is lost, and what was under way on it. The board keeps its squares, its clock and its
+    /// identity, and is else as new: idle, with its squares told, its clock not told, nothing owed, and no byte held
+    /// of an unfinished command.
+    ///
+    /// A change made before is so no longer to be told as a field update. A dump tells of it, which the host asks for
+    /// where it follows the board anew.
+    pub fn line_lost(&mut self)
+        ensures { self.new ≡ view_after_line_lost self.old }
+    {
+        self.framer.reset();
+        self.state.line_lost();
     }
 
     /// Uses bytes up to and including the first that completes a command or shows a fault, or the whole piece. A

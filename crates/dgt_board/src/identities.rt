@@ -10,7 +10,7 @@ use dgt_values::{Body, SevenBit};
 use std::marker::Model;
 use thiserror::Error;
 
-/// The most bytes of a trademark or of a battery body that a board keeps.
+/// The most bytes of a trademark, of a battery body or of a long serial number that a board keeps.
 pub const MAX_KEPT_BODY: usize = 64;
 
 /// A body has more than `MAX_KEPT_BODY` bytes.
@@ -18,8 +18,8 @@ pub const MAX_KEPT_BODY: usize = 64;
 #[error("a body has more than {MAX_KEPT_BODY} bytes")]
 pub struct TooLong;
 
-/// What a board tells of itself when it is asked: its serial number, its trademark, its version, its battery, and the
-/// version of its clock. It keeps its own copy of the bodies.
+/// What a board tells of itself when it is asked: its serial number, its trademark, its version, its battery, the
+/// version of its clock, and its long serial number. It keeps its own copy of the bodies.
 #[derive(Drop)]
 pub struct Identity {
     serial: [SevenBit; 5],
@@ -28,6 +28,7 @@ pub struct Identity {
     sub: SevenBit,
     battery: ArrayVec<u8, MAX_KEPT_BODY>,
     clock_version: u8,
+    long_serial: ArrayVec<u8, MAX_KEPT_BODY>,
 }
 
 impl Model for Identity {
@@ -44,9 +45,11 @@ impl Model for Identity {
       sub = number identity.sub;
       battery = identity.battery.items;
       clock_version = identity.clock_version;
+      long_serial = identity.long_serial.items;
     } };
 
-    ghost invariant = { λ identity. IsKeptBody identity.trademark.items × IsKeptBody identity.battery.items };
+    ghost invariant = { λ identity. IsKeptBody identity.trademark.items
+        × IsKeptBody identity.battery.items × IsKeptBody identity.long_serial.items };
 }
 
 // A copy of a body.
@@ -63,9 +66,9 @@ fn kept_body(body: Body<'_>) -> Result<ArrayVec<u8, MAX_KEPT_BODY>, TooLong>
 }
 
 impl Identity {
-    /// The serial number, the trademark, main and sub number of the version, the body of battery messages, and the
-    /// byte that tells the version of the clock. A trademark or a battery body of more than `MAX_KEPT_BODY` bytes is
-    /// `TooLong`.
+    /// The serial number, the trademark, main and sub number of the version, the body of battery messages, the byte
+    /// that tells the version of the clock, and the long serial number. A trademark, a battery body or a long serial
+    /// number of more than `MAX_KEPT_BODY` bytes is `TooLong`.
     pub fn new(
         serial: [SevenBit; 5],
         trademark: Body<'_>,
@@ -73,6 +76,7 @@ impl Identity {
         sub: SevenBit,
         battery: Body<'_>,
         clock_version: u8,
+        long_serial: Body<'_>,
     ) -> Result<Self, TooLong>
         ensures made { IfOk result (λ identity. identity ≡ record {
           serial = map number serial;
@@ -81,9 +85,11 @@ impl Identity {
           sub = number sub;
           battery = body_bytes battery.entry;
           clock_version = clock_version;
+          long_serial = body_bytes long_serial.entry;
         }) }
         ensures refused { IsErr result
-            ↔ (64 < length (body_bytes trademark.entry) ⊎ 64 < length (body_bytes battery.entry)) }
+            ↔ (64 < length (body_bytes trademark.entry) ⊎ 64 < length (body_bytes battery.entry)
+            ⊎ 64 < length (body_bytes long_serial.entry)) }
     {
         Ok(Identity {
             serial,
@@ -92,6 +98,7 @@ impl Identity {
             sub,
             battery: kept_body(battery)?,
             clock_version,
+            long_serial: kept_body(long_serial)?,
         })
     }
 
@@ -131,5 +138,12 @@ impl Identity {
         ensures { result ≡ self.now.clock_version }
     {
         self.clock_version
+    }
+
+    pub(crate) fn long_serial(&self) -> Body<'_>
+        ensures bytes { body_bytes result ≡ self.now.long_serial }
+        ensures short { length self.now.long_serial ≤ 64 }
+    {
+        Body::from_seven_bit(self.long_serial.as_slice())
     }
 }

@@ -114,6 +114,7 @@ impl State {
                 sub: self.identity.sub(),
             },
             Reply::Of(Kind::Battery) => Message::Battery(self.identity.battery()),
+            Reply::Of(Kind::LongSerial) => Message::LongSerial(self.identity.long_serial()),
             Reply::Clock => self.clock_message(),
             Reply::Ack { id, version } => acknowledgement(id, version),
         }

@@ -6,7 +6,7 @@ ghost use Rattle.dgt_values.specs.Square.{square_number};
 ghost use Rattle.dgt_message.specs.ClockState.{clock_seen};
 ghost use Rattle.dgt_command.specs.Content.{clock_content, command_content, event_content};
 ghost use Rattle.dgt_command.specs.Words.{clock_id};
-ghost use Rattle.dgt_board.specs.State.{new_board, after_change, after_hand_clock, follows_clock, is_told};
+ghost use Rattle.dgt_board.specs.State.{new_board, after_change, after_hand_clock, after_line_lost, follows_clock, is_told};
 ghost use Rattle.dgt_board.specs.Effect.{acknowledgements, after_command, effect};
 
 use crate::identities::Identity;
@@ -78,6 +78,17 @@ impl State {
             Mode::UpdateNice => self.is_news(clock),
         };
         self.clock = clock;
+    }
+
+    /// The line is lost: what was asked for is forgotten, and the squares count as told.
+    pub fn line_lost(&mut self)
+        ensures { state_of self.new ≡ after_line_lost (state_of self.old) }
+    {
+        self.mode = Mode::Idle;
+        self.told_squares = self.squares;
+        self.told_clock = None;
+        self.times_owed = false;
+        self.owed.clear();
     }
 
     /// The effect of what was read: a fault changes nothing.

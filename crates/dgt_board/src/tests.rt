@@ -24,11 +24,19 @@ const E2: [u8; 5] = [0x8e, 0x00, 0x05, 0x34, 0x00];
 
 const SERIAL: [u8; 8] = [0x91, 0x00, 0x08, 0x30, 0x30, 0x30, 0x30, 0x31];
 
+const LONG_SERIAL: [u8; 13] = [
+    0xa2, 0x00, 0x0d, 0x30, 0x30, 0x30, 0x30, 0x30, 0x30, 0x30, 0x30, 0x30, 0x31,
+];
+
 const ZEROS: [u8; 10] = [0x8d, 0x00, 0x0a, 0x00, 0x00, 0x00, 0x00, 0x00, 0x00, 0x00];
 
 const BEEP: [u8; 6] = [0x2b, 0x04, 0x03, 0x0b, 0x10, 0x00];
 
-fn identity(trademark: &[u8], battery: &[u8]) -> Result<Result<Identity, TooLong>, Fail> {
+fn identity(
+    trademark: &[u8],
+    battery: &[u8],
+    long_serial: &[u8],
+) -> Result<Result<Identity, TooLong>, Fail> {
     let zero = SevenBit::try_from(0x30)?;
     let serial = [zero, zero, zero, zero, SevenBit::try_from(0x31)?];
     let (main, sub) = (SevenBit::try_from(1)?, SevenBit::try_from(3)?);
@@ -39,6 +47,7 @@ fn identity(trademark: &[u8], battery: &[u8]) -> Result<Result<Identity, TooLong
         sub,
         Body::new(battery)?,
         0x14,
+        Body::new(long_serial)?,
     ))
 }
 
@@ -62,7 +71,7 @@ fn new_board() -> Result<Board, Fail> {
     Ok(Board::new(
         Position::start(),
         clock,
-        identity(b"SIMULATED BOARD", &[0x64])??,
+        identity(b"SIMULATED BOARD", &[0x64], b"0000000001")??,
     ))
 }
 
@@ -72,6 +81,7 @@ enum Step<'a> {
     Take(&'a [u8]),
     Change(&'a str, Piece),
     Hand(Clock),
+    LoseLine,
     Sends(&'a [u8]),
     IsSettled,
 }
@@ -88,6 +98,7 @@ fn play(rt: &impl Abort, board: &mut Board, steps: &[Step<'_>]) -> Result<(), Fa
             }
             Change(square, piece) => board.change(Square::parse(square)?, piece),
             Hand(clock) => board.hand_clock(clock),
+            LoseLine => board.line_lost(),
             Sends(message) => {
                 assert!(rt; board.owes());
                 assert_eq!(rt; board.poll(&mut out), Polled::Wrote(message.len()));
@@ -207,16 +218,19 @@ fn board_tells_what_it_is(rt: HostRuntime) -> Result<(), Fail> {
             Take(&[0x4d]),
             Take(&[0x4c]),
             Take(&[0x2b, 0x03, 0x03, 0x09, 0x00]),
+            Take(&[0x55]),
             Sends(&trademark),
             Sends(&[0x93, 0x00, 0x05, 0x01, 0x03]),
             Sends(&[0xa0, 0x00, 0x04, 0x64]),
             Sends(&[0x8d, 0x00, 0x0a, 0x0a, 0x10, 0x09, 0x0a, 0x14, 0x00, 0x00]),
+            Sends(&LONG_SERIAL),
             IsSettled,
         ],
     )?;
-    assert!(rt; identity(&[0x20; 64], &[0x20; 64])?.is_ok());
-    assert!(rt; identity(&[0x20; 65], &[])?.is_err());
-    assert!(rt; identity(&[], &[0x20; 65])?.is_err());
+    assert!(rt; identity(&[0x20; 64], &[0x20; 64], &[0x20; 64])?.is_ok());
+    assert_eq!(rt; identity(&[0x20; 65], &[], &[])?.err(), Some(TooLong));
+    assert_eq!(rt; identity(&[], &[0x20; 65], &[])?.err(), Some(TooLong));
+    assert_eq!(rt; identity(&[], &[], &[0x20; 65])?.err(), Some(TooLong));
     Ok(())
 }
 
@@ -239,6 +253,14 @@ fn clock_messages_are_lent_and_acknowledged(rt: HostRuntime) -> Result<(), Fail>
     let beep = board.take(&BEEP)?;
     let command = Command::ClockMessage(ClockCommand::Beep(0x10));
     assert_eq!(rt; beep.event, Some(CommandEvent::Command(command)));
+    let text = board.take(&[
+        0x2b, 0x0c, 0x03, 0x0c, 0x65, 0x34, 0x20, 0x20, 0x20, 0x20, 0x20, 0x20, 0x01, 0x00,
+    ])?;
+    let command = Command::ClockMessage(ClockCommand::Text {
+        letters: *b"e4      ",
+        beep: 0x01,
+    });
+    assert_eq!(rt; text.event, Some(CommandEvent::Command(command)));
     let raw = board.take(&[0x2b, 0x04, 0x03, 0x8b, 0x10, 0x00])?;
     let Some(CommandEvent::Command(Command::ClockMessage(ClockCommand::Raw(raw)))) = raw.event
     else {
@@ -251,6 +273,7 @@ fn clock_messages_are_lent_and_acknowledged(rt: HostRuntime) -> Result<(), Fail>
         &mut board,
         &[
             Sends(&[0x8d, 0x00, 0x0a, 0x0a, 0x10, 0x0b, 0x0a, 0x00, 0x00, 0x00]),
+            Sends(&[0x8d, 0x00, 0x0a, 0x0a, 0x10, 0x0c, 0x0a, 0x00, 0x00, 0x00]),
             Sends(&[0x8d, 0x00, 0x0a, 0x0a, 0x10, 0x0b, 0x2a, 0x00, 0x00, 0x00]),
             IsSettled,
         ],
@@ -305,6 +328,80 @@ fn eight_replies_make_it_busy(rt: HostRuntime) -> Result<(), Fail> {
     play(&rt, &mut board, &[IsSettled])
 }
 
+#[test]
+fn lost_line_leaves_the_squares_and_the_clock(rt: HostRuntime) -> Result<(), Fail> {
+    let running = times([1, 30, 0], [1, 29, 55], 0x11)?;
+    let told = [0x8d, 0x00, 0x0a, 0x01, 0x30, 0x00, 0x01, 0x29, 0x55, 0x11];
+    // a square, the times and two replies are to be told, and a command is half taken
+    let mut board = new_board()?;
+    play(
+        &rt,
+        &mut board,
+        &[
+            Take(&[0x43]),
+            Change("e2", Piece::Empty),
+            Hand(running),
+            Take(&[0x42]),
+            Take(&[0x45]),
+            Take(&[0x2b, 0x04, 0x03]),
+            LoseLine,
+            IsSettled,
+        ],
+    )?;
+    assert_eq!(rt; board.mode(), Mode::Idle);
+    assert_eq!(rt; (board.owed_len(), board.partial()), (0, 0));
+    assert_eq!(rt; board.position().get(Square::parse("e2")?), Piece::Empty);
+    assert_eq!(rt; *board.clock(), running);
+    // the change is told by a dump alone; the clock is owed again, though it was not handed in again
+    play(
+        &rt,
+        &mut board,
+        &[
+            Take(&[0x44]),
+            IsSettled,
+            Take(&[0x42]),
+            Sends(&WITHOUT_E2),
+            Take(&[0x4b]),
+            Sends(&told),
+            IsSettled,
+            LoseLine,
+            Take(&[0x4b]),
+            Sends(&told),
+            IsSettled,
+        ],
+    )?;
+    // and a change behind the break is told as ever
+    play(
+        &rt,
+        &mut new_board()?,
+        &[
+            LoseLine,
+            Take(&[0x44]),
+            Change("e2", Piece::Empty),
+            Sends(&E2),
+            IsSettled,
+        ],
+    )
+}
+
+#[test]
+fn lost_line_ends_a_busy_time(rt: HostRuntime) -> Result<(), Fail> {
+    let mut board = new_board()?;
+    play(&rt, &mut board, &[Take(&[0x42]); 8])?;
+    assert_eq!(rt; board.take(&[0x40]).err(), Some(Busy));
+    play(
+        &rt,
+        &mut board,
+        &[
+            LoseLine,
+            IsSettled,
+            Take(&[0x45]),
+            Sends(&SERIAL),
+            IsSettled,
+        ],
+    )
+}
+
 // A list of bytes, and a new board that took them: its mode, how many replies it owes, and how many
 // bytes it holds of an unfinished command. No list asks for more replies than a board may owe.
 #[derive(Clone, Copy)]
@@ -318,9 +415,11 @@ struct Row<'a> {
 // Commands of one byte, clock messages, LED frames, faults, strays, and unfinished commands.
 const ROWS: [Row<'static>; 8] = [
     Row {
-        bytes: &[0x40, 0x41, 0x42, 0x43, 0x44, 0x45, 0x47, 0x4b, 0x4c, 0x4d],
+        bytes: &[
+            0x40, 0x41, 0x42, 0x43, 0x44, 0x45, 0x47, 0x4b, 0x4c, 0x4d, 0x55,
+        ],
         mode: Mode::UpdateNice,
-        owed: 6,
+        owed: 7,
         partial: 0,
     },
     Row {

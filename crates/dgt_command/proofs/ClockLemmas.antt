@@ -56,6 +56,11 @@ eight : (xs : List ℕ) → length xs ≡ 8 → xs ≡ get_or xs 0 0 ∷ get_or 
 eight (a ∷ xs) h = ap (λ ys. a ∷ ys) (seven xs (omega arith))
 eight [] h = absurd (omega arith)
 
+-- a list of nine members, by its places
+nine : (xs : List ℕ) → length xs ≡ 9 → xs ≡ get_or xs 0 0 ∷ get_or xs 1 0 ∷ get_or xs 2 0 ∷ get_or xs 3 0 ∷ get_or xs 4 0 ∷ get_or xs 5 0 ∷ get_or xs 6 0 ∷ get_or xs 7 0 ∷ get_or xs 8 0 ∷ []
+nine (a ∷ xs) h = ap (λ ys. a ∷ ys) (eight xs (omega arith))
+nine [] h = absurd (omega arith)
+
 -- a list of no member
 none : (xs : List ℕ) → length xs ≡ 0 → xs ≡ []
 none [] h = refl
@@ -66,6 +71,7 @@ pub own_payload : (known : KnownId) (p : List ℕ) → has_size known (length p)
 own_payload KnownId.Display p h = sym (eight p (eqb-true _ _ h))
 own_payload KnownId.SetAndRun p h = sym (seven p (eqb-true _ _ h))
 own_payload KnownId.Beep p h = sym (one p (eqb-true _ _ h))
+own_payload KnownId.Text p h = sym (nine p (eqb-true _ _ h))
 own_payload KnownId.Icons p h = refl
 own_payload _ p h = sym (none p (eqb-true _ _ h))
 

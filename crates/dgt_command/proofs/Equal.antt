@@ -22,12 +22,15 @@ equal_numbers m n = search rules
 pub equal_bytes : (xs ys : List ℕ) → IsTrue (pointwise nat_eq xs ys) ↔ (xs ≡ ys)
 equal_bytes xs ys = slice_eq-Decides equal_numbers xs ys _ refl
 
--- the first three members, and the first six
+-- the first three members, the first six, and the first eight
 abbrev first_three : List ℕ → List ℕ
 first_three xs = slice_index xs 0 ∷ slice_index xs 1 ∷ slice_index xs 2 ∷ []
 
 abbrev first_six : List ℕ → List ℕ
 first_six xs = slice_index xs 0 ∷ slice_index xs 1 ∷ slice_index xs 2 ∷ slice_index xs 3 ∷ slice_index xs 4 ∷ slice_index xs 5 ∷ []
+
+abbrev first_eight : List ℕ → List ℕ
+first_eight xs = slice_index xs 0 ∷ slice_index xs 1 ∷ slice_index xs 2 ∷ slice_index xs 3 ∷ slice_index xs 4 ∷ slice_index xs 5 ∷ slice_index xs 6 ∷ slice_index xs 7 ∷ []
 
 -- a list of three members is its first three
 three : (xs : List ℕ) → length xs ≡ 3 → xs ≡ first_three xs
@@ -40,6 +43,12 @@ six : (xs : List ℕ) → length xs ≡ 6 → xs ≡ first_six xs
 six (a ∷ b ∷ c ∷ d ∷ e ∷ f ∷ []) h = refl
 six (a ∷ b ∷ c ∷ d ∷ e ∷ f ∷ g ∷ xs) h = absurd (omega arith)
 six _ h = absurd (omega arith)
+
+-- a list of eight members is its first eight
+eight : (xs : List ℕ) → length xs ≡ 8 → xs ≡ first_eight xs
+eight (a ∷ b ∷ xs) h = ap (λ ys. a ∷ b ∷ ys) (six xs (omega arith))
+eight (a ∷ []) h = absurd (omega arith)
+eight [] h = absurd (omega arith)
 
 -- the places of a display
 abbrev places_of : ClockContent → List ℕ
@@ -65,6 +74,15 @@ abbrev control_of : ClockContent → ℕ
 control_of (content.SetAndRun a b c d e f control) = control
 control_of _ = 0
 
+-- the letters of a text, and its beep
+abbrev letters_of : ClockContent → List ℕ
+letters_of (content.Text a b c d e f g h beep) = a ∷ b ∷ c ∷ d ∷ e ∷ f ∷ g ∷ h ∷ []
+letters_of _ = []
+
+abbrev beep_of : ClockContent → ℕ
+beep_of (content.Text a b c d e f g h beep) = beep
+beep_of _ = 0
+
 abbrev first : ℕ × ℕ → ℕ
 first pair = pair.0
 
@@ -85,6 +103,13 @@ same_setting left other right another control byte h k m n = (
   λ e. (three left h ∙ ap left_of e ∙ sym (three other k), (three right m ∙ ap right_of e ∙ sym (three another n), ap control_of e)),
 )
 
+-- texts say the same exactly where their parts are the same
+same_text : (letters others : List ℕ) (beep long : ℕ) → length letters ≡ 8 → length others ≡ 8 → ((letters ≡ others) × (beep ≡ long)) ↔ (clock_content (clock.Text letters beep) ≡ clock_content (clock.Text others long))
+same_text letters others beep long h k = (
+  λ parts. λ i. clock_content (clock.Text (parts.0 i) (parts.1 i)),
+  λ e. (eight letters h ∙ ap letters_of e ∙ sym (eight others k), ap beep_of e),
+)
+
 -- two clock messages are equal exactly where they say the same
 pub equal_clocks : EqualIsSameReadOf HasArrays clock_content (derived_clock.eq-value).it
 equal_clocks (clock.Display places dots beep) (clock.Display others more long) h k =
@@ -100,6 +125,10 @@ equal_clocks (clock.SetAndRun left right control) (clock.SetAndRun other another
     let same = same_setting left other right another control byte h.0 k.0 h.1 k.1 in
     (λ t. same.0 (equal.0 t), λ e. equal.1 (same.1 e))
 equal_clocks (clock.Beep a) (clock.Beep b) h k = search rules
+equal_clocks (clock.Text letters beep) (clock.Text others long) h k =
+    let equal = both _ _ (equal_bytes letters others) (equal_numbers beep long) in
+    let same = same_text letters others beep long h k in
+    (λ t. same.0 (equal.0 t), λ e. equal.1 (same.1 e))
 equal_clocks (clock.Raw a) (clock.Raw b) h k = search rules
 equal_clocks (clock.Display places dots beep) _ h k = (λ t. cc, λ e. cc)
 equal_clocks (clock.Icons a) _ h k = (λ t. cc, λ e. cc)
@@ -108,4 +137,5 @@ equal_clocks clock.Button _ h k = (λ t. cc, λ e. cc)
 equal_clocks clock.Version _ h k = (λ t. cc, λ e. cc)
 equal_clocks (clock.SetAndRun left right control) _ h k = (λ t. cc, λ e. cc)
 equal_clocks (clock.Beep a) _ h k = (λ t. cc, λ e. cc)
+equal_clocks (clock.Text letters beep) _ h k = (λ t. cc, λ e. cc)
 equal_clocks (clock.Raw a) _ h k = (λ t. cc, λ e. cc)

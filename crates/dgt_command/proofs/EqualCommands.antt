@@ -49,6 +49,7 @@ equal_commands command.Serial command.Serial h k = (λ _. refl, λ _. refl)
 equal_commands command.Trademark command.Trademark h k = (λ _. refl, λ _. refl)
 equal_commands command.Battery command.Battery h k = (λ _. refl, λ _. refl)
 equal_commands command.Version command.Version h k = (λ _. refl, λ _. refl)
+equal_commands command.LongSerial command.LongSerial h k = (λ _. refl, λ _. refl)
 equal_commands (command.ClockMessage a) (command.ClockMessage b) h k =
     let same = equal_clocks a b h k in
     (λ t. ap (λ (message : ClockContent). content.ClockMessage message) (same.0 t), λ e. same.1 (ap message_of e))

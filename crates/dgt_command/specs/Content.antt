@@ -8,7 +8,8 @@ use Rattle.dgt_command.specs.declared.command.CommandEvent.{CommandEvent}
 use Rattle.dgt_command.specs.declared.command.CommandEvent.TheVariants as event
 
 -- What a clock message asks for. A display has its places A to F, from left to right, its dots and its beep; a
--- clock is set to hours, minutes and seconds of the left and of the right, and a control byte.
+-- clock is set to hours, minutes and seconds of the left and of the right, and a control byte. A
+-- text has its eight letters, from left to right, and its beep.
 pub data ClockContent : Type 0 where
   Display : (a b c d e f dots beep : ℕ) → ClockContent
   Icons : List ℕ → ClockContent
@@ -17,6 +18,7 @@ pub data ClockContent : Type 0 where
   ClockVersion : ClockContent
   SetAndRun : (left_hours left_minutes left_seconds right_hours right_minutes right_seconds control : ℕ) → ClockContent
   Beep : ℕ → ClockContent
+  Text : (a b c d e f g h beep : ℕ) → ClockContent
   Raw : ℕ → List ℕ → ClockContent
 
 pub data CommandContent : Type 0 where
@@ -30,6 +32,7 @@ pub data CommandContent : Type 0 where
   Trademark : CommandContent
   Battery : CommandContent
   Version : CommandContent
+  LongSerial : CommandContent
   ClockMessage : ClockContent → CommandContent
   Leds : List ℕ → CommandContent
 
@@ -50,6 +53,8 @@ clock_content clock.Version = ClockVersion
 clock_content (clock.SetAndRun left right control) =
     SetAndRun (slice_index left 0) (slice_index left 1) (slice_index left 2) (slice_index right 0) (slice_index right 1) (slice_index right 2) control
 clock_content (clock.Beep duration) = Beep duration
+clock_content (clock.Text letters beep) =
+    Text (slice_index letters 0) (slice_index letters 1) (slice_index letters 2) (slice_index letters 3) (slice_index letters 4) (slice_index letters 5) (slice_index letters 6) (slice_index letters 7) beep
 clock_content (clock.Raw raw) = Raw raw.id raw.payload.bytes.now
 
 abbrev pub command_content : Command → CommandContent
@@ -63,6 +68,7 @@ command_content command.Serial = Serial
 command_content command.Trademark = Trademark
 command_content command.Battery = Battery
 command_content command.Version = Version
+command_content command.LongSerial = LongSerial
 command_content (command.ClockMessage message) = ClockMessage (clock_content message)
 command_content (command.Leds leds) = Leds leds.bytes.now
 

@@ -14,10 +14,11 @@ use Rattle.dgt_command.specs.Content.{EventContent, event_content}
 abbrev pub EqualIsSameReadOf : {T Read : Type 0} → (T → Type 0) → (T → Read) → (T → T → Bool) → Type 0
 EqualIsSameReadOf Holds read eq = (a b : _) → Holds a → Holds b → IsTrue (eq a b) ↔ (read a ≡ read b)
 
--- a display has six places, and the times that a clock is set to have three bytes each
+-- a display has six places, the times that a clock is set to have three bytes each, and a text has eight letters
 abbrev pub HasArrays : ClockCommand → Type 0
 HasArrays (clock.Display places dots beep) = length places ≡ 6
 HasArrays (clock.SetAndRun left right control) = (length left ≡ 3) × (length right ≡ 3)
+HasArrays (clock.Text letters beep) = length letters ≡ 8
 HasArrays _ = Unit {0}
 
 -- the same of the clock message that a command, an event or an answer has

@@ -10,4 +10,5 @@ kind_of_command CommandContent.Serial = Some Kind.Serial
 kind_of_command CommandContent.Trademark = Some Kind.Trademark
 kind_of_command CommandContent.Version = Some Kind.Version
 kind_of_command CommandContent.Battery = Some Kind.Battery
+kind_of_command CommandContent.LongSerial = Some Kind.LongSerial
 kind_of_command _ = None

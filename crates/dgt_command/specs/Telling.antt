@@ -4,7 +4,7 @@ use Rattle.std.specs.Option.{option_map}
 use Rattle.dgt_command.specs.declared.ids.KnownId.{KnownId}
 use Rattle.dgt_command.specs.ClockForm.{has_size}
 use Rattle.dgt_command.specs.Code.{bare_command}
-use Rattle.dgt_command.specs.Content.{command_content, ClockContent, Display, Icons, End, Button, ClockVersion, SetAndRun, Beep, Raw, CommandContent, Reset, ClockMessage, Leds}
+use Rattle.dgt_command.specs.Content.{command_content, ClockContent, Display, Icons, End, Button, ClockVersion, SetAndRun, Beep, Text, Raw, CommandContent, Reset, ClockMessage, Leds}
 use Rattle.dgt_command.specs.Id.{id_with}
 
 -- the clock message of a known id
@@ -18,6 +18,8 @@ own_case KnownId.Version p = ClockVersion
 own_case KnownId.SetAndRun p =
     SetAndRun (slice_index p 0) (slice_index p 1) (slice_index p 2) (slice_index p 3) (slice_index p 4) (slice_index p 5) (slice_index p 6)
 own_case KnownId.Beep p = Beep (slice_index p 0)
+own_case KnownId.Text p =
+    Text (slice_index p 0) (slice_index p 1) (slice_index p 2) (slice_index p 3) (slice_index p 4) (slice_index p 5) (slice_index p 6) (slice_index p 7) (slice_index p 8)
 
 -- the same of a number, where it is that of a known id that has so many bytes
 abbrev pub clock_under : Option KnownId → ℕ → List ℕ → ClockContent

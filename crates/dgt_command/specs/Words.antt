@@ -3,7 +3,7 @@ use Rattle.std.specs.Prelude.{◌≡◌, ◌≢◌, ℕ, ◌+◌, ◌<◌, ◌�
 use Rattle.std.specs.List.{AllByRecursion}
 use Rattle.dgt_command.specs.ClockForm.{has_own_case}
 use Rattle.dgt_command.specs.Code.{command_code}
-use Rattle.dgt_command.specs.Content.{ClockContent, Display, Icons, End, Button, ClockVersion, SetAndRun, Beep, Raw, CommandContent, ClockMessage, Leds, EventContent, Read, BadSize, BadStart, BadEnd, Stray}
+use Rattle.dgt_command.specs.Content.{ClockContent, Display, Icons, End, Button, ClockVersion, SetAndRun, Beep, Text, Raw, CommandContent, ClockMessage, Leds, EventContent, Read, BadSize, BadStart, BadEnd, Stray}
 use Rattle.dgt_command.specs.declared.ids.KnownId.{KnownId}
 use Rattle.dgt_command.specs.Id.{id_number}
 
@@ -19,6 +19,7 @@ clock_id Button = id_number KnownId.Button
 clock_id ClockVersion = id_number KnownId.Version
 clock_id (SetAndRun lh lm ls rh rm rs control) = id_number KnownId.SetAndRun
 clock_id (Beep duration) = id_number KnownId.Beep
+clock_id (Text a b c d e f g h beep) = id_number KnownId.Text
 clock_id (Raw id payload) = id
 
 -- the places of a display are sent C, B, A, F, E, D
@@ -30,6 +31,7 @@ payload Button = []
 payload ClockVersion = []
 payload (SetAndRun lh lm ls rh rm rs control) = lh ∷ lm ∷ ls ∷ rh ∷ rm ∷ rs ∷ control ∷ []
 payload (Beep duration) = duration ∷ []
+payload (Text a b c d e f g h beep) = a ∷ b ∷ c ∷ d ∷ e ∷ f ∷ g ∷ h ∷ beep ∷ []
 payload (Raw id carried) = carried
 
 -- a raw message has no case of its own

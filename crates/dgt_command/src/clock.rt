@@ -25,6 +25,7 @@ fn has_case(id: u8, size: usize) -> bool
         Some(KnownId::End | KnownId::Button | KnownId::Version) => size == 0,
         Some(KnownId::SetAndRun) => size == 7,
         Some(KnownId::Beep) => size == 1,
+        Some(KnownId::Text) => size == 9,
         None => false,
     }
 }
@@ -89,6 +90,11 @@ pub enum ClockCommand<'a> {
     },
     /// Beep for this duration.
     Beep(u8),
+    /// Show this text. `letters` are the eight characters from left to right, a byte each.
+    Text {
+        letters: [u8; 8],
+        beep: u8,
+    },
     /// A clock message with no case of its own.
     Raw(RawClock<'a>),
 }

@@ -22,6 +22,7 @@ pub(crate) fn command_code(command: &Command) -> u8
         Command::UpdateNice => 0x4b,
         Command::Battery => 0x4c,
         Command::Version => 0x4d,
+        Command::LongSerial => 0x55,
         Command::Leds(_) => 0x60,
     }
 }
@@ -41,6 +42,7 @@ pub(crate) fn bare_command(byte: u8) -> Option<Command<'static>>
         Command::Trademark,
         Command::Battery,
         Command::Version,
+        Command::LongSerial,
     ];
     bare_commands
         .iter()

@@ -26,6 +26,8 @@ pub enum Command<'a> {
     Battery,
     /// Send the version.
     Version,
+    /// Send the long serial number.
+    LongSerial,
     /// A message to the clock.
     ClockMessage(ClockCommand<'a>),
     /// Light these LEDs.

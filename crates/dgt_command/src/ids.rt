@@ -13,6 +13,7 @@ pub enum KnownId {
     Version = 0x09,
     SetAndRun = 0x0a,
     Beep = 0x0b,
+    Text = 0x0c,
 }
 
 const KNOWN_IDS: &[KnownId] = &[
@@ -23,6 +24,7 @@ const KNOWN_IDS: &[KnownId] = &[
     KnownId::Version,
     KnownId::SetAndRun,
     KnownId::Beep,
+    KnownId::Text,
 ];
 
 impl KnownId {

@@ -17,6 +17,7 @@ pub fn kind_of_command(command: &Command<'_>) -> Option<Kind>
         Command::Trademark => Some(Kind::Trademark),
         Command::Version => Some(Kind::Version),
         Command::Battery => Some(Kind::Battery),
+        Command::LongSerial => Some(Kind::LongSerial),
         _ => None,
     }
 }

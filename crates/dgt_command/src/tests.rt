@@ -9,7 +9,7 @@ use std::process::Abort;
 use std::test::Fail;
 
 /// The bytes of the words below, alone and in a row.
-const LISTS: [&[u8]; 32] = [
+const LISTS: [&[u8]; 34] = [
     &[],
     &[0x40],
     &[0x41],
@@ -36,6 +36,9 @@ const LISTS: [&[u8]; 32] = [
     &[
         0x2b, 0x0c, 0x03, 0x0c, 0x65, 0x34, 0x20, 0x20, 0x20, 0x20, 0x20, 0x20, 0x01, 0x00,
     ],
+    &[
+        0x2b, 0x0b, 0x03, 0x0c, 0x65, 0x34, 0x20, 0x20, 0x20, 0x20, 0x20, 0x20, 0x00,
+    ],
     &[0x60, 0x04, 0x01, 0x00, 0x40, 0x00],
     &[0x60, 0x00],
     &[0x2b, 0x02],
@@ -44,6 +47,7 @@ const LISTS: [&[u8]; 32] = [
     &[0x46],
     &[0x50],
     &[0x55],
+    &[0x56],
     &[0x40, 0x40],
     &[0x44, 0x60, 0x04, 0x01, 0x00, 0x40, 0x00, 0x42],
     &[
@@ -216,6 +220,7 @@ fn one_byte_commands_are_spelled_and_read(rt: HostRuntime) {
         (0x4b, Command::UpdateNice),
         (0x4c, Command::Battery),
         (0x4d, Command::Version),
+        (0x55, Command::LongSerial),
     ] {
         assert!(rt; is_spelled(&[byte], command), "{byte}");
     }
@@ -226,8 +231,11 @@ fn clock_messages_are_spelled_and_read(rt: HostRuntime) -> Result<(), Fail> {
     let shown = display([' ', '1', '2', ' ', '3', '4'], 0x00, 0x03)?;
     let icons = Payload::new(&[0x2b, 0x60])?;
     let beep = RawClock::new(0x8b, Payload::new(&[0x10])?)?;
-    let text = Payload::new(&[0x65, 0x34, 0x20, 0x20, 0x20, 0x20, 0x20, 0x20, 0x01])?;
-    let text = RawClock::new(0x0c, text)?;
+    let text = ClockCommand::Text {
+        letters: *b"e4      ",
+        beep: 0x01,
+    };
+    let letters = RawClock::new(0x0c, Payload::new(b"e4      ")?)?;
     let run = ClockCommand::SetAndRun {
         left: [0x01, 0x30, 0x00],
         right: [0x01, 0x30, 0x00],
@@ -266,7 +274,13 @@ fn clock_messages_are_spelled_and_read(rt: HostRuntime) -> Result<(), Fail> {
             &[
                 0x2b, 0x0c, 0x03, 0x0c, 0x65, 0x34, 0x20, 0x20, 0x20, 0x20, 0x20, 0x20, 0x01, 0x00,
             ],
-            ClockCommand::Raw(text),
+            text,
+        ),
+        (
+            &[
+                0x2b, 0x0b, 0x03, 0x0c, 0x65, 0x34, 0x20, 0x20, 0x20, 0x20, 0x20, 0x20, 0x00,
+            ],
+            ClockCommand::Raw(letters),
         ),
     ] {
         assert!(rt;
@@ -309,7 +323,7 @@ fn faults_are_told_where_they_show(rt: HostRuntime) {
         (&[0x2b, 0x03, 0x03, 0x09, 0x01], CommandEvent::BadEnd),
         (&[0x46], CommandEvent::Stray(0x46)),
         (&[0x50], CommandEvent::Stray(0x50)),
-        (&[0x55], CommandEvent::Stray(0x55)),
+        (&[0x56], CommandEvent::Stray(0x56)),
     ] {
         assert!(rt; is_read(bytes, &[(bytes.len(), fault)], 0), "{bytes:?}");
         assert!(rt; view_command(bytes).is_none(), "{bytes:?}");
@@ -369,6 +383,7 @@ fn each_refusal_comes_at_its_limit(rt: HostRuntime) -> Result<(), Fail> {
         (0x09, 0),
         (0x0a, 7),
         (0x0b, 1),
+        (0x0c, 9),
     ] {
         assert_eq!(rt;
             RawClock::new(id, Payload::new(&[0; 9][..size])?),

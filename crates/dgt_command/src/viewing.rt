@@ -56,6 +56,12 @@ fn clock_command(id: u8, carried: Payload<'_>) -> ClockCommand<'_>
             control: bytes[6],
         },
         Some(KnownId::Beep) => ClockCommand::Beep(bytes[0]),
+        Some(KnownId::Text) => ClockCommand::Text {
+            letters: [
+                bytes[0], bytes[1], bytes[2], bytes[3], bytes[4], bytes[5], bytes[6], bytes[7],
+            ],
+            beep: bytes[8],
+        },
         None => unreachable!(),
     }
 }

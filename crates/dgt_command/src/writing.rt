@@ -80,6 +80,7 @@ pub fn clock_id(message: &ClockCommand) -> u8
         ClockCommand::Version => KnownId::Version.number(),
         ClockCommand::SetAndRun { .. } => KnownId::SetAndRun.number(),
         ClockCommand::Beep(_) => KnownId::Beep.number(),
+        ClockCommand::Text { .. } => KnownId::Text.number(),
         ClockCommand::Raw(raw) => raw.id(),
     }
 }
@@ -95,6 +96,7 @@ fn payload_length(message: &ClockCommand) -> usize
         ClockCommand::End | ClockCommand::Button | ClockCommand::Version => 0,
         ClockCommand::SetAndRun { .. } => 7,
         ClockCommand::Beep(_) => 1,
+        ClockCommand::Text { .. } => 9,
         ClockCommand::Raw(raw) => raw.payload().bytes().len(),
     }
 }
@@ -121,6 +123,10 @@ fn write_payload(message: &ClockCommand, out: &mut [u8])
             out.copy_from_slice(&[a, b, c, d, e, f, *control]);
         }
         ClockCommand::Beep(duration) => out.copy_from_slice(&[*duration]),
+        ClockCommand::Text { letters, beep } => {
+            let [a, b, c, d, e, f, g, h] = *letters;
+            out.copy_from_slice(&[a, b, c, d, e, f, g, h, *beep]);
+        }
         ClockCommand::Raw(raw) => out.copy_from_slice(raw.payload().bytes()),
     }
 }

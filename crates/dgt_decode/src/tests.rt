@@ -45,7 +45,7 @@ const NO_PIECE: [u8; 67] = [
     0x02, 0x03, 0x04, 0x06, 0x05, 0x04, 0x03, 0x10,
 ];
 
-const ROWS: [Row; 18] = [
+const ROWS: [Row; 19] = [
     Row {
         bytes: &[],
         told: &[],
@@ -104,6 +104,11 @@ const ROWS: [Row; 18] = [
     Row {
         bytes: &[0x92, 0x00, 0x03],
         told: &["00000003 trademark -"],
+        rest: 0,
+    },
+    Row {
+        bytes: &[0xa2, 0x00, 0x03],
+        told: &["00000003 longserial -"],
         rest: 0,
     },
     Row {
@@ -191,6 +196,7 @@ fn message_text(alloc: Global, message: &Message<'_>) -> Result<String, AllocErr
             )
         }
         Message::Trademark(body) => format!(in alloc; "trademark {}", hex(alloc, body.bytes())?),
+        Message::LongSerial(body) => format!(in alloc; "longserial {}", hex(alloc, body.bytes())?),
         Message::Other { code, body } => {
             let bytes = hex(alloc, body.bytes())?;
             format!(in alloc; "other {:02x} {bytes}", code.get().get())

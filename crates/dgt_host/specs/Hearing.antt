@@ -1,5 +1,6 @@
 -- What messages make of a picture, of a clock and of what is awaited.
-use Rattle.std.specs.Prelude.{◌≡◌, ◌≢◌, List, [], ◌∷◌, Option, Some, None, Bool, true, false, option_map, if◌then◌else◌, slice_get, slice_set}
+use Rattle.std.specs.Prelude.{◌≡◌, ◌≢◌, List, [], ◌∷◌, Option, Some, None, Bool, option_map, if◌then◌else◌, slice_get, slice_set}
+use Rattle.dgt_values.specs.contracts.kinds.KindPartialEq.TheImpl as kinds
 use Rattle.dgt_values.specs.declared.kinds.Kind.{Kind}
 use Rattle.dgt_values.specs.declared.pieces.Piece.{Piece}
 use Rattle.dgt_message.specs.Content.{Content}
@@ -29,13 +30,9 @@ abbrev pub clock_after_all : Option ClockState → List Content → Option Clock
 clock_after_all before [] = before
 clock_after_all before (said ∷ more) = clock_after_all (clock_after before said) more
 
+-- what `==` says of two kinds: whether they are the same
 abbrev pub is_same_kind : Kind → Kind → Bool
-is_same_kind Kind.Dump Kind.Dump = true
-is_same_kind Kind.Serial Kind.Serial = true
-is_same_kind Kind.Trademark Kind.Trademark = true
-is_same_kind Kind.Version Kind.Version = true
-is_same_kind Kind.Battery Kind.Battery = true
-is_same_kind _ _ = false
+is_same_kind = (kinds.eq-value).it
 
 -- what is awaited after a message of this kind: the kind is taken off where it is the first
 abbrev pub awaited_after : List Kind → Option Kind → List Kind

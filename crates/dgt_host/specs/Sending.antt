@@ -1,5 +1,5 @@
 -- What a host answers that sends a command, and what it leaves.
-use Rattle.std.specs.Prelude.{◌≡◌, ℕ, ◌<◌, ◌≤◌, ◌&&◌, Bool, false, List, ◌++◌, length, drop, Option, is_some, option_to_list, nat_le, IsTrue, Result, Ok, Err}
+use Rattle.std.specs.Prelude.{◌≡◌, ℕ, ◌<◌, ◌≤◌, ◌&&◌, Bool, false, List, ◌++◌, length, drop, Option, is_some, replicate, option_to_list, nat_le, IsTrue, Result, Ok, Err}
 use Rattle.dgt_values.specs.declared.kinds.Kind.{Kind}
 use Rattle.dgt_command.specs.Content.CommandContent.{Dump, UpdateBoard}
 use Rattle.dgt_command.specs.Words.{spelling}
@@ -18,6 +18,10 @@ host_awaiting host kind = record host { awaited = host.awaited ++ option_to_list
 -- what a host sends to follow the board: its changes are to be told, and first the whole of it
 abbrev pub follow_bytes : List ℕ
 follow_bytes = spelling UpdateBoard ++ spelling Dump
+
+-- what a host sends to begin anew: zeros, with which any part of a command ends, and then the same
+abbrev pub restart_bytes : List ℕ
+restart_bytes = replicate 255 0 ++ follow_bytes
 
 -- Bytes are sent whose reply has this kind. They stand at the front of the slice, the rest of which
 -- is as it was, and the kind is awaited last; or one more can't be awaited, or else the slice is

@@ -1,6 +1,6 @@
 //! The host.
 
-ghost use Rattle.std.specs.Prelude.{◌≡◌, ◌<◌, ◌≤◌, ◌↔◌, ◌∷◌, [], ◌++◌, IsTrue, length, take, option_map, OnOk, Some};
+ghost use Rattle.std.specs.Prelude.{◌≡◌, ◌<◌, ◌≤◌, ◌↔◌, ◌∷◌, [], ◌++◌, IsTrue, length, replicate, take, option_map, OnOk, Some};
 ghost use Rattle.std.specs.Borrow.{sem};
 ghost use Rattle.std.specs.Io.BufRead.{Rests};
 ghost use Rattle.dgt_values.specs.Pieces.{pieces_of};
@@ -12,7 +12,7 @@ ghost use Rattle.dgt_decode.specs.Grammar.{open_message};
 ghost use Rattle.dgt_decode.specs.Feeding.{FirstEvent, event_content_if_any};
 ghost use Rattle.dgt_host.specs.Hearing.{IsUnasked};
 ghost use Rattle.dgt_host.specs.Host.{host_after, new_host};
-ghost use Rattle.dgt_host.specs.Sending.{Sends, awaits_too_many, follow_bytes};
+ghost use Rattle.dgt_host.specs.Sending.{Sends, awaits_too_many, follow_bytes, restart_bytes};
 
 use crate::hearing::{Heard, hear_event};
 use crate::sending::SendFault;
@@ -28,6 +28,9 @@ pub const MAX_AWAITED: usize = 16;
 
 /// `UpdateBoard` and `Dump`.
 const FOLLOW: [u8; 2] = [0x44, 0x42];
+
+/// So many bytes `00` complete whatever part of a command a board has, and ask for nothing.
+const SETTLING_ZEROS: usize = 255;
 
 /// What a host knows of a board, what it awaits, and the unread bytes of an unfinished message.
 #[derive(Drop)]
@@ -94,16 +97,53 @@ impl Host {
     pub fn follow(&mut self, out: &mut [u8]) -> Result<usize, SendFault>
         ensures { Sends (Some Kind.Dump) follow_bytes self.old self.new out.old out.new result }
     {
+        self.ask_for_dump(0, out)
+    }
+
+    /// Begins anew with a board that may be in the middle of a command: writes 255 bytes `00`, which
+    /// end it as a clock message, an LED frame or a fault, and then, as [`Host::follow`],
+    /// `UpdateBoard` and `Dump`, into the front of the slice, and answers 257. The dump is awaited
+    /// from then on.
+    ///
+    /// For a program that starts on a line on which another one has talked to the board.
+    ///
+    /// First `TooMany`, where 16 replies are awaited. Then `NoRoom`, where the slice is shorter
+    /// than 257.
+    pub fn restart(&mut self, out: &mut [u8]) -> Result<usize, SendFault>
+        ensures { Sends (Some Kind.Dump) restart_bytes self.old self.new out.old out.new result }
+    {
+        self.ask_for_dump(SETTLING_ZEROS, out)
+    }
+
+    // Writes so many bytes `00`, and then what asks for the updates and the whole of the board.
+    fn ask_for_dump(&mut self, zeros: usize, out: &mut [u8]) -> Result<usize, SendFault>
+        requires { zeros ≤ 255 }
+        ensures { Sends (Some Kind.Dump) (replicate zeros 0 ++ follow_bytes) self.old self.new out.old out.new result }
+    {
         if self.awaited.is_full() {
             return Err(SendFault::TooMany);
         }
-        let need = FOLLOW.len();
+        let need = zeros + FOLLOW.len();
         if out.len() < need {
             return Err(SendFault::NoRoom { need });
         }
-        out[..need].copy_from_slice(&FOLLOW);
+        out[..zeros].fill(0);
+        out[zeros..need].copy_from_slice(&FOLLOW);
         self.awaited.push(Kind::Dump);
         Ok(need)
+    }
+
+    /// The line to the board is lost, and what was under way on it. The host is as new: it knows no
+    /// picture and no clock, awaits nothing, and holds no byte of an unfinished message.
+    ///
+    /// To follow the board once the line is back, call `follow`.
+    pub fn line_lost(&mut self)
+        ensures { self.new ≡ new_host }
+    {
+        self.framer.reset();
+        self.picture = None;
+        self.clock = None;
+        self.awaited.clear();
     }
 
     fn awaits_too_many(&self, kind: Option<Kind>) -> bool

@@ -13,6 +13,14 @@ const FIELD: [u8; 5] = [0x8e, 0x00, 0x05, 0x24, 0x01];
 /// The version 1.3.
 const VERSION: [u8; 5] = [0x93, 0x00, 0x05, 0x01, 0x03];
 
+/// The serial number 00001.
+const SERIAL: [u8; 8] = [0x91, 0x00, 0x08, 0x30, 0x30, 0x30, 0x30, 0x31];
+
+/// The long serial number 0000000001.
+const LONG_SERIAL: [u8; 13] = [
+    0xa2, 0x00, 0x0d, 0x30, 0x30, 0x30, 0x30, 0x30, 0x30, 0x30, 0x30, 0x30, 0x31,
+];
+
 /// The pieces before the first move.
 const DUMP: [u8; 67] = [
     0x86, 0x00, 0x43, //
@@ -98,6 +106,35 @@ fn following(rt: HostRuntime) {
 }
 
 #[test]
+fn restarting(rt: HostRuntime) {
+    let mut host = Host::new();
+    assert_eq!(rt;
+        host.restart(&mut [0; 256]),
+        Err(SendFault::NoRoom { need: 257 })
+    );
+    assert!(rt; host.awaited().is_empty());
+    let mut out = [0xff; 258];
+    assert_eq!(rt; host.restart(&mut out), Ok(257));
+    assert_eq!(rt; &out[..255], [0; 255].as_slice());
+    assert_eq!(rt; &out[255..], [0x44, 0x42, 0xff].as_slice());
+    assert_eq!(rt; host.awaited(), [Kind::Dump].as_slice());
+}
+
+#[test]
+fn a_long_serial_that_was_asked_for(rt: HostRuntime) {
+    let mut host = Host::new();
+    let mut out = [0];
+    assert_eq!(rt; host.send(&Command::LongSerial, &mut out), Ok(1));
+    assert_eq!(rt; out, [0x55]);
+    assert_eq!(rt; host.awaited(), [Kind::LongSerial].as_slice());
+    let heard = host.hear(&LONG_SERIAL);
+    assert_eq!(rt; heard.used, 13);
+    assert!(rt; !heard.unasked);
+    assert!(rt; matches!(heard.event, Some(Event::Message(Message::LongSerial(_)))));
+    assert!(rt; host.awaited().is_empty());
+}
+
+#[test]
 fn sixteen_replies_awaited(rt: HostRuntime) {
     let mut host = host_after(&rt, &[Command::Serial; 16]);
     assert_eq!(rt; host.awaited(), [Kind::Serial; 16].as_slice());
@@ -106,6 +143,7 @@ fn sixteen_replies_awaited(rt: HostRuntime) {
         Err(SendFault::TooMany)
     );
     assert_eq!(rt; host.follow(&mut []), Err(SendFault::TooMany));
+    assert_eq!(rt; host.restart(&mut []), Err(SendFault::TooMany));
     assert_eq!(rt; host.send(&Command::Reset, &mut [0]), Ok(1));
     assert_eq!(rt; host.awaited().len(), 16);
 }
@@ -172,6 +210,30 @@ fn a_clock_in_pieces(rt: HostRuntime) {
     assert!(rt; matches!(host.clock(), Some(Clock::NoClock(_))));
 }
 
+#[test]
+fn a_lost_line_makes_it_as_new(rt: HostRuntime) {
+    let times = [0x8d, 0x00, 0x0a, 0x01, 0x30, 0x00, 0x01, 0x29, 0x55, 0x11];
+    let mut host = host_after(&rt, &[Command::Dump, Command::Version, Command::Dump]);
+    assert_eq!(rt; host.hear(&DUMP).used, 67);
+    assert_eq!(rt; host.hear(&times).used, 10);
+    // a field that is half heard
+    assert_eq!(rt; host.hear(&FIELD[..3]).used, 3);
+    host.line_lost();
+    assert!(rt; host.picture().is_none());
+    assert!(rt; host.clock().is_none());
+    assert!(rt; host.awaited().is_empty());
+    assert_eq!(rt; host.unread(), 0);
+    // what is left of the field is stray
+    let heard = host.hear(&FIELD[3..]);
+    assert_eq!(rt; heard.used, 1);
+    assert!(rt; matches!(heard.event, Some(Event::Stray(0x24))));
+    // and the host follows anew
+    assert_eq!(rt; host.follow(&mut [0; 2]), Ok(2));
+    assert!(rt; !host.hear(&DUMP).unasked);
+    assert!(rt; is_start(&host));
+    assert!(rt; host.awaited().is_empty());
+}
+
 /// What a host knows of the clock: hours, minutes and seconds of both.
 #[derive(Clone, Copy, Debug, PartialEq, Eq)]
 enum Told {
@@ -206,7 +268,7 @@ const NO_CLOCK: [u8; 10] = [0x8d, 0x00, 0x0a, 0x00, 0x00, 0x00, 0x00, 0x00, 0x00
 
 const ACK: [u8; 10] = [0x8d, 0x00, 0x0a, 0x0a, 0x10, 0x08, 0x2a, 0x00, 0x31, 0x00];
 
-const ROWS: [Row; 7] = [
+const ROWS: [Row; 8] = [
     // a field before the dump, and after it
     Row {
         asked: &[Kind::Dump],
@@ -252,11 +314,21 @@ const ROWS: [Row; 7] = [
         told: Told::Times([1, 30, 0, 1, 29, 55]),
         unread: 0,
     },
+    // two serial numbers, each under its own code
+    Row {
+        asked: &[Kind::LongSerial, Kind::Serial],
+        parts: &[&SERIAL, &LONG_SERIAL, &SERIAL, &LONG_SERIAL],
+        unasked: 2,
+        awaited: &[],
+        picture: None,
+        told: Told::Nothing,
+        unread: 0,
+    },
     // a serial number, a trademark and a battery that nobody asked for, and no clock
     Row {
         asked: &[Kind::Dump],
         parts: &[
-            &[0x91, 0x00, 0x08, 0x30, 0x30, 0x30, 0x30, 0x31],
+            &SERIAL,
             &[0x92, 0x00, 0x03],
             &[0xa0, 0x00, 0x04, 0x64],
             &TIMES,
@@ -343,6 +415,7 @@ fn host_asking(rt: &impl Abort, kinds: &[Kind]) -> Host {
             Kind::Trademark => Command::Trademark,
             Kind::Version => Command::Version,
             Kind::Battery => Command::Battery,
+            Kind::LongSerial => Command::LongSerial,
         };
         assert!(rt; host.send(&command, &mut [0]) == Ok(1));
     }

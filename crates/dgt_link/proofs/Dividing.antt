@@ -1,10 +1,12 @@
 -- How the division of a front of bytes goes on.
-use Rattle.std.proofs.Common.{◌≡◌, refl, sym, ap, ◌∙◌, ◌⊎◌, inl, inr, ℕ, List, [], ◌∷◌, ◌++◌, append_assoc}
+use Rattle.std.proofs.Common.{◌≡◌, refl, sym, ap, ◌∙◌, ◌⊎◌, inl, inr, ℕ, List, [], ◌∷◌, ◌++◌, append_assoc, rules}
 use Rattle.std.proofs.lemmas.List.{append-nil}
 use Rattle.dgt_command.specs.Content.{CommandContent, EventContent}
 use Rattle.dgt_command.specs.Words.{Divides, IsPartial, IsWord, Spells, spelling}
 use Rattle.dgt_command.specs.Laws.{DivisionsAppend, NoWordBeginsAnother}
 use Rattle.dgt_command.proofs.DivisionLemmas.{nothing_is_partial}
+use Rattle.dgt_host.specs.Sending.{follow_bytes}
+use Rattle.dgt_link.specs.Machine.{asked_anew}
 use Rattle.dgt_link.proofs.Fronts.{IsShorter, Reaches, fronts, not_empty}
 
 cons_same : (event other : EventContent) (events all : List EventContent) → event ≡ other → all ≡ events → other ∷ all ≡ event ∷ events
@@ -15,6 +17,16 @@ pub divides_command : DivisionsAppend → (bytes : List ℕ) (events : List Even
 divides_command append bytes events command divides spells =
     append bytes (spelling command) events (EventContent.Read command ∷ []) [] [] divides
     (spelling command, [], record { form = (spells.is_command, refl); are_bytes = spells.are_bytes }, sym (append-nil (spelling command)), (refl, nothing_is_partial))
+
+-- what a host asks with that begins anew is what it asks for
+pub anew_divides : Divides follow_bytes asked_anew []
+anew_divides = (
+  0x44 ∷ [],
+  0x42 ∷ [],
+  record { form = (tt, refl); are_bytes = search rules },
+  refl,
+  (0x42 ∷ [], [], record { form = (tt, refl); are_bytes = search rules }, refl, (refl, nothing_is_partial)),
+)
 
 module _ (law : NoWordBeginsAnother) where
   -- bytes begin with one word

@@ -77,6 +77,8 @@ module _ (law : EachDividesOnce) where
       let same = one_delivery count world.board board also world.down line rest delivers again in
       rw (e, f, same.0, same.1) refl
   becomes_once (ActContent.ToHost count) world one other (host, line, (is, left), e) (also, rest, (was, more), f) = rw (e, f, is, left, was, more) refl
+  becomes_once ActContent.Break world one other e f = e ∙ sym f
+  becomes_once ActContent.HostBreak world one other e f = e ∙ sym f
 
   left_once : (act : ActContent) (world one other : WorldView) (answer also : Outcome) → answer ≡ also → Step act world answer one → Step act world also other → one ≡ other
   left_once act world one other Outcome.Done Outcome.Done e first second = becomes_once act world one other first.leaves second.leaves

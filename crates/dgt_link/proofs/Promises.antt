@@ -1,6 +1,6 @@
 -- The two halves of the promise, and what each move does to them.
-use Rattle.std.proofs.Common.{IsTrue, cond, false, true, Bool, ◌≡◌, refl, sym, ap, ◌∙◌, ◌⊎◌, inl, inr, zero, suc, List, [], ◌∷◌, ◌++◌, Option, Some, None, ◌&&◌, arith}
-use Rattle.std.proofs.lemmas.List.Elements.{filter_map-append, Contains-append_left, Contains-append_cases, Contains-push}
+use Rattle.std.proofs.Common.{IsTrue, cond, false, true, Bool, ◌≡◌, ◌≢◌, refl, sym, ap, ◌∙◌, ◌⊎◌, inl, inr, zero, suc, List, [], ◌∷◌, ◌++◌, Option, Some, None, ◌&&◌, arith}
+use Rattle.std.proofs.lemmas.List.Elements.{filter_map-append, Contains-append_left, Contains-append_right, Contains-append_cases, Contains-push}
 use Rattle.std.proofs.lemmas.Bool.{cond_both, false≢true}
 use Rattle.std.specs.Prelude.{IsSome, Contains, filter_map, unwrap_or}
 use Rattle.std.specs.List.{cons_option}
@@ -12,13 +12,14 @@ use Rattle.dgt_command.specs.Content.{CommandContent, EventContent}
 use Rattle.dgt_board.specs.declared.modes.Mode.{Mode}
 use Rattle.dgt_board.specs.declared.replies.Reply.{Reply}
 use Rattle.dgt_board.specs.State.{BoardState, updates}
-use Rattle.dgt_board.specs.Effect.{command_mode, effect, replies_to}
+use Rattle.dgt_board.specs.Effect.{command_mode, effect, replies_to, effects}
 use Rattle.dgt_board.specs.Sending.{differs, field_of, reply_message}
 use Rattle.dgt_host.specs.Hearing.{picture_after, picture_after_all}
-use Rattle.dgt_link.specs.Move.{Move}
-use Rattle.dgt_link.specs.Machine.{State, after_move, after_told, after_take, after_reply, after_hear}
+use Rattle.dgt_command.specs.Words.{IsNoise, IsNoiseList}
+use Rattle.dgt_link.specs.Move.{IsHostBreak, Move}
+use Rattle.dgt_link.specs.Machine.{State, asked_anew, after_move, after_told, after_take, after_reply, after_hear}
 use Rattle.dgt_link.specs.Sound.{coming_picture}
-use Rattle.dgt_link.specs.Promise.{IsAsked, IsPromised, PictureIsComing, coming_mode, command_of_move, event_mode, last_mode, mode_after, with_command}
+use Rattle.dgt_link.specs.Promise.{IsAsked, IsPromised, PictureIsComing, coming_mode, commands_after_move, commands_anew, event_mode, last_mode, mode_after}
 use Rattle.dgt_link.proofs.Telling.{picture_after_all-append}
 
 -- ---- the mode that is coming
@@ -116,20 +117,31 @@ ask_comes seen owed down more (inr (inr asked)) = inr (inr (Contains-append_left
 pub dump_asked : (x : State) → PictureIsComing (after_move x (Move.Ask CommandContent.Dump))
 dump_asked x = inr (inr (Contains-push x.down (EventContent.Read CommandContent.Dump)))
 
--- no move ends the first half of the promise
-pub picture_keeps_coming : (x : State) (move : Move) → PictureIsComing x → PictureIsComing (after_move x move)
-picture_keeps_coming x (Move.Change square piece) coming = coming
-picture_keeps_coming x (Move.HandClock clock) coming = coming
-picture_keeps_coming x (Move.Ask command) coming = ask_comes (coming_picture x) x.board.owed x.down (EventContent.Read command ∷ []) coming
-picture_keeps_coming x Move.Take coming = take_keeps_picture x x.down refl coming
-picture_keeps_coming x Move.Reply coming = reply_keeps_picture x x.board.owed refl coming
-picture_keeps_coming x (Move.Tell square) coming =
+pub anew_is_coming : (x : State) (noise : List EventContent) (is_noise : IsNoiseList noise) → PictureIsComing (after_move x (Move.HostBreak noise is_noise))
+anew_is_coming x noise is_noise =
+    inr (inr (Contains-append_right noise asked_anew (EventContent.Read CommandContent.Dump) (1, omega arith, refl)))
+
+-- only a break ends the first half of the promise
+pub picture_keeps_coming : (x : State) (move : Move) → move ≢ Move.Break → PictureIsComing x → PictureIsComing (after_move x move)
+picture_keeps_coming x (Move.Change square piece) other coming = coming
+picture_keeps_coming x (Move.HandClock clock) other coming = coming
+picture_keeps_coming x (Move.Ask command) other coming = ask_comes (coming_picture x) x.board.owed x.down (EventContent.Read command ∷ []) coming
+picture_keeps_coming x Move.Take other coming = take_keeps_picture x x.down refl coming
+picture_keeps_coming x Move.Reply other coming = reply_keeps_picture x x.board.owed refl coming
+picture_keeps_coming x (Move.Tell square) other coming =
     cond_both (updates x.board.mode && differs x.board square) (after_told x (field_of x.board square)) x PictureIsComing
     (λ h. sent_comes x.picture x.up (field_of x.board square) x.board.owed x.down coming) (λ h. coming)
-picture_keeps_coming x Move.TellClock coming =
+picture_keeps_coming x Move.TellClock other coming =
     cond_both x.board.times_owed (after_told x (clock_message x.board.clock)) x PictureIsComing
     (λ h. sent_comes x.picture x.up (clock_message x.board.clock) x.board.owed x.down coming) (λ h. coming)
-picture_keeps_coming x Move.Hear coming = hear_keeps_picture x x.up refl coming
+picture_keeps_coming x Move.Hear other coming = hear_keeps_picture x x.up refl coming
+picture_keeps_coming x Move.Break other coming = absurd (other refl)
+picture_keeps_coming x (Move.HostBreak noise is_noise) other coming = anew_is_coming x noise is_noise
+
+pub break_ends : (x : State) → ¬ (PictureIsComing (after_move x Move.Break))
+break_ends x (inl known) = false≢true known
+break_ends x (inr (inl owed)) = nothing_contained (Reply.Of Kind.Dump) owed
+break_ends x (inr (inr asked)) = nothing_contained (EventContent.Read CommandContent.Dump) asked
 
 -- ---- the second half: the mode that is coming
 
@@ -156,7 +168,24 @@ sent-mode : (x : State) (message : Content) (test : Bool) → coming_mode (cond 
 sent-mode x message true = refl
 sent-mode x message false = refl
 
--- the mode that is coming is that of the last command that sets one
+noise-mode : (event : EventContent) → IsNoise event → event_mode event ≡ None
+noise-mode (EventContent.Read (CommandContent.ClockMessage message)) h = refl
+noise-mode (EventContent.Read (CommandContent.Leds leds)) h = refl
+noise-mode (EventContent.Read _) h = absurd h
+noise-mode EventContent.BadSize h = refl
+noise-mode EventContent.BadStart h = refl
+noise-mode EventContent.BadEnd h = refl
+noise-mode (EventContent.Stray byte) h = refl
+
+noise-modes : (noise : List EventContent) → IsNoiseList noise → filter_map event_mode noise ≡ []
+noise-modes [] h = refl
+noise-modes (event ∷ rest) h = ap (λ (mode : Option Mode). cons_option mode (filter_map event_mode rest)) (noise-mode event h.0) ∙ noise-modes rest h.1
+
+anew-mode : (x : State) (noise : List EventContent) (is_noise : IsNoiseList noise) → coming_mode (after_move x (Move.HostBreak noise is_noise)) ≡ Mode.UpdateBoard
+anew-mode x noise is_noise =
+    ap (last_mode x.board.mode) (filter_map-append event_mode noise _ ∙ ap (λ (modes : List Mode). modes ++ Mode.UpdateBoard ∷ []) (noise-modes noise is_noise))
+
+-- the mode that is coming is that of the last command that sets one, or that of a break
 pub move-mode : (x : State) (move : Move) → coming_mode (after_move x move) ≡ mode_after (coming_mode x) move
 move-mode x (Move.Change square piece) = refl
 move-mode x (Move.HandClock clock) = refl
@@ -166,6 +195,8 @@ move-mode x Move.Reply = reply-mode x x.board.owed
 move-mode x (Move.Tell square) = sent-mode x (field_of x.board square) (updates x.board.mode && differs x.board square)
 move-mode x Move.TellClock = sent-mode x (clock_message x.board.clock) x.board.times_owed
 move-mode x Move.Hear = hear-mode x x.up
+move-mode x Move.Break = refl
+move-mode x (Move.HostBreak noise is_noise) = anew-mode x noise is_noise
 
 -- ---- what was asked for, and what it promises
 
@@ -192,28 +223,40 @@ ask_keeps commands x command keeps h = go (Contains-append_cases commands (comma
     new (inr none) = absurd (nothing_contained CommandContent.Dump none)
 
     go : Contains commands CommandContent.Dump ⊎ Contains (command ∷ []) CommandContent.Dump → PictureIsComing (after_move x (Move.Ask command))
-    go (inl before) = picture_keeps_coming x (Move.Ask command) (keeps.picture before)
+    go (inl before) = picture_keeps_coming x (Move.Ask command) (λ e. cc) (keeps.picture before)
     go (inr now) = new (Contains-cons CommandContent.Dump command [] now)
 
--- a move that asks for nothing
-still_keeps : (commands : List CommandContent) (x : State) (move : Move) → mode_after (coming_mode x) move ≡ coming_mode x → Keeps commands x → Keeps commands (after_move x move)
-still_keeps commands x move same keeps =
-    record { picture = λ h. picture_keeps_coming x move (keeps.picture h); before = keeps.before; mode = move-mode x move ∙ same ∙ keeps.mode }
+asked_anew-mode : (before : Mode) (commands : List CommandContent) → last_mode before (filter_map command_mode (commands ++ commands_anew)) ≡ Mode.UpdateBoard
+asked_anew-mode before commands =
+    ap (last_mode before) (filter_map-append command_mode commands commands_anew)
+    ∙ last_mode-append before (filter_map command_mode commands) (Mode.UpdateBoard ∷ [])
 
-pub move_keeps : (commands : List CommandContent) (x : State) (move : Move) → Keeps commands x → Keeps (with_command commands (command_of_move move)) (after_move x move)
+-- a move that asks for nothing, and is no break
+still_keeps : (commands : List CommandContent) (x : State) (move : Move) → move ≢ Move.Break → mode_after (coming_mode x) move ≡ coming_mode x → Keeps commands x → Keeps commands (after_move x move)
+still_keeps commands x move other same keeps =
+    record { picture = λ h. picture_keeps_coming x move other (keeps.picture h); before = keeps.before; mode = move-mode x move ∙ same ∙ keeps.mode }
+
+pub move_keeps : (commands : List CommandContent) (x : State) (move : Move) → Keeps commands x → Keeps (commands_after_move commands move) (after_move x move)
 move_keeps commands x (Move.Ask command) keeps =
     record {
       picture = ask_keeps commands x command keeps;
       before = keeps.before;
       mode = ask-mode x command ∙ asked-mode commands command keeps.before (coming_mode x) keeps.mode;
     }
-move_keeps commands x (Move.Change square piece) keeps = still_keeps commands x (Move.Change square piece) refl keeps
-move_keeps commands x (Move.HandClock clock) keeps = still_keeps commands x (Move.HandClock clock) refl keeps
-move_keeps commands x Move.Take keeps = still_keeps commands x Move.Take refl keeps
-move_keeps commands x Move.Reply keeps = still_keeps commands x Move.Reply refl keeps
-move_keeps commands x (Move.Tell square) keeps = still_keeps commands x (Move.Tell square) refl keeps
-move_keeps commands x Move.TellClock keeps = still_keeps commands x Move.TellClock refl keeps
-move_keeps commands x Move.Hear keeps = still_keeps commands x Move.Hear refl keeps
+move_keeps commands x (Move.Change square piece) keeps = still_keeps commands x (Move.Change square piece) (λ e. cc) refl keeps
+move_keeps commands x (Move.HandClock clock) keeps = still_keeps commands x (Move.HandClock clock) (λ e. cc) refl keeps
+move_keeps commands x Move.Take keeps = still_keeps commands x Move.Take (λ e. cc) refl keeps
+move_keeps commands x Move.Reply keeps = still_keeps commands x Move.Reply (λ e. cc) refl keeps
+move_keeps commands x (Move.Tell square) keeps = still_keeps commands x (Move.Tell square) (λ e. cc) refl keeps
+move_keeps commands x Move.TellClock keeps = still_keeps commands x Move.TellClock (λ e. cc) refl keeps
+move_keeps commands x Move.Hear keeps = still_keeps commands x Move.Hear (λ e. cc) refl keeps
+move_keeps commands x Move.Break keeps = nothing_asked (after_move x Move.Break)
+move_keeps commands x (Move.HostBreak noise is_noise) keeps =
+    record {
+      picture = λ h. anew_is_coming x noise is_noise;
+      before = keeps.before;
+      mode = anew-mode x noise is_noise ∙ sym (asked_anew-mode keeps.before commands);
+    }
 
 -- a mode asked for holds whatever mode was before
 asked_from_any : (before : Mode) (modes : List Mode) → IsTrue (updates (last_mode Mode.Idle modes)) → IsTrue (updates (last_mode before modes))
@@ -226,6 +269,9 @@ keeps_promise commands x keeps asks =
       picture = keeps.picture asks.dump;
       mode = rw keeps.mode (asked_from_any keeps.before (filter_map command_mode commands) asks.mode);
     }
+
+pub anew_is_promised : (x : State) (noise : List EventContent) (is_noise : IsNoiseList noise) → IsPromised (after_move x (Move.HostBreak noise is_noise))
+anew_is_promised x noise is_noise = record { picture = anew_is_coming x noise is_noise; mode = rw (anew-mode x noise is_noise) refl }
 
 -- ---- the picture that the host comes to have
 
@@ -250,16 +296,34 @@ hear_known : (x : State) (up : List Content) → x.up ≡ up → IsSome (coming_
 hear_known x [] e known = known
 hear_known x (message ∷ rest) e known = rw e at known
 
-pub picture_stays_known : (x : State) (move : Move) → IsSome (coming_picture x) → IsSome (coming_picture (after_move x move))
-picture_stays_known x (Move.Change square piece) known = known
-picture_stays_known x (Move.HandClock clock) known = known
-picture_stays_known x (Move.Ask command) known = known
-picture_stays_known x Move.Take known = take_known x x.down known
-picture_stays_known x Move.Reply known = reply_known x x.board.owed known
-picture_stays_known x (Move.Tell square) known =
+pub picture_stays_known : (x : State) (move : Move) → move ≢ Move.Break → ¬ (IsHostBreak move) → IsSome (coming_picture x) → IsSome (coming_picture (after_move x move))
+picture_stays_known x (Move.Change square piece) other also known = known
+picture_stays_known x (Move.HandClock clock) other also known = known
+picture_stays_known x (Move.Ask command) other also known = known
+picture_stays_known x Move.Take other also known = take_known x x.down known
+picture_stays_known x Move.Reply other also known = reply_known x x.board.owed known
+picture_stays_known x (Move.Tell square) other also known =
     cond_both (updates x.board.mode && differs x.board square) (after_told x (field_of x.board square)) x (λ (y : State). IsSome (coming_picture y))
     (λ h. sent_known x (field_of x.board square) known) (λ h. known)
-picture_stays_known x Move.TellClock known =
+picture_stays_known x Move.TellClock other also known =
     cond_both x.board.times_owed (after_told x (clock_message x.board.clock)) x (λ (y : State). IsSome (coming_picture y))
     (λ h. sent_known x (clock_message x.board.clock) known) (λ h. known)
-picture_stays_known x Move.Hear known = hear_known x x.up refl known
+picture_stays_known x Move.Hear other also known = hear_known x x.up refl known
+picture_stays_known x Move.Break other also known = absurd (other refl)
+picture_stays_known x (Move.HostBreak noise is_noise) other also known = absurd (also tt)
+
+-- ---- what a board makes of it
+
+effects-append : (board : BoardState) (events more : List EventContent) → effects board (events ++ more) ≡ effects (effects board events) more
+effects-append board [] more = refl
+effects-append board (event ∷ events) more = effects-append (effect board event) events more
+
+effects-mode : (board : BoardState) (events : List EventContent) → (effects board events).mode ≡ last_mode board.mode (filter_map event_mode events)
+effects-mode board [] = refl
+effects-mode board (event ∷ events) =
+    effects-mode (effect board event) events
+    ∙ ap (λ (mode : Mode). last_mode mode (filter_map event_mode events)) (effect-mode board event)
+    ∙ last_mode-cons board.mode (event_mode event) (filter_map event_mode events)
+
+pub noise_keeps_mode : (board : BoardState) (noise : List EventContent) → IsNoiseList noise → (effects board noise).mode ≡ board.mode
+noise_keeps_mode board noise is_noise = effects-mode board noise ∙ ap (last_mode board.mode) (noise-modes noise is_noise)

@@ -18,11 +18,12 @@ use Rattle.dgt_board.specs.State.{updates}
 use Rattle.dgt_board.specs.Effect.{effect}
 use Rattle.dgt_board.specs.Sending.{differs, field_of, reply_message}
 use Rattle.dgt_host.specs.Hearing.{awaited_after}
-use Rattle.dgt_link.specs.Move.{Move}
+use Rattle.dgt_link.specs.Move.{IsHostBreak, Move}
 use Rattle.dgt_link.specs.Machine.{State, new_state, after_move, after_told, after_take, after_reply, after_hear}
 use Rattle.dgt_link.specs.Sound.{IsSound, IsExact, coming_kinds, kind_of_event, kind_of_reply}
-use Rattle.dgt_link.proofs.Subsequences.{subsequence_append, awaited_after-subsequence, awaited_exactly, one_more, moved_over}
+use Rattle.dgt_link.proofs.Subsequences.{subsequence_at_end, subsequence_append, awaited_after-subsequence, awaited_exactly, one_more, moved_over}
 use Rattle.dgt_link.proofs.Telling.{Tells, field_tells, clock_tells, reply_tells, reply_message-kind, clock_message-kind, picture_told, clock_told_of, clock_after_all-append, followed_after, handed_or_told}
+use Rattle.dgt_command.specs.Words.{IsNoise, IsNoiseList}
 use Rattle.dgt_link.proofs.Taking.{Leaves, effect-kinds, effect_followed, effect_leaves}
 
 -- the state with other replies owed
@@ -143,6 +144,25 @@ new_sound position clock identity h =
 pub new_exact : (position : List Piece) (clock : ClockState) (identity : IdentityContent) → length position ≡ 64 → IsExact (new_state position clock identity)
 new_exact position clock identity h = record { sound = new_sound position clock identity h; clock = refl; awaited = refl }
 
+noise-kind : (event : EventContent) → IsNoise event → kind_of_event event ≡ None
+noise-kind (EventContent.Read (CommandContent.ClockMessage message)) h = refl
+noise-kind (EventContent.Read (CommandContent.Leds leds)) h = refl
+noise-kind (EventContent.Read _) h = absurd h
+noise-kind EventContent.BadSize h = refl
+noise-kind EventContent.BadStart h = refl
+noise-kind EventContent.BadEnd h = refl
+noise-kind (EventContent.Stray byte) h = refl
+
+noise-kinds : (noise : List EventContent) → IsNoiseList noise → filter_map kind_of_event noise ≡ []
+noise-kinds [] h = refl
+noise-kinds (event ∷ rest) h = ap (λ (kind : Option Kind). cons_option kind (filter_map kind_of_event rest)) (noise-kind event h.0) ∙ noise-kinds rest h.1
+
+-- of what a host asks for that begins anew, a dump alone has a kind
+host_break-kinds : (x : State) (noise : List EventContent) (is_noise : IsNoiseList noise) → coming_kinds (after_move x (Move.HostBreak noise is_noise)) ≡ filter_map kind_of_reply x.board.owed ++ Kind.Dump ∷ []
+host_break-kinds x noise is_noise =
+    ap (λ (down : List Kind). filter_map kind_of_reply x.board.owed ++ down)
+    (filter_map-append kind_of_event noise _ ∙ ap (λ (kinds : List Kind). kinds ++ Kind.Dump ∷ []) (noise-kinds noise is_noise))
+
 -- ---- every move
 
 pub move_sound : (x : State) (move : Move) → IsSound x → IsSound (after_move x move)
@@ -182,22 +202,38 @@ move_sound x Move.TellClock sound =
     cond_both x.board.times_owed (after_told x (clock_message x.board.clock)) x IsSound
     (λ h. send_sound x x.board.owed (clock_message x.board.clock) (clock_tells x.board) (tell_clock_first x) sound) (λ h. sound)
 move_sound x Move.Hear sound = hear_sound x x.up refl sound
+move_sound x Move.Break sound = new_sound x.board.squares x.board.clock x.board.identity sound.squares
+move_sound x (Move.HostBreak noise is_noise) sound =
+    record {
+      squares = sound.squares;
+      told_squares = sound.told_squares;
+      picture = inl refl;
+      followed = sound.followed;
+      clock = inl refl;
+      awaited = rw (host_break-kinds x noise is_noise) (subsequence_at_end (Kind.Dump ∷ []) (filter_map kind_of_reply x.board.owed));
+    }
 
-pub move_exact : (x : State) (move : Move) → IsExact x → IsExact (after_move x move)
-move_exact x (Move.Change square piece) exact = record { sound = move_sound x (Move.Change square piece) exact.sound; clock = exact.clock; awaited = exact.awaited }
-move_exact x (Move.HandClock clock) exact = record { sound = move_sound x (Move.HandClock clock) exact.sound; clock = exact.clock; awaited = exact.awaited }
-move_exact x (Move.Ask command) exact =
+-- both ends are as new, but for the squares, the clock and the identity
+pub break_exact : (x : State) → IsSound x → IsExact (after_move x Move.Break)
+break_exact x sound = new_exact x.board.squares x.board.clock x.board.identity sound.squares
+
+pub move_exact : (x : State) (move : Move) → ¬ (IsHostBreak move) → IsExact x → IsExact (after_move x move)
+move_exact x (Move.Change square piece) other exact = record { sound = move_sound x (Move.Change square piece) exact.sound; clock = exact.clock; awaited = exact.awaited }
+move_exact x (Move.HandClock clock) other exact = record { sound = move_sound x (Move.HandClock clock) exact.sound; clock = exact.clock; awaited = exact.awaited }
+move_exact x (Move.Ask command) other exact =
     record {
       sound = move_sound x (Move.Ask command) exact.sound;
       clock = exact.clock;
       awaited = ap (λ (awaited : List Kind). awaited ++ option_to_list (kind_of_command command)) exact.awaited ∙ sym (ask-kinds x command);
     }
-move_exact x Move.Take exact = take_exact x x.down refl exact
-move_exact x Move.Reply exact = reply_exact x x.board.owed refl exact
-move_exact x (Move.Tell square) exact =
+move_exact x Move.Take other exact = take_exact x x.down refl exact
+move_exact x Move.Reply other exact = reply_exact x x.board.owed refl exact
+move_exact x (Move.Tell square) other exact =
     cond_both (updates x.board.mode && differs x.board square) (after_told x (field_of x.board square)) x IsExact
     (λ h. send_exact x x.board.owed (field_of x.board square) (field_tells x.board square) refl exact) (λ h. exact)
-move_exact x Move.TellClock exact =
+move_exact x Move.TellClock other exact =
     cond_both x.board.times_owed (after_told x (clock_message x.board.clock)) x IsExact
     (λ h. send_exact x x.board.owed (clock_message x.board.clock) (clock_tells x.board) (tell_clock_first x) exact) (λ h. exact)
-move_exact x Move.Hear exact = hear_exact x x.up refl exact
+move_exact x Move.Hear other exact = hear_exact x x.up refl exact
+move_exact x Move.Break other exact = break_exact x exact.sound
+move_exact x (Move.HostBreak noise is_noise) other exact = absurd (other tt)

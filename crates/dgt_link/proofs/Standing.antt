@@ -1,8 +1,9 @@
 -- An act leads a world that stands for a state to one that stands for a state which the machine reaches by it.
-use Rattle.std.proofs.Common.{◌≡◌, refl, sym, ap, ◌∙◌, ℕ, ◌≤◌, List, [], ◌∷◌, ◌++◌, length, take, drop, replicate, option_to_list, append_assoc}
+use Rattle.std.proofs.Common.{◌≡◌, ◌≢◌, refl, sym, ap, ◌∙◌, ℕ, ◌≤◌, List, [], ◌∷◌, ◌++◌, length, take, drop, replicate, option_to_list, append_assoc}
 use Rattle.std.proofs.lemmas.List.{append-nil, take-append-drop}
 use Rattle.std.proofs.lemmas.Grind.{flat_map-append}
 use Rattle.std.specs.List.{AllByRecursion, flat_map}
+use Rattle.std.specs.Prelude.{Contains}
 use Rattle.dgt_values.specs.declared.pieces.Piece.{Piece}
 use Rattle.dgt_values.specs.declared.kinds.Kind.{Kind}
 use Rattle.dgt_message.specs.Content.{Content, IsMessage}
@@ -10,34 +11,37 @@ use Rattle.dgt_message.specs.ClockState.{ClockState}
 use Rattle.dgt_message.specs.Spelling.{Spells, spelling}
 use Rattle.dgt_command.specs.Content.{CommandContent, EventContent}
 use Rattle.dgt_command.specs.Words.{spelling as command_spelling}
-use Rattle.dgt_command.specs.Laws.{DivisionsAppend, NoWordBeginsAnother}
+use Rattle.dgt_command.specs.Laws.{DivisionsAppend, NoWordBeginsAnother, ZerosSettleTheReader}
 use Rattle.dgt_command.proofs.DivisionLemmas.{nothing_is_partial}
 use Rattle.dgt_command.specs.Kind.{kind_of_command}
 use Rattle.dgt_board.specs.Identity.{IdentityContent}
-use Rattle.dgt_board.specs.State.{BoardState, after_change, after_hand_clock}
+use Rattle.dgt_board.specs.State.{BoardState, after_change, after_hand_clock, after_line_lost}
 use Rattle.dgt_board.specs.Effect.{effect, effects}
 use Rattle.dgt_board.specs.Sending.{after_sending, next_message}
 use Rattle.dgt_host.specs.Host.{HostView, host_after_message}
+use Rattle.dgt_host.specs.Sending.{follow_bytes}
 use Rattle.dgt_link.specs.Act.{ActContent}
 use Rattle.dgt_link.specs.declared.acts.Outcome.{Outcome}
 use Rattle.dgt_link.specs.Move.{Move}
-use Rattle.dgt_link.specs.Machine.{State, after_hear, after_move, after_moves, after_take, new_state}
+use Rattle.dgt_link.specs.Machine.{State, asked_anew, after_hear, after_move, after_moves, after_take, new_state}
 use Rattle.dgt_link.specs.Sound.{IsSound}
 use Rattle.dgt_link.specs.Stands.{AreSpelled, IsExactWorld, IsWorld, StandsFor}
 use Rattle.dgt_link.specs.Step.{Becomes, Runs, Step, with_state}
 use Rattle.dgt_link.specs.View.{WorldView, new_world}
 use Rattle.dgt_link.specs.ActMoves.{AreMovesOfAct, StandsAfterRun, StandsAfterStep}
-use Rattle.dgt_link.proofs.Dividing.{divides_command, divides_end, divides_front}
+use Rattle.dgt_link.proofs.Asking.{break_moves, run_is_other, step_is_other}
+use Rattle.dgt_link.proofs.Dividing.{anew_divides, divides_command, divides_end, divides_front}
 use Rattle.dgt_link.proofs.Hearing.{Reads, heard_front, host_after_messages}
 use Rattle.dgt_link.proofs.Runs.{moves_exact, moves_sound}
 use Rattle.dgt_link.proofs.Sending.{next_is_sent}
-use Rattle.dgt_link.proofs.Soundness.{move_sound, new_exact, new_sound}
+use Rattle.dgt_link.proofs.Soundness.{break_exact, move_sound, new_exact, new_sound}
 
 -- the laws of both readers
 pub record Grammars : Type 0 where
   pub reads : Reads
   pub divisions_append : DivisionsAppend
   pub no_word_begins_another : NoWordBeginsAnother
+  pub zeros_settle : ZerosSettleTheReader
 
 pub moves-append : (x : State) (moves more : List Move) → after_moves x (moves ++ more) ≡ after_moves (after_moves x moves) more
 moves-append x [] more = refl
@@ -244,6 +248,42 @@ module _ (laws : Grammars) where
             }),
       )
 
+  break_reaches : (world after : WorldView) (x : State) → StandsFor world x → Becomes ActContent.Break world after → Reaches ActContent.Break after x
+  break_reaches world after x stands same = (
+    Move.Break ∷ [],
+    refl,
+    rw same
+        (record {
+          sound = move_sound x Move.Break stands.sound;
+          board = ap after_line_lost stands.board;
+          picture = refl;
+          clock = refl;
+          awaited = refl;
+          up = record { are_messages = tt; in_a_row = refl };
+          down = (refl, nothing_is_partial);
+          partial = nothing_is_partial;
+        }),
+  )
+
+  host_break_reaches : (world after : WorldView) (x : State) → StandsFor world x → Becomes ActContent.HostBreak world after → Reaches ActContent.HostBreak after x
+  host_break_reaches world after x stands same =
+      let noise = laws.zeros_settle world.board.partial stands.partial in (
+        Move.HostBreak noise.0 noise.1 ∷ [],
+        (noise.0, noise.1, refl),
+        rw same
+            (record {
+              sound = move_sound x (Move.HostBreak noise.0 noise.1) stands.sound;
+              board = stands.board;
+              picture = refl;
+              clock = refl;
+              awaited = refl;
+              up = record { are_messages = tt; in_a_row = refl };
+              down = rw (append_assoc world.board.partial (replicate 255 0) follow_bytes) at
+                  (laws.divisions_append (world.board.partial ++ replicate 255 0) follow_bytes noise.0 asked_anew [] [] noise.2 anew_divides);
+              partial = stands.partial;
+            }),
+      )
+
   done_reaches : (act : ActContent) (world after : WorldView) (x : State) → StandsFor world x → Becomes act world after → Reaches act after x
   done_reaches (ActContent.Change square piece) world after x stands becomes = change_reaches world square piece after x stands becomes
   done_reaches (ActContent.ClockRead clock) world after x stands becomes = clock_reaches world clock after x stands becomes
@@ -251,6 +291,8 @@ module _ (laws : Grammars) where
   done_reaches ActContent.BoardSend world after x stands becomes = send_reaches world after x stands becomes
   done_reaches (ActContent.ToBoard count) world after x stands becomes = take_reaches world count after x stands becomes
   done_reaches (ActContent.ToHost count) world after x stands becomes = hear_reaches world count after x stands becomes
+  done_reaches ActContent.Break world after x stands becomes = break_reaches world after x stands becomes
+  done_reaches ActContent.HostBreak world after x stands becomes = host_break_reaches world after x stands becomes
 
   pub step_stands : (act : ActContent) (world : WorldView) (answer : Outcome) (after : WorldView) (x : State) → StandsFor world x → Step act world answer after → StandsAfterStep act answer x after
   step_stands act world Outcome.Done after x stands step = done_reaches act world after x stands step.leaves
@@ -284,6 +326,8 @@ becomes_rooms (ActContent.Host command) world after (host, line, (spells, is, le
 becomes_rooms ActContent.BoardSend world after (board, line, (message, is_next, spells, is, left), same) = rw (same, left) (record { up = refl; down = refl })
 becomes_rooms (ActContent.ToBoard count) world after (board, line, delivers, same) = rw (same, delivers.left_is) (record { up = refl; down = refl })
 becomes_rooms (ActContent.ToHost count) world after (host, line, (is, left), same) = rw (same, left) (record { up = refl; down = refl })
+becomes_rooms ActContent.Break world after same = rw same (record { up = refl; down = refl })
+becomes_rooms ActContent.HostBreak world after same = rw same (record { up = refl; down = refl })
 
 step_rooms : (act : ActContent) (world : WorldView) (answer : Outcome) (after : WorldView) → Step act world answer after → HasRooms world after
 step_rooms act world Outcome.Done after step = becomes_rooms act world after step.leaves
@@ -307,12 +351,19 @@ module _ (moves : (act : ActContent) (world after : WorldView) (answer : Outcome
         down_room = rw rooms.down is.down_room;
       }
 
-  pub step_keeps_exact : (act : ActContent) (world after : WorldView) (answer : Outcome) → IsExactWorld world → Step act world answer after → IsExactWorld after
-  step_keeps_exact act world after answer is step =
+  pub step_keeps_exact : (act : ActContent) (world after : WorldView) (answer : Outcome) → act ≢ ActContent.HostBreak → IsExactWorld world → Step act world answer after → IsExactWorld after
+  step_keeps_exact act world after answer other is step =
       let reached = moves act world after answer is.state is.stands step in
-      record { state = after_moves is.state reached.0; stands = reached.2; exact = moves_exact is.state reached.0 is.exact }
+      record { state = after_moves is.state reached.0; stands = reached.2; exact = moves_exact is.state reached.0 (step_is_other act answer reached.0 other reached.1) is.exact }
 
-pub run_keeps_exact : ((acts : List ActContent) (world after : WorldView) (answers : List Outcome) (x : State) → StandsFor world x → Runs acts world answers after → StandsAfterRun acts answers x after) → (acts : List ActContent) (world after : WorldView) (answers : List Outcome) → IsExactWorld world → Runs acts world answers after → IsExactWorld after
-run_keeps_exact moves acts world after answers is runs =
+  -- a break makes a world exact
+  pub break_is_exact : (world after : WorldView) (answer : Outcome) → IsWorld world → Step ActContent.Break world answer after → IsExactWorld after
+  break_is_exact world after answer is step =
+      let reached = moves ActContent.Break world after answer is.state is.stands step in
+      let broken : after_moves is.state reached.0 ≡ after_move is.state Move.Break = break_moves is.state answer reached.0 step.answers reached.1 in
+      record { state = after_moves is.state reached.0; stands = reached.2; exact = rw broken (break_exact is.state is.stands.sound) }
+
+pub run_keeps_exact : ((acts : List ActContent) (world after : WorldView) (answers : List Outcome) (x : State) → StandsFor world x → Runs acts world answers after → StandsAfterRun acts answers x after) → (acts : List ActContent) (world after : WorldView) (answers : List Outcome) → ¬ (Contains acts ActContent.HostBreak) → IsExactWorld world → Runs acts world answers after → IsExactWorld after
+run_keeps_exact moves acts world after answers none is runs =
     let reached = moves acts world after answers is.state is.stands runs in
-    record { state = after_moves is.state reached.0; stands = reached.2; exact = moves_exact is.state reached.0 is.exact }
+    record { state = after_moves is.state reached.0; stands = reached.2; exact = moves_exact is.state reached.0 (run_is_other acts answers reached.0 none reached.1) is.exact }

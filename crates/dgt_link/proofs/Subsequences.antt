@@ -17,7 +17,7 @@ subsequence_itself : {X : Type 0} (xs : List X) → IsSubsequence xs xs
 subsequence_itself [] = tt
 subsequence_itself (x ∷ xs) = inl (refl, subsequence_itself xs)
 
-subsequence_at_end : {X : Type 0} (xs ys : List X) → IsSubsequence xs (ys ++ xs)
+pub subsequence_at_end : {X : Type 0} (xs ys : List X) → IsSubsequence xs (ys ++ xs)
 subsequence_at_end xs [] = subsequence_itself xs
 subsequence_at_end xs (y ∷ ys) = subsequence_later xs y (ys ++ xs) (subsequence_at_end xs ys)
 

@@ -14,6 +14,8 @@ pub data ActContent : Type 0 where
   BoardSend : ActContent
   ToBoard : (count : ℕ) → ActContent
   ToHost : (count : ℕ) → ActContent
+  Break : ActContent
+  HostBreak : ActContent
 
 abbrev pub act_content : Act → ActContent
 act_content (act.Change square piece) = Change (square_number square) piece
@@ -22,3 +24,5 @@ act_content (act.Host command) = Host (command_content command)
 act_content act.BoardSend = BoardSend
 act_content (act.ToBoard count) = ToBoard count
 act_content (act.ToHost count) = ToHost count
+act_content act.Break = Break
+act_content act.HostBreak = HostBreak

@@ -1,5 +1,7 @@
 -- The moves of the machine that acts come to.
 use Rattle.std.specs.Prelude.{◌≡◌, ℕ, List, [], ◌∷◌, ◌++◌, replicate}
+use Rattle.dgt_command.specs.Content.{EventContent}
+use Rattle.dgt_command.specs.Words.{IsNoiseList}
 use Rattle.dgt_link.specs.Act.{ActContent}
 use Rattle.dgt_link.specs.declared.acts.Outcome.{Outcome}
 use Rattle.dgt_link.specs.Move.{IsSending, Move}
@@ -16,6 +18,9 @@ AreMovesOfAct (ActContent.Host command) moves = moves ≡ Move.Ask command ∷ [
 AreMovesOfAct ActContent.BoardSend moves = (move : Move) × IsSending move × (moves ≡ move ∷ [])
 AreMovesOfAct (ActContent.ToBoard bytes) moves = (count : ℕ) × (moves ≡ replicate count Move.Take)
 AreMovesOfAct (ActContent.ToHost bytes) moves = (count : ℕ) × (moves ≡ replicate count Move.Hear)
+AreMovesOfAct ActContent.Break moves = moves ≡ Move.Break ∷ []
+AreMovesOfAct ActContent.HostBreak moves =
+    (noise : List EventContent) × (is_noise : IsNoiseList noise) × (moves ≡ Move.HostBreak noise is_noise ∷ [])
 
 -- what isn't done is no move
 abbrev pub AreMovesOfStep : ActContent → Outcome → List Move → Type 0

@@ -6,11 +6,11 @@ use Rattle.dgt_values.specs.declared.kinds.Kind.{Kind}
 use Rattle.dgt_message.specs.Content.{Content}
 use Rattle.dgt_message.specs.ClockState.{ClockState, clock_message}
 use Rattle.dgt_message.specs.Kind.{kind_of}
-use Rattle.dgt_command.specs.Content.{EventContent}
+use Rattle.dgt_command.specs.Content.{CommandContent, EventContent}
 use Rattle.dgt_command.specs.Kind.{kind_of_command}
 use Rattle.dgt_board.specs.declared.replies.Reply.{Reply}
 use Rattle.dgt_board.specs.Identity.{IdentityContent}
-use Rattle.dgt_board.specs.State.{BoardState, new_board, after_change, after_hand_clock, updates}
+use Rattle.dgt_board.specs.State.{BoardState, new_board, after_change, after_hand_clock, after_line_lost, updates}
 use Rattle.dgt_board.specs.Effect.{effect}
 use Rattle.dgt_board.specs.Sending.{after_telling, differs, field_of, reply_message}
 use Rattle.dgt_host.specs.Hearing.{awaited_after, clock_after, picture_after}
@@ -63,6 +63,35 @@ after_hear x (message ∷ later) =
       awaited = awaited_after x.awaited (kind_of message);
     }
 
+-- the state after both ends lose the line: nothing is under way, and the host is as new
+abbrev pub after_break : State → State
+after_break x =
+    record {
+      board = after_line_lost x.board;
+      up = [];
+      down = [];
+      picture = None;
+      host_clock = None;
+      awaited = [];
+    }
+
+-- what a host asks for that begins anew: the updates, and the whole board
+abbrev pub asked_anew : List EventContent
+asked_anew = EventContent.Read CommandContent.UpdateBoard ∷ EventContent.Read CommandContent.Dump ∷ []
+
+-- The state after the host alone loses the line and begins anew: the board is as it was. What comes to
+-- it is noise, and then what the host asks for.
+abbrev pub after_host_break : State → List EventContent → State
+after_host_break x noise =
+    record {
+      board = x.board;
+      up = [];
+      down = noise ++ asked_anew;
+      picture = None;
+      host_clock = None;
+      awaited = Kind.Dump ∷ [];
+    }
+
 -- the state after a move: one that can't happen changes nothing
 abbrev pub after_move : State → Move → State
 after_move x (Move.Change square piece) = record x { board = after_change x.board square piece }
@@ -80,6 +109,8 @@ after_move x (Move.Tell square) =
 after_move x Move.TellClock =
     if x.board.times_owed then after_told x (clock_message x.board.clock) else x
 after_move x Move.Hear = after_hear x x.up
+after_move x Move.Break = after_break x
+after_move x (Move.HostBreak noise is_noise) = after_host_break x noise
 
 abbrev pub after_moves : State → List Move → State
 after_moves x [] = x

@@ -1,8 +1,9 @@
 -- What may happen to a board, to a host and to what is under way between them.
-use Rattle.std.specs.Prelude.{ℕ}
+use Rattle.std.specs.Prelude.{ℕ, List}
 use Rattle.dgt_values.specs.declared.pieces.Piece.{Piece}
 use Rattle.dgt_message.specs.ClockState.{ClockState}
-use Rattle.dgt_command.specs.Content.{CommandContent}
+use Rattle.dgt_command.specs.Content.{CommandContent, EventContent}
+use Rattle.dgt_command.specs.Words.{IsNoiseList}
 
 pub data Move : Type 0 where
   -- a piece is put on a square of the board, or taken from it
@@ -21,6 +22,15 @@ pub data Move : Type 0 where
   TellClock : Move
   -- the host hears the oldest message under way
   Hear : Move
+  -- both ends lose the line, and all that is under way on it
+  Break : Move
+  -- The host alone loses the line and what is under way on it, and begins anew. What the board finds
+  -- on the line up to where it is asked anew is noise.
+  HostBreak : (noise : List EventContent) → IsNoiseList noise → Move
+
+abbrev pub IsHostBreak : Move → Type 0
+IsHostBreak (Move.HostBreak noise is_noise) = Unit {0}
+IsHostBreak _ = ⊥
 
 -- a move by which the board sends something
 abbrev pub IsSending : Move → Type 0

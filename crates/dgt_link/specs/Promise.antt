@@ -1,14 +1,15 @@
 -- When the host's picture is promised to be the board's squares.
-use Rattle.std.specs.Prelude.{◌≡◌, ◌⊎◌, List, [], ◌∷◌, ◌++◌, Option, Some, None, IsTrue, Contains, IsSome, filter_map, unwrap_or}
+use Rattle.std.specs.Prelude.{◌≡◌, ◌⊎◌, List, [], ◌∷◌, ◌++◌, Option, None, IsTrue, Contains, IsSome, filter_map, unwrap_or}
 use Rattle.dgt_values.specs.declared.kinds.Kind.{Kind}
 use Rattle.dgt_command.specs.Content.{CommandContent, EventContent}
+use Rattle.dgt_command.specs.Words.{IsNoiseList}
 use Rattle.dgt_board.specs.declared.modes.Mode.{Mode}
 use Rattle.dgt_board.specs.declared.replies.Reply.{Reply}
 use Rattle.dgt_board.specs.State.{updates}
 use Rattle.dgt_board.specs.Effect.{command_mode}
 use Rattle.dgt_board.specs.Sending.{pending_messages}
 use Rattle.dgt_link.specs.Move.{Move}
-use Rattle.dgt_link.specs.Machine.{State}
+use Rattle.dgt_link.specs.Machine.{State, asked_anew}
 use Rattle.dgt_link.specs.Sound.{coming_picture}
 
 -- the last of these modes, or the one before them where there is none
@@ -18,21 +19,22 @@ last_mode before (mode ∷ modes) = last_mode mode modes
 
 -- ---- of commands
 
--- the commands after one more is sent, if one is, where these were sent before it
-abbrev pub with_command : List CommandContent → Option CommandContent → List CommandContent
-with_command before None = before
-with_command before (Some command) = before ++ command ∷ []
+-- what a host asks for that begins anew
+abbrev pub commands_anew : List CommandContent
+commands_anew = CommandContent.UpdateBoard ∷ CommandContent.Dump ∷ []
 
--- the command that a move sends, if it sends one
-abbrev pub command_of_move : Move → Option CommandContent
-command_of_move (Move.Ask command) = Some command
-command_of_move _ = None
+-- the commands sent since the last break, after a move, where these were before it
+abbrev pub commands_after_move : List CommandContent → Move → List CommandContent
+commands_after_move before (Move.Ask command) = before ++ command ∷ []
+commands_after_move before Move.Break = []
+commands_after_move before (Move.HostBreak noise is_noise) = before ++ commands_anew
+commands_after_move before _ = before
 
--- the commands after moves, where these were sent before them
+-- and after moves in order
 abbrev pub commands_after_moves : List CommandContent → List Move → List CommandContent
 commands_after_moves before [] = before
 commands_after_moves before (move ∷ moves) =
-    commands_after_moves (with_command before (command_of_move move)) moves
+    commands_after_moves (commands_after_move before move) moves
 
 -- a dump is among the commands, and the last of them that sets a mode is there and asks for updates
 pub record IsAsked (commands : List CommandContent) : Type 0 where
@@ -50,14 +52,13 @@ event_mode _ = None
 abbrev pub coming_mode : State → Mode
 coming_mode x = last_mode x.board.mode (filter_map event_mode x.down)
 
--- the mode to come after one more command is sent, if one is, where this one was to come before it
-abbrev pub mode_with : Mode → Option CommandContent → Mode
-mode_with before None = before
-mode_with before (Some command) = unwrap_or (command_mode command) before
-
--- and after a move
+-- The mode to come after a move, where this one was to come before it: a command that sets a mode
+-- makes it its own, a break counts as a reset, and a host break as `UpdateBoard`.
 abbrev pub mode_after : Mode → Move → Mode
-mode_after before move = mode_with before (command_of_move move)
+mode_after before (Move.Ask command) = unwrap_or (command_mode command) before
+mode_after before Move.Break = Mode.Idle
+mode_after before (Move.HostBreak noise is_noise) = Mode.UpdateBoard
+mode_after before _ = before
 
 -- the picture to come is known, or a dump is owed or asked for
 abbrev pub PictureIsComing : State → Type 0
@@ -72,6 +73,12 @@ UpdatesAreComing x = IsTrue (updates (coming_mode x))
 pub record IsPromised (x : State) : Type 0 where
   pub picture : PictureIsComing x
   pub mode : UpdatesAreComing x
+
+-- noise comes to the board, and then what a host asks for that begins anew
+pub record IsRestarted (x : State) : Type 0 where
+  pub noise : List EventContent
+  pub is_noise : IsNoiseList noise
+  pub down : x.down ≡ noise ++ asked_anew
 
 -- nothing is under way, and the board has nothing to send
 pub record IsQuiet (x : State) : Type 0 where

@@ -20,6 +20,11 @@ pub enum Act<'a> {
     ToBoard(usize),
     /// The host hears bytes of the up line, one by one, until so many are heard or none is left.
     ToHost(usize),
+    /// Both lines lose all their bytes, and both ends see it: what `line_lost` of a board and of a host say.
+    Break,
+    /// Both lines lose all their bytes, and the host alone sees it: it is as new, and sends what
+    /// `restart` of a host writes into the down line.
+    HostBreak,
 }
 
 /// What comes of an act. What isn't `Done` changes nothing.

@@ -1,25 +1,29 @@
 //! What holds of the machine of a board and its host, and of the worlds that stand for its states.
 //! Nothing here runs: each function stands for the facts that its contract states.
 
-ghost use Rattle.std.specs.Prelude.{◌≡◌, List, [], ◌∷◌, ◌++◌, All, Option, Some, None, length, IsTrue, IsSome};
+ghost use Rattle.std.specs.Prelude.{◌≡◌, ◌≢◌, List, [], ◌∷◌, ◌++◌, All, Contains, Option, Some, None, length, IsTrue, IsSome};
+ghost use Rattle.std.specs.List.{AllByRecursion};
 ghost use Rattle.dgt_values.specs.declared.pieces.Piece.{Piece};
 ghost use Rattle.dgt_values.specs.Equality.{EqualIsSame};
 ghost use Rattle.dgt_values.specs.declared.kinds.Kind.{Kind};
 ghost use Rattle.dgt_message.specs.Content.{Content};
 ghost use Rattle.dgt_message.specs.ClockState.{ClockState};
 ghost use Rattle.dgt_message.specs.Kind.{kind_of};
-ghost use Rattle.dgt_command.specs.Content.{CommandContent};
+ghost use Rattle.dgt_command.specs.Content.{CommandContent, EventContent};
+ghost use Rattle.dgt_command.specs.Words.{IsNoiseList};
 ghost use Rattle.dgt_command.specs.Equality.{EqualIsSameReadOf};
 ghost use Rattle.dgt_decode.specs.Grammar.{Event};
 ghost use Rattle.dgt_board.specs.declared.replies.Reply.{Reply};
 ghost use Rattle.dgt_board.specs.Identity.{IdentityContent};
-ghost use Rattle.dgt_board.specs.State.{follows_clock, updates};
+ghost use Rattle.dgt_board.specs.State.{BoardState, follows_clock, updates};
+ghost use Rattle.dgt_board.specs.declared.modes.Mode.{Mode};
+ghost use Rattle.dgt_board.specs.Effect.{effects};
 ghost use Rattle.dgt_board.specs.Sending.{after_sending, next_message};
 ghost use Rattle.dgt_host.specs.Hearing.{IsUnasked};
-ghost use Rattle.dgt_link.specs.Move.{IsSending, Move};
-ghost use Rattle.dgt_link.specs.Machine.{State, after_move, after_moves, new_state};
+ghost use Rattle.dgt_link.specs.Move.{IsHostBreak, IsSending, Move};
+ghost use Rattle.dgt_link.specs.Machine.{State, after_move, after_moves, asked_anew, new_state};
 ghost use Rattle.dgt_link.specs.Sound.{IsExact, IsSound, IsUnknownOr, coming_picture};
-ghost use Rattle.dgt_link.specs.Promise.{IsAsked, IsPromised, IsQuiet, PictureIsComing, coming_mode, commands_after_moves, mode_after};
+ghost use Rattle.dgt_link.specs.Promise.{IsAsked, IsPromised, IsQuiet, IsRestarted, PictureIsComing, coming_mode, commands_after_moves, mode_after};
 ghost use Rattle.dgt_host.specs.Hearing.{picture_after_all};
 ghost use Rattle.dgt_link.specs.Act.{ActContent, act_content};
 ghost use Rattle.dgt_link.specs.Equality.{ActHasArrays};
@@ -54,19 +58,22 @@ pub fn new_is_sound()
         length position ≡ 64 → IsExact (new_state position clock identity) }
 {}
 
-/// Each move keeps a sound state sound, and an exact one exact.
+/// Each move keeps a sound state sound, and each but a host break an exact one exact. A break makes a
+/// sound one exact.
 pub fn moves_keep()
     ensures sound { (x : State) (move : Move) → IsSound x → IsSound (after_move x move) }
-    ensures exact { (x : State) (move : Move) → IsExact x → IsExact (after_move x move) }
+    ensures exact { (x : State) (move : Move) → ¬ (IsHostBreak move) →
+        IsExact x → IsExact (after_move x move) }
+    ensures exact_again { (x : State) → IsSound x → IsExact (after_move x Move.Break) }
 {}
 
-/// A dump that is sent makes the picture to come the squares as the board has told them, and no
-/// move makes it unknown.
+/// A dump that is sent makes the picture to come the squares as the board has told them, and only a
+/// break or a host break makes it unknown.
 pub fn dump_is_told()
     ensures told { (x : State) (later : List Reply) → x.board.owed ≡ Reply.Of Kind.Dump ∷ later →
         coming_picture (after_move x Move.Reply)
         ≡ Some (after_move x Move.Reply).board.told_squares }
-    ensures known { (x : State) (move : Move) →
+    ensures known { (x : State) (move : Move) → move ≢ Move.Break → ¬ (IsHostBreak move) →
         IsSome (coming_picture x) → IsSome (coming_picture (after_move x move)) }
 {}
 
@@ -81,12 +88,16 @@ pub fn answers_in_order()
         IsExact x → x.up ≡ message ∷ later → ¬ (IsUnasked x.awaited (Some (Event.Message message))) }
 {}
 
-/// What a move makes of the promise: a dump that is asked for begins its first half, which no move
-/// ends. Its second half is that of the last command that sets a mode.
+/// What a move makes of the promise: a dump that is asked for begins its first half, which only a
+/// break ends. Its second half is that of the last command that sets a mode, where a break counts as
+/// a reset. A host break begins both.
 pub fn promise_is_kept()
     ensures begun { (x : State) → PictureIsComing (after_move x (Move.Ask CommandContent.Dump)) }
-    ensures kept { (x : State) (move : Move) →
+    ensures kept { (x : State) (move : Move) → move ≢ Move.Break →
         PictureIsComing x → PictureIsComing (after_move x move) }
+    ensures ended { (x : State) → ¬ (PictureIsComing (after_move x Move.Break)) }
+    ensures begun_anew { (x : State) (noise : List EventContent) (is_noise : IsNoiseList noise) →
+        IsPromised (after_move x (Move.HostBreak noise is_noise)) }
     ensures mode { (x : State) (move : Move) →
         coming_mode (after_move x move) ≡ mode_after (coming_mode x) move }
 {}
@@ -104,16 +115,26 @@ pub fn at_quiet()
         → x.picture ≡ Some x.board.squares }
 {}
 
-/// After any moves: sound stays sound and exact exact, and where the commands among them ask for
-/// the picture, it is promised, and is the board's squares once all is quiet.
+/// After any moves: sound stays sound, and exact without a host break exact, and where the commands among them, after the
+/// last break, ask for the picture, it is promised, and is the board's squares once all is quiet.
 pub fn picture_after_moves()
     ensures sound { (x : State) (moves : List Move) → IsSound x → IsSound (after_moves x moves) }
-    ensures exact { (x : State) (moves : List Move) → IsExact x → IsExact (after_moves x moves) }
+    ensures exact { (x : State) (moves : List Move) → AllByRecursion (λ move. ¬ (IsHostBreak move)) moves
+        → IsExact x → IsExact (after_moves x moves) }
     ensures promised { (x : State) (moves : List Move) →
         IsAsked (commands_after_moves [] moves) → IsPromised (after_moves x moves) }
     ensures picture { (x : State) (moves : List Move) → IsSound x
         → IsAsked (commands_after_moves [] moves) → IsQuiet (after_moves x moves)
         → (after_moves x moves).picture ≡ Some (after_moves x moves).board.squares }
+{}
+
+/// Noise leaves the mode of a board as it was, and what a host asks for that begins anew makes it
+/// `UpdateBoard`, and adds a dump to what is owed.
+pub fn restart_is_taken()
+    ensures noise { (board : BoardState) (noise : List EventContent) → IsNoiseList noise →
+        (effects board noise).mode ≡ board.mode }
+    ensures taken { (board : BoardState) → let after = effects board asked_anew in
+        (after.mode ≡ Mode.UpdateBoard) × (after.owed ≡ board.owed ++ Reply.Of Kind.Dump ∷ []) }
 {}
 
 /// What a board sends next is sent by one of the moves.
@@ -163,31 +184,41 @@ pub fn acts_are_moves()
     dgt_decode::laws::spelling_is_read();
     dgt_command::laws::divisions_append();
     dgt_command::laws::no_word_begins_another();
+    dgt_command::laws::zeros_settle_the_reader();
 }
 
-/// An act leaves a world for which there is a sound state, and of one that stands for an exact
-/// state one that does.
+/// An act leaves a world for which there is a sound state, and but for a host break of one that
+/// stands for an exact state one that does. A break leaves one that does of any world.
 pub fn acts_keep()
     ensures sound { (act : ActContent) (world after : WorldView) (answer : Outcome) →
         IsWorld world → Step act world answer after → IsWorld after }
     ensures exact { (act : ActContent) (world after : WorldView) (answer : Outcome) →
-        IsExactWorld world → Step act world answer after → IsExactWorld after }
+        act ≢ ActContent.HostBreak → IsExactWorld world → Step act world answer after → IsExactWorld after }
+    ensures exact_again { (world after : WorldView) (answer : Outcome) →
+        IsWorld world → Step ActContent.Break world answer after → IsExactWorld after }
     ensures exact_after_all { (acts : List ActContent) (world after : WorldView)
-        (answers : List Outcome) →
+        (answers : List Outcome) → ¬ (Contains acts ActContent.HostBreak) →
         IsExactWorld world → Runs acts world answers after → IsExactWorld after }
 {
     acts_are_moves();
 }
 
-/// What an act makes of the promise: a dump that is asked for begins its first half, which no act
-/// ends. Its second half is that of the last mode asked for.
+/// What an act makes of the promise: a dump that is asked for begins its first half, which only a
+/// break ends. Its second half is that of the last mode asked for, where a break counts as a reset.
+/// A host break begins both: noise comes to the board, and then what the host asks for.
 pub fn promise_by_acts()
     ensures begun { (world after : WorldView) (x y : State) →
         StandsFor world x → Step (ActContent.Host CommandContent.Dump) world Outcome.Done after
         → StandsFor after y → PictureIsComing y }
     ensures kept { (act : ActContent) (world after : WorldView) (answer : Outcome) (x y : State) →
-        StandsFor world x → Step act world answer after
+        act ≢ ActContent.Break → StandsFor world x → Step act world answer after
         → StandsFor after y → PictureIsComing x → PictureIsComing y }
+    ensures ended { (world after : WorldView) (answer : Outcome) (x y : State) →
+        StandsFor world x → Step ActContent.Break world answer after
+        → StandsFor after y → ¬ (PictureIsComing y) }
+    ensures begun_anew { (world after : WorldView) (answer : Outcome) (x y : State) →
+        StandsFor world x → Step ActContent.HostBreak world answer after
+        → StandsFor after y → IsRestarted y × IsPromised y }
     ensures mode { (act : ActContent) (world after : WorldView) (answer : Outcome) (x y : State) →
         StandsFor world x → Step act world answer after
         → StandsFor after y → coming_mode y ≡ mode_after_step (coming_mode x) act answer }
@@ -232,9 +263,9 @@ pub fn at_quiet_world()
     dgt_command::laws::one_division();
 }
 
-/// Where acts that are done ask for a dump, and the last of them that asks for a mode asks for
-/// updates, the world after them stands for a promised state, and once it is quiet the host's
-/// picture is the board's squares.
+/// Where acts that are done after the last break ask for a dump, and the last of them that asks for
+/// a mode asks for updates, the world after them stands for a promised state, and once it is quiet
+/// the host's picture is the board's squares.
 pub fn picture_after_acts()
     ensures promised { (acts : List ActContent) (world after : WorldView)
         (answers : List Outcome) (x : State) →

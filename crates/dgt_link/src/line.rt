@@ -71,6 +71,13 @@ impl Line {
         if first.is_empty() { second } else { first }
     }
 
+    /// Takes all bytes out.
+    pub fn clear(&mut self)
+        ensures { self.new ≡ line_of [] self.old.capacity }
+    {
+        self.ring.clear();
+    }
+
     /// Takes so many of the oldest bytes out.
     pub fn drop_first(&mut self, count: usize)
         requires { count ≤ length self.old.bytes }

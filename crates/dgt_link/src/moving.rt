@@ -1,10 +1,12 @@
 //! Bytes go into the lines and out of them.
 
-ghost use Rattle.std.specs.Prelude.{◌≡◌, ◌<◌, ◌≤◌, length, take};
+ghost use Rattle.std.specs.Prelude.{◌≡◌, ◌<◌, ◌≤◌, [], Some, length, take};
+ghost use Rattle.dgt_values.specs.declared.kinds.Kind.{Kind};
 ghost use Rattle.dgt_command.specs.Content.{command_content};
 ghost use Rattle.dgt_board.specs.View.{HasTaken};
-ghost use Rattle.dgt_host.specs.Host.{host_after};
-ghost use Rattle.dgt_link.specs.Line.{without_first};
+ghost use Rattle.dgt_host.specs.Host.{host_after, new_host};
+ghost use Rattle.dgt_host.specs.Sending.{host_awaiting, restart_bytes};
+ghost use Rattle.dgt_link.specs.Line.{line_of, without_first};
 ghost use Rattle.dgt_link.specs.Moving.{AsksInto, DeliversDown, DeliversUp, SendsInto, StaysOpen};
 
 use crate::acts::Outcome;
@@ -12,6 +14,9 @@ use crate::line::Line;
 use dgt_board::{Board, MAX_OWED, Polled};
 use dgt_command::{Command, MAX_WORD};
 use dgt_host::{Host, SendFault};
+
+/// What a host sends to begin anew: 255 zeros and two commands.
+const RESTART_LENGTH: usize = 257;
 
 /// The most bytes of a message that a board sends: a dump.
 pub const MAX_SENT: usize = 67;
@@ -30,6 +35,21 @@ pub fn ask(host: &mut Host, line: &mut Line, command: &Command<'_>) -> Outcome
         Err(SendFault::TooMany) => Outcome::TooMany,
         Err(SendFault::NoRoom { .. }) => Outcome::NoRoom,
     }
+}
+
+/// Both lines lose their bytes, and the host alone sees it: it is as new, and begins anew.
+pub fn restart(host: &mut Host, up: &mut Line, down: &mut Line)
+    requires { 257 ≤ down.old.capacity }
+    ensures host { host.new ≡ host_awaiting new_host (Some Kind.Dump) }
+    ensures up { up.new ≡ line_of [] up.old.capacity }
+    ensures down { down.new ≡ line_of restart_bytes down.old.capacity }
+{
+    host.line_lost();
+    up.clear();
+    down.clear();
+    let mut bytes = [0; RESTART_LENGTH];
+    let count = host.restart(&mut bytes).unwrap();
+    down.push(&bytes[..count]);
 }
 
 /// The board sends its next message into the line.

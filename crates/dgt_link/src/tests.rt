@@ -4,14 +4,16 @@ use crate::Act::*;
 use crate::Outcome::*;
 use crate::{Act, Outcome, World, WorldFault};
 use dgt_board::{Identity, Mode};
-use dgt_command::Command;
+use dgt_command::{ClockCommand, Command, LedBytes};
 use dgt_message::{Clock, Reading, Status, Times};
-use dgt_values::{Body, Piece, Position, SevenBit, Square};
+use dgt_values::{Body, Kind, Piece, Position, SevenBit, Square};
 use std::alloc::Global;
 use std::process::Abort;
 use std::test::Fail;
 
 const START: &str = "rnbqkbnr/pppppppp/8/8/8/8/PPPPPPPP/RNBQKBNR";
+
+const NO_E2: &str = "rnbqkbnr/pppppppp/8/8/8/8/PPPP1PPP/RNBQKBNR";
 
 const E4_PLAYED: &str = "rnbqkbnr/pppppppp/8/8/4P3/8/PPPP1PPP/RNBQKBNR";
 
@@ -33,6 +35,7 @@ fn identity() -> Result<Identity, Fail> {
         SevenBit::try_from(3)?,
         Body::new(&[0x64])?,
         0x14,
+        Body::new(b"0000000001")?,
     )?)
 }
 
@@ -111,6 +114,19 @@ fn a_board_that_owes_eight_replies_is_busy(rt: HostRuntime) -> Result<(), Fail> 
     assert_eq!(rt; world.up_len(), 5);
     play(&rt, &mut world, &[(ToBoard(1), Done)]);
     assert_eq!(rt; world.down_len(), 7);
+    Ok(())
+}
+
+#[test]
+fn a_long_serial_is_asked_for_and_told(rt: HostRuntime) -> Result<(), Fail> {
+    let mut world = world_of(rt.alloc(), 67, 257)??;
+    play(&rt, &mut world, &[(Host(Command::LongSerial), Done)]);
+    assert_eq!(rt; world.host().awaited(), [Kind::LongSerial].as_slice());
+    play(&rt, &mut world, &[(ToBoard(1), Done), (BoardSend, Done)]);
+    assert_eq!(rt; world.up_len(), 13);
+    play(&rt, &mut world, &[(ToHost(13), Done)]);
+    assert!(rt; world.host().awaited().is_empty());
+    assert!(rt; world.quiet());
     Ok(())
 }
 
@@ -267,6 +283,252 @@ fn answers_go_round_the_end_of_a_line(rt: HostRuntime) -> Result<(), Fail> {
         assert!(rt; world.host().awaited().is_empty());
         assert!(rt; world.quiet());
     }
+    Ok(())
+}
+
+// A world that follows, with all quiet.
+fn following(rt: &impl Abort, alloc: Global) -> Result<World, Fail> {
+    let mut world = world_of(alloc, 67, 257)??;
+    let follow = [
+        (Host(Command::UpdateBoard), Done),
+        (Host(Command::Dump), Done),
+        (ToBoard(2), Done),
+        (BoardSend, Done),
+        (ToHost(67), Done),
+    ];
+    play(rt, &mut world, &follow);
+    Ok(world)
+}
+
+#[test]
+fn a_break_in_the_middle_of_a_message(rt: HostRuntime) -> Result<(), Fail> {
+    let mut world = following(&rt, rt.alloc())?;
+    let e2 = Square::parse("e2")?;
+    play(
+        &rt,
+        &mut world,
+        &[
+            (Change(e2, Piece::Empty), Done),
+            (BoardSend, Done),
+            (ToHost(3), Done),
+        ],
+    );
+    assert_eq!(rt; (world.host().unread(), world.up_len()), (3, 2));
+    play(&rt, &mut world, &[(Break, Done)]);
+    assert_eq!(rt; (world.up_len(), world.down_len()), (0, 0));
+    assert!(rt; world.board().mode() == Mode::Idle);
+    assert!(rt; world.host().picture().is_none());
+    assert!(rt; world.quiet());
+    // the change is told by a new dump alone
+    play(
+        &rt,
+        &mut world,
+        &[
+            (Host(Command::UpdateBoard), Done),
+            (ToBoard(1), Done),
+            (BoardSend, Nothing),
+        ],
+    );
+    assert!(rt; world.quiet() && world.host().picture().is_none());
+    play(
+        &rt,
+        &mut world,
+        &[
+            (Host(Command::Dump), Done),
+            (ToBoard(1), Done),
+            (BoardSend, Done),
+            (ToHost(67), Done),
+        ],
+    );
+    assert!(rt; rests_at(&world, NO_E2)?);
+    Ok(())
+}
+
+#[test]
+fn a_break_with_both_lines_full(rt: HostRuntime) -> Result<(), Fail> {
+    let mut world = following(&rt, rt.alloc())?;
+    let running = times([1, 30, 0], [1, 29, 55], 0x11)?;
+    // a dump is under way, seven and a version are owed, and commands wait
+    play(
+        &rt,
+        &mut world,
+        &[(Host(Command::Update), Done), (ToBoard(1), Done)],
+    );
+    play(&rt, &mut world, &[(Host(Command::Dump), Done); 8]);
+    play(
+        &rt,
+        &mut world,
+        &[
+            (ToBoard(8), Done),
+            (BoardSend, Done),
+            (BoardSend, NoRoom),
+            (ClockRead(running), Done),
+            (Host(Command::Version), Done),
+            (ToBoard(1), Done),
+        ],
+    );
+    play(&rt, &mut world, &[(Host(Command::Update), Done); 257]);
+    play(
+        &rt,
+        &mut world,
+        &[(ToBoard(1), Busy), (Host(Command::Update), NoRoom)],
+    );
+    assert_eq!(rt; (world.up_len(), world.down_len()), (67, 257));
+    play(
+        &rt,
+        &mut world,
+        &[
+            (Break, Done),
+            (BoardSend, Nothing),
+            (ToBoard(1), Nothing),
+            (ToHost(1), Nothing),
+            (Break, Done),
+        ],
+    );
+    assert!(rt; world.quiet());
+    assert!(rt; world.host().awaited().is_empty());
+    assert!(rt; world.host().picture().is_none() && world.host().clock().is_none());
+    assert!(rt; *world.board().clock() == running);
+    // the whole down line has room again, and so has the list of what is awaited
+    play(&rt, &mut world, &[(Host(Command::Version), Done); 16]);
+    play(&rt, &mut world, &[(Host(Command::Version), TooMany)]);
+    play(&rt, &mut world, &[(Host(Command::Reset), Done); 241]);
+    play(&rt, &mut world, &[(Host(Command::Reset), NoRoom)]);
+    assert_eq!(rt; world.down_len(), 257);
+    Ok(())
+}
+
+#[test]
+fn a_break_in_the_middle_of_a_command(rt: HostRuntime) -> Result<(), Fail> {
+    let mut world = world_of(rt.alloc(), 67, 257)??;
+    let beep = Command::ClockMessage(ClockCommand::Beep(0x10));
+    play(
+        &rt,
+        &mut world,
+        &[
+            (Host(beep), Done),
+            (ToBoard(2), Done),
+            (Break, Done),
+            (Host(Command::Dump), Done),
+            (ToBoard(1), Done),
+            (BoardSend, Done),
+            (ToHost(67), Done),
+        ],
+    );
+    assert!(rt; rests_at(&world, START)?);
+    Ok(())
+}
+
+#[test]
+fn a_host_begins_anew_in_the_middle_of_a_frame(rt: HostRuntime) -> Result<(), Fail> {
+    let mut world = world_of(rt.alloc(), 67, 257)??;
+    let leds = Command::Leds(LedBytes::new(&[0x42; 255])?);
+    play(
+        &rt,
+        &mut world,
+        &[(Host(leds), Done), (ToBoard(2), Done), (HostBreak, Done)],
+    );
+    assert_eq!(rt; (world.down_len(), world.board().partial()), (257, 2));
+    // the zeros are the frame's
+    play(&rt, &mut world, &[(ToBoard(257), Done)]);
+    assert!(rt; world.board().mode() == Mode::UpdateBoard);
+    assert_eq!(rt; (world.board().owed_len(), world.board().partial()), (1, 0));
+    play(&rt, &mut world, &[(BoardSend, Done), (ToHost(67), Done)]);
+    assert!(rt; rests_at(&world, START)?);
+    Ok(())
+}
+
+#[test]
+fn a_host_begins_anew_in_the_middle_of_a_display(rt: HostRuntime) -> Result<(), Fail> {
+    let mut world = world_of(rt.alloc(), 67, 257)??;
+    let display = Command::ClockMessage(ClockCommand::Display {
+        places: [0x06, 0x5b, 0x00, 0x00, 0x4f, 0x66],
+        dots: 0x00,
+        beep: 0x03,
+    });
+    play(
+        &rt,
+        &mut world,
+        &[(Host(display), Done), (ToBoard(4), Done), (HostBreak, Done)],
+    );
+    assert_eq!(rt; world.down_len(), 257);
+    play(&rt, &mut world, &[(ToBoard(257), Done)]);
+    // nine zeros end the display, which is acknowledged, and the dump was asked for
+    assert_eq!(rt; world.board().owed_len(), 2);
+    play(&rt, &mut world, &[(BoardSend, Done)]);
+    assert_eq!(rt; world.up_len(), 10);
+    play(
+        &rt,
+        &mut world,
+        &[(ToHost(10), Done), (BoardSend, Done), (ToHost(67), Done)],
+    );
+    assert!(rt; rests_at(&world, START)?);
+    Ok(())
+}
+
+#[test]
+fn stale_replies_after_a_host_break(rt: HostRuntime) -> Result<(), Fail> {
+    // a stale reply, how long it is, and what is awaited once it is heard
+    let rows: [(Command<'static>, usize, &[Kind]); 2] = [
+        (Command::Dump, 67, &[]),
+        (Command::Version, 5, &[Kind::Dump]),
+    ];
+    for (command, length, awaited) in rows {
+        let mut world = world_of(rt.alloc(), 67, 257)??;
+        play(
+            &rt,
+            &mut world,
+            &[
+                (Host(command), Done),
+                (ToBoard(1), Done),
+                (HostBreak, Done),
+                (ToBoard(257), Done),
+                (BoardSend, Done),
+                (ToHost(length), Done),
+            ],
+        );
+        assert_eq!(rt; world.host().awaited(), awaited);
+        assert_eq!(rt; world.board().owed_len(), 1);
+        play(&rt, &mut world, &[(BoardSend, Done), (ToHost(67), Done)]);
+        assert!(rt; world.host().awaited().is_empty());
+        assert!(rt; rests_at(&world, START)?);
+    }
+    Ok(())
+}
+
+#[test]
+fn a_host_breaks_twice(rt: HostRuntime) -> Result<(), Fail> {
+    let mut world = following(&rt, rt.alloc())?;
+    let e2 = Square::parse("e2")?;
+    // a change is half heard, and one of 16 awaited versions is under way
+    play(&rt, &mut world, &[(Host(Command::Version), Done); 16]);
+    play(
+        &rt,
+        &mut world,
+        &[
+            (Change(e2, Piece::Empty), Done),
+            (BoardSend, Done),
+            (ToHost(3), Done),
+            (ToBoard(1), Done),
+            (BoardSend, Done),
+            (HostBreak, Done),
+            (HostBreak, Done),
+        ],
+    );
+    assert_eq!(rt; (world.up_len(), world.down_len()), (0, 257));
+    assert_eq!(rt; (world.host().unread(), world.host().picture()), (0, None));
+    assert_eq!(rt; world.host().awaited(), [Kind::Dump].as_slice());
+    play(
+        &rt,
+        &mut world,
+        &[
+            (Host(Command::Reset), NoRoom),
+            (ToBoard(257), Done),
+            (BoardSend, Done),
+            (ToHost(67), Done),
+        ],
+    );
+    assert!(rt; rests_at(&world, NO_E2)?);
     Ok(())
 }
 

@@ -1,6 +1,6 @@
 //! The world: a board, a host, and the two lines between them.
 
-ghost use Rattle.std.specs.Prelude.{◌≡◌, ◌≢◌, ◌↔◌, ◌⊎◌, ◌<◌, ◌≤◌, List, [], ◌∷◌, ◌++◌, All, Some, None, IsTrue, IfOk, IsErr, IsErrOf, map, length};
+ghost use Rattle.std.specs.Prelude.{◌≡◌, ◌≢◌, ◌↔◌, ◌⊎◌, ◌<◌, ◌≤◌, List, [], ◌∷◌, ◌++◌, All, Contains, Some, None, IsTrue, IfOk, IsErr, IsErrOf, map, length};
 ghost use Rattle.dgt_values.specs.Pieces.{pieces_of};
 ghost use Rattle.dgt_values.specs.declared.kinds.Kind.{Kind};
 ghost use Rattle.dgt_message.specs.Content.{Content};
@@ -13,7 +13,7 @@ ghost use Rattle.dgt_link.specs.Act.{ActContent, act_content};
 ghost use Rattle.dgt_link.specs.ActMoves.{StandsAfterRun, StandsAfterStep};
 ghost use Rattle.dgt_link.specs.Asked.{IsAskedBy, mode_after_step};
 ghost use Rattle.dgt_link.specs.Machine.{State, new_state};
-ghost use Rattle.dgt_link.specs.Promise.{IsPromised, PictureIsComing, coming_mode};
+ghost use Rattle.dgt_link.specs.Promise.{IsPromised, IsRestarted, PictureIsComing, coming_mode};
 ghost use Rattle.dgt_link.specs.Sound.{IsExact, IsSound, IsUnknownOr};
 ghost use Rattle.dgt_link.specs.Stands.{IsExactWorld, StandsFor};
 ghost use Rattle.dgt_link.specs.Step.{Runs, Step, done_count};
@@ -22,7 +22,7 @@ ghost use Rattle.dgt_link.specs.View.{IsQuietWorld, new_world};
 use crate::acts::{Act, Outcome};
 use crate::laws;
 use crate::line::{Line, LineMemory};
-use crate::moving::{ask, send_next, to_board, to_host};
+use crate::moving::{ask, restart, send_next, to_board, to_host};
 use dgt_board::{Board, Identity};
 use dgt_host::Host;
 use dgt_message::Clock;
@@ -166,28 +166,50 @@ impl World {
             Act::BoardSend => send_next(&mut self.board, &mut self.up),
             Act::ToBoard(count) => to_board(&mut self.board, &mut self.down, count),
             Act::ToHost(count) => to_host(&mut self.host, &mut self.up, count),
+            Act::Break => {
+                self.board.line_lost();
+                self.host.line_lost();
+                self.up.clear();
+                self.down.clear();
+                Outcome::Done
+            }
+            Act::HostBreak => {
+                restart(&mut self.host, &mut self.up, &mut self.down);
+                Outcome::Done
+            }
         }
     }
 
     /// Does one act, and answers what came of it. What isn't `Done` changes nothing.
     ///
-    /// `Change` and `ClockRead` are always `Done`. `Host` is first `TooMany`, where the reply would
-    /// have to be awaited and 16 are awaited, then `NoRoom`, where the down line has too little room
-    /// for the command. `BoardSend` is first `Nothing`, where the board has nothing to send, then
-    /// `NoRoom`, where the up line has too little room for the message. `ToBoard` is first
-    /// `Nothing`, where the count is 0 or the down line is empty, then `Busy`, where the board owes
-    /// 8 replies. `ToHost` is `Nothing` where the count is 0 or the up line is empty.
+    /// `Change`, `ClockRead`, `Break` and `HostBreak` are always `Done`. `Host` is first `TooMany`,
+    /// where the reply would have to be awaited and 16 are awaited, then `NoRoom`, where the down line
+    /// has too little room for the command. `BoardSend` is first `Nothing`, where the board has nothing
+    /// to send, then `NoRoom`, where the up line has too little room for the message. `ToBoard` is
+    /// first `Nothing`, where the count is 0 or the down line is empty, then `Busy`, where the board
+    /// owes 8 replies. `ToHost` is `Nothing` where the count is 0 or the up line is empty.
+    ///
+    /// After a `HostBreak` the down line holds 257 bytes and the board is as it was. What it takes of
+    /// them is noise, and then `UpdateBoard` and `Dump`.
     pub fn step(&mut self, act: Act<'_>) -> Outcome
         ensures exact { Step (act_content act.entry) self.old result self.new }
         ensures unchanged { result ≢ Outcome.Done → self.new ≡ self.old }
         ensures moves { (x : State) → StandsFor self.old x →
             StandsAfterStep (act_content act.entry) result x self.new }
         ensures sound { (y : State) × StandsFor self.new y × IsSound y }
-        ensures stays_exact { IsExactWorld self.old → IsExactWorld self.new }
+        ensures stays_exact { act_content act.entry ≢ ActContent.HostBreak →
+            IsExactWorld self.old → IsExactWorld self.new }
+        ensures exact_again { act_content act.entry ≡ ActContent.Break → IsExactWorld self.new }
         ensures begun { act_content act.entry ≡ ActContent.Host CommandContent.Dump →
             result ≡ Outcome.Done → (y : State) → StandsFor self.new y → PictureIsComing y }
-        ensures kept { (x y : State) → StandsFor self.old x → StandsFor self.new y →
-            PictureIsComing x → PictureIsComing y }
+        ensures kept { act_content act.entry ≢ ActContent.Break → (x y : State) →
+            StandsFor self.old x → StandsFor self.new y → PictureIsComing x → PictureIsComing y }
+        ensures ended { act_content act.entry ≡ ActContent.Break → (y : State) →
+            StandsFor self.new y → ¬ (PictureIsComing y) }
+        ensures host_break { act_content act.entry ≡ ActContent.HostBreak → (result ≡ Outcome.Done)
+            × (length self.new.down.bytes ≡ 257) × (self.new.board ≡ self.old.board) }
+        ensures restarted { act_content act.entry ≡ ActContent.HostBreak → (y : State) →
+            StandsFor self.new y → IsRestarted y × IsPromised y }
         ensures mode { (x y : State) → StandsFor self.old x → StandsFor self.new y →
             coming_mode y ≡ mode_after_step (coming_mode x) (act_content act.entry) result }
     {
@@ -200,8 +222,9 @@ impl World {
 
     /// Does all acts in order, and answers how many were `Done`.
     ///
-    /// Where those that were done ask for a dump, and the last of them that asks for a mode asks for
-    /// updates, the host's picture is the board's position once the world is quiet.
+    /// Where those that were done after the last `Break` ask for a dump, and the last of them that
+    /// asks for a mode asks for updates, the host's picture is the board's position once the world is
+    /// quiet. A `HostBreak` asks for both.
     pub fn run(&mut self, acts: &[Act<'_>]) -> usize
         ensures exact { (outcomes : List Outcome) × (result ≡ done_count outcomes)
             × Runs (map act_content acts.now) self.old outcomes self.new }
@@ -209,7 +232,8 @@ impl World {
             Runs (map act_content acts.now) self.old outcomes self.new →
             (x : State) → StandsFor self.old x →
             StandsAfterRun (map act_content acts.now) outcomes x self.new }
-        ensures stays_exact { IsExactWorld self.old → IsExactWorld self.new }
+        ensures stays_exact { ¬ (Contains (map act_content acts.now) ActContent.HostBreak) →
+            IsExactWorld self.old → IsExactWorld self.new }
         ensures promised { (outcomes : List Outcome) →
             Runs (map act_content acts.now) self.old outcomes self.new →
             IsAskedBy (map act_content acts.now) outcomes →
@@ -249,7 +273,7 @@ impl World {
     ///
     /// If it is, the host awaits nothing, and its picture is unknown or the board's position where
     /// the board's mode asks for updates. Where a dump was asked for as well, by an act that was
-    /// done, the picture is known.
+    /// done after the last `Break`, the picture is known.
     pub fn quiet(&self) -> bool
         ensures quiet { IsTrue result ↔ IsQuietWorld self.now }
         ensures told { IsTrue result → IsTrue (updates self.now.board.state.mode) →

@@ -7,7 +7,7 @@ use lib.Pointwise.{pointwise}
 use Rattle.dgt_values.specs.Equality.{EqualIsSameRead}
 use Rattle.dgt_values.specs.Bytes.{number}
 use Rattle.dgt_message.specs.declared.clock.Clock.TheVariants as clock_variants
-use Rattle.dgt_message.specs.declared.message.Message.TheVariants.{Dump, Field, Times, NoClock, Ack, Serial, Trademark, Version, Battery, Other}
+use Rattle.dgt_message.specs.declared.message.Message.TheVariants.{Dump, Field, Times, NoClock, Ack, Serial, Trademark, Version, Battery, LongSerial, Other}
 use Rattle.dgt_message.specs.declared.other.OtherCode.{OtherCode}
 use Rattle.dgt_message.specs.Clock.{Absence}
 use Rattle.dgt_message.specs.ClockState.{clock_seen}
@@ -89,6 +89,7 @@ equal_messages (Serial a) (Serial b) =
 equal_messages (Trademark a) (Trademark b) = search rules
 equal_messages (Version main sub) (Version mains subs) = search rules
 equal_messages (Battery a) (Battery b) = search rules
+equal_messages (LongSerial a) (LongSerial b) = search rules
 equal_messages (Other code a) (Other codes b) = search rules
 equal_messages (Other code a) _ = (λ t. cc, λ e. absurd (not_known code _ (ap code_of e) refl))
 equal_messages _ (Other code b) = (λ t. cc, λ e. absurd (not_known code _ (sym (ap code_of e)) refl))

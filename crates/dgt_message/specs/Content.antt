@@ -37,6 +37,7 @@ content (Message.Serial digits) = serial (map number digits)
 content (Message.Version main sub) = version (number main) (number sub)
 content (Message.Trademark body) = carried_as KnownCode.Trademark (body_bytes body)
 content (Message.Battery body) = carried_as KnownCode.Battery (body_bytes body)
+content (Message.LongSerial body) = carried_as KnownCode.LongSerial (body_bytes body)
 content (Message.Other other body) = carried (code_number other) (body_bytes body)
 
 -- the code that a message is sent under

@@ -12,6 +12,7 @@ kind_with (Some KnownCode.Serial) = Some Kind.Serial
 kind_with (Some KnownCode.Trademark) = Some Kind.Trademark
 kind_with (Some KnownCode.Version) = Some Kind.Version
 kind_with (Some KnownCode.Battery) = Some Kind.Battery
+kind_with (Some KnownCode.LongSerial) = Some Kind.LongSerial
 kind_with _ = None
 
 -- the kind of a message

@@ -17,6 +17,7 @@ pub fn kind_of(message: &Message<'_>) -> Option<Kind>
         Message::Trademark(_) => Some(Kind::Trademark),
         Message::Version { .. } => Some(Kind::Version),
         Message::Battery(_) => Some(Kind::Battery),
+        Message::LongSerial(_) => Some(Kind::LongSerial),
         _ => None,
     }
 }

@@ -1,7 +1,7 @@
 -- No line of a script has two meanings.
 use Rattle.std.proofs.Common.{◌≡◌, ℕ, List, [], ◌∷◌, Option, Some, None, refl, sym, ◌∙◌, ap, subst, arith, inl, inr, length}
 use Rattle.std.specs.Prelude.{bytes_eq, if◌then◌else◌}
-use Rattle.dgt_link.specs.Act.{ActContent, Change, ClockRead, Host, BoardSend, ToBoard, ToHost}
+use Rattle.dgt_link.specs.Act.{ActContent, Change, ClockRead, Host, BoardSend, ToBoard, ToHost, Break, HostBreak}
 use Rattle.dgt_text.specs.declared.script_words.Verb.{Verb}
 use Rattle.dgt_text.specs.declared.script_words.Verb.TheVariants as verb
 use Rattle.dgt_text.specs.Lines.{words_text}
@@ -44,6 +44,8 @@ verb_named word =
     else if bytes_eq word (verb_text verb.Send) then Some verb.Send
     else if bytes_eq word (verb_text verb.ToBoard) then Some verb.ToBoard
     else if bytes_eq word (verb_text verb.ToHost) then Some verb.ToHost
+    else if bytes_eq word (verb_text verb.Break) then Some verb.Break
+    else if bytes_eq word (verb_text verb.HostBreak) then Some verb.HostBreak
     else None
 
 verb_named-verb_text : (named : Verb) → verb_named (verb_text named) ≡ Some named
@@ -53,6 +55,8 @@ verb_named-verb_text verb.Host = refl
 verb_named-verb_text verb.Send = refl
 verb_named-verb_text verb.ToBoard = refl
 verb_named-verb_text verb.ToHost = refl
+verb_named-verb_text verb.Break = refl
+verb_named-verb_text verb.HostBreak = refl
 
 -- a word is one verb at most
 one_verb : (a b : Verb) → verb_text a ≡ verb_text b → a ≡ b
@@ -69,6 +73,8 @@ verb_of (Host command) = verb.Host
 verb_of BoardSend = verb.Send
 verb_of (ToBoard count) = verb.ToBoard
 verb_of (ToHost count) = verb.ToHost
+verb_of Break = verb.Break
+verb_of HostBreak = verb.HostBreak
 
 asks_in_order : (parts : List (List ℕ)) (act : ActContent) → Asks parts act → (rest : List (List ℕ)) × (parts ≡ verb_text (verb_of act) ∷ rest) × AreOf (kinds_after (verb_of act)) rest
 asks_in_order parts (Change square piece) h = (h.0 ∷ h.1 ∷ [], h.2, ((square, h.3), ((piece, h.4), tt)))
@@ -77,6 +83,8 @@ asks_in_order parts (Host command) h = (h.0 ∷ [], h.1, ((command, h.2), tt))
 asks_in_order parts BoardSend h = ([], h, tt)
 asks_in_order parts (ToBoard count) h = (h.0 ∷ [], h.1, ((count, h.2), tt))
 asks_in_order parts (ToHost count) h = (h.0 ∷ [], h.1, ((count, h.2), tt))
+asks_in_order parts Break h = ([], h, tt)
+asks_in_order parts HostBreak h = ([], h, tt)
 
 -- ---- Lines
 
@@ -101,6 +109,8 @@ same_first parts (ToBoard s) (ToBoard t) e h k =
     ap ToBoard (one_count k.0 s t (subst (λ w. IsCountWord w s) (same_word parts (verb_text verb.ToBoard) h.0 k.0 h.1 k.1) h.2) k.2)
 same_first parts (ToHost s) (ToHost t) e h k =
     ap ToHost (one_count k.0 s t (subst (λ w. IsCountWord w s) (same_word parts (verb_text verb.ToHost) h.0 k.0 h.1 k.1) h.2) k.2)
+same_first parts Break Break e h k = refl
+same_first parts HostBreak HostBreak e h k = refl
 same_first parts a b e h k = cc e
 
 pub one_act : (line : List ℕ) (a b : ActContent) → IsAsked line a → IsAsked line b → a ≡ b

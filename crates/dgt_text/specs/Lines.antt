@@ -45,6 +45,7 @@ time_text t =
 abbrev pub carried_words : Option KnownCode → ℕ → List (List ℕ)
 carried_words (Some KnownCode.Trademark) code = codes "trademark" ∷ []
 carried_words (Some KnownCode.Battery) code = codes "battery" ∷ []
+carried_words (Some KnownCode.LongSerial) code = codes "longserial" ∷ []
 carried_words _ code = codes "other" ∷ byte_text code ∷ []
 
 unfoldable pub message_text : Content → List ℕ

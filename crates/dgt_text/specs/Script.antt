@@ -4,7 +4,7 @@ use Rattle.std.specs.List.{slice_split}
 use Rattle.dgt_values.specs.declared.pieces.Piece.{Piece}
 use Rattle.dgt_message.specs.ClockState.{ClockState}
 use Rattle.dgt_command.specs.Content.{CommandContent}
-use Rattle.dgt_link.specs.Act.{ActContent, Change, ClockRead, Host, BoardSend, ToBoard, ToHost}
+use Rattle.dgt_link.specs.Act.{ActContent, Change, ClockRead, Host, BoardSend, ToBoard, ToHost, Break, HostBreak}
 use Rattle.dgt_text.specs.declared.script.LineFault.{LineFault}
 use Rattle.dgt_text.specs.declared.script.LineFault.TheVariants.{BadLine}
 use Rattle.dgt_text.specs.declared.script_words.Verb.{Verb}
@@ -27,6 +27,8 @@ Asks parts (Host command) = (word : List ℕ) × (parts ≡ verb_text verb.Host 
 Asks parts BoardSend = parts ≡ verb_text verb.Send ∷ []
 Asks parts (ToBoard count) = (word : List ℕ) × (parts ≡ verb_text verb.ToBoard ∷ word ∷ []) × IsCountWord word count
 Asks parts (ToHost count) = (word : List ℕ) × (parts ≡ verb_text verb.ToHost ∷ word ∷ []) × IsCountWord word count
+Asks parts Break = parts ≡ verb_text verb.Break ∷ []
+Asks parts HostBreak = parts ≡ verb_text verb.HostBreak ∷ []
 
 -- this line asks for this act
 abbrev pub IsAsked : List ℕ → ActContent → Type 0
@@ -58,6 +60,8 @@ kinds_after verb.Host = a_command ∷ []
 kinds_after verb.Send = []
 kinds_after verb.ToBoard = a_count ∷ []
 kinds_after verb.ToHost = a_count ∷ []
+kinds_after verb.Break = []
+kinds_after verb.HostBreak = []
 
 -- words that should be of these kinds go wrong where `bad` begins: at the first that is of another kind or one too
 -- many, or behind the last, where one is missing

@@ -24,6 +24,8 @@ verb_text verb.Host = codes "host"
 verb_text verb.Send = codes "send"
 verb_text verb.ToBoard = codes "toboard"
 verb_text verb.ToHost = codes "tohost"
+verb_text verb.Break = codes "break"
+verb_text verb.HostBreak = codes "hostbreak"
 
 -- ---- The words behind it
 

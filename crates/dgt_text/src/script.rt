@@ -43,6 +43,8 @@ struct Wrong {
 /// | `send` | `BoardSend` |
 /// | `toboard N` | `ToBoard`: 1 to 65535, in decimal with no leading zero |
 /// | `tohost N` | `ToHost`: the same |
+/// | `break` | `Break` |
+/// | `hostbreak` | `HostBreak` |
 ///
 /// Hexadecimal digits may be of either case. Any other line, and one of more than 519 bytes, is `BadLine`.
 pub fn read_act<'a>(line: &[u8], store: &'a mut [u8; 257]) -> Result<Act<'a>, LineFault>
@@ -75,6 +77,8 @@ fn read_words<'a>(line: &[u8], store: &'a mut [u8; 257]) -> Result<Act<'a>, Wron
         Verb::Send => send_line(rest),
         Verb::ToBoard => Ok(Act::ToBoard(count_line(rest)?)),
         Verb::ToHost => Ok(Act::ToHost(count_line(rest)?)),
+        Verb::Break => break_line(rest),
+        Verb::HostBreak => host_break_line(rest),
     }
 }
 
@@ -121,6 +125,20 @@ fn send_line(rest: Option<&[u8]>) -> Result<Act<'static>, Wrong>
 {
     no_word(rest)?;
     Ok(Act::BoardSend)
+}
+
+fn break_line(rest: Option<&[u8]>) -> Result<Act<'static>, Wrong>
+    ensures { Reads verb.Break (left_words rest.entry) result }
+{
+    no_word(rest)?;
+    Ok(Act::Break)
+}
+
+fn host_break_line(rest: Option<&[u8]>) -> Result<Act<'static>, Wrong>
+    ensures { Reads verb.HostBreak (left_words rest.entry) result }
+{
+    no_word(rest)?;
+    Ok(Act::HostBreak)
 }
 
 fn count_line(rest: Option<&[u8]>) -> Result<usize, Wrong>

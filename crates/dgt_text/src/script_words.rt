@@ -23,6 +23,8 @@ pub(crate) enum Verb {
     Send,
     ToBoard,
     ToHost,
+    Break,
+    HostBreak,
 }
 
 /// What a first word begins.
@@ -36,6 +38,8 @@ pub(crate) fn verb_word(word: &[u8]) -> Option<Verb>
         b"send" => Some(Verb::Send),
         b"toboard" => Some(Verb::ToBoard),
         b"tohost" => Some(Verb::ToHost),
+        b"break" => Some(Verb::Break),
+        b"hostbreak" => Some(Verb::HostBreak),
         _ => None,
     }
 }

@@ -43,7 +43,7 @@ fn assert_monitored(rt: &impl Abort, bytes: &[u8], lines: &[u8]) {
 
 #[test]
 fn lines_of_messages(rt: HostRuntime) {
-    let rows: [(&[u8], &[u8]); 16] = [
+    let rows: [(&[u8], &[u8]); 18] = [
         (&[], b""),
         (&[0x8e, 0x00, 0x05, 0x34, 0x00], b"00000005 field e2 .\n"),
         (FIELD, FIELD_LINE),
@@ -75,6 +75,13 @@ fn lines_of_messages(rt: HostRuntime) {
         ),
         (&[0x93, 0x00, 0x05, 0x01, 0x7f], b"00000005 version 1.127\n"),
         (&[0xa0, 0x00, 0x04, 0x64], b"00000004 battery 64\n"),
+        (&[0xa2, 0x00, 0x03], b"00000003 longserial -\n"),
+        (
+            &[
+                0xa2, 0x00, 0x0d, 0x30, 0x30, 0x30, 0x30, 0x30, 0x30, 0x30, 0x30, 0x30, 0x31,
+            ],
+            b"00000013 longserial 30303030303030303031\n",
+        ),
         (&[0xb0, 0x00, 0x04, 0x0f], b"00000004 other 30 0f\n"),
         (
             &[0x86, 0x00, 0x43, 0x00, 0x00, 0x8e, 0x00, 0x05, 0x24, 0x01],

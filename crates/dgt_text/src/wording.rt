@@ -73,6 +73,10 @@ fn push_message<'a, const ROOM: usize>(
             text.push(b"battery ");
             return Some(*body);
         }
+        Message::LongSerial(body) => {
+            text.push(b"longserial ");
+            return Some(*body);
+        }
         Message::Other { code, body } => {
             text.push(b"other ");
             text.push_hex(&[code.get().get()]);

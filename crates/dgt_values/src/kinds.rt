@@ -12,4 +12,5 @@ pub enum Kind {
     Trademark,
     Version,
     Battery,
+    LongSerial,
 }

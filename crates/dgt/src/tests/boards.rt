@@ -23,6 +23,9 @@ fn answers_as_a_board(rt: HostRuntime) -> Result<(), Fail> {
         // the acknowledgements of a clock message, and of its version
         ("2b04030b1000", "8d000a0a100b0a000000"),
         ("2b03030900", "8d000a0a10090a140000"),
+        // the text e4 and six spaces, with a beep
+        ("2b0c030c65342020202020200100", "8d000a0a100c0a000000"),
+        ("55", "a2000d30303030303030303031"),
         // lights, and what of them would be commands
         ("6004424d45412b04", ""),
         (

@@ -107,6 +107,50 @@ hostclock noclock 000000000000 20
 quiet no
 ";
 
+/// A line that is cut before the last byte of a dump.
+const CUT_LINE: &str = "\
+host 44
+host 42
+toboard 2
+send
+tohost 66
+break
+";
+
+const CUT_LINE_PLAYED: &str = "\
+done
+done
+done
+done
+done
+done
+board rnbqkbnr/pppppppp/8/8/8/8/PPPPPPPP/RNBQKBNR
+host unknown
+hostclock unknown
+quiet yes
+";
+
+/// The same line, before it is cut.
+const WHOLE_LINE: &str = "\
+host 44
+host 42
+toboard 2
+send
+tohost 66
+";
+
+const WHOLE_LINE_PLAYED: &str = "\
+done
+done
+done
+done
+done
+board rnbqkbnr/pppppppp/8/8/8/8/PPPPPPPP/RNBQKBNR
+host unknown
+hostclock unknown
+quiet no
+";
+
 #[test]
 fn plays_scripts(rt: HostRuntime) -> Result<(), Fail> {
     let rows = [
@@ -114,6 +158,8 @@ fn plays_scripts(rt: HostRuntime) -> Result<(), Fail> {
         (FIRST_MOVE, FIRST_MOVE_PLAYED),
         (CLOCK, CLOCK_PLAYED),
         (ALL_BUT_ONE, ALL_BUT_ONE_PLAYED),
+        (CUT_LINE, CUT_LINE_PLAYED),
+        (WHOLE_LINE, WHOLE_LINE_PLAYED),
     ];
     let least = "dgt simulate --up 67 --down 257";
     let most = "dgt simulate --down 65535 --up 65535";
@@ -187,6 +233,7 @@ fn tells_where_a_line_is_no_act(rt: HostRuntime) -> Result<(), Fail> {
         ("\n", "", "dgt: line 1: bad at 0\n"),
         ("change e4", "", "dgt: line 1: bad at 9\n"),
         ("host 2b02", "", "dgt: line 1: bad at 5\n"),
+        ("break x\n", "", "dgt: line 1: bad at 6\n"),
     ];
     for (script, output, errors) in rows {
         check_over(

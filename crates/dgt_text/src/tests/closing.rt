@@ -39,6 +39,7 @@ fn world_of(alloc: Global, clock: Clock) -> Result<World, Fail> {
         SevenBit::try_from(3)?,
         Body::new(&[0x64])?,
         0x14,
+        Body::new(b"0000000001")?,
     )?;
     Ok(World::new(alloc, Position::start(), clock, identity, 67, 257)?)
 }

@@ -13,7 +13,11 @@ fn acts_of_lines(rt: HostRuntime) -> Result<(), Fail> {
     let second = Reading::new(1, 29, 55, 0)?;
     let times = Times::new(first, second, Status::new(SevenBit::try_from(0x11)?))?;
     let beep = Command::ClockMessage(ClockCommand::Beep(0x10));
-    let rows: [(&[u8], Act<'_>); 8] = [
+    let text = Command::ClockMessage(ClockCommand::Text {
+        letters: *b"e4      ",
+        beep: 0x01,
+    });
+    let rows: [(&[u8], Act<'_>); 12] = [
         (
             b"change e2 .",
             Act::Change(Square::parse("e2")?, Piece::Empty),
@@ -25,9 +29,13 @@ fn acts_of_lines(rt: HostRuntime) -> Result<(), Fail> {
         (b"clock 01300001295511", Act::ClockRead(Clock::Times(times))),
         (b"host 42", Act::Host(Command::Dump)),
         (b"host 2b04030B1000", Act::Host(beep)),
+        (b"host 55", Act::Host(Command::LongSerial)),
+        (b"host 2b0c030c65342020202020200100", Act::Host(text)),
         (b"send", Act::BoardSend),
         (b"toboard 65535", Act::ToBoard(65535)),
         (b"tohost 67", Act::ToHost(67)),
+        (b"break", Act::Break),
+        (b"hostbreak", Act::HostBreak),
     ];
     for (line, act) in rows {
         let mut store = [0xff; 257];
@@ -38,7 +46,7 @@ fn acts_of_lines(rt: HostRuntime) -> Result<(), Fail> {
 
 #[test]
 fn places_where_lines_go_wrong(rt: HostRuntime) {
-    let rows: [(&[u8], usize); 24] = [
+    let rows: [(&[u8], usize); 26] = [
         (b"", 0),
         (b"change e9 P", 7),
         (b"change e9 P P", 7),
@@ -53,14 +61,16 @@ fn places_where_lines_go_wrong(rt: HostRuntime) {
         (b"clock 01300001295511 00", 21),
         (b"host", 4),
         (b"host 2b02", 5),
-        (b"host 55", 5),
+        (b"host 56", 5),
         (b"host 42 42", 8),
         (b"send now", 5),
         (b"send ", 5),
         (b" send", 0),
         (b"sned", 0),
-        (b"break", 0),
-        (b"break x", 0),
+        (b"break x", 6),
+        (b"break ", 6),
+        (b"breaks", 0),
+        (b"hostbreak 1", 10),
         (b"toboard 0", 8),
         (b"tohost", 6),
     ];

@@ -74,6 +74,7 @@ fn commands(rt: HostRuntime) -> Result<(), Fail> {
     assert_command(&rt, b"40", Command::Reset);
     assert_command(&rt, b"4b", Command::UpdateNice);
     assert_command(&rt, b"4B", Command::UpdateNice);
+    assert_command(&rt, b"55", Command::LongSerial);
     let beep = Command::ClockMessage(ClockCommand::Beep(0x10));
     assert_command(&rt, b"2b04030b1000", beep);
     assert_command(&rt, b"2B04030b1000", beep);
@@ -104,7 +105,7 @@ fn no_commands(rt: HostRuntime) {
         b"404",
         b"4040",
         b"4g",
-        b"55",
+        b"56",
         b"46",
         b"00",
         b"2b02",

@@ -22,6 +22,17 @@ pub const BATTERY: &[u8] = &[0xa0, 0x00, 0x04, 0x64];
 
 pub const ZERO_TIMES: &[u8] = &[0x8d, 0x00, 0x0a, 0x00, 0x00, 0x00, 0x00, 0x00, 0x00, 0x00];
 
+const LONG_SERIAL: &[u8] = &[
+    0xa2, 0x00, 0x0d, 0x30, 0x30, 0x30, 0x30, 0x30, 0x30, 0x30, 0x30, 0x30, 0x31,
+];
+
+// A text for the clock, e4 and six spaces with a beep, and its acknowledgement.
+const TEXT: &[u8] = &[
+    0x2b, 0x0c, 0x03, 0x0c, 0x65, 0x34, 0x20, 0x20, 0x20, 0x20, 0x20, 0x20, 0x01, 0x00,
+];
+
+const TEXT_TAKEN: &[u8] = &[0x8d, 0x00, 0x0a, 0x0a, 0x10, 0x0c, 0x0a, 0x00, 0x00, 0x00];
+
 // Serial, trademark, version, battery and the version of the clock.
 const QUESTIONS: &[u8] = &[0x45, 0x47, 0x4d, 0x4c, 0x2b, 0x03, 0x03, 0x09, 0x00];
 
@@ -46,6 +57,7 @@ pub fn new_board() -> Result<Board, Fail> {
         SevenBit::try_from(3)?,
         Body::new(&[0x64])?,
         0x14,
+        Body::new(b"0000000001")?,
     )?;
     let clock = Clock::Times(Times::new(zero, zero, status)?);
     Ok(Board::new(Position::start(), clock, identity))
@@ -72,6 +84,8 @@ fn answers_however_the_bytes_are_cut(rt: HostRuntime) -> Result<(), Fail> {
     assert_served(&rt, QUESTIONS, REPLIES, 0)?;
     assert_served(&rt, &[0x43, 0x40], ZERO_TIMES, 0)?;
     assert_served(&rt, &[0x42, 0x2b, 0x04], START, 2)?;
+    assert_served(&rt, &[0x55], LONG_SERIAL, 0)?;
+    assert_served(&rt, TEXT, TEXT_TAKEN, 0)?;
     // a stray byte and a size that is too small have no answer
     assert_served(&rt, &[0x00, 0x2b, 0x02, 0x4d], VERSION, 0)
 }

@@ -30,6 +30,7 @@ pub fn new_world(alloc: Global) -> Result<World, Fail> {
         SevenBit::try_from(3)?,
         Body::new(&[0x64])?,
         0x14,
+        Body::new(b"0000000001")?,
     )?;
     Ok(World::new(alloc, Position::start(), clock, identity, 67, 257)?)
 }
@@ -74,6 +75,33 @@ fn a_clock_is_told_where_it_differs(rt: HostRuntime) -> Result<(), Fail> {
 }
 
 #[test]
+fn a_break_makes_it_quiet(rt: HostRuntime) -> Result<(), Fail> {
+    assert_simulated(
+        &rt,
+        rt.alloc(),
+        b"host 44\nhost 42\ntoboard 2\nsend\ntohost 66\nbreak\n",
+        b"done\ndone\ndone\ndone\ndone\ndone\nboard rnbqkbnr/pppppppp/8/8/8/8/PPPPPPPP/RNBQKBNR\nhost unknown\nhostclock unknown\nquiet yes\n",
+    )?;
+    assert_simulated(
+        &rt,
+        rt.alloc(),
+        b"host 44\nhost 42\ntoboard 2\nsend\ntohost 66\n",
+        b"done\ndone\ndone\ndone\ndone\nboard rnbqkbnr/pppppppp/8/8/8/8/PPPPPPPP/RNBQKBNR\nhost unknown\nhostclock unknown\nquiet no\n",
+    )
+}
+
+#[test]
+fn a_host_begins_anew(rt: HostRuntime) -> Result<(), Fail> {
+    // in the middle of a display, which nine zeros end
+    assert_simulated(
+        &rt,
+        rt.alloc(),
+        b"host 2b0b03015b0600664f00000300\ntoboard 4\nhostbreak\ntoboard 257\nsend\ntohost 10\nsend\ntohost 67\n",
+        b"done\ndone\ndone\ndone\ndone\ndone\ndone\ndone\nboard rnbqkbnr/pppppppp/8/8/8/8/PPPPPPPP/RNBQKBNR\nhost rnbqkbnr/pppppppp/8/8/8/8/PPPPPPPP/RNBQKBNR\nhostclock unknown\nquiet yes\n",
+    )
+}
+
+#[test]
 fn a_last_line_needs_no_line_feed(rt: HostRuntime) -> Result<(), Fail> {
     assert_simulated(&rt, rt.alloc(), b"", NEW_LINES)?;
     assert_simulated(&rt, rt.alloc(), b"send\nsend\n", TWO_SENDS)?;
@@ -85,13 +113,14 @@ fn bad_lines(rt: HostRuntime) -> Result<(), Fail> {
     let long = [b'a'; 520];
     let mut ended = [b'a'; 521];
     ended[520] = b'\n';
-    let rows: [(&[u8], &[u8], u64, usize); 9] = [
+    let rows: [(&[u8], &[u8], u64, usize); 10] = [
         (b"send\nsned\n", b"nothing\n", 2, 0),
         (b"send\nsned", b"nothing\n", 2, 0),
         (b"send\n\nsend\n", b"nothing\n", 2, 0),
         (b"\n", b"", 1, 0),
         (b"send\nsend\nsend now\nsend\n", b"nothing\nnothing\n", 3, 5),
         (b"change e9 P\n", b"", 1, 7),
+        (b"break\nbreak x\n", b"done\n", 2, 6),
         (&long, b"", 1, 519),
         (&ended, b"", 1, 519),
         (&long[..519], b"", 1, 0),

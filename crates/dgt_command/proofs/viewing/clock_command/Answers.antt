@@ -13,3 +13,8 @@ pub returns-in-Some-SetAndRun-clause-carried : goal.returns-in-Some-SetAndRun-cl
 returns-in-Some-SetAndRun-clause-carried c =
     rw c.bytes-bytes.ensures.bytes (sized_payload KnownId.SetAndRun c.args.id (payload_bytes c.args.carried)
     (sym c.with_number.ensures ∙ (c.in-Some-SetAndRun.is ∙ ap Some c.in-Some-SetAndRun.field-0-is)) (c.new.ensures.refused.0 (rw c.in_default.is refl)))
+
+pub returns-in-Some-Text-clause-carried : goal.returns-in-Some-Text-clause-carried
+returns-in-Some-Text-clause-carried c =
+    rw c.bytes-bytes.ensures.bytes (sized_payload KnownId.Text c.args.id (payload_bytes c.args.carried)
+    (sym c.with_number.ensures ∙ (c.in-Some-Text.is ∙ ap Some c.in-Some-Text.field-0-is)) (c.new.ensures.refused.0 (rw c.in_default.is refl)))

@@ -14,6 +14,7 @@ returns-clause-one c =
       };
       divisions_append = c.divisions_append.ensures;
       no_word_begins_another = c.no_word_begins_another.ensures;
+      zeros_settle = c.zeros_settle_the_reader.ensures;
     })
     act world answer after x stands step
 
@@ -30,5 +31,6 @@ returns-clause-all c =
       };
       divisions_append = c.divisions_append.ensures;
       no_word_begins_another = c.no_word_begins_another.ensures;
+      zeros_settle = c.zeros_settle_the_reader.ensures;
     })
     acts world answers after x stands runs

@@ -1,4 +1,4 @@
-use Rattle.dgt_link.proofs.Promises.{dump_asked, picture_keeps_coming, move-mode}
+use Rattle.dgt_link.proofs.Promises.{anew_is_promised, break_ends, dump_asked, picture_keeps_coming, move-mode}
 use Rattle.dgt_link.proofs.laws.promise_is_kept.Goals as goal
 
 pub returns-clause-begun : goal.returns-clause-begun
@@ -9,3 +9,9 @@ returns-clause-kept c = picture_keeps_coming
 
 pub returns-clause-mode : goal.returns-clause-mode
 returns-clause-mode c = move-mode
+
+pub returns-clause-ended : goal.returns-clause-ended
+returns-clause-ended c = break_ends
+
+pub returns-clause-begun_anew : goal.returns-clause-begun_anew
+returns-clause-begun_anew c = anew_is_promised

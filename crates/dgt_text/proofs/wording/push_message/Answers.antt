@@ -12,6 +12,10 @@ pub returns-in-Battery-clause-text : goal.returns-in-Battery-clause-text
 unfolding message_text
 returns-in-Battery-clause-text g c = rw (c.in-Battery.is, c.push-in-Battery.ensures.bytes) (simp append_assoc refl)
 
+pub returns-in-LongSerial-clause-text : goal.returns-in-LongSerial-clause-text
+unfolding message_text
+returns-in-LongSerial-clause-text g c = rw (c.in-LongSerial.is, c.push-in-LongSerial.ensures.bytes) (simp append_assoc refl)
+
 pub returns-in-Other-clause-text : goal.returns-in-Other-clause-text
 unfolding message_text
 returns-in-Other-clause-text g c =

@@ -37,6 +37,16 @@ invariant_of-self-in-ToHost c =
     c.acts_keep.ensures.sound (ActContent.ToHost c.in-ToHost.count) _ _ c.to_host.result c.self.invariant
     (up_step _ c.in-ToHost.count c.to_host.result _ _ c.to_host.ensures)
 
+pub invariant_of-self-in-Break : goal.invariant_of-self-in-Break
+invariant_of-self-in-Break c =
+    c.acts_keep.ensures.sound ActContent.Break _ _ Outcome.Done c.self.invariant
+    (record { answers = refl; leaves = rw (c.line_lost.ensures, c.line_lost-in-Break.ensures, c.clear.ensures, c.clear-in-Break.ensures) refl })
+
+pub invariant_of-self-in-HostBreak : goal.invariant_of-self-in-HostBreak
+invariant_of-self-in-HostBreak c =
+    c.acts_keep.ensures.sound ActContent.HostBreak _ _ Outcome.Done c.self.invariant
+    (record { answers = refl; leaves = rw (c.restart.ensures.host, c.restart.ensures.up, c.restart.ensures.down) refl })
+
 pub returns-in-BoardSend : goal.returns-in-BoardSend
 returns-in-BoardSend c =
     rw (c.in-BoardSend.is, ← c.self.view_is) (next_step _ c.send_next.result _ _ c.send_next.ensures)
