@@ -1,10 +1,10 @@
 //! Worked runs that fail, and readers and writers of the standard library that do.
 
-use crate::tests::devices::{Broken, Recorder, Trickle, Zeros};
+use crate::tests::devices::{Broken, Lender, Recorder, Trickle, Zeros};
 use crate::tests::serving::{VERSION, new_board};
 use crate::tests::simulating::new_world;
 use crate::tests::troubles::Trouble::{Flush, Read, Room, Turns};
-use crate::tests::troubles::{Ends, Trouble};
+use crate::tests::troubles::{Trial, Trouble};
 use crate::tests::{FIELD, FIELD_LINE, START};
 use crate::{Bytes, Device, RunFault, Source, monitor, serve, simulate, write_event};
 use dgt_decode::Event;
@@ -32,18 +32,20 @@ type Run<'a> = (
 );
 
 // After a run of so many reads the sink has these bytes.
-fn assert_ran(rt: &impl Abort, ends: &Ends<'_>, reads: u64, taken: &[u8]) {
-    assert_eq!(rt; ends.source.reads, reads);
-    assert_eq!(rt; ends.sink.taken(), taken);
-    assert!(rt; !ends.source.late && !ends.sink.late);
+fn assert_ran(rt: &impl Abort, source: &Lender<'_>, sink: &Recorder, reads: u64, taken: &[u8]) {
+    assert_eq!(rt; source.reads, reads);
+    assert_eq!(rt; sink.taken(), taken);
+    assert!(rt; !source.late && !sink.late);
 }
 
 #[test]
 fn monitors_that_fail(rt: HostRuntime) {
-    for room in 0..20u8 {
-        let mut ends = Ends::new(FIELD, 64, Room, u32::from(room));
-        assert_eq!(rt; monitor(&mut ends.source, &mut ends.sink, 10), WRITE_FAILED);
-        assert_ran(&rt, &ends, 1, &FIELD_LINE[..usize::from(room)]);
+    for room in 0..FIELD_LINE.len() {
+        let mut source = Lender::new(FIELD, 64);
+        let mut sink = Recorder::new();
+        sink.room = room;
+        assert_eq!(rt; monitor(&mut source, &mut sink, 10), WRITE_FAILED);
+        assert_ran(&rt, &source, &sink, 1, &FIELD_LINE[..room]);
     }
     let cut = [0x8e, 0x00, 0x05, 0x24, 0x01, 0x8e];
     let stray = b"00000001 stray 00\n";
@@ -59,10 +61,9 @@ fn monitors_that_fail(rt: HostRuntime) {
         (FIELD, 1, Turns, 6, Ok(()), 6, FIELD_LINE),
     ];
     for (bytes, step, trouble, at, answer, reads, taken) in rows {
-        let mut ends = Ends::new(bytes, step, trouble, at);
-        let limit = ends.limit;
-        assert_eq!(rt; monitor(&mut ends.source, &mut ends.sink, limit), answer);
-        assert_ran(&rt, &ends, reads, taken);
+        let (mut source, mut sink, limit) = Trial { trouble, at }.ends(bytes, step);
+        assert_eq!(rt; monitor(&mut source, &mut sink, limit), answer);
+        assert_ran(&rt, &source, &sink, reads, taken);
     }
 }
 
@@ -89,13 +90,9 @@ fn servings_that_fail(rt: HostRuntime) -> Result<(), Fail> {
     ];
     for (bytes, step, trouble, at, answer, reads, taken) in rows {
         let mut board = new_board()?;
-        let mut ends = Ends::new(bytes, step, trouble, at);
-        let limit = ends.limit;
-        assert_eq!(rt;
-            serve(&mut board, &mut ends.source, &mut ends.sink, limit),
-            answer
-        );
-        assert_ran(&rt, &ends, reads, taken);
+        let (mut source, mut sink, limit) = Trial { trouble, at }.ends(bytes, step);
+        assert_eq!(rt; serve(&mut board, &mut source, &mut sink, limit), answer);
+        assert_ran(&rt, &source, &sink, reads, taken);
         let partial = if bytes == unfinished.as_slice() { 2 } else { 0 };
         assert_eq!(rt; board.partial(), partial);
     }
@@ -113,15 +110,37 @@ fn scripts_that_fail(rt: HostRuntime) -> Result<(), Fail> {
     ];
     for (bytes, step, trouble, at, answer, reads, taken) in rows {
         let mut world = new_world(rt.alloc())?;
-        let mut ends = Ends::new(bytes, step, trouble, at);
-        let limit = ends.limit;
-        assert_eq!(rt;
-            simulate(&mut world, &mut ends.source, &mut ends.sink, limit),
-            answer
-        );
-        assert_ran(&rt, &ends, reads, taken);
+        let (mut source, mut sink, limit) = Trial { trouble, at }.ends(bytes, step);
+        assert_eq!(rt; simulate(&mut world, &mut source, &mut sink, limit), answer);
+        assert_ran(&rt, &source, &sink, reads, taken);
     }
     Ok(())
+}
+
+// The sink takes this front of the event's line, and no call comes after its refusal.
+fn assert_refused(rt: &impl Abort, mut sink: Recorder, event: &Event<'_>, front: &[u8]) {
+    assert_eq!(rt; write_event(&mut sink, 123456789, event), WRITE_FAILED);
+    assert_eq!(rt; sink.taken(), front);
+    assert!(rt; sink.failed && !sink.late);
+}
+
+// The line of an event, in one write, and what each refused write leaves of it.
+fn assert_line(rt: &impl Abort, event: &Event<'_>, line: &[u8]) {
+    let mut sink = Recorder::new();
+    assert_eq!(rt; write_event(&mut sink, 123456789, event), Ok(()));
+    assert_eq!(rt; sink.taken(), line);
+    assert_eq!(rt; (sink.writes, sink.flushes), (1, 0));
+    assert!(rt; !sink.failed && !sink.flushed);
+    for at in 0..line.len() {
+        let mut full = Recorder::new();
+        full.room = at;
+        assert_refused(rt, full, event, &line[..at]);
+        // a byte at a write, so that the write after these bytes is the one that fails
+        let mut refusing = Recorder::new();
+        refusing.step = 1;
+        refusing.write_fails_at = at as u64 + 1;
+        assert_refused(rt, refusing, event, &line[..at]);
+    }
 }
 
 #[test]
@@ -149,24 +168,7 @@ fn the_line_of_one_event(rt: HostRuntime) -> Result<(), Fail> {
         (Event::Stray(0x05), b"123456789 stray 05\n"),
     ];
     for (event, line) in &rows {
-        let mut sink = Recorder::new();
-        assert_eq!(rt; write_event(&mut sink, 123456789, event), Ok(()));
-        assert_eq!(rt; sink.taken(), *line);
-        assert_eq!(rt; (sink.writes, sink.flushes), (1, 0));
-        assert!(rt; !sink.failed && !sink.flushed);
-        for at in 0..line.len() {
-            let mut full = Recorder::new();
-            full.room = at;
-            // a byte at a write, so that the write number at + 1 finds the first bytes taken
-            let mut refusing = Recorder::new();
-            refusing.step = 1;
-            refusing.write_fails_at = at as u64 + 1;
-            for sink in [&mut full, &mut refusing] {
-                assert_eq!(rt; write_event(sink, 123456789, event), WRITE_FAILED);
-                assert_eq!(rt; sink.taken(), &line[..at]);
-                assert!(rt; sink.failed && !sink.late);
-            }
-        }
+        assert_line(&rt, event, line);
     }
     Ok(())
 }

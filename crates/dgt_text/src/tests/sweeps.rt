@@ -3,7 +3,7 @@
 use crate::tests::devices::Lender;
 use crate::tests::serving::{BATTERY, SERIAL, TRADEMARK, VERSION, ZERO_TIMES, new_board};
 use crate::tests::simulating::{NEW_LINES, new_world};
-use crate::tests::troubles::{Ends, TROUBLES, Text};
+use crate::tests::troubles::{TROUBLES, Text, Trial};
 use crate::tests::{START, START_LINE};
 use crate::{RunFault, monitor, read_act, serve, simulate};
 use dgt_board::{Board, Polled};
@@ -21,11 +21,13 @@ fn sweep_monitor(rt: &impl Abort, text: Text<'_>) -> Result<(), Fail> {
         for trouble in TROUBLES {
             let mut met = true;
             for at in trouble.first()..1000 {
-                let mut ends = Ends::new(input.as_slice(), step, trouble, at);
-                ends.sink.step = step;
-                let answer = monitor(&mut ends.source, &mut ends.sink, ends.limit);
-                met = ends.has_met(rt, answer, Ok(()));
-                text.assert_written(rt, &ends, met)?;
+                let trial = Trial { trouble, at };
+                let (mut source, mut sink, limit) = trial.ends(input.as_slice(), step);
+                sink.step = step;
+                let answer = monitor(&mut source, &mut sink, limit);
+                met = trial.is_met(rt, &source, &sink, answer, Ok(()));
+                let is_torn = met && trouble.tears();
+                text.assert_written(rt, &source, &sink, is_torn)?;
                 if !met {
                     break;
                 }
@@ -55,27 +57,15 @@ fn a_monitor_meets_each_trouble_at_each_place(rt: HostRuntime) -> Result<(), Fai
         (&[0x8e], b""),
     ];
     let messages: [(&[u8], &[u8]); 2] = [(START, START_LINE), (&[0x7f], b"00000068 stray 7f\n")];
-    sweep_monitor(
-        &rt,
-        Text {
-            rows: &garbage,
-            last: b"00000023 unfinished 1\n",
-        },
-    )?;
-    sweep_monitor(
-        &rt,
-        Text {
-            rows: &messages,
-            last: b"",
-        },
-    )?;
-    sweep_monitor(
-        &rt,
-        Text {
-            rows: &[],
-            last: b"",
-        },
-    )
+    let rows: [(&[(&[u8], &[u8])], &[u8]); 3] = [
+        (&garbage, b"00000023 unfinished 1\n"),
+        (&messages, b""),
+        (&[], b""),
+    ];
+    for (rows, last) in rows {
+        sweep_monitor(&rt, Text { rows, last })?;
+    }
+    Ok(())
 }
 
 // Lets the board send at most so many messages, and answers how many more it may.
@@ -122,15 +112,17 @@ fn sweep_serve(rt: &impl Abort, asked: &[u8], text: Text<'_>) -> Result<(), Fail
             let mut met = true;
             for at in trouble.first()..1000 {
                 let mut board = board_after(asked, &[], 0)?;
-                let mut ends = Ends::new(input.as_slice(), step, trouble, at);
-                ends.sink.step = step;
-                let answer = serve(&mut board, &mut ends.source, &mut ends.sink, ends.limit);
-                met = ends.has_met(rt, answer, Ok(()));
-                text.assert_written(rt, &ends, met)?;
-                let (came, most) = if met && trouble.tears() {
-                    text.torn_at(ends.sink.taken().len())
+                let trial = Trial { trouble, at };
+                let (mut source, mut sink, limit) = trial.ends(input.as_slice(), step);
+                sink.step = step;
+                let answer = serve(&mut board, &mut source, &mut sink, limit);
+                met = trial.is_met(rt, &source, &sink, answer, Ok(()));
+                let is_torn = met && trouble.tears();
+                text.assert_written(rt, &source, &sink, is_torn)?;
+                let (came, most) = if is_torn {
+                    text.torn_at(sink.taken().len())
                 } else {
-                    (ends.source.given, 1000)
+                    (source.given, 1000)
                 };
                 let bytes = input.as_slice().get(..came).ok_or("too many bytes came")?;
                 assert_same_board(rt, &board, &board_after(asked, bytes, most)?);
@@ -228,16 +220,18 @@ fn sweep_simulate(
             let mut met = true;
             for at in trouble.first()..1000 {
                 let mut world = new_world(alloc)?;
-                let mut ends = Ends::new(input.as_slice(), step, trouble, at);
-                ends.sink.step = step;
-                let answer = simulate(&mut world, &mut ends.source, &mut ends.sink, ends.limit);
-                met = ends.has_met(rt, answer, whole);
-                text.assert_written(rt, &ends, met)?;
-                let (came, begun) = text.torn_at(ends.sink.taken().len());
-                let lines = if met && trouble.tears() && came < input.len() {
+                let trial = Trial { trouble, at };
+                let (mut source, mut sink, limit) = trial.ends(input.as_slice(), step);
+                sink.step = step;
+                let answer = simulate(&mut world, &mut source, &mut sink, limit);
+                met = trial.is_met(rt, &source, &sink, answer, whole);
+                let is_torn = met && trouble.tears();
+                text.assert_written(rt, &source, &sink, is_torn)?;
+                let (came, begun) = text.torn_at(sink.taken().len());
+                let lines = if is_torn && came < input.len() {
                     begun
                 } else {
-                    lines_ended(text, &ends.source)
+                    lines_ended(text, &source)
                 };
                 assert_same_world(rt, &world, &world_after(alloc, text, lines)?);
                 if !met {

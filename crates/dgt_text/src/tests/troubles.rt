@@ -49,56 +49,44 @@ pub const TROUBLES: [Trouble; 5] = [
     Trouble::Turns,
 ];
 
-/// The ends of a run, and how many turns it may make.
-#[derive(Drop)]
-pub struct Ends<'a> {
-    pub source: Lender<'a>,
-    pub sink: Recorder,
-    pub limit: u32,
-    trouble: Trouble,
-    at: u32,
+/// A run in which something fails: the read, write or flush of number `at`, or a sink with room for
+/// `at` bytes alone, or there are `at` turns alone.
+#[derive(Clone, Copy, Debug)]
+pub struct Trial {
+    pub trouble: Trouble,
+    pub at: u32,
 }
 
-impl<'a> Ends<'a> {
-    /// A source of these bytes, `step` in a read, and a sink, with this trouble: the read, write or
-    /// flush of number `at` fails, or there is room for `at` bytes alone, or there are `at` turns
-    /// alone.
-    pub fn new(bytes: &'a [u8], step: usize, trouble: Trouble, at: u32) -> Self {
+impl Trial {
+    /// Its source of these bytes, `step` in a read, its sink, and how many turns there are.
+    pub fn ends(self, bytes: &[u8], step: usize) -> (Lender<'_>, Recorder, u32) {
         let mut source = Lender::new(bytes, step);
         let mut sink = Recorder::new();
         let mut limit = 1000;
-        match trouble {
-            Trouble::Read => source.fails_at = at as u64,
-            Trouble::Write => sink.write_fails_at = at as u64,
-            Trouble::Flush => sink.flush_fails_at = at as u64,
-            Trouble::Room => sink.room = at as usize,
-            Trouble::Turns => limit = at,
+        match self.trouble {
+            Trouble::Read => source.fails_at = self.at as u64,
+            Trouble::Write => sink.write_fails_at = self.at as u64,
+            Trouble::Flush => sink.flush_fails_at = self.at as u64,
+            Trouble::Room => sink.room = self.at as usize,
+            Trouble::Turns => limit = self.at,
         }
-        Ends {
-            source,
-            sink,
-            limit,
-            trouble,
-            at,
-        }
+        (source, sink, limit)
     }
 
     /// Whether the run met its trouble, without which it answers `whole`. The answer and the marks
     /// tell it, and it came at its place.
-    pub fn has_met(
-        &self,
+    pub fn is_met(
+        self,
         rt: &impl Abort,
+        source: &Lender<'_>,
+        sink: &Recorder,
         answer: Result<(), RunFault>,
         whole: Result<(), RunFault>,
     ) -> bool {
-        let Ends { source, sink, .. } = self;
         let is_torn = answer == Err(RunFault::WriteFailed);
         assert_eq!(rt; source.failed, answer == Err(RunFault::ReadFailed));
         assert_eq!(rt; sink.failed, is_torn);
-        assert!(rt;
-            !source.late && !sink.late,
-            "a call after a refusal or the end"
-        );
+        assert!(rt; !source.late && !sink.late, "a call that came late");
         assert!(rt; sink.flushed || is_torn);
         if answer == whole {
             return false;
@@ -111,7 +99,7 @@ impl<'a> Ends<'a> {
             Trouble::Room => sink.taken().len() as u64,
         };
         assert_eq!(rt; place, self.at as u64);
-        assert!(rt; !source.ended || self.trouble.fault() == RunFault::WriteFailed);
+        assert!(rt; !source.ended || is_torn);
         true
     }
 }
@@ -167,10 +155,16 @@ impl Text<'_> {
     }
 
     /// After a torn write the sink has a front of the text, and else all of it.
-    pub fn assert_written(&self, rt: &impl Abort, ends: &Ends<'_>, met: bool) -> Result<(), Fail> {
-        let text = self.of(&ends.source)?;
-        let taken = ends.sink.taken();
-        if met && ends.trouble.tears() {
+    pub fn assert_written(
+        &self,
+        rt: &impl Abort,
+        source: &Lender<'_>,
+        sink: &Recorder,
+        is_torn: bool,
+    ) -> Result<(), Fail> {
+        let text = self.of(source)?;
+        let taken = sink.taken();
+        if is_torn {
             assert!(rt; text.as_slice().starts_with(taken));
             assert!(rt; taken.len() < text.len());
         } else {
