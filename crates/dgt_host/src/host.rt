@@ -118,7 +118,8 @@ impl Host {
     // Writes so many bytes `00`, and then what asks for the updates and the whole of the board.
     fn ask_for_dump(&mut self, zeros: usize, out: &mut [u8]) -> Result<usize, SendFault>
         requires { zeros ≤ 255 }
-        ensures { Sends (Some Kind.Dump) (replicate zeros 0 ++ follow_bytes) self.old self.new out.old out.new result }
+        ensures { Sends (Some Kind.Dump) (replicate zeros 0 ++ follow_bytes)
+            self.old self.new out.old out.new result }
     {
         if self.awaited.is_full() {
             return Err(SendFault::TooMany);

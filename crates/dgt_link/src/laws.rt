@@ -115,8 +115,9 @@ pub fn at_quiet()
         → x.picture ≡ Some x.board.squares }
 {}
 
-/// After any moves: sound stays sound, and exact without a host break exact, and where the commands among them, after the
-/// last break, ask for the picture, it is promised, and is the board's squares once all is quiet.
+/// After any moves: sound stays sound, and exact without a host break exact. Where the commands among
+/// them, after the last break, ask for the picture, it is promised, and is the board's squares once
+/// all is quiet.
 pub fn picture_after_moves()
     ensures sound { (x : State) (moves : List Move) → IsSound x → IsSound (after_moves x moves) }
     ensures exact { (x : State) (moves : List Move) → AllByRecursion (λ move. ¬ (IsHostBreak move)) moves
@@ -193,7 +194,8 @@ pub fn acts_keep()
     ensures sound { (act : ActContent) (world after : WorldView) (answer : Outcome) →
         IsWorld world → Step act world answer after → IsWorld after }
     ensures exact { (act : ActContent) (world after : WorldView) (answer : Outcome) →
-        act ≢ ActContent.HostBreak → IsExactWorld world → Step act world answer after → IsExactWorld after }
+        act ≢ ActContent.HostBreak → IsExactWorld world → Step act world answer after
+        → IsExactWorld after }
     ensures exact_again { (world after : WorldView) (answer : Outcome) →
         IsWorld world → Step ActContent.Break world answer after → IsExactWorld after }
     ensures exact_after_all { (acts : List ActContent) (world after : WorldView)
