@@ -1,12 +1,13 @@
 //! The world: a board, a host, and the two lines between them.
 
-ghost use Rattle.std.specs.Prelude.{◌≡◌, ◌≢◌, ◌↔◌, ◌⊎◌, ◌<◌, ◌≤◌, List, [], ◌∷◌, ◌++◌, All, Contains, Some, None, IsTrue, IfOk, IsErr, IsErrOf, map, length};
+ghost use Rattle.std.specs.Prelude.{◌≡◌, ◌≢◌, ◌↔◌, ◌⊎◌, ◌<◌, ◌≤◌, ◌+◌, ◌*◌, ◌^◌, false, List, [], ◌∷◌, ◌++◌, All, Contains, Some, None, IsTrue, IfOk, IsErr, IsErrOf, map, length};
 ghost use Rattle.dgt_values.specs.Pieces.{pieces_of};
 ghost use Rattle.dgt_values.specs.declared.kinds.Kind.{Kind};
 ghost use Rattle.dgt_message.specs.Content.{Content};
 ghost use Rattle.dgt_message.specs.ClockState.{clock_seen};
 ghost use Rattle.dgt_message.specs.Kind.{kind_of};
 ghost use Rattle.dgt_command.specs.Content.{CommandContent};
+ghost use Rattle.dgt_board.specs.Backlog.{backlog};
 ghost use Rattle.dgt_board.specs.State.{follows_clock, updates};
 ghost use Rattle.dgt_host.specs.Hearing.{picture_after_all};
 ghost use Rattle.dgt_link.specs.Act.{ActContent, act_content};
@@ -14,6 +15,7 @@ ghost use Rattle.dgt_link.specs.ActMoves.{StandsAfterRun, StandsAfterStep};
 ghost use Rattle.dgt_link.specs.Asked.{IsAskedBy, mode_after_step};
 ghost use Rattle.dgt_link.specs.Machine.{State, new_state};
 ghost use Rattle.dgt_link.specs.Promise.{IsPromised, IsRestarted, PictureIsComing, coming_mode};
+ghost use Rattle.dgt_link.specs.Settling.{IsSettling, SettlesIn, work_left};
 ghost use Rattle.dgt_link.specs.Sound.{IsExact, IsSound, IsUnknownOr};
 ghost use Rattle.dgt_link.specs.Stands.{IsExactWorld, StandsFor};
 ghost use Rattle.dgt_link.specs.Step.{Runs, Step, done_count};
@@ -163,7 +165,7 @@ impl World {
                 Outcome::Done
             }
             Act::Host(command) => ask(&mut self.host, &mut self.down, &command),
-            Act::BoardSend => send_next(&mut self.board, &mut self.up),
+            Act::BoardSend => self.send(),
             Act::ToBoard(count) => to_board(&mut self.board, &mut self.down, count),
             Act::ToHost(count) => to_host(&mut self.host, &mut self.up, count),
             Act::Break => {
@@ -257,6 +259,89 @@ impl World {
         let mut done = 0;
         for act in acts {
             done += count(self.act(*act));
+        }
+        done
+    }
+
+    // The board sends, where it can: with an empty line it can send anything.
+    fn send(&mut self) -> Outcome
+        ensures exact { Step ActContent.BoardSend self.old result self.new }
+        ensures room { self.old.up.bytes ≡ [] → result ≢ Outcome.NoRoom }
+    {
+        laws::acts_keep();
+        send_next(&mut self.board, &mut self.up)
+    }
+
+    // Does one delivery or sending, where one can be done. Where none can, the world is quiet.
+    fn settle_once(&mut self) -> bool
+        ensures moved { IsTrue result → (act : ActContent) × IsSettling act
+            × Step act self.old Outcome.Done self.new × (work_left self.new < work_left self.old) }
+        ensures rests { result ≡ false → IsQuietWorld self.old × (self.new ≡ self.old) }
+    {
+        dgt_board::laws::bounded_backlog();
+        dgt_board::laws::nothing_to_send();
+        dgt_command::laws::words_are_short();
+        dgt_command::laws::no_word_begins_another();
+        dgt_command::laws::one_division();
+        dgt_decode::laws::events_append();
+        dgt_decode::laws::open_append();
+        dgt_decode::laws::quiet_held();
+        dgt_decode::laws::spelling_is_read();
+        self.host.unread();
+        if !self.up.is_empty() {
+            let waiting = self.up.len();
+            self.act(Act::ToHost(waiting));
+            true
+        } else if self.board.owes() {
+            self.send();
+            true
+        } else if !self.down.is_empty() {
+            let coming = self.down.len();
+            self.act(Act::ToBoard(coming));
+            true
+        } else {
+            false
+        }
+    }
+
+    // The work that is left is counted by a `u128`.
+    fn work(&self)
+        ensures fits { work_left self.now < 2 ^ 67 }
+        ensures few { backlog self.now.board.state ≤ 73 }
+    {
+        dgt_board::laws::bounded_backlog();
+        let _coming = self.down.len();
+        let _owed = self.board.owed_len();
+    }
+
+    /// Delivers what is under way and lets the board send what it owes, until the world is quiet,
+    /// and answers how many acts that took.
+    ///
+    /// It is at most three for each byte in the down line, two for each reply, square and clock
+    /// that the board has still to tell, and one.
+    pub fn settle(&mut self) -> u128
+        ensures quiet { IsQuietWorld self.new }
+        ensures run { SettlesIn result self.old self.new }
+        ensures squares { self.new.board.state.squares ≡ self.old.board.state.squares }
+        ensures clock { self.new.board.state.clock ≡ self.old.board.state.clock }
+        ensures mode { (x : State) → StandsFor self.old x →
+            self.new.board.state.mode ≡ coming_mode x }
+        ensures picture { (x : State) → StandsFor self.old x → IsPromised x →
+            self.new.host.picture ≡ Some self.new.board.state.squares }
+        ensures stays_exact { IsExactWorld self.old → IsExactWorld self.new }
+        ensures bound { result ≤
+            3 * length self.old.down.bytes + 2 * backlog self.old.board.state + 1 }
+        ensures at_most { result ≤ 3 * length self.old.down.bytes + 147 }
+    {
+        laws::acts_are_moves();
+        laws::acts_keep();
+        laws::promise_by_acts();
+        laws::at_quiet_world();
+        dgt_command::laws::one_division();
+        self.work();
+        let mut done = 0;
+        while self.settle_once() {
+            done += 1;
         }
         done
     }
