@@ -20,3 +20,4 @@ pub mod Running
 pub mod Halves
 pub mod Equal
 pub mod Settling
+pub mod SettlingMoves

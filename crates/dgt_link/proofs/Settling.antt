@@ -5,6 +5,8 @@ use Rattle.std.proofs.lemmas.Bool.{eqb-true, false≢true, ltb-false}
 use Rattle.std.proofs.Math.Nat.{mul-le-mul_left}
 use Rattle.std.specs.Prelude.{◌↔◌, ◌||◌, Contains, IsTrue, IsSome, nat_lt}
 use Rattle.std.specs.List.{AllByRecursion, flat_map}
+use Rattle.dgt_values.specs.declared.pieces.Piece.{Piece}
+use Rattle.dgt_message.specs.ClockState.{ClockState}
 use Rattle.dgt_message.specs.Content.{Content}
 use Rattle.dgt_message.specs.Spelling.{spelling}
 use Rattle.dgt_command.specs.Content.{EventContent}
@@ -14,7 +16,7 @@ use Rattle.dgt_decode.specs.Grammar.{open_message}
 use Rattle.dgt_board.specs.declared.modes.Mode.{Mode}
 use Rattle.dgt_board.specs.Backlog.{backlog}
 use Rattle.dgt_board.specs.Effect.{effect, effects}
-use Rattle.dgt_board.specs.State.{BoardState}
+use Rattle.dgt_board.specs.State.{BoardState, follows_clock, updates}
 use Rattle.dgt_board.specs.Sending.{after_sending, next_message}
 use Rattle.dgt_link.specs.Act.{ActContent}
 use Rattle.dgt_link.specs.ActMoves.{StandsAfterStep}
@@ -25,14 +27,15 @@ use Rattle.dgt_link.specs.Machine.{State, after_moves}
 use Rattle.dgt_link.specs.Moving.{moves_nothing}
 use Rattle.dgt_link.specs.Promise.{IsPromised, PictureIsComing, coming_mode}
 use Rattle.dgt_link.specs.Settling.{IsSettling, SettlesIn, steps_left, work_left}
-use Rattle.dgt_link.specs.Stands.{AreSpelled, IsWorld, StandsFor}
+use Rattle.dgt_link.specs.Sound.{IsUnknownOr}
+use Rattle.dgt_link.specs.Stands.{AreSpelled, IsExactWorld, IsWorld, StandsFor}
 use Rattle.dgt_link.specs.Step.{Becomes, Runs, Step, done_count}
 use Rattle.dgt_link.specs.View.{IsQuietWorld, WorldView}
 use Rattle.dgt_link.proofs.Dividing.{no_word_within}
 use Rattle.dgt_link.proofs.Fronts.{IsShorter, Reaches, fronts}
 use Rattle.dgt_link.proofs.Hearing.{Reads, held_alone, nothing_open}
 use Rattle.dgt_link.proofs.Promises.{Contains-cons, nothing_contained}
-use Rattle.dgt_link.proofs.Resting.{quiet_state, world_picture}
+use Rattle.dgt_link.proofs.Resting.{quiet_state, world_awaits_nothing, world_clock_told, world_picture, world_picture_told}
 use Rattle.dgt_link.proofs.Running.{run-push}
 use Rattle.dgt_link.proofs.Taking.{effect_leaves}
 
@@ -309,9 +312,24 @@ module _ (moves : (act : ActContent) (world after : WorldView) (answer : Outcome
       let same : coming_mode promise.state ≡ promise.state.board.mode = rw rest.down refl in
       ap (λ (board : BoardState). board.mode) promise.stands.board ∙ sym same ∙ promise.mode
 
-  pub settled_picture : IsPromised x → new.host.picture ≡ Some new.board.state.squares
+  pub settled_picture : IsPromised x → new.host.picture ≡ Some old.board.state.squares
   settled_picture promised =
+      let same = (settled_kept count old new settled).squares in
       world_picture law new promise.state promise.stands quiet (record { picture = promise.picture promised.picture; mode = rw promise.mode promised.mode })
+          ∙ ap (λ (squares : List Piece). Some squares) same
+
+  pub settled_told : IsTrue (updates new.board.state.mode) → IsUnknownOr new.host.picture (Some old.board.state.squares)
+  settled_told asks =
+      let same = (settled_kept count old new settled).squares in
+      subst (λ (squares : List Piece). IsUnknownOr new.host.picture (Some squares)) same (world_picture_told law new promise.state promise.stands quiet asks)
+
+  pub settled_awaited : new.host.awaited ≡ []
+  settled_awaited = world_awaits_nothing law new promise.state promise.stands quiet
+
+pub settled_clock : EachDividesOnce → (count : ℕ) (old new : WorldView) → SettlesIn count old new → IsExactWorld new → IsQuietWorld new → IsTrue (follows_clock new.board.state.mode) → new.host.clock ≡ Some old.board.state.clock
+settled_clock law count old new settled exact quiet follows =
+    let same = (settled_kept count old new settled).clock in
+    world_clock_told law new exact.state exact.stands quiet exact.exact follows ∙ ap (λ (clock : ClockState). Some clock) same
 
 pub work_fits : (world : WorldView) → ((board : BoardState) → backlog board ≤ length board.owed + 65) → length world.down.bytes < 2 ^ 64 → length world.board.state.owed ≤ 8 → work_left world < 2 ^ 67
 work_fits world bound down owed =

@@ -1,12 +1,36 @@
 -- How a world comes to rest: what is under way is delivered, and the board sends what it owes.
-use Rattle.std.specs.Prelude.{◌≡◌, ℕ, ◌+◌, ◌*◌, List, ◌==◌, if◌then◌else◌, length, replicate}
+use Rattle.std.specs.Prelude.{◌≡◌, ℕ, ◌+◌, ◌*◌, ◌≤◌, List, ◌==◌, if◌then◌else◌, length, replicate}
 use Rattle.std.specs.List.{AllByRecursion}
 use Rattle.dgt_board.specs.Backlog.{backlog}
 use Rattle.dgt_link.specs.Act.{ActContent}
 use Rattle.dgt_link.specs.declared.acts.Outcome.{Outcome}
 use Rattle.dgt_link.specs.Line.{LineContents}
+use Rattle.dgt_link.specs.Machine.{State, after_moves}
+use Rattle.dgt_link.specs.Move.{IsSending, Move}
+use Rattle.dgt_link.specs.Promise.{IsQuiet}
 use Rattle.dgt_link.specs.Step.{Runs}
 use Rattle.dgt_link.specs.View.{WorldView}
+
+-- ---- of the machine
+
+-- the board takes or sends something, or the host hears something
+abbrev pub IsSettlingMove : Move → Type 0
+IsSettlingMove Move.Take = Unit {0}
+IsSettlingMove Move.Hear = Unit {0}
+IsSettlingMove move = IsSending move
+
+-- At least as many such moves as are left until all is quiet: a message is heard; what the board has
+-- to tell is sent and heard; a command is taken, and what it adds is sent and heard.
+abbrev pub moves_left : State → ℕ
+moves_left x = length x.up + 2 * backlog x.board + 3 * length x.down
+
+-- such moves, at most so many, lead to a quiet state
+pub record SettlesBy (moves : List Move) (x : State) : Type 0 where
+  pub settling : AllByRecursion IsSettlingMove moves
+  pub few : length moves ≤ moves_left x
+  pub quiet : IsQuiet (after_moves x moves)
+
+-- ---- of worlds
 
 -- a delivery, or a sending of the board
 abbrev pub IsSettling : ActContent → Type 0

@@ -32,7 +32,7 @@ ghost use Rattle.dgt_link.specs.Asked.{IsAskedBy, mode_after_step};
 ghost use Rattle.dgt_link.specs.declared.acts.Outcome.{Outcome};
 ghost use Rattle.dgt_link.specs.Stands.{IsExactWorld, IsWorld, StandsFor};
 ghost use Rattle.dgt_link.specs.Step.{Runs, Step, done_count};
-ghost use Rattle.dgt_link.specs.Settling.{IsSettling, steps_left};
+ghost use Rattle.dgt_link.specs.Settling.{IsSettling, IsSettlingMove, SettlesBy, steps_left};
 ghost use Rattle.dgt_link.specs.View.{IsQuietWorld, WorldView};
 
 use crate::{Act, MIN_DOWN, MIN_UP, Outcome as ActOutcome, WorldFault};
@@ -281,6 +281,27 @@ pub fn picture_after_acts()
 {
     acts_are_moves();
     at_quiet_world();
+}
+
+/// From each sound state some takes of the board, sendings of the board and hears of the host lead to
+/// a quiet one. They are at most one for each message under way, two for each reply, square and clock
+/// that the board has still to tell in some mode, and three for each command and fault under way.
+///
+/// Such moves keep the squares, the clock and the mode to come, and the picture of a promised state,
+/// once all is quiet, is its squares.
+pub fn quiet_is_reached()
+    ensures reached { (x : State) → IsSound x → (moves : List Move) × SettlesBy moves x }
+    ensures squares { (x : State) (moves : List Move) → AllByRecursion IsSettlingMove moves
+        → (after_moves x moves).board.squares ≡ x.board.squares }
+    ensures clock { (x : State) (moves : List Move) → AllByRecursion IsSettlingMove moves
+        → (after_moves x moves).board.clock ≡ x.board.clock }
+    ensures mode { (x : State) (moves : List Move) → AllByRecursion IsSettlingMove moves
+        → coming_mode (after_moves x moves) ≡ coming_mode x }
+    ensures picture { (x : State) (moves : List Move) → IsSound x → IsPromised x
+        → AllByRecursion IsSettlingMove moves → IsQuiet (after_moves x moves)
+        → (after_moves x moves).picture ≡ Some x.board.squares }
+{
+    dgt_board::laws::bounded_backlog();
 }
 
 /// In whatever order and pieces a world is delivered and its board sends, both come to an end: only

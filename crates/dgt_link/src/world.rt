@@ -314,30 +314,44 @@ impl World {
         let _owed = self.board.owed_len();
     }
 
-    /// Delivers what is under way and lets the board send what it owes, until the world is quiet,
-    /// and answers how many acts that took.
+    /// Delivers what is under way and lets the board send what it has to tell, until the world is
+    /// quiet, and answers how many acts that took. A quiet world takes none.
     ///
-    /// It is at most three for each byte in the down line, two for each reply, square and clock
-    /// that the board has still to tell, and one.
+    /// The acts are `ToHost`, `BoardSend` and `ToBoard` alone, and each is `Done`. They are at most
+    /// three for each byte in the down line, two for each reply that the board owes, for each square
+    /// that differs from what it has told and for a clock that it owes, and one. No square, no clock
+    /// of the board and no command is new. So the mode is that of the last mode command under way, and
+    /// where a dump was asked for and this mode asks for updates, the host's picture is the board's
+    /// position.
+    ///
+    /// All of that holds after a `Break` and after a `HostBreak` too, whatever was under way then.
+    /// After a `Break` no picture is known until a dump is asked for again. After a `HostBreak` the
+    /// 257 bytes in the down line are noise, and then `UpdateBoard` and `Dump`: so the picture is the
+    /// board's position again, but the host's clock may be unknown.
     pub fn settle(&mut self) -> u128
         ensures quiet { IsQuietWorld self.new }
         ensures run { SettlesIn result self.old self.new }
-        ensures squares { self.new.board.state.squares ≡ self.old.board.state.squares }
-        ensures clock { self.new.board.state.clock ≡ self.old.board.state.clock }
-        ensures mode { (x : State) → StandsFor self.old x →
-            self.new.board.state.mode ≡ coming_mode x }
-        ensures picture { (x : State) → StandsFor self.old x → IsPromised x →
-            self.new.host.picture ≡ Some self.new.board.state.squares }
-        ensures stays_exact { IsExactWorld self.old → IsExactWorld self.new }
         ensures bound { result ≤
             3 * length self.old.down.bytes + 2 * backlog self.old.board.state + 1 }
         ensures at_most { result ≤ 3 * length self.old.down.bytes + 147 }
+        ensures keeps_squares { self.new.board.state.squares ≡ self.old.board.state.squares }
+        ensures keeps_clock { self.new.board.state.clock ≡ self.old.board.state.clock }
+        ensures mode { (x : State) → StandsFor self.old x →
+            self.new.board.state.mode ≡ coming_mode x }
+        ensures picture { (x : State) → StandsFor self.old x → IsPromised x →
+            self.new.host.picture ≡ Some self.old.board.state.squares }
+        ensures told { IsTrue (updates self.new.board.state.mode) →
+            IsUnknownOr self.new.host.picture (Some self.old.board.state.squares) }
+        ensures clock { IsExactWorld self.old → IsTrue (follows_clock self.new.board.state.mode) →
+            self.new.host.clock ≡ Some self.old.board.state.clock }
+        ensures awaited { self.new.host.awaited ≡ [] }
+        ensures stays_exact { IsExactWorld self.old → IsExactWorld self.new }
     {
         laws::acts_are_moves();
         laws::acts_keep();
         laws::promise_by_acts();
-        laws::at_quiet_world();
         dgt_command::laws::one_division();
+        self.stands();
         self.work();
         let mut done = 0;
         while self.settle_once() {
