@@ -316,7 +316,7 @@ module _ (moves : (act : ActContent) (world after : WorldView) (answer : Outcome
   settled_picture promised =
       let same = (settled_kept count old new settled).squares in
       world_picture law new promise.state promise.stands quiet (record { picture = promise.picture promised.picture; mode = rw promise.mode promised.mode })
-          ∙ ap (λ (squares : List Piece). Some squares) same
+      ∙ ap (λ (squares : List Piece). Some squares) same
 
   pub settled_told : IsTrue (updates new.board.state.mode) → IsUnknownOr new.host.picture (Some old.board.state.squares)
   settled_told asks =

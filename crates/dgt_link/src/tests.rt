@@ -11,6 +11,8 @@ use std::alloc::Global;
 use std::process::Abort;
 use std::test::Fail;
 
+mod settling;
+
 const START: &str = "rnbqkbnr/pppppppp/8/8/8/8/PPPPPPPP/RNBQKBNR";
 
 const NO_E2: &str = "rnbqkbnr/pppppppp/8/8/8/8/PPPP1PPP/RNBQKBNR";
@@ -540,24 +542,5 @@ fn texts_of_faults(rt: HostRuntime) -> Result<(), Fail> {
     ] {
         assert_eq!(rt; fault.to_string(rt.alloc())?.as_str(), want);
     }
-    Ok(())
-}
-
-#[test]
-fn a_world_settles(rt: HostRuntime) -> Result<(), Fail> {
-    let mut world = world_of(rt.alloc(), 67, 257)??;
-    assert_eq!(rt; world.settle(), 0);
-    let acts = [
-        Change(Square::parse("e2")?, Piece::Empty),
-        Change(Square::parse("e4")?, Piece::WhitePawn),
-        Host(Command::UpdateBoard),
-        Host(Command::Dump),
-    ];
-    assert_eq!(rt; world.run(&acts), 4);
-    assert_eq!(rt; world.settle(), 3);
-    assert!(rt; rests_at(&world, E4_PLAYED)?);
-    play(&rt, &mut world, &[(Host(Command::Version), Done); 16]);
-    assert_eq!(rt; world.settle(), 34);
-    assert!(rt; rests_at(&world, E4_PLAYED)?);
     Ok(())
 }
