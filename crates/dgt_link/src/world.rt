@@ -1,6 +1,6 @@
 //! The world: a board, a host, and the two lines between them.
 
-ghost use Rattle.std.specs.Prelude.{◌≡◌, ◌≢◌, ◌↔◌, ◌⊎◌, ◌<◌, ◌≤◌, ◌+◌, ◌*◌, ◌^◌, false, List, [], ◌∷◌, ◌++◌, All, Contains, Some, None, IsTrue, IfOk, IsErr, IsErrOf, map, length};
+ghost use Rattle.std.specs.Prelude.{◌≡◌, ◌≢◌, ◌↔◌, ◌⊎◌, ◌<◌, ◌≤◌, ◌+◌, ◌*◌, ◌^◌, false, List, [], ◌∷◌, ◌++◌, All, Contains, Some, None, IsTrue, IsSome, IfOk, IsErr, IsErrOf, map, length};
 ghost use Rattle.dgt_values.specs.Pieces.{pieces_of};
 ghost use Rattle.dgt_values.specs.declared.kinds.Kind.{Kind};
 ghost use Rattle.dgt_message.specs.Content.{Content};
@@ -8,6 +8,7 @@ ghost use Rattle.dgt_message.specs.ClockState.{clock_seen};
 ghost use Rattle.dgt_message.specs.Kind.{kind_of};
 ghost use Rattle.dgt_command.specs.Content.{CommandContent};
 ghost use Rattle.dgt_board.specs.Backlog.{backlog};
+ghost use Rattle.dgt_board.specs.Sending.{next_message};
 ghost use Rattle.dgt_board.specs.State.{follows_clock, updates};
 ghost use Rattle.dgt_host.specs.Hearing.{picture_after_all};
 ghost use Rattle.dgt_link.specs.Act.{ActContent, act_content};
@@ -272,6 +273,29 @@ impl World {
         send_next(&mut self.board, &mut self.up)
     }
 
+    // Whether the board has anything to send.
+    fn has_to_send(&self) -> bool
+        ensures { IsTrue result ↔ IsSome (next_message self.now.board.state) }
+    {
+        self.board.owes()
+    }
+
+    // The host hears all that is in the up line.
+    fn hear_all(&mut self) -> Outcome
+        ensures { Step (ActContent.ToHost (length self.old.up.bytes)) self.old result self.new }
+    {
+        let waiting = self.up.len();
+        self.act(Act::ToHost(waiting))
+    }
+
+    // The board takes what is in the down line, until it owes 8 replies.
+    fn take_all(&mut self) -> Outcome
+        ensures { Step (ActContent.ToBoard (length self.old.down.bytes)) self.old result self.new }
+    {
+        let coming = self.down.len();
+        self.act(Act::ToBoard(coming))
+    }
+
     // Does one delivery or sending, where one can be done. Where none can, the world is quiet.
     fn settle_once(&mut self) -> bool
         ensures moved { IsTrue result → (act : ActContent) × IsSettling act
@@ -289,15 +313,13 @@ impl World {
         dgt_decode::laws::spelling_is_read();
         self.host.unread();
         if !self.up.is_empty() {
-            let waiting = self.up.len();
-            self.act(Act::ToHost(waiting));
+            self.hear_all();
             true
-        } else if self.board.owes() {
+        } else if self.has_to_send() {
             self.send();
             true
         } else if !self.down.is_empty() {
-            let coming = self.down.len();
-            self.act(Act::ToBoard(coming));
+            self.take_all();
             true
         } else {
             false
