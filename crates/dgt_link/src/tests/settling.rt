@@ -34,7 +34,7 @@ fn worlds_settle(rt: HostRuntime) -> Result<(), Fail> {
     let version = Host(Command::Version);
     let dump = Host(Command::Dump);
     // what is done in a world that follows, how many acts are left then, and the position
-    let rows: [(&[Act<'_>], u128, &str); 14] = [
+    let rows: [(&[Act<'_>], u128, &str); 9] = [
         (&[], 0, START),
         // each of two fields is sent and heard
         (&[no_e2, e4_played], 4, E4_PLAYED),
@@ -65,6 +65,22 @@ fn worlds_settle(rt: HostRuntime) -> Result<(), Fail> {
         (&[dump, ToBoard(1), BoardSend, ToHost(3)], 1, START),
         // the rest of a frame
         (&[frame, ToBoard(2)], 1, START),
+    ];
+    for (acts, count, placement) in rows {
+        let mut world = following(&rt, rt.alloc())?;
+        assert_eq!(rt; world.run(acts), acts.len());
+        settles(&rt, &mut world, count, placement)?;
+    }
+    Ok(())
+}
+
+#[test]
+fn worlds_settle_after_breaks(rt: HostRuntime) -> Result<(), Fail> {
+    let no_e2 = Change(Square::parse("e2")?, Piece::Empty);
+    let frame = Host(Command::Leds(LedBytes::new(&[0x42; 255])?));
+    let version = Host(Command::Version);
+    let dump = Host(Command::Dump);
+    let rows: [(&[Act<'_>], u128, &str); 5] = [
         // noise and two commands are taken, and the dump is sent and heard
         (&[frame, ToBoard(2), HostBreak], 3, START),
         // the display is acknowledged too
