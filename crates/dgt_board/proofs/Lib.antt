@@ -2,4 +2,3 @@ mod ClockLemmas
 mod SquareLemmas
 mod SendingLemmas
 mod TakingLemmas
-mod BacklogLemmas

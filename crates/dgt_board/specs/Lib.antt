@@ -7,4 +7,3 @@ pub mod Kept
 pub mod Due
 pub mod Polls
 pub mod Equality
-pub mod Backlog

@@ -11,4 +11,3 @@ pub mod Stands
 pub mod ActMoves
 pub mod Asked
 pub mod Equality
-pub mod Settling
