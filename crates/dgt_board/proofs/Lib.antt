@@ -2,3 +2,4 @@ mod ClockLemmas
 mod SquareLemmas
 mod SendingLemmas
 mod TakingLemmas
+mod BacklogLemmas

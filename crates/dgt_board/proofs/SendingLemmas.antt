@@ -25,7 +25,7 @@ fewer_step x false true xs ys h rest = omega (arith, rest)
 fewer_step x false false xs ys h rest = rest
 
 -- a test that fails wherever another does keeps no more
-fewer_kept : (less test : ℕ → Bool) → ((k : ℕ) → test k ≡ false → less k ≡ false) → (xs : List ℕ) → length (filter less xs) ≤ length (filter test xs)
+pub fewer_kept : (less test : ℕ → Bool) → ((k : ℕ) → test k ≡ false → less k ≡ false) → (xs : List ℕ) → length (filter less xs) ≤ length (filter test xs)
 fewer_kept less test h [] = omega arith
 fewer_kept less test h (x ∷ xs) = fewer_step x (less x) (test x) (filter less xs) (filter test xs) (h x) (fewer_kept less test h xs)
 
@@ -37,13 +37,13 @@ one_step x at a true xs ys h here rest on (left, e) =
 one_step x at a false xs ys h here rest on first = rw (h refl) (on first)
 
 -- one that fails also at the first place that the other keeps keeps fewer
-one_fewer_kept : (less test : ℕ → Bool) (at : ℕ) → ((k : ℕ) → test k ≡ false → less k ≡ false) → less at ≡ false → (xs : List ℕ) → IsFirst (filter test xs) (Some at) → length (filter less xs) < length (filter test xs)
+pub one_fewer_kept : (less test : ℕ → Bool) (at : ℕ) → ((k : ℕ) → test k ≡ false → less k ≡ false) → less at ≡ false → (xs : List ℕ) → IsFirst (filter test xs) (Some at) → length (filter less xs) < length (filter test xs)
 one_fewer_kept less test at h fails [] (rest, e) = cc
 one_fewer_kept less test at h fails (x ∷ xs) first =
     one_step x at (less x) (test x) (filter less xs) (filter test xs) (h x) (λ e. rw e fails) (fewer_kept less test h xs) (one_fewer_kept less test at h fails xs) first
 
 -- a test keeps at most all
-at_most : (test : ℕ → Bool) (xs : List ℕ) → length (filter test xs) ≤ length xs
+pub at_most : (test : ℕ → Bool) (xs : List ℕ) → length (filter test xs) ≤ length xs
 at_most test [] = omega arith
 at_most test (x ∷ xs) = go (test x) (at_most test xs)
   where
@@ -59,7 +59,7 @@ when_fewer true xs ys h = h
 when_fewer false xs ys h = omega arith
 
 -- no news where there was none
-news_fewer : (a b : Bool) (m n : Content) → (b ≡ false → a ≡ false) → length (cond a (m ∷ []) []) ≤ length (cond b (n ∷ []) [])
+pub news_fewer : (a b : Bool) (m n : Content) → (b ≡ false → a ≡ false) → length (cond a (m ∷ []) []) ≤ length (cond b (n ∷ []) [])
 news_fewer true true m n h = omega arith
 news_fewer true false m n h = absurd (false≢true (sym (h refl)))
 news_fewer false b m n h = omega arith
@@ -69,20 +69,20 @@ same_square : (a b : Piece) → a ≡ b → not (piece_code a == piece_code b) �
 same_square a b e = ap not (eq-eqb (piece_code a) (piece_code b) (ap piece_code e))
 
 -- telling the clock alters no square
-after_clock : (board : BoardState) (clock : ClockState) → after_telling board (clock_message clock) ≡ record board { told_clock = Some board.clock; times_owed = false }
+pub after_clock : (board : BoardState) (clock : ClockState) → after_telling board (clock_message clock) ≡ record board { told_clock = Some board.clock; times_owed = false }
 after_clock board (ClockState.times readings) = refl
 after_clock board (ClockState.no_clock absence) = refl
 
 -- ---- a reply is sent
 
 -- a reply makes no square differ
-reply_tells : (board : BoardState) (reply : Reply) (k : ℕ) → differs board k ≡ false → differs (after_telling board (reply_message board reply)) k ≡ false
+pub reply_tells : (board : BoardState) (reply : Reply) (k : ℕ) → differs board k ≡ false → differs (after_telling board (reply_message board reply)) k ≡ false
 reply_tells board (Reply.Of Kind.Dump) k h = same_square (piece_on board.squares k) (piece_on board.squares k) refl
 reply_tells board Reply.Clock k h = ap (λ (after : BoardState). differs after k) (after_clock board board.clock) ∙ h
 reply_tells board _ k h = h
 
 -- a reply makes no times owed
-reply_news : (board : BoardState) (reply : Reply) → board.times_owed ≡ false → times_owed_after board (reply_message board reply) ≡ false
+pub reply_news : (board : BoardState) (reply : Reply) → board.times_owed ≡ false → times_owed_after board (reply_message board reply) ≡ false
 reply_news board Reply.Clock h = ap (λ (b : BoardState). b.times_owed) (after_clock board board.clock)
 reply_news board (Reply.Of Kind.Dump) h = h
 reply_news board _ h = h
@@ -102,13 +102,13 @@ reply_lowers board reply rest e =
 -- ---- a field is sent
 
 -- the square is then told
-field_told : (board : BoardState) (square k : ℕ) → square < length board.told_squares → k ≡ square
+pub field_told : (board : BoardState) (square k : ℕ) → square < length board.told_squares → k ≡ square
     → differs (after_telling board (field_of board square)) k ≡ false
 field_told board square k within e =
     rw e (same_square _ _ (get_or-set_same board.told_squares square (piece_on board.squares square) Piece.Empty within))
 
 -- and each other one is told where it was
-field_tells : (board : BoardState) (square k : ℕ) → square < length board.told_squares → differs board k ≡ false
+pub field_tells : (board : BoardState) (square k : ℕ) → square < length board.told_squares → differs board k ≡ false
     → differs (after_telling board (field_of board square)) k ≡ false
 field_tells board square k within h = go (k == square) refl
   where
@@ -161,13 +161,13 @@ first_below test a (suc n) at rest e = go (test a) e (first_below test (a + 1) n
     go false f on = let below = on f in omega (arith, below)
 
 -- so a square that is left has one of the 64 numbers
-square_below : (asks : Bool) (test : ℕ → Bool) (at : ℕ) (rest : List ℕ) → cond asks (filter test every_square) [] ≡ at ∷ rest → at < 64
+pub square_below : (asks : Bool) (test : ℕ → Bool) (at : ℕ) (rest : List ℕ) → cond asks (filter test every_square) [] ≡ at ∷ rest → at < 64
 unfolding every_square
 square_below true test at rest e = let below = first_below test 0 64 at rest e in omega (arith, below)
 square_below false test at rest e = cc
 
 -- what two options hold is the same where they are
-some_same : {X : Type 0} (x y : X) → Some x ≡ Some y → x ≡ y
+pub some_same : {X : Type 0} (x y : X) → Some x ≡ Some y → x ≡ y
 some_same x y h = cc
 
 -- each message that is sent leaves less to send
@@ -193,13 +193,13 @@ due_is_next board (Due.Field square) (none, (rest, e)) = rw (none, e) refl
 due_is_next board Due.Times (none, squares, owed) = rw (none, squares, owed) refl
 
 -- no more than the 64 squares
-few_squares : (asks : Bool) (test : ℕ → Bool) → length (cond asks (filter test every_square) []) ≤ 64
+pub few_squares : (asks : Bool) (test : ℕ → Bool) → length (cond asks (filter test every_square) []) ≤ 64
 unfolding every_square
 few_squares true test = omega (arith, at_most test (range_with_len 0 64), length-range_with_len 0 64)
 few_squares false test = omega arith
 
 -- no more than one message of the clock
-few_news : (owed : Bool) (message : Content) → length (cond owed (message ∷ []) []) ≤ 1
+pub few_news : (owed : Bool) (message : Content) → length (cond owed (message ∷ []) []) ≤ 1
 few_news true message = omega arith
 few_news false message = omega arith
 

@@ -7,3 +7,4 @@ pub mod Kept
 pub mod Due
 pub mod Polls
 pub mod Equality
+pub mod Backlog

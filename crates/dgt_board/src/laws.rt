@@ -4,7 +4,10 @@
 ghost use Rattle.std.specs.Prelude.{◌≡◌, ◌↔◌, ◌≤◌, ◌<◌, ◌+◌, ◌++◌, ℕ, List, [], Some, None, length};
 ghost use Rattle.dgt_values.specs.Equality.{EqualIsSame};
 ghost use Rattle.dgt_message.specs.Content.{Content};
+ghost use Rattle.dgt_command.specs.Content.{EventContent};
 ghost use Rattle.dgt_command.specs.Equality.{EqualIsSameReadOf};
+ghost use Rattle.dgt_board.specs.Backlog.{backlog};
+ghost use Rattle.dgt_board.specs.Effect.{effects};
 ghost use Rattle.dgt_board.specs.Equality.{TakenHasArrays, taken_seen};
 ghost use Rattle.dgt_board.specs.State.{BoardState};
 ghost use Rattle.dgt_board.specs.Sending.{after_sending, left_to_send, next_message};
@@ -56,3 +59,13 @@ pub fn one_taking()
 {
     dgt_command::laws::one_division();
 }
+
+/// A backlog is at most the replies, 64 squares and the clock. It falls with each message that is sent, and rises by at
+/// most one with each command that is taken.
+pub fn bounded_backlog()
+    ensures bound { (board : BoardState) → backlog board ≤ length board.owed + 65 }
+    ensures falls { (board : BoardState) (message : Content) → length board.told_squares ≡ 64
+        → next_message board ≡ Some message → backlog (after_sending board message) < backlog board }
+    ensures rises { (board : BoardState) (events : List EventContent) →
+        backlog (effects board events) ≤ backlog board + length events }
+{}

@@ -40,7 +40,7 @@ module _ (law : NoWordBeginsAnother) where
           (sym same.0, sym (f ∙ ap (λ (front : List ℕ). front ++ after) same.1))
 
   -- a part of a word begins with no word
-  no_word_within : (event : EventContent) (word after rest : List ℕ) → IsWord event word → rest ≡ word ++ after → IsPartial rest → ⊥
+  pub no_word_within : (event : EventContent) (word after rest : List ℕ) → IsWord event word → rest ≡ word ++ after → IsPartial rest → ⊥
   no_word_within event word after rest is e partial =
       not_empty after partial.next partial.more
       (law event partial.event word (rest ++ partial.next ∷ partial.more) (after ++ partial.next ∷ partial.more) is partial.word

@@ -22,7 +22,7 @@ no_events : events [] ≡ []
 unfolding events
 no_events = refl
 
-nothing_open : open_message [] ≡ []
+pub nothing_open : open_message [] ≡ []
 unfolding open_message
 nothing_open = refl
 
@@ -43,7 +43,7 @@ module _ (reads : Reads) where
   read_alone : (message : Content) → IsMessage message → events (spelling message) ≡ at_place (0 + length (spelling message)) (Message message) ∷ []
   read_alone message is = rw (no_events, nothing_open) at (reads.spelling [] message is).0
 
-  held_alone : (message : Content) → IsMessage message → open_message (spelling message) ≡ []
+  pub held_alone : (message : Content) → IsMessage message → open_message (spelling message) ≡ []
   held_alone message is = (reads.spelling [] message is).1
 
   -- behind bytes that made an event, the rest of a message makes none

@@ -19,3 +19,5 @@ pub mod Resting
 pub mod Running
 pub mod Halves
 pub mod Equal
+pub mod Settling
+pub mod SettlingMoves

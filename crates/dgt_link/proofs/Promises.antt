@@ -47,7 +47,7 @@ picture_after_known (Some squares) (Content.dump pieces) known = refl
 picture_after_known (Some squares) (Content.field square piece) known = refl
 picture_after_known (Some squares) _ known = refl
 
-Contains-cons : {X : Type 0} (x y : X) (ys : List X) → Contains (y ∷ ys) x → (y ≡ x) ⊎ Contains ys x
+pub Contains-cons : {X : Type 0} (x y : X) (ys : List X) → Contains (y ∷ ys) x → (y ≡ x) ⊎ Contains ys x
 Contains-cons x y ys (zero, within, same) = inl same
 Contains-cons x y ys (suc k, within, same) = inr (k, omega arith, same)
 

@@ -34,7 +34,7 @@ nothing_spelled : (messages : List Content) → AreSpelled messages [] → messa
 nothing_spelled [] h = refl
 nothing_spelled (message ∷ messages) h = let same = h.in_a_row in cc
 
-nothing_first : (messages : List Content) → first_message messages ≡ None → messages ≡ []
+pub nothing_first : (messages : List Content) → first_message messages ≡ None → messages ≡ []
 nothing_first [] h = refl
 nothing_first (message ∷ rest) h = cc
 

@@ -15,7 +15,7 @@ done_count-push (Outcome.NoRoom ∷ outcomes) outcome = done_count-push outcomes
 done_count-push (Outcome.Busy ∷ outcomes) outcome = done_count-push outcomes outcome
 done_count-push (Outcome.TooMany ∷ outcomes) outcome = done_count-push outcomes outcome
 
-run-push : (acts : List ActContent) (outcomes : List Outcome) (act : ActContent) (outcome : Outcome) (world between after : WorldView) → Runs acts world outcomes between → Step act between outcome after → Runs (acts ++ act ∷ []) world (outcomes ++ outcome ∷ []) after
+pub run-push : (acts : List ActContent) (outcomes : List Outcome) (act : ActContent) (outcome : Outcome) (world between after : WorldView) → Runs acts world outcomes between → Step act between outcome after → Runs (acts ++ act ∷ []) world (outcomes ++ outcome ∷ []) after
 run-push [] [] act outcome world between after same step = (after, rw same at step, refl)
 run-push (first ∷ acts) (came ∷ outcomes) act outcome world between after (next, step, rest) last = (next, step, run-push acts outcomes act outcome next between after rest last)
 run-push [] (came ∷ outcomes) act outcome world between after none step = absurd none

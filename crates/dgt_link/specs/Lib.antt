@@ -11,3 +11,4 @@ pub mod Stands
 pub mod ActMoves
 pub mod Asked
 pub mod Equality
+pub mod Settling

@@ -1,7 +1,7 @@
 //! What holds of the machine of a board and its host, and of the worlds that stand for its states.
 //! Nothing here runs: each function stands for the facts that its contract states.
 
-ghost use Rattle.std.specs.Prelude.{◌≡◌, ◌≢◌, List, [], ◌∷◌, ◌++◌, All, Contains, Option, Some, None, length, IsTrue, IsSome};
+ghost use Rattle.std.specs.Prelude.{◌≡◌, ◌≢◌, ◌≤◌, List, [], ◌∷◌, ◌++◌, All, Contains, Option, Some, None, length, IsTrue, IsSome};
 ghost use Rattle.std.specs.List.{AllByRecursion};
 ghost use Rattle.dgt_values.specs.declared.pieces.Piece.{Piece};
 ghost use Rattle.dgt_values.specs.Equality.{EqualIsSame};
@@ -31,7 +31,8 @@ ghost use Rattle.dgt_link.specs.ActMoves.{StandsAfterRun, StandsAfterStep};
 ghost use Rattle.dgt_link.specs.Asked.{IsAskedBy, mode_after_step};
 ghost use Rattle.dgt_link.specs.declared.acts.Outcome.{Outcome};
 ghost use Rattle.dgt_link.specs.Stands.{IsExactWorld, IsWorld, StandsFor};
-ghost use Rattle.dgt_link.specs.Step.{Runs, Step};
+ghost use Rattle.dgt_link.specs.Step.{Runs, Step, done_count};
+ghost use Rattle.dgt_link.specs.Settling.{IsSettling, IsSettlingMove, SettlesBy, steps_left};
 ghost use Rattle.dgt_link.specs.View.{IsQuietWorld, WorldView};
 
 use crate::{Act, MIN_DOWN, MIN_UP, Outcome as ActOutcome, WorldFault};
@@ -280,4 +281,38 @@ pub fn picture_after_acts()
 {
     acts_are_moves();
     at_quiet_world();
+}
+
+/// From each sound state some takes of the board, sendings of the board and hears of the host lead to
+/// a quiet one. They are at most one for each message under way, two for each reply, square and clock
+/// that the board has still to tell in some mode, and three for each command and fault under way.
+///
+/// Such moves keep the squares, the clock and the mode to come, and the picture of a promised state,
+/// once all is quiet, is its squares.
+pub fn quiet_is_reached()
+    ensures reached { (x : State) → IsSound x → (moves : List Move) × SettlesBy moves x }
+    ensures squares { (x : State) (moves : List Move) → AllByRecursion IsSettlingMove moves
+        → (after_moves x moves).board.squares ≡ x.board.squares }
+    ensures clock { (x : State) (moves : List Move) → AllByRecursion IsSettlingMove moves
+        → (after_moves x moves).board.clock ≡ x.board.clock }
+    ensures mode { (x : State) (moves : List Move) → AllByRecursion IsSettlingMove moves
+        → coming_mode (after_moves x moves) ≡ coming_mode x }
+    ensures picture { (x : State) (moves : List Move) → IsSound x → IsPromised x
+        → AllByRecursion IsSettlingMove moves → IsQuiet (after_moves x moves)
+        → (after_moves x moves).picture ≡ Some x.board.squares }
+{
+    dgt_board::laws::bounded_backlog();
+}
+
+/// In whatever order and pieces a world is delivered and its board sends, both come to an end: only
+/// so many of the acts can be done.
+pub fn settling_ends()
+    ensures { (acts : List ActContent) (world after : WorldView) (answers : List Outcome) →
+        IsWorld world → AllByRecursion IsSettling acts → Runs acts world answers after
+        → done_count answers ≤ steps_left world }
+{
+    acts_keep();
+    dgt_board::laws::bounded_backlog();
+    dgt_command::laws::words_are_short();
+    dgt_command::laws::no_word_begins_another();
 }

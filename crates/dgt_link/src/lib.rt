@@ -7,6 +7,8 @@
 //! anew. [`World::run`] does many. Once, since the last break that both saw, a dump was asked for, the
 //! last command that sets a mode asks for updates and the world is [`World::quiet`], the host's
 //! picture is the board's position, whatever was done before. A host that begins anew asks for both.
+//! [`World::settle`] delivers, and lets the board send, until the world is quiet, which it always
+//! becomes.
 //!
 //! Messages and commands are those of the DGT Electronic Board Protocol Description. Lines that
 //! neither lose nor alter a byte but where they break, and what an act is, are this project's own

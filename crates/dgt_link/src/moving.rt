@@ -1,6 +1,6 @@
 //! Bytes go into the lines and out of them.
 
-ghost use Rattle.std.specs.Prelude.{◌≡◌, ◌<◌, ◌≤◌, [], Some, length, take};
+ghost use Rattle.std.specs.Prelude.{◌≡◌, ◌+◌, ◌<◌, ◌≤◌, [], Some, length, take};
 ghost use Rattle.dgt_values.specs.declared.kinds.Kind.{Kind};
 ghost use Rattle.dgt_command.specs.Content.{command_content};
 ghost use Rattle.dgt_board.specs.View.{HasTaken};
@@ -54,7 +54,8 @@ pub fn restart(host: &mut Host, up: &mut Line, down: &mut Line)
 
 /// The board sends its next message into the line.
 pub fn send_next(board: &mut Board, line: &mut Line) -> Outcome
-    ensures { SendsInto result board.old line.old board.new line.new }
+    ensures sends { SendsInto result board.old line.old board.new line.new }
+    ensures room { result ≡ Outcome.NoRoom → line.old.capacity < length line.old.bytes + MAX_SENT }
 {
     let mut bytes = [0; MAX_SENT];
     let room = bytes.len().min(line.room());

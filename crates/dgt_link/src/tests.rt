@@ -11,6 +11,8 @@ use std::alloc::Global;
 use std::process::Abort;
 use std::test::Fail;
 
+mod settling;
+
 const START: &str = "rnbqkbnr/pppppppp/8/8/8/8/PPPPPPPP/RNBQKBNR";
 
 const NO_E2: &str = "rnbqkbnr/pppppppp/8/8/8/8/PPPP1PPP/RNBQKBNR";

@@ -1,12 +1,14 @@
 //! The world: a board, a host, and the two lines between them.
 
-ghost use Rattle.std.specs.Prelude.{◌≡◌, ◌≢◌, ◌↔◌, ◌⊎◌, ◌<◌, ◌≤◌, List, [], ◌∷◌, ◌++◌, All, Contains, Some, None, IsTrue, IfOk, IsErr, IsErrOf, map, length};
+ghost use Rattle.std.specs.Prelude.{◌≡◌, ◌≢◌, ◌↔◌, ◌⊎◌, ◌<◌, ◌≤◌, ◌+◌, ◌*◌, ◌^◌, false, List, [], ◌∷◌, ◌++◌, All, Contains, Some, None, IsTrue, IsSome, IfOk, IsErr, IsErrOf, map, length};
 ghost use Rattle.dgt_values.specs.Pieces.{pieces_of};
 ghost use Rattle.dgt_values.specs.declared.kinds.Kind.{Kind};
 ghost use Rattle.dgt_message.specs.Content.{Content};
 ghost use Rattle.dgt_message.specs.ClockState.{clock_seen};
 ghost use Rattle.dgt_message.specs.Kind.{kind_of};
 ghost use Rattle.dgt_command.specs.Content.{CommandContent};
+ghost use Rattle.dgt_board.specs.Backlog.{backlog};
+ghost use Rattle.dgt_board.specs.Sending.{next_message};
 ghost use Rattle.dgt_board.specs.State.{follows_clock, updates};
 ghost use Rattle.dgt_host.specs.Hearing.{picture_after_all};
 ghost use Rattle.dgt_link.specs.Act.{ActContent, act_content};
@@ -14,6 +16,7 @@ ghost use Rattle.dgt_link.specs.ActMoves.{StandsAfterRun, StandsAfterStep};
 ghost use Rattle.dgt_link.specs.Asked.{IsAskedBy, mode_after_step};
 ghost use Rattle.dgt_link.specs.Machine.{State, new_state};
 ghost use Rattle.dgt_link.specs.Promise.{IsPromised, IsRestarted, PictureIsComing, coming_mode};
+ghost use Rattle.dgt_link.specs.Settling.{IsSettling, SettlesIn, work_left};
 ghost use Rattle.dgt_link.specs.Sound.{IsExact, IsSound, IsUnknownOr};
 ghost use Rattle.dgt_link.specs.Stands.{IsExactWorld, StandsFor};
 ghost use Rattle.dgt_link.specs.Step.{Runs, Step, done_count};
@@ -163,7 +166,7 @@ impl World {
                 Outcome::Done
             }
             Act::Host(command) => ask(&mut self.host, &mut self.down, &command),
-            Act::BoardSend => send_next(&mut self.board, &mut self.up),
+            Act::BoardSend => self.send(),
             Act::ToBoard(count) => to_board(&mut self.board, &mut self.down, count),
             Act::ToHost(count) => to_host(&mut self.host, &mut self.up, count),
             Act::Break => {
@@ -257,6 +260,124 @@ impl World {
         let mut done = 0;
         for act in acts {
             done += count(self.act(*act));
+        }
+        done
+    }
+
+    // The board sends, where it can: with an empty line it can send anything.
+    fn send(&mut self) -> Outcome
+        ensures exact { Step ActContent.BoardSend self.old result self.new }
+        ensures room { self.old.up.bytes ≡ [] → result ≢ Outcome.NoRoom }
+    {
+        laws::acts_keep();
+        send_next(&mut self.board, &mut self.up)
+    }
+
+    // Whether the board has anything to send.
+    fn has_to_send(&self) -> bool
+        ensures { IsTrue result ↔ IsSome (next_message self.now.board.state) }
+    {
+        self.board.owes()
+    }
+
+    // The host hears all that is in the up line.
+    fn hear_all(&mut self) -> Outcome
+        ensures { Step (ActContent.ToHost (length self.old.up.bytes)) self.old result self.new }
+    {
+        let waiting = self.up.len();
+        self.act(Act::ToHost(waiting))
+    }
+
+    // The board takes what is in the down line, until it owes 8 replies.
+    fn take_all(&mut self) -> Outcome
+        ensures { Step (ActContent.ToBoard (length self.old.down.bytes)) self.old result self.new }
+    {
+        let coming = self.down.len();
+        self.act(Act::ToBoard(coming))
+    }
+
+    // Does one delivery or sending, where one can be done. Where none can, the world is quiet.
+    fn settle_once(&mut self) -> bool
+        ensures moved { IsTrue result → (act : ActContent) × IsSettling act
+            × Step act self.old Outcome.Done self.new × (work_left self.new < work_left self.old) }
+        ensures rests { result ≡ false → IsQuietWorld self.old × (self.new ≡ self.old) }
+    {
+        dgt_board::laws::bounded_backlog();
+        dgt_board::laws::nothing_to_send();
+        dgt_command::laws::words_are_short();
+        dgt_command::laws::no_word_begins_another();
+        dgt_command::laws::one_division();
+        dgt_decode::laws::events_append();
+        dgt_decode::laws::open_append();
+        dgt_decode::laws::quiet_held();
+        dgt_decode::laws::spelling_is_read();
+        self.host.unread();
+        if !self.up.is_empty() {
+            self.hear_all();
+            true
+        } else if self.has_to_send() {
+            self.send();
+            true
+        } else if !self.down.is_empty() {
+            self.take_all();
+            true
+        } else {
+            false
+        }
+    }
+
+    // The work that is left is counted by a `u128`.
+    fn work(&self)
+        ensures fits { work_left self.now < 2 ^ 67 }
+        ensures few { backlog self.now.board.state ≤ 73 }
+    {
+        dgt_board::laws::bounded_backlog();
+        let _coming = self.down.len();
+        let _owed = self.board.owed_len();
+    }
+
+    /// Delivers what is under way and lets the board send what it has to tell, until the world is
+    /// quiet, and answers how many acts that took. A quiet world takes none.
+    ///
+    /// The acts are `ToHost`, `BoardSend` and `ToBoard` alone, and each is `Done`. They are at most
+    /// three for each byte in the down line, two for each reply that the board owes, for each square
+    /// that differs from what it has told and for a clock that it owes, and one. No square, no clock
+    /// of the board and no command is new. So the mode is that of the last mode command under way, and
+    /// where a dump was asked for and this mode asks for updates, the host's picture is the board's
+    /// position.
+    ///
+    /// All of that holds after a `Break` and after a `HostBreak` too, whatever was under way then.
+    /// After a `Break` no picture is known until a dump is asked for again. After a `HostBreak` the
+    /// 257 bytes in the down line are noise, and then `UpdateBoard` and `Dump`: so the picture is the
+    /// board's position again, but the host's clock may be unknown.
+    pub fn settle(&mut self) -> u128
+        ensures quiet { IsQuietWorld self.new }
+        ensures run { SettlesIn result self.old self.new }
+        ensures bound { result ≤
+            3 * length self.old.down.bytes + 2 * backlog self.old.board.state + 1 }
+        ensures at_most { result ≤ 3 * length self.old.down.bytes + 147 }
+        ensures keeps_squares { self.new.board.state.squares ≡ self.old.board.state.squares }
+        ensures keeps_clock { self.new.board.state.clock ≡ self.old.board.state.clock }
+        ensures mode { (x : State) → StandsFor self.old x →
+            self.new.board.state.mode ≡ coming_mode x }
+        ensures picture { (x : State) → StandsFor self.old x → IsPromised x →
+            self.new.host.picture ≡ Some self.old.board.state.squares }
+        ensures told { IsTrue (updates self.new.board.state.mode) →
+            IsUnknownOr self.new.host.picture (Some self.old.board.state.squares) }
+        ensures clock { IsExactWorld self.old → IsTrue (follows_clock self.new.board.state.mode) →
+            self.new.host.clock ≡ Some self.old.board.state.clock }
+        ensures awaited { self.new.host.awaited ≡ [] }
+        ensures stays_exact { IsExactWorld self.old → IsExactWorld self.new }
+    {
+        laws::acts_are_moves();
+        laws::acts_keep();
+        laws::promise_by_acts();
+        dgt_command::laws::one_division();
+        self.stands();
+        self.work();
+        let mut done = 0;
+        while self.settle_once() {
+            done += 1;
         }
         done
     }
