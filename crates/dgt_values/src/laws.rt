@@ -8,6 +8,7 @@ ghost use Rattle.dgt_values.specs.Equality.{EqualIsSame, EqualIsSameRead};
 ghost use Rattle.dgt_values.specs.declared.pieces.Piece.{Piece};
 ghost use Rattle.dgt_values.specs.declared.placements.BadPlacement.{BadPlacement};
 ghost use Rattle.dgt_values.specs.declared.positions.Position.{Position};
+ghost use Rattle.dgt_values.specs.Piece.{piece_code};
 ghost use Rattle.dgt_values.specs.Pieces.{pieces_of};
 ghost use Rattle.dgt_values.specs.Square.{square_number};
 ghost use Rattle.dgt_values.specs.Placement.{digit_count, placement_text, DigitsApart, IsPlacement, ParsesPlacement};
@@ -38,6 +39,11 @@ pub fn equal_is_same()
     ensures kind { EqualIsSame ⟦<Kind as PartialEq>⟧.eq }
     ensures bad_placement { EqualIsSame ⟦<BadPlacement as PartialEq>⟧.eq }
     ensures no_room { EqualIsSame ⟦<NoRoom as PartialEq>⟧.eq }
+{}
+
+/// A piece is known by its code.
+pub fn one_piece_a_code()
+    ensures { (first second : Piece) → piece_code first ≡ piece_code second → first ≡ second }
 {}
 
 /// An accepted text has a piece for each of the 64 squares.
