@@ -1,6 +1,6 @@
 -- The mask of a comparison of codes, bit by bit.
-use Rattle.std.proofs.Common.{◌≡◌, ℕ, ◌+◌, ◌%◌, ◌/◌, ◌^◌, ◌<◌, ◌∙◌, eqb, Bool, false, not, cond, List, map, length, get_or, Some, sym, ap, arith, w8, eq-eqb, ne_eqb}
-use Rattle.std.specs.Prelude.{◌≢◌, ◌↔◌, IsBitSet, bit_and, slice_get}
+use Rattle.std.proofs.Common.{◌≡◌, ℕ, ◌%◌, ◌^◌, ◌<◌, ◌∙◌, eqb, Bool, false, not, cond, List, map, length, get_or, Some, sym, ap, arith, w8, eq-eqb, ne_eqb}
+use Rattle.std.specs.Prelude.{◌≢◌, ◌↔◌, IsBitSet, slice_get}
 use Rattle.std.specs.Int.{bit_at}
 use Rattle.std.proofs.lemmas.Nat.{bit_set_by_shift}
 use Rattle.std.proofs.lemmas.Nat.Bits.{shr_and_one}
@@ -8,7 +8,7 @@ use Rattle.std.proofs.lemmas.Option.{slice_get-get_or}
 use Rattle.std.proofs.lemmas.Simd.{tops_compared, mask_l-mod, bit_mask_l, get_or-zip2, length-zip2}
 use Rattle.dgt_values.specs.declared.pieces.Piece.{Piece}
 use Rattle.dgt_values.specs.declared.pieces.Piece.TheVariants.{Empty}
-use Rattle.dgt_values.specs.Piece.{piece_code}
+use Rattle.dgt_values.specs.Board.{piece_code}
 use Rattle.dgt_values.proofs.PieceCodes.{same_code}
 use lib.Lanes.{mask_l, top, zip2}
 

@@ -7,8 +7,8 @@ use Rattle.std.proofs.lemmas.List.{append-nil, take_at}
 use Rattle.std.proofs.Math.Seq.{get_or-append_seam}
 use Rattle.dgt_values.specs.declared.pieces.Piece.{Piece}
 use Rattle.dgt_values.specs.declared.pieces.Piece.TheVariants.{Empty}
-use Rattle.dgt_values.specs.declared.placements.BadPlacement.{BadPlacement}
-use Rattle.dgt_values.specs.Piece.{piece_letter}
+use Rattle.dgt_values.specs.declared.refusals.BadPlacement.{BadPlacement}
+use Rattle.dgt_values.specs.Board.{piece_letter}
 use Rattle.dgt_values.specs.declared.positions.Position.{Position}
 use Rattle.dgt_values.specs.Placement.{MeansSquares, IsPlacement, IsFirstBadOffset, ParsesPlacement}
 use Rattle.dgt_values.proofs.Finishing.{letter_piece, letter_piece-letter, means_one, above_slash, Steps}

@@ -6,9 +6,9 @@ use Rattle.std.specs.Prelude.{Result, Ok, Err}
 use Rattle.std.proofs.lemmas.Bool.{cases_lt}
 use Rattle.std.proofs.lemmas.List.{append-nil, take-take, take-append-drop}
 use Rattle.dgt_values.specs.declared.pieces.Piece.{Piece}
-use Rattle.dgt_values.specs.declared.placements.BadPlacement.{BadPlacement}
+use Rattle.dgt_values.specs.declared.refusals.BadPlacement.{BadPlacement}
 use Rattle.dgt_values.specs.declared.positions.Position.{Position}
-use Rattle.dgt_values.specs.Pieces.{pieces_of}
+use Rattle.dgt_values.specs.Board.{pieces_of}
 use Rattle.dgt_values.specs.Placement.{IsPlacement, BeginsPlacement, IsFirstBadOffset, ParsesPlacement}
 use Rattle.dgt_values.proofs.Finishing.{finishes_one, placement_finishes}
 

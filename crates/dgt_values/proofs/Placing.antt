@@ -3,7 +3,7 @@ use Rattle.std.proofs.Common.{◌≡◌, ℕ, suc, ◌+◌, ◌<◌, refl, List,
 use Rattle.std.specs.Prelude.{◌≢◌}
 use Rattle.dgt_values.specs.declared.pieces.Piece.{Piece}
 use Rattle.dgt_values.specs.declared.pieces.Piece.TheVariants.{Empty, WhitePawn, WhiteRook, WhiteKnight, WhiteBishop, WhiteKing, WhiteQueen, BlackPawn, BlackRook, BlackKnight, BlackBishop, BlackKing, BlackQueen, FirstExtra, SecondExtra, ThirdExtra}
-use Rattle.dgt_values.specs.Piece.{piece_letter}
+use Rattle.dgt_values.specs.Board.{piece_letter}
 use Rattle.dgt_values.specs.Placement.{rank_text_after, run_text}
 
 -- the text of a rank from a piece on

@@ -10,8 +10,9 @@ use Rattle.std.proofs.lemmas.Grind.{replicate_next}
 use Rattle.std.proofs.lemmas.List.{append-nil, nil_from_length, take-append-drop, take_at, drop_at}
 use Rattle.dgt_values.specs.declared.pieces.Piece.{Piece}
 use Rattle.dgt_values.specs.declared.pieces.Piece.TheVariants.{Empty}
-use Rattle.dgt_values.specs.Piece.{piece_letter}
-use Rattle.dgt_values.specs.Placement.{MeansSquares, digit_count, IsRank, AreRanks, IsPlacement, IsDigit, run_text, rank_text_after, rank_text, ranks_text, placement_text}
+use Rattle.dgt_values.specs.Board.{piece_letter}
+use Rattle.std.specs.Char.{IsAsciiDigit}
+use Rattle.dgt_values.specs.Placement.{MeansSquares, digit_count, IsRank, AreRanks, IsPlacement, run_text, rank_text_after, ranks_text, placement_text}
 use Rattle.dgt_values.proofs.Finishing.{letter_one, letter_above}
 use Rattle.dgt_values.proofs.Placing.{text_after_piece}
 use Rattle.dgt_values.proofs.Apart.{Apart, BeginsWithDigit, apart_around, apart_before, apart_after}
@@ -105,7 +106,7 @@ ranks_apart : (n : ℕ) (pieces : List Piece) → Apart (join_with_byte 47 (rank
 ranks_apart zero pieces = tt
 ranks_apart (suc zero) pieces = rank_apart (take 8 pieces) 0
 ranks_apart (suc (suc n)) pieces =
-    apart_around (rank_text (take 8 pieces)) 47 (join_with_byte 47 (ranks_text (suc n) (drop 8 pieces))) (rank_apart (take 8 pieces) 0)
+    apart_around (rank_text_after 0 (take 8 pieces)) 47 (join_with_byte 47 (ranks_text (suc n) (drop 8 pieces))) (rank_apart (take 8 pieces) 0)
     (λ digit. omega (arith, digit.0)) (ranks_apart (suc n) (drop 8 pieces))
 
 -- no two digits of the written text stand side by side
@@ -139,7 +140,7 @@ only_rank (byte ∷ bytes) squares (first, rest, inr letter, h, is) apart =
     (ap (λ l. piece_letter letter.piece ∷ l) (only_rank bytes rest h apart.1))
 only_rank (byte ∷ bytes) squares (first, rest, inl run, h, is) apart =
     let whole : squares ≡ replicate run.count Empty ++ rest = is ∙ ap (λ l. l ++ rest) run.all_empty in
-    let digit : IsDigit byte = (omega (arith, run.digit), omega (arith, run.digit, run.at_most_eight)) in
+    let digit : IsAsciiDigit byte = (omega (arith, run.digit), omega (arith, run.digit, run.at_most_eight)) in
     let after : rank_text_after 0 squares ≡ run_text run.count ++ rank_text_after 0 rest =
     ap (rank_text_after 0) whole ∙ run_after run.count 0 rest ∙ ap (λ n. rank_text_after n rest) (zero-add run.count) ∙ after_run bytes rest run.count h (apart.0 digit) in
     rw (after, run_digit run.count run.at_least_one, run.digit) (ap (λ l. (48 + run.count) ∷ l) (only_rank bytes rest h apart.1))
@@ -164,11 +165,11 @@ only_ranks : (ranks : List (List ℕ)) (pieces : List Piece) → AreRanks ranks 
 only_ranks [] pieces none apart = refl
 only_ranks (rank ∷ ranks) pieces (squares, rest, eight, h, more, is) apart =
     let each = apart_ranks rank ranks apart in
-    let one : rank ≡ rank_text (take 8 pieces) =
-    only_rank rank squares h each.0 ∙ ap rank_text (sym (first_eight squares rest pieces eight is)) in
+    let one : rank ≡ rank_text_after 0 (take 8 pieces) =
+    only_rank rank squares h each.0 ∙ ap (rank_text_after 0) (sym (first_eight squares rest pieces eight is)) in
     let others : ranks ≡ ranks_text (length ranks) (drop 8 pieces) =
     only_ranks ranks rest more each.1 ∙ ap (ranks_text (length ranks)) (sym (after_eight squares rest pieces eight is)) in
-    ap (λ r. r ∷ ranks) one ∙ ap (λ rs. rank_text (take 8 pieces) ∷ rs) others
+    ap (λ r. r ∷ ranks) one ∙ ap (λ rs. rank_text_after 0 (take 8 pieces) ∷ rs) others
 
 -- no other text of the position keeps its digits apart
 pub only_placement : (text : List ℕ) (pieces : List Piece) → IsPlacement text pieces → Apart text → text ≡ placement_text pieces

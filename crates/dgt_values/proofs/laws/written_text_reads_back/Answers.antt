@@ -1,4 +1,4 @@
-use Rattle.dgt_values.specs.Pieces.{pieces_of}
+use Rattle.dgt_values.specs.Board.{pieces_of}
 use Rattle.dgt_values.specs.Placement.{placement_text}
 use Rattle.dgt_values.proofs.Outcomes.{one_outcome}
 use Rattle.dgt_values.proofs.Written.{written_placement}
