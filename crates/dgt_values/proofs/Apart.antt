@@ -33,14 +33,18 @@ apart_digits (byte ∷ bytes) h (suc k) a b =
 -- both forms say the same, the other way round
 pub digits_apart : (text : List ℕ) → DigitsApart text → Apart text
 digits_apart [] h = tt
-digits_apart (byte ∷ bytes) h =
-    (λ a b. h 0 a (begins_first bytes b), digits_apart bytes (λ k a b. let further : suc k + 1 ≡ suc (k + 1) = omega arith in h (suc k) a (rw further b)))
+digits_apart (byte ∷ bytes) h = (
+  λ a b. h 0 a (begins_first bytes b),
+  digits_apart bytes (λ k a b. let further : suc k + 1 ≡ suc (k + 1) = omega arith in h (suc k) a (rw further b)),
+)
 
 -- a byte that is no digit keeps what stands around it apart
-pub apart_around : (before : List ℕ) (byte : ℕ) (after : List ℕ) → Apart before → (IsAsciiDigit byte → ⊥) → Apart after → Apart (before ++ byte ∷ after)
+pub apart_around : (before : List ℕ) (byte : ℕ) (after : List ℕ) → Apart before → (IsAsciiDigit byte → ⊥) → Apart after
+    → Apart (before ++ byte ∷ after)
 apart_around [] byte after h other k = (λ a b. other a, k)
 apart_around (first ∷ []) byte after h other k = (λ a b. other b, (λ a b. other a, k))
-apart_around (first ∷ second ∷ before) byte after h other k = (h.0, apart_around (second ∷ before) byte after h.1 other k)
+apart_around (first ∷ second ∷ before) byte after h other k =
+    (h.0, apart_around (second ∷ before) byte after h.1 other k)
 
 -- the front of a text whose digits stand apart
 pub apart_before : (before after : List ℕ) → Apart (before ++ after) → Apart before
