@@ -9,7 +9,6 @@ use Rattle.dgt_message.specs.declared.message.Message.{Message}
 use Rattle.dgt_message.specs.Code.{known_with}
 use Rattle.dgt_message.specs.Content.{Content, code_of, content, IsCarried}
 use Rattle.dgt_message.specs.Fault.{AllowsBefore, IsFaultOf, IsFirstBad, IsRightSize, Views}
-use Rattle.dgt_message.specs.Laws.{HasOneReading}
 use Rattle.dgt_message.specs.Layout.{Layout, layout_of, total_of}
 use Rattle.dgt_message.specs.Reading.{content_if_any, first_bad_place, is_right_size, message_or_fault, reading}
 use Rattle.dgt_message.specs.Spelling.{Fits, Spells}
@@ -67,15 +66,12 @@ reading-Err code body why small carried =
     (λ e. rw e at says, fault_is code body (reading code body) why says)
 
 -- the reading is a message or a fault
-pub one_reading : (code : ℕ) (body : List ℕ) → code < 128 → IsCarried body → HasOneReading code body
-one_reading code body small carried = record {
-  some = some (reading code body) (reading_says code body small carried);
-  one_message = one_message code body;
-  one_fault = one_fault code body;
-  not_both = not_both code body;
-}
+pub some_reading : (code : ℕ) (body : List ℕ) → code < 128 → IsCarried body
+    → ((said : Content) × Fits said code body) ⊎ ((why : BodyFault) × IsFaultOf code body why)
+some_reading code body small carried = some (reading code body) (reading_says code body small carried)
   where
-    some : (r : Result Content BodyFault) → Says code body r → ((said : Content) × Fits said code body) ⊎ ((fault : BodyFault) × IsFaultOf code body fault)
+    some : (r : Result Content BodyFault) → Says code body r
+        → ((said : Content) × Fits said code body) ⊎ ((why : BodyFault) × IsFaultOf code body why)
     some (Ok said) h = inl (said, h)
     some (Err why) h = inr (why, h)
 

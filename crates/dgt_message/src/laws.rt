@@ -1,7 +1,7 @@
 //! What holds of the messages and their spellings as such. Nothing here runs: each function stands
 //! for the fact that its contract states.
 
-ghost use Rattle.std.specs.Prelude.{◌≡◌, ◌<◌, ◌-◌, ◌++◌, ◌↔◌, ℕ, List, [], drop, slice_index, Some, Ok, Err};
+ghost use Rattle.std.specs.Prelude.{◌≡◌, ◌<◌, ◌-◌, ◌++◌, ◌↔◌, ◌⊎◌, ℕ, List, [], drop, slice_index, Some, Ok, Err};
 ghost use Rattle.dgt_values.specs.Equality.{EqualIsSame, EqualIsSameRead};
 ghost use Rattle.dgt_message.specs.declared.bodies.BodyFault.{BodyFault};
 ghost use Rattle.dgt_message.specs.declared.known.KnownCode.{KnownCode};
@@ -9,7 +9,6 @@ ghost use Rattle.dgt_message.specs.ClockState.{clock_seen};
 ghost use Rattle.dgt_message.specs.Code.{known_number, known_with};
 ghost use Rattle.dgt_message.specs.Content.{content, Content, IsCarried, IsMessage};
 ghost use Rattle.dgt_message.specs.Fault.{IsFaultOf};
-ghost use Rattle.dgt_message.specs.Laws.{HasOneReading};
 ghost use Rattle.dgt_message.specs.Reading.{reading};
 ghost use Rattle.dgt_message.specs.Spelling.{Fits, Spells, message_bytes, spelling};
 ghost use Rattle.dgt_message.specs.Values.{absence_seen, answer_seen, code_number, status_code, time_seen, times_seen};
@@ -45,7 +44,14 @@ pub fn a_number_has_one_code()
 
 /// Exactly one message fits each code and each body, or exactly one fault does.
 pub fn one_reading()
-    ensures { (code : ℕ) (body : List ℕ) → code < 128 → IsCarried body → HasOneReading code body }
+    ensures some { (code : ℕ) (body : List ℕ) → code < 128 → IsCarried body
+        → ((said : Content) × Fits said code body) ⊎ ((why : BodyFault) × IsFaultOf code body why) }
+    ensures one_message { (code : ℕ) (body : List ℕ) (first second : Content)
+        → Fits first code body → Fits second code body → first ≡ second }
+    ensures one_fault { (code : ℕ) (body : List ℕ) (first second : BodyFault)
+        → IsFaultOf code body first → IsFaultOf code body second → first ≡ second }
+    ensures not_both { (code : ℕ) (body : List ℕ) (said : Content) (why : BodyFault)
+        → Fits said code body → ¬ (IsFaultOf code body why) }
 {}
 
 /// No bytes spell two messages, and the spelling of no message goes on to be the spelling of

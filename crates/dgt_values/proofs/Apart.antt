@@ -1,23 +1,24 @@
 -- Texts in which no two digits stand side by side.
 use Rattle.std.proofs.Common.{◌≡◌, ℕ, zero, suc, ◌+◌, arith, List, [], ◌∷◌, ◌++◌, get_or}
-use Rattle.dgt_values.specs.Placement.{IsDigit, DigitsApart}
+use Rattle.std.specs.Char.{IsAsciiDigit}
+use Rattle.dgt_values.specs.Placement.{DigitsApart}
 
 abbrev pub BeginsWithDigit : List ℕ → Type 0
 BeginsWithDigit [] = ⊥
-BeginsWithDigit (byte ∷ bytes) = IsDigit byte
+BeginsWithDigit (byte ∷ bytes) = IsAsciiDigit byte
 
 -- the same, byte by byte
 abbrev pub Apart : List ℕ → Type 0
 Apart [] = Unit {0}
-Apart (byte ∷ bytes) = (IsDigit byte → BeginsWithDigit bytes → ⊥) × Apart bytes
+Apart (byte ∷ bytes) = (IsAsciiDigit byte → BeginsWithDigit bytes → ⊥) × Apart bytes
 
 -- a text whose first byte is a digit begins with one
-first_begins : (bytes : List ℕ) → IsDigit (get_or bytes 0 0) → BeginsWithDigit bytes
+first_begins : (bytes : List ℕ) → IsAsciiDigit (get_or bytes 0 0) → BeginsWithDigit bytes
 first_begins [] h = omega (arith, h.0)
 first_begins (byte ∷ bytes) h = h
 
 -- and the other way round
-begins_first : (bytes : List ℕ) → BeginsWithDigit bytes → IsDigit (get_or bytes 0 0)
+begins_first : (bytes : List ℕ) → BeginsWithDigit bytes → IsAsciiDigit (get_or bytes 0 0)
 begins_first [] h = absurd h
 begins_first (byte ∷ bytes) h = h
 
@@ -32,14 +33,18 @@ apart_digits (byte ∷ bytes) h (suc k) a b =
 -- both forms say the same, the other way round
 pub digits_apart : (text : List ℕ) → DigitsApart text → Apart text
 digits_apart [] h = tt
-digits_apart (byte ∷ bytes) h =
-    (λ a b. h 0 a (begins_first bytes b), digits_apart bytes (λ k a b. let further : suc k + 1 ≡ suc (k + 1) = omega arith in h (suc k) a (rw further b)))
+digits_apart (byte ∷ bytes) h = (
+  λ a b. h 0 a (begins_first bytes b),
+  digits_apart bytes (λ k a b. let further : suc k + 1 ≡ suc (k + 1) = omega arith in h (suc k) a (rw further b)),
+)
 
 -- a byte that is no digit keeps what stands around it apart
-pub apart_around : (before : List ℕ) (byte : ℕ) (after : List ℕ) → Apart before → (IsDigit byte → ⊥) → Apart after → Apart (before ++ byte ∷ after)
+pub apart_around : (before : List ℕ) (byte : ℕ) (after : List ℕ) → Apart before → (IsAsciiDigit byte → ⊥) → Apart after
+    → Apart (before ++ byte ∷ after)
 apart_around [] byte after h other k = (λ a b. other a, k)
 apart_around (first ∷ []) byte after h other k = (λ a b. other b, (λ a b. other a, k))
-apart_around (first ∷ second ∷ before) byte after h other k = (h.0, apart_around (second ∷ before) byte after h.1 other k)
+apart_around (first ∷ second ∷ before) byte after h other k =
+    (h.0, apart_around (second ∷ before) byte after h.1 other k)
 
 -- the front of a text whose digits stand apart
 pub apart_before : (before after : List ℕ) → Apart (before ++ after) → Apart before

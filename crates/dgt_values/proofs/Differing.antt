@@ -1,6 +1,7 @@
 -- The mask of a comparison of codes, bit by bit.
-use Rattle.std.proofs.Common.{◌≡◌, ℕ, ◌+◌, ◌%◌, ◌/◌, ◌^◌, ◌<◌, ◌∙◌, eqb, Bool, false, not, cond, List, map, length, get_or, Some, sym, ap, arith, w8, eq-eqb, ne_eqb}
-use Rattle.std.specs.Prelude.{◌≢◌, ◌↔◌, IsBitSet, bit_and, slice_get}
+use Rattle.std.proofs.Common.{◌≡◌, ℕ, ◌%◌, ◌^◌, ◌<◌, ◌∙◌, eqb, Bool, false, not, cond, List, map, length, get_or, Some}
+use Rattle.std.proofs.Common.{sym, ap, arith, w8, eq-eqb, ne_eqb}
+use Rattle.std.specs.Prelude.{◌≢◌, ◌↔◌, IsBitSet, slice_get}
 use Rattle.std.specs.Int.{bit_at}
 use Rattle.std.proofs.lemmas.Nat.{bit_set_by_shift}
 use Rattle.std.proofs.lemmas.Nat.Bits.{shr_and_one}
@@ -8,7 +9,7 @@ use Rattle.std.proofs.lemmas.Option.{slice_get-get_or}
 use Rattle.std.proofs.lemmas.Simd.{tops_compared, mask_l-mod, bit_mask_l, get_or-zip2, length-zip2}
 use Rattle.dgt_values.specs.declared.pieces.Piece.{Piece}
 use Rattle.dgt_values.specs.declared.pieces.Piece.TheVariants.{Empty}
-use Rattle.dgt_values.specs.Piece.{piece_code}
+use Rattle.dgt_values.specs.Board.{piece_code}
 use Rattle.dgt_values.proofs.PieceCodes.{same_code}
 use lib.Lanes.{mask_l, top, zip2}
 
@@ -18,11 +19,14 @@ unequal a b = not (eqb a b)
 
 -- bit n of the mask says whether lanes n differ
 unequal_bits : (xs ys : List ℕ) → length xs ≡ 64 → length ys ≡ 64 → (n : ℕ) → n < 64
-    → bit_at (mask_l (map (top 7) (zip2 (λ a b. cond (unequal a b) 255 0) xs ys)) % 2 ^ 64) n ≡ cond (unequal (get_or xs n 0) (get_or ys n 0)) 1 0
+    → bit_at (mask_l (map (top 7) (zip2 (λ a b. cond (unequal a b) 255 0) xs ys)) % 2 ^ 64) n
+    ≡ cond (unequal (get_or xs n 0) (get_or ys n 0)) 1 0
 unequal_bits xs ys xs_long ys_long n within =
     let lanes = zip2 unequal xs ys in
-    let masked = ap (λ bits. mask_l bits % 2 ^ 64) (tops_compared w8 unequal xs ys) ∙ mask_l-mod lanes 64 (omega (arith, length-zip2 unequal xs ys (xs_long ∙ sym ys_long))) in
-    ap (λ mask. bit_at mask n) masked ∙ bit_mask_l lanes n ∙ ap (λ b. cond b 1 0) (get_or-zip2 unequal xs ys n 0 0 false (omega arith) (omega arith))
+    let masked = ap (λ bits. mask_l bits % 2 ^ 64) (tops_compared w8 unequal xs ys)
+    ∙ mask_l-mod lanes 64 (omega (arith, length-zip2 unequal xs ys (xs_long ∙ sym ys_long))) in
+    ap (λ mask. bit_at mask n) masked ∙ bit_mask_l lanes n
+    ∙ ap (λ b. cond b 1 0) (get_or-zip2 unequal xs ys n 0 0 false (omega arith) (omega arith))
 
 -- a bit that says whether two codes differ is set exactly where the pieces do
 code_bit : (a b : Piece) (bit : ℕ) → bit ≡ cond (unequal (piece_code a) (piece_code b)) 1 0 → (bit ≡ 1) ↔ (a ≢ b)
@@ -34,21 +38,26 @@ code_bit a b bit is = (
 )
 
 -- what stands on a square that is there
-square_same : (a b : List Piece) (n : ℕ) → n < length a → n < length b → (get_or a n Empty ≢ get_or b n Empty) ↔ (slice_get a n ≢ slice_get b n)
+square_same : (a b : List Piece) (n : ℕ) → n < length a → n < length b
+    → (get_or a n Empty ≢ get_or b n Empty) ↔ (slice_get a n ≢ slice_get b n)
 square_same a b n h k =
     let own = slice_get-get_or a n Empty h in
     let others = slice_get-get_or b n Empty k in (
-      λ differs same. differs (let e : Some (get_or a n Empty) ≡ Some (get_or b n Empty) = sym own ∙ same ∙ others in cc),
+      λ differs same. differs (let e : Some (get_or a n Empty) ≡ Some (get_or b n Empty) = sym own ∙ same ∙ others in
+          cc),
       λ differs same. differs (own ∙ ap Some same ∙ sym others),
     )
 
 -- the mask of the codes of two positions tells the squares that differ
-pub mask_tells : (a b : List Piece) (xs ys : List ℕ) → length a ≡ 64 → length b ≡ 64 → length xs ≡ 64 → length ys ≡ 64 → (n : ℕ) → n < 64
+pub mask_tells : (a b : List Piece) (xs ys : List ℕ) → length a ≡ 64 → length b ≡ 64 → length xs ≡ 64 → length ys ≡ 64
+    → (n : ℕ) → n < 64
     → get_or xs n 0 ≡ piece_code (get_or a n Empty) → get_or ys n 0 ≡ piece_code (get_or b n Empty)
-    → IsBitSet (mask_l (map (top 7) (zip2 (λ a b. cond (unequal a b) 255 0) xs ys)) % 2 ^ 64) n ↔ (slice_get a n ≢ slice_get b n)
+    → IsBitSet (mask_l (map (top 7) (zip2 (λ a b. cond (unequal a b) 255 0) xs ys)) % 2 ^ 64) n
+    ↔ (slice_get a n ≢ slice_get b n)
 mask_tells a b xs ys a_long b_long xs_long ys_long n within own others =
     let mask = mask_l (map (top 7) (zip2 (λ a b. cond (unequal a b) 255 0) xs ys)) % 2 ^ 64 in
-    let told = unequal_bits xs ys xs_long ys_long n within ∙ ap (λ x. cond (unequal x (get_or ys n 0)) 1 0) own ∙ ap (λ y. cond (unequal (piece_code (get_or a n Empty)) y) 1 0) others in
+    let told = unequal_bits xs ys xs_long ys_long n within ∙ ap (λ x. cond (unequal x (get_or ys n 0)) 1 0) own
+    ∙ ap (λ y. cond (unequal (piece_code (get_or a n Empty)) y) 1 0) others in
     let bit = code_bit (get_or a n Empty) (get_or b n Empty) (bit_at mask n) told in
     let square = square_same a b n (omega arith) (omega arith) in
     let shift = bit_set_by_shift mask n in (

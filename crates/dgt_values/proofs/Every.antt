@@ -1,5 +1,6 @@
 -- Each text has an outcome.
-use Rattle.std.proofs.Common.{◌≡◌, ℕ, zero, suc, ◌+◌, ◌-◌, ◌<◌, ◌≤◌, ◌⊎◌, inl, inr, refl, sym, ap, ◌∙◌, arith, List, [], ◌∷◌, ◌++◌, length, take, replicate, get_or, append_assoc, length-append}
+use Rattle.std.proofs.Common.{◌≡◌, ℕ, zero, suc, ◌+◌, ◌-◌, ◌<◌, ◌≤◌, ◌⊎◌, inl, inr, refl, sym, ap, ◌∙◌, arith, List, []}
+use Rattle.std.proofs.Common.{◌∷◌, ◌++◌, length, take, replicate, get_or, append_assoc, length-append}
 use Rattle.std.specs.Prelude.{◌≢◌, Result, Ok, Err}
 use Rattle.std.proofs.lemmas.Bool.{cases_lt}
 use Rattle.std.proofs.lemmas.Bool.Decides.{eqb_tells}
@@ -7,8 +8,8 @@ use Rattle.std.proofs.lemmas.List.{append-nil, take_at}
 use Rattle.std.proofs.Math.Seq.{get_or-append_seam}
 use Rattle.dgt_values.specs.declared.pieces.Piece.{Piece}
 use Rattle.dgt_values.specs.declared.pieces.Piece.TheVariants.{Empty}
-use Rattle.dgt_values.specs.declared.placements.BadPlacement.{BadPlacement}
-use Rattle.dgt_values.specs.Piece.{piece_letter}
+use Rattle.dgt_values.specs.declared.refusals.BadPlacement.{BadPlacement}
+use Rattle.dgt_values.specs.Board.{piece_letter}
 use Rattle.dgt_values.specs.declared.positions.Position.{Position}
 use Rattle.dgt_values.specs.Placement.{MeansSquares, IsPlacement, IsFirstBadOffset, ParsesPlacement}
 use Rattle.dgt_values.proofs.Finishing.{letter_piece, letter_piece-letter, means_one, above_slash, Steps}
@@ -16,9 +17,11 @@ use Rattle.dgt_values.proofs.Written.{placement_long}
 use Rattle.dgt_values.proofs.Reading.{Leaves, leaves_start, leaves_more, leaves_none, first_bad, ends_short}
 
 -- a byte is a piece's letter or it isn't
-letter_or_not : (byte : ℕ) → ((piece : Piece) × (piece ≢ Empty) × (byte ≡ piece_letter piece)) ⊎ ((piece : Piece) → piece ≢ Empty → byte ≡ piece_letter piece → ⊥)
+letter_or_not : (byte : ℕ) → ((piece : Piece) × (piece ≢ Empty) × (byte ≡ piece_letter piece)) ⊎ ((piece : Piece)
+    → piece ≢ Empty → byte ≡ piece_letter piece → ⊥)
 letter_or_not byte = elim (eqb_tells byte 46) [
-  | inl dot ↦ inr (λ piece full e. full (sym (letter_piece-letter piece) ∙ ap letter_piece (sym e) ∙ ap letter_piece dot.1))
+  | inl dot ↦ inr (λ piece full e. full (sym (letter_piece-letter piece) ∙ ap letter_piece (sym e)
+      ∙ ap letter_piece dot.1))
   | inr other ↦ elim (eqb_tells (piece_letter (letter_piece byte)) byte) [
     | inl same ↦ inl (letter_piece byte, λ e. other.1 (sym same.1 ∙ ap piece_letter e), sym same.1)
     | inr none ↦ inr (λ piece full e. none.1 (ap piece_letter (ap letter_piece e ∙ letter_piece-letter piece) ∙ sym e))
@@ -26,27 +29,37 @@ letter_or_not byte = elim (eqb_tells byte 46) [
 ]
 
 -- a byte that is no letter and no digit from 1 to 8 stands for nothing
-means_none : (byte : ℕ) → ((piece : Piece) → piece ≢ Empty → byte ≡ piece_letter piece → ⊥) → (1 + byte ≤ 49) ⊎ (57 ≤ byte) → (squares : List Piece) → MeansSquares byte squares → ⊥
+means_none : (byte : ℕ) → ((piece : Piece) → piece ≢ Empty → byte ≡ piece_letter piece → ⊥)
+    → (1 + byte ≤ 49) ⊎ (57 ≤ byte) → (squares : List Piece) → MeansSquares byte squares → ⊥
 means_none byte none (inl low) squares (inl run) = omega (arith, run.digit, run.at_least_one)
 means_none byte none (inr high) squares (inl run) = omega (arith, run.digit, run.at_most_eight)
 means_none byte none out squares (inr letter) = none letter.piece letter.not_empty letter.letter
 
 -- a byte that is no letter is a digit from 1 to 8 or stands for nothing
-digit_or_not : (byte : ℕ) → ((piece : Piece) → piece ≢ Empty → byte ≡ piece_letter piece → ⊥) → (48 < byte) ⊎ (byte ≤ 48) → (byte < 57) ⊎ (57 ≤ byte)
+digit_or_not : (byte : ℕ) → ((piece : Piece) → piece ≢ Empty → byte ≡ piece_letter piece → ⊥)
+    → (48 < byte) ⊎ (byte ≤ 48) → (byte < 57) ⊎ (57 ≤ byte)
     → ((squares : List Piece) × MeansSquares byte squares) ⊎ ((squares : List Piece) → MeansSquares byte squares → ⊥)
 digit_or_not byte none (inl low) (inl high) =
     let digit : byte ≡ 48 + (byte - 48) = omega arith in
     inl (
       replicate (byte - 48) Empty,
-      inl (record { count = byte - 48; at_least_one = omega arith; at_most_eight = omega arith; digit = digit; all_empty = refl }),
+      inl (record {
+        count = byte - 48;
+        at_least_one = omega arith;
+        at_most_eight = omega arith;
+        digit = digit;
+        all_empty = refl;
+      }),
     )
 digit_or_not byte none (inr low) high = inr (means_none byte none (inl (omega arith)))
 digit_or_not byte none (inl low) (inr high) = inr (means_none byte none (inr high))
 
 -- a byte stands for squares or it doesn't
-means_or_not : (byte : ℕ) → ((squares : List Piece) × MeansSquares byte squares) ⊎ ((squares : List Piece) → MeansSquares byte squares → ⊥)
+means_or_not : (byte : ℕ) → ((squares : List Piece) × MeansSquares byte squares) ⊎ ((squares : List Piece)
+    → MeansSquares byte squares → ⊥)
 means_or_not byte = elim (letter_or_not byte) [
-  | inl letter ↦ inl (letter.0 ∷ [], inr (record { piece = letter.0; not_empty = letter.1; letter = letter.2; one_square = refl }))
+  | inl letter ↦ inl
+      (letter.0 ∷ [], inr (record { piece = letter.0; not_empty = letter.1; letter = letter.2; one_square = refl }))
   | inr none ↦ digit_or_not byte none (cases_lt 48 byte) (cases_lt byte 57)
 ]
 
@@ -54,7 +67,8 @@ means_or_not byte = elim (letter_or_not byte) [
 too_long : (byte n s : ℕ) (squares : List Piece) → MeansSquares byte squares → s < length squares
     → (n' s' : ℕ) (first : List Piece) → Steps byte n s n' s' first → ⊥
 too_long byte n s squares stands long n' s' first (inl x) = omega (arith, x.slash, above_slash byte squares stands)
-too_long byte n s squares stands long n' s' first (inr x) = omega (arith, x.fewer, ap length (means_one byte first squares x.stands stands))
+too_long byte n s squares stands long n' s' first (inr x) =
+    omega (arith, x.fewer, ap length (means_one byte first squares x.stands stands))
 
 -- what a byte does after so many ranks and squares: a step, or nothing
 record Step (byte n s : ℕ) : Type 0 where
@@ -69,7 +83,8 @@ abbrev IsStuck : ℕ → ℕ → ℕ → Type 0
 IsStuck byte n s = (n' s' : ℕ) (first : List Piece) → Steps byte n s n' s' first → ⊥
 
 -- a byte that means squares is a step where they fit
-with_squares : (byte n s : ℕ) (squares : List Piece) → s ≤ 8 → MeansSquares byte squares → (s < length squares) ⊎ (length squares ≤ s) → Step byte n s ⊎ IsStuck byte n s
+with_squares : (byte n s : ℕ) (squares : List Piece) → s ≤ 8 → MeansSquares byte squares
+    → (s < length squares) ⊎ (length squares ≤ s) → Step byte n s ⊎ IsStuck byte n s
 with_squares byte n s squares le stands (inl long) = inr (too_long byte n s squares stands long)
 with_squares byte n s squares le stands (inr fits) =
     let fewer : s ≡ length squares + (s - length squares) = omega arith in
@@ -82,17 +97,25 @@ with_squares byte n s squares le stands (inr fits) =
     })
 
 -- a byte that means nothing and is no slash in its place may do nothing
-no_slash : (byte n s : ℕ) → ((squares : List Piece) → MeansSquares byte squares → ⊥) → (byte ≡ 47 → s ≡ 0 → 0 < n → ⊥) → IsStuck byte n s
+no_slash : (byte n s : ℕ) → ((squares : List Piece) → MeansSquares byte squares → ⊥) → (byte ≡ 47 → s ≡ 0 → 0 < n → ⊥)
+    → IsStuck byte n s
 no_slash byte n s none refused n' s' first (inl x) = refused x.slash x.full (omega (arith, x.one_less))
 no_slash byte n s none refused n' s' first (inr x) = none first x.stands
 
 -- a byte that means nothing is a step where it is a slash in its place
-with_slash : (byte n s : ℕ) → ((squares : List Piece) → MeansSquares byte squares → ⊥) → ((byte ≡ 47) ⊎ (byte ≢ 47)) → Step byte n s ⊎ IsStuck byte n s
+with_slash : (byte n s : ℕ) → ((squares : List Piece) → MeansSquares byte squares → ⊥) → ((byte ≡ 47) ⊎ (byte ≢ 47))
+    → Step byte n s ⊎ IsStuck byte n s
 with_slash byte n s none (inr other) = inr (no_slash byte n s none (λ slash _ _. other slash))
 with_slash byte zero s none (inl slash) = inr (no_slash byte zero s none (λ _ _ less. omega arith))
 with_slash byte (suc n) (suc s) none (inl slash) = inr (no_slash byte (suc n) (suc s) none (λ _ full _. omega arith))
 with_slash byte (suc n) zero none (inl slash) =
-    inl (record { ranks = n; left = 8; first = []; left_in = omega arith; steps = inl (record { slash = slash; full = refl; one_less = refl; eight = refl; none = refl }) })
+    inl (record {
+      ranks = n;
+      left = 8;
+      first = [];
+      left_in = omega arith;
+      steps = inl (record { slash = slash; full = refl; one_less = refl; eight = refl; none = refl });
+    })
 
 -- a byte is a slash or it is none
 slash_or_not : (byte : ℕ) → (byte ≡ 47) ⊎ (byte ≢ 47)
@@ -116,11 +139,14 @@ outcome_accepted text pieces p = (Ok (record { pieces = pieces; all = placement_
 -- the outcome of a text that was read to its end
 outcome_at_end : (text : List ℕ) (n s : ℕ) (done : List Piece) → s ≤ 8 → Leaves text n s done → Outcome text
 outcome_at_end text zero zero done le h = outcome_accepted text done (leaves_none text done h)
-outcome_at_end text zero (suc s) done le h = (Err (record { at = length text }), ends_short text zero (suc s) done le h (λ _ full. omega arith))
-outcome_at_end text (suc n) s done le h = (Err (record { at = length text }), ends_short text (suc n) s done le h (λ none _. omega arith))
+outcome_at_end text zero (suc s) done le h =
+    (Err (record { at = length text }), ends_short text zero (suc s) done le h (λ _ full. omega arith))
+outcome_at_end text (suc n) s done le h =
+    (Err (record { at = length text }), ends_short text (suc n) s done le h (λ none _. omega arith))
 
 -- a byte that may do nothing is the first bad one
-stuck_is_bad : (text rest : List ℕ) (byte n s : ℕ) (done : List Piece) → s ≤ 8 → Leaves text n s done → IsStuck byte n s → IsFirstBadOffset (text ++ byte ∷ rest) (length text)
+stuck_is_bad : (text rest : List ℕ) (byte n s : ℕ) (done : List Piece) → s ≤ 8 → Leaves text n s done → IsStuck byte n s
+    → IsFirstBadOffset (text ++ byte ∷ rest) (length text)
 stuck_is_bad text rest byte n s done le h stuck =
     let inside : length text < length (text ++ byte ∷ rest) = omega (arith, length-append text (byte ∷ rest)) in
     let front : take (length text) (text ++ byte ∷ rest) ≡ text = take_at text (byte ∷ rest) (length text) refl in
@@ -128,12 +154,14 @@ stuck_is_bad text rest byte n s done le h stuck =
     first_bad (text ++ byte ∷ rest) done (length text) n s inside le (rw front h) (rw here stuck)
 
 -- what is left of a text has an outcome
-outcome_from : (rest text : List ℕ) (n s : ℕ) (done : List Piece) → s ≤ 8 → Leaves text n s done → Outcome (text ++ rest)
+outcome_from : (rest text : List ℕ) (n s : ℕ) (done : List Piece) → s ≤ 8 → Leaves text n s done
+    → Outcome (text ++ rest)
 outcome_from [] text n s done le h = rw (append-nil text) (outcome_at_end text n s done le h)
 outcome_from (byte ∷ rest) text n s done le h = elim (step_or_not byte n s le) [
   | inl step ↦
       rw (append_assoc text (byte ∷ []) rest) at
-      (outcome_from rest (text ++ byte ∷ []) step.ranks step.left (done ++ step.first) step.left_in (leaves_more text n s done byte step.ranks step.left step.first h step.steps))
+      (outcome_from rest (text ++ byte ∷ []) step.ranks step.left (done ++ step.first) step.left_in
+      (leaves_more text n s done byte step.ranks step.left step.first h step.steps))
   | inr stuck ↦ (Err (record { at = length text }), stuck_is_bad text rest byte n s done le h stuck)
 ]
 

@@ -1,21 +1,29 @@
 -- How a text goes on to the end of a placement, byte by byte: so many ranks follow this one, and so many
 -- squares of this rank are left.
-use Rattle.std.proofs.Common.{◌≡◌, ℕ, suc, ◌+◌, ◌<◌, ◌⊎◌, inl, inr, refl, sym, ap, ◌∙◌, arith, List, [], ◌∷◌, ◌++◌, length, replicate, append_assoc, length-append}
+use Rattle.std.proofs.Common.{◌≡◌, ℕ, suc, ◌+◌, ◌<◌, ◌⊎◌, inl, inr, refl, sym, ap, ◌∙◌, arith, List, [], ◌∷◌, ◌++◌}
+use Rattle.std.proofs.Common.{length, replicate, append_assoc, length-append}
 use Rattle.std.specs.Prelude.{◌≢◌, ◌==◌, if◌then◌else◌}
 use Rattle.std.specs.List.{join_with_byte}
 use Rattle.std.proofs.lemmas.List.{append-nil}
 use Rattle.dgt_values.specs.declared.pieces.Piece.{Piece}
-use Rattle.dgt_values.specs.declared.pieces.Piece.TheVariants.{Empty, WhitePawn, WhiteRook, WhiteKnight, WhiteBishop, WhiteKing, WhiteQueen, BlackPawn, BlackRook, BlackKnight, BlackBishop, BlackKing, BlackQueen, FirstExtra, SecondExtra, ThirdExtra}
-use Rattle.dgt_values.specs.Piece.{piece_letter}
+use Rattle.dgt_values.specs.declared.pieces.Piece.TheVariants.{Empty, WhitePawn, WhiteRook, WhiteKnight, WhiteBishop}
+use Rattle.dgt_values.specs.declared.pieces.Piece.TheVariants.{WhiteKing, WhiteQueen, BlackPawn, BlackRook, BlackKnight}
+use Rattle.dgt_values.specs.declared.pieces.Piece.TheVariants.{BlackBishop, BlackKing, BlackQueen, FirstExtra}
+use Rattle.dgt_values.specs.declared.pieces.Piece.TheVariants.{SecondExtra, ThirdExtra}
+use Rattle.dgt_values.specs.Board.{piece_letter}
 use Rattle.dgt_values.specs.Placement.{MeansSquares, IsRank, AreRanks, IsPlacement}
 
 -- the piece with a letter
 abbrev pub letter_piece : ℕ → Piece
 letter_piece b =
-    if b == 80 then WhitePawn else (if b == 82 then WhiteRook else (if b == 78 then WhiteKnight else (if b == 66 then WhiteBishop else
-    (if b == 75 then WhiteKing else (if b == 81 then WhiteQueen else (if b == 112 then BlackPawn else (if b == 114 then BlackRook else
-    (if b == 110 then BlackKnight else (if b == 98 then BlackBishop else (if b == 107 then BlackKing else (if b == 113 then BlackQueen else
-    (if b == 88 then FirstExtra else (if b == 89 then SecondExtra else (if b == 90 then ThirdExtra else Empty))))))))))))))
+    if b == 80 then WhitePawn else
+    (if b == 82 then WhiteRook else (if b == 78 then WhiteKnight else (if b == 66 then WhiteBishop else
+    (if b == 75 then WhiteKing else
+    (if b == 81 then WhiteQueen else (if b == 112 then BlackPawn else (if b == 114 then BlackRook else
+    (if b == 110 then BlackKnight else
+    (if b == 98 then BlackBishop else (if b == 107 then BlackKing else (if b == 113 then BlackQueen else
+    (if b == 88 then FirstExtra else
+    (if b == 89 then SecondExtra else (if b == 90 then ThirdExtra else Empty))))))))))))))
 
 -- the letter of a piece is its own alone
 pub letter_piece-letter : (piece : Piece) → letter_piece (piece_letter piece) ≡ piece
@@ -74,7 +82,9 @@ means_one byte a b (inl run) (inr letter) =
 means_one byte a b (inr letter) (inl run) =
     absurd (omega (arith, run.digit, run.at_most_eight, letter.letter, letter_above letter.piece letter.not_empty))
 means_one byte a b (inr letter) (inr other) =
-    letter.one_square ∙ ap (λ piece. piece ∷ []) (letter_one letter.piece other.piece (sym letter.letter ∙ other.letter)) ∙ sym other.one_square
+    letter.one_square
+    ∙ ap (λ piece. piece ∷ []) (letter_one letter.piece other.piece (sym letter.letter ∙ other.letter))
+    ∙ sym other.one_square
 
 -- after a full rank a slash begins the next one
 pub record IsSlash (byte ranks left ranks' left' : ℕ) (first : List Piece) : Type 0 where
@@ -92,13 +102,15 @@ pub record AreSquares (byte ranks left ranks' left' : ℕ) (first : List Piece) 
 
 -- what a byte may do: from so many ranks and squares left to those left then, with these squares
 abbrev pub Steps : ℕ → ℕ → ℕ → ℕ → ℕ → List Piece → Type 0
-Steps byte ranks left ranks' left' first = IsSlash byte ranks left ranks' left' first ⊎ AreSquares byte ranks left ranks' left' first
+Steps byte ranks left ranks' left' first =
+    IsSlash byte ranks left ranks' left' first ⊎ AreSquares byte ranks left ranks' left' first
 
 -- the text ends the placement, and these are the pieces that it adds
 abbrev pub Finishes : List ℕ → ℕ → ℕ → List Piece → Type 0
 Finishes [] ranks left pieces = (ranks ≡ 0) × (left ≡ 0) × (pieces ≡ [])
 Finishes (byte ∷ bytes) ranks left pieces =
-    (ranks' left' : ℕ) × (first rest : List Piece) × Steps byte ranks left ranks' left' first × Finishes bytes ranks' left' rest × (pieces ≡ first ++ rest)
+    (ranks' left' : ℕ) × (first rest : List Piece) × Steps byte ranks left ranks' left' first
+    × Finishes bytes ranks' left' rest × (pieces ≡ first ++ rest)
 
 -- a byte does at most one thing
 pub record SameStep (ranks left ranks' left' : ℕ) (first first' : List Piece) : Type 0 where
@@ -107,14 +119,24 @@ pub record SameStep (ranks left ranks' left' : ℕ) (first first' : List Piece) 
   pub first_same : first ≡ first'
 
 -- two steps of a byte are one
-pub steps_one : (byte n s n1 s1 n2 s2 : ℕ) (a b : List Piece) → Steps byte n s n1 s1 a → Steps byte n s n2 s2 b → SameStep n1 s1 n2 s2 a b
+pub steps_one : (byte n s n1 s1 n2 s2 : ℕ) (a b : List Piece) → Steps byte n s n1 s1 a → Steps byte n s n2 s2 b
+    → SameStep n1 s1 n2 s2 a b
 steps_one byte n s n1 s1 n2 s2 a b (inl x) (inl y) =
-    record { ranks_same = omega (arith, x.one_less, y.one_less); left_same = x.eight ∙ sym y.eight; first_same = x.none ∙ sym y.none }
+    record {
+      ranks_same = omega (arith, x.one_less, y.one_less);
+      left_same = x.eight ∙ sym y.eight;
+      first_same = x.none
+          ∙ sym y.none;
+    }
 steps_one byte n s n1 s1 n2 s2 a b (inl x) (inr y) = absurd (omega (arith, x.slash, above_slash byte b y.stands))
 steps_one byte n s n1 s1 n2 s2 a b (inr x) (inl y) = absurd (omega (arith, y.slash, above_slash byte a x.stands))
 steps_one byte n s n1 s1 n2 s2 a b (inr x) (inr y) =
     let same : a ≡ b = means_one byte a b x.stands y.stands in
-    record { ranks_same = x.same_rank ∙ sym y.same_rank; left_same = omega (arith, x.fewer, y.fewer, ap length same); first_same = same }
+    record {
+      ranks_same = x.same_rank ∙ sym y.same_rank;
+      left_same = omega (arith, x.fewer, y.fewer, ap length same);
+      first_same = same;
+    }
 
 -- a text ends a placement with at most one list of pieces
 pub finishes_one : (text : List ℕ) (n s : ℕ) (a b : List Piece) → Finishes text n s a → Finishes text n s b → a ≡ b
@@ -126,13 +148,22 @@ finishes_one (byte ∷ text) n s a b (n1, s1, first, rest, step, more, is) (n2, 
     rw (is, is', same.first_same, tail) refl
 
 -- a rank, and what follows it
-rank_finishes : (bytes : List ℕ) (squares : List Piece) → IsRank bytes squares → (n : ℕ) (more : List ℕ) (rest : List Piece)
+rank_finishes : (bytes : List ℕ) (squares : List Piece) → IsRank bytes squares
+    → (n : ℕ) (more : List ℕ) (rest : List Piece)
     → Finishes more n 0 rest → Finishes (bytes ++ more) n (length squares) (squares ++ rest)
 rank_finishes [] squares h n more rest f = rw h f
 rank_finishes (byte ∷ bytes) squares (first, others, stands, h, is) n more rest f =
     let fewer : length squares ≡ length first + length others = ap length is ∙ length-append first others in
-    let grouped : squares ++ rest ≡ first ++ (others ++ rest) = ap (λ l. l ++ rest) is ∙ append_assoc first others rest in
-    (n, length others, first, others ++ rest, inr (record { same_rank = refl; fewer = fewer; stands = stands }), rank_finishes bytes others h n more rest f, grouped)
+    let grouped : squares ++ rest ≡ first ++ (others ++ rest) = ap (λ l. l ++ rest) is
+    ∙ append_assoc first others rest in (
+      n,
+      length others,
+      first,
+      others ++ rest,
+      inr (record { same_rank = refl; fewer = fewer; stands = stands }),
+      rank_finishes bytes others h n more rest f,
+      grouped,
+    )
 
 -- ranks that are joined by slashes
 ranks_finish : (ranks : List (List ℕ)) (rank : List ℕ) (pieces : List Piece) → AreRanks (rank ∷ ranks) pieces
@@ -142,8 +173,15 @@ ranks_finish [] rank pieces (squares, rest, eight, h, none, is) =
     let whole : pieces ≡ squares ++ [] = is ∙ ap (λ l. squares ++ l) none in
     rw (whole, ← eight, ← append-nil rank) f
 ranks_finish (next ∷ ranks) rank pieces (squares, rest, eight, h, after, is) =
-    let f = rank_finishes rank squares h (suc (length ranks)) (47 ∷ join_with_byte 47 (next ∷ ranks)) rest
-    (length ranks, 8, [], rest, inl (record { slash = refl; full = refl; one_less = refl; eight = refl; none = refl }), ranks_finish ranks next rest after, refl) in
+    let f = rank_finishes rank squares h (suc (length ranks)) (47 ∷ join_with_byte 47 (next ∷ ranks)) rest (
+      length ranks,
+      8,
+      [],
+      rest,
+      inl (record { slash = refl; full = refl; one_less = refl; eight = refl; none = refl }),
+      ranks_finish ranks next rest after,
+      refl,
+    ) in
     rw (is, ← eight) f
 
 -- what is left of a placement, taken apart: this rank's text and the texts of the others
@@ -160,14 +198,26 @@ record Parts (text : List ℕ) (n s : ℕ) (pieces : List Piece) : Type 0 where
   whole : pieces ≡ squares ++ rest
 
 -- one more byte of the first rank
-longer_rank : (byte : ℕ) (rank : List ℕ) (ranks : List (List ℕ)) → byte ∷ join_with_byte 47 (rank ∷ ranks) ≡ join_with_byte 47 ((byte ∷ rank) ∷ ranks)
+longer_rank : (byte : ℕ) (rank : List ℕ) (ranks : List (List ℕ)) → byte ∷ join_with_byte 47 (rank ∷ ranks)
+    ≡ join_with_byte 47 ((byte ∷ rank) ∷ ranks)
 longer_rank byte rank [] = refl
 longer_rank byte rank (next ∷ ranks) = refl
 
 -- a text that ends a placement can be taken apart
 parts : (text : List ℕ) (n s : ℕ) (pieces : List Piece) → Finishes text n s pieces → Parts text n s pieces
 parts [] n s pieces h =
-    record { rank = []; ranks = []; squares = []; rest = []; so_many = sym h.0; joined = refl; is_rank = refl; so_long = sym h.1; others = refl; whole = h.2 }
+    record {
+      rank = [];
+      ranks = [];
+      squares = [];
+      rest = [];
+      so_many = sym h.0;
+      joined = refl;
+      is_rank = refl;
+      so_long = sym h.1;
+      others = refl;
+      whole = h.2;
+    }
 parts (byte ∷ bytes) n s pieces (n', s', first, rest, inl slash, h, is) =
     let after = parts bytes n' s' rest h in
     record {
@@ -198,7 +248,8 @@ parts (byte ∷ bytes) n s pieces (n', s', first, rest, inr more, h, is) =
     }
 
 -- eight ranks that are joined by slashes
-from_ranks : (text : List ℕ) (pieces : List Piece) (ranks : List (List ℕ)) → length ranks ≡ 8 → text ≡ join_with_byte 47 ranks → AreRanks ranks pieces → Finishes text 7 8 pieces
+from_ranks : (text : List ℕ) (pieces : List Piece) (ranks : List (List ℕ)) → length ranks ≡ 8
+    → text ≡ join_with_byte 47 ranks → AreRanks ranks pieces → Finishes text 7 8 pieces
 from_ranks text pieces [] eight joined each = absurd (omega (arith, eight))
 from_ranks text pieces (rank ∷ ranks) eight joined each =
     let seven : length ranks ≡ 7 = omega (arith, eight) in

@@ -6,9 +6,9 @@ use Rattle.std.specs.Prelude.{Result, Ok, Err}
 use Rattle.std.proofs.lemmas.Bool.{cases_lt}
 use Rattle.std.proofs.lemmas.List.{append-nil, take-take, take-append-drop}
 use Rattle.dgt_values.specs.declared.pieces.Piece.{Piece}
-use Rattle.dgt_values.specs.declared.placements.BadPlacement.{BadPlacement}
+use Rattle.dgt_values.specs.declared.refusals.BadPlacement.{BadPlacement}
 use Rattle.dgt_values.specs.declared.positions.Position.{Position}
-use Rattle.dgt_values.specs.Pieces.{pieces_of}
+use Rattle.dgt_values.specs.Board.{pieces_of}
 use Rattle.dgt_values.specs.Placement.{IsPlacement, BeginsPlacement, IsFirstBadOffset, ParsesPlacement}
 use Rattle.dgt_values.proofs.Finishing.{finishes_one, placement_finishes}
 
@@ -32,13 +32,16 @@ not_both text pieces at p bad = elim (cases_lt at (length text)) [
 ]
 
 -- no first bad offset stands before another
-not_before : (text : List ℕ) (first second : ℕ) → IsFirstBadOffset text first → IsFirstBadOffset text second → first < second → ⊥
+not_before : (text : List ℕ) (first second : ℕ) → IsFirstBadOffset text first → IsFirstBadOffset text second
+    → first < second → ⊥
 not_before text first second a b lt =
     let inside : first < length text = omega (arith, b.within) in
-    a.no_longer inside (rw (← take-take (first + 1) second text (omega arith)) (begins_take (take second text) (first + 1) b.begins))
+    a.no_longer inside
+    (rw (← take-take (first + 1) second text (omega arith)) (begins_take (take second text) (first + 1) b.begins))
 
 -- a text has one first bad offset at most
-one_offset : (text : List ℕ) (first second : ℕ) → IsFirstBadOffset text first → IsFirstBadOffset text second → first ≡ second
+one_offset : (text : List ℕ) (first second : ℕ) → IsFirstBadOffset text first → IsFirstBadOffset text second
+    → first ≡ second
 one_offset text first second a b = elim (cases_lt first second) [
   | inl lt ↦ absurd (not_before text first second a b lt)
   | inr le ↦ elim (cases_lt second first) [
@@ -49,10 +52,12 @@ one_offset text first second a b = elim (cases_lt first second) [
 
 -- a position is its pieces
 pub same_position : (a b : Position) → pieces_of a ≡ pieces_of b → a ≡ b
-same_position a b same = λ i. record { pieces = same i; all = is_prop→PathP (λ j. length (same j) ≡ 64) (λ j. ℕ_set _ _) a.all b.all i }
+same_position a b same =
+    λ i. record { pieces = same i; all = is_prop→PathP (λ j. length (same j) ≡ 64) (λ j. ℕ_set _ _) a.all b.all i }
 
 -- a text has one outcome at most
-pub one_outcome : (text : List ℕ) (r s : Result Position BadPlacement) → ParsesPlacement text r → ParsesPlacement text s → r ≡ s
+pub one_outcome : (text : List ℕ) (r s : Result Position BadPlacement) → ParsesPlacement text r → ParsesPlacement text s
+    → r ≡ s
 one_outcome text (Ok a) (Ok b) h k = ap Ok (same_position a b (one_position text (pieces_of a) (pieces_of b) h k))
 one_outcome text (Ok a) (Err e) h k = absurd (not_both text (pieces_of a) e.at h k)
 one_outcome text (Err e) (Ok a) h k = absurd (not_both text (pieces_of a) e.at k h)

@@ -1,9 +1,13 @@
 -- One more piece of a rank is written.
-use Rattle.std.proofs.Common.{◌≡◌, ℕ, suc, ◌+◌, ◌<◌, refl, List, [], ◌∷◌, ◌++◌, length, drop, get_or, append_assoc, add-one, drop-cons}
+use Rattle.std.proofs.Common.{◌≡◌, ℕ, suc, ◌+◌, ◌<◌, refl, List, [], ◌∷◌, ◌++◌, length, drop, get_or, append_assoc}
+use Rattle.std.proofs.Common.{add-one, drop-cons}
 use Rattle.std.specs.Prelude.{◌≢◌}
 use Rattle.dgt_values.specs.declared.pieces.Piece.{Piece}
-use Rattle.dgt_values.specs.declared.pieces.Piece.TheVariants.{Empty, WhitePawn, WhiteRook, WhiteKnight, WhiteBishop, WhiteKing, WhiteQueen, BlackPawn, BlackRook, BlackKnight, BlackBishop, BlackKing, BlackQueen, FirstExtra, SecondExtra, ThirdExtra}
-use Rattle.dgt_values.specs.Piece.{piece_letter}
+use Rattle.dgt_values.specs.declared.pieces.Piece.TheVariants.{Empty, WhitePawn, WhiteRook, WhiteKnight, WhiteBishop}
+use Rattle.dgt_values.specs.declared.pieces.Piece.TheVariants.{WhiteKing, WhiteQueen, BlackPawn, BlackRook, BlackKnight}
+use Rattle.dgt_values.specs.declared.pieces.Piece.TheVariants.{BlackBishop, BlackKing, BlackQueen, FirstExtra}
+use Rattle.dgt_values.specs.declared.pieces.Piece.TheVariants.{SecondExtra, ThirdExtra}
+use Rattle.dgt_values.specs.Board.{piece_letter}
 use Rattle.dgt_values.specs.Placement.{rank_text_after, run_text}
 
 -- the text of a rank from a piece on
@@ -34,6 +38,8 @@ one_more_empty rank i empty h e =
 
 -- a piece ends the run
 pub one_more_piece : (rank : List Piece) (i empty : ℕ) (text : List ℕ) → i < length rank → get_or rank i Empty ≢ Empty
-    → text ++ rank_text_after empty (drop i rank) ≡ ((text ++ run_text empty) ++ piece_letter (get_or rank i Empty) ∷ []) ++ rank_text_after 0 (drop (i + 1) rank)
+    → text ++ rank_text_after empty (drop i rank) ≡ ((text ++ run_text empty) ++ piece_letter (get_or rank i Empty)
+    ∷ []) ++ rank_text_after 0 (drop (i + 1) rank)
 one_more_piece rank i empty text h ne =
-    rw (add-one i, drop-cons rank i Empty h, text_after_piece (get_or rank i Empty) empty (drop (suc i) rank) ne) (simp append_assoc)
+    rw (add-one i, drop-cons rank i Empty h, text_after_piece (get_or rank i Empty) empty (drop (suc i) rank) ne)
+    (simp append_assoc)

@@ -1,5 +1,6 @@
 -- What is known once a part of a placement is read: how it may go on.
-use Rattle.std.proofs.Common.{◌≡◌, ℕ, zero, suc, ◌+◌, ◌-◌, ◌*◌, ◌<◌, ◌≤◌, inl, inr, refl, sym, ap, ◌∙◌, arith, List, [], ◌∷◌, ◌++◌, length, take, drop, replicate, append_assoc, length-append}
+use Rattle.std.proofs.Common.{◌≡◌, ℕ, zero, suc, ◌+◌, ◌-◌, ◌*◌, ◌<◌, ◌≤◌, inl, inr, refl, sym, ap, ◌∙◌, arith, List, []}
+use Rattle.std.proofs.Common.{◌∷◌, ◌++◌, length, take, drop, replicate, append_assoc, length-append}
 use Rattle.std.proofs.Common.{get_or}
 use Rattle.std.proofs.lemmas.List.{append-nil, length-replicate, length-take, length-drop, take_more, take_all}
 use Rattle.std.proofs.lemmas.Slice.{put_mid-paste}
@@ -12,7 +13,8 @@ use Rattle.dgt_values.proofs.Finishing.{Steps, Finishes, steps_one, placement_fi
 -- the text so far leaves so many ranks and squares of its last rank, and has these pieces: it goes on to a
 -- placement exactly as these go on
 pub record Leaves (text : List ℕ) (ranks left : ℕ) (done : List Piece) : Type 0 where
-  pub on : (more : List ℕ) (rest : List Piece) → Finishes more ranks left rest → IsPlacement (text ++ more) (done ++ rest)
+  pub on : (more : List ℕ) (rest : List Piece) → Finishes more ranks left rest
+      → IsPlacement (text ++ more) (done ++ rest)
   pub back : (more : List ℕ) (pieces : List Piece) → IsPlacement (text ++ more) pieces
       → (rest : List Piece) × Finishes more ranks left rest × (pieces ≡ done ++ rest)
 
@@ -24,12 +26,14 @@ leaves_start = record {
 }
 
 -- what finishes a text from a byte on, finishes it from the byte after
-after_step : (more : List ℕ) (n s byte n' s' : ℕ) (done first pieces rest : List Piece) → Steps byte n s n' s' first → Finishes (byte ∷ more) n s rest → pieces ≡ done ++ rest
+after_step : (more : List ℕ) (n s byte n' s' : ℕ) (done first pieces rest : List Piece) → Steps byte n s n' s' first
+    → Finishes (byte ∷ more) n s rest → pieces ≡ done ++ rest
     → (left : List Piece) × Finishes more n' s' left × (pieces ≡ (done ++ first) ++ left)
 after_step more n s byte n' s' done first pieces rest step (n2, s2, first2, rest2, step2, f, is) e =
     let same = steps_one byte n s n' s' n2 s2 first first2 step step2 in
     let over : Finishes more n' s' rest2 = rw (same.ranks_same, same.left_same) f in
-    let whole : pieces ≡ (done ++ first) ++ rest2 = rw (e, is, same.first_same) (sym (append_assoc done first2 rest2)) in
+    let whole : pieces ≡ (done ++ first) ++ rest2 =
+    rw (e, is, same.first_same) (sym (append_assoc done first2 rest2)) in
     (rest2, over, whole)
 
 -- one more byte is read
@@ -54,7 +58,13 @@ ranks_left zero = ([], [], (refl, refl, refl))
 ranks_left (suc n) =
     let others = ranks_left n in
     let empty : MeansSquares 56 (replicate 8 Empty) =
-    inl (record { count = 8; at_least_one = omega arith; at_most_eight = omega arith; digit = refl; all_empty = refl }) in (
+    inl (record {
+      count = 8;
+      at_least_one = omega arith;
+      at_most_eight = omega arith;
+      digit = refl;
+      all_empty = refl;
+    }) in (
       47 ∷ 56 ∷ others.0,
       replicate 8 Empty ++ others.1,
       (
@@ -63,7 +73,15 @@ ranks_left (suc n) =
         [],
         replicate 8 Empty ++ others.1,
         inl (record { slash = refl; full = refl; one_less = refl; eight = refl; none = refl }),
-        (n, 0, replicate 8 Empty, others.1, inr (record { same_rank = refl; fewer = refl; stands = empty }), others.2, refl),
+        (
+          n,
+          0,
+          replicate 8 Empty,
+          others.1,
+          inr (record { same_rank = refl; fewer = refl; stands = empty }),
+          others.2,
+          refl,
+        ),
         refl,
       ),
     )
@@ -78,7 +96,15 @@ something_left n (suc s) h =
     let fewer : suc s ≡ length (replicate (suc s) Empty) + 0 = omega (arith, length-replicate (suc s) Empty) in (
       (48 + suc s) ∷ others.0,
       replicate (suc s) Empty ++ others.1,
-      (n, 0, replicate (suc s) Empty, others.1, inr (record { same_rank = refl; fewer = fewer; stands = empty }), others.2, refl),
+      (
+        n,
+        0,
+        replicate (suc s) Empty,
+        others.1,
+        inr (record { same_rank = refl; fewer = fewer; stands = empty }),
+        others.2,
+        refl,
+      ),
     )
 
 -- what may be completed begins a placement
@@ -96,41 +122,50 @@ leaves_stuck text n s done byte h stuck (more, pieces, p) =
     stuck f.0 f.1 f.2 f.4
 
 -- where something is left, the text is too short
-pub leaves_short : (text : List ℕ) (n s : ℕ) (done pieces : List Piece) → Leaves text n s done → (n ≡ 0 → s ≡ 0 → ⊥) → IsPlacement text pieces → ⊥
+pub leaves_short : (text : List ℕ) (n s : ℕ) (done pieces : List Piece) → Leaves text n s done → (n ≡ 0 → s ≡ 0 → ⊥)
+    → IsPlacement text pieces → ⊥
 leaves_short text n s done pieces h some p =
     let known = h.back [] pieces (rw (append-nil text) p) in
     some known.1.0 known.1.1
 
 -- a slash after a full rank
-pub leaves_slash : (bytes : List ℕ) (pieces : List Piece) (at rank file : ℕ) → at < length bytes → rank < 7 → file ≡ 8 → get_or bytes at 0 ≡ 47
+pub leaves_slash : (bytes : List ℕ) (pieces : List Piece) (at rank file : ℕ) → at < length bytes → rank < 7 → file ≡ 8
+    → get_or bytes at 0 ≡ 47
     → Leaves (take at bytes) (7 - rank) (8 - file) (take (8 * rank + file) pieces)
     → Leaves (take (at + 1) bytes) (7 - (rank + 1)) 8 (take (8 * (rank + 1) + 0) pieces)
 leaves_slash bytes pieces at rank file lt less full slash h =
     let same : 8 * (rank + 1) + 0 ≡ 8 * rank + file = omega arith in
     let none : 8 - file ≡ 0 = omega arith in
     let one_less : 7 - rank ≡ suc (7 - (rank + 1)) = omega arith in
-    let on = leaves_more (take at bytes) (7 - rank) (8 - file) (take (8 * rank + file) pieces) (get_or bytes at 0) (7 - (rank + 1)) 8 [] h
+    let on = leaves_more (take at bytes) (7 - rank) (8 - file) (take (8 * rank + file) pieces) (get_or bytes at 0)
+    (7 - (rank + 1)) 8 [] h
     (inl (record { slash = slash; full = none; one_less = one_less; eight = refl; none = refl })) in
     rw (take_more bytes at 0 lt, same) (rw (append-nil (take (8 * rank + file) pieces)) at on)
 
 -- more squares of the rank
-pub leaves_squares : (bytes : List ℕ) (pieces after squares : List Piece) (at rank file count : ℕ) → at < length bytes → file + count ≤ 8
-    → MeansSquares (get_or bytes at 0) squares → length squares ≡ count → take (8 * rank + (file + count)) after ≡ take (8 * rank + file) pieces ++ squares
+pub leaves_squares : (bytes : List ℕ) (pieces after squares : List Piece) (at rank file count : ℕ) → at < length bytes
+    → file + count ≤ 8
+    → MeansSquares (get_or bytes at 0) squares → length squares ≡ count
+    → take (8 * rank + (file + count)) after ≡ take (8 * rank + file) pieces ++ squares
     → Leaves (take at bytes) (7 - rank) (8 - file) (take (8 * rank + file) pieces)
     → Leaves (take (at + 1) bytes) (7 - rank) (8 - (file + count)) (take (8 * rank + (file + count)) after)
 leaves_squares bytes pieces after squares at rank file count lt room stands long written h =
     let fewer : 8 - file ≡ length squares + (8 - (file + count)) = omega arith in
     rw (take_more bytes at 0 lt, written)
-    (leaves_more (take at bytes) (7 - rank) (8 - file) (take (8 * rank + file) pieces) (get_or bytes at 0) (7 - rank) (8 - (file + count)) squares h
+    (leaves_more (take at bytes) (7 - rank) (8 - file) (take (8 * rank + file) pieces) (get_or bytes at 0) (7 - rank)
+    (8 - (file + count)) squares h
     (inr (record { same_rank = refl; fewer = fewer; stands = stands })))
 
 -- a byte that may do nothing is the first bad one
-pub first_bad : (bytes : List ℕ) (done : List Piece) (at n s : ℕ) → at < length bytes → s ≤ 8 → Leaves (take at bytes) n s done
+pub first_bad : (bytes : List ℕ) (done : List Piece) (at n s : ℕ) → at < length bytes → s ≤ 8
+    → Leaves (take at bytes) n s done
     → ((n' s' : ℕ) (first : List Piece) → Steps (get_or bytes at 0) n s n' s' first → ⊥) → IsFirstBadOffset bytes at
 first_bad bytes done at n s lt le h stuck = record {
   within = omega arith;
   begins = leaves_begins (take at bytes) n s done h le;
-  no_longer = λ _ begins. leaves_stuck (take at bytes) n s done (get_or bytes at 0) h stuck (rw (take_more bytes at 0 lt) at begins);
+  no_longer =
+      λ _ begins. leaves_stuck (take at bytes) n s done (get_or bytes at 0) h stuck
+      (rw (take_more bytes at 0 lt) at begins);
   too_short = λ end _ _. absurd (omega arith);
 }
 
@@ -138,13 +173,15 @@ first_bad bytes done at n s lt le h stuck = record {
 pub no_step : (byte rank file : ℕ) → file ≤ 8 → (byte ≡ 47 → file ≡ 8 → rank < 7 → ⊥)
     → ((squares : List Piece) → MeansSquares byte squares → 8 < file + length squares)
     → (n' s' : ℕ) (first : List Piece) → Steps byte (7 - rank) (8 - file) n' s' first → ⊥
-no_step byte rank file le no_slash too_many n' s' first (inl x) = no_slash x.slash (omega (arith, x.full)) (omega (arith, x.one_less))
+no_step byte rank file le no_slash too_many n' s' first (inl x) =
+    no_slash x.slash (omega (arith, x.full)) (omega (arith, x.one_less))
 no_step byte rank file le no_slash too_many n' s' first (inr x) =
     let more = too_many first x.stands in
     omega (arith, x.fewer)
 
 -- the whole text is read, and nothing is left
-pub whole_placement : (bytes : List ℕ) (pieces : List Piece) (at rank file : ℕ) → length bytes ≤ at → rank ≡ 7 → file ≡ 8 → length pieces ≡ 64
+pub whole_placement : (bytes : List ℕ) (pieces : List Piece) (at rank file : ℕ) → length bytes ≤ at → rank ≡ 7
+    → file ≡ 8 → length pieces ≡ 64
     → Leaves (take at bytes) (7 - rank) (8 - file) (take (8 * rank + file) pieces) → IsPlacement bytes pieces
 whole_placement bytes pieces at rank file end seven eight long h =
     let none : 7 - rank ≡ 0 = omega arith in
@@ -153,7 +190,8 @@ whole_placement bytes pieces at rank file end seven eight long h =
     leaves_none bytes pieces (rw (take_all at bytes end, none, empty, take_all (8 * rank + file) pieces all) at h)
 
 -- a text that leaves something is too short
-pub ends_short : (text : List ℕ) (n s : ℕ) (done : List Piece) → s ≤ 8 → Leaves text n s done → (n ≡ 0 → s ≡ 0 → ⊥) → IsFirstBadOffset text (length text)
+pub ends_short : (text : List ℕ) (n s : ℕ) (done : List Piece) → s ≤ 8 → Leaves text n s done → (n ≡ 0 → s ≡ 0 → ⊥)
+    → IsFirstBadOffset text (length text)
 ends_short text n s done le h some = record {
   within = omega arith;
   begins = rw (take_all (length text) text (omega arith)) (leaves_begins text n s done h le);
@@ -162,20 +200,25 @@ ends_short text n s done le h some = record {
 }
 
 -- the whole text is read, and something is left
-pub short_placement : (bytes : List ℕ) (pieces : List Piece) (at rank file : ℕ) → length bytes ≤ at → rank ≤ 7 → file ≤ 8 → (rank ≡ 7 → file ≡ 8 → ⊥)
-    → Leaves (take at bytes) (7 - rank) (8 - file) (take (8 * rank + file) pieces) → IsFirstBadOffset bytes (length bytes)
+pub short_placement : (bytes : List ℕ) (pieces : List Piece) (at rank file : ℕ) → length bytes ≤ at → rank ≤ 7
+    → file ≤ 8 → (rank ≡ 7 → file ≡ 8 → ⊥)
+    → Leaves (take at bytes) (7 - rank) (8 - file) (take (8 * rank + file) pieces)
+    → IsFirstBadOffset bytes (length bytes)
 short_placement bytes pieces at rank file end rank_in file_in some h =
-    ends_short bytes (7 - rank) (8 - file) (take (8 * rank + file) pieces) (omega arith) (rw (take_all at bytes end) at h) (λ a b. some (omega arith) (omega arith))
+    ends_short bytes (7 - rank) (8 - file) (take (8 * rank + file) pieces) (omega arith)
+    (rw (take_all at bytes end) at h) (λ a b. some (omega arith) (omega arith))
 
 -- the squares that are filled at the next place
 pub all_filled : (pieces filled : List Piece) (piece : Piece) (next count : ℕ) → next + count ≤ length pieces
     → filled ≡ replicate (length (take (next + count - next) (drop next pieces))) piece → filled ≡ replicate count piece
 all_filled pieces filled piece next count room is =
-    let many : length (take (next + count - next) (drop next pieces)) ≡ count = simp (length-take, length-drop) (omega arith) in
+    let many : length (take (next + count - next) (drop next pieces)) ≡ count =
+    simp (length-take, length-drop) (omega arith) in
     is ∙ ap (λ n. replicate n piece) many
 
 -- a list keeps its length where a part of it is written
-pub length_mid : {X : Type 0} (next count : ℕ) (pieces filled : List X) → next + count ≤ length pieces → length filled ≡ count
+pub length_mid : {X : Type 0} (next count : ℕ) (pieces filled : List X) → next + count ≤ length pieces
+    → length filled ≡ count
     → length (put_mid next count pieces filled) ≡ length pieces
 length_mid next count pieces filled room many =
     rw (put_mid-paste next count pieces filled filled count refl refl (sym many))

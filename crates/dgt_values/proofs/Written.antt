@@ -1,5 +1,7 @@
 -- The written text of a position.
-use Rattle.std.proofs.Common.{◌≡◌, ℕ, zero, suc, ◌+◌, ◌*◌, ◌≤◌, ◌⊎◌, inl, inr, refl, sym, ap, ◌∙◌, arith, List, [], ◌∷◌, ◌++◌, length, take, drop, replicate, append_assoc, length-append, length-take, length-drop, zero-add}
+use Rattle.std.proofs.Common.{◌≡◌, ℕ, zero, suc, ◌+◌, ◌*◌, ◌≤◌, ◌⊎◌, inl, inr, refl, sym, ap, ◌∙◌, arith, List, [], ◌∷◌}
+use Rattle.std.proofs.Common.{◌++◌, length, take, drop, replicate, append_assoc, length-append, length-take}
+use Rattle.std.proofs.Common.{length-drop, zero-add}
 use Rattle.std.specs.Prelude.{◌≢◌}
 use Rattle.std.specs.List.{join_with_byte}
 use Rattle.std.specs.Prelude.{◌<◌, Bool, true, false, cond, ◌&&◌, nat_le}
@@ -10,8 +12,10 @@ use Rattle.std.proofs.lemmas.Grind.{replicate_next}
 use Rattle.std.proofs.lemmas.List.{append-nil, nil_from_length, take-append-drop, take_at, drop_at}
 use Rattle.dgt_values.specs.declared.pieces.Piece.{Piece}
 use Rattle.dgt_values.specs.declared.pieces.Piece.TheVariants.{Empty}
-use Rattle.dgt_values.specs.Piece.{piece_letter}
-use Rattle.dgt_values.specs.Placement.{MeansSquares, digit_count, IsRank, AreRanks, IsPlacement, IsDigit, run_text, rank_text_after, rank_text, ranks_text, placement_text}
+use Rattle.dgt_values.specs.Board.{piece_letter}
+use Rattle.std.specs.Char.{IsAsciiDigit}
+use Rattle.dgt_values.specs.Placement.{MeansSquares, digit_count, IsRank, AreRanks, IsPlacement, run_text}
+use Rattle.dgt_values.specs.Placement.{rank_text_after, ranks_text, placement_text}
 use Rattle.dgt_values.proofs.Finishing.{letter_one, letter_above}
 use Rattle.dgt_values.proofs.Placing.{text_after_piece}
 use Rattle.dgt_values.proofs.Apart.{Apart, BeginsWithDigit, apart_around, apart_before, apart_after}
@@ -28,34 +32,47 @@ run_digit : (count : ℕ) → 1 ≤ count → run_text count ≡ (48 + count) �
 run_digit count some = rw (ne_eqb count 0 (λ h. omega arith)) refl
 
 -- a run of empty squares, and what follows it
-run_rank : (empty : ℕ) (bytes : List ℕ) (squares : List Piece) → empty ≤ 8 → IsRank bytes squares → IsRank (run_text empty ++ bytes) (replicate empty Empty ++ squares)
+run_rank : (empty : ℕ) (bytes : List ℕ) (squares : List Piece) → empty ≤ 8 → IsRank bytes squares
+    → IsRank (run_text empty ++ bytes) (replicate empty Empty ++ squares)
 run_rank zero bytes squares le h = h
 run_rank (suc empty) bytes squares le h =
     rw (run_digit (suc empty) (omega arith)) (
       replicate (suc empty) Empty,
       squares,
-      inl (record { count = suc empty; at_least_one = omega arith; at_most_eight = le; digit = refl; all_empty = refl }),
+      inl (record {
+        count = suc empty;
+        at_least_one = omega arith;
+        at_most_eight = le;
+        digit = refl;
+        all_empty = refl;
+      }),
       h,
       refl,
     )
 
 -- an empty square makes the run before it longer
-text_after_empty : (piece : Piece) (empty : ℕ) (squares : List Piece) → piece ≡ Empty → rank_text_after empty (piece ∷ squares) ≡ rank_text_after (empty + 1) squares
+text_after_empty : (piece : Piece) (empty : ℕ) (squares : List Piece) → piece ≡ Empty
+    → rank_text_after empty (piece ∷ squares) ≡ rank_text_after (empty + 1) squares
 text_after_empty piece empty squares is = ap (λ p. rank_text_after empty (p ∷ squares)) is
 
 -- the squares of a longer run
-one_more : (piece : Piece) (empty : ℕ) (squares : List Piece) → piece ≡ Empty → replicate empty Empty ++ piece ∷ squares ≡ replicate (empty + 1) Empty ++ squares
+one_more : (piece : Piece) (empty : ℕ) (squares : List Piece) → piece ≡ Empty → replicate empty Empty ++ piece ∷ squares
+    ≡ replicate (empty + 1) Empty ++ squares
 one_more piece empty squares is =
     ap (λ p. replicate empty Empty ++ p ∷ squares) is
-    ∙ sym (ap (λ l. l ++ squares) (replicate_next empty Empty) ∙ append_assoc (replicate empty Empty) (Empty ∷ []) squares)
+    ∙ sym (ap (λ l. l ++ squares) (replicate_next empty Empty)
+    ∙ append_assoc (replicate empty Empty) (Empty ∷ []) squares)
 
 -- the text of a rank, after a run of empty squares, is one of its texts
-rank_after : (squares : List Piece) (empty : ℕ) → empty + length squares ≤ 8 → IsRank (rank_text_after empty squares) (replicate empty Empty ++ squares)
+rank_after : (squares : List Piece) (empty : ℕ) → empty + length squares ≤ 8
+    → IsRank (rank_text_after empty squares) (replicate empty Empty ++ squares)
 rank_after [] empty le = rw (← append-nil (run_text empty)) (run_rank empty [] [] (omega arith) refl)
 rank_after (piece ∷ squares) empty le = elim (empty_or_not piece) [
-  | inl is ↦ rw (text_after_empty piece empty squares is, one_more piece empty squares is) (rank_after squares (empty + 1) (omega arith))
+  | inl is ↦ rw (text_after_empty piece empty squares is, one_more piece empty squares is)
+      (rank_after squares (empty + 1) (omega arith))
   | inr other ↦
-      let stands : MeansSquares (piece_letter piece) (piece ∷ []) = inr (record { piece = piece; not_empty = other; letter = refl; one_square = refl }) in
+      let stands : MeansSquares (piece_letter piece) (piece ∷ []) =
+      inr (record { piece = piece; not_empty = other; letter = refl; one_square = refl }) in
       rw (text_after_piece piece empty squares other)
       (run_rank empty (piece_letter piece ∷ rank_text_after 0 squares) (piece ∷ squares) (omega arith)
       (piece ∷ [], squares, stands, rank_after squares 0 (omega arith), refl))
@@ -66,13 +83,20 @@ are_ranks : (n : ℕ) (pieces : List Piece) → length pieces ≡ 8 * n → AreR
 are_ranks zero pieces long = nil_from_length pieces long
 are_ranks (suc n) pieces long =
     let front : length (take 8 pieces) ≡ 8 = omega (arith, length-take 8 pieces) in
-    let back : length (drop 8 pieces) ≡ 8 * n = omega (arith, length-drop 8 pieces) in
-    (take 8 pieces, drop 8 pieces, front, rank_after (take 8 pieces) 0 (omega arith), are_ranks n (drop 8 pieces) back, sym (take-append-drop 8 pieces))
+    let back : length (drop 8 pieces) ≡ 8 * n = omega (arith, length-drop 8 pieces) in (
+      take 8 pieces,
+      drop 8 pieces,
+      front,
+      rank_after (take 8 pieces) 0 (omega arith),
+      are_ranks n (drop 8 pieces) back,
+      sym (take-append-drop 8 pieces),
+    )
 
 -- the written text is accepted
 pub written_placement : (pieces : List Piece) → length pieces ≡ 64 → IsPlacement (placement_text pieces) pieces
 unfolding placement_text
-written_placement pieces long = record { ranks = ranks_text 8 pieces; eight = refl; joined = refl; each = are_ranks 8 pieces long }
+written_placement pieces long =
+    record { ranks = ranks_text 8 pieces; eight = refl; joined = refl; each = are_ranks 8 pieces long }
 
 -- ranks have eight squares each
 are_long : (ranks : List (List ℕ)) (pieces : List Piece) → AreRanks ranks pieces → length pieces ≡ 8 * length ranks
@@ -105,7 +129,8 @@ ranks_apart : (n : ℕ) (pieces : List Piece) → Apart (join_with_byte 47 (rank
 ranks_apart zero pieces = tt
 ranks_apart (suc zero) pieces = rank_apart (take 8 pieces) 0
 ranks_apart (suc (suc n)) pieces =
-    apart_around (rank_text (take 8 pieces)) 47 (join_with_byte 47 (ranks_text (suc n) (drop 8 pieces))) (rank_apart (take 8 pieces) 0)
+    apart_around (rank_text_after 0 (take 8 pieces)) 47 (join_with_byte 47 (ranks_text (suc n) (drop 8 pieces)))
+    (rank_apart (take 8 pieces) 0)
     (λ digit. omega (arith, digit.0)) (ranks_apart (suc n) (drop 8 pieces))
 
 -- no two digits of the written text stand side by side
@@ -114,7 +139,8 @@ unfolding placement_text
 written_apart pieces = ranks_apart 8 pieces
 
 -- a run after a run is one run
-run_after : (count empty : ℕ) (rest : List Piece) → rank_text_after empty (replicate count Empty ++ rest) ≡ rank_text_after (empty + count) rest
+run_after : (count empty : ℕ) (rest : List Piece) → rank_text_after empty (replicate count Empty ++ rest)
+    ≡ rank_text_after (empty + count) rest
 run_after zero empty rest = let same : empty + 0 ≡ empty = omega arith in rw same refl
 run_after (suc count) empty rest =
     let same : empty + suc count ≡ empty + 1 + count = omega arith in
@@ -128,10 +154,15 @@ after_run (byte ∷ bytes) rest count (first, others, inl run, h, is) other =
     absurd (other (omega (arith, run.digit), omega (arith, run.digit, run.at_most_eight)))
 after_run (byte ∷ bytes) rest count (first, others, inr letter, h, is) other =
     let whole : rest ≡ letter.piece ∷ others = is ∙ ap (λ l. l ++ others) letter.one_square in
-    rw (whole, text_after_piece letter.piece count others letter.not_empty, text_after_piece letter.piece 0 others letter.not_empty) refl
+    rw (
+      whole,
+      text_after_piece letter.piece count others letter.not_empty,
+      text_after_piece letter.piece 0 others letter.not_empty,
+    ) refl
 
 -- no other text of a rank keeps its digits apart
-only_rank : (bytes : List ℕ) (squares : List Piece) → IsRank bytes squares → Apart bytes → bytes ≡ rank_text_after 0 squares
+only_rank : (bytes : List ℕ) (squares : List Piece) → IsRank bytes squares → Apart bytes
+    → bytes ≡ rank_text_after 0 squares
 only_rank [] squares none apart = ap (rank_text_after 0) (sym none)
 only_rank (byte ∷ bytes) squares (first, rest, inr letter, h, is) apart =
     let whole : squares ≡ letter.piece ∷ rest = is ∙ ap (λ l. l ++ rest) letter.one_square in
@@ -139,20 +170,24 @@ only_rank (byte ∷ bytes) squares (first, rest, inr letter, h, is) apart =
     (ap (λ l. piece_letter letter.piece ∷ l) (only_rank bytes rest h apart.1))
 only_rank (byte ∷ bytes) squares (first, rest, inl run, h, is) apart =
     let whole : squares ≡ replicate run.count Empty ++ rest = is ∙ ap (λ l. l ++ rest) run.all_empty in
-    let digit : IsDigit byte = (omega (arith, run.digit), omega (arith, run.digit, run.at_most_eight)) in
+    let digit : IsAsciiDigit byte = (omega (arith, run.digit), omega (arith, run.digit, run.at_most_eight)) in
     let after : rank_text_after 0 squares ≡ run_text run.count ++ rank_text_after 0 rest =
-    ap (rank_text_after 0) whole ∙ run_after run.count 0 rest ∙ ap (λ n. rank_text_after n rest) (zero-add run.count) ∙ after_run bytes rest run.count h (apart.0 digit) in
-    rw (after, run_digit run.count run.at_least_one, run.digit) (ap (λ l. (48 + run.count) ∷ l) (only_rank bytes rest h apart.1))
+    ap (rank_text_after 0) whole ∙ run_after run.count 0 rest ∙ ap (λ n. rank_text_after n rest) (zero-add run.count)
+    ∙ after_run bytes rest run.count h (apart.0 digit) in
+    rw (after, run_digit run.count run.at_least_one, run.digit)
+    (ap (λ l. (48 + run.count) ∷ l) (only_rank bytes rest h apart.1))
 
 -- the first rank of a text, and the others
-apart_ranks : (rank : List ℕ) (ranks : List (List ℕ)) → Apart (join_with_byte 47 (rank ∷ ranks)) → Apart rank × Apart (join_with_byte 47 ranks)
+apart_ranks : (rank : List ℕ) (ranks : List (List ℕ)) → Apart (join_with_byte 47 (rank ∷ ranks))
+    → Apart rank × Apart (join_with_byte 47 ranks)
 apart_ranks rank [] apart = (apart, tt)
 apart_ranks rank (next ∷ ranks) apart =
     let others : List ℕ = 47 ∷ join_with_byte 47 (next ∷ ranks) in
     (apart_before rank others apart, (apart_after rank others apart).1)
 
 -- the squares of the first rank
-first_eight : (squares rest pieces : List Piece) → length squares ≡ 8 → pieces ≡ squares ++ rest → take 8 pieces ≡ squares
+first_eight : (squares rest pieces : List Piece) → length squares ≡ 8 → pieces ≡ squares ++ rest
+    → take 8 pieces ≡ squares
 first_eight squares rest pieces eight is = ap (take 8) is ∙ take_at squares rest 8 eight
 
 -- the squares of the other ranks
@@ -160,18 +195,21 @@ after_eight : (squares rest pieces : List Piece) → length squares ≡ 8 → pi
 after_eight squares rest pieces eight is = ap (drop 8) is ∙ drop_at squares rest 8 eight
 
 -- no other texts of the ranks keep their digits apart
-only_ranks : (ranks : List (List ℕ)) (pieces : List Piece) → AreRanks ranks pieces → Apart (join_with_byte 47 ranks) → ranks ≡ ranks_text (length ranks) pieces
+only_ranks : (ranks : List (List ℕ)) (pieces : List Piece) → AreRanks ranks pieces → Apart (join_with_byte 47 ranks)
+    → ranks ≡ ranks_text (length ranks) pieces
 only_ranks [] pieces none apart = refl
 only_ranks (rank ∷ ranks) pieces (squares, rest, eight, h, more, is) apart =
     let each = apart_ranks rank ranks apart in
-    let one : rank ≡ rank_text (take 8 pieces) =
-    only_rank rank squares h each.0 ∙ ap rank_text (sym (first_eight squares rest pieces eight is)) in
+    let one : rank ≡ rank_text_after 0 (take 8 pieces) =
+    only_rank rank squares h each.0 ∙ ap (rank_text_after 0) (sym (first_eight squares rest pieces eight is)) in
     let others : ranks ≡ ranks_text (length ranks) (drop 8 pieces) =
-    only_ranks ranks rest more each.1 ∙ ap (ranks_text (length ranks)) (sym (after_eight squares rest pieces eight is)) in
-    ap (λ r. r ∷ ranks) one ∙ ap (λ rs. rank_text (take 8 pieces) ∷ rs) others
+    only_ranks ranks rest more each.1
+    ∙ ap (ranks_text (length ranks)) (sym (after_eight squares rest pieces eight is)) in
+    ap (λ r. r ∷ ranks) one ∙ ap (λ rs. rank_text_after 0 (take 8 pieces) ∷ rs) others
 
 -- no other text of the position keeps its digits apart
-pub only_placement : (text : List ℕ) (pieces : List Piece) → IsPlacement text pieces → Apart text → text ≡ placement_text pieces
+pub only_placement : (text : List ℕ) (pieces : List Piece) → IsPlacement text pieces → Apart text
+    → text ≡ placement_text pieces
 unfolding placement_text
 only_placement text pieces p apart =
     let joined : Apart (join_with_byte 47 p.ranks) = rw p.joined at apart in
@@ -213,7 +251,8 @@ few_in_one byte false h = omega (arith, counts_other byte [] h)
 -- a run has one digit at most
 few_in_run : (empty : ℕ) → digit_count (run_text empty) ≤ 1
 few_in_run zero = omega arith
-few_in_run (suc empty) = rw (run_digit (suc empty) (omega arith)) (few_in_one (48 + suc empty) (is_digit (48 + suc empty)) refl)
+few_in_run (suc empty) =
+    rw (run_digit (suc empty) (omega arith)) (few_in_one (48 + suc empty) (is_digit (48 + suc empty)) refl)
 
 -- a rank after a run of empty squares, written with no more digits than another text of it
 few_in_rank : (bytes : List ℕ) (squares : List Piece) (empty : ℕ) → IsRank bytes squares
@@ -222,15 +261,32 @@ few_in_rank [] squares empty none = rw none (omega arith)
 few_in_rank (byte ∷ bytes) squares empty (first, rest, inl run, h, is) =
     let whole : squares ≡ replicate run.count Empty ++ rest = is ∙ ap (λ l. l ++ rest) run.all_empty in
     let longer = ap (rank_text_after empty) whole ∙ run_after run.count empty rest in
-    let one = counts_one byte bytes (counts_digit byte (omega (arith, run.digit)) (omega (arith, run.digit, run.at_most_eight))) in
-    omega (arith, ap digit_count longer, few_in_rank bytes rest (empty + run.count) h, few_in_run (empty + run.count), one)
+    let one =
+    counts_one byte bytes
+    (counts_digit byte (omega (arith, run.digit)) (omega (arith, run.digit, run.at_most_eight))) in
+    omega (
+      arith,
+      ap digit_count longer,
+      few_in_rank bytes rest (empty + run.count) h,
+      few_in_run (empty + run.count),
+      one,
+    )
 few_in_rank (byte ∷ bytes) squares empty (first, rest, inr letter, h, is) =
     let whole : squares ≡ letter.piece ∷ rest = is ∙ ap (λ l. l ++ rest) letter.one_square in
     let after = ap (rank_text_after empty) whole ∙ text_after_piece letter.piece empty rest letter.not_empty in
     let above = letter_above letter.piece letter.not_empty in
     let one = counts_other byte bytes (counts_above byte (omega (arith, letter.letter, above))) in
-    let other = counts_other (piece_letter letter.piece) (rank_text_after 0 rest) (counts_above (piece_letter letter.piece) above) in
-    omega (arith, ap digit_count after, counts_joined (run_text empty) (piece_letter letter.piece ∷ rank_text_after 0 rest), few_in_rank bytes rest 0 h, one, other)
+    let other =
+    counts_other (piece_letter letter.piece) (rank_text_after 0 rest)
+    (counts_above (piece_letter letter.piece) above) in
+    omega (
+      arith,
+      ap digit_count after,
+      counts_joined (run_text empty) (piece_letter letter.piece ∷ rank_text_after 0 rest),
+      few_in_rank bytes rest 0 h,
+      one,
+      other,
+    )
 
 -- as many texts, none with more digits than its partner
 abbrev NoMoreDigits : List (List ℕ) → List (List ℕ) → Type 0
@@ -244,7 +300,8 @@ slash_counts : (ranks : List ℕ) → digit_count (47 ∷ ranks) ≡ digit_count
 slash_counts ranks = counts_other 47 ranks refl
 
 -- texts with no more digits have no more when they are joined by slashes
-few_joined : (ranks others : List (List ℕ)) → NoMoreDigits ranks others → digit_count (join_with_byte 47 ranks) ≤ digit_count (join_with_byte 47 others)
+few_joined : (ranks others : List (List ℕ)) → NoMoreDigits ranks others
+    → digit_count (join_with_byte 47 ranks) ≤ digit_count (join_with_byte 47 others)
 few_joined [] [] h = omega arith
 few_joined [] (other ∷ others) h = absurd h
 few_joined (rank ∷ ranks) [] h = absurd h
@@ -263,7 +320,8 @@ few_joined (rank ∷ next ∷ ranks) (other ∷ more ∷ others) h =
     )
 
 -- written ranks have no more digits than others
-few_in_ranks : (ranks : List (List ℕ)) (pieces : List Piece) → AreRanks ranks pieces → NoMoreDigits (ranks_text (length ranks) pieces) ranks
+few_in_ranks : (ranks : List (List ℕ)) (pieces : List Piece) → AreRanks ranks pieces
+    → NoMoreDigits (ranks_text (length ranks) pieces) ranks
 few_in_ranks [] pieces none = tt
 few_in_ranks (rank ∷ ranks) pieces (squares, rest, eight, h, more, is) = (
   rw (first_eight squares rest pieces eight is) (omega (arith, few_in_rank rank squares 0 h)),
@@ -271,7 +329,8 @@ few_in_ranks (rank ∷ ranks) pieces (squares, rest, eight, h, more, is) = (
 )
 
 -- no text of the position has fewer digits
-pub fewest_digits : (text : List ℕ) (pieces : List Piece) → IsPlacement text pieces → digit_count (placement_text pieces) ≤ digit_count text
+pub fewest_digits : (text : List ℕ) (pieces : List Piece) → IsPlacement text pieces
+    → digit_count (placement_text pieces) ≤ digit_count text
 unfolding placement_text
 fewest_digits text pieces p =
     rw p.joined (few_joined (ranks_text 8 pieces) p.ranks (rw p.eight at (few_in_ranks p.ranks pieces p.each)))

@@ -8,3 +8,9 @@ EqualIsSame eq = (a b : _) → IsTrue (eq a b) ↔ (a ≡ b)
 -- two values are equal exactly where a clause reads the same of them
 abbrev pub EqualIsSameRead : {T Read : Type 0} → (T → Read) → (T → T → Bool) → Type 0
 EqualIsSameRead read eq = (a b : _) → IsTrue (eq a b) ↔ (read a ≡ read b)
+
+-- two values of which this holds are equal exactly where a clause reads the same of them
+abbrev pub EqualIsSameReadOf :
+    {T Read : Type 0} → (T → Type 0) → (T → Read) → (T → T → Bool) → Type 0
+EqualIsSameReadOf Holds read eq =
+    (a b : _) → Holds a → Holds b → IsTrue (eq a b) ↔ (read a ≡ read b)

@@ -1,10 +1,6 @@
-pub mod Body
-pub mod Bytes
+-- Read in this order. Public contracts cite all of them.
 pub mod Equality
-pub mod Piece
-pub mod Pieces
+pub mod Bytes
+pub mod Board
 pub mod Placement
-pub mod Position
-pub mod Room
 pub mod Segment
-pub mod Square

@@ -1,26 +1,29 @@
--- The text of a position: eight ranks, from rank 8 down, with a slash between two. A rank is letters of
--- pieces and digits for so many empty squares, eight squares in all.
-use Rattle.std.specs.Prelude.{◌≡◌, ◌≢◌, ℕ, zero, suc, ◌+◌, ◌<◌, ◌≤◌, ◌⊎◌, ◌==◌, if◌then◌else◌, ◌&&◌, nat_le, count_by, List, [], ◌∷◌, ◌++◌, take, drop, length, replicate, slice_index, Result, MatchResult}
+-- The text of a position: eight ranks, from rank 8 down, with a slash between two. A rank is
+-- letters
+-- of pieces and digits for so many empty squares, eight squares in all.
+use Prim.Native.Char.{code as ascii}
+use Rattle.std.specs.Prelude.{◌≡◌, ◌≢◌, ℕ, zero, suc, ◌+◌, ◌<◌, ◌≤◌, ◌⊎◌, ◌==◌, if◌then◌else◌}
+use Rattle.std.specs.Prelude.{count_by, List, [], ◌∷◌, ◌++◌, take, drop, length, replicate}
+use Rattle.std.specs.Prelude.{slice_index, Result, MatchResult}
+use Rattle.std.specs.Char.{is_ascii_digit, IsAsciiDigit}
 use Rattle.std.specs.List.{join_with_byte}
 use Rattle.dgt_values.specs.declared.pieces.Piece.{Piece}
-use Rattle.dgt_values.specs.declared.pieces.Piece.TheVariants.{Empty}
-use Rattle.dgt_values.specs.declared.placements.BadPlacement.{BadPlacement}
 use Rattle.dgt_values.specs.declared.positions.Position.{Position}
-use Rattle.dgt_values.specs.Piece.{piece_letter}
-use Rattle.dgt_values.specs.Pieces.{pieces_of}
+use Rattle.dgt_values.specs.declared.refusals.BadPlacement.{BadPlacement}
+use Rattle.dgt_values.specs.Board.{piece_letter, pieces_of}
 
 -- a digit from 1 to 8, for so many empty squares
 pub record IsEmptyRun (byte : ℕ) (squares : List Piece) : Type 0 where
   pub count : ℕ
   pub at_least_one : 1 ≤ count
   pub at_most_eight : count ≤ 8
-  pub digit : byte ≡ 48 + count
-  pub all_empty : squares ≡ replicate count Empty
+  pub digit : byte ≡ ascii "0" + count
+  pub all_empty : squares ≡ replicate count Piece.Empty
 
 -- a letter, for its piece
 pub record IsPieceLetter (byte : ℕ) (squares : List Piece) : Type 0 where
   pub piece : Piece
-  pub not_empty : piece ≢ Empty
+  pub not_empty : piece ≢ Piece.Empty
   pub letter : byte ≡ piece_letter piece
   pub one_square : squares ≡ piece ∷ []
 
@@ -32,27 +35,29 @@ MeansSquares byte squares = IsEmptyRun byte squares ⊎ IsPieceLetter byte squar
 abbrev pub IsRank : List ℕ → List Piece → Type 0
 IsRank [] squares = squares ≡ []
 IsRank (byte ∷ bytes) squares =
-    (first rest : List Piece) × MeansSquares byte first × IsRank bytes rest × (squares ≡ first ++ rest)
+    (first rest : List Piece) × MeansSquares byte first × IsRank bytes rest
+    × (squares ≡ first ++ rest)
 
 -- the texts of some ranks, each of eight squares, and the pieces on all of them
 abbrev pub AreRanks : List (List ℕ) → List Piece → Type 0
 AreRanks [] pieces = pieces ≡ []
 AreRanks (rank ∷ ranks) pieces =
-    (squares rest : List Piece) × (length squares ≡ 8) × IsRank rank squares × AreRanks ranks rest × (pieces ≡ squares ++ rest)
+    (squares rest : List Piece) × (length squares ≡ 8) × IsRank rank squares
+    × AreRanks ranks rest × (pieces ≡ squares ++ rest)
 
 -- the text is accepted, and this is its position
 pub record IsPlacement (text : List ℕ) (pieces : List Piece) : Type 0 where
   pub ranks : List (List ℕ)
   pub eight : length ranks ≡ 8
-  pub joined : text ≡ join_with_byte 47 ranks
+  pub joined : text ≡ join_with_byte (ascii "/") ranks
   pub each : AreRanks ranks pieces
 
 -- the text begins an accepted one
 abbrev pub BeginsPlacement : List ℕ → Type 0
 BeginsPlacement text = (more : List ℕ) × (pieces : List Piece) × IsPlacement (text ++ more) pieces
 
--- The text up to this offset begins an accepted one, and with the byte there no longer. At the text's end
--- the text is only too short.
+-- The text up to this offset begins an accepted one, and with the byte there no longer. At the
+-- text's end the text is only too short.
 pub record IsFirstBadOffset (text : List ℕ) (at : ℕ) : Type 0 where
   pub within : at ≤ length text
   pub begins : BeginsPlacement (take at text)
@@ -61,37 +66,35 @@ pub record IsFirstBadOffset (text : List ℕ) (at : ℕ) : Type 0 where
 
 -- the result is the position of the text, or where the text stops being one
 abbrev pub ParsesPlacement : List ℕ → Result Position BadPlacement → Type 0
-ParsesPlacement text r = MatchResult r (λ position. IsPlacement text (pieces_of position)) (λ e. IsFirstBadOffset text e.at)
+ParsesPlacement text r = MatchResult r
+    (λ position. IsPlacement text (pieces_of position))
+    (λ e. IsFirstBadOffset text e.at)
 
 -- how many bytes of a text are digits
 abbrev pub digit_count : List ℕ → ℕ
-digit_count text = count_by (λ byte. nat_le 48 byte && nat_le byte 57) text
-
-abbrev pub IsDigit : ℕ → Type 0
-IsDigit byte = (48 ≤ byte) × (byte ≤ 57)
+digit_count text = count_by is_ascii_digit text
 
 -- no two digits stand side by side
 abbrev pub DigitsApart : List ℕ → Type 0
-DigitsApart text = (k : ℕ) → IsDigit (slice_index text k) → ¬ (IsDigit (slice_index text (k + 1)))
+DigitsApart text =
+    (k : ℕ) → IsAsciiDigit (slice_index text k) → ¬ (IsAsciiDigit (slice_index text (k + 1)))
 
 -- the digit for a run of empty squares, where there is one
 abbrev pub run_text : ℕ → List ℕ
-run_text empty = if empty == 0 then [] else (48 + empty) ∷ []
+run_text empty = if empty == 0 then [] else (ascii "0" + empty) ∷ []
 
 -- the pieces of a rank after a run of empty squares
 abbrev pub rank_text_after : ℕ → List Piece → List ℕ
 rank_text_after empty [] = run_text empty
-rank_text_after empty (Empty ∷ pieces) = rank_text_after (empty + 1) pieces
-rank_text_after empty (piece ∷ pieces) = run_text empty ++ piece_letter piece ∷ rank_text_after 0 pieces
+rank_text_after empty (Piece.Empty ∷ pieces) = rank_text_after (empty + 1) pieces
+rank_text_after empty (piece ∷ pieces) =
+    run_text empty ++ piece_letter piece ∷ rank_text_after 0 pieces
 
-abbrev pub rank_text : List Piece → List ℕ
-rank_text = rank_text_after 0
-
--- so many ranks of a position
+-- the texts of so many ranks
 abbrev pub ranks_text : ℕ → List Piece → List (List ℕ)
 ranks_text zero pieces = []
-ranks_text (suc n) pieces = rank_text (take 8 pieces) ∷ ranks_text n (drop 8 pieces)
+ranks_text (suc n) pieces = rank_text_after 0 (take 8 pieces) ∷ ranks_text n (drop 8 pieces)
 
 -- the text with the fewest digits
 unfoldable pub placement_text : List Piece → List ℕ
-placement_text pieces = join_with_byte 47 (ranks_text 8 pieces)
+placement_text pieces = join_with_byte (ascii "/") (ranks_text 8 pieces)

@@ -1,53 +1,44 @@
 //! What a message carries after its header.
 
 ghost use Rattle.std.specs.Prelude.{◌≡◌, ◌<◌, ◌≤◌, length, All, MatchResult};
+ghost use Rattle.dgt_values.specs.declared.bodies.TheConstants.{MAX_BODY};
 
-use thiserror::Error;
+use crate::refusals::{BodyError, NotSevenBit, TooMuch};
 
 /// The most bytes that a message carries after its header of three bytes.
 pub const MAX_BODY: usize = 16380;
 
-/// Why bytes are not the body of a message.
-#[derive(Clone, Copy, Debug, PartialEq, Eq, Error)]
-pub enum BodyError {
-    /// There are more than `MAX_BODY` bytes, whatever they are.
-    #[error("there are more than {MAX_BODY} bytes")]
-    TooMuch,
-    /// There are no more than `MAX_BODY` bytes, and one of them is 128 or more.
-    #[error("a byte has its top bit set")]
-    NotSevenBit,
-}
-
-/// The bytes that a message carries after its header, lent by whoever holds them: at most `MAX_BODY`,
-/// each below 128.
+/// The bytes that a message carries after its header, lent by whoever holds them: at most
+/// `MAX_BODY`, each below 128.
 #[derive(Clone, Copy, Debug, PartialEq, Eq)]
 pub struct Body<'a> {
     bytes: &'a [u8],
-    ghost fits: { length bytes.now ≤ 16380 },
+    ghost fits: { length bytes.now ≤ MAX_BODY },
     ghost seven_bit: { All (λ byte. byte < 128) bytes.now },
 }
 
 impl<'a> Body<'a> {
-    ghost use Rattle.dgt_values.specs.Body.{body_bytes, Refuses};
+    ghost use Rattle.dgt_values.specs.Bytes.{body_bytes, AreSevenBit, Refuses};
 
-    /// The body of these bytes. Too many bytes are `TooMuch`; else a byte with its top bit set makes them
-    /// `NotSevenBit`.
+    /// The body of these bytes. Too many bytes are `TooMuch`; else a byte with its top bit set
+    /// makes them `NotSevenBit`.
     pub fn new(bytes: &'a [u8]) -> Result<Self, BodyError>
         ensures { MatchResult result (λ body. body_bytes body ≡ bytes.now) (Refuses bytes.now) }
     {
         if bytes.len() > MAX_BODY {
-            return Err(BodyError::TooMuch);
+            return Err(BodyError::Length(TooMuch));
         }
         if !bytes.iter().all(|byte| *byte < 128) {
-            return Err(BodyError::NotSevenBit);
+            return Err(BodyError::Byte(NotSevenBit));
         }
         Ok(Body::from_seven_bit(bytes))
     }
 
-    /// The body of bytes that the caller has already looked at, one by one: no byte is looked at again.
+    /// The body of bytes that the caller has already looked at, one by one: no byte is looked at
+    /// again.
     pub fn from_seven_bit(bytes: &'a [u8]) -> Self
-        requires fits { length bytes.now ≤ 16380 }
-        requires seven_bit { All (λ byte. byte < 128) bytes.now }
+        requires fits { length bytes.now ≤ MAX_BODY }
+        requires seven_bit { AreSevenBit bytes.now }
         ensures { body_bytes result ≡ bytes.now }
     {
         Body { bytes }
@@ -56,8 +47,8 @@ impl<'a> Body<'a> {
     /// The bytes.
     pub fn bytes(self) -> &'a [u8]
         ensures bytes { result.now ≡ body_bytes self.entry }
-        ensures fits { length result.now ≤ 16380 }
-        ensures seven_bit { All (λ byte. byte < 128) result.now }
+        ensures fits { length result.now ≤ MAX_BODY }
+        ensures seven_bit { AreSevenBit result.now }
     {
         self.bytes
     }

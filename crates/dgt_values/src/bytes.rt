@@ -2,12 +2,7 @@
 
 ghost use Rattle.std.specs.Prelude.{◌≡◌, ℕ, ◌<◌};
 
-use thiserror::Error;
-
-/// A byte whose top bit is set, where none may be.
-#[derive(Clone, Copy, Debug, PartialEq, Eq, Error)]
-#[error("the top bit is set")]
-pub struct NotSevenBit;
+use crate::refusals::NotSevenBit;
 
 /// A byte below 128. On the line from board to host, all bytes but the first of a message are such.
 #[derive(Clone, Copy, Debug, PartialEq, Eq)]
@@ -26,7 +21,7 @@ impl TryFrom<u8> for SevenBit {
 
     fn try_from(value: u8) -> Result<Self, NotSevenBit> {
         if value < 128 {
-            Ok(SevenBit { value })
+            Ok(SevenBit::from_small(value))
         } else {
             Err(NotSevenBit)
         }
@@ -35,6 +30,14 @@ impl TryFrom<u8> for SevenBit {
 
 impl SevenBit {
     ghost use Rattle.dgt_values.specs.Bytes.{number};
+
+    /// The byte, which the caller knows to be below 128.
+    pub fn from_small(value: u8) -> Self
+        requires small { value < 128 }
+        ensures { number result ≡ value }
+    {
+        SevenBit { value }
+    }
 
     /// The byte, from 0 to 127.
     pub fn get(self) -> u8

@@ -1,24 +1,22 @@
-//! What holds of the texts of positions as such. Nothing here runs: each function stands for the fact that its
-//! contract states.
+//! What holds of values and of the texts of positions as such. Nothing here runs: each function
+//! stands for the fact that its contract states.
 
 ghost use Rattle.std.specs.Prelude.{◌≡◌, ◌≤◌, ℕ, List, length, Result, Ok};
-ghost use Rattle.dgt_values.specs.Body.{body_bytes};
-ghost use Rattle.dgt_values.specs.Bytes.{number};
+ghost use Rattle.dgt_values.specs.Board.{piece_code, pieces_of, square_number};
+ghost use Rattle.dgt_values.specs.Bytes.{body_bytes, number};
 ghost use Rattle.dgt_values.specs.Equality.{EqualIsSame, EqualIsSameRead};
 ghost use Rattle.dgt_values.specs.declared.pieces.Piece.{Piece};
-ghost use Rattle.dgt_values.specs.declared.placements.BadPlacement.{BadPlacement};
+ghost use Rattle.dgt_values.specs.declared.refusals.BadPlacement.{BadPlacement};
 ghost use Rattle.dgt_values.specs.declared.positions.Position.{Position};
-ghost use Rattle.dgt_values.specs.Pieces.{pieces_of};
-ghost use Rattle.dgt_values.specs.Square.{square_number};
-ghost use Rattle.dgt_values.specs.Placement.{digit_count, placement_text, DigitsApart, IsPlacement, ParsesPlacement};
+ghost use Rattle.dgt_values.specs.Placement.{digit_count, placement_text, DigitsApart};
+ghost use Rattle.dgt_values.specs.Placement.{IsPlacement, ParsesPlacement};
 
-use crate::bodies::{Body, BodyError, MAX_BODY};
+use crate::bodies::{Body, MAX_BODY};
 use crate::bytes::SevenBit;
 use crate::kinds::Kind;
 use crate::pieces::Piece;
-use crate::placements::BadPlacement;
 use crate::positions::Position;
-use crate::room::NoRoom;
+use crate::refusals::{BadPlacement, BodyError, NoRoom};
 use crate::squares::Square;
 
 /// The limits by their numbers.
@@ -26,8 +24,8 @@ pub fn limits()
     ensures { MAX_BODY ≡ 16380 }
 {}
 
-/// Two values are equal, as `==` compares them, exactly where they are the same. Of a body its bytes count, and
-/// not where they lie.
+/// Two values are equal, as `==` compares them, exactly where they are the same. Of a body its
+/// bytes count, and not where they lie.
 pub fn equal_is_same()
     ensures seven_bit { EqualIsSameRead number ⟦<SevenBit as PartialEq>⟧.eq }
     ensures body { EqualIsSameRead body_bytes ⟦<Body<'static> as PartialEq>⟧.eq }
@@ -40,9 +38,15 @@ pub fn equal_is_same()
     ensures no_room { EqualIsSame ⟦<NoRoom as PartialEq>⟧.eq }
 {}
 
+/// A piece is known by its code.
+pub fn one_piece_a_code()
+    ensures { (first second : Piece) → piece_code first ≡ piece_code second → first ≡ second }
+{}
+
 /// An accepted text has a piece for each of the 64 squares.
 pub fn placements_fill_the_board()
-    ensures { (text : List ℕ) (pieces : List Piece) → IsPlacement text pieces → length pieces ≡ 64 }
+    ensures { (text : List ℕ) (pieces : List Piece)
+        → IsPlacement text pieces → length pieces ≡ 64 }
 {}
 
 /// No text is a placement of two positions.
@@ -53,10 +57,12 @@ pub fn one_position_a_placement()
 
 /// Each list of bytes has a position or a first bad offset.
 pub fn some_outcome_a_text()
-    ensures { (text : List ℕ) → (read : Result Position BadPlacement) × ParsesPlacement text read }
+    ensures { (text : List ℕ)
+        → (read : Result Position BadPlacement) × ParsesPlacement text read }
 {}
 
-/// No text has two positions or two first bad offsets, and none has a position and a first bad offset.
+/// No text has two positions or two first bad offsets, and none has a position and a first bad
+/// offset.
 pub fn one_outcome_a_text()
     ensures { (text : List ℕ) (first second : Result Position BadPlacement)
         → ParsesPlacement text first → ParsesPlacement text second → first ≡ second }
@@ -64,7 +70,8 @@ pub fn one_outcome_a_text()
 
 /// What is written of 64 pieces is a placement of them.
 pub fn written_text_is_accepted()
-    ensures { (pieces : List Piece) → length pieces ≡ 64 → IsPlacement (placement_text pieces) pieces }
+    ensures { (pieces : List Piece)
+        → length pieces ≡ 64 → IsPlacement (placement_text pieces) pieces }
 {}
 
 /// What is read of the written text of a position is that position.

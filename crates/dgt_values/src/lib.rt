@@ -1,40 +1,40 @@
-//! The values that the messages and commands of a DGT electronic chess board are made of: bytes with a clear
-//! top bit, the bodies of messages, squares, pieces, positions and the segments of a clock's digits.
+//! The values that the messages and commands of a DGT electronic chess board are made of: bytes
+//! with a clear top bit, the bodies of messages, squares, pieces, positions and the segments of a
+//! clock's digits.
 //!
-//! A value of these types is always in range: `SevenBit::try_from`, `Body::new`, `Square::from_index`,
-//! `Square::parse`, `Piece::from_code` and `Piece::from_letter` refuse what is not. `Position::parse_placement`
-//! reads the text of a position and `Position::placement` writes it; module `laws` says that the two agree.
-//! `TooMuch`, `Known` and `NoRoom` are refusals that the crates above answer too, and `Kind` says
-//! what kinds of replies a host awaits. Nothing here takes memory.
+//! A value of these types is always in range: `SevenBit::try_from`, `Body::new`,
+// ! `Square::from_index`, `Square::parse`, `Piece::from_code` and `Piece::from_letter` refuse what
+// is
+//! not. `Position::parse_placement` reads the text of a position and `Position::placement` writes
+//! it; module `laws` says that the two agree. `TooMuch`, `Known` and `NoRoom` are refusals that the
+//! crates above answer too, and `Kind` says what kinds of replies a host awaits. Nothing here takes
+//! memory.
 //!
-//! Piece codes, square numbers and segment bytes are those of the DGT Electronic Board Protocol Description
-//! (the published `dgtbrd` header). The letters `.`, `X`, `Y` and `Z`, and that a placement may be read with
-//! two digits side by side, are this project's own choice.
+//! Piece codes, square numbers and segment bytes are those of the DGT Electronic Board Protocol
+//! Description (the published `dgtbrd` header). The letters `.`, `X`, `Y` and `Z`, and that a
+//! placement may be read with two digits side by side, are this project's own choice.
 #![tactic(auto)]
 
 mod bodies;
 mod bytes;
-mod cases;
 mod kinds;
 pub mod laws;
-mod limits;
 mod pieces;
 mod placements;
 mod positions;
-mod room;
+mod refusals;
 mod segments;
 mod squares;
 #[cfg(test)]
 mod tests;
 
-pub use bodies::{Body, BodyError, MAX_BODY};
-pub use bytes::{NotSevenBit, SevenBit};
-pub use cases::Known;
+pub use bodies::{Body, MAX_BODY};
+pub use bytes::SevenBit;
 pub use kinds::Kind;
-pub use limits::TooMuch;
-pub use pieces::{NoPiece, Piece};
-pub use placements::BadPlacement;
+pub use pieces::Piece;
 pub use positions::Position;
-pub use room::NoRoom;
-pub use segments::{NoSegment, segment};
-pub use squares::{NoSquare, Square};
+pub use refusals::{
+    BadPlacement, BodyError, Known, NoPiece, NoRoom, NoSegment, NoSquare, NotSevenBit, TooMuch,
+};
+pub use segments::segment;
+pub use squares::Square;

@@ -1,17 +1,12 @@
 //! The pieces that a square may hold.
 
-ghost use Rattle.std.specs.Prelude.{◌≡◌, ◌<◌};
-ghost use Rattle.dgt_values.specs.Piece.{piece_code, piece_letter, HasCode, HasLetter};
+ghost use Rattle.std.specs.Prelude.{◌≡◌, ◌≢◌, ◌<◌, ◌≤◌, MatchResult};
+ghost use Rattle.dgt_values.specs.Board.{piece_code, piece_letter};
 
-use thiserror::Error;
+use crate::refusals::NoPiece;
 
-/// The code is above 15, or the letter is none of the sixteen.
-#[derive(Clone, Copy, Debug, PartialEq, Eq, Error)]
-#[error("this stands for no piece")]
-pub struct NoPiece;
-
-/// What a square holds: nothing, one of the twelve pieces of chess, or one of three extra pieces, to which
-/// nothing here gives a meaning.
+/// What a square holds: nothing, one of the twelve pieces of chess, or one of three extra pieces,
+/// to which nothing here gives a meaning.
 #[derive(Clone, Copy, Debug, PartialEq, Eq)]
 pub enum Piece {
     Empty,
@@ -35,7 +30,7 @@ pub enum Piece {
 impl Piece {
     /// The piece of a code from 0 to 15, as a message carries it. A greater code is `NoPiece`.
     pub fn from_code(code: u8) -> Result<Self, NoPiece>
-        ensures { HasCode code result }
+        ensures { MatchResult result (λ piece. piece_code piece ≡ code) (λ _. 16 ≤ code) }
     {
         Ok(match code {
             0x00 => Piece::Empty,
@@ -66,8 +61,8 @@ impl Piece {
         self as u8
     }
 
-    /// The letter: a capital one for white, a small one for black, `.` for an empty square, and `X`, `Y` and `Z`
-    /// for the extra pieces.
+    /// The letter: a capital one for white, a small one for black, `.` for an empty square, and
+    /// `X`, `Y` and `Z` for the extra pieces.
     pub fn letter(self) -> char
         ensures value { result ≡ piece_letter self }
         ensures ascii { result < 128 }
@@ -94,7 +89,9 @@ impl Piece {
 
     /// The piece of a letter. A character that is none of the sixteen letters is `NoPiece`.
     pub fn from_letter(letter: char) -> Result<Self, NoPiece>
-        ensures { HasLetter letter result }
+        ensures { MatchResult result
+            (λ piece. piece_letter piece ≡ letter)
+            (λ _. (piece : Piece) → piece_letter piece ≢ letter) }
     {
         Ok(match letter {
             '.' => Piece::Empty,

@@ -1,27 +1,21 @@
 //! Positions as text.
 
-ghost use Rattle.std.specs.Prelude.{◌≡◌, ◌<◌, ◌≤◌, ◌+◌, ◌++◌, length, List, replicate, MatchOption};
+ghost use Rattle.std.specs.Prelude.{◌≡◌, ◌<◌, ◌≤◌, ◌+◌, ◌++◌, length, List, replicate};
+ghost use Rattle.std.specs.Prelude.{MatchOption};
 ghost use Rattle.arrayvec.specs.ArrayString.{array_string_len};
-ghost use Rattle.dgt_values.specs.Pieces.{pieces_of};
-ghost use Rattle.dgt_values.specs.Placement.{placement_text, rank_text, run_text, MeansSquares, ParsesPlacement};
+ghost use Rattle.dgt_values.specs.Board.{pieces_of};
+ghost use Rattle.dgt_values.specs.Placement.{placement_text, rank_text_after, run_text};
+ghost use Rattle.dgt_values.specs.Placement.{MeansSquares, ParsesPlacement};
 
 use crate::pieces::Piece;
 use crate::positions::{Position, is_same};
+use crate::refusals::BadPlacement;
 use arrayvec::ArrayString;
-use thiserror::Error;
-
-/// The text is no placement. `at` is the offset of the first byte with which it no longer begins any accepted
-/// one, or the text's length where it is only too short.
-#[derive(Clone, Copy, Debug, PartialEq, Eq, Error)]
-#[error("no placement, from offset {at} on")]
-pub struct BadPlacement {
-    pub at: usize,
-}
 
 impl Position {
-    /// The position of a placement: eight ranks, from 8 down to 1, with a slash between two. A rank has letters
-    /// for its pieces and digits from 1 to 8 for so many empty squares, eight squares in all. Two digits may
-    /// stand side by side. Any other text is a `BadPlacement`.
+    /// The position of a placement: eight ranks, from 8 down to 1, with a slash between two. A rank
+    /// has letters for its pieces and digits from 1 to 8 for so many empty squares, eight squares
+    /// in all. Two digits may stand side by side. Any other text is a `BadPlacement`.
     pub fn parse_placement(text: &str) -> Result<Self, BadPlacement>
         ensures { ParsesPlacement text.now result }
     {
@@ -52,8 +46,8 @@ impl Position {
         }
     }
 
-    /// The placement of the position with the fewest digits: two digits never stand side by side. It reads back
-    /// as this position.
+    /// The placement of the position with the fewest digits: two digits never stand side by side.
+    /// It reads back as this position.
     pub fn placement(&self) -> ArrayString<71>
         ensures { result.bytes ≡ placement_text (pieces_of self.now) }
     {
@@ -68,8 +62,8 @@ impl Position {
     }
 }
 
-/// What a byte of a rank stands for: this piece, on so many squares. `None` where it stands for none, or for
-/// more than there is room for.
+/// What a byte of a rank stands for: this piece, on so many squares. `None` where it stands for
+/// none, or for more than there is room for.
 fn squares_of(byte: u8, room: usize) -> Option<(Piece, usize)>
     ensures { MatchOption result
         ((squares : List Piece) → MeansSquares byte squares → room < length squares)
@@ -101,7 +95,7 @@ fn push_run(text: &mut ArrayString<71>, empty: u8)
 fn push_rank(text: &mut ArrayString<71>, rank: &[Piece])
     requires rank { length rank.now ≡ 8 }
     requires room { array_string_len text.old ≤ 63 }
-    ensures text { text.new.bytes ≡ text.old.bytes ++ rank_text rank.now }
+    ensures text { text.new.bytes ≡ text.old.bytes ++ rank_text_after 0 rank.now }
     ensures len { array_string_len text.new ≤ array_string_len text.old + 8 }
 {
     let mut empty = 0;

@@ -1,8 +1,7 @@
 //! What stands on each square.
 
-ghost use Rattle.std.specs.Prelude.{◌≡◌, ◌↔◌, ◌≢◌, ◌<◌, ℕ, length, replicate, slice_get, slice_index, slice_index_or, slice_set, IsTrue};
-ghost use Rattle.dgt_values.specs.Piece.{piece_code};
-ghost use Rattle.dgt_values.specs.Position.{start_pieces, DifferingSquares};
+ghost use Rattle.std.specs.Prelude.{◌≡◌, ◌↔◌, ◌≢◌, ◌<◌, ℕ, length, replicate, IsTrue};
+ghost use Rattle.std.specs.Prelude.{slice_get, slice_index, slice_index_or, slice_set};
 
 use crate::pieces::Piece;
 use crate::squares::Square;
@@ -38,8 +37,8 @@ const WHITE_OFFICERS: [Piece; 8] = [
 ];
 
 impl Position {
-    ghost use Rattle.dgt_values.specs.Square.{square_number};
-    ghost use Rattle.dgt_values.specs.Pieces.{pieces_of};
+    ghost use Rattle.dgt_values.specs.Board.{piece_code, pieces_of, square_number, start_pieces};
+    ghost use Rattle.dgt_values.specs.Board.{DifferingSquares};
 
     /// A board with no piece.
     pub fn empty() -> Self
@@ -86,7 +85,8 @@ impl Position {
 
     /// Puts the piece, which may be `Empty`, on the square. No other square changes.
     pub fn set(&mut self, square: Square, piece: Piece)
-        ensures set { pieces_of self.new ≡ slice_set (pieces_of self.old) (square_number square) piece }
+        ensures set { pieces_of self.new
+            ≡ slice_set (pieces_of self.old) (square_number square) piece }
         ensures len { length (pieces_of self.new) ≡ 64 }
     {
         self.pieces[square.index() as usize] = piece;
@@ -103,8 +103,8 @@ impl Position {
 
     // The codes of the pieces. They stand in memory just so, and the compiler makes no loop of it.
     fn codes(&self) -> [u8; 64]
-        ensures codes { (square : ℕ) → square < 64 →
-            slice_index result square ≡ piece_code (slice_index_or (pieces_of self.now) square Piece.Empty) }
+        ensures codes { (square : ℕ) → square < 64 → slice_index result square
+            ≡ piece_code (slice_index_or (pieces_of self.now) square Piece.Empty) }
         ensures len { length (pieces_of self.now) ≡ 64 }
     {
         let mut codes = [0; 64];

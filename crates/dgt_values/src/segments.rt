@@ -1,18 +1,16 @@
 //! The segments that show a character on one place of the clock's display.
 
-ghost use Rattle.dgt_values.specs.Segment.{HasSegments};
+ghost use Rattle.std.specs.Prelude.{ℕ, MatchResult};
+ghost use Rattle.dgt_values.specs.Segment.{IsShownBy};
 
-use thiserror::Error;
+use crate::refusals::NoSegment;
 
-/// The character is no digit, space or hyphen.
-#[derive(Clone, Copy, Debug, PartialEq, Eq, Error)]
-#[error("this character has no segments")]
-pub struct NoSegment;
-
-/// The segment byte of a digit, a space or a hyphen. From bit 0 on: top, right top, right bottom, bottom, left
-/// bottom, left top, middle. Any other character is `NoSegment`.
+/// The segment byte of a digit, a space or a hyphen. From bit 0 on: top, right top, right bottom,
+/// bottom, left bottom, left top, middle. Any other character is `NoSegment`.
 pub fn segment(character: char) -> Result<u8, NoSegment>
-    ensures { HasSegments character result }
+    ensures { MatchResult result
+        (λ byte. IsShownBy character byte)
+        (λ _. (byte : ℕ) → ¬ (IsShownBy character byte)) }
 {
     Ok(match character {
         '0' => 0x3f,

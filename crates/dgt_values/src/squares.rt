@@ -1,15 +1,11 @@
 //! The squares of the board.
 
-ghost use Rattle.std.specs.Prelude.{◌≡◌, ℕ, ◌<◌, ◌∷◌, [], MatchResult};
+ghost use Rattle.std.specs.Prelude.{◌≡◌, ◌≢◌, ℕ, ◌<◌, ◌≤◌, ◌∷◌, [], MatchResult};
 
-use thiserror::Error;
+use crate::refusals::NoSquare;
 
-/// The number is above 63, or the name is none of a square.
-#[derive(Clone, Copy, Debug, PartialEq, Eq, Error)]
-#[error("this stands for no square")]
-pub struct NoSquare;
-
-/// A square by its number, rank by rank from 8 down: a8 is 0, b8 is 1, h8 is 7, a7 is 8 and h1 is 63.
+/// A square by its number, rank by rank from 8 down: a8 is 0, b8 is 1, h8 is 7, a7 is 8 and h1 is
+/// 63.
 #[derive(Clone, Copy, Debug, PartialEq, Eq)]
 pub struct Square {
     index: u8,
@@ -17,17 +13,27 @@ pub struct Square {
 }
 
 impl Square {
-    ghost use Rattle.dgt_values.specs.Square.{square_name, square_number, HasIndex, HasName};
+    ghost use Rattle.dgt_values.specs.Board.{square_name, square_number};
 
     /// The square of a number from 0 to 63. A greater one is `NoSquare`.
     pub fn from_index(index: u8) -> Result<Self, NoSquare>
-        ensures { HasIndex index result }
+        ensures { MatchResult result
+            (λ square. (square_number square ≡ index) × (index < 64))
+            (λ _. 64 ≤ index) }
     {
         if index < 64 {
-            Ok(Square { index })
+            Ok(Square::from_small(index))
         } else {
             Err(NoSquare)
         }
+    }
+
+    /// The square of a number that the caller knows to be below 64.
+    pub fn from_small(index: u8) -> Self
+        requires small { index < 64 }
+        ensures { square_number result ≡ index }
+    {
+        Square { index }
     }
 
     /// The number, from 0 to 63.
@@ -38,10 +44,12 @@ impl Square {
         self.index
     }
 
-    /// The square of a name such as `e4`: a small letter from a to h for the file, then a digit from 1 to 8 for
-    /// the rank. Any other text is `NoSquare`.
+    /// The square of a name such as `e4`: a small letter from a to h for the file, then a digit
+    /// from 1 to 8 for the rank. Any other text is `NoSquare`.
     pub fn parse(name: &str) -> Result<Self, NoSquare>
-        ensures { HasName name.now result }
+        ensures { MatchResult result
+            (λ square. square_name (square_number square) ≡ name.now)
+            (λ _. (square : ℕ) → square < 64 → square_name square ≢ name.now) }
     {
         match name.as_bytes() {
             [file @ b'a'..=b'h', rank @ b'1'..=b'8'] => Ok(Square {

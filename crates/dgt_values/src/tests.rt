@@ -18,8 +18,13 @@ fn a_body_is_refused_for_its_length_first(rt: HostRuntime) {
         Body::new(&longest).map(|body| body.bytes().len()),
         Ok(16380)
     );
-    assert!(rt; matches!(Body::new(&one_more), Err(BodyError::TooMuch)));
-    assert!(rt; matches!(Body::new(&one_more[..16380]), Err(BodyError::NotSevenBit)));
+    assert!(rt; matches!(Body::new(&one_more), Err(BodyError::Length(TooMuch))));
+    assert!(rt;
+        matches!(
+            Body::new(&one_more[..16380]),
+            Err(BodyError::Byte(NotSevenBit))
+        )
+    );
     assert_eq!(rt;
         Body::from_seven_bit(&[0x7f, 0x00]).bytes(),
         [0x7f, 0x00].as_slice()
@@ -196,11 +201,11 @@ fn errors_have_texts(rt: HostRuntime) -> Result<(), Fail> {
     let alloc = rt.alloc();
     for (said, expected) in [
         (
-            format!(in alloc; "{}", BodyError::TooMuch)?,
+            format!(in alloc; "{}", BodyError::Length(TooMuch))?,
             "there are more than 16380 bytes",
         ),
         (
-            format!(in alloc; "{}", BodyError::NotSevenBit)?,
+            format!(in alloc; "{}", BodyError::Byte(NotSevenBit))?,
             "a byte has its top bit set",
         ),
         (format!(in alloc; "{NotSevenBit}")?, "the top bit is set"),

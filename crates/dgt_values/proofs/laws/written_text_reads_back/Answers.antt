@@ -1,4 +1,4 @@
-use Rattle.dgt_values.specs.Pieces.{pieces_of}
+use Rattle.dgt_values.specs.Board.{pieces_of}
 use Rattle.dgt_values.specs.Placement.{placement_text}
 use Rattle.dgt_values.proofs.Outcomes.{one_outcome}
 use Rattle.dgt_values.proofs.Written.{written_placement}
@@ -7,4 +7,5 @@ use Rattle.dgt_values.proofs.laws.written_text_reads_back.Goals as goal
 
 pub returns : goal.returns
 returns c = λ position read parsed.
-    one_outcome (placement_text (pieces_of position)) read (Ok position) parsed (written_placement (pieces_of position) position.all)
+    one_outcome (placement_text (pieces_of position)) read (Ok position) parsed
+    (written_placement (pieces_of position) position.all)

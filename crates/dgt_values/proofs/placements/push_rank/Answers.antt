@@ -13,19 +13,24 @@ loop-piece-preserved c =
           let empty = c.is_same.ensures.0 w.if-is_same.true in
           record {
             written = rw (w.text-is, w.empty-is)
-                (ap (λ t. c.loop-piece.text.bytes ++ t) (sym (one_more_empty c.args.rank.now c.loop-piece.piece-index c.loop-piece.empty within empty)) ∙ c.loop-piece.invariant.written);
+                (ap (λ t. c.loop-piece.text.bytes ++ t)
+                (sym (one_more_empty c.args.rank.now c.loop-piece.piece-index c.loop-piece.empty within empty))
+                ∙ c.loop-piece.invariant.written);
             run = rw w.empty-is (omega arith);
             room = rw (w.text-is, w.empty-is) (omega arith);
           }
           )
       | else-is_same w ↦ (
-          let differs : get_or c.args.rank.now c.loop-piece.piece-index Empty ≢ Empty = λ e. let told = c.is_same.ensures.1 e in cc in
+          let differs : get_or c.args.rank.now c.loop-piece.piece-index Empty ≢ Empty = λ e. let told =
+          c.is_same.ensures.1 e in cc in
           let pushed = w.push.ensures.ascii w.letter.ensures.ascii in
           record {
             written = rw (w.text-is, w.empty-is, pushed, w.push_run.ensures.text, w.letter.ensures.value)
-                (sym (one_more_piece c.args.rank.now c.loop-piece.piece-index c.loop-piece.empty c.loop-piece.text.bytes within differs) ∙ c.loop-piece.invariant.written);
+                (sym (one_more_piece c.args.rank.now c.loop-piece.piece-index c.loop-piece.empty c.loop-piece.text.bytes
+                within differs) ∙ c.loop-piece.invariant.written);
             run = rw w.empty-is (omega arith);
-            room = rw (w.text-is, w.empty-is, pushed) (omega (arith, length-append w.push_run.new.text.bytes (w.letter.result ∷ []), w.push_run.ensures.len));
+            room = rw (w.text-is, w.empty-is, pushed)
+                (omega (arith, length-append w.push_run.new.text.bytes (w.letter.result ∷ []), w.push_run.ensures.len));
           }
           )
     ]
