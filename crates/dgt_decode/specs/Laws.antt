@@ -38,6 +38,16 @@ EventsAppend = (s p : List ℕ) →
 abbrev pub OpenAppend : Type 0
 OpenAppend = (s p : List ℕ) → open_message (s ++ p) ≡ open_message (open_message s ++ p)
 
+-- An unfinished message is a part of what came.
+abbrev pub OpenIsPart : Type 0
+OpenIsPart = (s : List ℕ) → length (open_message s) ≤ length s
+
+-- Events stand where they stood behind nothing, behind all bytes where these come in two parts, and one by one.
+pub record PlacesAdd : Type 0 where
+  pub none : (told : List Placed) → events_behind 0 told ≡ told
+  pub twice : (m n : ℕ) (told : List Placed) → events_behind m (events_behind n told) ≡ events_behind (m + n) told
+  pub in_a_row : (n : ℕ) (told more : List Placed) → events_behind n (told ++ more) ≡ events_behind n told ++ events_behind n more
+
 -- No byte makes two events.
 abbrev pub OneEvent : Type 0
 OneEvent = (s : List ℕ) (b : ℕ) → length (events (open_message s ++ b ∷ [])) ≤ 1

@@ -4,7 +4,7 @@
 ghost use Rattle.std.specs.Prelude.{◌≡◌};
 ghost use Rattle.dgt_values.specs.Equality.{EqualIsSame, EqualIsSameRead};
 ghost use Rattle.dgt_decode.specs.Feeding.{event_content, fed_content};
-ghost use Rattle.dgt_decode.specs.Laws.{EventsAppend, InAnyPieces, OneCut, OneEvent, OneFirstEvent, OpenAppend, OpenIsShort, QuietHeld, Recovery, SpellingInPieces, SpellingIsRead};
+ghost use Rattle.dgt_decode.specs.Laws.{EventsAppend, InAnyPieces, OneCut, OneEvent, OneFirstEvent, OpenAppend, OpenIsPart, OpenIsShort, PlacesAdd, QuietHeld, Recovery, SpellingInPieces, SpellingIsRead};
 
 use crate::decoder::{Fed, Unfinished};
 use crate::event::{Event, Found};
@@ -43,6 +43,17 @@ pub fn events_append()
 /// Of what came before, only the unfinished message bears on what is unfinished later.
 pub fn open_append()
     ensures { OpenAppend }
+{}
+
+/// An unfinished message is a part of what came.
+pub fn open_is_part()
+    ensures { OpenIsPart }
+{}
+
+/// Places add up: events behind no bytes stay where they are, behind bytes behind bytes they stand behind
+/// all of these, and each of them is placed by itself.
+pub fn places_add()
+    ensures { PlacesAdd }
 {}
 
 /// No byte makes two events.
