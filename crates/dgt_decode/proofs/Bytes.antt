@@ -2,7 +2,7 @@
 use Rattle.std.proofs.Common.{◌≡◌, ℕ, zero, suc, ◌<◌, ◌≤◌, Bool, true, false, cond, List, [], ◌∷◌, ◌++◌, length, get_or, Some, None, refl, sym, subst, arith}
 use Rattle.std.proofs.lemmas.List.{get_or_append_left}
 use Rattle.std.proofs.lemmas.Bool.{leb-true}
-use Rattle.dgt_decode.specs.Grammar.{IsSevenBit, Cut, Stray, has_top_bit, lead, segments, total_of, verdict, open_message}
+use Rattle.dgt_decode.specs.Grammar.{IsSevenBit, Cut, Stray, has_top_bit, lead, segments, announced_total, verdict, open_message}
 use Rattle.dgt_decode.specs.Taking.{TakesByte}
 use Rattle.dgt_decode.proofs.Verdicts.{Stage, short, waits, bad, whole, stage_of, verdict-bad, verdict-whole}
 use Rattle.dgt_decode.proofs.More.{IsAlone, IsSevenBit-lead}
@@ -58,7 +58,7 @@ pub held_begins_more : (held run : List ℕ) → IsHeld held → 0 < length held
 held_begins_more held run h some = rw (get_or_append_left held run 0 0 some) (held_begins held h some)
 
 -- no header that is held says more than the longest total
-pub held_total : (held : List ℕ) → IsHeld held → 0 < length held → total_of held ≤ 16383
+pub held_total : (held : List ℕ) → IsHeld held → 0 < length held → announced_total held ≤ 16383
 held_total [] h some = absurd (omega arith)
 held_total (b ∷ held) h some =
     let seven = (IsAlone-parts b held (alone_held (b ∷ held) h some).0).1 in
