@@ -23,12 +23,13 @@ pub struct Kept {
 
 impl Model for Kept {
     ghost use Rattle.std.specs.Prelude.{◌≤◌, ℕ, List, take};
+    ghost use Rattle.dgt_decode.specs.declared.framer.TheConstants.{MAX_TOTAL};
 
     ghost Value = { List ℕ };
 
     ghost view = { λ kept. take kept.len kept.bytes };
 
-    ghost invariant = { λ kept. kept.len ≤ 16383 };
+    ghost invariant = { λ kept. kept.len ≤ MAX_TOTAL };
 }
 
 impl Kept {

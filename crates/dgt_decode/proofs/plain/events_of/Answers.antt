@@ -1,4 +1,4 @@
-use Rattle.std.proofs.Common.{◌+◌, refl, arith}
+use Rattle.std.proofs.Common.{map, ◌+◌, refl, arith}
 use Rattle.std.proofs.lemmas.List.{length-drop, take_rest}
 use Rattle.dgt_decode.specs.Taking.{placed_content}
 use Rattle.dgt_decode.proofs.Cutting.{IsSegment-next, next_segment, told_lead, told_segment}

@@ -1,4 +1,4 @@
-use Rattle.std.proofs.Common.{length, ◌-◌}
+use Rattle.std.proofs.Common.{map, length, ◌-◌}
 use Rattle.dgt_decode.specs.Taking.{placed_content}
 use Rattle.dgt_decode.proofs.Cutting.{HasTold}
 use Rattle.dgt_decode.proofs.plain.events_of.Given as goal

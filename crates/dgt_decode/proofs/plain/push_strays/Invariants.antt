@@ -1,4 +1,4 @@
-use Rattle.std.proofs.Common.{◌≡◌, ◌++◌, take}
+use Rattle.std.proofs.Common.{map, ◌≡◌, ◌++◌, take}
 use Rattle.dgt_decode.specs.Grammar.{events_behind, strays}
 use Rattle.dgt_decode.specs.Taking.{placed_content}
 use Rattle.dgt_decode.proofs.plain.push_strays.Given as goal
