@@ -3,7 +3,7 @@
 ghost use Rattle.std.specs.Prelude.{◌≡◌, ◌≤◌, ◌<◌, ◌+◌, List, ℕ, [], ◌∷◌, ◌++◌, true, length, take, option_map, ◌==◌, if◌then◌else◌, Some, None};
 ghost use Rattle.dgt_decode.specs.Grammar.{message_event, open_message};
 ghost use Rattle.dgt_decode.specs.Feeding.{FirstEvent, IsWholeMessage, event_content, event_found_in};
-ghost use Rattle.dgt_decode.specs.Taking.{Begins, Frames, FramesRun};
+ghost use Rattle.dgt_decode.specs.Taking.{Begins, Frames, FramesFront};
 
 use crate::event::{Event, Found};
 use crate::header::{FIELD, HEADER, TOP_BIT, is_field_at_front, total_at_front};
@@ -173,7 +173,7 @@ impl Framer {
     #[inline(always)]
     fn take_front(&mut self, rest: &[u8]) -> Advanced
         requires { 0 < length rest.now }
-        ensures { FramesRun self.old rest.now result.used self.new result.found }
+        ensures { FramesFront self.old rest.now result.used self.new result.found }
     {
         if !self.is_between() || !is_field_at_front(rest) {
             return self.take_run(rest);
@@ -198,7 +198,7 @@ impl Framer {
     // else a few bytes one by one.
     fn take_run(&mut self, rest: &[u8]) -> Advanced
         requires { 0 < length rest.now }
-        ensures { FramesRun self.old rest.now result.used self.new result.found }
+        ensures { FramesFront self.old rest.now result.used self.new result.found }
     {
         match self.state {
             FramerState::Body { left } if left >= MANY && rest[0] < TOP_BIT => {
@@ -221,7 +221,7 @@ impl Framer {
     fn take_beginning(&mut self, total: usize, rest: &[u8]) -> Advanced
         requires closed { open_message self.old ≡ [] }
         requires begins { Begins total rest.now }
-        ensures { FramesRun self.old rest.now result.used self.new result.found }
+        ensures { FramesFront self.old rest.now result.used self.new result.found }
     {
         let used = HEADER + first_top(&rest[HEADER..rest.len().min(total)]);
         self.kept.set_front(rest, used);
@@ -232,15 +232,8 @@ impl Framer {
 
     // Uses bytes one by one, up to and including the first that makes something known, or all of them.
     fn take_bytes(&mut self, bytes: &[u8]) -> Advanced
-        ensures within { result.used ≤ length bytes.now }
-        ensures first { FirstEvent (open_message self.old) bytes.now result.used
-            (option_map (event_found_in self.new) result.found) }
-        ensures held { open_message self.new
-            ≡ open_message (open_message self.old ++ take result.used bytes.now) }
-        ensures whole { result.found ≡ Some Found.Message → IsWholeMessage self.new }
-        ensures kept { result.found ≡ Some Found.Message →
-            self.new ≡ open_message self.old ++ take result.used bytes.now }
-        ensures progress { 0 < length bytes.now → 0 < result.used }
+        requires { 0 < length bytes.now }
+        ensures { FramesFront self.old bytes.now result.used self.new result.found }
     {
         for (index, byte) in bytes.iter().enumerate() {
             if let Some(found) = self.take_byte(*byte) {
@@ -259,7 +252,7 @@ impl Framer {
     // A byte with a set top bit begins a message, and cuts off one that is unfinished.
     fn begin_message(&mut self, byte: u8) -> Option<Found>
         requires { TOP_BIT ≤ byte }
-        ensures { Frames self.old byte self.new result }
+        ensures { Frames self.old (byte ∷ []) self.new result }
     {
         let have = self.open_len();
         self.kept.clear();
@@ -273,7 +266,7 @@ impl Framer {
     }
 
     fn take_byte(&mut self, byte: u8) -> Option<Found>
-        ensures { Frames self.old byte self.new result }
+        ensures { Frames self.old (byte ∷ []) self.new result }
     {
         if byte >= TOP_BIT {
             return self.begin_message(byte);

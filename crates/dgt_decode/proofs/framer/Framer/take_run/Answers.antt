@@ -4,7 +4,8 @@ use Rattle.dgt_decode.specs.declared.framer.FramerState.TheVariants.{Body}
 use Rattle.dgt_decode.specs.Taking.{IsKept}
 use Rattle.dgt_decode.proofs.Bytes.{held_total}
 use Rattle.dgt_decode.proofs.Framing.{closed}
-use Rattle.dgt_decode.proofs.Runs.{IsBodyRun, body_run, frames-front, frames-body_run}
+use Rattle.dgt_decode.proofs.Runs.{IsBodyRun, body_run, frames-body_run}
+use Rattle.dgt_decode.proofs.Loops.{front_of_front}
 use Rattle.dgt_decode.proofs.framer.Framer.take_run.Goals as goal
 
 pub append_run-used-requires : goal.append_run-used-requires
@@ -35,8 +36,8 @@ returns-in-Body c =
 pub take_beginning-requires-clause-closed : goal.take_beginning-requires-clause-closed
 take_beginning-requires-clause-closed c = rw (← c.self.view_is) (closed _ _ c.self.invariant c.in-Hunting.is)
 
+pub take_bytes-requires : goal.take_bytes-requires
+take_bytes-requires c = omega (arith, length-take c.min.result c.args.rest.now, c.min.ensures, c.requires)
+
 pub returns : goal.returns
-returns c =
-    let some = c.take_bytes.ensures.progress (omega (arith, length-take c.min.result c.args.rest.now, c.min.ensures, c.requires)) in
-    frames-front c.args.self.now c.args.rest.now _ c.take_bytes.result.used c.take_bytes.new.self c.take_bytes.result.found
-    some c.take_bytes.ensures.within c.take_bytes.ensures.first c.take_bytes.ensures.held c.take_bytes.ensures.whole c.take_bytes.ensures.kept
+returns c = front_of_front c.args.self.now c.args.rest.now _ _ _ _ c.take_bytes.ensures
