@@ -2,10 +2,11 @@
 use Rattle.std.proofs.Common.{◌≡◌, ℕ, ◌+◌, ◌-◌, ◌≤◌, List, [], ◌∷◌, ◌++◌, length, take, Option, Some, None, sym, ap, subst, ◌∙◌, append_assoc, arith}
 use Rattle.std.proofs.lemmas.List.{append-nil, append_cancel_left, length-append, length-take}
 use Rattle.std.proofs.Math.Seq.{take-length}
+use Rattle.dgt_message.specs.Content.{Content, IsMessage}
 use Rattle.dgt_message.specs.Spelling.{spelling}
 use Rattle.dgt_decode.specs.Grammar.{Event, Message, Placed, at_place, events_behind, cut_of, events, open_message}
 use Rattle.dgt_decode.specs.Feeding.{FirstEvent, at_place_if_any}
-use Rattle.dgt_decode.specs.Laws.{Call, AreCalls, used_part, used_bytes, events_in_pieces, InAnyPieces, SpellingInPieces}
+use Rattle.dgt_decode.specs.Laws.{Call, AreCalls, used_part, used_bytes, events_in_pieces}
 use Rattle.dgt_decode.proofs.More.{events-append}
 use Rattle.dgt_decode.proofs.Open.{open-append, length-open}
 use Rattle.dgt_decode.proofs.Loops.{events_behind-at_place_if_any}
@@ -33,7 +34,7 @@ call_told s call first =
     ∙ ap (λ (xs : List Placed). events s ++ xs) (events_behind-at_place_if_any (length s - length o) (length o + call.used) (length s + call.used) call.event place)
 
 -- by induction: each call goes on where the one before it stopped
-pub in_any_pieces : InAnyPieces
+pub in_any_pieces : (s : List ℕ) (calls : List Call) → AreCalls (open_message s) calls → events (s ++ used_bytes calls) ≡ events s ++ events_in_pieces (length s) calls
 in_any_pieces s [] are = rw (append-nil s) (sym (append-nil (events s)))
 in_any_pieces s (call ∷ calls) are =
     let within = first_within (open_message s) call.piece call.used call.event are.0 in
@@ -45,7 +46,9 @@ in_any_pieces s (call ∷ calls) are =
     ∙ rw (count, call_told s call are.0) (append_assoc (events s) (at_place_if_any (length s + call.used) call.event) (events_in_pieces (length s + call.used) calls))
 
 -- what is told in pieces is told of the whole
-pub spelling_in_pieces : AreRead → AreSpelled → SpellingInPieces
+pub spelling_in_pieces : AreRead → AreSpelled → (s : List ℕ) (said : Content) (calls : List Call)
+    → IsMessage said → AreCalls (open_message s) calls → used_bytes calls ≡ spelling said
+    → events_in_pieces (length s) calls ≡ events_behind (length s) (cut_of (open_message s)) ++ at_place (length s + length (spelling said)) (Message said) ∷ []
 spelling_in_pieces reads spelled s said calls is are same =
     let cut = events_behind (length s) (cut_of (open_message s)) in
     let told = cut ++ at_place (length s + length (spelling said)) (Message said) ∷ [] in

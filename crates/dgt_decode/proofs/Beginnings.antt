@@ -1,14 +1,15 @@
 -- A run that begins a message.
-use Rattle.std.proofs.Common.{◌≡◌, ℕ, zero, suc, ◌+◌, ◌-◌, ◌<◌, ◌≤◌, List, [], ◌∷◌, length, take, drop, min, not, Some, refl, ap, ◌∙◌, arith}
+use Rattle.std.proofs.Common.{option_map, ◌≡◌, ℕ, zero, suc, ◌+◌, ◌-◌, ◌<◌, ◌≤◌, List, [], ◌∷◌, length, take, drop, min, not, Some, refl, ap, ◌∙◌, arith}
 use Rattle.std.specs.List.{position_or_len}
 use Rattle.dgt_decode.specs.declared.event.Found.TheVariants as found
 use Rattle.std.proofs.lemmas.List.{length-take, take-take}
 use Rattle.std.proofs.lemmas.List.Sums.{prefix_len-le-length}
-use Rattle.dgt_decode.specs.Grammar.{IsSevenBit, has_top_bit, events, open_message, total_of}
-use Rattle.dgt_decode.specs.Feeding.{IsWhole, at_place_if_any, found_if_any}
-use Rattle.dgt_decode.specs.Keeping.{IsKept}
-use Rattle.dgt_decode.specs.Taking.{Begins, FramesRun}
+use Rattle.dgt_decode.specs.Grammar.{IsSevenBit, has_top_bit, events, open_message, announced_total}
+use Rattle.dgt_decode.specs.Feeding.{IsWholeMessage, at_place_if_any, event_found_in}
+use Rattle.dgt_decode.specs.Taking.{IsKept}
+use Rattle.dgt_decode.specs.Taking.{Begins, FramesFront}
 use Rattle.dgt_decode.proofs.Steps.{Gives, first-begins, next-short, next-waits}
+use Rattle.dgt_decode.proofs.Feeds.{first_of_run}
 use Rattle.dgt_decode.proofs.Framing.{after, tells-after}
 use Rattle.dgt_decode.proofs.Runs.{seven-before, seven-take}
 
@@ -43,7 +44,7 @@ beginning total run (b ∷ h ∷ l ∷ more) begins is =
 
 -- before the last of them there is no event
 early : (b h l n total : ℕ) (more : List ℕ) → Gives (b ∷ h ∷ []) [] (b ∷ h ∷ []) → l < 128 → IsSevenBit (take n more) → n ≤ length more → 3 + n ≤ total
-    → total ≡ total_of (b ∷ h ∷ l ∷ more) → events (take (suc (suc n)) (b ∷ h ∷ l ∷ more)) ≡ []
+    → total ≡ announced_total (b ∷ h ∷ l ∷ more) → events (take (suc (suc n)) (b ∷ h ∷ l ∷ more)) ≡ []
 early b h l zero total more two low seven within fits is = two.told
 early b h l (suc n) total [] two low seven within fits is = absurd (omega (arith, within))
 early b h l (suc n) total (x ∷ more) two low seven within fits is =
@@ -57,7 +58,7 @@ early b h l (suc n) total (x ∷ more) two low seven within fits is =
 
 -- A message that begins is whole where none of it is missing then, and tells nothing otherwise.
 pub frames-beginning : (kept rest : List ℕ) (total used : ℕ) → open_message kept ≡ [] → Begins total rest → IsBeginning total rest used
-    → FramesRun kept rest used (take used rest) (after (total - used)).1 × IsKept (after (total - used)).0 (take used rest)
+    → FramesFront kept rest used (take used rest) (after (total - used)).1 × IsKept (after (total - used)).0 (take used rest)
 frames-beginning kept [] total used none begins run = absurd (omega (arith, begins.enough))
 frames-beginning kept (b ∷ []) total used none begins run = absurd (omega (arith, begins.enough))
 frames-beginning kept (b ∷ h ∷ []) total used none begins run = absurd (omega (arith, begins.enough))
@@ -72,29 +73,31 @@ frames-beginning kept (b ∷ h ∷ l ∷ more) total (suc (suc (suc n))) none be
     let seven : IsSevenBit body = rw is_n at run.seven in
     let two = next-short (b ∷ []) (h ∷ []) (first-begins b begins.first).leaves (omega arith) (begins.header.0, tt) (omega arith) in
     let left = total - used in
-    let all : total_of (b ∷ h ∷ l ∷ body) ≡ length (b ∷ h ∷ l ∷ body) + left = omega (arith, begins.is, count, run.fits) in
+    let all : announced_total (b ∷ h ∷ l ∷ body) ≡ length (b ∷ h ∷ l ∷ body) + left = omega (arith, begins.is, count, run.fits) in
     let t = tells-after (b ∷ h ∷ []) (l ∷ body) left two.leaves (omega arith) (omega arith) (begins.header.1.0, seven) all in
-    let long : 2 + length (l ∷ body) ≡ 0 + used = omega (arith, count) in
-    let less : used - 1 ≡ suc (suc n) = omega arith in (
+    let long : 2 + length (l ∷ body) ≡ 0 + length (b ∷ h ∷ l ∷ body) = omega arith in
+    let less : length (b ∷ h ∷ l ∷ body) - 1 ≡ suc (suc n) = omega (arith, count) in
+    let front : take (length (b ∷ h ∷ l ∷ body) - 1) (b ∷ h ∷ l ∷ body) ≡ take (suc (suc n)) (b ∷ h ∷ l ∷ more) =
+    ap (λ m. take m (b ∷ h ∷ l ∷ body)) less ∙ take-take (suc (suc n)) used (b ∷ h ∷ l ∷ more) (omega arith) in
+    let quiet : events (take (length (b ∷ h ∷ l ∷ body) - 1) (b ∷ h ∷ l ∷ body)) ≡ [] =
+    ap (λ x. events x) front ∙ early b h l n total more two begins.header.1.0 seven (omega (arith, run.within)) (omega (arith, run.fits)) begins.is in (
       record {
-        takes = rw none (
-            record {
-              some = omega arith;
-              within = run.within;
-              quiet = rw less (early b h l n total more two begins.header.1.0 seven (omega (arith, run.within)) (omega (arith, run.fits)) begins.is);
-              told = t.0.told ∙ ap (λ (n : ℕ). at_place_if_any n (found_if_any (b ∷ h ∷ l ∷ body) (after left).1)) long;
-              holds = refl;
-            }
-            );
-        message = t.0.message;
-        came = λ e. rw none refl;
+        some = omega arith;
+        within = run.within;
+        frames = record {
+          first = rw none (first_of_run [] (b ∷ h ∷ l ∷ body) _ (omega arith) quiet
+              (t.0.told ∙ ap (λ (n : ℕ). at_place_if_any n (option_map (event_found_in (b ∷ h ∷ l ∷ body)) (after left).1)) long));
+          held = rw none refl;
+          whole = t.0.message;
+          came = λ e. rw none refl;
+        };
       },
       t.1,
     )
 
 -- A message that has come whole is told at once.
-pub frames-whole : (kept rest : List ℕ) (total : ℕ) → open_message kept ≡ [] → total ≤ length rest → IsWhole (take total rest)
-    → FramesRun kept rest total (take total rest) (Some found.Message)
+pub frames-whole : (kept rest : List ℕ) (total : ℕ) → open_message kept ≡ [] → total ≤ length rest → IsWholeMessage (take total rest)
+    → FramesFront kept rest total (take total rest) (Some found.Message)
 frames-whole kept rest zero none within whole = absurd (omega (arith, whole.long))
 frames-whole kept rest (suc zero) none within whole = absurd (omega (arith, whole.long, length-take 1 rest))
 frames-whole kept rest (suc (suc zero)) none within whole = absurd (omega (arith, whole.long, length-take 2 rest))
@@ -104,7 +107,7 @@ frames-whole kept (b ∷ h ∷ []) (suc (suc (suc n))) none within whole = absur
 frames-whole kept (b ∷ h ∷ l ∷ more) (suc (suc (suc n))) none within whole =
     let total = suc (suc (suc n)) in
     let rest = b ∷ h ∷ l ∷ more in
-    let is : total ≡ total_of rest = omega (arith, whole.whole, length-take total rest, within) in
+    let is : total ≡ announced_total rest = omega (arith, whole.whole, length-take total rest, within) in
     let begins : Begins total rest = record { first = whole.first; header = (whole.later.0, (whole.later.1.0, tt)); enough = omega arith; is = is; large = omega arith } in
     let behind : total - 3 ≡ n = omega arith in
     let all : IsBeginning total rest total =

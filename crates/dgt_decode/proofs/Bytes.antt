@@ -1,12 +1,12 @@
--- One more byte, as a reader takes it.
+-- What is held between two pieces.
 use Rattle.std.proofs.Common.{◌≡◌, ℕ, zero, suc, ◌<◌, ◌≤◌, Bool, true, false, cond, List, [], ◌∷◌, ◌++◌, length, get_or, Some, None, refl, sym, subst, arith}
-use Rattle.std.proofs.lemmas.List.{get_or_append_left}
+use Rattle.std.proofs.lemmas.List.{append-nil, get_or_append_left}
 use Rattle.std.proofs.lemmas.Bool.{leb-true}
-use Rattle.dgt_decode.specs.Grammar.{IsSevenBit, Cut, Stray, has_top_bit, lead, segments, total_of, verdict, open_message}
-use Rattle.dgt_decode.specs.Taking.{TakesByte}
+use Rattle.dgt_decode.specs.Grammar.{IsSevenBit, events, has_top_bit, lead, segments, announced_total, verdict, open_message}
 use Rattle.dgt_decode.proofs.Verdicts.{Stage, short, waits, bad, whole, stage_of, verdict-bad, verdict-whole}
 use Rattle.dgt_decode.proofs.More.{IsAlone, IsSevenBit-lead}
-use Rattle.dgt_decode.proofs.Steps.{IsHeld, IsHeld-open, alone_held, first-begins, first-stray, next-begins}
+use Rattle.dgt_decode.proofs.Open.{IsOpen-open, events-of_open}
+use Rattle.dgt_decode.proofs.Steps.{IsHeld, IsHeld-open, alone_held}
 
 -- no bytes are held as they are
 pub nothing_held : IsHeld []
@@ -17,19 +17,9 @@ nothing_held = refl
 pub open-nothing : (kept : List ℕ) → kept ≡ [] → open_message kept ≡ []
 open-nothing kept none = rw none nothing_held
 
--- with nothing held, a byte with a set top bit begins a message
-pub takes-first : (held : List ℕ) (b : ℕ) → length held ≡ 0 → 128 ≤ b → TakesByte held b (b ∷ []) None
-takes-first [] b none top = let g = first-begins b top in record { told = g.told; holds = sym g.leaves }
-takes-first (x ∷ held) b none top = absurd (omega arith)
-
--- with nothing held, a seven-bit byte is stray
-pub takes-stray : (held : List ℕ) (b : ℕ) → length held ≡ 0 → b < 128 → TakesByte held b held (Some (Stray b))
-takes-stray [] b none seven = let g = first-stray b seven in record { told = g.told; holds = sym g.leaves }
-takes-stray (x ∷ held) b none seven = absurd (omega arith)
-
--- with a message held, a byte with a set top bit cuts it off
-pub takes-cut : (held : List ℕ) (b : ℕ) → IsHeld held → 0 < length held → 128 ≤ b → TakesByte held b (b ∷ []) (Some (Cut (length held)))
-takes-cut held b h some top = let g = next-begins held b h some top in record { told = g.told; holds = sym g.leaves }
+-- with what is open no event has come
+pub quiet_open : (s : List ℕ) → events (open_message s ++ []) ≡ []
+quiet_open s = rw (append-nil (open_message s)) (events-of_open (open_message s) (IsOpen-open s))
 
 -- ---- what is held begins a message, and has room for one more byte
 
@@ -58,7 +48,7 @@ pub held_begins_more : (held run : List ℕ) → IsHeld held → 0 < length held
 held_begins_more held run h some = rw (get_or_append_left held run 0 0 some) (held_begins held h some)
 
 -- no header that is held says more than the longest total
-pub held_total : (held : List ℕ) → IsHeld held → 0 < length held → total_of held ≤ 16383
+pub held_total : (held : List ℕ) → IsHeld held → 0 < length held → announced_total held ≤ 16383
 held_total [] h some = absurd (omega arith)
 held_total (b ∷ held) h some =
     let seven = (IsAlone-parts b held (alone_held (b ∷ held) h some).0).1 in

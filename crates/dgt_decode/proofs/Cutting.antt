@@ -1,15 +1,15 @@
 -- A program that cuts a whole list, segment by segment.
-use Rattle.std.proofs.Common.{◌≡◌, ℕ, suc, ◌+◌, ◌-◌, ◌<◌, ◌≤◌, Bool, true, false, cond, List, [], ◌∷◌, ◌++◌, length, take, drop, get_or, Some, None, nat_eq, inl, inr, add-one, refl, sym, ap, subst, ◌∙◌, append_assoc, arith}
+use Rattle.std.proofs.Common.{map, ◌≡◌, ℕ, suc, ◌+◌, ◌-◌, ◌<◌, ◌≤◌, Bool, true, false, cond, List, [], ◌∷◌, ◌++◌, length, take, drop, get_or, Some, None, nat_eq, inl, inr, add-one, refl, sym, ap, subst, ◌∙◌, append_assoc, arith}
 use Rattle.std.specs.Prelude.{if◌then◌else◌}
 use Rattle.std.proofs.lemmas.List.{append-nil, append_cancel_left, drop-drop, length-take, map-append, take_more, take-append-drop}
 use Rattle.std.proofs.lemmas.Bool.{le-leb, leb-true, eq-eqb, ne_eqb, cases_lt}
 use Rattle.std.proofs.Math.Seq.{drop-cons, drop-length}
 use Rattle.dgt_decode.specs.declared.event.Event.{Event as CodeEvent}
 use Rattle.dgt_decode.specs.declared.event.Event.TheVariants as code_events
-use Rattle.dgt_decode.specs.Grammar.{IsSevenBit, Event, BadLength, Stray, Placed, at_place, message_event, total_of, events_behind, strays, has_top_bit, lead, segments, verdict, segment_events, unfinished_part, cut_of, cut_before, events_of, events}
+use Rattle.dgt_decode.specs.Grammar.{IsSevenBit, Event, BadLength, Stray, Placed, at_place, message_event, announced_total, events_behind, strays, has_top_bit, lead, segments, verdict, segment_events, unfinished_part, cut_of, cut_before, segments_events, events}
 use Rattle.dgt_decode.specs.Feeding.{event_content}
 use Rattle.dgt_decode.specs.Laws.{IsSegment}
-use Rattle.dgt_decode.specs.Placing.{placed_content, placed_contents}
+use Rattle.dgt_decode.specs.Taking.{placed_content}
 use Rattle.dgt_decode.proofs.Verdicts.{verdict-bad, verdict-waits, verdict-whole}
 use Rattle.dgt_decode.proofs.Places.{events_behind-append, events_behind-events_behind, events_behind-zero, strays-append}
 use Rattle.dgt_decode.proofs.Cuts.{lead-append, segments-append}
@@ -53,15 +53,15 @@ segments_behind bytes i is =
 -- ---- The verdict of a segment whose total is t
 
 -- a total below 3 is told at the third byte
-pub bad_here : (g : List ℕ) (t : ℕ) → t ≡ total_of g → 3 ≤ length g → t < 3 → Some (at_place 3 BadLength) ≡ verdict g
+pub bad_here : (g : List ℕ) (t : ℕ) → t ≡ announced_total g → 3 ≤ length g → t < 3 → Some (at_place 3 BadLength) ≡ verdict g
 bad_here g t is long small = sym (verdict-bad g long (omega (arith, is)))
 
 -- a segment shorter than its total tells nothing
-pub waits_here : (g : List ℕ) (t : ℕ) → t ≡ total_of g → length g < t → None ≡ verdict g
+pub waits_here : (g : List ℕ) (t : ℕ) → t ≡ announced_total g → length g < t → None ≡ verdict g
 waits_here g t is less = sym (verdict-waits g (omega (arith, is)))
 
 -- a whole message is told at its total
-pub whole_here : (g : List ℕ) (t : ℕ) (event : Event) → t ≡ total_of g → 3 ≤ t → t ≤ length g → event ≡ message_event (take t g) → Some (at_place t event) ≡ verdict g
+pub whole_here : (g : List ℕ) (t : ℕ) (event : Event) → t ≡ announced_total g → 3 ≤ t → t ≤ length g → event ≡ message_event (take t g) → Some (at_place t event) ≡ verdict g
 whole_here g t event is large enough tells = rw (tells, is) (sym (verdict-whole g (omega (arith, is)) (omega (arith, is))))
 
 -- ---- Strays
@@ -76,13 +76,13 @@ strays_more before i bytes within =
 
 -- one more Stray is told
 pub told_stray : (old told new : List (ℕ × CodeEvent)) (before i : ℕ) (bytes : List ℕ) → i < length bytes
-    → placed_contents told ≡ placed_contents old ++ events_behind before (strays (take i bytes))
+    → map placed_content told ≡ map placed_content old ++ events_behind before (strays (take i bytes))
     → new ≡ told ++ (before + i + 1, code_events.Stray (get_or bytes i 0)) ∷ []
-    → placed_contents new ≡ placed_contents old ++ events_behind before (strays (take (i + 1) bytes))
+    → map placed_content new ≡ map placed_content old ++ events_behind before (strays (take (i + 1) bytes))
 told_stray old told new before i bytes within so_far pushed =
     let one : List (ℕ × CodeEvent) = (before + i + 1, code_events.Stray (get_or bytes i 0)) ∷ [] in
     rw (pushed, map-append placed_content told one, so_far, ← strays_more before i bytes within)
-    (append_assoc (placed_contents old) (events_behind before (strays (take i bytes))) (placed_contents one))
+    (append_assoc (map placed_content old) (events_behind before (strays (take i bytes))) (map placed_content one))
 
 -- ---- A segment
 
@@ -100,12 +100,12 @@ pub told_verdict : (old mid new : List (ℕ × CodeEvent)) (before place : ℕ) 
     → Some (at_place place (event_content event)) ≡ verdict g
     → mid ≡ old ++ (before + place, event) ∷ []
     → rest ≡ drop place g
-    → placed_contents new ≡ placed_contents mid ++ events_behind (before + place) (strays rest)
-    → placed_contents new ≡ placed_contents old ++ events_behind before (segment_events (verdict g) g ++ events_behind (length g) (cut_after is_last (unfinished_part (verdict g) g)))
+    → map placed_content new ≡ map placed_content mid ++ events_behind (before + place) (strays rest)
+    → map placed_content new ≡ map placed_content old ++ events_behind before (segment_events (verdict g) g ++ events_behind (length g) (cut_after is_last (unfinished_part (verdict g) g)))
 told_verdict old mid new before place event g rest is_last is pushed same told =
     let one : List (ℕ × CodeEvent) = (before + place, event) ∷ [] in
     rw (told, pushed, map-append placed_content old one, same, ← is, cut_after-nothing is_last, append-nil (events_behind place (strays (drop place g))), events_behind-events_behind before place (strays (drop place g)))
-    (append_assoc (placed_contents old) (placed_contents one) (events_behind (before + place) (strays (drop place g))))
+    (append_assoc (map placed_content old) (map placed_content one) (events_behind (before + place) (strays (drop place g))))
 
 -- ---- The whole list
 
@@ -113,7 +113,7 @@ told_verdict old mid new before place event g rest is_last is pushed same told =
 pub record HasTold (bytes : List ℕ) (start : ℕ) (told : List Placed) : Type 0 where
   pub within : start ≤ length bytes
   pub no_lead : lead (drop start bytes) ≡ []
-  pub so_far : told ++ events_behind start (events_of (segments (drop start bytes))) ≡ events bytes
+  pub so_far : told ++ events_behind start (segments_events (segments (drop start bytes))) ≡ events bytes
 
 -- the Strays of the lead are told
 pub told_lead : (bytes : List ℕ) (start : ℕ) (told : List Placed) → start ≤ length bytes → take start bytes ≡ lead bytes
@@ -210,6 +210,6 @@ told_segment bytes start count end told new segment h more n e within pushed =
       no_lead = none;
       so_far =
           rw (pushed, n.is, ← cut_here bytes end u within none)
-          (regrouped told (segment_events (verdict g) g) (cut_before (segments (drop end bytes)) u) (events_of (segments (drop end bytes))) start (length g) end place
-          ∙ sym (ap (λ (gs : List (List ℕ)). told ++ events_behind start (events_of gs)) here) ∙ h.so_far);
+          (regrouped told (segment_events (verdict g) g) (cut_before (segments (drop end bytes)) u) (segments_events (segments (drop end bytes))) start (length g) end place
+          ∙ sym (ap (λ (gs : List (List ℕ)). told ++ events_behind start (segments_events gs)) here) ∙ h.so_far);
     }

@@ -3,8 +3,8 @@ use Rattle.std.proofs.Common.{◌≡◌, ℕ, Bool, true, false, cond, List, [],
 use Rattle.std.specs.List.{AllByRecursion, concat}
 use Rattle.std.proofs.lemmas.List.{append-nil}
 use Rattle.std.proofs.lemmas.Bool.{leb-true}
-use Rattle.dgt_decode.specs.Grammar.{IsSevenBit, Placed, events_behind, strays, has_top_bit, lead, segments, verdict, segment_events, unfinished_part, cut_of, events_of, open_segment, events, open_message}
-use Rattle.dgt_decode.specs.Laws.{IsSegment, OneCut}
+use Rattle.dgt_decode.specs.Grammar.{IsSevenBit, Placed, events_behind, strays, has_top_bit, lead, segments, verdict, segment_events, unfinished_part, cut_of, segments_events, open_segment, events, open_message}
+use Rattle.dgt_decode.specs.Laws.{CutsInto, IsSegment}
 use Rattle.dgt_decode.proofs.Cuts.{lead-append, segments-append}
 use Rattle.dgt_decode.proofs.Feeds.{nil_left}
 use Rattle.dgt_decode.proofs.More.{IsAlone, IsAlone-from, IsSevenBit-lead, lead-seven, segments-seven}
@@ -57,16 +57,16 @@ segments-divided : (front : List ℕ) (parts : List (List ℕ)) → IsSevenBit f
 segments-divided front parts seven h =
     rw (segments-append front (concat parts), segments-seven front seven) (segments-parts parts h)
 
--- the cut is a division, and the only one
-pub one_cut : OneCut
-one_cut s =
-    record {
-      divides = record { front_is = IsSevenBit-lead s; parts_are = are_segments s; in_a_row = sym (whole s) };
-      only = λ front parts d. (
-        sym (lead-divided front parts d.front_is d.parts_are) ∙ ap (λ (x : List ℕ). lead x) d.in_a_row,
-        sym (segments-divided front parts d.front_is d.parts_are) ∙ ap (λ (x : List ℕ). segments x) d.in_a_row,
-      );
-    }
+-- the cut is a division
+pub cut_divides : (s : List ℕ) → CutsInto (lead s) (segments s) s
+cut_divides s = record { front_is = IsSevenBit-lead s; parts_are = are_segments s; in_a_row = sym (whole s) }
+
+-- and the only one
+pub one_cut : (s front : List ℕ) (parts : List (List ℕ)) → CutsInto front parts s → (front ≡ lead s) × (parts ≡ segments s)
+one_cut s front parts d = (
+  sym (lead-divided front parts d.front_is d.parts_are) ∙ ap (λ (x : List ℕ). lead x) d.in_a_row,
+  sym (segments-divided front parts d.front_is d.parts_are) ∙ ap (λ (x : List ℕ). segments x) d.in_a_row,
+)
 
 -- ---- bytes without an event
 
@@ -91,7 +91,7 @@ nil_by None g e = refl
 nil_by (Some x) g e = absurd cc
 
 -- segments without an event are one unfinished segment at most
-quiet_parts : (parts : List (List ℕ)) → AllByRecursion IsSegment parts → events_of parts ≡ [] → open_segment parts ≡ concat parts
+quiet_parts : (parts : List (List ℕ)) → AllByRecursion IsSegment parts → segments_events parts ≡ [] → open_segment parts ≡ concat parts
 quiet_parts [] h e = refl
 quiet_parts (g ∷ []) h e =
     let none : verdict g ≡ None = nil_by (verdict g) g (nil_left (segment_events (verdict g) g) _ e) in
@@ -108,6 +108,6 @@ pub quiet_held : (s : List ℕ) → events s ≡ [] → open_message s ≡ s
 unfolding events open_message
 quiet_held s e =
     let no_lead : lead s ≡ [] = nil_strays (lead s) (nil_left (strays (lead s)) _ e) in
-    let no_events : events_of (segments s) ≡ [] = nil_raised (length (lead s)) (events_of (segments s)) (nil_right (strays (lead s)) _ e) in
+    let no_events : segments_events (segments s) ≡ [] = nil_raised (length (lead s)) (segments_events (segments s)) (nil_right (strays (lead s)) _ e) in
     let all : concat (segments s) ≡ s = sym (whole s ∙ rw no_lead refl) in
     quiet_parts (segments s) (are_segments s) no_events ∙ all

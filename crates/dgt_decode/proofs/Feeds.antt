@@ -1,10 +1,10 @@
 -- The first event of a piece behind what is held.
-use Rattle.std.proofs.Common.{◌≡◌, ℕ, ◌+◌, ◌-◌, ◌≤◌, List, [], ◌∷◌, ◌++◌, length, take, drop, Option, Some, None, refl, sym, ap, ◌∙◌, append_assoc, arith, inl, inr}
+use Rattle.std.proofs.Common.{◌≡◌, ℕ, ◌+◌, ◌-◌, ◌<◌, ◌≤◌, List, [], ◌∷◌, ◌++◌, length, take, drop, Option, Some, None, refl, sym, ap, ◌∙◌, append_assoc, arith, inl, inr}
 use Rattle.std.proofs.lemmas.List.{take-append-drop}
-use Rattle.std.proofs.Math.Seq.{take-add}
+use Rattle.std.proofs.Math.Seq.{take-add, take-length}
 use Rattle.std.proofs.lemmas.Bool.{cases_order}
 use Rattle.dgt_decode.specs.Grammar.{Event, Placed, at_place, events}
-use Rattle.dgt_decode.specs.Feeding.{FirstEvent}
+use Rattle.dgt_decode.specs.Feeding.{FirstEvent, at_place_if_any}
 use Rattle.dgt_decode.proofs.More.{events-append}
 
 -- a list without elements has none at its front
@@ -40,6 +40,14 @@ pub FirstEvent-some : (held piece : List ℕ) (before used : ℕ) (event : Event
     → FirstEvent held piece used (Some event)
 FirstEvent-some held piece before used event next within quiet now =
     (within, now, λ k h. let below : k ≤ before = omega arith in quiet-shorter held piece k before below quiet)
+
+-- A run of which only the last byte may make an event has this first event, if any.
+pub first_of_run : (held run : List ℕ) (event : Option Event) → 0 < length run → events (held ++ take (length run - 1) run) ≡ []
+    → events (held ++ run) ≡ at_place_if_any (length held + length run) event → FirstEvent held run (length run) event
+first_of_run held run None some quiet told = (refl, told)
+first_of_run held run (Some event) some quiet told =
+    FirstEvent-some held run (length run - 1) (length run) event (omega (arith, some)) (omega arith) quiet
+    (rw (take-length run) told)
 
 -- one event at one place is one event
 same_event : (es : List Placed) (x y : Event) (m n : ℕ) → es ≡ at_place m x ∷ [] → es ≡ at_place n y ∷ [] → (let o : Option Event = Some x in o) ≡ Some y

@@ -1,13 +1,17 @@
--- A loop over the bytes of a piece.
-use Rattle.std.proofs.Common.{◌≡◌, ℕ, ◌+◌, ◌-◌, ◌<◌, List, [], ◌∷◌, ◌++◌, length, take, get_or, Option, Some, None, refl, sym, ap, ◌∙◌, append_assoc, arith}
-use Rattle.std.proofs.lemmas.List.{append-nil, length-append, length-take, take_more}
+-- A loop over the bytes of a piece, which takes them one by one or run by run.
+use Rattle.std.proofs.Common.{◌≡◌, ℕ, ◌+◌, ◌-◌, ◌<◌, ◌≤◌, true, false, List, [], ◌∷◌, ◌++◌, length, take, drop, get_or, option_map, Option, Some, None, refl, sym, ap, ◌∙◌, append_assoc, arith}
+use Rattle.std.specs.Prelude.{is_some}
+use Rattle.std.proofs.Math.Seq.{drop-cons, take-add, take-length}
+use Rattle.dgt_decode.specs.declared.event.Found.{Found}
+use Rattle.dgt_decode.specs.declared.event.Found.TheVariants as found
+use Rattle.std.proofs.lemmas.List.{append-nil, length-append, length-drop, length-take, length-take-le, take-take}
 use Rattle.dgt_decode.specs.Grammar.{Event, at_place, events_behind, events, open_message}
-use Rattle.dgt_decode.specs.Feeding.{FirstEvent, at_place_if_any}
-use Rattle.dgt_decode.specs.Taking.{TakesByte}
+use Rattle.dgt_decode.specs.Feeding.{FirstEvent, IsWholeMessage, at_place_if_any, event_found_in}
+use Rattle.dgt_decode.specs.Taking.{Frames, FramesFront}
 use Rattle.dgt_decode.proofs.More.{events-append}
 use Rattle.dgt_decode.proofs.Open.{events-of_open, open-append, length-open}
 use Rattle.dgt_decode.proofs.Steps.{IsHeld, IsOpen-held}
-use Rattle.dgt_decode.proofs.Feeds.{FirstEvent-some}
+use Rattle.dgt_decode.proofs.Feeds.{FirstEvent-some, first_of_run}
 use Rattle.dgt_decode.proofs.Division.{quiet_held}
 
 -- an event behind bytes stands at the sum of the places
@@ -69,32 +73,105 @@ pub run_came : (held piece : List ℕ) (i j : ℕ) (now run : List ℕ) → IsRu
 run_came held piece i j now run r t =
     rw (t.holds, quiet_held (held ++ take i piece) t.quiet, r) (append_assoc held (take i piece) run)
 
--- ---- one byte
+-- ---- A step of a loop
 
--- one byte is a run
-is_run : (piece : List ℕ) (i : ℕ) → i < length piece → IsRun piece i (get_or piece i 0 ∷ []) (i + 1)
-is_run piece i within = take_more piece i 0 within
+-- one byte is a step
+pub one_byte : (kept piece : List ℕ) (i : ℕ) (new : List ℕ) (what : Option Found) → i < length piece → Frames kept (get_or piece i 0 ∷ []) new what
+    → FramesFront kept (drop i piece) 1 new what
+one_byte kept piece i new what within byte =
+    let front : take 1 (drop i piece) ≡ get_or piece i 0 ∷ [] = rw (drop-cons piece i 0 within) refl in
+    record {
+      some = omega arith;
+      within = omega (arith, length-drop i piece);
+      frames = rw front byte;
+    }
 
--- a byte without an event goes on
-pub byte_quiet : (held piece : List ℕ) (i : ℕ) (now new : List ℕ) → i < length piece → HasTaken held piece i now
-    → TakesByte now (get_or piece i 0) new None → HasTaken held piece (i + 1) new
-byte_quiet held piece i now new within t byte =
-    rw byte.holds (run_quiet held piece i (i + 1) now (get_or piece i 0 ∷ []) (is_run piece i within) t byte.told)
+-- the first bytes of a front are those of the whole
+pub front_of_front : (kept rest : List ℕ) (n used : ℕ) (new : List ℕ) (what : Option Found) → FramesFront kept (take n rest) used new what → FramesFront kept rest used new what
+front_of_front kept rest n used new what f =
+    let up_to = length-take n rest in
+    let same : take used (take n rest) ≡ take used rest = take-take used n rest (omega (arith, f.within, up_to)) in
+    record {
+      some = f.some;
+      within = omega (arith, f.within, up_to);
+      frames = rw same at f.frames;
+    }
 
--- what is held after a byte
-pub byte_holds : (held piece : List ℕ) (i : ℕ) (now new : List ℕ) (event : Option Event) → i < length piece → HasTaken held piece i now
-    → TakesByte now (get_or piece i 0) new event → new ≡ open_message (held ++ take (i + 1) piece)
-byte_holds held piece i now new event within t byte =
-    byte.holds ∙ run_holds held piece i (i + 1) now (get_or piece i 0 ∷ []) (is_run piece i within) t
+-- A framer that kept these bytes has taken the first ones of a piece without an event, and takes some more.
+module _ (kept piece : List ℕ) (at used : ℕ) (now new : List ℕ) (what : Option Found) (taken : HasTaken (open_message kept) piece at (open_message now)) (step : FramesFront now (drop at piece) used new what) where
+  next : (n : ℕ) → IsRun piece at (take n (drop at piece)) (at + n)
+  next n = take-add at n piece
 
--- what is held and a byte are what was held and the bytes to this one
-pub byte_came : (held piece : List ℕ) (i : ℕ) (now : List ℕ) → i < length piece → HasTaken held piece i now → now ++ get_or piece i 0 ∷ [] ≡ held ++ take (i + 1) piece
-byte_came held piece i now within t = run_came held piece i (i + 1) now (get_or piece i 0 ∷ []) (is_run piece i within) t
+  -- it stays within the piece
+  pub step_within : at ≤ length piece → at + used ≤ length piece
+  step_within within = omega (arith, step.within, length-drop at piece, within)
 
--- the byte that makes the first event ends the call
-pub byte_first : (held piece : List ℕ) (i : ℕ) (now new : List ℕ) (event : Event) → i < length piece → HasTaken held piece i now
-    → TakesByte now (get_or piece i 0) new (Some event) → FirstEvent held piece (i + 1) (Some event)
-byte_first held piece i now new event within t byte =
-    let place : length (held ++ take i piece) + 1 ≡ length held + (i + 1) = omega (arith, length-append held (take i piece), length-take i piece) in
-    FirstEvent-some held piece i (i + 1) event refl (omega arith) t.quiet
-    (run_told held piece i (i + 1) 1 now (get_or piece i 0 ∷ []) (Some event) (is_run piece i within) t byte.told ∙ ap (λ (n : ℕ). at_place n event ∷ []) place)
+  -- what it holds then
+  pub step_held : open_message new ≡ open_message (open_message kept ++ take (at + used) piece)
+  step_held = step.frames.held ∙ run_holds (open_message kept) piece at (at + used) (open_message now) (take used (drop at piece)) (next used) taken
+
+  -- which bytes came
+  pub step_came : what ≡ Some found.Message → new ≡ open_message kept ++ take (at + used) piece
+  step_came e = step.frames.came e ∙ run_came (open_message kept) piece at (at + used) (open_message now) (take used (drop at piece)) (next used) taken
+
+  -- the step that makes the first event ends the call
+  event_first : (event : Event) → at ≤ length piece → FirstEvent (open_message now) (take used (drop at piece)) (length (take used (drop at piece))) (Some event)
+      → FirstEvent (open_message kept) piece (at + used) (Some event)
+  event_first event within first =
+      let run = take used (drop at piece) in
+      let held = open_message kept in
+      let count : length run ≡ used = length-take-le used (drop at piece) step.within in
+      let place : length (held ++ take at piece) + used ≡ length held + (at + used) = omega (arith, length-append held (take at piece), length-take at piece, within) in
+      let last : at + used ≡ at + (used - 1) + 1 = omega (arith, step.some) in
+      let early : take (used - 1) run ≡ take (used - 1) (drop at piece) = take-take (used - 1) used (drop at piece) (omega arith) in
+      let quiet : events (open_message now ++ take (used - 1) (drop at piece)) ≡ [] = rw early at (first.2 (used - 1) (omega (arith, count, step.some))) in
+      let told : events (open_message now ++ run) ≡ at_place (length (open_message now) + used) event ∷ [] =
+      ap (λ x. events (open_message now ++ x)) (sym (take-length run)) ∙ first.1 ∙ ap (λ n. at_place (length (open_message now) + n) event ∷ []) count in
+      FirstEvent-some held piece (at + (used - 1)) (at + used) event last (step_within within)
+      (run_told held piece at (at + (used - 1)) 0 (open_message now) (take (used - 1) (drop at piece)) None (next (used - 1)) taken quiet)
+      (run_told held piece at (at + used) used (open_message now) run (Some event) (next used) taken told ∙ ap (λ (n : ℕ). at_place n event ∷ []) place)
+
+-- with something found
+pub found_first : (kept piece : List ℕ) (at used : ℕ) (now new : List ℕ) (what : Option Found) → HasTaken (open_message kept) piece at (open_message now) → FramesFront now (drop at piece) used new what
+    → at ≤ length piece → is_some what ≡ true → FirstEvent (open_message kept) piece (at + used) (option_map (event_found_in new) what)
+found_first kept piece at used now new None taken step within some = absurd cc
+found_first kept piece at used now new (Some it) taken step within some =
+    event_first kept piece at used now new (Some it) taken step (event_found_in new it) within step.frames.first
+
+-- with nothing found
+pub found_none : (kept piece : List ℕ) (at used : ℕ) (now new : List ℕ) (what : Option Found) → HasTaken (open_message kept) piece at (open_message now) → FramesFront now (drop at piece) used new what
+    → is_some what ≡ false → HasTaken (open_message kept) piece (at + used) (open_message new)
+found_none kept piece at used now new None taken step none =
+    rw step.frames.held (run_quiet (open_message kept) piece at (at + used) (open_message now) (take used (drop at piece)) (take-add at used piece) taken step.frames.first.1)
+found_none kept piece at used now new (Some it) taken step none = absurd cc
+
+-- ---- What a loop over bytes has framed
+
+-- nothing so far
+pub frames_none : (kept bytes now : List ℕ) (n : ℕ) → 0 < n → n ≤ length bytes → HasTaken (open_message kept) bytes n (open_message now) → FramesFront kept bytes n now None
+frames_none kept bytes now n some within taken =
+    record {
+      some = some;
+      within = within;
+      frames = record { first = (refl, taken.quiet); held = taken.holds; whole = λ e. absurd cc; came = λ e. absurd cc };
+    }
+
+-- something at its last byte
+pub frames_found : (kept bytes : List ℕ) (n : ℕ) (new : List ℕ) (it : Found) → FirstEvent (open_message kept) bytes n (Some (event_found_in new it)) → 0 < n
+    → open_message new ≡ open_message (open_message kept ++ take n bytes) → (it ≡ found.Message → IsWholeMessage new) → (it ≡ found.Message → new ≡ open_message kept ++ take n bytes)
+    → FramesFront kept bytes n new (Some it)
+frames_found kept bytes n new it first some held whole came =
+    let run = take n bytes in
+    let count : length run ≡ n = length-take-le n bytes first.0 in
+    let early : take (n - 1) run ≡ take (n - 1) bytes = take-take (n - 1) n bytes (omega arith) in
+    record {
+      some = some;
+      within = first.0;
+      frames = record {
+        first = first_of_run (open_message kept) run (Some (event_found_in new it)) (omega (arith, count, some))
+            (rw (count, early) (first.2 (n - 1) (omega (arith, some)))) (rw count first.1);
+        held = held;
+        whole = λ e. whole cc;
+        came = λ e. came cc;
+      };
+    }

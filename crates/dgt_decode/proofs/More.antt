@@ -2,7 +2,7 @@
 use Rattle.std.proofs.Common.{◌≡◌, ℕ, suc, ◌+◌, ◌-◌, ◌≤◌, Bool, true, false, cond, List, [], ◌∷◌, ◌++◌, length, drop, Option, Some, None, refl, sym, ap, ◌∙◌, append_assoc, arith}
 use Rattle.std.proofs.lemmas.List.{append-nil, length-append, drop-append-le, length-drop}
 use Rattle.std.proofs.lemmas.Bool.{le-leb, lt-leb, leb-true, leb-false}
-use Rattle.dgt_decode.specs.Grammar.{IsSevenBit, Placed, events_behind, strays, has_top_bit, lead, segments, verdict, unfinished_part, cut_of, cut_before, events_of, open_segment, events, open_message}
+use Rattle.dgt_decode.specs.Grammar.{IsSevenBit, Placed, events_behind, strays, has_top_bit, lead, segments, verdict, unfinished_part, cut_of, cut_before, segments_events, open_segment, events, open_message}
 use Rattle.dgt_decode.proofs.Places.{events_behind-append, events_behind-events_behind, events_behind-zero, strays-append}
 use Rattle.dgt_decode.proofs.Cuts.{lead_with, segments_with, lead-append, segments-append}
 use Rattle.dgt_decode.proofs.Verdicts.{verdict-append}
@@ -112,38 +112,38 @@ regroup place d n l a b e same =
 
 -- more bytes behind a last segment that is finished
 last-finished : (g p : List ℕ) (x : Placed) → verdict g ≡ Some x
-    → events_of ((g ++ lead p) ∷ segments p) ≡ events_of (g ∷ []) ++ events_behind (length g) (events p)
+    → segments_events ((g ++ lead p) ∷ segments p) ≡ segments_events (g ∷ []) ++ events_behind (length g) (events p)
 unfolding events
 last-finished g p x e =
     let stays = verdict-append g (lead p) x e in
     let within = stays.1 in
     let behind : x.place + length (drop x.place g) ≡ length g = omega (arith, length-drop x.place g) in
     rw (stays.0, e, cut_before-nothing (segments p), drop-append-le x.place g (lead p) within, strays-append (drop x.place g) (lead p), length-append g (lead p), append-nil (events_behind x.place (strays (drop x.place g))))
-    (ap (λ (zs : List Placed). x ∷ zs) (regroup x.place (length (drop x.place g)) (length g) (length (lead p)) (strays (drop x.place g)) (strays (lead p)) (events_of (segments p)) behind))
+    (ap (λ (zs : List Placed). x ∷ zs) (regroup x.place (length (drop x.place g)) (length g) (length (lead p)) (strays (drop x.place g)) (strays (lead p)) (segments_events (segments p)) behind))
 
 -- more bytes behind a last segment that is open
 last-open : (g p : List ℕ) → IsAlone g → verdict g ≡ None
-    → events_of ((g ++ lead p) ∷ segments p) ≡ events_of (g ∷ []) ++ events_behind 0 (events (g ++ p))
+    → segments_events ((g ++ lead p) ∷ segments p) ≡ segments_events (g ∷ []) ++ events_behind 0 (events (g ++ p))
 unfolding events
 last-open g p alone e =
     rw (lead-append g p, segments-append g p, alone.no_lead, alone.one, e) (simp events_behind-zero)
 
 -- more bytes behind segments
-pub events_of-with : (p g : List ℕ) (gs : List (List ℕ)) → AreAlone (g ∷ gs)
-    → events_of (segments_with p (g ∷ gs)) ≡ events_of (g ∷ gs) ++ events_behind (settled_of (g ∷ gs)) (events (open_segment (g ∷ gs) ++ p))
-events_of-with p g [] alone = go (verdict g) refl
+pub segments_events-with : (p g : List ℕ) (gs : List (List ℕ)) → AreAlone (g ∷ gs)
+    → segments_events (segments_with p (g ∷ gs)) ≡ segments_events (g ∷ gs) ++ events_behind (settled_of (g ∷ gs)) (events (open_segment (g ∷ gs) ++ p))
+segments_events-with p g [] alone = go (verdict g) refl
   where
     go : (v : Option Placed) → verdict g ≡ v
-        → events_of ((g ++ lead p) ∷ segments p) ≡ events_of (g ∷ []) ++ events_behind (settled_by v g) (events (unfinished_part v g ++ p))
+        → segments_events ((g ++ lead p) ∷ segments p) ≡ segments_events (g ∷ []) ++ events_behind (settled_by v g) (events (unfinished_part v g ++ p))
     go None e = last-open g p alone.0 e
     go (Some x) e = last-finished g p x e
-events_of-with p g (h ∷ gs) alone =
-    rw (cut_before-with p h gs (unfinished_part (verdict g) g), events_of-with p h gs alone.1)
+segments_events-with p g (h ∷ gs) alone =
+    rw (cut_before-with p h gs (unfinished_part (verdict g) g), segments_events-with p h gs alone.1)
     (simp (events_behind-append, events_behind-events_behind, append_assoc))
 
 -- the events of a list by its cut
 abbrev events_by_cut : List ℕ → List (List ℕ) → List Placed
-events_by_cut front gs = strays front ++ events_behind (length front) (events_of gs)
+events_by_cut front gs = strays front ++ events_behind (length front) (segments_events gs)
 
 -- more bytes behind a lead and segments
 events_by_cut-with : (p front : List ℕ) (gs : List (List ℕ)) → AreAlone gs
@@ -152,11 +152,11 @@ events_by_cut-with : (p front : List ℕ) (gs : List (List ℕ)) → AreAlone gs
 unfolding events
 events_by_cut-with p front [] alone =
     let same : length front + 0 ≡ length front = omega arith in
-    rw (strays-append front (lead p), length-append front (lead p), same, events_behind-append (length front) (strays (lead p)) (events_behind (length (lead p)) (events_of (segments p))), events_behind-events_behind (length front) (length (lead p)) (events_of (segments p)), append-nil (strays front))
-    (append_assoc (strays front) (events_behind (length front) (strays (lead p))) (events_behind (length front + length (lead p)) (events_of (segments p))))
+    rw (strays-append front (lead p), length-append front (lead p), same, events_behind-append (length front) (strays (lead p)) (events_behind (length (lead p)) (segments_events (segments p))), events_behind-events_behind (length front) (length (lead p)) (segments_events (segments p)), append-nil (strays front))
+    (append_assoc (strays front) (events_behind (length front) (strays (lead p))) (events_behind (length front + length (lead p)) (segments_events (segments p))))
 events_by_cut-with p front (g ∷ gs) alone =
-    rw (events_of-with p g gs alone, events_behind-append (length front) (events_of (g ∷ gs)) (events_behind (settled_of (g ∷ gs)) (events (open_segment (g ∷ gs) ++ p))), events_behind-events_behind (length front) (settled_of (g ∷ gs)) (events (open_segment (g ∷ gs) ++ p)))
-    (sym (append_assoc (strays front) (events_behind (length front) (events_of (g ∷ gs))) (events_behind (length front + settled_of (g ∷ gs)) (events (open_segment (g ∷ gs) ++ p)))))
+    rw (segments_events-with p g gs alone, events_behind-append (length front) (segments_events (g ∷ gs)) (events_behind (settled_of (g ∷ gs)) (events (open_segment (g ∷ gs) ++ p))), events_behind-events_behind (length front) (settled_of (g ∷ gs)) (events (open_segment (g ∷ gs) ++ p)))
+    (sym (append_assoc (strays front) (events_behind (length front) (segments_events (g ∷ gs))) (events_behind (length front + settled_of (g ∷ gs)) (events (open_segment (g ∷ gs) ++ p)))))
 
 -- how many bytes stand before the open message
 pub settled : (s : List ℕ) → length s - length (open_message s) ≡ length (lead s) + settled_of (segments s)

@@ -8,9 +8,9 @@ use Rattle.std.proofs.Math.Seq.{drop-length}
 use Rattle.dgt_message.specs.Content.{Content, IsMessage}
 use Rattle.dgt_message.specs.Reading.{reading}
 use Rattle.dgt_message.specs.Spelling.{Spells, spelling}
-use Rattle.dgt_decode.specs.Grammar.{Message, Placed, events_behind, lead, segments, message_event, cut_of, events_of, events, open_message}
-use Rattle.dgt_decode.specs.Feeding.{IsWhole}
-use Rattle.dgt_decode.specs.Laws.{Sent, IsSent, sent_bytes, arrivals, Recovery, SpellingIsRead}
+use Rattle.dgt_decode.specs.Grammar.{Message, Placed, events_behind, lead, segments, message_event, cut_of, segments_events, events, open_message}
+use Rattle.dgt_decode.specs.Feeding.{IsWholeMessage}
+use Rattle.dgt_decode.specs.Laws.{Sent, sent_bytes, arrivals, SpellingIsRead}
 use Rattle.dgt_decode.proofs.Places.{events_behind-append, events_behind-events_behind, events_behind-zero}
 use Rattle.dgt_decode.proofs.Cuts.{lead-append, segments-append}
 use Rattle.dgt_decode.proofs.More.{IsAlone, events-append, cut_before-nothing}
@@ -29,11 +29,11 @@ AreSpelled = (said : Content) → IsMessage said → Spells said (spelling said)
 
 -- the bytes of one message, which make it known
 record IsRead (m : Sent) : Type 0 where
-  whole : IsWhole m.bytes
+  whole : IsWholeMessage m.bytes
   tells : message_event m.bytes ≡ Message m.said
 
 -- a message that is spelled is read
-is_read : AreRead → (m : Sent) → IsSent m → IsRead m
+is_read : AreRead → (m : Sent) → Spells m.said m.bytes → IsRead m
 is_read reads m h =
     record {
       whole = record {
@@ -46,7 +46,7 @@ is_read reads m h =
     }
 
 -- and so are several
-are_read : AreRead → (ms : List Sent) → AllByRecursion IsSent ms → AllByRecursion IsRead ms
+are_read : AreRead → (ms : List Sent) → AllByRecursion (λ m. Spells m.said m.bytes) ms → AllByRecursion IsRead ms
 are_read reads [] h = tt
 are_read reads (m ∷ ms) h = (is_read reads m h.0, are_read reads ms h.1)
 
@@ -78,10 +78,10 @@ segments-sent (m ∷ ms) h =
     ∙ ap (λ (gs : List (List ℕ)). m.bytes ∷ gs) (segments-sent ms h.1)
 
 -- their events are the messages
-events_of-spellings : (ms : List Sent) → AllByRecursion IsRead ms → events_of (spellings ms) ≡ arrivals ms
-events_of-spellings [] h = refl
-events_of-spellings (m ∷ ms) h =
-    rw (verdict-of_whole m.bytes h.0.whole, drop-length m.bytes, cut_before-nothing (spellings ms), events_of-spellings ms h.1, h.0.tells) refl
+segments_events-spellings : (ms : List Sent) → AllByRecursion IsRead ms → segments_events (spellings ms) ≡ arrivals ms
+segments_events-spellings [] h = refl
+segments_events-spellings (m ∷ ms) h =
+    rw (verdict-of_whole m.bytes h.0.whole, drop-length m.bytes, cut_before-nothing (spellings ms), segments_events-spellings ms h.1, h.0.tells) refl
 
 -- ---- Behind any bytes
 
@@ -90,10 +90,10 @@ behind_open : (o : List ℕ) → IsOpen o → (m : Sent) (ms : List Sent) → Al
     → events (o ++ sent_bytes (m ∷ ms)) ≡ events_behind (length o) (cut_of o ++ arrivals (m ∷ ms))
 unfolding events
 behind_open o nothing m ms h =
-    rw (lead-sent (m ∷ ms) h, segments-sent (m ∷ ms) h, events_of-spellings (m ∷ ms) h) refl
+    rw (lead-sent (m ∷ ms) h, segments-sent (m ∷ ms) h, segments_events-spellings (m ∷ ms) h) refl
 behind_open o (waiting g alone e) m ms h =
     rw (lead-before g (sent_bytes (m ∷ ms)) alone, segments-before g (sent_bytes (m ∷ ms)) alone (lead-sent (m ∷ ms) h), segments-sent (m ∷ ms) h, events_behind-zero)
-    (rw (e, events_of-spellings (m ∷ ms) h) refl)
+    (rw (e, segments_events-spellings (m ∷ ms) h) refl)
 
 -- behind any bytes
 events-sent : (s : List ℕ) (m : Sent) (more : List Sent) → AllByRecursion IsRead (m ∷ more) →
@@ -110,7 +110,7 @@ events-sent s m more h =
     ∙ sym (append_assoc (events s) (events_behind (length s) a) (events_behind (length s) b))
 
 -- a whole message behind what is open leaves nothing open
-behind_whole : (o w : List ℕ) → IsOpen o → IsWhole w → open_message (o ++ w) ≡ []
+behind_whole : (o w : List ℕ) → IsOpen o → IsWholeMessage w → open_message (o ++ w) ≡ []
 unfolding open_message
 behind_whole o w nothing whole = whole_open w whole
 behind_whole o w (waiting g before e) whole =
@@ -130,7 +130,10 @@ open-sent s m (k ∷ more) h =
 -- ---- The laws
 
 -- both of messages that are spelled
-pub recovery : AreRead → Recovery
+pub recovery : AreRead → (s : List ℕ) (m : Sent) (more : List Sent) → AllByRecursion (λ m. Spells m.said m.bytes) (m ∷ more) →
+    (events (s ++ sent_bytes (m ∷ more))
+    ≡ events s ++ events_behind (length s) (cut_of (open_message s)) ++ events_behind (length s) (arrivals (m ∷ more)))
+    × (open_message (s ++ sent_bytes (m ∷ more)) ≡ [])
 recovery reads s m more h =
     let read = are_read reads (m ∷ more) h in
     (events-sent s m more read, open-sent s m more read)

@@ -3,10 +3,10 @@ use Rattle.std.proofs.Common.{◌≡◌, ℕ, ◌+◌, ◌<◌, ◌≤◌, List,
 use Rattle.std.proofs.lemmas.List.{append-nil, length-append}
 use Rattle.std.proofs.lemmas.Bool.{le-leb, lt-leb, cases_lt}
 use Rattle.std.proofs.Math.Seq.{take-length, drop-length}
-use Rattle.dgt_decode.specs.Grammar.{IsSevenBit, Cut, BadLength, Stray, Placed, at_place, events_behind, lead, segments, total_of, message_event, verdict, segment_events, unfinished_part, cut_of, events, open_message}
+use Rattle.dgt_decode.specs.Grammar.{IsSevenBit, Cut, BadLength, Stray, Placed, at_place, events_behind, lead, segments, announced_total, message_event, verdict, segment_events, unfinished_part, cut_of, events, open_message}
 use Rattle.dgt_decode.proofs.Places.{events_behind-zero}
 use Rattle.dgt_decode.proofs.Cuts.{lead-append, segments-append}
-use Rattle.dgt_decode.proofs.Verdicts.{verdict-short, verdict-bad, verdict-waits, verdict-whole, whole_event, Stage, short, waits, bad, whole, stage_of, total_of-append}
+use Rattle.dgt_decode.proofs.Verdicts.{verdict-short, verdict-bad, verdict-waits, verdict-whole, whole_event, Stage, short, waits, bad, whole, stage_of, announced_total-append}
 use Rattle.dgt_decode.proofs.More.{IsAlone, IsAlone-from, lead-seven, segments-seven}
 use Rattle.dgt_decode.proofs.Open.{IsOpen, nothing, waiting, IsOpen-open, open-of_open, events-of_open, events-alone, open-alone}
 
@@ -93,7 +93,7 @@ next-short held run h some seven few =
     record { told = gives.told ∙ rw e refl; leaves = gives.leaves ∙ rw e refl }
 
 -- so long as it is shorter than its total
-pub next-waits : (held run : List ℕ) → IsHeld held → 0 < length held → IsSevenBit run → length (held ++ run) < total_of (held ++ run)
+pub next-waits : (held run : List ℕ) → IsHeld held → 0 < length held → IsSevenBit run → length (held ++ run) < announced_total (held ++ run)
     → Gives (held ++ run) [] (held ++ run)
 next-waits held run h some seven less =
     let gives = next-seven held run h some seven in
@@ -101,7 +101,7 @@ next-waits held run h some seven less =
     record { told = gives.told ∙ rw e refl; leaves = gives.leaves ∙ rw e refl }
 
 -- where the header says too little
-pub next-bad : (held run : List ℕ) → IsHeld held → 0 < length held → IsSevenBit run → length (held ++ run) ≡ 3 → total_of (held ++ run) < 3
+pub next-bad : (held run : List ℕ) → IsHeld held → 0 < length held → IsSevenBit run → length (held ++ run) ≡ 3 → announced_total (held ++ run) < 3
     → Gives (held ++ run) (at_place 3 BadLength ∷ []) []
 next-bad held run h some seven three small =
     let gives = next-seven held run h some seven in
@@ -111,13 +111,13 @@ next-bad held run h some seven three small =
     record { told = gives.told ∙ rw (e, none) refl; leaves = gives.leaves ∙ rw e refl }
 
 -- where the total is reached
-pub next-whole : (held run : List ℕ) → IsHeld held → 0 < length held → IsSevenBit run → 3 ≤ length (held ++ run) → total_of (held ++ run) ≡ length (held ++ run)
+pub next-whole : (held run : List ℕ) → IsHeld held → 0 < length held → IsSevenBit run → 3 ≤ length (held ++ run) → announced_total (held ++ run) ≡ length (held ++ run)
     → Gives (held ++ run) (at_place (length (held ++ run)) (message_event (held ++ run)) ∷ []) []
 next-whole held run h some seven long same =
     let gives = next-seven held run h some seven in
     let g = held ++ run in
-    let large : 3 ≤ total_of g = omega arith in
-    let enough : total_of g ≤ length g = omega arith in
+    let large : 3 ≤ announced_total g = omega arith in
+    let enough : announced_total g ≤ length g = omega arith in
     let is : whole_event g ≡ at_place (length g) (message_event g) = rw (same, take-length g) refl in
     let e : verdict g ≡ Some (at_place (length g) (message_event g)) = verdict-whole g large enough ∙ ap (λ (x : Placed). Some x) is in
     record { told = gives.told ∙ rw (e, drop-length g) refl; leaves = gives.leaves ∙ rw e refl }
@@ -146,11 +146,11 @@ verdict-new h b x e new = go (stage_of h) (stage_of (h ++ b ∷ []))
     go (waits less) (waits less') = let no = verdict-waits (h ++ b ∷ []) less' in absurd cc
     go (waits less) (bad long small) = elim (cases_lt (length h) 3) [
       | inl few ↦ omega (arith, one_more, place_is _ (verdict-bad (h ++ b ∷ []) long small))
-      | inr many ↦ absurd (omega (arith, total_of-append h (b ∷ []) many))
+      | inr many ↦ absurd (omega (arith, announced_total-append h (b ∷ []) many))
     ]
     go (waits less) (whole large enough) = elim (cases_lt (length h) 3) [
       | inl few ↦ omega (arith, one_more, place_is _ (verdict-whole (h ++ b ∷ []) large enough))
-      | inr many ↦ omega (arith, one_more, place_is _ (verdict-whole (h ++ b ∷ []) large enough), total_of-append h (b ∷ []) many)
+      | inr many ↦ omega (arith, one_more, place_is _ (verdict-whole (h ++ b ∷ []) large enough), announced_total-append h (b ∷ []) many)
     ]
     go (bad long small) s = let no = verdict-bad h long small in absurd cc
     go (whole large enough) s = let no = verdict-whole h large enough in absurd cc

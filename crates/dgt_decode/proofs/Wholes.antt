@@ -2,8 +2,8 @@
 use Rattle.std.proofs.Common.{◌≡◌, ◌≤◌, ℕ, List, [], ◌∷◌, length, drop, Some, refl, ap, ◌∙◌, arith}
 use Rattle.std.specs.Prelude.{slice_index}
 use Rattle.std.proofs.Math.Seq.{take-length}
-use Rattle.dgt_decode.specs.Grammar.{Placed, IsSevenBit, at_place, message_event, total_of, verdict, open_message}
-use Rattle.dgt_decode.specs.Feeding.{IsWhole}
+use Rattle.dgt_decode.specs.Grammar.{Placed, IsSevenBit, at_place, message_event, announced_total, verdict, open_message}
+use Rattle.dgt_decode.specs.Feeding.{IsWholeMessage}
 use Rattle.dgt_decode.proofs.Verdicts.{verdict-whole, whole_event}
 use Rattle.dgt_decode.proofs.More.{IsAlone, IsAlone-from}
 use Rattle.dgt_decode.proofs.Open.{open-alone}
@@ -14,17 +14,17 @@ IsAlone-begin [] long top seven = absurd (omega arith)
 IsAlone-begin (b ∷ bytes) long top seven = IsAlone-from b bytes top seven
 
 -- they are one segment
-pub IsAlone-whole : (g : List ℕ) → IsWhole g → IsAlone g
+pub IsAlone-whole : (g : List ℕ) → IsWholeMessage g → IsAlone g
 IsAlone-whole g w = IsAlone-begin g w.long w.first w.later
 
 -- its message ends at its end
-pub verdict-of_whole : (g : List ℕ) → IsWhole g → verdict g ≡ Some (at_place (length g) (message_event g))
+pub verdict-of_whole : (g : List ℕ) → IsWholeMessage g → verdict g ≡ Some (at_place (length g) (message_event g))
 verdict-of_whole g w =
-    let large : 3 ≤ total_of g = omega (arith, w.whole, w.long) in
-    let enough : total_of g ≤ length g = omega (arith, w.whole) in
+    let large : 3 ≤ announced_total g = omega (arith, w.whole, w.long) in
+    let enough : announced_total g ≤ length g = omega (arith, w.whole) in
     let is : whole_event g ≡ at_place (length g) (message_event g) = rw (w.whole, take-length g) refl in
     verdict-whole g large enough ∙ ap (λ (x : Placed). Some x) is
 
 -- and it leaves nothing open
-pub whole_open : (g : List ℕ) → IsWhole g → open_message g ≡ []
+pub whole_open : (g : List ℕ) → IsWholeMessage g → open_message g ≡ []
 whole_open g w = open-alone g (IsAlone-whole g w) ∙ rw (verdict-of_whole g w) refl

@@ -1,6 +1,6 @@
--- What a reader that holds an unfinished message does with a piece: it uses the bytes up to and including
--- the first one that makes an event.
-use Rattle.std.specs.Prelude.{◌≡◌, ℕ, ◌+◌, ◌<◌, ◌≤◌, List, [], ◌∷◌, ◌++◌, length, drop, take, slice_index, Option, Some, None}
+-- What a reader that holds an unfinished message does with a piece: it uses the bytes up to and
+-- including the first one that makes an event.
+use Rattle.std.specs.Prelude.{◌≡◌, ℕ, ◌+◌, ◌<◌, ◌≤◌, List, [], ◌∷◌, ◌++◌, length, drop, take, slice_index, option_map, Option, Some, None}
 use Rattle.dgt_values.specs.Bytes.{number}
 use Rattle.dgt_message.specs.Content.{content}
 use Rattle.dgt_decode.specs.declared.decoder.Fed.{Fed}
@@ -8,7 +8,7 @@ use Rattle.dgt_decode.specs.declared.event.Event as code
 use Rattle.dgt_decode.specs.declared.event.Event.TheVariants as code_events
 use Rattle.dgt_decode.specs.declared.event.Found.{Found}
 use Rattle.dgt_decode.specs.declared.event.Found.TheVariants as found
-use Rattle.dgt_decode.specs.Grammar.{Event, Message, Refused, Cut, BadLength, Stray, Placed, IsSevenBit, at_place, events, message_event, total_of}
+use Rattle.dgt_decode.specs.Grammar.{Event, Message, Refused, Cut, BadLength, Stray, Placed, IsSevenBit, announced_total, at_place, events, message_event}
 
 -- Used is the least number of the piece's bytes with which there is an event, and this is it.
 -- With none the whole piece is used.
@@ -28,23 +28,18 @@ event_content code_events.BadLength = BadLength
 event_content (code_events.Stray byte) = Stray byte
 
 abbrev pub event_content_if_any : Option code.Event → Option Event
-event_content_if_any None = None
-event_content_if_any (Some event) = Some (event_content event)
+event_content_if_any event = option_map event_content event
 
 -- an answer to a piece
 abbrev pub fed_content : Fed → ℕ × Option Event
 fed_content fed = (fed.used, event_content_if_any fed.event)
 
 -- what was found, where these bytes are kept
-abbrev pub found_in : List ℕ → Found → Event
-found_in kept found.Message = message_event kept
-found_in kept (found.Cut have) = Cut have
-found_in kept found.BadLength = BadLength
-found_in kept (found.Stray byte) = Stray byte
-
-abbrev pub found_if_any : List ℕ → Option Found → Option Event
-found_if_any kept None = None
-found_if_any kept (Some what) = Some (found_in kept what)
+abbrev pub event_found_in : List ℕ → Found → Event
+event_found_in kept found.Message = message_event kept
+event_found_in kept (found.Cut have) = Cut have
+event_found_in kept found.BadLength = BadLength
+event_found_in kept (found.Stray byte) = Stray byte
 
 -- the events of bytes of which only the last may make one
 abbrev pub at_place_if_any : ℕ → Option Event → List Placed
@@ -52,8 +47,8 @@ at_place_if_any place None = []
 at_place_if_any place (Some event) = at_place place event ∷ []
 
 -- the bytes of one message, and no more
-pub record IsWhole (bytes : List ℕ) : Type 0 where
+pub record IsWholeMessage (bytes : List ℕ) : Type 0 where
   pub first : 128 ≤ slice_index bytes 0
   pub later : IsSevenBit (drop 1 bytes)
   pub long : 3 ≤ length bytes
-  pub whole : total_of bytes ≡ length bytes
+  pub whole : announced_total bytes ≡ length bytes

@@ -1,6 +1,7 @@
--- What the bytes from a board say. A list of bytes is cut before each byte with a set top bit: the part before
--- the first cut is the lead, the others are segments. Bytes of the lead are stray. A segment begins with a header
--- of three bytes, which says how long the message is; bytes of the segment behind its message are stray.
+-- What the bytes from a board say. A list of bytes is cut before each byte with a set top bit: the
+-- part before the first cut is the lead, the others are segments. Bytes of the lead are stray. A
+-- segment begins with a header of three bytes, which says how long the message is; bytes of the
+-- segment behind its message are stray.
 use Rattle.std.specs.Prelude.{ℕ, ◌+◌, ◌-◌, ◌<◌, Bool, List, [], ◌∷◌, ◌++◌, length, take, drop, Option, Some, None, Result, Ok, Err, nat_lt, nat_le, slice_index, if◌then◌else◌}
 use Rattle.std.specs.List.{AllByRecursion}
 use Rattle.dgt_message.specs.declared.bodies.BodyFault.{BodyFault}
@@ -14,16 +15,11 @@ IsSevenBit bytes = AllByRecursion (λ b. b < 128) bytes
 
 -- what a byte makes known
 pub data Event : Type 0 where
-  -- a whole message was read
-  Message : Content → Event
-  -- a whole message has this code, and its body this fault
-  Refused : ℕ → BodyFault → Event
-  -- a new message begins before the last one ended, of which so many bytes had come
-  Cut : ℕ → Event
-  -- a total below the header's own length
-  BadLength : Event
-  -- a byte that is in no message
-  Stray : ℕ → Event
+  Message : Content → Event  -- a whole message was read
+  Refused : ℕ → BodyFault → Event  -- a whole message has this code, and its body this fault
+  Cut : ℕ → Event  -- a message begins; of the unfinished one before it so many bytes had come
+  BadLength : Event  -- a total below the header's own length
+  Stray : ℕ → Event  -- a byte that is in no message
 
 -- an event, and the number of bytes up to and including the one that makes it
 pub record Placed : Type 0 where
@@ -57,13 +53,14 @@ lead (b ∷ bytes) = if has_top_bit b then [] else b ∷ lead bytes
 -- the parts from each cut to the next
 abbrev pub segments : List ℕ → List (List ℕ)
 segments [] = []
-segments (b ∷ bytes) = if has_top_bit b then (b ∷ lead bytes) ∷ segments bytes else segments bytes
+segments (b ∷ bytes) =
+    if has_top_bit b then (b ∷ lead bytes) ∷ segments bytes else segments bytes
 
 -- ---- One segment
 
--- the total that a segment's header says
-abbrev pub total_of : List ℕ → ℕ
-total_of segment = total (slice_index segment 1) (slice_index segment 2)
+-- the length of the whole message, as the segment's header says it
+abbrev pub announced_total : List ℕ → ℕ
+announced_total segment = total (slice_index segment 1) (slice_index segment 2)
 
 abbrev pub reading_event : ℕ → Result Content BodyFault → Event
 reading_event code (Ok said) = Message said
@@ -71,15 +68,17 @@ reading_event code (Err fault) = Refused code fault
 
 -- what the bytes of a whole message make known
 abbrev pub message_event : List ℕ → Event
-message_event bytes = reading_event (slice_index bytes 0 - 128) (reading (slice_index bytes 0 - 128) (drop 3 bytes))
+message_event bytes =
+    reading_event (slice_index bytes 0 - 128) (reading (slice_index bytes 0 - 128) (drop 3 bytes))
 
 -- what a segment's message comes to; none while the message is unfinished
 unfoldable pub verdict : List ℕ → Option Placed
 verdict segment =
     if nat_lt (length segment) 3 then None
-    else if nat_lt (total_of segment) 3 then Some (at_place 3 BadLength)
-    else if nat_lt (length segment) (total_of segment) then None
-    else Some (at_place (total_of segment) (message_event (take (total_of segment) segment)))
+    else if nat_lt (announced_total segment) 3 then Some (at_place 3 BadLength)
+    else if nat_lt (length segment) (announced_total segment) then None
+    else Some (at_place (announced_total segment)
+    (message_event (take (announced_total segment) segment)))
 
 -- the events of a segment with this verdict: behind its message each byte is stray
 abbrev pub segment_events : Option Placed → List ℕ → List Placed
@@ -103,11 +102,12 @@ cut_before (next ∷ others) unfinished = cut_of unfinished
 
 -- ---- All segments
 
-abbrev pub events_of : List (List ℕ) → List Placed
-events_of [] = []
-events_of (segment ∷ others) =
+abbrev pub segments_events : List (List ℕ) → List Placed
+segments_events [] = []
+segments_events (segment ∷ others) =
     segment_events (verdict segment) segment
-    ++ events_behind (length segment) (cut_before others (unfinished_part (verdict segment) segment) ++ events_of others)
+    ++ events_behind (length segment)
+    (cut_before others (unfinished_part (verdict segment) segment) ++ segments_events others)
 
 abbrev pub open_segment : List (List ℕ) → List ℕ
 open_segment [] = []
@@ -116,7 +116,8 @@ open_segment (segment ∷ next ∷ others) = open_segment (next ∷ others)
 
 -- the events of a list of bytes, in order
 unfoldable pub events : List ℕ → List Placed
-events bytes = strays (lead bytes) ++ events_behind (length (lead bytes)) (events_of (segments bytes))
+events bytes =
+    strays (lead bytes) ++ events_behind (length (lead bytes)) (segments_events (segments bytes))
 
 -- the bytes of the unfinished message at the end, if there is one
 unfoldable pub open_message : List ℕ → List ℕ

@@ -1,6 +1,6 @@
+-- In the order to read, for public contracts:
 pub mod Grammar
 pub mod Feeding
-pub mod Keeping
-pub mod Taking
 pub mod Laws
-pub mod Placing
+-- For bodies alone, private functions' contracts and invariants:
+pub mod Taking

@@ -7,13 +7,13 @@ ghost use Rattle.dgt_decode.specs.Grammar.{open_message};
 ghost use Rattle.dgt_decode.specs.Feeding.{FirstEvent, event_content_if_any};
 
 use crate::event::Event;
-use crate::framer::Framer;
+use crate::framer::{Framer, MAX_TOTAL};
 use std::marker::Model;
 
 /// A message that was not finished.
 #[derive(Clone, Copy, Debug, PartialEq, Eq)]
 pub struct Unfinished {
-    /// How many of its bytes had come: 1 to 16382.
+    /// How many of its bytes had come: at least one, and fewer than [`MAX_TOTAL`].
     pub have: usize,
 }
 
@@ -26,10 +26,10 @@ pub struct Fed<'a> {
     pub event: Option<Event<'a>>,
 }
 
-/// Reads what a board sends, in pieces of any length. Contracts see it as the bytes that have come of an
-/// unfinished message.
+/// Reads what a board sends, in pieces of any length. Contracts see it as the bytes that have come of
+/// an unfinished message.
 ///
-/// The bytes are kept in the decoder itself, at most 16383 of them. No call takes memory.
+/// The bytes are kept in the decoder itself, at most [`MAX_TOTAL`] of them. No call takes memory.
 #[derive(Drop)]
 pub struct Decoder {
     framer: Framer,
@@ -61,9 +61,11 @@ impl Decoder {
     ///
     /// The event lends its body from the decoder until the next call.
     pub fn feed(&mut self, piece: &[u8]) -> Fed<'_>
-        ensures* after_borrow { sem 𝓛 (Rests the_row self.entry (λ new. new ≡ open_message (self.old ++ take result.used piece.now))) }
+        ensures* after_borrow { sem 𝓛 (Rests the_row self.entry
+            (λ new. new ≡ open_message (self.old ++ take result.used piece.now))) }
         ensures within { result.used ≤ length piece.now }
-        ensures first { FirstEvent self.old piece.now result.used (event_content_if_any result.event) }
+        ensures first { FirstEvent self.old piece.now result.used
+            (event_content_if_any result.event) }
         ensures progress { 0 < length piece.now → 0 < result.used }
     {
         let advanced = self.framer.advance(piece);
@@ -77,19 +79,20 @@ impl Decoder {
         }
     }
 
-    /// How many bytes have come of an unfinished message: 0 to 16382.
+    /// How many bytes have come of an unfinished message, which are fewer than [`MAX_TOTAL`].
     #[tactic(auto, using(crate::proofs::Bytes::openings))]
     pub fn rest(&self) -> usize
-        ensures len { result ≡ length self.now }
-        ensures all_open { open_message self.now ≡ self.now }
-        ensures short { length self.now ≤ 16382 }
+        ensures length { result ≡ length self.now }
+        ensures unfinished { open_message self.now ≡ self.now }
+        ensures limit { length self.now < MAX_TOTAL }
     {
         self.framer.open_len()
     }
 
     /// Tells of an unfinished message, if there is one, and makes the decoder as new.
     pub fn finish(&mut self) -> Option<Unfinished>
-        ensures told { MatchOption result (self.old ≡ []) (λ unfinished. (0 < length self.old) × (unfinished.have ≡ length self.old)) }
+        ensures told { MatchOption result (self.old ≡ [])
+            (λ unfinished. (0 < length self.old) × (unfinished.have ≡ length self.old)) }
         ensures new { self.new ≡ [] }
     {
         let have = self.rest();

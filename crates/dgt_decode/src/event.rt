@@ -1,11 +1,7 @@
 //! What the bytes from a board make known.
 
-ghost use Rattle.std.specs.Prelude.{◌≡◌};
-ghost use Rattle.dgt_decode.specs.Grammar.{message_event};
-ghost use Rattle.dgt_decode.specs.Feeding.{IsWhole, event_content};
-
-use dgt_message::{BodyFault, Message, view};
-use dgt_values::{Body, SevenBit};
+use dgt_message::{BodyFault, Message};
+use dgt_values::SevenBit;
 
 /// What a byte makes known. A message lends its body from whoever read it.
 ///
@@ -16,10 +12,11 @@ use dgt_values::{Body, SevenBit};
 pub enum Event<'a> {
     /// A whole message. The byte is its last.
     Message(Message<'a>),
-    /// All bytes of a message with this code, whose body says nothing, for this reason. The byte is its last.
+    /// All bytes of a message with this code, whose body says nothing, for this reason. The byte is
+    /// its last.
     Refused { code: SevenBit, fault: BodyFault },
-    /// The byte begins a message, and so cuts off the one before it, of which `have` bytes had come: 1 to
-    /// 16382.
+    /// The byte begins a message, and so cuts off the one before it, of which `have` bytes had come: at
+    /// least one, and fewer than [`MAX_TOTAL`](crate::MAX_TOTAL).
     Cut { have: usize },
     /// The byte is the third of a message, and makes its length less than 3, that of the header alone. The
     /// message is over.
@@ -39,19 +36,4 @@ pub enum Found {
     BadLength,
     /// A byte, below 128, is in no message.
     Stray(u8),
-}
-
-/// What the bytes of one message make known. No byte of its body is looked at but by the message's own
-/// reading.
-pub fn whole_message(bytes: &[u8]) -> Event<'_>
-    requires { IsWhole bytes.now }
-    ensures { event_content result ≡ message_event bytes.now }
-{
-    let Ok(code) = SevenBit::try_from(bytes[0] - 128) else {
-        unreachable!()
-    };
-    match view(code, Body::from_seven_bit(&bytes[3..])) {
-        Ok(message) => Event::Message(message),
-        Err(fault) => Event::Refused { code, fault },
-    }
 }

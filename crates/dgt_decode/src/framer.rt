@@ -1,14 +1,16 @@
 //! The reading of one message after another: its states, and the bytes that have come.
 
-ghost use Rattle.std.specs.Prelude.{◌≡◌, ◌≤◌, ◌<◌, ◌+◌, List, ℕ, [], ◌∷◌, ◌++◌, true, length, take, ◌==◌, if◌then◌else◌, Some, None};
-ghost use Rattle.dgt_decode.specs.Grammar.{open_message};
-ghost use Rattle.dgt_decode.specs.Feeding.{FirstEvent, IsWhole, event_content, found_if_any, found_in};
-ghost use Rattle.dgt_decode.specs.Taking.{Begins, Frames, FramesRun};
+ghost use Rattle.std.specs.Prelude.{◌≡◌, ◌≤◌, ◌<◌, ◌+◌, List, ℕ, [], ◌∷◌, ◌++◌, true, length, take, option_map, ◌==◌, if◌then◌else◌, Some, None};
+ghost use Rattle.dgt_decode.specs.Grammar.{message_event, open_message};
+ghost use Rattle.dgt_decode.specs.Feeding.{FirstEvent, IsWholeMessage, event_content, event_found_in};
+ghost use Rattle.dgt_decode.specs.Taking.{Begins, Frames, FramesFront};
 
-use crate::event::{Event, Found, whole_message};
-use crate::header::{FIELD, is_field_at_front, total_at_front};
+use crate::event::{Event, Found};
+use crate::header::{FIELD, HEADER, TOP_BIT, is_field_at_front, total_at_front};
 use crate::kept::Kept;
 use crate::lanes::first_top;
+use dgt_message::view;
+use dgt_values::{Body, SevenBit};
 use std::marker::Model;
 
 /// The most bytes of a message, its header of three bytes counted.
@@ -19,7 +21,7 @@ const MANY: usize = 16;
 
 /// How far a message has come.
 #[derive(Clone, Copy)]
-enum State {
+enum FramerState {
     /// No message has begun.
     Hunting,
     /// All of it has come. It is kept until the next byte.
@@ -48,13 +50,13 @@ pub struct Advanced {
 /// of them. No call takes memory.
 #[derive(Drop)]
 pub struct Framer {
-    state: State,
+    state: FramerState,
     kept: Kept,
 }
 
 impl Model for Framer {
     ghost use Rattle.std.specs.Prelude.{ℕ, List};
-    ghost use Rattle.dgt_decode.specs.Keeping.{IsKept};
+    ghost use Rattle.dgt_decode.specs.Taking.{IsKept};
 
     ghost Value = { List ℕ };
 
@@ -63,14 +65,31 @@ impl Model for Framer {
     ghost invariant = { λ framer. IsKept framer.state framer.kept };
 }
 
-// The state after bytes of a message, where so many are still to come, and what the last byte made known.
-fn after_byte(left: usize) -> (State, Option<Found>)
-    ensures { result ≡ (if left == 0 then (State.Whole, Some Found.Message) else (State.Body left, None)) }
+// The state after bytes of a message, where so many are still to come, and what the last byte made
+// known.
+fn after_byte(left: usize) -> (FramerState, Option<Found>)
+    ensures { result ≡ (if left == 0 then (FramerState.Whole, Some Found.Message)
+        else (FramerState.Body left, None)) }
 {
     if left == 0 {
-        (State::Whole, Some(Found::Message))
+        (FramerState::Whole, Some(Found::Message))
     } else {
-        (State::Body { left }, None)
+        (FramerState::Body { left }, None)
+    }
+}
+
+/// What the bytes of one message make known. No byte of its body is looked at but by the message's
+/// own reading.
+pub fn whole_message(bytes: &[u8]) -> Event<'_>
+    requires { IsWholeMessage bytes.now }
+    ensures { event_content result ≡ message_event bytes.now }
+{
+    let Ok(code) = SevenBit::try_from(bytes[0] - TOP_BIT) else {
+        unreachable!()
+    };
+    match view(code, Body::from_seven_bit(&bytes[HEADER..])) {
+        Ok(message) => Event::Message(message),
+        Err(fault) => Event::Refused { code, fault },
     }
 }
 
@@ -80,18 +99,18 @@ impl Framer {
         ensures { result ≡ [] }
     {
         Framer {
-            state: State::Hunting,
+            state: FramerState::Hunting,
             kept: Kept::new(),
         }
     }
 
-    /// How many bytes have come of an unfinished message: 0 to 16382.
+    /// How many bytes have come of an unfinished message, which are fewer than [`MAX_TOTAL`].
     pub fn open_len(&self) -> usize
         ensures { result ≡ length (open_message self.now) }
     {
         match self.state {
-            State::Hunting | State::Whole => 0,
-            State::Head | State::Body { .. } => self.kept.len(),
+            FramerState::Hunting | FramerState::Whole => 0,
+            FramerState::Head | FramerState::Body { .. } => self.kept.len(),
         }
     }
 
@@ -107,16 +126,19 @@ impl Framer {
         ensures { self.new ≡ [] }
     {
         self.kept.clear();
-        self.state = State::Hunting;
+        self.state = FramerState::Hunting;
     }
 
     /// Uses bytes of the piece up to and including the first that makes something known, or all of it.
     pub fn advance(&mut self, piece: &[u8]) -> Advanced
         ensures within { result.used ≤ length piece.now }
-        ensures first { FirstEvent (open_message self.old) piece.now result.used (found_if_any self.new result.found) }
-        ensures held { open_message self.new ≡ open_message (open_message self.old ++ take result.used piece.now) }
-        ensures whole { result.found ≡ Some Found.Message → IsWhole self.new }
-        ensures came { result.found ≡ Some Found.Message → self.new ≡ open_message self.old ++ take result.used piece.now }
+        ensures first { FirstEvent (open_message self.old) piece.now result.used
+            (option_map (event_found_in self.new) result.found) }
+        ensures held { open_message self.new
+            ≡ open_message (open_message self.old ++ take result.used piece.now) }
+        ensures whole { result.found ≡ Some Found.Message → IsWholeMessage self.new }
+        ensures kept { result.found ≡ Some Found.Message →
+            self.new ≡ open_message self.old ++ take result.used piece.now }
         ensures progress { 0 < length piece.now → 0 < result.used }
     {
         let mut used = 0;
@@ -136,8 +158,8 @@ impl Framer {
     /// The event of what was found. A message that was found is still kept here: `advance` says so, and no
     /// byte may come in between.
     pub fn event(&self, found: Found) -> Event<'_>
-        requires { found ≡ Found.Message → IsWhole self.now }
-        ensures { event_content result ≡ found_in self.now found }
+        requires { found ≡ Found.Message → IsWholeMessage self.now }
+        ensures { event_content result ≡ event_found_in self.now found }
     {
         match found {
             Found::Message => whole_message(self.kept.as_slice()),
@@ -151,13 +173,13 @@ impl Framer {
     #[inline(always)]
     fn take_front(&mut self, rest: &[u8]) -> Advanced
         requires { 0 < length rest.now }
-        ensures { FramesRun self.old rest.now result.used self.new result.found }
+        ensures { FramesFront self.old rest.now result.used self.new result.found }
     {
         if !self.is_between() || !is_field_at_front(rest) {
             return self.take_run(rest);
         }
         self.kept.set_front(rest, FIELD);
-        self.state = State::Whole;
+        self.state = FramerState::Whole;
         Advanced {
             used: FIELD,
             found: Some(Found::Message),
@@ -169,23 +191,23 @@ impl Framer {
     fn is_between(&self) -> bool
         ensures { result ≡ true → open_message self.now ≡ [] }
     {
-        matches!(self.state, State::Hunting | State::Whole)
+        matches!(self.state, FramerState::Hunting | FramerState::Whole)
     }
 
-    // Takes the run at the front where a message begins, or where many bytes of one are missing, and else a few
-    // bytes one by one.
+    // Takes the run at the front where a message begins, or where many bytes of one are missing, and
+    // else a few bytes one by one.
     fn take_run(&mut self, rest: &[u8]) -> Advanced
         requires { 0 < length rest.now }
-        ensures { FramesRun self.old rest.now result.used self.new result.found }
+        ensures { FramesFront self.old rest.now result.used self.new result.found }
     {
         match self.state {
-            State::Body { left } if left >= MANY && rest[0] < 128 => {
+            FramerState::Body { left } if left >= MANY && rest[0] < TOP_BIT => {
                 let used = self.kept.append_run(left, rest);
                 let (state, found) = after_byte(left - used);
                 self.state = state;
                 return Advanced { used, found };
             }
-            State::Hunting | State::Whole => {
+            FramerState::Hunting | FramerState::Whole => {
                 if let Some(total) = total_at_front(rest) {
                     return self.take_beginning(total, rest);
                 }
@@ -199,9 +221,9 @@ impl Framer {
     fn take_beginning(&mut self, total: usize, rest: &[u8]) -> Advanced
         requires closed { open_message self.old ≡ [] }
         requires begins { Begins total rest.now }
-        ensures { FramesRun self.old rest.now result.used self.new result.found }
+        ensures { FramesFront self.old rest.now result.used self.new result.found }
     {
-        let used = 3 + first_top(&rest[3..rest.len().min(total)]);
+        let used = HEADER + first_top(&rest[HEADER..rest.len().min(total)]);
         self.kept.set_front(rest, used);
         let (state, found) = after_byte(total - used);
         self.state = state;
@@ -210,12 +232,8 @@ impl Framer {
 
     // Uses bytes one by one, up to and including the first that makes something known, or all of them.
     fn take_bytes(&mut self, bytes: &[u8]) -> Advanced
-        ensures within { result.used ≤ length bytes.now }
-        ensures first { FirstEvent (open_message self.old) bytes.now result.used (found_if_any self.new result.found) }
-        ensures held { open_message self.new ≡ open_message (open_message self.old ++ take result.used bytes.now) }
-        ensures whole { result.found ≡ Some Found.Message → IsWhole self.new }
-        ensures came { result.found ≡ Some Found.Message → self.new ≡ open_message self.old ++ take result.used bytes.now }
-        ensures progress { 0 < length bytes.now → 0 < result.used }
+        requires { 0 < length bytes.now }
+        ensures { FramesFront self.old bytes.now result.used self.new result.found }
     {
         for (index, byte) in bytes.iter().enumerate() {
             if let Some(found) = self.take_byte(*byte) {
@@ -233,13 +251,13 @@ impl Framer {
 
     // A byte with a set top bit begins a message, and cuts off one that is unfinished.
     fn begin_message(&mut self, byte: u8) -> Option<Found>
-        requires { 128 ≤ byte }
-        ensures { Frames self.old byte self.new result }
+        requires { TOP_BIT ≤ byte }
+        ensures { Frames self.old (byte ∷ []) self.new result }
     {
         let have = self.open_len();
         self.kept.clear();
         self.kept.push(byte);
-        self.state = State::Head;
+        self.state = FramerState::Head;
         if have == 0 {
             None
         } else {
@@ -248,32 +266,32 @@ impl Framer {
     }
 
     fn take_byte(&mut self, byte: u8) -> Option<Found>
-        ensures { Frames self.old byte self.new result }
+        ensures { Frames self.old (byte ∷ []) self.new result }
     {
-        if byte >= 128 {
+        if byte >= TOP_BIT {
             return self.begin_message(byte);
         }
         match self.state {
-            State::Hunting | State::Whole => {
+            FramerState::Hunting | FramerState::Whole => {
                 self.reset();
                 Some(Found::Stray(byte))
             }
-            State::Head if self.kept.len() == 1 => {
+            FramerState::Head if self.kept.len() == 1 => {
                 self.kept.push(byte);
                 None
             }
-            State::Head => {
+            FramerState::Head => {
                 let total = 128 * usize::from(self.kept.as_slice()[1]) + usize::from(byte);
-                if total < 3 {
+                if total < HEADER {
                     self.reset();
                     return Some(Found::BadLength);
                 }
                 self.kept.push(byte);
-                let (state, found) = after_byte(total - 3);
+                let (state, found) = after_byte(total - HEADER);
                 self.state = state;
                 found
             }
-            State::Body { left } => {
+            FramerState::Body { left } => {
                 self.kept.push(byte);
                 let (state, found) = after_byte(left - 1);
                 self.state = state;

@@ -1,8 +1,14 @@
 //! The header of a message: three bytes.
 
 ghost use Rattle.std.specs.Prelude.{◌≡◌, ◌≤◌, true, length, take, IfSome};
-ghost use Rattle.dgt_decode.specs.Feeding.{IsWhole};
+ghost use Rattle.dgt_decode.specs.Feeding.{IsWholeMessage};
 ghost use Rattle.dgt_decode.specs.Taking.{Begins};
+
+/// The top bit of a byte. A byte in which it is set begins a message.
+pub const TOP_BIT: u8 = 128;
+
+/// How many bytes a header has. A message's total counts them.
+pub const HEADER: usize = 3;
 
 /// The total of a field, the most common message.
 pub const FIELD: usize = 5;
@@ -10,15 +16,15 @@ pub const FIELD: usize = 5;
 /// Whether a whole message as long as a field stands at the front of these bytes.
 #[inline(always)]
 pub fn is_field_at_front(bytes: &[u8]) -> bool
-    ensures { result ≡ true → (FIELD ≤ length bytes.now) × IsWhole (take FIELD bytes.now) }
+    ensures { result ≡ true → (FIELD ≤ length bytes.now) × IsWholeMessage (take FIELD bytes.now) }
 {
     let [first, 0, 5, square, piece, ..] = bytes else {
         return false;
     };
-    *first >= 128 && *square < 128 && *piece < 128
+    *first >= TOP_BIT && *square < TOP_BIT && *piece < TOP_BIT
 }
 
-/// The total that a message's header says, where one stands whole at the front of these bytes. It counts the header.
+/// The total that a message's header says, where one stands whole at the front of these bytes.
 #[inline]
 pub fn total_at_front(bytes: &[u8]) -> Option<usize>
     ensures { IfSome result (λ total. Begins total bytes.now) }
@@ -27,7 +33,7 @@ pub fn total_at_front(bytes: &[u8]) -> Option<usize>
         return None;
     };
     let total = 128 * usize::from(*high) + usize::from(*low);
-    if *first >= 128 && *high < 128 && *low < 128 && total >= 3 {
+    if *first >= TOP_BIT && *high < TOP_BIT && *low < TOP_BIT && total >= HEADER {
         Some(total)
     } else {
         None

@@ -9,10 +9,12 @@ use crate::lanes::first_top;
 use std::marker::Model;
 use std::simd::prelude::*;
 
-// A message of no more bytes than this is copied in one step, with bytes behind it where there are some.
+// A message of no more bytes than this is copied in one step, with bytes behind it where there are
+// some.
 const FEW: usize = 8;
 
-/// At most `MAX_TOTAL` bytes, which lie in the value itself. Those that go are written over by the next ones.
+/// At most `MAX_TOTAL` bytes, which lie in the value itself. Those that go are written over by the
+/// next ones.
 #[derive(Drop)]
 pub struct Kept {
     bytes: [u8; MAX_TOTAL],
@@ -21,12 +23,13 @@ pub struct Kept {
 
 impl Model for Kept {
     ghost use Rattle.std.specs.Prelude.{◌≤◌, ℕ, List, take};
+    ghost use Rattle.dgt_decode.specs.declared.framer.TheConstants.{MAX_TOTAL};
 
     ghost Value = { List ℕ };
 
     ghost view = { λ kept. take kept.len kept.bytes };
 
-    ghost invariant = { λ kept. kept.len ≤ 16383 };
+    ghost invariant = { λ kept. kept.len ≤ MAX_TOTAL };
 }
 
 impl Kept {
@@ -74,8 +77,8 @@ impl Kept {
         self.len = end;
     }
 
-    /// Appends the bytes at the front of the piece that are below 128, and no more than are missing. Answers how
-    /// many they are.
+    /// Appends the bytes at the front of the piece whose top bit isn't set, and no more than are
+    /// missing. Answers how many they are.
     pub fn append_run(&mut self, missing: usize, piece: &[u8]) -> usize
         requires { length self.old + missing ≤ MAX_TOTAL }
         ensures count { result ≡ position_or_len has_top_bit (take missing piece.now) }

@@ -1,10 +1,11 @@
-//! The search for the next byte that begins a message, 32 bytes at a time.
+//! The search for the next byte that begins a message, `LANES` bytes at a time.
 
 ghost use Rattle.std.specs.Prelude.{◌≡◌, ◌≤◌, map};
 ghost use Rattle.std.specs.List.{position_or_len};
 ghost use Rattle.std.specs.Simd.Lanes.{mask_l};
 ghost use Rattle.dgt_decode.specs.Grammar.{has_top_bit};
 
+use crate::header::TOP_BIT;
 use std::simd::prelude::*;
 
 // How many bytes are compared at once.
@@ -22,13 +23,13 @@ pub fn first_top(bytes: &[u8]) -> usize
         }
         at += LANES;
     }
-    'tail: while at < bytes.len() && bytes[at] < 128 {
+    'tail: while at < bytes.len() && bytes[at] < TOP_BIT {
         at += 1;
     }
     at
 }
 
-// The first lane with a set top bit, or 32 where there is none.
+// The first lane with a set top bit, or the number of lanes where there is none.
 #[inline(always)]
 fn first_top_lane(lanes: u8x32) -> usize
     ensures value { result ≡ position_or_len has_top_bit lanes }
@@ -47,5 +48,5 @@ fn first_top_lane(lanes: u8x32) -> usize
 fn top_bits(lanes: u8x32) -> u64
     ensures { result ≡ mask_l (map has_top_bit lanes) }
 {
-    lanes.simd_ge(u8x32::splat(128)).to_bitmask()
+    lanes.simd_ge(u8x32::splat(TOP_BIT)).to_bitmask()
 }

@@ -1,10 +1,14 @@
 //! Laws of the bytes that a board sends, over lists of bytes as such. Nothing here runs: each function
 //! stands for the fact that its contract states.
 
-ghost use Rattle.std.specs.Prelude.{◌≡◌};
+ghost use Rattle.std.specs.Prelude.{◌≡◌, ◌<◌, ◌≤◌, ◌+◌, ℕ, List, [], ◌∷◌, ◌++◌, length, Option};
+ghost use Rattle.std.specs.List.{AllByRecursion};
 ghost use Rattle.dgt_values.specs.Equality.{EqualIsSame, EqualIsSameRead};
-ghost use Rattle.dgt_decode.specs.Feeding.{event_content, fed_content};
-ghost use Rattle.dgt_decode.specs.Laws.{EventsAppend, InAnyPieces, OneCut, OneEvent, OneFirstEvent, OpenAppend, OpenIsShort, QuietHeld, Recovery, SpellingInPieces, SpellingIsRead};
+ghost use Rattle.dgt_message.specs.Content.{Content, IsMessage};
+ghost use Rattle.dgt_message.specs.Spelling.{Spells, spelling};
+ghost use Rattle.dgt_decode.specs.Feeding.{FirstEvent, event_content, fed_content};
+ghost use Rattle.dgt_decode.specs.Grammar.{Event as EventSaid, Message, at_place, cut_of, events, events_behind, lead, open_message, segments};
+ghost use Rattle.dgt_decode.specs.Laws.{AreCalls, Call, CutsInto, EventsAppend, OpenAppend, OpenIsPart, PlacesAdd, QuietHeld, Sent, SpellingIsRead, arrivals, events_in_pieces, sent_bytes, used_bytes};
 
 use crate::decoder::{Fed, Unfinished};
 use crate::event::{Event, Found};
@@ -16,8 +20,8 @@ pub fn limits()
     ensures { MAX_TOTAL ≡ 16383 }
 {}
 
-/// Two values are equal, as `==` compares them, exactly where they are the same. Of an event what it tells counts,
-/// and not where its bytes lie.
+/// Two values are equal, as `==` compares them, exactly where they are the same. Of an event what it
+/// tells counts, and not where its bytes lie.
 pub fn equal_is_same()
     ensures unfinished { EqualIsSame ⟦<Unfinished as PartialEq>⟧.eq }
     ensures found { EqualIsSame ⟦<Found as PartialEq>⟧.eq }
@@ -31,7 +35,9 @@ pub fn equal_is_same()
 /// Cut before each byte with a set top bit, a list is a seven-bit lead and segments, and no other way of
 /// dividing it makes such parts.
 pub fn one_cut()
-    ensures { OneCut }
+    ensures cuts { (s : List ℕ) → CutsInto (lead s) (segments s) s }
+    ensures once { (s front : List ℕ) (parts : List (List ℕ)) →
+        CutsInto front parts s → (front ≡ lead s) × (parts ≡ segments s) }
 {}
 
 /// The events of a whole are those of its front, and then those of what the front leaves open and the
@@ -45,9 +51,20 @@ pub fn open_append()
     ensures { OpenAppend }
 {}
 
+/// An unfinished message is a part of what came.
+pub fn open_is_part()
+    ensures { OpenIsPart }
+{}
+
+/// Places add up: events behind no bytes stay where they are, behind bytes behind bytes they stand behind
+/// all of these, and each of them is placed by itself.
+pub fn places_add()
+    ensures { PlacesAdd }
+{}
+
 /// No byte makes two events.
 pub fn one_event()
-    ensures { OneEvent }
+    ensures { (s : List ℕ) (b : ℕ) → length (events (open_message s ++ b ∷ [])) ≤ 1 }
 {}
 
 /// Where no event has come, every byte is held.
@@ -55,14 +72,21 @@ pub fn quiet_held()
     ensures { QuietHeld }
 {}
 
-/// At most 16382 bytes of an unfinished message are held.
+/// An unfinished message is shorter than the longest message.
 pub fn open_is_short()
-    ensures { OpenIsShort }
+    ensures { (s : List ℕ) → length (open_message s) < MAX_TOTAL }
 {}
 
-/// After any bytes, messages that are spelled one after another are read whole, each at its last byte.
+/// Whatever bytes came before, messages that are spelled one after another are read whole, each at its
+/// last byte, and nothing stays open. All that the first of them may do to what came before is to cut
+/// it off.
 pub fn recovery()
-    ensures { Recovery }
+    ensures { (s : List ℕ) (m : Sent) (more : List Sent) →
+        AllByRecursion (λ m. Spells m.said m.bytes) (m ∷ more) →
+        (events (s ++ sent_bytes (m ∷ more))
+        ≡ events s ++ events_behind (length s) (cut_of (open_message s))
+        ++ events_behind (length s) (arrivals (m ∷ more)))
+        × (open_message (s ++ sent_bytes (m ∷ more)) ≡ []) }
 {
     messages::spelled_is_read();
 }
@@ -77,17 +101,25 @@ pub fn spelling_is_read()
 
 /// A reader that holds some bytes has one answer to a piece.
 pub fn one_first_event()
-    ensures { OneFirstEvent }
+    ensures { (held piece : List ℕ) (j k : ℕ) (x y : Option EventSaid) →
+        FirstEvent held piece j x → FirstEvent held piece k y → (j ≡ k) × (x ≡ y) }
 {}
 
-/// However bytes are cut into pieces, the events told are those of the bytes in a row.
+/// However bytes are cut into pieces, of one byte or of none, the events told are those of the bytes
+/// in a row.
 pub fn in_any_pieces()
-    ensures { InAnyPieces }
+    ensures { (s : List ℕ) (calls : List Call) → AreCalls (open_message s) calls →
+        events (s ++ used_bytes calls) ≡ events s ++ events_in_pieces (length s) calls }
 {}
 
-/// What is written of a message is read as this message, in any pieces and whatever came before it.
+/// What is written of a message is read as this message, at its last byte, in any pieces and whatever
+/// came before it.
 pub fn spelling_in_pieces()
-    ensures { SpellingInPieces }
+    ensures { (s : List ℕ) (said : Content) (calls : List Call) →
+        IsMessage said → AreCalls (open_message s) calls → used_bytes calls ≡ spelling said →
+        events_in_pieces (length s) calls
+        ≡ events_behind (length s) (cut_of (open_message s))
+        ++ at_place (length s + length (spelling said)) (Message said) ∷ [] }
 {
     messages::spelled_is_read();
     messages::spelling_spells();

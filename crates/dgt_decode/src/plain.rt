@@ -1,12 +1,14 @@
-//! All events of a list of bytes, in a plain and slow way: the list is cut before each byte with a set top
-//! bit, and each part is judged whole.
+//! All events of a list of bytes, in a plain and slow way: the list is cut before each byte with a set
+//! top bit, and each part is judged whole.
 
-ghost use Rattle.std.specs.Prelude.{◌≡◌, ◌≤◌, ◌<◌, ◌+◌, ◌^◌, [], ◌++◌, length, take, if◌then◌else◌, IfOk, IfSome, OnOk};
+ghost use Rattle.std.specs.Prelude.{◌≡◌, ◌≤◌, ◌<◌, ◌+◌, ◌^◌, [], ◌++◌, length, map, take, if◌then◌else◌, IfOk, IfSome, OnOk, option_map};
 ghost use Rattle.dgt_decode.specs.Grammar.{cut_of, events, events_behind, lead, segment_events, strays, unfinished_part, verdict};
 ghost use Rattle.dgt_decode.specs.Laws.{IsSegment};
-ghost use Rattle.dgt_decode.specs.Placing.{placed_content_if_any, placed_contents};
+ghost use Rattle.dgt_decode.specs.Taking.{placed_content};
 
-use crate::event::{Event, whole_message};
+use crate::event::Event;
+use crate::framer::whole_message;
+use crate::header::{HEADER, TOP_BIT};
 use std::alloc::{AllocError, Global};
 
 /// An event, and the number of bytes up to and including the one that makes it.
@@ -18,7 +20,7 @@ fn lead_length(bytes: &[u8]) -> usize
     ensures is_lead { take result bytes.now ≡ lead bytes.now }
 {
     for (index, byte) in bytes.iter().enumerate() {
-        if *byte >= 128 {
+        if *byte >= TOP_BIT {
             return index;
         }
     }
@@ -28,15 +30,15 @@ fn lead_length(bytes: &[u8]) -> usize
 // What the message of a segment comes to, with its place in the segment.
 fn segment_verdict(segment: &[u8]) -> Option<Told<'_>>
     requires { IsSegment segment.now }
-    ensures value { placed_content_if_any result ≡ verdict segment.now }
+    ensures value { option_map placed_content result ≡ verdict segment.now }
     ensures within { IfSome result (λ told. told.0 ≤ length segment.now) }
 {
-    if segment.len() < 3 {
+    if segment.len() < HEADER {
         return None;
     }
     let total = 128 * usize::from(segment[1]) + usize::from(segment[2]);
-    if total < 3 {
-        return Some((3, Event::BadLength));
+    if total < HEADER {
+        return Some((HEADER, Event::BadLength));
     }
     if segment.len() < total {
         return None;
@@ -47,7 +49,8 @@ fn segment_verdict(segment: &[u8]) -> Option<Told<'_>>
 // A Stray for each of the bytes, of which so many stand before.
 fn push_strays(told: &mut Vec<Told<'_>>, before: usize, bytes: &[u8]) -> Result<(), AllocError>
     requires { before + length bytes.now < 2 ^ 64 }
-    ensures { OnOk result (placed_contents told.new.items ≡ placed_contents told.old.items ++ events_behind before (strays bytes.now)) }
+    ensures { OnOk result (map placed_content told.new.items
+        ≡ map placed_content told.old.items ++ events_behind before (strays bytes.now)) }
 {
     for (index, byte) in bytes.iter().enumerate() {
         told.push((before + index + 1, Event::Stray(*byte)))?;
@@ -55,7 +58,8 @@ fn push_strays(told: &mut Vec<Told<'_>>, before: usize, bytes: &[u8]) -> Result<
     Ok(())
 }
 
-// The events of a segment that so many bytes stand before, and the Cut where another segment follows.
+// The events of a segment that so many bytes stand before, and the Cut where another segment
+// follows.
 fn push_segment<'a>(
     told: &mut Vec<Told<'a>>,
     before: usize,
@@ -64,9 +68,10 @@ fn push_segment<'a>(
 ) -> Result<(), AllocError>
     requires is_segment { IsSegment segment.now }
     requires fits { before + length segment.now + 1 < 2 ^ 64 }
-    ensures { OnOk result (placed_contents told.new.items ≡ placed_contents told.old.items
+    ensures { OnOk result (map placed_content told.new.items ≡ map placed_content told.old.items
         ++ events_behind before (segment_events (verdict segment.now) segment.now
-        ++ events_behind (length segment.now) (if is_last then [] else cut_of (unfinished_part (verdict segment.now) segment.now)))) }
+        ++ events_behind (length segment.now) (if is_last then []
+        else cut_of (unfinished_part (verdict segment.now) segment.now)))) }
 {
     match segment_verdict(segment) {
         Some((place, event)) => {
@@ -84,7 +89,7 @@ fn push_segment<'a>(
 
 /// All events of the bytes, in order, with their places.
 pub fn events_of(alloc: Global, bytes: &[u8]) -> Result<Vec<Told<'_>>, AllocError>
-    ensures { IfOk result (λ told. placed_contents told.items ≡ events bytes.now) }
+    ensures { IfOk result (λ told. map placed_content told.items ≡ events bytes.now) }
 {
     let mut told = Vec::new(alloc);
     let mut start = lead_length(bytes);

@@ -1,28 +1,30 @@
-use Rattle.std.proofs.Common.{◌∙◌}
+use Rattle.std.proofs.Common.{◌≡◌, ◌+◌, length, refl, arith}
 use Rattle.dgt_decode.specs.Grammar.{open_message}
-use Rattle.dgt_decode.specs.Feeding.{found_in}
 use Rattle.dgt_decode.proofs.Steps.{IsHeld-open}
-use Rattle.dgt_decode.proofs.Loops.{taken_none, byte_quiet, byte_holds, byte_came, byte_first}
+use Rattle.dgt_decode.proofs.Loops.{taken_none, one_byte, found_first, found_none, frames_found, frames_none, step_held, step_came}
 use Rattle.dgt_decode.proofs.framer.Framer.take_bytes.Goals as goal
 
 pub loop-index-init : goal.loop-index-init
 loop-index-init c = taken_none (open_message c.args.self.now) c.args.bytes.now (IsHeld-open c.args.self.now)
 
-pub returns-in-Some-clause-first : goal.returns-in-Some-clause-first
-returns-in-Some-clause-first c =
-    byte_first (open_message c.args.self.now) c.args.bytes.now c.loop-index.index (open_message c.loop-index.self) (open_message c.take_byte.new.self)
-    (found_in c.take_byte.new.self c.in-Some.found) c.loop-index-test.true c.loop-index.invariant c.in-Some.ensures.takes
-
-pub returns-in-Some-clause-held : goal.returns-in-Some-clause-held
-returns-in-Some-clause-held c =
-    byte_holds (open_message c.args.self.now) c.args.bytes.now c.loop-index.index (open_message c.loop-index.self) (open_message c.take_byte.new.self)
-    _ c.loop-index-test.true c.loop-index.invariant c.take_byte.ensures.takes
-
-pub returns-in-Some-clause-came : goal.returns-in-Some-clause-came
-returns-in-Some-clause-came c =
-    λ e. c.in-Some.ensures.came e ∙ byte_came (open_message c.args.self.now) c.args.bytes.now c.loop-index.index (open_message c.loop-index.self) c.loop-index-test.true c.loop-index.invariant
+pub returns-in-Some : goal.returns-in-Some
+returns-in-Some c =
+    let kept = c.args.self.now in
+    let bytes = c.args.bytes.now in
+    let i = c.loop-index.index in
+    let step = one_byte c.loop-index.self bytes i c.take_byte.new.self _ c.loop-index-test.true c.in-Some.ensures in
+    frames_found kept bytes (i + 1) c.take_byte.new.self c.in-Some.found
+    (found_first kept bytes i 1 c.loop-index.self c.take_byte.new.self _ c.loop-index.invariant step (omega arith) refl) (omega arith)
+    (step_held kept bytes i 1 c.loop-index.self c.take_byte.new.self _ c.loop-index.invariant step)
+    (λ e. c.in-Some.ensures.whole cc)
+    (λ e. step_came kept bytes i 1 c.loop-index.self c.take_byte.new.self _ c.loop-index.invariant step cc)
 
 pub loop-index-preserved : goal.loop-index-preserved
 loop-index-preserved c =
-    byte_quiet (open_message c.args.self.now) c.args.bytes.now c.loop-index.index (open_message c.loop-index.self) (open_message c.take_byte.new.self)
-    c.loop-index-test.true c.loop-index.invariant c.in_default.ensures.takes
+    found_none c.args.self.now c.args.bytes.now c.loop-index.index 1 c.loop-index.self c.take_byte.new.self _ c.loop-index.invariant
+    (one_byte c.loop-index.self c.args.bytes.now c.loop-index.index c.take_byte.new.self _ c.loop-index-test.true c.in_default.ensures) refl
+
+pub returns : goal.returns
+returns c =
+    let all : c.loop-index.index ≡ length c.args.bytes.now = omega arith in
+    frames_none c.args.self.now c.args.bytes.now c.loop-index.self _ c.requires (omega arith) (rw all at c.loop-index.invariant)

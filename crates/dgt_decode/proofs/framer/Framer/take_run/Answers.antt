@@ -1,10 +1,11 @@
 use Rattle.std.proofs.Common.{subst, arith}
 use Rattle.std.proofs.lemmas.List.{length-take}
-use Rattle.dgt_decode.specs.declared.framer.State.TheVariants.{Body}
-use Rattle.dgt_decode.specs.Keeping.{IsKept}
+use Rattle.dgt_decode.specs.declared.framer.FramerState.TheVariants.{Body}
+use Rattle.dgt_decode.specs.Taking.{IsKept}
 use Rattle.dgt_decode.proofs.Bytes.{held_total}
 use Rattle.dgt_decode.proofs.Framing.{closed}
-use Rattle.dgt_decode.proofs.Runs.{IsBodyRun, body_run, frames-front, frames-body_run}
+use Rattle.dgt_decode.proofs.Runs.{IsBodyRun, body_run, frames-body_run}
+use Rattle.dgt_decode.proofs.Loops.{front_of_front}
 use Rattle.dgt_decode.proofs.framer.Framer.take_run.Goals as goal
 
 pub append_run-used-requires : goal.append_run-used-requires
@@ -15,28 +16,28 @@ append_run-used-requires c =
 
 pub overflow_sub-left : goal.overflow_sub-left
 overflow_sub-left c =
-    let run : IsBodyRun c.in-Body.left c.args.rest.now c.append_run-used.result = body_run _ _ c.args.rest.now (omega arith) c.requires c.if-rest-lt128.true c.append_run-used.ensures.count in
+    let run : IsBodyRun c.in-Body.left c.args.rest.now c.append_run-used.result = body_run _ _ c.args.rest.now (omega arith) c.requires c.if-rest-lt-TOP_BIT.true c.append_run-used.ensures.count in
     run.fits
 
 pub invariant_of-self : goal.invariant_of-self
 invariant_of-self c =
     let kept = c.self.inside.kept in
     let is : IsKept (Body c.in-Body.left) kept = subst (λ s. IsKept s kept) c.in-Body.is c.self.invariant in
-    let run = body_run c.in-Body.left _ c.args.rest.now (omega arith) c.requires c.if-rest-lt128.true c.append_run-used.ensures.count in
+    let run = body_run c.in-Body.left _ c.args.rest.now (omega arith) c.requires c.if-rest-lt-TOP_BIT.true c.append_run-used.ensures.count in
     rw (c.after_byte-state.ensures, c.append_run-used.ensures.appended) (frames-body_run kept c.args.rest.now c.in-Body.left _ is run).1
 
 pub returns-in-Body : goal.returns-in-Body
 returns-in-Body c =
     let kept = c.self.inside.kept in
     let is : IsKept (Body c.in-Body.left) kept = subst (λ s. IsKept s kept) c.in-Body.is c.self.invariant in
-    let run = body_run c.in-Body.left _ c.args.rest.now (omega arith) c.requires c.if-rest-lt128.true c.append_run-used.ensures.count in
+    let run = body_run c.in-Body.left _ c.args.rest.now (omega arith) c.requires c.if-rest-lt-TOP_BIT.true c.append_run-used.ensures.count in
     rw (← c.self.view_is, c.after_byte-state.ensures, c.append_run-used.ensures.appended) (frames-body_run kept c.args.rest.now c.in-Body.left _ is run).0
 
 pub take_beginning-requires-clause-closed : goal.take_beginning-requires-clause-closed
 take_beginning-requires-clause-closed c = rw (← c.self.view_is) (closed _ _ c.self.invariant c.in-Hunting.is)
 
+pub take_bytes-requires : goal.take_bytes-requires
+take_bytes-requires c = omega (arith, length-take c.min.result c.args.rest.now, c.min.ensures, c.requires)
+
 pub returns : goal.returns
-returns c =
-    let some = c.take_bytes.ensures.progress (omega (arith, length-take c.min.result c.args.rest.now, c.min.ensures, c.requires)) in
-    frames-front c.args.self.now c.args.rest.now _ c.take_bytes.result.used c.take_bytes.new.self c.take_bytes.result.found
-    some c.take_bytes.ensures.within c.take_bytes.ensures.first c.take_bytes.ensures.held c.take_bytes.ensures.whole c.take_bytes.ensures.came
+returns c = front_of_front c.args.self.now c.args.rest.now _ _ _ _ c.take_bytes.ensures
