@@ -5,8 +5,8 @@ use Rattle.std.proofs.lemmas.List.{append-nil, length-replicate, replicate_more,
 use Rattle.std.specs.List.{flat_map, AllByRecursion}
 use Rattle.std.specs.Prelude.{Bool, true, false, slice_index, if◌then◌else◌}
 use Rattle.dgt_command.specs.Content.{CommandContent, ClockMessage, Leds, EventContent, Read, BadSize, BadStart, Stray}
-use Rattle.dgt_command.specs.Words.{AreBytes, spelling, Spells, BeginsNoCommand, HasForm, IsPartial, Divides, IsNoise, IsNoiseList}
-use Rattle.dgt_command.specs.Laws.{EachDividesOnce, NoWordBeginsAnother, CommandsAreReadBack, ZerosSettleTheReader, DivisionsAppend}
+use Rattle.dgt_command.specs.Words.{AreBytes, spelling, Spells, BeginsNoCommand, HasForm, IsWord, IsPartial, Divides, IsNoise, IsNoiseList}
+use Rattle.dgt_command.specs.Laws.{EachDividesOnce, NoWordBeginsAnother, CommandsAreReadBack, ZerosSettleTheReader, DivisionsAppend, FrontsDivideFirst}
 use Rattle.dgt_command.proofs.WordLemmas.{word_length, clock_length, body_length, led_length, form_length, same_word, begins, clock_word}
 use Rattle.dgt_command.proofs.CodeLemmas.{no_command}
 
@@ -149,6 +149,15 @@ short_from_IsPartial r partial = elim (cases_lt (length r) (word_length r)) [
   | inr h ↦ let found = begins r h in absurd (not_both r found.event found.word found.after partial found.form found.is)
 ]
 
+-- what begins with a word is no part of one
+pub no_word_within : (e : EventContent) (w x : List ℕ) → IsWord e w → IsPartial (w ++ x) → ⊥
+no_word_within e w x word partial = not_both (w ++ x) e w x partial word.form refl
+
+-- bytes behind a part of a word are bytes with it
+pub partial_bytes : (r more : List ℕ) → IsPartial r → AreBytes more → AreBytes (r ++ more)
+partial_bytes r more partial are =
+    bytes_append r more (bytes_left r (partial.next ∷ partial.more) partial.word.are_bytes) are
+
 -- no byte is a proper prefix of a word
 pub nothing_is_partial : IsPartial []
 nothing_is_partial = IsPartial-from_short [] (λ i. omega arith) (omega arith)
@@ -212,6 +221,21 @@ pub Divides-append : DivisionsAppend
 Divides-append s t [] fs r q h k = subst (λ (z : List ℕ). Divides (z ++ t) fs q) (sym h.0) k
 Divides-append s t (e ∷ es) fs r q h k =
     (h.0, h.1 ++ t, h.2, ap (λ (z : List ℕ). z ++ t) h.3 ∙ append_assoc h.0 h.1 t, Divides-append h.1 t es fs r q h.4 k)
+
+-- the events of a front of bytes come first among theirs, and its rest goes on
+pub divides_front : FrontsDivideFirst
+divides_front s t [] fs r q h k = (fs, refl, subst (λ (z : List ℕ). Divides (z ++ t) fs q) h.0 k)
+divides_front s t (e ∷ es) [] r q h k =
+    absurd (not_both q e h.0 (h.1 ++ t) k.1 h.2.form
+    (sym k.0 ∙ ap (λ (z : List ℕ). z ++ t) h.3 ∙ append_assoc h.0 h.1 t))
+divides_front s t (e ∷ es) (f ∷ fs) r q h k =
+    let front : s ++ t ≡ h.0 ++ (h.1 ++ t) = ap (λ (z : List ℕ). z ++ t) h.3 ∙ append_assoc h.0 h.1 t in
+    let same = same_word e f h.0 k.0 (h.1 ++ t) k.1 h.2.form k.2.form (sym front ∙ k.3) in
+    let on = divides_front h.1 t es fs r q h.4 (subst (λ (z : List ℕ). Divides z fs q) (sym same.after) k.4) in (
+      on.0,
+      ap (λ (x : EventContent). x ∷ fs) (sym same.event) ∙ ap (λ (xs : List EventContent). e ∷ xs) on.1,
+      on.2,
+    )
 
 -- so they do behind words
 pub commands_are_read_back : CommandsAreReadBack

@@ -36,6 +36,13 @@ DivisionsAppend =
     (bytes more : List ℕ) (events others : List EventContent) (rest remainder : List ℕ) →
     Divides bytes events rest → Divides (rest ++ more) others remainder → Divides (bytes ++ more) (events ++ others) remainder
 
+-- the events of a front of bytes come first among theirs, and the rest of the front goes on
+abbrev pub FrontsDivideFirst : Type 0
+FrontsDivideFirst =
+    (front more : List ℕ) (events all : List EventContent) (rest last : List ℕ) →
+    Divides front events rest → Divides (front ++ more) all last →
+    (others : List EventContent) × (all ≡ events ++ others) × Divides (rest ++ more) others last
+
 -- a word has at least one byte, and at most 257
 abbrev pub WordsAreShort : Type 0
 WordsAreShort = (event : EventContent) (word : List ℕ) → IsWord event word → (0 < length word) × (length word ≤ 257)

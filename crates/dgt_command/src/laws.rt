@@ -1,14 +1,15 @@
 //! What holds of commands, of the words on the line and of how bytes divide into them, whoever reads or writes them.
 
-ghost use Rattle.std.specs.Prelude.{◌≡◌, ◌↔◌, ℕ, Some};
+ghost use Rattle.std.specs.Prelude.{◌≡◌, ◌↔◌, ◌++◌, ℕ, List, [], Some};
 ghost use Rattle.dgt_values.specs.Equality.{EqualIsSame, EqualIsSameRead};
 ghost use Rattle.dgt_command.specs.declared.ids.KnownId.{KnownId};
 ghost use Rattle.dgt_command.specs.Carried.{led_bytes, payload_bytes};
-ghost use Rattle.dgt_command.specs.Content.{clock_content, command_content, event_content};
+ghost use Rattle.dgt_command.specs.Content.{EventContent, clock_content, command_content, event_content};
 ghost use Rattle.dgt_command.specs.Equality.{CommandHasArrays, EqualIsSameReadOf, EventHasArrays, FedHasArrays, HasArrays, fed_seen};
 ghost use Rattle.dgt_command.specs.Id.{id_number, id_with};
-ghost use Rattle.dgt_command.specs.Laws.{CommandsAreReadBack, DivisionsAppend, EachDividesOnce, NoWordBeginsAnother, SpellingsTellCommands, WordsAreShort, ZerosSettleTheReader};
+ghost use Rattle.dgt_command.specs.Laws.{CommandsAreReadBack, DivisionsAppend, EachDividesOnce, FrontsDivideFirst, NoWordBeginsAnother, SpellingsTellCommands, WordsAreShort, ZerosSettleTheReader};
 ghost use Rattle.dgt_command.specs.Raw.{raw_seen};
+ghost use Rattle.dgt_command.specs.Words.{AreBytes, IsPartial, IsWord};
 
 use crate::carried::{LedBytes, MAX_LED_BYTES, MAX_PAYLOAD, Payload};
 use crate::clock::{ClockCommand, RawClock};
@@ -69,6 +70,21 @@ pub fn zeros_settle_the_reader()
 /// Bytes that come in pieces divide as they do together: what follows is divided from the rest on.
 pub fn divisions_append()
     ensures { DivisionsAppend }
+{}
+
+/// Where bytes and a front of them divide, the events of the front come first, and its rest goes on.
+pub fn fronts_divide_first()
+    ensures { FrontsDivideFirst }
+{}
+
+/// Parts of words: no byte at all is one, none begins with a whole word, and with bytes behind it
+/// each is bytes.
+pub fn parts_of_words()
+    ensures nothing { IsPartial [] }
+    ensures no_word { (event : EventContent) (word more : List ℕ)
+        → IsWord event word → ¬ (IsPartial (word ++ more)) }
+    ensures bytes { (rest more : List ℕ)
+        → IsPartial rest → AreBytes more → AreBytes (rest ++ more) }
 {}
 
 /// Each word has 1 to 257 bytes.
