@@ -5,9 +5,12 @@ use Rattle.std.proofs.lemmas.List.{append-nil, length-replicate, replicate_more,
 use Rattle.std.specs.List.{flat_map, AllByRecursion}
 use Rattle.std.specs.Prelude.{Bool, true, false, slice_index, if◌then◌else◌}
 use Rattle.dgt_command.specs.Content.{CommandContent, ClockMessage, Leds, EventContent, Read, BadSize, BadStart, Stray}
-use Rattle.dgt_command.specs.Words.{AreBytes, spelling, Spells, BeginsNoCommand, HasForm, IsWord, IsPartial, Divides, IsNoise, IsNoiseList}
-use Rattle.dgt_command.specs.Laws.{EachDividesOnce, NoWordBeginsAnother, CommandsAreReadBack, ZerosSettleTheReader, DivisionsAppend, FrontsDivideFirst}
-use Rattle.dgt_command.proofs.WordLemmas.{word_length, clock_length, body_length, led_length, form_length, same_word, begins, clock_word}
+use Rattle.dgt_command.specs.Spelling.{AreBytes, command_spelling, SpellsCommand}
+use Rattle.dgt_command.specs.Lengths.{word_length}
+use Rattle.dgt_command.specs.Words.{BeginsNoCommand, HasForm, IsWord, IsPartial, Divides, IsNoise, IsNoiseList}
+use Rattle.dgt_command.specs.Laws.{EachDividesOnce, NoWordBeginsAnother, CommandsAreReadBack, ZerosSettleTheReader}
+use Rattle.dgt_command.specs.Laws.{DivisionsAppend, FrontsDivideFirst}
+use Rattle.dgt_command.proofs.WordLemmas.{body_length, form_length, same_word, begins, clock_word}
 use Rattle.dgt_command.proofs.CodeLemmas.{no_command}
 
 -- so many zeros
@@ -83,7 +86,7 @@ body_zeros size (id ∷ p) large byte short =
     }
 
 -- zeros complete what begins as a clock message
-clock_zeros : (rest : List ℕ) → slice_index rest 0 < 256 → length rest + 1 < clock_length rest → Completed (0x2b ∷ rest)
+clock_zeros : (rest : List ℕ) → slice_index rest 0 < 256 → length rest + 1 < word_length (0x2b ∷ rest) → Completed (0x2b ∷ rest)
 clock_zeros [] byte h = record { event = BadSize; count = 0; few = omega arith; noise = tt; form = (0, omega arith, refl) }
 clock_zeros (size ∷ rest) byte h = elim (cases_lt size 3) [
   | inl small ↦ absurd (let k : length (size ∷ rest) + 1 < 2 = rw (lt-ltb size 3 small) at h in omega (arith, k))
@@ -98,7 +101,7 @@ clock_zeros (size ∷ rest) byte h = elim (cases_lt size 3) [
     ]
 
 -- zeros complete an LED frame
-led_zeros : (rest : List ℕ) → slice_index rest 0 < 256 → length rest + 1 < led_length rest → Completed (0x60 ∷ rest)
+led_zeros : (rest : List ℕ) → slice_index rest 0 < 256 → length rest + 1 < word_length (0x60 ∷ rest) → Completed (0x60 ∷ rest)
 led_zeros [] byte h = record { event = Read (Leds []); count = 0; few = omega arith; noise = tt; form = (tt, refl) }
 led_zeros (size ∷ rest) byte h =
     let n : ℕ = size - 1 - length rest in
@@ -115,9 +118,9 @@ led_zeros (size ∷ rest) byte h =
 pub completed : (r : List ℕ) → AreBytes r → length r < word_length r → Completed r
 completed [] bytes h = record { event = Stray 0; count = 0; few = omega arith; noise = tt; form = (zero_begins_none, refl) }
 completed (b ∷ rest) bytes h = elim (cases_eq b 0x2b) [
-  | inl is ↦ subst (λ (x : ℕ). Completed (x ∷ rest)) (sym is) (clock_zeros rest (bytes 1) (let k : length (b ∷ rest) < clock_length rest = rw (eq-eqb b 0x2b is) at h in omega (arith, k)))
+  | inl is ↦ subst (λ (x : ℕ). Completed (x ∷ rest)) (sym is) (clock_zeros rest (bytes 1) (let k : length (b ∷ rest) < word_length (0x2b ∷ rest) = rw (eq-eqb b 0x2b is) at h in omega (arith, k)))
   | inr other ↦ elim (cases_eq b 0x60) [
-    | inl is ↦ subst (λ (x : ℕ). Completed (x ∷ rest)) (sym is) (led_zeros rest (bytes 1) (let k : length (b ∷ rest) < led_length rest = rw (ne_eqb b 0x2b other, eq-eqb b 0x60 is) at h in omega (arith, k)))
+    | inl is ↦ subst (λ (x : ℕ). Completed (x ∷ rest)) (sym is) (led_zeros rest (bytes 1) (let k : length (b ∷ rest) < word_length (0x60 ∷ rest) = rw (ne_eqb b 0x2b other, eq-eqb b 0x60 is) at h in omega (arith, k)))
     | inr neither ↦ absurd (let k : length (b ∷ rest) < 1 = rw (ne_eqb b 0x2b other, ne_eqb b 0x60 neither) at h in omega (arith, k))
   ]
 ]
@@ -211,10 +214,10 @@ no_word_begins_another e f w v more h k is =
     (same.event, same.after)
 
 -- spellings in a row divide into their commands
-read_back : (cs : List CommandContent) → AllByRecursion (λ c. Spells c (spelling c)) cs → Divides (flat_map spelling cs) (map Read cs) []
+read_back : (cs : List CommandContent) → AllByRecursion (λ c. SpellsCommand c (command_spelling c)) cs → Divides (flat_map command_spelling cs) (map Read cs) []
 read_back [] h = (refl, nothing_is_partial)
 read_back (c ∷ cs) h =
-    (spelling c, flat_map spelling cs, record { form = (h.0.is_command, refl); are_bytes = h.0.are_bytes }, refl, read_back cs h.1)
+    (command_spelling c, flat_map command_spelling cs, record { form = (h.0.is_command, refl); are_bytes = h.0.are_bytes }, refl, read_back cs h.1)
 
 -- bytes that follow others are divided from their rest on
 pub Divides-append : DivisionsAppend
@@ -239,7 +242,7 @@ divides_front s t (e ∷ es) (f ∷ fs) r q h k =
 
 -- so they do behind words
 pub commands_are_read_back : CommandsAreReadBack
-commands_are_read_back bytes es cs h all = Divides-append bytes (flat_map spelling cs) es (map Read cs) [] [] h (read_back cs all)
+commands_are_read_back bytes es cs h all = Divides-append bytes (flat_map command_spelling cs) es (map Read cs) [] [] h (read_back cs all)
 
 -- zeros are stray bytes
 zeros_stray : (n : ℕ) → (es : List EventContent) × IsNoiseList es × Divides (zeros n) es []

@@ -18,4 +18,5 @@ Shows text dots beep _ = ⊥
 
 -- one of the six characters has no segments
 abbrev pub HasNoSegments : List ℕ → Type 0
-HasNoSegments text = (i : ℕ) × (i < 6) × ((byte : ℕ) → ¬ (IsShownBy (slice_index text i) byte))
+HasNoSegments text =
+    (i : ℕ) × (i < 6) × ((byte : ℕ) → ¬ (IsShownBy (slice_index text i) byte))

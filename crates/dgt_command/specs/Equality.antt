@@ -8,7 +8,7 @@ use Rattle.dgt_command.specs.declared.command.Command.TheVariants as command
 use Rattle.dgt_command.specs.declared.command.CommandEvent.{CommandEvent}
 use Rattle.dgt_command.specs.declared.command.CommandEvent.TheVariants as event
 use Rattle.dgt_command.specs.declared.decoder.CommandFed.{CommandFed}
-use Rattle.dgt_command.specs.Content.{EventContent, event_content}
+use Rattle.dgt_command.specs.Content.{EventContent, command_event_content}
 
 -- two values that are as they should be are equal exactly where a clause reads the same of them
 abbrev pub EqualIsSameReadOf : {T Read : Type 0} → (T → Type 0) → (T → Read) → (T → T → Bool) → Type 0
@@ -35,4 +35,4 @@ FedHasArrays fed = IfSome fed.event EventHasArrays
 
 -- how many bytes were used, and the event
 abbrev pub fed_seen : CommandFed → ℕ × Option EventContent
-fed_seen fed = (fed.used, option_map event_content fed.event)
+fed_seen fed = (fed.used, option_map command_event_content fed.event)

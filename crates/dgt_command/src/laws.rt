@@ -3,13 +3,17 @@
 ghost use Rattle.std.specs.Prelude.{◌≡◌, ◌↔◌, ◌++◌, ℕ, List, [], Some};
 ghost use Rattle.dgt_values.specs.Equality.{EqualIsSame, EqualIsSameRead};
 ghost use Rattle.dgt_command.specs.declared.ids.KnownId.{KnownId};
-ghost use Rattle.dgt_command.specs.Carried.{led_bytes, payload_bytes};
-ghost use Rattle.dgt_command.specs.Content.{EventContent, clock_content, command_content, event_content};
-ghost use Rattle.dgt_command.specs.Equality.{CommandHasArrays, EqualIsSameReadOf, EventHasArrays, FedHasArrays, HasArrays, fed_seen};
-ghost use Rattle.dgt_command.specs.Id.{id_number, id_with};
-ghost use Rattle.dgt_command.specs.Laws.{CommandsAreReadBack, DivisionsAppend, EachDividesOnce, FrontsDivideFirst, NoWordBeginsAnother, SpellingsTellCommands, WordsAreShort, ZerosSettleTheReader};
-ghost use Rattle.dgt_command.specs.Raw.{raw_seen};
-ghost use Rattle.dgt_command.specs.Words.{AreBytes, IsPartial, IsWord};
+ghost use Rattle.dgt_command.specs.Content.{led_bytes, payload_bytes, raw_id, raw_payload, EventContent, clock_content};
+ghost use Rattle.dgt_command.specs.Content.{command_content, command_event_content};
+ghost use Rattle.dgt_command.specs.Equality.{CommandHasArrays, EqualIsSameReadOf, EventHasArrays};
+ghost use Rattle.dgt_command.specs.Equality.{FedHasArrays, HasArrays, fed_seen};
+ghost use Rattle.dgt_command.specs.Ids.{id_number, id_with};
+ghost use Rattle.dgt_command.specs.Laws.{CommandsAreReadBack, DivisionsAppend, EachDividesOnce};
+ghost use Rattle.dgt_command.specs.Laws.{FrontsDivideFirst, NoWordBeginsAnother};
+ghost use Rattle.dgt_command.specs.Laws.{SpellingsTellCommands, WordsAreShort};
+ghost use Rattle.dgt_command.specs.Laws.{ZerosSettleTheReader};
+ghost use Rattle.dgt_command.specs.Spelling.{AreBytes};
+ghost use Rattle.dgt_command.specs.Words.{IsPartial, IsWord};
 
 use crate::carried::{LedBytes, MAX_LED_BYTES, MAX_PAYLOAD, Payload};
 use crate::clock::{ClockCommand, RawClock};
@@ -30,10 +34,10 @@ pub fn limits()
 pub fn equal_is_same()
     ensures payload { EqualIsSameRead payload_bytes ⟦<Payload<'static> as PartialEq>⟧.eq }
     ensures led_bytes { EqualIsSameRead led_bytes ⟦<LedBytes<'static> as PartialEq>⟧.eq }
-    ensures raw { EqualIsSameRead raw_seen ⟦<RawClock<'static> as PartialEq>⟧.eq }
+    ensures raw { EqualIsSameRead {Read = ℕ × List ℕ} (λ raw. (raw_id raw, raw_payload raw)) ⟦<RawClock<'static> as PartialEq>⟧.eq }
     ensures clock { EqualIsSameReadOf HasArrays clock_content ⟦<ClockCommand<'static> as PartialEq>⟧.eq }
     ensures command { EqualIsSameReadOf CommandHasArrays command_content ⟦<Command<'static> as PartialEq>⟧.eq }
-    ensures event { EqualIsSameReadOf EventHasArrays event_content ⟦<CommandEvent<'static> as PartialEq>⟧.eq }
+    ensures event { EqualIsSameReadOf EventHasArrays command_event_content ⟦<CommandEvent<'static> as PartialEq>⟧.eq }
     ensures known_id { EqualIsSame ⟦<KnownId as PartialEq>⟧.eq }
     ensures fed { EqualIsSameReadOf FedHasArrays fed_seen ⟦<CommandFed<'static> as PartialEq>⟧.eq }
     ensures found { EqualIsSame ⟦<FoundWord as PartialEq>⟧.eq }
