@@ -1,5 +1,5 @@
 -- Commands and what a reader of their bytes tells, without where they lie in memory.
-use Rattle.std.specs.Prelude.{ℕ, List, slice_index, Option, Some, None}
+use Rattle.std.specs.Prelude.{ℕ, List, slice_index as nth, Option, Some, None}
 use Rattle.dgt_values.specs.declared.kinds.Kind.{Kind}
 use Rattle.dgt_command.specs.declared.carried.LedBytes.{LedBytes}
 use Rattle.dgt_command.specs.declared.carried.Payload.{Payload}
@@ -49,24 +49,17 @@ abbrev pub raw_payload : RawClock → List ℕ
 raw_payload raw = payload_bytes raw.payload
 
 abbrev pub clock_content : ClockCommand → ClockContent
-clock_content (clock.Display places dots beep) =
-    Display
-    (slice_index places 0) (slice_index places 1) (slice_index places 2)
-    (slice_index places 3) (slice_index places 4) (slice_index places 5) dots beep
+clock_content (clock.Display p dots beep) =
+    Display (nth p 0) (nth p 1) (nth p 2) (nth p 3) (nth p 4) (nth p 5) dots beep
 clock_content (clock.Icons payload) = Icons (payload_bytes payload)
 clock_content clock.End = End
 clock_content clock.Button = Button
 clock_content clock.Version = ClockVersion
-clock_content (clock.SetAndRun left right control) =
-    SetAndRun
-    (slice_index left 0) (slice_index left 1) (slice_index left 2)
-    (slice_index right 0) (slice_index right 1) (slice_index right 2) control
+clock_content (clock.SetAndRun l r control) =
+    SetAndRun (nth l 0) (nth l 1) (nth l 2) (nth r 0) (nth r 1) (nth r 2) control
 clock_content (clock.Beep duration) = Beep duration
-clock_content (clock.Text letters beep) =
-    Text
-    (slice_index letters 0) (slice_index letters 1) (slice_index letters 2)
-    (slice_index letters 3) (slice_index letters 4) (slice_index letters 5)
-    (slice_index letters 6) (slice_index letters 7) beep
+clock_content (clock.Text l beep) =
+    Text (nth l 0) (nth l 1) (nth l 2) (nth l 3) (nth l 4) (nth l 5) (nth l 6) (nth l 7) beep
 clock_content (clock.Raw raw) = Raw (raw_id raw) (raw_payload raw)
 
 abbrev pub command_content : Command → CommandContent

@@ -1,11 +1,13 @@
 -- The length of the word that bytes begin, as far as the first three of them tell it.
-use Rattle.std.specs.Prelude.{ℕ, ◌+◌, ◌==◌, List, slice_index, nat_lt, if◌then◌else◌}
+use Rattle.std.specs.Prelude.{ℕ, ◌+◌, ◌==◌, List, slice_index as nth, nat_lt, if◌then◌else◌}
 
--- a byte that hasn't come counts as 0, and so the word is longer than what came
+-- A byte that hasn't come counts as 0: then this is more than those that have.
 abbrev pub word_length : List ℕ → ℕ
 word_length bytes =
-    if slice_index bytes 0 == 0x2b then
-    (if nat_lt (slice_index bytes 1) 3 then 2
-    else if slice_index bytes 2 == 0x03 then slice_index bytes 1 + 2 else 3)
-    else if slice_index bytes 0 == 0x60 then slice_index bytes 1 + 2
+    if nth bytes 0 == 0x2b then clock_length bytes
+    else if nth bytes 0 == 0x60 then nth bytes 1 + 2
     else 1
+  where
+    clock_length : List ℕ → ℕ
+    clock_length bytes =
+        if nat_lt (nth bytes 1) 3 then 2 else if nth bytes 2 == 0x03 then nth bytes 1 + 2 else 3

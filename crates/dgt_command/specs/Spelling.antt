@@ -1,6 +1,6 @@
 -- How commands are spelled as bytes, and the command that a spelling tells.
 use Rattle.std.specs.Prelude.{◌≡◌, ℕ, ◌+◌, ◌-◌, ◌<◌, ◌==◌, List, [], ◌∷◌, ◌++◌, length, take, drop}
-use Rattle.std.specs.Prelude.{slice_index, find, Option, unwrap_or, false, if◌then◌else◌}
+use Rattle.std.specs.Prelude.{slice_index as nth, find, Option, unwrap_or, false, if◌then◌else◌}
 use Rattle.std.specs.Option.{option_map}
 use Rattle.dgt_command.specs.declared.command.Command.{Command}
 use Rattle.dgt_command.specs.declared.command.Command.TheVariants as command
@@ -12,7 +12,7 @@ use Rattle.dgt_command.specs.Content.{Version, LongSerial, ClockMessage, Leds, c
 use Rattle.dgt_command.specs.Ids.{id_number, id_with, has_own_case}
 
 abbrev pub AreBytes : List ℕ → Type 0
-AreBytes bytes = (i : ℕ) → slice_index bytes i < 256
+AreBytes bytes = (i : ℕ) → nth bytes i < 256
 
 -- the byte that each command begins with
 abbrev pub command_code : CommandContent → ℕ
@@ -91,22 +91,16 @@ bare_command code = find (λ each. command_code (command_content each) == code) 
 -- the clock message of a known id
 abbrev pub own_case : KnownId → List ℕ → ClockContent
 own_case KnownId.Display p =
-    Display
-    (slice_index p 2) (slice_index p 1) (slice_index p 0)
-    (slice_index p 5) (slice_index p 4) (slice_index p 3) (slice_index p 6) (slice_index p 7)
+    Display (nth p 2) (nth p 1) (nth p 0) (nth p 5) (nth p 4) (nth p 3) (nth p 6) (nth p 7)
 own_case KnownId.Icons p = Icons p
 own_case KnownId.End p = End
 own_case KnownId.Button p = Button
 own_case KnownId.Version p = ClockVersion
 own_case KnownId.SetAndRun p =
-    SetAndRun
-    (slice_index p 0) (slice_index p 1) (slice_index p 2)
-    (slice_index p 3) (slice_index p 4) (slice_index p 5) (slice_index p 6)
-own_case KnownId.Beep p = Beep (slice_index p 0)
+    SetAndRun (nth p 0) (nth p 1) (nth p 2) (nth p 3) (nth p 4) (nth p 5) (nth p 6)
+own_case KnownId.Beep p = Beep (nth p 0)
 own_case KnownId.Text p =
-    Text
-    (slice_index p 0) (slice_index p 1) (slice_index p 2) (slice_index p 3)
-    (slice_index p 4) (slice_index p 5) (slice_index p 6) (slice_index p 7) (slice_index p 8)
+    Text (nth p 0) (nth p 1) (nth p 2) (nth p 3) (nth p 4) (nth p 5) (nth p 6) (nth p 7) (nth p 8)
 
 -- a known id's, where it has so many bytes, and else a raw one
 abbrev pub clock_in : ℕ → List ℕ → ClockContent
@@ -118,7 +112,7 @@ clock_in id p =
 -- the command of which these bytes are the spelling
 unfoldable pub command_in : List ℕ → CommandContent
 command_in word =
-    if slice_index word 0 == 0x2b
-    then ClockMessage (clock_in (slice_index word 3) (take (length word - 5) (drop 4 word)))
-    else if slice_index word 0 == 0x60 then Leds (drop 2 word)
-    else unwrap_or (option_map command_content (bare_command (slice_index word 0))) Reset
+    if nth word 0 == 0x2b
+    then ClockMessage (clock_in (nth word 3) (take (length word - 5) (drop 4 word)))
+    else if nth word 0 == 0x60 then Leds (drop 2 word)
+    else unwrap_or (option_map command_content (bare_command (nth word 0))) Reset
