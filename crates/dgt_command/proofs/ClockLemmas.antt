@@ -3,27 +3,20 @@ use Rattle.std.proofs.Common.{◌≡◌, ℕ, Bool, true, false, List, [], ◌�
 use Rattle.std.proofs.lemmas.Bool.{eqb-true}
 use Rattle.dgt_command.specs.declared.ids.KnownId.{KnownId}
 use Rattle.std.specs.Prelude.{IsTrue}
-use Rattle.dgt_command.specs.ClockForm.{has_own_case, has_size, known_has_size}
-use Rattle.dgt_command.specs.Content.{ClockContent, Raw}
-use Rattle.dgt_command.specs.Id.{id_number, id_with}
-use Rattle.dgt_command.specs.Telling.{clock_in, clock_under, own_case}
-use Rattle.dgt_command.specs.Words.{clock_id, payload, IsClockCommand}
+use Rattle.dgt_command.specs.Ids.{has_own_case, has_size, id_number, id_with}
+use Rattle.dgt_command.specs.Content.{ClockContent, Raw, ClockMessage}
+use Rattle.dgt_command.specs.Spelling.{clock_in, own_case, clock_id, payload, IsCommand}
 use Rattle.dgt_command.proofs.CodeLemmas.{found_id}
 
--- an id and a payload of another length, or of no known id, are those of a raw message
-raw_lem : (known : Option KnownId) (id : ℕ) (p : List ℕ) → known_has_size known (length p) ≡ false → clock_under known id p ≡ Raw id p
-raw_lem (Some known) id p h = rw h refl
-raw_lem None id p h = refl
-
 -- a clock message is told by its id and payload
-pub clock_in_lem : (c : ClockContent) → IsClockCommand c → clock_in (clock_id c) (payload c) ≡ c
-clock_in_lem (Raw id p) h = raw_lem (id_with id) id p h
+pub clock_in_lem : (c : ClockContent) → IsCommand (ClockMessage c) → clock_in (clock_id c) (payload c) ≡ c
+clock_in_lem (Raw id p) h = rw h refl
 clock_in_lem _ h = refl
 
 -- the clock command with this id and payload
 pub record ClockCase (id : ℕ) (p : List ℕ) : Type 0 where
   pub command : ClockContent
-  pub is_command : IsClockCommand command
+  pub is_command : IsCommand (ClockMessage command)
   pub same_id : clock_id command ≡ id
   pub same_payload : payload command ≡ p
 
@@ -85,17 +78,22 @@ own_id KnownId.Display p = refl
 own_id _ p = refl
 
 -- and no case but a raw message has a rule
-own_is_command : (known : KnownId) (p : List ℕ) → IsClockCommand (own_case known p)
+own_is_command : (known : KnownId) (p : List ℕ) → IsCommand (ClockMessage (own_case known p))
 own_is_command KnownId.Display p = tt
 own_is_command _ p = tt
 
 -- an id and a payload are those of a case of its own, or of a raw message
-case_under : (known : Option KnownId) (size : Bool) (id : ℕ) (p : List ℕ) → id_with id ≡ known → known_has_size known (length p) ≡ size → ClockCase id p
+case_under : (known : Option KnownId) (own : Bool) (id : ℕ) (p : List ℕ) → id_with id ≡ known → has_own_case id (length p) ≡ own → ClockCase id p
 case_under (Some known) true id p e h =
-    record { command = own_case known p; is_command = own_is_command known p; same_id = own_id known p ∙ sym (found_id id known e); same_payload = own_payload known p h }
-case_under known false id p e h = record { command = Raw id p; is_command = rw e h; same_id = refl; same_payload = refl }
-case_under None true id p e h = cc
+    record {
+      command = own_case known p;
+      is_command = own_is_command known p;
+      same_id = own_id known p ∙ sym (found_id id known e);
+      same_payload = sized_payload known id p e h;
+    }
+case_under known false id p e h = record { command = Raw id p; is_command = h; same_id = refl; same_payload = refl }
+case_under None true id p e h = let never : false ≡ true = rw e at h in cc
 
 -- each id and payload are those of some clock message
 pub clock_case : (id : ℕ) (p : List ℕ) → ClockCase id p
-clock_case id p = case_under (id_with id) (known_has_size (id_with id) (length p)) id p refl refl
+clock_case id p = case_under (id_with id) (has_own_case id (length p)) id p refl refl

@@ -6,9 +6,9 @@ use Rattle.dgt_command.specs.declared.command.Command.{Command}
 use Rattle.dgt_command.specs.declared.command.Command.TheVariants as command
 use Rattle.dgt_command.specs.declared.ids.KnownId.{KnownId}
 use Rattle.dgt_command.specs.declared.ids.KnownId.TheVariants.{Display}
-use Rattle.dgt_command.specs.Code.{bare_command, bare_commands, command_code}
+use Rattle.dgt_command.specs.Spelling.{bare_command, bare_commands, command_code}
 use Rattle.dgt_command.specs.Content.{command_content, ClockMessage, Leds, Read}
-use Rattle.dgt_command.specs.Id.{id_number, id_with, known_ids}
+use Rattle.dgt_command.specs.Ids.{id_number, id_with, known_ids}
 use Rattle.dgt_command.specs.Words.{BeginsNoCommand, HasForm}
 
 -- whether each member passes a test

@@ -3,11 +3,11 @@ use Rattle.dgt_command.specs.declared.clock.ClockCommand.{ClockCommand}
 use Rattle.dgt_command.specs.declared.clock.ClockCommand.TheVariants as clock
 use Rattle.dgt_command.specs.declared.command.Command.{Command}
 use Rattle.dgt_command.specs.declared.command.Command.TheVariants as command
-use Rattle.dgt_command.specs.Content.{clock_content, command_content}
-use Rattle.dgt_command.specs.Words.{IsClockCommand, IsCommand}
+use Rattle.dgt_command.specs.Content.{clock_content, command_content, ClockMessage}
+use Rattle.dgt_command.specs.Spelling.{IsCommand}
 
 -- a clock message of the code has no case but its own
-pub is_clock_command : (c : ClockCommand) → IsClockCommand (clock_content c)
+pub is_clock_command : (c : ClockCommand) → IsCommand (ClockMessage (clock_content c))
 is_clock_command (clock.Raw raw) = raw.unread
 is_clock_command _ = tt
 

@@ -5,9 +5,12 @@ use Rattle.std.proofs.lemmas.List.{append-nil, length-replicate, replicate_more,
 use Rattle.std.specs.List.{flat_map, AllByRecursion}
 use Rattle.std.specs.Prelude.{Bool, true, false, slice_index, if◌then◌else◌}
 use Rattle.dgt_command.specs.Content.{CommandContent, ClockMessage, Leds, EventContent, Read, BadSize, BadStart, Stray}
-use Rattle.dgt_command.specs.Words.{AreBytes, spelling, Spells, BeginsNoCommand, HasForm, IsPartial, Divides, IsNoise, IsNoiseList}
-use Rattle.dgt_command.specs.Laws.{EachDividesOnce, NoWordBeginsAnother, CommandsAreReadBack, ZerosSettleTheReader, DivisionsAppend}
-use Rattle.dgt_command.proofs.WordLemmas.{word_length, clock_length, body_length, led_length, form_length, same_word, begins, clock_word}
+use Rattle.dgt_command.specs.Spelling.{AreBytes, command_spelling, SpellsCommand}
+use Rattle.dgt_command.specs.Lengths.{word_length}
+use Rattle.dgt_command.specs.Words.{BeginsNoCommand, HasForm, IsWord, IsPartial, Divides, IsNoise, IsNoiseList}
+use Rattle.dgt_command.specs.Laws.{EachDividesOnce, NoWordBeginsAnother, CommandsAreReadBack, ZerosSettleTheReader}
+use Rattle.dgt_command.specs.Laws.{DivisionsAppend, FrontsDivideFirst}
+use Rattle.dgt_command.proofs.WordLemmas.{body_length, form_length, same_word, begins, clock_word}
 use Rattle.dgt_command.proofs.CodeLemmas.{no_command}
 
 -- so many zeros
@@ -83,7 +86,7 @@ body_zeros size (id ∷ p) large byte short =
     }
 
 -- zeros complete what begins as a clock message
-clock_zeros : (rest : List ℕ) → slice_index rest 0 < 256 → length rest + 1 < clock_length rest → Completed (0x2b ∷ rest)
+clock_zeros : (rest : List ℕ) → slice_index rest 0 < 256 → length rest + 1 < word_length (0x2b ∷ rest) → Completed (0x2b ∷ rest)
 clock_zeros [] byte h = record { event = BadSize; count = 0; few = omega arith; noise = tt; form = (0, omega arith, refl) }
 clock_zeros (size ∷ rest) byte h = elim (cases_lt size 3) [
   | inl small ↦ absurd (let k : length (size ∷ rest) + 1 < 2 = rw (lt-ltb size 3 small) at h in omega (arith, k))
@@ -98,7 +101,7 @@ clock_zeros (size ∷ rest) byte h = elim (cases_lt size 3) [
     ]
 
 -- zeros complete an LED frame
-led_zeros : (rest : List ℕ) → slice_index rest 0 < 256 → length rest + 1 < led_length rest → Completed (0x60 ∷ rest)
+led_zeros : (rest : List ℕ) → slice_index rest 0 < 256 → length rest + 1 < word_length (0x60 ∷ rest) → Completed (0x60 ∷ rest)
 led_zeros [] byte h = record { event = Read (Leds []); count = 0; few = omega arith; noise = tt; form = (tt, refl) }
 led_zeros (size ∷ rest) byte h =
     let n : ℕ = size - 1 - length rest in
@@ -115,9 +118,9 @@ led_zeros (size ∷ rest) byte h =
 pub completed : (r : List ℕ) → AreBytes r → length r < word_length r → Completed r
 completed [] bytes h = record { event = Stray 0; count = 0; few = omega arith; noise = tt; form = (zero_begins_none, refl) }
 completed (b ∷ rest) bytes h = elim (cases_eq b 0x2b) [
-  | inl is ↦ subst (λ (x : ℕ). Completed (x ∷ rest)) (sym is) (clock_zeros rest (bytes 1) (let k : length (b ∷ rest) < clock_length rest = rw (eq-eqb b 0x2b is) at h in omega (arith, k)))
+  | inl is ↦ subst (λ (x : ℕ). Completed (x ∷ rest)) (sym is) (clock_zeros rest (bytes 1) (let k : length (b ∷ rest) < word_length (0x2b ∷ rest) = rw (eq-eqb b 0x2b is) at h in omega (arith, k)))
   | inr other ↦ elim (cases_eq b 0x60) [
-    | inl is ↦ subst (λ (x : ℕ). Completed (x ∷ rest)) (sym is) (led_zeros rest (bytes 1) (let k : length (b ∷ rest) < led_length rest = rw (ne_eqb b 0x2b other, eq-eqb b 0x60 is) at h in omega (arith, k)))
+    | inl is ↦ subst (λ (x : ℕ). Completed (x ∷ rest)) (sym is) (led_zeros rest (bytes 1) (let k : length (b ∷ rest) < word_length (0x60 ∷ rest) = rw (ne_eqb b 0x2b other, eq-eqb b 0x60 is) at h in omega (arith, k)))
     | inr neither ↦ absurd (let k : length (b ∷ rest) < 1 = rw (ne_eqb b 0x2b other, ne_eqb b 0x60 neither) at h in omega (arith, k))
   ]
 ]
@@ -148,6 +151,15 @@ short_from_IsPartial r partial = elim (cases_lt (length r) (word_length r)) [
   | inl h ↦ h
   | inr h ↦ let found = begins r h in absurd (not_both r found.event found.word found.after partial found.form found.is)
 ]
+
+-- what begins with a word is no part of one
+pub no_word_within : (e : EventContent) (w x : List ℕ) → IsWord e w → IsPartial (w ++ x) → ⊥
+no_word_within e w x word partial = not_both (w ++ x) e w x partial word.form refl
+
+-- bytes behind a part of a word are bytes with it
+pub partial_bytes : (r more : List ℕ) → IsPartial r → AreBytes more → AreBytes (r ++ more)
+partial_bytes r more partial are =
+    bytes_append r more (bytes_left r (partial.next ∷ partial.more) partial.word.are_bytes) are
 
 -- no byte is a proper prefix of a word
 pub nothing_is_partial : IsPartial []
@@ -202,10 +214,10 @@ no_word_begins_another e f w v more h k is =
     (same.event, same.after)
 
 -- spellings in a row divide into their commands
-read_back : (cs : List CommandContent) → AllByRecursion (λ c. Spells c (spelling c)) cs → Divides (flat_map spelling cs) (map Read cs) []
+read_back : (cs : List CommandContent) → AllByRecursion (λ c. SpellsCommand c (command_spelling c)) cs → Divides (flat_map command_spelling cs) (map Read cs) []
 read_back [] h = (refl, nothing_is_partial)
 read_back (c ∷ cs) h =
-    (spelling c, flat_map spelling cs, record { form = (h.0.is_command, refl); are_bytes = h.0.are_bytes }, refl, read_back cs h.1)
+    (command_spelling c, flat_map command_spelling cs, record { form = (h.0.is_command, refl); are_bytes = h.0.are_bytes }, refl, read_back cs h.1)
 
 -- bytes that follow others are divided from their rest on
 pub Divides-append : DivisionsAppend
@@ -213,9 +225,24 @@ Divides-append s t [] fs r q h k = subst (λ (z : List ℕ). Divides (z ++ t) fs
 Divides-append s t (e ∷ es) fs r q h k =
     (h.0, h.1 ++ t, h.2, ap (λ (z : List ℕ). z ++ t) h.3 ∙ append_assoc h.0 h.1 t, Divides-append h.1 t es fs r q h.4 k)
 
+-- the events of a front of bytes come first among theirs, and its rest goes on
+pub divides_front : FrontsDivideFirst
+divides_front s t [] fs r q h k = (fs, refl, subst (λ (z : List ℕ). Divides (z ++ t) fs q) h.0 k)
+divides_front s t (e ∷ es) [] r q h k =
+    absurd (not_both q e h.0 (h.1 ++ t) k.1 h.2.form
+    (sym k.0 ∙ ap (λ (z : List ℕ). z ++ t) h.3 ∙ append_assoc h.0 h.1 t))
+divides_front s t (e ∷ es) (f ∷ fs) r q h k =
+    let front : s ++ t ≡ h.0 ++ (h.1 ++ t) = ap (λ (z : List ℕ). z ++ t) h.3 ∙ append_assoc h.0 h.1 t in
+    let same = same_word e f h.0 k.0 (h.1 ++ t) k.1 h.2.form k.2.form (sym front ∙ k.3) in
+    let on = divides_front h.1 t es fs r q h.4 (subst (λ (z : List ℕ). Divides z fs q) (sym same.after) k.4) in (
+      on.0,
+      ap (λ (x : EventContent). x ∷ fs) (sym same.event) ∙ ap (λ (xs : List EventContent). e ∷ xs) on.1,
+      on.2,
+    )
+
 -- so they do behind words
 pub commands_are_read_back : CommandsAreReadBack
-commands_are_read_back bytes es cs h all = Divides-append bytes (flat_map spelling cs) es (map Read cs) [] [] h (read_back cs all)
+commands_are_read_back bytes es cs h all = Divides-append bytes (flat_map command_spelling cs) es (map Read cs) [] [] h (read_back cs all)
 
 -- zeros are stray bytes
 zeros_stray : (n : ℕ) → (es : List EventContent) × IsNoiseList es × Divides (zeros n) es []

@@ -5,9 +5,10 @@ use Rattle.std.specs.Option.{option_eq, option_map}
 use Rattle.dgt_command.specs.declared.command.Command.TheVariants as command
 use Rattle.dgt_command.specs.declared.command.CommandEvent.{CommandEvent}
 use Rattle.dgt_command.specs.declared.command.CommandEvent.TheVariants as event
-use Rattle.dgt_command.specs.Code.{command_code}
+use Rattle.dgt_command.specs.Spelling.{command_code}
 use Rattle.dgt_command.specs.Content as content
-use Rattle.dgt_command.specs.Content.{ClockContent, CommandContent, EventContent, command_content, event_content}
+use Rattle.dgt_command.specs.Content.{ClockContent, CommandContent, EventContent, command_content}
+use Rattle.dgt_command.specs.Content.{command_event_content}
 use Rattle.dgt_command.specs.Equality.{CommandHasArrays, EqualIsSameReadOf, EventHasArrays, FedHasArrays, fed_seen}
 use Rattle.dgt_command.specs.contracts.command.CommandPartialEq.TheImpl as derived_command
 use Rattle.dgt_command.specs.contracts.command.CommandEventPartialEq.TheImpl as derived_event
@@ -80,7 +81,7 @@ differ_events : (a b : EventContent) → nat_eq (event_case_of a) (event_case_of
 differ_events a b cases = (λ t. absurd (never t), λ e. absurd (apart (event_case_of a) (event_case_of b) cases (ap event_case_of e)))
 
 -- two events are equal exactly where they tell the same
-pub equal_events : EqualIsSameReadOf EventHasArrays event_content (derived_event.eq-value).it
+pub equal_events : EqualIsSameReadOf EventHasArrays command_event_content (derived_event.eq-value).it
 equal_events (event.Command a) (event.Command b) h k =
     let same = equal_commands a b h k in
     (λ t. ap (λ (read : CommandContent). content.Read read) (same.0 t), λ e. same.1 (ap read_of e))
@@ -90,7 +91,7 @@ equal_events event.BadEnd event.BadEnd h k = (λ _. refl, λ _. refl)
 equal_events (event.Stray a) (event.Stray b) h k =
     let same = equal_numbers a b in
     (λ t. ap (λ (byte : ℕ). content.Stray byte) (same.0 t), λ e. same.1 (ap byte_of e))
-equal_events a b h k = differ_events (event_content a) (event_content b) refl
+equal_events a b h k = differ_events (command_event_content a) (command_event_content b) refl
 
 -- the event that is there
 abbrev there : Option EventContent → EventContent
@@ -103,7 +104,7 @@ how_many (Some told) = 1
 how_many None = 0
 
 -- two events, or none, are equal exactly where they tell the same
-equal_found : (a b : Option CommandEvent) → IfSome a EventHasArrays → IfSome b EventHasArrays → IsTrue (option_eq (derived_event.eq-value).it a b) ↔ (option_map event_content a ≡ option_map event_content b)
+equal_found : (a b : Option CommandEvent) → IfSome a EventHasArrays → IfSome b EventHasArrays → IsTrue (option_eq (derived_event.eq-value).it a b) ↔ (option_map command_event_content a ≡ option_map command_event_content b)
 equal_found (Some a) (Some b) h k =
     let same = equal_events a b h k in
     (λ t. ap (λ (told : EventContent). Some told) (same.0 t), λ e. same.1 (ap there e))

@@ -1,17 +1,18 @@
 -- Reading byte by byte.
 use Rattle.std.proofs.Common.{◌≡◌, ℕ, ◌-◌, ◌<◌, ◌≤◌, List, [], ◌∷◌, ◌++◌, length, take, drop, refl, sym, ap, subst, ◌∙◌, inl, inr, arith}
-use Rattle.std.proofs.lemmas.Bool.{cases_lt, ne_eqb}
+use Rattle.std.proofs.lemmas.Bool.{cases_lt}
 use Rattle.std.proofs.lemmas.List.{append-nil, take_at, take_all, take-append-drop, take-take}
 use Rattle.std.proofs.lemmas.Bool.Decides.{nat_tests}
 use Rattle.std.specs.Prelude.{Bool, true, false}
-use Rattle.dgt_command.specs.Lengths.{length_by_places}
+use Rattle.dgt_command.specs.Lengths.{word_length}
 use Rattle.dgt_command.specs.Laws.{WordsAreShort}
-use Rattle.dgt_command.specs.Words.{AreBytes, IsWhole, IsPartial}
-use Rattle.dgt_command.proofs.WordLemmas.{word_length, form_length, begins}
+use Rattle.dgt_command.specs.Spelling.{AreBytes}
+use Rattle.dgt_command.specs.Words.{IsWholeWord, IsPartial}
+use Rattle.dgt_command.proofs.WordLemmas.{form_length, begins}
 use Rattle.dgt_command.proofs.DivisionLemmas.{some_word, not_both, short_from_IsPartial, IsPartial-from_short, bytes_left}
 
 -- bytes as long as their word begin with it
-pub whole_front : (s : List ℕ) (n : ℕ) → AreBytes s → n ≡ word_length s → n ≤ length s → IsWhole (take n s)
+pub whole_front : (s : List ℕ) (n : ℕ) → AreBytes s → n ≡ word_length s → n ≤ length s → IsWholeWord (take n s)
 whole_front s n bytes is long =
     let found = begins s (omega (arith, is)) in
     let size : length found.word ≡ n = sym (form_length found.event found.word found.after found.form) ∙ (ap word_length (sym found.is) ∙ sym is) in
@@ -24,31 +25,14 @@ pub partial_front : (s : List ℕ) (n : ℕ) → AreBytes s → n ≡ word_lengt
 partial_front s n bytes is short = IsPartial-from_short s bytes (omega (arith, is))
 
 -- a word that begins bytes which are partial without the last is all of them
-pub whole_last : (s : List ℕ) (n : ℕ) → IsPartial (take (length s - 1) s) → n ≤ length s → IsWhole (take n s) → IsWhole s
+pub whole_last : (s : List ℕ) (n : ℕ) → IsPartial (take (length s - 1) s) → n ≤ length s → IsWholeWord (take n s) → IsWholeWord s
 whole_last s n partial long whole = elim (cases_lt (length s - 1) n) [
-  | inl h ↦ subst IsWhole (take_all n s (omega arith)) whole
+  | inl h ↦ subst IsWholeWord (take_all n s (omega arith)) whole
   | inr h ↦
       let front : List ℕ = take (length s - 1) s in
       absurd (not_both front whole.0 (take n s) (drop n front) partial whole.1.form
       (sym (take-append-drop n front) ∙ ap (λ (z : List ℕ). z ++ drop n front) (take-take n (length s - 1) s h)))
 ]
-
--- the length of a word by cases and by places is the same
-word_length_by_places : (s : List ℕ) → word_length s ≡ length_by_places s
-word_length_by_places [] = refl
-word_length_by_places (b ∷ []) = refl
-word_length_by_places (b ∷ size ∷ []) = refl
-word_length_by_places (b ∷ size ∷ third ∷ rest) =
-    let s : List ℕ = b ∷ size ∷ third ∷ rest in
-    rw (ne_eqb (length s) 0 (λ e. omega arith), ne_eqb (length s) 1 (λ e. omega arith), ne_eqb (length s) 2 (λ e. omega arith)) refl
-
--- bytes as long as their word by places begin with it
-pub whole_at : (s : List ℕ) (n : ℕ) → AreBytes s → n ≡ length_by_places s → n ≤ length s → IsWhole (take n s)
-whole_at s n bytes is long = whole_front s n bytes (is ∙ sym (word_length_by_places s)) long
-
--- bytes shorter than their word by places are a part of one
-pub partial_at : (s : List ℕ) (n : ℕ) → AreBytes s → n ≡ length_by_places s → length s < n → IsPartial s
-partial_at s n bytes is short = partial_front s n bytes (is ∙ sym (word_length_by_places s)) short
 
 -- no word has more than 257 bytes
 pub word_limit : (s : List ℕ) → AreBytes s → word_length s ≤ 257
@@ -67,6 +51,6 @@ words_are_short e w h =
     (some_word e w h.form, omega (arith, form_length e w [] h.form, ap word_length (append-nil w), word_limit w h.are_bytes))
 
 -- what is kept, a whole word or a part of one, has at most 257 bytes
-pub kept_limit : (is_whole : Bool) (word : List ℕ) → (is_whole ≡ true → IsWhole word) → (is_whole ≡ false → IsPartial word) → length word ≤ 257
+pub kept_limit : (is_whole : Bool) (word : List ℕ) → (is_whole ≡ true → IsWholeWord word) → (is_whole ≡ false → IsPartial word) → length word ≤ 257
 kept_limit true word whole partial = let found = whole refl in (words_are_short found.0 word found.1).1
 kept_limit false word whole partial = omega (arith, partial_limit word (partial refl))

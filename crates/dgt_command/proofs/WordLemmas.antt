@@ -2,34 +2,20 @@
 use Rattle.std.proofs.Common.{◌≡◌, ◌≢◌, ℕ, ◌+◌, ◌-◌, ◌<◌, ◌≤◌, false, List, [], ◌∷◌, ◌++◌, length, get_or, take, drop, refl, sym, ap, subst, ◌∙◌, inl, inr, arith, length-append, Option, Some, None}
 use Rattle.std.proofs.lemmas.Bool.{cases_eq, cases_lt, le-ltb, lt-ltb, ne_eqb, eq-eqb}
 use Rattle.std.proofs.lemmas.List.{append_cancel_left, take_at, get_or_push, length-take-le, take-append-drop}
-use Rattle.std.specs.Prelude.{◌==◌, nat_lt, if◌then◌else◌}
+use Rattle.std.specs.Prelude.{◌==◌, slice_index, if◌then◌else◌}
 use Rattle.dgt_command.specs.declared.command.Command.{Command}
-use Rattle.dgt_command.specs.Content.{command_content, ClockContent, End, CommandContent, ClockMessage, Leds, EventContent, Read, BadSize, BadStart, BadEnd, Stray}
-use Rattle.dgt_command.specs.Code.{bare_command}
-use Rattle.dgt_command.specs.Telling.{clock_in}
-use Rattle.dgt_command.specs.Words.{clock_id, payload, IsCommand, behind_code, spelling, BeginsNoCommand, HasForm}
+use Rattle.dgt_command.specs.Content.{command_content, ClockContent, End, CommandContent, ClockMessage, Leds}
+use Rattle.dgt_command.specs.Content.{EventContent, Read, BadSize, BadStart, BadEnd, Stray}
+use Rattle.dgt_command.specs.Spelling.{bare_command, clock_in, clock_id, payload, IsCommand, behind_code}
+use Rattle.dgt_command.specs.Spelling.{command_spelling}
+use Rattle.dgt_command.specs.Lengths.{word_length}
+use Rattle.dgt_command.specs.Words.{BeginsNoCommand, HasForm}
 use Rattle.dgt_command.proofs.ClockLemmas.{clock_in_lem, clock_case}
 use Rattle.dgt_command.proofs.CodeLemmas.{bare_form, no_command}
 
--- the length of the LED frame that a first byte begins, as far as the bytes behind it tell it
-abbrev pub led_length : List ℕ → ℕ
-led_length [] = 2
-led_length (size ∷ rest) = size + 2
-
--- the same, behind a size
+-- the length of a clock message of a size that is no fault
 abbrev pub body_length : ℕ → List ℕ → ℕ
-body_length size [] = 3
-body_length size (third ∷ rest) = if third == 3 then size + 2 else 3
-
--- the same, behind the first byte of a clock message
-abbrev pub clock_length : List ℕ → ℕ
-clock_length [] = 2
-clock_length (size ∷ rest) = if nat_lt size 3 then 2 else body_length size rest
-
--- the same, of all bytes
-abbrev pub word_length : List ℕ → ℕ
-word_length [] = 1
-word_length (first ∷ rest) = if first == 0x2b then clock_length rest else if first == 0x60 then led_length rest else 1
+body_length size rest = if slice_index rest 0 == 3 then size + 2 else 3
 
 -- a byte that begins no command begins no clock message and no LED frame
 not_clock : (b : ℕ) → BeginsNoCommand b → (b == 0x2b) ≡ false
@@ -40,7 +26,7 @@ not_leds : (b : ℕ) → BeginsNoCommand b → (b == 0x60) ≡ false
 not_leds b h = ne_eqb b 0x60 (λ e. h (Leds []) (behind_code (Leds [])) (ap (λ (x : ℕ). x ∷ behind_code (Leds [])) (sym e)))
 
 -- the word that a list begins with has this length
-spelling_length : (c : CommandContent) (x : List ℕ) → word_length (spelling c ++ x) ≡ length (spelling c)
+spelling_length : (c : CommandContent) (x : List ℕ) → word_length (command_spelling c ++ x) ≡ length (command_spelling c)
 spelling_length (ClockMessage message) x = rw (le-ltb (length (payload message) + 3) 3 (omega arith)) (omega (arith, length-append (payload message) (0 ∷ [])))
 spelling_length (Leds leds) x = omega arith
 spelling_length _ x = refl
@@ -97,7 +83,7 @@ end_bad : (id : ℕ) (p : List ℕ) (x : ℕ) → x ≢ 0 → end_event id (p ++
 end_bad id p x h = rw (last_of p x, ne_eqb x 0 h) refl
 
 -- the event of a spelling is its command
-event_of_spelling : (c : CommandContent) → IsCommand c → event_of (spelling c) ≡ Read c
+event_of_spelling : (c : CommandContent) → IsCommand c → event_of (command_spelling c) ≡ Read c
 event_of_spelling (ClockMessage message) h =
     end_read (clock_id message) (payload message) ∙ ap (λ m. Read (ClockMessage m)) (clock_in_lem message h)
 event_of_spelling _ h = refl
@@ -147,7 +133,7 @@ pub byte_word : (b : ℕ) → b ≢ 0x2b → b ≢ 0x60 → (e : EventContent) �
 byte_word b c l = word_of_byte (bare_command b) b refl c l
 
 -- the spelling of a clock message, by its id and payload
-clock_spelling : (c : ClockContent) (id : ℕ) (p : List ℕ) (size : ℕ) → clock_id c ≡ id → payload c ≡ p → length p + 3 ≡ size → 0x2b ∷ size ∷ 3 ∷ id ∷ (p ++ 0 ∷ []) ≡ spelling (ClockMessage c)
+clock_spelling : (c : ClockContent) (id : ℕ) (p : List ℕ) (size : ℕ) → clock_id c ≡ id → payload c ≡ p → length p + 3 ≡ size → 0x2b ∷ size ∷ 3 ∷ id ∷ (p ++ 0 ∷ []) ≡ command_spelling (ClockMessage c)
 clock_spelling c id p size e f g = rw (← g, ← f, ← e) refl
 
 -- a clock message of this id and payload
@@ -219,7 +205,7 @@ body_begins size (third ∷ rest) large h = elim (cases_eq third 3) [
 ]
 
 -- bytes as long as what begins as a clock message begin with a word
-clock_begins : (rest : List ℕ) → clock_length rest ≤ length rest + 1 → Begins (0x2b ∷ rest)
+clock_begins : (rest : List ℕ) → word_length (0x2b ∷ rest) ≤ length rest + 1 → Begins (0x2b ∷ rest)
 clock_begins [] h = absurd (omega arith)
 clock_begins (size ∷ rest) h = elim (cases_lt size 3) [
   | inl small ↦ record { event = BadSize; word = 0x2b ∷ size ∷ []; after = rest; form = (size, small, refl); is = refl }
@@ -227,7 +213,7 @@ clock_begins (size ∷ rest) h = elim (cases_lt size 3) [
 ]
 
 -- bytes as long as an LED frame begin with it
-led_begins : (rest : List ℕ) → led_length rest ≤ length rest + 1 → Begins (0x60 ∷ rest)
+led_begins : (rest : List ℕ) → word_length (0x60 ∷ rest) ≤ length rest + 1 → Begins (0x60 ∷ rest)
 led_begins [] h = absurd (omega arith)
 led_begins (size ∷ rest) h =
     let long : length (take size rest) ≡ size = length-take-le size rest (omega arith) in
@@ -243,9 +229,9 @@ led_begins (size ∷ rest) h =
 pub begins : (s : List ℕ) → word_length s ≤ length s → Begins s
 begins [] h = absurd (omega arith)
 begins (b ∷ rest) h = elim (cases_eq b 0x2b) [
-  | inl is ↦ subst (λ (x : ℕ). Begins (x ∷ rest)) (sym is) (clock_begins rest (let k : clock_length rest ≤ length (b ∷ rest) = rw (eq-eqb b 0x2b is) at h in omega (arith, k)))
+  | inl is ↦ subst (λ (x : ℕ). Begins (x ∷ rest)) (sym is) (clock_begins rest (let k : word_length (0x2b ∷ rest) ≤ length (b ∷ rest) = rw (eq-eqb b 0x2b is) at h in omega (arith, k)))
   | inr other ↦ elim (cases_eq b 0x60) [
-    | inl is ↦ subst (λ (x : ℕ). Begins (x ∷ rest)) (sym is) (led_begins rest (let k : led_length rest ≤ length (b ∷ rest) = rw (ne_eqb b 0x2b other, eq-eqb b 0x60 is) at h in omega (arith, k)))
+    | inl is ↦ subst (λ (x : ℕ). Begins (x ∷ rest)) (sym is) (led_begins rest (let k : word_length (0x60 ∷ rest) ≤ length (b ∷ rest) = rw (ne_eqb b 0x2b other, eq-eqb b 0x60 is) at h in omega (arith, k)))
     | inr neither ↦ let found = byte_word b other neither in record { event = found.0; word = b ∷ []; after = rest; form = found.1; is = refl }
   ]
 ]

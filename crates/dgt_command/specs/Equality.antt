@@ -1,4 +1,5 @@
--- What `==` says of commands. An array is a list here, so it is said of those that are as long as their types say.
+-- What `==` says of commands. An array is a list here, so it is said of those that are as long as
+-- their types say.
 use Rattle.std.specs.Prelude.{◌≡◌, ◌↔◌, ℕ, length, Bool, IsTrue, Option, IfSome}
 use Rattle.std.specs.Option.{option_map}
 use Rattle.dgt_command.specs.declared.clock.ClockCommand.{ClockCommand}
@@ -8,13 +9,15 @@ use Rattle.dgt_command.specs.declared.command.Command.TheVariants as command
 use Rattle.dgt_command.specs.declared.command.CommandEvent.{CommandEvent}
 use Rattle.dgt_command.specs.declared.command.CommandEvent.TheVariants as event
 use Rattle.dgt_command.specs.declared.decoder.CommandFed.{CommandFed}
-use Rattle.dgt_command.specs.Content.{EventContent, event_content}
+use Rattle.dgt_command.specs.Content.{EventContent, command_event_content}
 
 -- two values that are as they should be are equal exactly where a clause reads the same of them
-abbrev pub EqualIsSameReadOf : {T Read : Type 0} → (T → Type 0) → (T → Read) → (T → T → Bool) → Type 0
-EqualIsSameReadOf Holds read eq = (a b : _) → Holds a → Holds b → IsTrue (eq a b) ↔ (read a ≡ read b)
+abbrev pub EqualIsSameReadOf :
+  {T Read : Type 0} → (T → Type 0) → (T → Read) → (T → T → Bool) → Type 0
+EqualIsSameReadOf Holds read eq =
+    (a b : _) → Holds a → Holds b → IsTrue (eq a b) ↔ (read a ≡ read b)
 
--- a display has six places, the times that a clock is set to have three bytes each, and a text has eight letters
+-- a display has six places, a set clock three bytes on each side, and a text eight letters
 abbrev pub HasArrays : ClockCommand → Type 0
 HasArrays (clock.Display places dots beep) = length places ≡ 6
 HasArrays (clock.SetAndRun left right control) = (length left ≡ 3) × (length right ≡ 3)
@@ -35,4 +38,4 @@ FedHasArrays fed = IfSome fed.event EventHasArrays
 
 -- how many bytes were used, and the event
 abbrev pub fed_seen : CommandFed → ℕ × Option EventContent
-fed_seen fed = (fed.used, option_map event_content fed.event)
+fed_seen fed = (fed.used, option_map command_event_content fed.event)

@@ -2,9 +2,8 @@
 use Rattle.std.specs.Prelude.{ℕ, List, [], Bool, Option, Some, None, if◌then◌else◌}
 use Rattle.dgt_command.specs.declared.framer.FoundWord.{FoundWord}
 use Rattle.dgt_command.specs.declared.framer.FoundWord.TheVariants as found
-use Rattle.dgt_command.specs.Content.{CommandContent, EventContent, Read, BadSize, BadStart, BadEnd, Stray}
-use Rattle.dgt_command.specs.Telling.{command_in}
-use Rattle.dgt_command.specs.Words.{Spells}
+use Rattle.dgt_command.specs.Content.{EventContent, Read, BadSize, BadStart, BadEnd, Stray}
+use Rattle.dgt_command.specs.Spelling.{command_in}
 
 -- The bytes kept, and whether they are a whole word. A whole word is kept for its event alone.
 pub record KeptWord : Type 0 where
@@ -21,13 +20,9 @@ rest_after None bytes = bytes
 rest_after (Some event) bytes = []
 
 -- what was found in the word that is kept
-abbrev pub found_in : List ℕ → FoundWord → EventContent
-found_in word found.Command = Read (command_in word)
-found_in word found.BadSize = BadSize
-found_in word found.BadStart = BadStart
-found_in word found.BadEnd = BadEnd
-found_in word (found.Stray byte) = Stray byte
-
--- some command has this spelling
-abbrev pub IsSpelling : List ℕ → Type 0
-IsSpelling word = (command : CommandContent) × Spells command word
+abbrev pub word_found_in : List ℕ → FoundWord → EventContent
+word_found_in word found.Command = Read (command_in word)
+word_found_in word found.BadSize = BadSize
+word_found_in word found.BadStart = BadStart
+word_found_in word found.BadEnd = BadEnd
+word_found_in word (found.Stray byte) = Stray byte

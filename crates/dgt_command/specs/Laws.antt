@@ -2,44 +2,61 @@
 use Rattle.std.specs.Prelude.{◌≡◌, ℕ, ◌<◌, ◌≤◌, List, [], ◌++◌, length, map, replicate}
 use Rattle.std.specs.List.{flat_map, AllByRecursion}
 use Rattle.dgt_command.specs.Content.{CommandContent, EventContent, Read}
-use Rattle.dgt_command.specs.Telling.{command_in}
-use Rattle.dgt_command.specs.Words.{AreBytes, spelling, Spells, IsWord, IsPartial, Divides, IsNoiseList}
+use Rattle.dgt_command.specs.Spelling.{AreBytes, command_spelling, SpellsCommand, command_in}
+use Rattle.dgt_command.specs.Words.{IsWord, IsPartial, Divides, IsNoiseList}
 
 -- each list of bytes divides into words and a rest, and any two divisions of it are the same
 abbrev pub EachDividesOnce : Type 0
 EachDividesOnce =
-    ((bytes : List ℕ) → AreBytes bytes → (events : List EventContent) × (rest : List ℕ) × Divides bytes events rest)
+    ((bytes : List ℕ) → AreBytes bytes →
+    (events : List EventContent) × (rest : List ℕ) × Divides bytes events rest)
     × ((bytes : List ℕ) (events others : List EventContent) (rest remainder : List ℕ) →
-    Divides bytes events rest → Divides bytes others remainder → (events ≡ others) × (rest ≡ remainder))
+    Divides bytes events rest → Divides bytes others remainder →
+    (events ≡ others) × (rest ≡ remainder))
 
 -- a word that begins with a word is that word, and has the same event
 abbrev pub NoWordBeginsAnother : Type 0
 NoWordBeginsAnother =
     (event other : EventContent) (word longer more : List ℕ) →
-    IsWord event word → IsWord other longer → longer ≡ word ++ more → (event ≡ other) × (more ≡ [])
+    IsWord event word → IsWord other longer → longer ≡ word ++ more →
+    (event ≡ other) × (more ≡ [])
 
 -- after bytes with no rest, spellings of commands in a row are read as those commands
 abbrev pub CommandsAreReadBack : Type 0
 CommandsAreReadBack =
     (bytes : List ℕ) (events : List EventContent) (commands : List CommandContent) →
-    Divides bytes events [] → AllByRecursion (λ command. Spells command (spelling command)) commands →
-    Divides (bytes ++ flat_map spelling commands) (events ++ map Read commands) []
+    Divides bytes events [] →
+    AllByRecursion (λ command. SpellsCommand command (command_spelling command)) commands →
+    Divides (bytes ++ flat_map command_spelling commands) (events ++ map Read commands) []
 
 -- behind a part of a word, 255 zeros are noise and leave no rest
 abbrev pub ZerosSettleTheReader : Type 0
 ZerosSettleTheReader =
-    (rest : List ℕ) → IsPartial rest → (events : List EventContent) × IsNoiseList events × Divides (rest ++ replicate 255 0) events []
+    (rest : List ℕ) → IsPartial rest →
+    (events : List EventContent) × IsNoiseList events × Divides (rest ++ replicate 255 0) events []
 
 -- bytes that follow others are divided from the rest on that those left
 abbrev pub DivisionsAppend : Type 0
 DivisionsAppend =
     (bytes more : List ℕ) (events others : List EventContent) (rest remainder : List ℕ) →
-    Divides bytes events rest → Divides (rest ++ more) others remainder → Divides (bytes ++ more) (events ++ others) remainder
+    Divides bytes events rest → Divides (rest ++ more) others remainder →
+    Divides (bytes ++ more) (events ++ others) remainder
+
+-- the events of a front of bytes come first among theirs, and the rest of the front goes on
+abbrev pub FrontsDivideFirst : Type 0
+FrontsDivideFirst =
+    (front more : List ℕ) (events all : List EventContent) (rest last : List ℕ) →
+    Divides front events rest → Divides (front ++ more) all last →
+    (others : List EventContent) × (all ≡ events ++ others) × Divides (rest ++ more) others last
 
 -- a word has at least one byte, and at most 257
 abbrev pub WordsAreShort : Type 0
-WordsAreShort = (event : EventContent) (word : List ℕ) → IsWord event word → (0 < length word) × (length word ≤ 257)
+WordsAreShort =
+    (event : EventContent) (word : List ℕ) →
+    IsWord event word → (0 < length word) × (length word ≤ 257)
 
 -- a spelling tells the command that it spells
 abbrev pub SpellingsTellCommands : Type 0
-SpellingsTellCommands = (command : CommandContent) (bytes : List ℕ) → Spells command bytes → command_in bytes ≡ command
+SpellingsTellCommands =
+    (command : CommandContent) (bytes : List ℕ) →
+    SpellsCommand command bytes → command_in bytes ≡ command

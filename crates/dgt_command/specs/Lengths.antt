@@ -1,9 +1,13 @@
--- The length of the word that bytes begin, as far as their first three tell it. No public contract cites it.
-use Rattle.std.specs.Prelude.{ℕ, ◌+◌, List, length, slice_index, ◌==◌, nat_lt, if◌then◌else◌}
+-- The length of the word that bytes begin, as far as the first three of them tell it.
+use Rattle.std.specs.Prelude.{ℕ, ◌+◌, ◌==◌, List, slice_index as nth, nat_lt, if◌then◌else◌}
 
-abbrev pub length_by_places : List ℕ → ℕ
-length_by_places s =
-    if length s == 0 then 1
-    else if slice_index s 0 == 0x2b then (if length s == 1 then 2 else if nat_lt (slice_index s 1) 3 then 2 else if length s == 2 then 3 else if slice_index s 2 == 0x03 then slice_index s 1 + 2 else 3)
-    else if slice_index s 0 == 0x60 then (if length s == 1 then 2 else slice_index s 1 + 2)
+-- A byte that hasn't come counts as 0: then this is more than those that have.
+abbrev pub word_length : List ℕ → ℕ
+word_length bytes =
+    if nth bytes 0 == 0x2b then clock_length bytes
+    else if nth bytes 0 == 0x60 then nth bytes 1 + 2
     else 1
+  where
+    clock_length : List ℕ → ℕ
+    clock_length bytes =
+        if nat_lt (nth bytes 1) 3 then 2 else if nth bytes 2 == 0x03 then nth bytes 1 + 2 else 3

@@ -1,14 +1,11 @@
-pub mod Carried
-pub mod Id
-pub mod ClockForm
-pub mod Raw
+-- What public contracts cite
+pub mod Ids
 pub mod Content
-pub mod Kind
-pub mod Display
-pub mod Code
+pub mod Spelling
 pub mod Words
-pub mod Telling
-pub mod Laws
-pub mod Lengths
 pub mod Framing
+pub mod Display
 pub mod Equality
+pub mod Laws
+-- For bodies alone
+pub mod Lengths

@@ -18,7 +18,7 @@ pub struct Payload<'a> {
 }
 
 impl<'a> Payload<'a> {
-    ghost use Rattle.dgt_command.specs.Carried.{payload_bytes};
+    ghost use Rattle.dgt_command.specs.Content.{payload_bytes};
 
     /// The payload of these bytes. More than `MAX_PAYLOAD` bytes are `TooMuch`.
     pub fn new(bytes: &'a [u8]) -> Result<Self, TooMuch>
@@ -48,7 +48,7 @@ pub struct LedBytes<'a> {
 }
 
 impl<'a> LedBytes<'a> {
-    ghost use Rattle.dgt_command.specs.Carried.{led_bytes};
+    ghost use Rattle.dgt_command.specs.Content.{led_bytes};
 
     /// The LED bytes that these are. More than `MAX_LED_BYTES` bytes are `TooMuch`.
     pub fn new(bytes: &'a [u8]) -> Result<Self, TooMuch>

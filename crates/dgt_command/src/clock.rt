@@ -1,7 +1,7 @@
 //! What a clock message asks of the clock.
 
 ghost use Rattle.std.specs.Prelude.{◌≡◌, length, false};
-ghost use Rattle.dgt_command.specs.ClockForm.{has_own_case};
+ghost use Rattle.dgt_command.specs.Ids.{has_own_case};
 
 use crate::carried::Payload;
 use crate::ids::KnownId;
@@ -32,9 +32,8 @@ fn has_case(id: u8, size: usize) -> bool
 
 impl<'a> RawClock<'a> {
     ghost use Rattle.std.specs.Prelude.{◌≡◌, ◌↔◌, length, false, IfOk, IsErr, IsTrue};
-    ghost use Rattle.dgt_command.specs.Carried.{payload_bytes};
-    ghost use Rattle.dgt_command.specs.ClockForm.{has_own_case};
-    ghost use Rattle.dgt_command.specs.Raw.{raw_id, raw_payload};
+    ghost use Rattle.dgt_command.specs.Content.{payload_bytes, raw_id, raw_payload};
+    ghost use Rattle.dgt_command.specs.Ids.{has_own_case};
 
     /// The clock message of this id and payload. `Known` says that the id and the payload's length are those of
     /// another case of [`ClockCommand`].

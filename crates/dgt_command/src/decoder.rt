@@ -3,7 +3,7 @@
 ghost use Rattle.std.specs.Prelude.{◌≡◌, ◌+◌, ◌<◌, ◌≤◌, [], ◌++◌, length, take, IfSome, IfNone};
 ghost use Rattle.std.specs.Borrow.{sem};
 ghost use Rattle.std.specs.Io.BufRead.{Rests};
-ghost use Rattle.dgt_command.specs.Content.{event_content};
+ghost use Rattle.dgt_command.specs.Content.{command_event_content};
 ghost use Rattle.dgt_command.specs.Framing.{rest_after};
 ghost use Rattle.dgt_command.specs.Words.{IsPartial, IsWord};
 
@@ -55,7 +55,7 @@ impl CommandDecoder {
         ensures* after_borrow { sem 𝓛 (Rests the_row self.entry (λ new. new ≡ rest_after result.event (self.old ++ take result.used piece.now))) }
         ensures within { result.used ≤ length piece.now }
         ensures progress { 0 < length piece.now → 0 < result.used }
-        ensures event { IfSome result.event (λ event. IsWord (event_content event) (self.old ++ take result.used piece.now)) }
+        ensures first { IfSome result.event (λ event. IsWord (command_event_content event) (self.old ++ take result.used piece.now)) }
         ensures none { IfNone result.event ((result.used ≡ length piece.now) × IsPartial (self.old ++ piece.now)) }
     {
         let advanced = self.framer.advance(piece);
@@ -72,7 +72,7 @@ impl CommandDecoder {
     /// How many bytes are held of a word that isn't finished: at most 256.
     pub fn partial(&self) -> usize
         ensures length { result ≡ length self.now }
-        ensures part_of_a_word { IsPartial self.now }
+        ensures unfinished { IsPartial self.now }
         ensures limit { result ≤ 256 }
     {
         self.framer.partial()

@@ -1,10 +1,10 @@
 //! The words of the line, one by one, as their bytes come.
 
 ghost use Rattle.std.specs.Prelude.{◌≡◌, ◌+◌, ◌<◌, ◌≤◌, [], ◌++◌, length, take, true, false, Some, IsTrue, IfSome, IfNone, is_some};
-ghost use Rattle.dgt_command.specs.Content.{event_content};
-ghost use Rattle.dgt_command.specs.Framing.{IsSpelling, found_in, rest_after, rest_of};
-ghost use Rattle.dgt_command.specs.Telling.{command_in};
-ghost use Rattle.dgt_command.specs.Words.{IsPartial, IsWhole, IsWord};
+ghost use Rattle.dgt_command.specs.Content.{command_event_content};
+ghost use Rattle.dgt_command.specs.Spelling.{IsSpelling, command_in};
+ghost use Rattle.dgt_command.specs.Framing.{word_found_in, rest_after, rest_of};
+ghost use Rattle.dgt_command.specs.Words.{IsPartial, IsWholeWord, IsWord};
 
 use crate::command::{Command, CommandEvent};
 use crate::lengths::is_whole;
@@ -70,7 +70,7 @@ fn add_bytes(word: &mut ArrayVec<u8, MAX_WORD>, piece: &[u8]) -> (usize, bool)
     requires { IsPartial word.old.items }
     ensures used { result.0 ≤ length piece.now }
     ensures word { word.new.items ≡ word.old.items ++ take result.0 piece.now }
-    ensures whole { IsTrue result.1 → IsWhole word.new.items }
+    ensures whole { IsTrue result.1 → IsWholeWord word.new.items }
     ensures partial { result.1 ≡ false → IsPartial word.new.items }
     ensures all { result.1 ≡ false → result.0 ≡ length piece.now }
     ensures progress { 0 < length piece.now → 0 < result.0 }
@@ -86,9 +86,9 @@ fn add_bytes(word: &mut ArrayVec<u8, MAX_WORD>, piece: &[u8]) -> (usize, bool)
 
 // What a word tells.
 fn found_word(word: &[u8]) -> FoundWord
-    requires { IsWhole word.now }
-    ensures event { IsWord (found_in word.now result) word.now }
-    ensures command { result ≡ FoundWord.Command → IsSpelling word.now }
+    requires { IsWholeWord word.now }
+    ensures event { IsWord (word_found_in word.now result) word.now }
+    ensures whole { result ≡ FoundWord.Command → IsSpelling word.now }
 {
     if let Some(_command) = view_command(word) {
         return FoundWord::Command;
@@ -104,7 +104,7 @@ fn found_word(word: &[u8]) -> FoundWord
 // The event of a command's bytes.
 fn whole_command(word: &[u8]) -> CommandEvent<'_>
     requires { IsSpelling word.now }
-    ensures { event_content result ≡ found_in word.now FoundWord.Command }
+    ensures { command_event_content result ≡ word_found_in word.now FoundWord.Command }
 {
     let Some(command) = view_command(word) else {
         unreachable!()
@@ -126,7 +126,7 @@ impl WordFramer {
     /// How many bytes are kept of a word that isn't finished: at most 256.
     pub fn partial(&self) -> usize
         ensures length { result ≡ length (rest_of self.now) }
-        ensures part_of_a_word { IsPartial (rest_of self.now) }
+        ensures unfinished { IsPartial (rest_of self.now) }
         ensures limit { result ≤ 256 }
     {
         if self.is_whole { 0 } else { self.word.len() }
@@ -145,11 +145,11 @@ impl WordFramer {
     pub fn advance(&mut self, piece: &[u8]) -> AdvancedWord
         ensures within { result.used ≤ length piece.now }
         ensures progress { 0 < length piece.now → 0 < result.used }
-        ensures found { IfSome result.found (λ found. IsWord (found_in self.new.word found) (rest_of self.old ++ take result.used piece.now)) }
-        ensures command { result.found ≡ Some FoundWord.Command → IsSpelling self.new.word }
+        ensures first { IfSome result.found (λ found. IsWord (word_found_in self.new.word found) (rest_of self.old ++ take result.used piece.now)) }
+        ensures whole { result.found ≡ Some FoundWord.Command → IsSpelling self.new.word }
         ensures none { IfNone result.found ((result.used ≡ length piece.now) × IsPartial (rest_of self.old ++ piece.now)) }
-        ensures rest { rest_of self.new ≡ rest_after result.found (rest_of self.old ++ take result.used piece.now) }
-        ensures part_of_a_word { IsPartial (rest_of self.new) }
+        ensures held { rest_of self.new ≡ rest_after result.found (rest_of self.old ++ take result.used piece.now) }
+        ensures unfinished { IsPartial (rest_of self.new) }
         ensures limit { length self.new.word ≤ 257 }
         ensures kept { self.new ≡ record { word = rest_of self.old ++ take result.used piece.now; is_whole = is_some result.found } }
     {
@@ -170,7 +170,7 @@ impl WordFramer {
     /// The event of what `advance` found last. A command is that of the word kept.
     pub fn event(&self, found: FoundWord) -> CommandEvent<'_>
         requires { found ≡ FoundWord.Command → IsSpelling self.now.word }
-        ensures { event_content result ≡ found_in self.now.word found }
+        ensures { command_event_content result ≡ word_found_in self.now.word found }
     {
         match found {
             FoundWord::Command => whole_command(self.word.as_slice()),

@@ -1,7 +1,7 @@
 //! The ids of clock messages that have a case of their own.
 
 ghost use Rattle.std.specs.Prelude.{◌≡◌};
-ghost use Rattle.dgt_command.specs.Id.{id_number, id_with};
+ghost use Rattle.dgt_command.specs.Ids.{id_number, id_with};
 
 /// The id of a clock message with a case of its own in [`ClockCommand`](crate::ClockCommand).
 #[derive(Clone, Copy, Debug, PartialEq, Eq)]

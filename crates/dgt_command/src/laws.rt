@@ -1,14 +1,19 @@
 //! What holds of commands, of the words on the line and of how bytes divide into them, whoever reads or writes them.
 
-ghost use Rattle.std.specs.Prelude.{◌≡◌, ◌↔◌, ℕ, Some};
+ghost use Rattle.std.specs.Prelude.{◌≡◌, ◌↔◌, ◌++◌, ℕ, List, [], Some};
 ghost use Rattle.dgt_values.specs.Equality.{EqualIsSame, EqualIsSameRead};
 ghost use Rattle.dgt_command.specs.declared.ids.KnownId.{KnownId};
-ghost use Rattle.dgt_command.specs.Carried.{led_bytes, payload_bytes};
-ghost use Rattle.dgt_command.specs.Content.{clock_content, command_content, event_content};
-ghost use Rattle.dgt_command.specs.Equality.{CommandHasArrays, EqualIsSameReadOf, EventHasArrays, FedHasArrays, HasArrays, fed_seen};
-ghost use Rattle.dgt_command.specs.Id.{id_number, id_with};
-ghost use Rattle.dgt_command.specs.Laws.{CommandsAreReadBack, DivisionsAppend, EachDividesOnce, NoWordBeginsAnother, SpellingsTellCommands, WordsAreShort, ZerosSettleTheReader};
-ghost use Rattle.dgt_command.specs.Raw.{raw_seen};
+ghost use Rattle.dgt_command.specs.Content.{led_bytes, payload_bytes, raw_id, raw_payload, EventContent, clock_content};
+ghost use Rattle.dgt_command.specs.Content.{command_content, command_event_content};
+ghost use Rattle.dgt_command.specs.Equality.{CommandHasArrays, EqualIsSameReadOf, EventHasArrays};
+ghost use Rattle.dgt_command.specs.Equality.{FedHasArrays, HasArrays, fed_seen};
+ghost use Rattle.dgt_command.specs.Ids.{id_number, id_with};
+ghost use Rattle.dgt_command.specs.Laws.{CommandsAreReadBack, DivisionsAppend, EachDividesOnce};
+ghost use Rattle.dgt_command.specs.Laws.{FrontsDivideFirst, NoWordBeginsAnother};
+ghost use Rattle.dgt_command.specs.Laws.{SpellingsTellCommands, WordsAreShort};
+ghost use Rattle.dgt_command.specs.Laws.{ZerosSettleTheReader};
+ghost use Rattle.dgt_command.specs.Spelling.{AreBytes};
+ghost use Rattle.dgt_command.specs.Words.{IsPartial, IsWord};
 
 use crate::carried::{LedBytes, MAX_LED_BYTES, MAX_PAYLOAD, Payload};
 use crate::clock::{ClockCommand, RawClock};
@@ -29,10 +34,10 @@ pub fn limits()
 pub fn equal_is_same()
     ensures payload { EqualIsSameRead payload_bytes ⟦<Payload<'static> as PartialEq>⟧.eq }
     ensures led_bytes { EqualIsSameRead led_bytes ⟦<LedBytes<'static> as PartialEq>⟧.eq }
-    ensures raw { EqualIsSameRead raw_seen ⟦<RawClock<'static> as PartialEq>⟧.eq }
+    ensures raw { EqualIsSameRead {Read = ℕ × List ℕ} (λ raw. (raw_id raw, raw_payload raw)) ⟦<RawClock<'static> as PartialEq>⟧.eq }
     ensures clock { EqualIsSameReadOf HasArrays clock_content ⟦<ClockCommand<'static> as PartialEq>⟧.eq }
     ensures command { EqualIsSameReadOf CommandHasArrays command_content ⟦<Command<'static> as PartialEq>⟧.eq }
-    ensures event { EqualIsSameReadOf EventHasArrays event_content ⟦<CommandEvent<'static> as PartialEq>⟧.eq }
+    ensures event { EqualIsSameReadOf EventHasArrays command_event_content ⟦<CommandEvent<'static> as PartialEq>⟧.eq }
     ensures known_id { EqualIsSame ⟦<KnownId as PartialEq>⟧.eq }
     ensures fed { EqualIsSameReadOf FedHasArrays fed_seen ⟦<CommandFed<'static> as PartialEq>⟧.eq }
     ensures found { EqualIsSame ⟦<FoundWord as PartialEq>⟧.eq }
@@ -69,6 +74,21 @@ pub fn zeros_settle_the_reader()
 /// Bytes that come in pieces divide as they do together: what follows is divided from the rest on.
 pub fn divisions_append()
     ensures { DivisionsAppend }
+{}
+
+/// Where bytes and a front of them divide, the events of the front come first, and its rest goes on.
+pub fn fronts_divide_first()
+    ensures { FrontsDivideFirst }
+{}
+
+/// Parts of words: no byte at all is one, none begins with a whole word, and with bytes behind it
+/// each is bytes.
+pub fn parts_of_words()
+    ensures nothing { IsPartial [] }
+    ensures no_word { (event : EventContent) (word more : List ℕ)
+        → IsWord event word → ¬ (IsPartial (word ++ more)) }
+    ensures bytes { (rest more : List ℕ)
+        → IsPartial rest → AreBytes more → AreBytes (rest ++ more) }
 {}
 
 /// Each word has 1 to 257 bytes.

@@ -1,8 +1,7 @@
 //! What commands ask for.
 
 ghost use Rattle.std.specs.Prelude.{◌≡◌};
-ghost use Rattle.dgt_command.specs.Content.{command_content};
-ghost use Rattle.dgt_command.specs.Kind.{kind_of_command};
+ghost use Rattle.dgt_command.specs.Content.{command_content, kind_of_command};
 
 use crate::command::Command;
 use dgt_values::Kind;

@@ -2,8 +2,8 @@
 
 ghost use Rattle.std.specs.Prelude.{◌≡◌, ◌+◌, ◌<◌, ◌≤◌, ◌∷◌, ◌++◌, [], length, IfNone, IfSome};
 ghost use Rattle.dgt_command.specs.Content.{clock_content, command_content, CommandContent};
-ghost use Rattle.dgt_command.specs.Carried.{payload_bytes};
-ghost use Rattle.dgt_command.specs.Words.{clock_id, payload, Spells};
+ghost use Rattle.dgt_command.specs.Content.{payload_bytes};
+ghost use Rattle.dgt_command.specs.Spelling.{clock_id, payload, SpellsCommand};
 
 use crate::carried::{LedBytes, Payload};
 use crate::clock::{ClockCommand, RawClock};
@@ -15,8 +15,8 @@ use crate::ids::KnownId;
 ///
 /// The command lends what it carries from the slice.
 pub fn view_command(bytes: &[u8]) -> Option<Command<'_>>
-    ensures some { IfSome result (λ command. Spells (command_content command) bytes.now) }
-    ensures none { IfNone result ((command : CommandContent) → Spells command bytes.now → ⊥) }
+    ensures some { IfSome result (λ command. SpellsCommand (command_content command) bytes.now) }
+    ensures none { IfNone result ((command : CommandContent) → SpellsCommand command bytes.now → ⊥) }
 {
     match bytes {
         [byte] => bare_command(*byte),

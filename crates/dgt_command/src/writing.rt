@@ -3,7 +3,7 @@
 ghost use Rattle.std.specs.Prelude.{◌≡◌, ◌+◌, ◌<◌, ◌≤◌, [], ◌∷◌, ◌++◌, length, OnOk};
 ghost use Rattle.dgt_values.specs.Room.{WritesFront};
 ghost use Rattle.dgt_command.specs.Content.{clock_content, command_content};
-ghost use Rattle.dgt_command.specs.Words.{clock_id, payload, spelling, Spells};
+ghost use Rattle.dgt_command.specs.Spelling.{clock_id, payload, command_spelling, SpellsCommand};
 
 use crate::clock::ClockCommand;
 use crate::codes::command_code;
@@ -13,7 +13,7 @@ use dgt_values::NoRoom;
 
 /// How many bytes the command has: 1 to 257.
 pub fn length(command: &Command) -> usize
-    ensures length { result ≡ length (spelling (command_content command.now)) }
+    ensures length { result ≡ length (command_spelling (command_content command.now)) }
     ensures limit { result ≤ 257 }
 {
     match command {
@@ -26,8 +26,8 @@ pub fn length(command: &Command) -> usize
 /// Writes the command at the front of the slice, and answers how many bytes it has. The bytes behind them stay as
 /// they were. `NoRoom` says that the slice is shorter than the command; then nothing is written.
 pub fn encode(command: &Command, out: &mut [u8]) -> Result<usize, NoRoom>
-    ensures written { WritesFront (spelling (command_content command.now)) out.old out.new result }
-    ensures spells { OnOk result (Spells (command_content command.now) (spelling (command_content command.now))) }
+    ensures written { WritesFront (command_spelling (command_content command.now)) out.old out.new result }
+    ensures spells { OnOk result (SpellsCommand (command_content command.now) (command_spelling (command_content command.now))) }
 {
     let need = length(command);
     if out.len() < need {
@@ -39,8 +39,8 @@ pub fn encode(command: &Command, out: &mut [u8]) -> Result<usize, NoRoom>
 
 // Fills the slice with the command.
 fn write(command: &Command, out: &mut [u8])
-    requires { length out.old ≡ length (spelling (command_content command.now)) }
-    ensures { out.new ≡ spelling (command_content command.now) }
+    requires { length out.old ≡ length (command_spelling (command_content command.now)) }
+    ensures { out.new ≡ command_spelling (command_content command.now) }
 {
     let (head, tail) = out.split_at_mut(1);
     head.copy_from_slice(&[command_code(command)]);

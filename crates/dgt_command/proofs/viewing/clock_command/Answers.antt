@@ -1,5 +1,5 @@
 use Rattle.std.proofs.Common.{Some, refl, sym, ap, ◌∙◌}
-use Rattle.dgt_command.specs.Carried.{payload_bytes}
+use Rattle.dgt_command.specs.Content.{payload_bytes}
 use Rattle.dgt_command.specs.declared.ids.KnownId.{KnownId}
 use Rattle.dgt_command.proofs.ClockLemmas.{sized_payload}
 use Rattle.dgt_command.proofs.viewing.clock_command.Goals as goal

@@ -1,5 +1,5 @@
 use Rattle.std.proofs.Common.{arith, drop, subst, refl}
-use Rattle.dgt_command.specs.Words.{AreBytes}
+use Rattle.dgt_command.specs.Spelling.{AreBytes}
 use Rattle.dgt_command.proofs.ContentLemmas.{is_command}
 use Rattle.dgt_command.proofs.DivisionLemmas.{bytes_left}
 use Rattle.dgt_command.proofs.writing.encode.Goals as goal
