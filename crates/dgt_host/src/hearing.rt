@@ -6,8 +6,7 @@ ghost use Rattle.dgt_message.specs.ClockState.{clock_seen};
 ghost use Rattle.dgt_message.specs.Content.{content};
 ghost use Rattle.dgt_message.specs.Kind.{kind_of};
 ghost use Rattle.dgt_decode.specs.Feeding.{event_content};
-ghost use Rattle.dgt_host.specs.Hearing.{awaited_after, clock_after, is_same_kind, picture_after, IsUnasked};
-ghost use Rattle.dgt_host.specs.Host.{host_after_event, host_seen};
+ghost use Rattle.dgt_host.specs.Host.{IsUnasked, awaited_after, clock_after, host_after_event, host_seen, is_same_kind, picture_after};
 
 use crate::host::MAX_AWAITED;
 use arrayvec::ArrayVec;
@@ -66,7 +65,8 @@ fn is_same(first: Kind, second: Kind) -> bool
 // Takes the kind of a message off where it is the first awaited, and tells whether the message has
 // a kind that isn't.
 fn take_off(awaited: &mut ArrayVec<Kind, MAX_AWAITED>, message: &Message<'_>) -> bool
-    ensures awaited { awaited.new.items ≡ awaited_after awaited.old.items (kind_of (content message.now)) }
+    ensures awaited { awaited.new.items
+        ≡ awaited_after awaited.old.items (kind_of (content message.now)) }
     ensures unasked { IsTrue result
         ↔ IsUnasked awaited.old.items (Some (event_content (Event.Message message.now))) }
 {

@@ -9,10 +9,10 @@
 //! project's own choice. A message that answers a command is taken off the list where it is the
 //! first, and is told as unasked where it isn't.
 //!
-//! Where the line breaks, `line_lost` makes the host as new, and `follow` asks for all that it needs
-//! once the line is back. Where the board can't know of the break, as where a program is started
-//! again, `restart` asks in place of `follow`: whatever command the board was in the middle of, it
-//! ends it. No call takes memory.
+//! Where the line breaks, `line_lost` makes the host as new, and `follow` asks for all that it
+//! needs once the line is back. Where the board can't know of the break, as where a program is
+//! started again, `restart` asks in place of `follow`: whatever command the board was in the middle
+//! of, it ends it. No call takes memory.
 #![tactic(auto)]
 
 mod hearing;
