@@ -22,7 +22,8 @@ backlog-at_most board = left-at_most (record board { mode = Mode.Update })
 pub backlog_lowers : (board : BoardState) (message : Content) → length board.told_squares ≡ 64
     → next_message board ≡ Some message → backlog (after_sending board message) < backlog board
 backlog_lowers board message all next =
-    rw (backlog_is board, backlog_is (after_sending board message)) (next_lowers true board message (λ _. refl) all next)
+    rw (backlog_is board, backlog_is (after_sending board message))
+    (next_lowers true board message (λ _. refl) all next)
 
 -- ---- a taking
 
@@ -54,7 +55,8 @@ effect_raises board (EventContent.Read command) = go command
     one added few = reply_raises board.owed added squares (length (clock_news board)) few
 
     mode : (after : Bool)
-        → length (board.owed ++ []) + squares + length (cond after (clock_message board.clock ∷ []) []) ≤ left_by true board + 1
+        → length (board.owed ++ []) + squares + length (cond after (clock_message board.clock ∷ []) []) ≤ left_by true
+        board + 1
     mode after = mode_raises board.owed squares board.times_owed after (clock_message board.clock)
 
     go : (command : CommandContent) → left_by true (effect board (EventContent.Read command)) ≤ left_by true board + 1
@@ -64,7 +66,8 @@ effect_raises board (EventContent.Read command) = go command
     go CommandContent.UpdateNice = mode (not (is_told board.told_clock board.clock))
     go CommandContent.Clock = one (Reply.Clock ∷ []) (omega arith)
     go (CommandContent.ClockMessage message) =
-        one (acknowledgements board.clock board.identity message) (acknowledgements-few board.clock board.identity message)
+        one (acknowledgements board.clock board.identity message)
+        (acknowledgements-few board.clock board.identity message)
     go CommandContent.Dump = one (Reply.Of Kind.Dump ∷ []) (omega arith)
     go CommandContent.Serial = one (Reply.Of Kind.Serial ∷ []) (omega arith)
     go CommandContent.Trademark = one (Reply.Of Kind.Trademark ∷ []) (omega arith)

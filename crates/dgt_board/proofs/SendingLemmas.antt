@@ -85,7 +85,9 @@ pub none_owed : (board : BoardState) → next_message board ≡ None → board.o
 none_owed board none = go board.owed refl none
   where
     go : (owed : List Reply) → board.owed ≡ owed
-        → slice_get (map (reply_message board) owed ++ (map (field_of board) (untold_squares board) ++ clock_news board)) 0 ≡ None
+        → slice_get
+        (map (reply_message board) owed ++ (map (field_of board) (untold_squares board) ++ clock_news board)) 0
+        ≡ None
         → board.owed ≡ []
     go [] e h = e
     go (reply ∷ rest) e h = cc
@@ -148,7 +150,8 @@ reply_lowers asks board reply rest e =
 field_told : (board : BoardState) (square k : ℕ) → square < length board.told_squares → k ≡ square
     → differs (after_telling board (field_of board square)) k ≡ false
 field_told board square k within e =
-    rw e (same_square _ _ (get_or-set_same board.told_squares square (piece_on board.squares square) Piece.Empty within))
+    rw e (same_square _ _
+    (get_or-set_same board.told_squares square (piece_on board.squares square) Piece.Empty within))
 
 -- and each other one is told where it was
 field_tells : (board : BoardState) (square k : ℕ) → square < length board.told_squares → differs board k ≡ false
@@ -191,7 +194,8 @@ field_lowers asks board square rest more within none first =
 times_lower : (asks : Bool) (board : BoardState) → board.owed ≡ [] → board.times_owed ≡ true
     → left_by asks (after_sending board (clock_message board.clock)) < left_by asks board
 times_lower asks board none owed =
-    let after = ap (λ (b : BoardState). left_by asks (record b { owed = drop 1 board.owed })) (after_clock board board.clock) in
+    let after = ap (λ (b : BoardState). left_by asks (record b { owed = drop 1 board.owed }))
+    (after_clock board board.clock) in
     let replies : length (drop 1 board.owed) ≡ length board.owed = rw none refl in
     let news : length (clock_news board) ≡ 1 = rw owed refl in
     omega (arith, after, replies, news)
@@ -232,7 +236,8 @@ next_lowers asks board message more all next = go board.owed (untold_squares boa
 
     pending : List Reply → List ℕ → Bool → List Content
     pending owed squares times =
-        map (reply_message board) owed ++ (map (field_of board) squares ++ cond times (clock_message board.clock ∷ []) [])
+        map (reply_message board) owed ++
+        (map (field_of board) squares ++ cond times (clock_message board.clock ∷ []) [])
 
     go : (owed : List Reply) (squares : List ℕ) (times : Bool)
         → board.owed ≡ owed → untold_squares board ≡ squares → board.times_owed ≡ times
@@ -240,7 +245,8 @@ next_lowers asks board message more all next = go board.owed (untold_squares boa
     go (reply ∷ rest) squares times e f g h =
         subst Lowers (some_same (reply_message board reply) message h) (reply_lowers asks board reply rest e)
     go [] (square ∷ rest) times e f g h =
-        let within : square < length board.told_squares = rw all (square_below (updates board.mode) (differs board) square rest f) in
+        let within : square < length board.told_squares =
+        rw all (square_below (updates board.mode) (differs board) square rest f) in
         subst Lowers (some_same (field_of board square) message h) (field_lowers asks board square rest more within e f)
     go [] [] true e f g h = subst Lowers (some_same (clock_message board.clock) message h) (times_lower asks board e g)
     go [] [] false e f g h = cc
@@ -249,7 +255,8 @@ next_lowers asks board message more all next = go board.owed (untold_squares boa
 pub sending_lowers : (board : BoardState) (message : Content) → length board.told_squares ≡ 64
     → next_message board ≡ Some message → left_to_send (after_sending board message) < left_to_send board
 sending_lowers board message all next =
-    rw (left_is board, left_is (after_sending board message)) (next_lowers (updates board.mode) board message (λ e. e) all next)
+    rw (left_is board, left_is (after_sending board message))
+    (next_lowers (updates board.mode) board message (λ e. e) all next)
 
 -- ---- what is due
 
@@ -259,25 +266,27 @@ first_mapped : (f : ℕ → Content) (xs : List ℕ) (others : List Content) (x 
 first_mapped f [] others x h = cc
 first_mapped f (y ∷ ys) others x h = ap Some (ap f (some_same y x h))
 
-pub no_first : {X : Type 0} (xs : List X) → slice_get xs 0 ≡ None → xs ≡ []
+no_first : {X : Type 0} (xs : List X) → slice_get xs 0 ≡ None → xs ≡ []
 no_first [] h = refl
 no_first (x ∷ xs) h = cc
 
 -- with no reply owed, the first square that is left is next
-pub field_is_next : (board : BoardState) (square : ℕ) → board.owed ≡ [] → slice_get (untold_squares board) 0 ≡ Some square
-    → next_message board ≡ Some (field_of board square)
+pub field_is_next : (board : BoardState) (square : ℕ) → slice_get board.owed 0 ≡ None
+    → slice_get (untold_squares board) 0 ≡ Some square → next_message board ≡ Some (field_of board square)
 field_is_next board square none first =
-    rw none (first_mapped (field_of board) (untold_squares board) (clock_news board) square first)
+    rw (no_first board.owed none) (first_mapped (field_of board) (untold_squares board) (clock_news board) square first)
 
 -- with no square left either, the clock is, where it is owed
-pub times_are_next : (board : BoardState) → board.owed ≡ [] → slice_get (untold_squares board) 0 ≡ None
+pub times_are_next : (board : BoardState) → slice_get board.owed 0 ≡ None → slice_get (untold_squares board) 0 ≡ None
     → board.times_owed ≡ true → next_message board ≡ Some (clock_message board.clock)
-times_are_next board none squares owed = rw (none, no_first (untold_squares board) squares, owed) refl
+times_are_next board none squares owed =
+    rw (no_first board.owed none, no_first (untold_squares board) squares, owed) refl
 
 -- and else nothing
-pub nothing_is_next : (board : BoardState) → board.owed ≡ [] → slice_get (untold_squares board) 0 ≡ None
+pub nothing_is_next : (board : BoardState) → slice_get board.owed 0 ≡ None → slice_get (untold_squares board) 0 ≡ None
     → board.times_owed ≡ false → next_message board ≡ None
-nothing_is_next board none squares owed = rw (none, no_first (untold_squares board) squares, owed) refl
+nothing_is_next board none squares owed =
+    rw (no_first board.owed none, no_first (untold_squares board) squares, owed) refl
 
 -- ---- how much may be left
 

@@ -20,7 +20,8 @@ none_passes : (test : ℕ → Bool) (a n : ℕ) → ((k : ℕ) → k < n → tes
 none_passes test a zero h = refl
 none_passes test a (suc n) h =
     let here : test a ≡ false = rw (← add-zero a) (h 0 (omega arith)) in
-    rw here (none_passes test (a + 1) n (λ k l. let next : a + 1 + k ≡ a + suc k = omega arith in rw next (h (suc k) (omega arith))))
+    rw here (none_passes test (a + 1) n
+    (λ k l. let next : a + 1 + k ≡ a + suc k = omega arith in rw next (h (suc k) (omega arith))))
 
 -- the first place at which a test holds comes first of those that pass
 first_passes : (test : ℕ → Bool) (a n k : ℕ) → k < n → ((j : ℕ) → j < k → test (a + j) ≡ false)
@@ -33,7 +34,8 @@ first_passes test a (suc n) (suc k) within before holds =
     let here : test a ≡ false = rw (← add-zero a) (before 0 (omega arith)) in
     let next : (j : ℕ) → a + 1 + j ≡ a + suc j = λ j. omega arith in
     rw (here, ← next k)
-    (first_passes test (a + 1) n k (omega arith) (λ j l. rw (next j) (before (suc j) (omega arith))) (rw (next k) holds))
+    (first_passes test (a + 1) n k (omega arith) (λ j l. rw (next j) (before (suc j) (omega arith)))
+    (rw (next k) holds))
 
 -- where no square passes, there is no first
 no_square : (test : ℕ → Bool) → ((k : ℕ) → k < 64 → test k ≡ false) → slice_get (filter test every_square) 0 ≡ None
@@ -58,7 +60,8 @@ same_code a b same = sym (code_piece a) ∙ ap piece_with_code same ∙ code_pie
 
 -- ---- a mask of the squares that differ
 
-module _ (board : BoardState) (mask : ℕ) (told_all : length board.told_squares ≡ 64) (all : length board.squares ≡ 64) (tells : DifferingSquares board.told_squares board.squares mask) where
+module _ (board : BoardState) (mask : ℕ) (told_all : length board.told_squares ≡ 64) (all : length board.squares ≡ 64)
+    (tells : DifferingSquares board.told_squares board.squares mask) where
   -- a square whose bit is set differs
   set_differs : (k : ℕ) → k < 64 → bit_at mask k ≡ 1 → differs board k ≡ true
   set_differs k within set =
@@ -74,11 +77,14 @@ module _ (board : BoardState) (mask : ℕ) (told_all : length board.told_squares
       let shown = slice_get-get_or board.squares k Piece.Empty (omega arith) in
       go (differs board k) refl told shown
     where
-      go : (differing : Bool) → differs board k ≡ differing → slice_get board.told_squares k ≡ Some (piece_on board.told_squares k) → slice_get board.squares k ≡ Some (piece_on board.squares k) → differing ≡ false
+      go : (differing : Bool) → differs board k ≡ differing
+          → slice_get board.told_squares k ≡ Some (piece_on board.told_squares k)
+          → slice_get board.squares k ≡ Some (piece_on board.squares k) → differing ≡ false
       go false e told shown = refl
       go true e told shown =
           let apart : slice_get board.told_squares k ≢ slice_get board.squares k = λ same.
-          let pieces : Some (piece_on board.told_squares k) ≡ Some (piece_on board.squares k) = sym told ∙ same ∙ shown in
+          let pieces : Some (piece_on board.told_squares k) ≡ Some (piece_on board.squares k) =
+          sym told ∙ same ∙ shown in
           let piece : piece_on board.told_squares k ≡ piece_on board.squares k = cc in
           absurd (false≢true (sym (ap not (eq-eqb _ _ (ap piece_code piece))) ∙ e)) in
           let one = sym (shr_and_one mask k) ∙ (bit_set_by_shift mask k).1 ((tells k within).1 apart) in
@@ -86,7 +92,8 @@ module _ (board : BoardState) (mask : ℕ) (told_all : length board.told_squares
 
   -- with no bit set, no square differs
   pub none_differs : mask ≡ 0 → slice_get (filter (differs board) every_square) 0 ≡ None
-  none_differs none = no_square (differs board) (λ k within. clear_same k within (ap (λ m. bit_at m k) none ∙ bit_at-zero k))
+  none_differs none =
+      no_square (differs board) (λ k within. clear_same k within (ap (λ m. bit_at m k) none ∙ bit_at-zero k))
 
   -- the lowest bit is that of the first square that differs
   pub lowest_differs : 0 < mask → mask < 2 ^ 64
@@ -94,4 +101,5 @@ module _ (board : BoardState) (mask : ℕ) (told_all : length board.told_squares
   lowest_differs some fits =
       let lowest = bit_at-trailing_zeros w64 mask some fits in
       let at = trailing_zeros w64 mask in
-      first_square (differs board) at lowest.0 (λ k below. clear_same k (omega (arith, lowest.0)) (lowest.2 k below)) (set_differs at lowest.0 lowest.1)
+      first_square (differs board) at lowest.0 (λ k below. clear_same k (omega (arith, lowest.0)) (lowest.2 k below))
+      (set_differs at lowest.0 lowest.1)

@@ -24,7 +24,13 @@ takes_word before after bytes event word state rest = (
   rw (← state, ← rest) refl,
   record {
     events = event ∷ [];
-    divided = (before.partial ++ bytes, [], word, sym (append-nil (before.partial ++ bytes)), (sym rest, rw rest nothing_is_partial));
+    divided = (
+      before.partial ++ bytes,
+      [],
+      word,
+      sym (append-nil (before.partial ++ bytes)),
+      (sym rest, rw rest nothing_is_partial),
+    );
     state = state;
   },
 )
@@ -42,7 +48,8 @@ takes_on append before between after bytes more first next =
     record {
       events = first.events ++ next.events;
       divided = rw (← append_assoc before.partial bytes more)
-          (append (before.partial ++ bytes) more first.events next.events between.partial after.partial first.divided next.divided);
+          (append (before.partial ++ bytes) more first.events next.events between.partial after.partial first.divided
+          next.divided);
       state = next.state ∙ ap (λ (board : BoardState). effects board next.events) first.state
           ∙ sym (effects-append before.state first.events next.events);
     }

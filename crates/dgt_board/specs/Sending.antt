@@ -49,7 +49,7 @@ field_of board square = Content.field square (piece_on board.squares square)
 abbrev pub clock_news : BoardState → List Content
 clock_news board = if board.times_owed then clock_message board.clock ∷ [] else []
 
--- what is to be sent, as the board stands: the owed replies, the squares that differ, then the clock
+-- what is to be sent as the board stands: the owed replies, the squares that differ, then the clock
 abbrev pub pending_messages : BoardState → List Content
 pending_messages board =
     map (reply_message board) board.owed
@@ -85,7 +85,7 @@ times_owed_after board (Content.times readings) = false
 times_owed_after board (Content.no_clock absence) = false
 times_owed_after board _ = board.times_owed
 
--- the board after it has told a message, with the replies that it owes left alone
+-- the board after it has told a message, which leaves what it owes of replies
 abbrev pub after_telling : BoardState → Content → BoardState
 after_telling board message =
     record board {

@@ -19,7 +19,7 @@ pub record BoardState : Type 0 where
   pub told_squares : List Piece  -- the squares as the board has told them
   pub told_clock : Option ClockState  -- the clock as it has told it
   pub times_owed : Bool  -- whether the clock is to be told
-  pub owed : List Reply  -- the oldest first
+  pub owed : List Reply  -- what was asked for and is not sent, the oldest first
   pub identity : IdentityContent
 
 -- a board just made

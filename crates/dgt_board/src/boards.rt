@@ -52,7 +52,10 @@ impl Model for Board {
 
     ghost Value = { BoardView };
 
-    ghost view = { λ board. record { state = state_of board.state; partial = rest_of board.framer } };
+    ghost view = { λ board. record {
+      state = state_of board.state;
+      partial = rest_of board.framer;
+    } };
 
     ghost invariant = { λ board. IsPartial (rest_of board.framer) };
 }
@@ -71,8 +74,8 @@ impl Board {
         }
     }
 
-    /// Puts a piece on a square, or takes one off. The square is to be told in each mode of updates,
-    /// the present one or a later one, for as long as it differs from what was told of it.
+    /// Puts a piece on a square, or takes one off. The square is to be told in each mode of
+    /// updates, the present one or a later one, for as long as it differs from what was told of it.
     pub fn change(&mut self, square: Square, piece: Piece)
         ensures { self.new ≡
             record self.old { state = after_change self.old.state (square_number square) piece } }
@@ -140,9 +143,9 @@ impl Board {
         })
     }
 
-    /// Writes the next message into the front of the slice, and takes it for sent; the bytes past it
-    /// stay. A slice that is too short for it stays as it is, and so does the board. No message has
-    /// more than `MAX_SENT` bytes.
+    /// Writes the next message into the front of the slice, and takes it for sent; the bytes past
+    /// it stay. A slice that is too short for it stays as it is, and so does the board. No message
+    /// has more than `MAX_SENT` bytes.
     pub fn poll(&mut self, out: &mut [u8]) -> Polled
         ensures polls { Polls result (next_message self.old.state)
             self.old self.new out.old out.new }
@@ -158,7 +161,7 @@ impl Board {
         self.state.send(out)
     }
 
-    /// Whether there is anything to send.
+    /// Whether there is anything to send: a reply, a square that its mode asks for, or the clock.
     pub fn owes(&self) -> bool
         ensures { IsTrue result ↔ IsSome (next_message self.now.state) }
     {

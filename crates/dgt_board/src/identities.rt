@@ -18,8 +18,9 @@ pub const MAX_KEPT_BODY: usize = 64;
 #[error("a body has more than {MAX_KEPT_BODY} bytes")]
 pub struct TooLong;
 
-/// What a board tells of itself when it is asked: its serial number, its trademark, its version, its
-/// battery, the version of its clock, and its long serial number. It keeps its own copy of the bodies.
+/// What a board tells of itself when it is asked: its serial number, its trademark, its version,
+/// its battery, the version of its clock, and its long serial number. It keeps its own copy of the
+/// bodies.
 #[derive(Drop)]
 pub struct Identity {
     serial: [SevenBit; 5],

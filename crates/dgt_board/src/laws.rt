@@ -37,7 +37,8 @@ pub fn equal_is_same()
 
 /// A board has nothing to send exactly where nothing is left to send, and then it owes no reply.
 pub fn nothing_to_send()
-    ensures nothing_left { (board : BoardState) → (next_message board ≡ None) ↔ (left_to_send board ≡ 0) }
+    ensures nothing_left { (board : BoardState)
+        → (next_message board ≡ None) ↔ (left_to_send board ≡ 0) }
     ensures none_owed { (board : BoardState) → next_message board ≡ None → board.owed ≡ [] }
 {}
 
@@ -72,7 +73,8 @@ pub fn one_taking()
 pub fn bounded_backlog()
     ensures bound { (board : BoardState) → backlog board ≤ length board.owed + 65 }
     ensures falls { (board : BoardState) (message : Content) → length board.told_squares ≡ 64
-        → next_message board ≡ Some message → backlog (after_sending board message) < backlog board }
+        → next_message board ≡ Some message
+        → backlog (after_sending board message) < backlog board }
     ensures rises { (board : BoardState) (events : List EventContent) →
         backlog (effects board events) ≤ backlog board + length events }
 {}

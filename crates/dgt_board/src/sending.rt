@@ -87,7 +87,8 @@ impl State {
 
     // The first square that is left to tell in this mode.
     fn untold_square(&self) -> Option<Square>
-        ensures { slice_get (untold_squares (state_of self.now)) 0 ≡ option_map square_number result }
+        ensures { slice_get (untold_squares (state_of self.now)) 0
+            ≡ option_map square_number result }
     {
         if self.mode != Mode::Idle {
             self.differing_square()

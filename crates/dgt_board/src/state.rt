@@ -29,7 +29,9 @@ pub struct State {
     pub told_squares: Position,
     /// The clock as the host was told it.
     pub told_clock: Option<Clock>,
+    /// Whether the clock is to be told.
     pub times_owed: bool,
+    /// The replies that were asked for and are not sent, the oldest first.
     pub owed: ArrayVec<Reply, MAX_OWED>,
     pub identity: Identity,
 }
@@ -55,7 +57,8 @@ impl State {
 
     /// A piece is put on a square, or taken off.
     pub fn change(&mut self, square: Square, piece: Piece)
-        ensures { state_of self.new ≡ after_change (state_of self.old) (square_number square) piece }
+        ensures { state_of self.new
+            ≡ after_change (state_of self.old) (square_number square) piece }
     {
         self.squares.set(square, piece);
     }
@@ -103,7 +106,8 @@ impl State {
     // The effect of a command.
     fn obey_command(&mut self, command: &Command<'_>)
         requires { length self.old.owed.items < MAX_OWED }
-        ensures { state_of self.new ≡ after_command (state_of self.old) (command_content command.now) }
+        ensures { state_of self.new
+            ≡ after_command (state_of self.old) (command_content command.now) }
     {
         match command {
             Command::Reset => self.enter(Mode::Idle),

@@ -122,7 +122,8 @@ impl Host {
     // Writes so many bytes `00`, and then what asks for the updates and the whole of the board.
     fn ask_for_dump(&mut self, zeros: usize, out: &mut [u8]) -> Result<usize, SendFault>
         requires { zeros ≤ 255 }
-        ensures { Sends (record { kind = Some Kind.Dump; bytes = replicate zeros 0 ++ follow_bytes })
+        ensures { let bytes = replicate zeros 0 ++ follow_bytes in
+            Sends (record { kind = Some Kind.Dump; bytes = bytes })
             self.old self.new out.old out.new result }
     {
         if self.awaited.is_full() {

@@ -20,7 +20,8 @@ returns c =
     let state : state_of c.obey.new.self ≡ effect c.args.self.now.state event =
     rw (← c.self.view_is) c.obey.ensures in
     let rest : rest_of c.advance-advanced.new.self ≡ [] = rw c.in-Some.is at c.advance-advanced.ensures.rest in
-    let after : BoardView = record { state = state_of c.obey.new.self; partial = rest_of c.advance-advanced.new.self } in
+    let after : BoardView = record { state = state_of c.obey.new.self; partial = rest_of c.advance-advanced.new.self }
+    in
     let both = takes_word c.args.self.now after bytes event word state rest in (
       (refl, λ _. tt, both),
       record {
