@@ -11,7 +11,8 @@ use Rattle.std.specs.Option.{option_eq}
 use Rattle.dgt_message.specs.contracts.clock.ClockPartialEq.TheImpl as derived
 
 -- to test elements by what is read of them is to test what is read
-pointwise-map : {A B : Type 0} (f : A → B) (test : B → B → Bool) (xs ys : List A) → pointwise (λ x y. test (f x) (f y)) xs ys ≡ pointwise test (map f xs) (map f ys)
+pointwise-map : {A B : Type 0} (f : A → B) (test : B → B → Bool) (xs ys : List A)
+    → pointwise (λ x y. test (f x) (f y)) xs ys ≡ pointwise test (map f xs) (map f ys)
 pointwise-map f test [] [] = refl
 pointwise-map f test [] (y ∷ ys) = refl
 pointwise-map f test (x ∷ xs) [] = refl
@@ -20,11 +21,13 @@ pointwise-map f test (x ∷ xs) (y ∷ ys) = ap (λ rest. test (f x) (f y) && re
 -- what `==` answers at two clocks
 pub eq-clock_eq : (a b : Clock) → (derived.eq-value).it a b ≡ clock_eq (clock_seen a) (clock_seen b)
 eq-clock_eq (clock.Times a) (clock.Times b) = grind (arith, common_steps)
-eq-clock_eq (clock.NoClock a) (clock.NoClock b) = ap (λ same. same && a.status.code.value == b.status.code.value) (pointwise-map number (λ x y. x == y) a.raw b.raw)
+eq-clock_eq (clock.NoClock a) (clock.NoClock b) = ap (λ same. same && a.status.code.value == b.status.code.value)
+    (pointwise-map number (λ x y. x == y) a.raw b.raw)
 eq-clock_eq (clock.Times a) (clock.NoClock b) = refl
 eq-clock_eq (clock.NoClock a) (clock.Times b) = refl
 
 -- what `==` answers at a clock that was told, or none, and at a clock
-pub option_eq-is_told : (told : Option Clock) (shown : Clock) → option_eq (derived.eq-value).it told (Some shown) ≡ is_told (option_map clock_seen told) (clock_seen shown)
+pub option_eq-is_told : (told : Option Clock) (shown : Clock)
+    → option_eq (derived.eq-value).it told (Some shown) ≡ is_told (option_map clock_seen told) (clock_seen shown)
 option_eq-is_told None shown = refl
 option_eq-is_told (Some told) shown = eq-clock_eq told shown

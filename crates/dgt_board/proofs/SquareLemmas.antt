@@ -1,5 +1,5 @@
 -- The squares that differ from what was told, the first of them.
-use Rattle.std.proofs.Common.{arith, ◌≡◌, refl, ap, sym, ◌∙◌, ◌^◌, ℕ, zero, suc, ◌+◌, ◌<◌, [], Some, Bool, true, false, not, add-zero, zero-add}
+use Rattle.std.proofs.Common.{arith, ◌≡◌, refl, ap, sym, ◌∙◌, ◌^◌, ℕ, zero, suc, ◌+◌, ◌<◌, [], Some, None, Bool, true, false, not, add-zero, zero-add}
 use Rattle.std.proofs.lemmas.Bool.{eq-eqb, ne_eqb, false≢true}
 use Rattle.std.proofs.lemmas.Nat.{bit_set_by_shift}
 use Rattle.std.proofs.lemmas.Nat.Bits.{bit_at-trailing_zeros, bit_at-zero, shr_and_one}
@@ -10,43 +10,58 @@ use Rattle.std.specs.List.{range_with_len}
 use Rattle.dgt_values.specs.declared.pieces.Piece.{Piece}
 use Rattle.dgt_values.specs.Piece.{piece_code}
 use Rattle.dgt_values.specs.Position.{DifferingSquares}
-use Rattle.dgt_values.proofs.PieceCodes.{same_code}
-use Rattle.dgt_board.specs.Due.{IsFirst}
+use Rattle.dgt_message.specs.Reading.{piece_with_code}
 use Rattle.dgt_board.specs.State.{BoardState}
 use Rattle.dgt_board.specs.Sending.{differs, every_square, piece_on}
 
--- a test that fails along a range keeps nothing of it
-none_kept : (test : ℕ → Bool) (a n : ℕ) → ((k : ℕ) → k < n → test (a + k) ≡ false) → filter test (range_with_len a n) ≡ []
-none_kept test a zero h = refl
-none_kept test a (suc n) h =
+-- nothing of a range passes a test that fails along it
+none_passes : (test : ℕ → Bool) (a n : ℕ) → ((k : ℕ) → k < n → test (a + k) ≡ false)
+    → filter test (range_with_len a n) ≡ []
+none_passes test a zero h = refl
+none_passes test a (suc n) h =
     let here : test a ≡ false = rw (← add-zero a) (h 0 (omega arith)) in
-    rw here (none_kept test (a + 1) n (λ k l. let next : a + 1 + k ≡ a + suc k = omega arith in rw next (h (suc k) (omega arith))))
+    rw here (none_passes test (a + 1) n
+    (λ k l. let next : a + 1 + k ≡ a + suc k = omega arith in rw next (h (suc k) (omega arith))))
 
--- the first place at which a test holds comes first of those that it keeps
-first_kept : (test : ℕ → Bool) (a n k : ℕ) → k < n → ((j : ℕ) → j < k → test (a + j) ≡ false) → test (a + k) ≡ true → IsFirst (filter test (range_with_len a n)) (Some (a + k))
-first_kept test a zero k within before holds = absurd (omega arith)
-first_kept test a (suc n) zero within before holds =
+-- the first place at which a test holds comes first of those that pass
+first_passes : (test : ℕ → Bool) (a n k : ℕ) → k < n → ((j : ℕ) → j < k → test (a + j) ≡ false)
+    → test (a + k) ≡ true → slice_get (filter test (range_with_len a n)) 0 ≡ Some (a + k)
+first_passes test a zero k within before holds = absurd (omega arith)
+first_passes test a (suc n) zero within before holds =
     let here : test a ≡ true = rw (← add-zero a) holds in
-    (filter test (range_with_len (a + 1) n), rw (here, add-zero a) refl)
-first_kept test a (suc n) (suc k) within before holds =
+    rw (here, add-zero a) refl
+first_passes test a (suc n) (suc k) within before holds =
     let here : test a ≡ false = rw (← add-zero a) (before 0 (omega arith)) in
     let next : (j : ℕ) → a + 1 + j ≡ a + suc j = λ j. omega arith in
-    rw (here, ← next k) (first_kept test (a + 1) n k (omega arith) (λ j l. rw (next j) (before (suc j) (omega arith))) (rw (next k) holds))
+    rw (here, ← next k)
+    (first_passes test (a + 1) n k (omega arith) (λ j l. rw (next j) (before (suc j) (omega arith)))
+    (rw (next k) holds))
 
--- where no square passes, none is kept
-no_square : (test : ℕ → Bool) → ((k : ℕ) → k < 64 → test k ≡ false) → filter test every_square ≡ []
+-- where no square passes, there is no first
+no_square : (test : ℕ → Bool) → ((k : ℕ) → k < 64 → test k ≡ false) → slice_get (filter test every_square) 0 ≡ None
 unfolding every_square
-no_square test h = none_kept test 0 64 (λ k l. rw (zero-add k) (h k l))
+no_square test h = rw (none_passes test 0 64 (λ k l. rw (zero-add k) (h k l))) refl
 
--- the first square that passes is the first that is kept
-first_square : (test : ℕ → Bool) (at : ℕ) → at < 64 → ((k : ℕ) → k < at → test k ≡ false) → test at ≡ true → IsFirst (filter test every_square) (Some at)
+-- the first square that passes is the first of those
+first_square : (test : ℕ → Bool) (at : ℕ) → at < 64 → ((k : ℕ) → k < at → test k ≡ false) → test at ≡ true
+    → slice_get (filter test every_square) 0 ≡ Some at
 unfolding every_square
 first_square test at within before holds =
-    rw (← zero-add at) (first_kept test 0 64 at within (λ k l. rw (zero-add k) (before k l)) (rw (zero-add at) holds))
+    rw (← zero-add at)
+    (first_passes test 0 64 at within (λ k l. rw (zero-add k) (before k l)) (rw (zero-add at) holds))
+
+-- a piece is known by its code
+code_piece : (piece : Piece) → piece_with_code (piece_code piece) ≡ piece
+code_piece Piece.Empty = refl
+code_piece _ = refl
+
+same_code : (a b : Piece) → piece_code a ≡ piece_code b → a ≡ b
+same_code a b same = sym (code_piece a) ∙ ap piece_with_code same ∙ code_piece b
 
 -- ---- a mask of the squares that differ
 
-module _ (board : BoardState) (mask : ℕ) (told_all : length board.told_squares ≡ 64) (all : length board.squares ≡ 64) (tells : DifferingSquares board.told_squares board.squares mask) where
+module _ (board : BoardState) (mask : ℕ) (told_all : length board.told_squares ≡ 64) (all : length board.squares ≡ 64)
+    (tells : DifferingSquares board.told_squares board.squares mask) where
   -- a square whose bit is set differs
   set_differs : (k : ℕ) → k < 64 → bit_at mask k ≡ 1 → differs board k ≡ true
   set_differs k within set =
@@ -62,23 +77,29 @@ module _ (board : BoardState) (mask : ℕ) (told_all : length board.told_squares
       let shown = slice_get-get_or board.squares k Piece.Empty (omega arith) in
       go (differs board k) refl told shown
     where
-      go : (differing : Bool) → differs board k ≡ differing → slice_get board.told_squares k ≡ Some (piece_on board.told_squares k) → slice_get board.squares k ≡ Some (piece_on board.squares k) → differing ≡ false
+      go : (differing : Bool) → differs board k ≡ differing
+          → slice_get board.told_squares k ≡ Some (piece_on board.told_squares k)
+          → slice_get board.squares k ≡ Some (piece_on board.squares k) → differing ≡ false
       go false e told shown = refl
       go true e told shown =
           let apart : slice_get board.told_squares k ≢ slice_get board.squares k = λ same.
-          let pieces : Some (piece_on board.told_squares k) ≡ Some (piece_on board.squares k) = sym told ∙ same ∙ shown in
+          let pieces : Some (piece_on board.told_squares k) ≡ Some (piece_on board.squares k) =
+          sym told ∙ same ∙ shown in
           let piece : piece_on board.told_squares k ≡ piece_on board.squares k = cc in
           absurd (false≢true (sym (ap not (eq-eqb _ _ (ap piece_code piece))) ∙ e)) in
           let one = sym (shr_and_one mask k) ∙ (bit_set_by_shift mask k).1 ((tells k within).1 apart) in
           absurd (omega (arith, clear, one))
 
   -- with no bit set, no square differs
-  pub none_differs : mask ≡ 0 → filter (differs board) every_square ≡ []
-  none_differs none = no_square (differs board) (λ k within. clear_same k within (ap (λ m. bit_at m k) none ∙ bit_at-zero k))
+  pub none_differs : mask ≡ 0 → slice_get (filter (differs board) every_square) 0 ≡ None
+  none_differs none =
+      no_square (differs board) (λ k within. clear_same k within (ap (λ m. bit_at m k) none ∙ bit_at-zero k))
 
   -- the lowest bit is that of the first square that differs
-  pub lowest_differs : 0 < mask → mask < 2 ^ 64 → IsFirst (filter (differs board) every_square) (Some (trailing_zeros w64 mask))
+  pub lowest_differs : 0 < mask → mask < 2 ^ 64
+      → slice_get (filter (differs board) every_square) 0 ≡ Some (trailing_zeros w64 mask)
   lowest_differs some fits =
       let lowest = bit_at-trailing_zeros w64 mask some fits in
       let at = trailing_zeros w64 mask in
-      first_square (differs board) at lowest.0 (λ k below. clear_same k (omega (arith, lowest.0)) (lowest.2 k below)) (set_differs at lowest.0 lowest.1)
+      first_square (differs board) at lowest.0 (λ k below. clear_same k (omega (arith, lowest.0)) (lowest.2 k below))
+      (set_differs at lowest.0 lowest.1)

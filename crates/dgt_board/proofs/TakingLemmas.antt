@@ -1,36 +1,55 @@
 -- What a board has taken.
-use Rattle.std.proofs.Common.{◌≡◌, refl, sym, ap, ◌∙◌, ℕ, List, [], ◌∷◌, ◌++◌, Some, append-nil, append_assoc}
-use Rattle.dgt_command.proofs.DivisionLemmas.{nothing_is_partial}
-use Rattle.dgt_command.specs.Content.{EventContent}
+use Rattle.std.proofs.Common.{rules, ◌≡◌, refl, sym, ap, ◌∙◌, ℕ, List, [], ◌∷◌, ◌++◌, Some, append-nil, append_assoc}
+use Rattle.dgt_command.specs.Content.{CommandContent, EventContent}
 use Rattle.dgt_command.specs.Laws.{DivisionsAppend}
-use Rattle.dgt_command.specs.Words.{IsWord}
-use Rattle.dgt_board.specs.State.{BoardState}
-use Rattle.dgt_board.specs.Effect.{effect, effects}
+use Rattle.dgt_command.specs.Words.{IsPartial, IsWord}
+use Rattle.dgt_board.specs.State.{BoardState, effect, effects}
 use Rattle.dgt_board.specs.View.{BoardView, HasTaken, after_bytes}
 
+-- no bytes are a part of the byte that asks for a dump
+pub nothing_is_partial : IsPartial []
+nothing_is_partial =
+    record {
+      event = EventContent.Read CommandContent.Dump;
+      next = 0x42;
+      more = [];
+      word = record { form = (tt, refl); are_bytes = search rules };
+    }
+
 -- bytes that complete a word are taken
-pub takes_word : (before after : BoardView) (bytes : List ℕ) (event : EventContent) → IsWord event (before.partial ++ bytes) → after.state ≡ effect before.state event → after.partial ≡ [] → (after ≡ after_bytes before bytes (Some event)) × HasTaken before bytes after
+pub takes_word : (before after : BoardView) (bytes : List ℕ) (event : EventContent)
+    → IsWord event (before.partial ++ bytes) → after.state ≡ effect before.state event → after.partial ≡ []
+    → (after ≡ after_bytes before bytes (Some event)) × HasTaken before bytes after
 takes_word before after bytes event word state rest = (
   rw (← state, ← rest) refl,
   record {
     events = event ∷ [];
-    divided = (before.partial ++ bytes, [], word, sym (append-nil (before.partial ++ bytes)), (sym rest, rw rest nothing_is_partial));
+    divided = (
+      before.partial ++ bytes,
+      [],
+      word,
+      sym (append-nil (before.partial ++ bytes)),
+      (sym rest, rw rest nothing_is_partial),
+    );
     state = state;
   },
 )
 
 -- the effects of a whole list are those of its parts in turn
-effects-append : (board : BoardState) (events more : List EventContent) → effects board (events ++ more) ≡ effects (effects board events) more
+effects-append : (board : BoardState) (events more : List EventContent)
+    → effects board (events ++ more) ≡ effects (effects board events) more
 effects-append board [] more = refl
 effects-append board (event ∷ events) more = effects-append (effect board event) events more
 
 -- what was taken in turn was taken together
-pub takes_on : DivisionsAppend → (before between after : BoardView) (bytes more : List ℕ) → HasTaken before bytes between → HasTaken between more after → HasTaken before (bytes ++ more) after
+pub takes_on : DivisionsAppend → (before between after : BoardView) (bytes more : List ℕ)
+    → HasTaken before bytes between → HasTaken between more after → HasTaken before (bytes ++ more) after
 takes_on append before between after bytes more first next =
     record {
       events = first.events ++ next.events;
       divided = rw (← append_assoc before.partial bytes more)
-          (append (before.partial ++ bytes) more first.events next.events between.partial after.partial first.divided next.divided);
+          (append (before.partial ++ bytes) more first.events next.events between.partial after.partial first.divided
+          next.divided);
       state = next.state ∙ ap (λ (board : BoardState). effects board next.events) first.state
           ∙ sym (effects-append before.state first.events next.events);
     }

@@ -1,9 +1,13 @@
--- What contracts see of what a board keeps.
+-- What contracts see of the state that a board keeps, and what is due of it.
 use Rattle.std.specs.Prelude.{option_map}
 use Rattle.dgt_values.specs.Pieces.{pieces_of}
-use Rattle.dgt_message.specs.ClockState.{clock_seen}
+use Rattle.dgt_values.specs.Square.{square_number}
+use Rattle.dgt_message.specs.ClockState.{clock_message, clock_seen}
+use Rattle.dgt_message.specs.Content.{Content}
+use Rattle.dgt_board.specs.declared.sending.Due.{Due}
 use Rattle.dgt_board.specs.declared.state.State.{State}
 use Rattle.dgt_board.specs.State.{BoardState}
+use Rattle.dgt_board.specs.Sending.{field_of, reply_message}
 
 abbrev pub state_of : State → BoardState
 state_of kept =
@@ -17,3 +21,9 @@ state_of kept =
       owed = kept.owed.items;
       identity = kept.identity;
     }
+
+-- the message that tells what is due
+abbrev pub due_message : BoardState → Due → Content
+due_message board (Due.Reply reply) = reply_message board reply
+due_message board (Due.Field square) = field_of board (square_number square)
+due_message board Due.Times = clock_message board.clock

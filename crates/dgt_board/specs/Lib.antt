@@ -1,10 +1,7 @@
+-- Cited by public contracts, in the order to read.
 pub mod Identity
 pub mod State
-pub mod Effect
 pub mod Sending
 pub mod View
+-- For bodies alone.
 pub mod Kept
-pub mod Due
-pub mod Polls
-pub mod Equality
-pub mod Backlog

@@ -1,5 +1,5 @@
 -- What a board has to send, in its order, and what sending makes of it.
-use Rattle.std.specs.Prelude.{ℕ, ◌+◌, List, [], ◌∷◌, ◌++◌, length, map, filter, drop, Option, Some, None, Bool, false, not, ◌==◌, if◌then◌else◌, slice_index_or, slice_set}
+use Rattle.std.specs.Prelude.{ℕ, List, [], ◌∷◌, ◌++◌, length, map, filter, drop, Option, Some, Bool, false, not, ◌==◌, if◌then◌else◌, slice_get, slice_index_or, slice_set}
 use Rattle.std.specs.List.{range_with_len}
 use Rattle.dgt_values.specs.declared.kinds.Kind.{Kind}
 use Rattle.dgt_values.specs.declared.pieces.Piece.{Piece}
@@ -7,6 +7,7 @@ use Rattle.dgt_values.specs.Piece.{piece_code}
 use Rattle.dgt_message.specs.declared.known.KnownCode.{KnownCode}
 use Rattle.dgt_message.specs.ClockState.{ClockState, clock_message}
 use Rattle.dgt_message.specs.Content.{Content, carried_as}
+use Rattle.dgt_board.specs.declared.modes.Mode.{Mode}
 use Rattle.dgt_board.specs.declared.replies.Reply.{Reply}
 use Rattle.dgt_board.specs.State.{BoardState, updates}
 
@@ -14,19 +15,25 @@ use Rattle.dgt_board.specs.State.{BoardState, updates}
 abbrev pub reply_message : BoardState → Reply → Content
 reply_message board (Reply.Of Kind.Dump) = Content.dump board.squares
 reply_message board (Reply.Of Kind.Serial) = Content.serial board.identity.serial
-reply_message board (Reply.Of Kind.Trademark) = carried_as KnownCode.Trademark board.identity.trademark
-reply_message board (Reply.Of Kind.Version) = Content.version board.identity.main board.identity.sub
+reply_message board (Reply.Of Kind.Trademark) =
+    carried_as KnownCode.Trademark board.identity.trademark
+reply_message board (Reply.Of Kind.Version) =
+    Content.version board.identity.main board.identity.sub
 reply_message board (Reply.Of Kind.Battery) = carried_as KnownCode.Battery board.identity.battery
-reply_message board (Reply.Of Kind.LongSerial) = carried_as KnownCode.LongSerial board.identity.long_serial
+reply_message board (Reply.Of Kind.LongSerial) =
+    carried_as KnownCode.LongSerial board.identity.long_serial
 reply_message board Reply.Clock = clock_message board.clock
-reply_message board (Reply.Ack id version) = Content.ack (record { ack = 0x10 ∷ id ∷ version ∷ 0x00 ∷ []; status = 0x00 })
+reply_message board (Reply.Ack id version) =
+    Content.ack (record { ack = 0x10 ∷ id ∷ version ∷ 0x00 ∷ []; status = 0x00 })
 
 abbrev pub piece_on : List Piece → ℕ → Piece
 piece_on squares square = slice_index_or squares square Piece.Empty
 
 -- whether a square differs from what was told
 abbrev pub differs : BoardState → ℕ → Bool
-differs board square = not (piece_code (piece_on board.told_squares square) == piece_code (piece_on board.squares square))
+differs board square =
+    let told = piece_code (piece_on board.told_squares square) in
+    not (told == piece_code (piece_on board.squares square))
 
 -- the 64 squares by number
 unfoldable pub every_square : List ℕ
@@ -39,34 +46,33 @@ untold_squares board = if updates board.mode then filter (differs board) every_s
 abbrev pub field_of : BoardState → ℕ → Content
 field_of board square = Content.field square (piece_on board.squares square)
 
-abbrev pub first_reply : BoardState → List Reply → List Content
-first_reply board [] = []
-first_reply board (reply ∷ replies) = reply_message board reply ∷ []
-
 abbrev pub clock_news : BoardState → List Content
 clock_news board = if board.times_owed then clock_message board.clock ∷ [] else []
 
--- what is to be sent: the first owed reply, then the squares that differ, by number, then the clock
+-- what is to be sent as the board stands: the owed replies, the squares that differ, then the clock
 abbrev pub pending_messages : BoardState → List Content
-pending_messages board = first_reply board board.owed ++ (map (field_of board) (untold_squares board) ++ clock_news board)
-
-abbrev pub first_message : List Content → Option Content
-first_message [] = None
-first_message (message ∷ messages) = Some message
+pending_messages board =
+    map (reply_message board) board.owed
+    ++ (map (field_of board) (untold_squares board) ++ clock_news board)
 
 -- the next message, if anything is to be sent
 abbrev pub next_message : BoardState → Option Content
-next_message board = first_message (pending_messages board)
+next_message board = slice_get (pending_messages board) 0
 
--- how many replies, squares and times are left to send
+-- how many messages are left to send
 abbrev pub left_to_send : BoardState → ℕ
-left_to_send board = length board.owed + length (untold_squares board) + length (clock_news board)
+left_to_send board = length (pending_messages board)
+
+-- how many there would be if the mode asked for the squares
+abbrev pub backlog : BoardState → ℕ
+backlog board = left_to_send (record board { mode = Mode.Update })
 
 -- ---- what sending makes of it
 
 abbrev pub told_squares_after : BoardState → Content → List Piece
 told_squares_after board (Content.dump pieces) = board.squares
-told_squares_after board (Content.field square piece) = slice_set board.told_squares square (piece_on board.squares square)
+told_squares_after board (Content.field square piece) =
+    slice_set board.told_squares square (piece_on board.squares square)
 told_squares_after board _ = board.told_squares
 
 abbrev pub told_clock_after : BoardState → Content → Option ClockState
@@ -79,7 +85,7 @@ times_owed_after board (Content.times readings) = false
 times_owed_after board (Content.no_clock absence) = false
 times_owed_after board _ = board.times_owed
 
--- the board after it has told a message, with the replies that it owes left alone
+-- the board after it has told a message, which leaves what it owes of replies
 abbrev pub after_telling : BoardState → Content → BoardState
 after_telling board message =
     record board {

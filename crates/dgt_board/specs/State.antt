@@ -1,7 +1,13 @@
--- What a board keeps, and what is done to its squares and its clock.
-use Rattle.std.specs.Prelude.{ℕ, List, [], Option, Some, None, Bool, true, false, not, slice_set}
+-- What a board keeps, and what is done to it.
+use Rattle.std.specs.Prelude.{ℕ, List, [], ◌∷◌, ◌++◌, Option, Some, None, Bool, true, false, ◌&&◌, not, ◌==◌, if◌then◌else◌, map, option_to_list, slice_set, unwrap_or}
+use Rattle.std.specs.Option.{option_map_or}
 use Rattle.dgt_values.specs.declared.pieces.Piece.{Piece}
 use Rattle.dgt_message.specs.ClockState.{ClockState, clock_eq}
+use Rattle.dgt_command.specs.declared.ids.KnownId.{KnownId}
+use Rattle.dgt_command.specs.Content.{ClockContent, CommandContent, EventContent}
+use Rattle.dgt_command.specs.Id.{id_number}
+use Rattle.dgt_command.specs.Kind.{kind_of_command}
+use Rattle.dgt_command.specs.Words.{clock_id}
 use Rattle.dgt_board.specs.declared.modes.Mode.{Mode}
 use Rattle.dgt_board.specs.declared.replies.Reply.{Reply}
 use Rattle.dgt_board.specs.Identity.{IdentityContent}
@@ -12,8 +18,8 @@ pub record BoardState : Type 0 where
   pub mode : Mode
   pub told_squares : List Piece  -- the squares as the board has told them
   pub told_clock : Option ClockState  -- the clock as it has told it
-  pub times_owed : Bool
-  pub owed : List Reply  -- the oldest first
+  pub times_owed : Bool  -- whether the clock is to be told
+  pub owed : List Reply  -- what was asked for and is not sent, the oldest first
   pub identity : IdentityContent
 
 -- a board just made
@@ -30,19 +36,20 @@ new_board position clock identity =
       identity = identity;
     }
 
+-- the board after its line is lost: as new, but for its squares, its clock and its identity
+abbrev pub after_line_lost : BoardState → BoardState
+after_line_lost board = new_board board.squares board.clock board.identity
+
 -- whether a mode asks for the squares that differ
 abbrev pub updates : Mode → Bool
 updates Mode.Idle = false
-updates Mode.Update = true
-updates Mode.UpdateBoard = true
-updates Mode.UpdateNice = true
+updates _ = true
 
 -- whether a mode asks for the clock too
 abbrev pub follows_clock : Mode → Bool
-follows_clock Mode.Idle = false
 follows_clock Mode.Update = true
-follows_clock Mode.UpdateBoard = false
 follows_clock Mode.UpdateNice = true
+follows_clock _ = false
 
 -- whether what was told of the clock is what it shows
 abbrev pub is_told : Option ClockState → ClockState → Bool
@@ -55,23 +62,61 @@ after_change board square piece = record board { squares = slice_set board.squar
 
 -- whether a clock that is handed in is then owed, by the mode and by whether it was told
 abbrev pub owed_when_handed : Mode → Bool → Bool
-owed_when_handed Mode.Idle told = false
 owed_when_handed Mode.Update told = true
-owed_when_handed Mode.UpdateBoard told = false
 owed_when_handed Mode.UpdateNice told = not told
+owed_when_handed _ told = false
 
 -- the board after its clock is handed in
 abbrev pub after_hand_clock : BoardState → ClockState → BoardState
 after_hand_clock board clock =
-    record board { clock = clock; times_owed = owed_when_handed board.mode (is_told board.told_clock clock) }
-
--- the board after its line is lost: it is idle, has told its squares and not its clock, and owes nothing
-abbrev pub after_line_lost : BoardState → BoardState
-after_line_lost board =
     record board {
-      mode = Mode.Idle;
-      told_squares = board.squares;
-      told_clock = None;
-      times_owed = false;
-      owed = [];
+      clock = clock;
+      times_owed = owed_when_handed board.mode (is_told board.told_clock clock);
     }
+
+-- ---- what it reads
+
+-- the mode that a command sets, where it sets one
+abbrev pub command_mode : CommandContent → Option Mode
+command_mode CommandContent.Reset = Some Mode.Idle
+command_mode CommandContent.Update = Some Mode.Update
+command_mode CommandContent.UpdateBoard = Some Mode.UpdateBoard
+command_mode CommandContent.UpdateNice = Some Mode.UpdateNice
+command_mode _ = None
+
+-- The acknowledgement of a clock message: where the version is asked for it carries the clock's. A
+-- board with no clock acknowledges nothing.
+abbrev pub acknowledgements : ClockState → IdentityContent → ClockContent → List Reply
+acknowledgements (ClockState.times readings) identity message =
+    let asked = clock_id message == id_number KnownId.Version in
+    Reply.Ack (clock_id message) (if asked then identity.clock_version else 0x00) ∷ []
+acknowledgements (ClockState.no_clock absence) identity message = []
+
+-- the replies that a command adds
+abbrev pub replies_to : BoardState → CommandContent → List Reply
+replies_to board CommandContent.Clock = Reply.Clock ∷ []
+replies_to board (CommandContent.ClockMessage message) =
+    acknowledgements board.clock board.identity message
+replies_to board command = map Reply.Of (option_to_list (kind_of_command command))
+
+-- The board after a command. A mode that is set follows the clock where it differs from what was
+-- told, whatever was owed before.
+abbrev pub after_command : BoardState → CommandContent → BoardState
+after_command board command =
+    record board {
+      mode = unwrap_or (command_mode command) board.mode;
+      times_owed = option_map_or
+          (λ mode. follows_clock mode && not (is_told board.told_clock board.clock))
+          (command_mode command) board.times_owed;
+      owed = board.owed ++ replies_to board command;
+    }
+
+-- the board after what was read: a fault changes nothing
+abbrev pub effect : BoardState → EventContent → BoardState
+effect board (EventContent.Read command) = after_command board command
+effect board _ = board
+
+-- the board after all that was read, in order
+abbrev pub effects : BoardState → List EventContent → BoardState
+effects board [] = board
+effects board (event ∷ events) = effects (effect board event) events

@@ -1,12 +1,15 @@
--- What contracts see of a board, and what bytes make of it.
-use Rattle.std.specs.Prelude.{◌≡◌, ℕ, ◌≤◌, List, [], ◌++◌, length, Option, Some, None}
+-- What contracts see of a board, and what `take` and `poll` make of it.
+use Rattle.std.specs.Prelude.{◌≡◌, ℕ, ◌<◌, ◌≤◌, List, [], ◌++◌, length, drop, Option, Some, None}
 use Rattle.dgt_values.specs.declared.pieces.Piece.{Piece}
 use Rattle.dgt_message.specs.ClockState.{ClockState}
+use Rattle.dgt_message.specs.Content.{Content}
+use Rattle.dgt_message.specs.Spelling.{Spells, spelling}
 use Rattle.dgt_command.specs.Content.{EventContent}
 use Rattle.dgt_command.specs.Words.{Divides, IsPartial}
+use Rattle.dgt_board.specs.declared.sending.Polled.{Polled}
 use Rattle.dgt_board.specs.Identity.{IdentityContent}
-use Rattle.dgt_board.specs.State.{BoardState, after_line_lost, new_board}
-use Rattle.dgt_board.specs.Effect.{effect, effects}
+use Rattle.dgt_board.specs.State.{BoardState, after_line_lost, effect, effects, new_board}
+use Rattle.dgt_board.specs.Sending.{after_sending}
 
 pub record BoardView : Type 0 where
   pub state : BoardState
@@ -14,7 +17,8 @@ pub record BoardView : Type 0 where
 
 -- a board just made, which has taken no byte
 abbrev pub new_view : List Piece → ClockState → IdentityContent → BoardView
-new_view position clock identity = record { state = new_board position clock identity; partial = [] }
+new_view position clock identity =
+    record { state = new_board position clock identity; partial = [] }
 
 -- the board after its line is lost, and with it the bytes of an unfinished command
 abbrev pub view_after_line_lost : BoardView → BoardView
@@ -32,9 +36,20 @@ abbrev pub after_bytes : BoardView → List ℕ → Option EventContent → Boar
 after_bytes board bytes None = record board { partial = board.partial ++ bytes }
 after_bytes board bytes (Some event) = record { state = effect board.state event; partial = [] }
 
--- The board has taken these bytes: after its unfinished command they divide into events and a rest, and each event
--- has had its effect.
+-- The board has taken these bytes: after its unfinished command they divide into events and a rest,
+-- and each event has had its effect.
 pub record HasTaken (before : BoardView) (bytes : List ℕ) (after : BoardView) : Type 0 where
   pub events : List EventContent
   pub divided : Divides (before.partial ++ bytes) events after.partial
   pub state : after.state ≡ effects before.state events
+
+-- what `poll` answers of the next message: the board before and after, the slice before and after
+abbrev pub Polls : Polled → Option Content → BoardView → BoardView → List ℕ → List ℕ → Type 0
+Polls Polled.Nothing None before after old new = (after ≡ before) × (new ≡ old)
+Polls (Polled.NeedRoom need) (Some message) before after old new =
+    (need ≡ length (spelling message)) × (length old < need) × (after ≡ before) × (new ≡ old)
+Polls (Polled.Wrote count) (Some message) before after old new =
+    (count ≡ length (spelling message)) × (count ≤ length old)
+    × (new ≡ spelling message ++ drop count old) × Spells message (spelling message)
+    × (after ≡ record before { state = after_sending before.state message })
+Polls _ _ before after old new = ⊥

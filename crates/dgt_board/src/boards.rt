@@ -11,13 +11,12 @@ ghost use Rattle.dgt_command.specs.Content.{event_content};
 ghost use Rattle.dgt_command.specs.Words.{IsPartial, IsWord};
 ghost use Rattle.dgt_board.specs.State.{after_change, after_hand_clock};
 ghost use Rattle.dgt_board.specs.Sending.{left_to_send, next_message};
-ghost use Rattle.dgt_board.specs.Polls.{Polls};
-ghost use Rattle.dgt_board.specs.View.{HasTaken, IsBoard, after_bytes, new_view, view_after_line_lost};
+ghost use Rattle.dgt_board.specs.View.{HasTaken, IsBoard, Polls, after_bytes, new_view, view_after_line_lost};
 
 use crate::identities::Identity;
 use crate::modes::Mode;
-use crate::sending::Polled;
-use crate::state::State;
+use crate::sending::{MAX_SENT, Polled};
+use crate::state::{MAX_OWED, State};
 use dgt_command::{CommandEvent, WordFramer};
 use dgt_message::Clock;
 use dgt_values::{Piece, Position, Square};
@@ -53,7 +52,10 @@ impl Model for Board {
 
     ghost Value = { BoardView };
 
-    ghost view = { λ board. record { state = state_of board.state; partial = rest_of board.framer } };
+    ghost view = { λ board. record {
+      state = state_of board.state;
+      partial = rest_of board.framer;
+    } };
 
     ghost invariant = { λ board. IsPartial (rest_of board.framer) };
 }
@@ -61,8 +63,8 @@ impl Model for Board {
 impl Board {
     ghost use Rattle.dgt_board.specs.contracts.boards.Board.{the_row};
 
-    /// A board with these pieces, this clock and this identity. It is idle, has told its pieces and not its clock,
-    /// and owes nothing.
+    /// A board with these pieces, this clock and this identity. It is idle, has told its pieces and
+    /// not its clock, and owes nothing.
     pub fn new(position: Position, clock: Clock, identity: Identity) -> Self
         ensures { result ≡ new_view (pieces_of position) (clock_seen clock) identity }
     {
@@ -72,8 +74,8 @@ impl Board {
         }
     }
 
-    /// Puts a piece on a square, or takes one off. The square is to be told in each mode of updates, the present one
-    /// or a later one, for as long as it differs from what was told of it.
+    /// Puts a piece on a square, or takes one off. The square is to be told in each mode of
+    /// updates, the present one or a later one, for as long as it differs from what was told of it.
     pub fn change(&mut self, square: Square, piece: Piece)
         ensures { self.new ≡
             record self.old { state = after_change self.old.state (square_number square) piece } }
@@ -81,8 +83,9 @@ impl Board {
         self.state.change(square, piece);
     }
 
-    /// Sets what the clock shows. In `Update` it is then to be told, in `UpdateNice` exactly if it differs from what
-    /// was told of it, and in the other modes it isn't, whatever was to be told before.
+    /// Sets what the clock shows. In `Update` it is then to be told, in `UpdateNice` exactly if it
+    /// differs from what was told of it, and in the other modes it isn't, whatever was to be told
+    /// before.
     pub fn hand_clock(&mut self, clock: Clock)
         ensures { self.new ≡
             record self.old { state = after_hand_clock self.old.state (clock_seen clock) } }
@@ -90,12 +93,12 @@ impl Board {
         self.state.hand_clock(clock);
     }
 
-    /// The line to the host is lost, and what was under way on it. The board keeps its squares, its clock and its
-    /// identity, and is else as new: idle, with its squares told, its clock not told, nothing owed, and no byte held
-    /// of an unfinished command.
+    /// The line to the host is lost, and what was under way on it. The board keeps its squares, its
+    /// clock and its identity, and is else as new: idle, with its squares told, its clock not told,
+    /// nothing owed, and no byte held of an unfinished command.
     ///
-    /// A change made before is so no longer to be told as a field update. A dump tells of it, which the host asks for
-    /// where it follows the board anew.
+    /// A change made before is so no longer to be told as a field update. A dump tells of it, which
+    /// the host asks for where it follows the board anew.
     pub fn line_lost(&mut self)
         ensures { self.new ≡ view_after_line_lost self.old }
     {
@@ -103,17 +106,18 @@ impl Board {
         self.state.line_lost();
     }
 
-    /// Uses bytes up to and including the first that completes a command or shows a fault, or the whole piece. A
-    /// command that was read has its effect, a fault has none.
+    /// Uses bytes up to and including the first that completes a command or shows a fault, or the
+    /// whole piece. A command that was read has its effect, a fault has none.
     ///
-    /// It is `Busy` exactly where `MAX_OWED` replies are owed, whatever the piece is, and then nothing changes.
+    /// It is `Busy` exactly where `MAX_OWED` replies are owed, whatever the piece is, and then
+    /// nothing changes.
     pub fn take(&mut self, piece: &[u8]) -> Result<Taken<'_>, Busy>
         ensures* after_borrow { sem 𝓛 (Rests the_row self.entry (λ new. MatchResult result
-            (λ taken.
-            (new ≡ after_bytes self.old (take taken.used piece.now) (option_map event_content taken.event))
-            × HasTaken self.old (take taken.used piece.now) new)
+            (λ taken. let bytes = take taken.used piece.now in
+            (new ≡ after_bytes self.old bytes (option_map event_content taken.event))
+            × HasTaken self.old bytes new)
             (λ _. new ≡ self.old))) }
-        ensures busy { IsErr result ↔ (length self.old.state.owed ≡ 8) }
+        ensures busy { IsErr result ↔ (length self.old.state.owed ≡ MAX_OWED) }
         ensures within { IfOk result (λ taken. taken.used ≤ length piece.now) }
         ensures progress { IfOk result (λ taken. 0 < length piece.now → 0 < taken.used) }
         ensures event { IfOk result (λ taken. IfSome taken.event (λ event.
@@ -131,29 +135,33 @@ impl Board {
                 event: None,
             });
         };
-        self.state.obey(&self.framer.event(found));
+        let event = self.framer.event(found);
+        self.state.obey(&event);
         Ok(Taken {
             used: advanced.used,
-            event: Some(self.framer.event(found)),
+            event: Some(event),
         })
     }
 
-    /// Writes the next message into the front of the slice, and takes it for sent; the bytes past it stay. A slice
-    /// that is too short for it stays as it is, and so does the board. No message has more than 67 bytes.
+    /// Writes the next message into the front of the slice, and takes it for sent; the bytes past
+    /// it stay. A slice that is too short for it stays as it is, and so does the board. No message
+    /// has more than `MAX_SENT` bytes.
     pub fn poll(&mut self, out: &mut [u8]) -> Polled
-        ensures polls { Polls result (next_message self.old.state) self.old self.new out.old out.new }
-        ensures short { IfSome (next_message self.old.state) (λ message. length (spelling message) ≤ 67) }
+        ensures polls { Polls result (next_message self.old.state)
+            self.old self.new out.old out.new }
+        ensures short { IfSome (next_message self.old.state)
+            (λ message. length (spelling message) ≤ MAX_SENT) }
         ensures falls { (count : ℕ) → result ≡ Polled.Wrote count
             → left_to_send self.new.state < left_to_send self.old.state }
         ensures nothing { (result ≡ Polled.Nothing) ↔ (left_to_send self.old.state ≡ 0) }
         ensures bound { left_to_send self.old.state ≤ length self.old.state.owed + 65 }
-        ensures room { (need : ℕ) → result ≡ Polled.NeedRoom need → length out.old < 67 }
+        ensures room { (need : ℕ) → result ≡ Polled.NeedRoom need → length out.old < MAX_SENT }
         ensures board { IsBoard self.old }
     {
         self.state.send(out)
     }
 
-    /// Whether there is anything to send.
+    /// Whether there is anything to send: a reply, a square that its mode asks for, or the clock.
     pub fn owes(&self) -> bool
         ensures { IsTrue result ↔ IsSome (next_message self.now.state) }
     {
@@ -163,7 +171,7 @@ impl Board {
     /// How many replies are owed.
     pub fn owed_len(&self) -> usize
         ensures length { result ≡ length self.now.state.owed }
-        ensures limit { result ≤ 8 }
+        ensures limit { result ≤ MAX_OWED }
         ensures board { IsBoard self.now }
     {
         self.state.owed.len()

@@ -18,8 +18,9 @@ pub const MAX_KEPT_BODY: usize = 64;
 #[error("a body has more than {MAX_KEPT_BODY} bytes")]
 pub struct TooLong;
 
-/// What a board tells of itself when it is asked: its serial number, its trademark, its version, its battery, the
-/// version of its clock, and its long serial number. It keeps its own copy of the bodies.
+/// What a board tells of itself when it is asked: its serial number, its trademark, its version,
+/// its battery, the version of its clock, and its long serial number. It keeps its own copy of the
+/// bodies.
 #[derive(Drop)]
 pub struct Identity {
     serial: [SevenBit; 5],
@@ -66,9 +67,10 @@ fn kept_body(body: Body<'_>) -> Result<ArrayVec<u8, MAX_KEPT_BODY>, TooLong>
 }
 
 impl Identity {
-    /// The serial number, the trademark, main and sub number of the version, the body of battery messages, the byte
-    /// that tells the version of the clock, and the long serial number. A trademark, a battery body or a long serial
-    /// number of more than `MAX_KEPT_BODY` bytes is `TooLong`.
+    /// The serial number, the trademark, main and sub number of the version, the body of battery
+    /// messages, the byte that tells the version of the clock, and the long serial number. A
+    /// trademark, a battery body or a long serial number of more than `MAX_KEPT_BODY` bytes is
+    /// `TooLong`.
     pub fn new(
         serial: [SevenBit; 5],
         trademark: Body<'_>,

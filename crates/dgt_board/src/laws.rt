@@ -1,71 +1,80 @@
-//! What holds of what a board keeps, of what it sends and of what it has taken, whoever runs it. Nothing here runs:
-//! each function stands for the fact that its contract states.
+//! What holds of what a board keeps, of what it sends and of what it has taken, whoever runs it.
+//! Nothing here runs: each function stands for the fact that its contract states.
 
-ghost use Rattle.std.specs.Prelude.{◌≡◌, ◌↔◌, ◌≤◌, ◌<◌, ◌+◌, ◌++◌, ℕ, List, [], Some, None, length};
+ghost use Rattle.std.specs.Prelude.{◌≡◌, ◌↔◌, ◌≤◌, ◌<◌, ◌+◌, ◌++◌, ℕ, List, [], Option, Some, None, IfSome, length, option_map};
 ghost use Rattle.dgt_values.specs.Equality.{EqualIsSame};
 ghost use Rattle.dgt_message.specs.Content.{Content};
-ghost use Rattle.dgt_command.specs.Content.{EventContent};
-ghost use Rattle.dgt_command.specs.Equality.{EqualIsSameReadOf};
-ghost use Rattle.dgt_board.specs.Backlog.{backlog};
-ghost use Rattle.dgt_board.specs.Effect.{effects};
-ghost use Rattle.dgt_board.specs.Equality.{TakenHasArrays, taken_seen};
-ghost use Rattle.dgt_board.specs.State.{BoardState};
-ghost use Rattle.dgt_board.specs.Sending.{after_sending, left_to_send, next_message};
+ghost use Rattle.dgt_command.specs.Content.{EventContent, event_content};
+ghost use Rattle.dgt_command.specs.Equality.{EqualIsSameReadOf, EventHasArrays};
+ghost use Rattle.dgt_board.specs.declared.boards.Taken.{Taken};
+ghost use Rattle.dgt_board.specs.State.{BoardState, effects};
+ghost use Rattle.dgt_board.specs.Sending.{after_sending, backlog, left_to_send, next_message};
 ghost use Rattle.dgt_board.specs.View.{BoardView, HasTaken};
 
-use crate::{Busy, MAX_KEPT_BODY, MAX_OWED, Mode, Polled, Taken, TooLong};
+use crate::{Busy, MAX_KEPT_BODY, MAX_OWED, MAX_SENT, Mode, Polled, Taken, TooLong};
 
 /// The limits by their numbers.
 pub fn limits()
     ensures owed { MAX_OWED ≡ 8 }
     ensures kept_body { MAX_KEPT_BODY ≡ 64 }
+    ensures sent { MAX_SENT ≡ 67 }
 {}
 
-/// Two values are equal, as `==` compares them, exactly where they are the same. Of lent bytes the bytes count, and
-/// not where they lie.
+/// Two values are equal, as `==` compares them, exactly where they are the same. Of lent bytes the
+/// bytes count, and not where they lie.
 pub fn equal_is_same()
     ensures mode { EqualIsSame ⟦<Mode as PartialEq>⟧.eq }
     ensures polled { EqualIsSame ⟦<Polled as PartialEq>⟧.eq }
     ensures busy { EqualIsSame ⟦<Busy as PartialEq>⟧.eq }
     ensures too_long { EqualIsSame ⟦<TooLong as PartialEq>⟧.eq }
-    ensures taken { EqualIsSameReadOf TakenHasArrays taken_seen ⟦<Taken<'static> as PartialEq>⟧.eq }
-{}
+    ensures taken { EqualIsSameReadOf {T = Taken} {Read = ℕ × Option EventContent}
+        (λ taken. IfSome taken.event EventHasArrays)
+        (λ taken. (taken.used, option_map event_content taken.event))
+        ⟦<Taken<'static> as PartialEq>⟧.eq }
+{
+    dgt_command::laws::equal_is_same();
+}
 
 /// A board has nothing to send exactly where nothing is left to send, and then it owes no reply.
 pub fn nothing_to_send()
-    ensures nothing_left { (board : BoardState) → (next_message board ≡ None) ↔ (left_to_send board ≡ 0) }
+    ensures nothing_left { (board : BoardState)
+        → (next_message board ≡ None) ↔ (left_to_send board ≡ 0) }
     ensures none_owed { (board : BoardState) → next_message board ≡ None → board.owed ≡ [] }
 {}
 
-/// What is left to send is at most the replies, 64 squares and the clock, and it falls with each message that is sent.
+/// What is left to send is at most the replies, 64 squares and the clock, and it falls with each
+/// message that is sent.
 pub fn bounded_sending()
     ensures bound { (board : BoardState) → left_to_send board ≤ length board.owed + 65 }
     ensures falls { (board : BoardState) (message : Content) → length board.told_squares ≡ 64
-        → next_message board ≡ Some message → left_to_send (after_sending board message) < left_to_send board }
+        → next_message board ≡ Some message
+        → left_to_send (after_sending board message) < left_to_send board }
 {}
 
 /// Bytes that a board has taken one list after the other it has taken as one list.
 pub fn takings_append()
-    ensures { (before between after : BoardView) (bytes more : List ℕ) → HasTaken before bytes between
-        → HasTaken between more after → HasTaken before (bytes ++ more) after }
+    ensures { (before between after : BoardView) (bytes more : List ℕ)
+        → HasTaken before bytes between → HasTaken between more after
+        → HasTaken before (bytes ++ more) after }
 {
     dgt_command::laws::divisions_append();
 }
 
 /// Bytes that a board has taken leave it in one way only.
 pub fn one_taking()
-    ensures { (before after other : BoardView) (bytes : List ℕ) → HasTaken before bytes after
-        → HasTaken before bytes other → after ≡ other }
+    ensures { (before after other : BoardView) (bytes : List ℕ)
+        → HasTaken before bytes after → HasTaken before bytes other → after ≡ other }
 {
     dgt_command::laws::one_division();
 }
 
-/// A backlog is at most the replies, 64 squares and the clock. It falls with each message that is sent, and rises by at
-/// most one with each command that is taken.
+/// A backlog is at most the replies, 64 squares and the clock. It falls with each message that is
+/// sent, and rises by at most one with each command that is taken.
 pub fn bounded_backlog()
     ensures bound { (board : BoardState) → backlog board ≤ length board.owed + 65 }
     ensures falls { (board : BoardState) (message : Content) → length board.told_squares ≡ 64
-        → next_message board ≡ Some message → backlog (after_sending board message) < backlog board }
+        → next_message board ≡ Some message
+        → backlog (after_sending board message) < backlog board }
     ensures rises { (board : BoardState) (events : List EventContent) →
         backlog (effects board events) ≤ backlog board + length events }
 {}

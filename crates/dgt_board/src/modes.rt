@@ -9,6 +9,7 @@ pub enum Mode {
     Update,
     /// Each square that differs from what was told.
     UpdateBoard,
-    /// Each square that differs from what was told, and the clock where it differs from what was told.
+    /// Each square that differs from what was told, and the clock where it differs from what was
+    /// told.
     UpdateNice,
 }

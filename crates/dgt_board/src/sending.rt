@@ -1,21 +1,24 @@
 //! What a board sends, and in which order.
 
-ghost use Rattle.std.specs.Prelude.{◌≡◌, ◌↔◌, ◌≤◌, ◌<◌, ℕ, List, IfSome, Some, [], ◌∷◌, false, filter, length, option_map};
+ghost use Rattle.std.specs.Prelude.{◌≡◌, ◌↔◌, ◌≤◌, ◌<◌, ℕ, List, IfSome, Some, [], ◌∷◌, false, drop, filter, length, option_map, slice_get};
 ghost use Rattle.dgt_values.specs.Bytes.{number};
 ghost use Rattle.dgt_values.specs.Square.{square_number};
 ghost use Rattle.dgt_message.specs.ClockState.{clock_message};
 ghost use Rattle.dgt_message.specs.Content.{Content, content};
 ghost use Rattle.dgt_message.specs.Spelling.{Spells, spelling};
 ghost use Rattle.dgt_values.specs.Room.{WritesFront};
-ghost use Rattle.dgt_board.specs.Sending.{after_sending, after_telling, differs, every_square, left_to_send, next_message, reply_message};
-ghost use Rattle.dgt_board.specs.Due.{IsDue, IsFirst, due_message};
-ghost use Rattle.dgt_board.specs.Polls.{Polls};
+ghost use Rattle.dgt_board.specs.Sending.{after_sending, after_telling, differs, every_square, left_to_send, next_message, reply_message, untold_squares};
+ghost use Rattle.dgt_board.specs.View.{Polls};
+ghost use Rattle.dgt_board.specs.Kept.{due_message};
 
 use crate::modes::Mode;
 use crate::replies::Reply;
 use crate::state::State;
 use dgt_message::{Clock, ClockAck, Message, encode, encode_field};
 use dgt_values::{Kind, NoRoom, SevenBit, Square};
+
+/// The most bytes of a message that a board sends: those of a dump.
+pub const MAX_SENT: usize = 67;
 
 /// What a board answers that is asked to send.
 #[derive(Clone, Copy, Debug, PartialEq, Eq)]
@@ -49,7 +52,8 @@ fn square_at(index: u8) -> Square
 
 // Success, the id of the clock message, and the version of the clock where the id asks for it.
 fn acknowledgement<'a>(id: u8, version: u8) -> Message<'a>
-    ensures { content result ≡ Content.ack (record { ack = 0x10 ∷ id ∷ version ∷ 0x00 ∷ []; status = 0x00 }) }
+    ensures { content result
+        ≡ Content.ack (record { ack = 0x10 ∷ id ∷ version ∷ 0x00 ∷ []; status = 0x00 }) }
 {
     Message::Ack(ClockAck {
         ack: [0x10, id, version, 0x00],
@@ -71,7 +75,8 @@ impl State {
 
     // The first square that differs from what the host was told.
     fn differing_square(&self) -> Option<Square>
-        ensures { IsFirst (filter (differs (state_of self.now)) every_square) (option_map square_number result) }
+        ensures { slice_get (filter (differs (state_of self.now)) every_square) 0
+            ≡ option_map square_number result }
     {
         let differing = self.told_squares.differ(&self.squares);
         if differing == 0 {
@@ -80,18 +85,29 @@ impl State {
         Some(square_at(differing.trailing_zeros() as u8))
     }
 
+    // The first square that is left to tell in this mode.
+    fn untold_square(&self) -> Option<Square>
+        ensures { slice_get (untold_squares (state_of self.now)) 0
+            ≡ option_map square_number result }
+    {
+        if self.mode != Mode::Idle {
+            self.differing_square()
+        } else {
+            None
+        }
+    }
+
     /// What is to be sent next, if anything is.
     pub fn due(&self) -> Option<Due>
-        ensures due { IsDue (state_of self.now) result }
+        ensures next { next_message (state_of self.now)
+            ≡ option_map (due_message (state_of self.now)) result }
         ensures few_owed { length (state_of self.now).owed ≤ 8 }
     {
         if let Some(reply) = self.owed.as_slice().first() {
             return Some(Due::Reply(*reply));
         }
-        if self.mode != Mode::Idle {
-            if let Some(square) = self.differing_square() {
-                return Some(Due::Field(square));
-            }
+        if let Some(square) = self.untold_square() {
+            return Some(Due::Field(square));
         }
         if self.times_owed {
             Some(Due::Times)
@@ -103,7 +119,7 @@ impl State {
     // An owed reply, as the board stands.
     fn reply_message(&self, reply: Reply) -> Message<'_>
         ensures value { content result ≡ reply_message (state_of self.now) reply }
-        ensures short { length (spelling (content result)) ≤ 67 }
+        ensures short { length (spelling (content result)) ≤ MAX_SENT }
     {
         match reply {
             Reply::Of(Kind::Dump) => Message::Dump(self.squares),
@@ -123,7 +139,7 @@ impl State {
     // What the clock shows.
     fn clock_message(&self) -> Message<'_>
         ensures value { content result ≡ clock_message (state_of self.now).clock }
-        ensures short { length (spelling (content result)) ≤ 67 }
+        ensures short { length (spelling (content result)) ≤ MAX_SENT }
     {
         match self.clock {
             Clock::Times(times) => Message::Times(times),
@@ -131,12 +147,15 @@ impl State {
         }
     }
 
-    // Writes what is due into the front of the slice, as the board stands. Each message is encoded where it is made: one
-    // that is first brought together with the others is copied as long as a dump is.
+    // Writes what is due into the front of the slice, as the board stands. Each message is encoded
+    // where it is made: one that is first brought together with the others is copied as long as a
+    // dump is.
     fn write(&self, due: Due, out: &mut [u8]) -> Result<usize, NoRoom>
-        ensures wrote { WritesFront (spelling (due_message (state_of self.now) due)) out.old out.new result }
-        ensures spells { Spells (due_message (state_of self.now) due) (spelling (due_message (state_of self.now) due)) }
-        ensures short { length (spelling (due_message (state_of self.now) due)) ≤ 67 }
+        ensures wrote { let message = due_message (state_of self.now) due in
+            WritesFront (spelling message) out.old out.new result }
+        ensures spells { let message = due_message (state_of self.now) due in
+            Spells message (spelling message) }
+        ensures short { length (spelling (due_message (state_of self.now) due)) ≤ MAX_SENT }
     {
         match due {
             Due::Reply(reply) => encode(&self.reply_message(reply), out),
@@ -146,7 +165,7 @@ impl State {
     }
 
     // The clock is told.
-    fn settle_clock(&mut self)
+    fn note_clock(&mut self)
         ensures { state_of self.new ≡ record (state_of self.old) {
           told_clock = Some (state_of self.old).clock;
           times_owed = false;
@@ -156,33 +175,39 @@ impl State {
         self.times_owed = false;
     }
 
-    // An owed reply is told.
-    fn settle_reply(&mut self, reply: Reply)
-        ensures { state_of self.new ≡ after_telling (state_of self.old) (reply_message (state_of self.old) reply) }
+    // What a reply tells is told.
+    fn note_reply(&mut self, reply: Reply)
+        ensures { state_of self.new
+            ≡ after_telling (state_of self.old) (reply_message (state_of self.old) reply) }
     {
         match reply {
             Reply::Of(Kind::Dump) => self.told_squares = self.squares,
-            Reply::Clock => self.settle_clock(),
+            Reply::Clock => self.note_clock(),
             _ => {}
         }
     }
 
-    // What was due is sent.
-    fn settle(&mut self, due: Due)
-        requires { IsDue (state_of self.old) (Some due) }
-        ensures { state_of self.new ≡ after_sending (state_of self.old) (due_message (state_of self.old) due) }
+    // What was due is told.
+    fn note_told(&mut self, due: Due)
+        ensures { state_of self.new
+            ≡ after_telling (state_of self.old) (due_message (state_of self.old) due) }
     {
         match due {
-            Due::Reply(reply) => {
-                self.settle_reply(reply);
-                self.owed.remove(0);
-            }
+            Due::Reply(reply) => self.note_reply(reply),
             Due::Field(square) => {
                 let piece = self.squares.get(square);
                 self.told_squares.set(square, piece);
             }
-            Due::Times => self.settle_clock(),
+            Due::Times => self.note_clock(),
         }
+    }
+
+    // The first reply is owed no longer. Where none is owed, nothing changes.
+    fn drop_reply(&mut self)
+        ensures { state_of self.new
+            ≡ record (state_of self.old) { owed = drop 1 (state_of self.old).owed } }
+    {
+        let _ = self.owed.pop_at(0);
     }
 
     /// Writes the next message into the front of the slice, and takes it for sent.
@@ -190,10 +215,11 @@ impl State {
         ensures polls { (partial : List ℕ) → Polls result (next_message (state_of self.old))
             (record { state = state_of self.old; partial = partial })
             (record { state = state_of self.new; partial = partial }) out.old out.new }
-        ensures short { IfSome (next_message (state_of self.old)) (λ message. length (spelling message) ≤ 67) }
+        ensures short { IfSome (next_message (state_of self.old))
+            (λ message. length (spelling message) ≤ MAX_SENT) }
         ensures falls { (count : ℕ) → result ≡ Polled.Wrote count
             → left_to_send (state_of self.new) < left_to_send (state_of self.old) }
-        ensures room { (need : ℕ) → result ≡ Polled.NeedRoom need → length out.old < 67 }
+        ensures room { (need : ℕ) → result ≡ Polled.NeedRoom need → length out.old < MAX_SENT }
         ensures few_owed { length (state_of self.old).owed ≤ 8 }
         ensures nothing { (result ≡ Polled.Nothing) ↔ (left_to_send (state_of self.old) ≡ 0) }
     {
@@ -202,7 +228,8 @@ impl State {
         };
         match self.write(due, out) {
             Ok(count) => {
-                self.settle(due);
+                self.note_told(due);
+                self.drop_reply();
                 Polled::Wrote(count)
             }
             Err(NoRoom { need }) => Polled::NeedRoom(need),

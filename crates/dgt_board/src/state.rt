@@ -6,8 +6,7 @@ ghost use Rattle.dgt_values.specs.Square.{square_number};
 ghost use Rattle.dgt_message.specs.ClockState.{clock_seen};
 ghost use Rattle.dgt_command.specs.Content.{clock_content, command_content, event_content};
 ghost use Rattle.dgt_command.specs.Words.{clock_id};
-ghost use Rattle.dgt_board.specs.State.{new_board, after_change, after_hand_clock, after_line_lost, follows_clock, is_told};
-ghost use Rattle.dgt_board.specs.Effect.{acknowledgements, after_command, effect};
+ghost use Rattle.dgt_board.specs.State.{acknowledgements, after_change, after_command, after_hand_clock, after_line_lost, effect, follows_clock, is_told, new_board};
 
 use crate::identities::Identity;
 use crate::modes::Mode;
@@ -30,7 +29,9 @@ pub struct State {
     pub told_squares: Position,
     /// The clock as the host was told it.
     pub told_clock: Option<Clock>,
+    /// Whether the clock is to be told.
     pub times_owed: bool,
+    /// The replies that were asked for and are not sent, the oldest first.
     pub owed: ArrayVec<Reply, MAX_OWED>,
     pub identity: Identity,
 }
@@ -56,7 +57,8 @@ impl State {
 
     /// A piece is put on a square, or taken off.
     pub fn change(&mut self, square: Square, piece: Piece)
-        ensures { state_of self.new ≡ after_change (state_of self.old) (square_number square) piece }
+        ensures { state_of self.new
+            ≡ after_change (state_of self.old) (square_number square) piece }
     {
         self.squares.set(square, piece);
     }
@@ -104,7 +106,8 @@ impl State {
     // The effect of a command.
     fn obey_command(&mut self, command: &Command<'_>)
         requires { length self.old.owed.items < MAX_OWED }
-        ensures { state_of self.new ≡ after_command (state_of self.old) (command_content command.now) }
+        ensures { state_of self.new
+            ≡ after_command (state_of self.old) (command_content command.now) }
     {
         match command {
             Command::Reset => self.enter(Mode::Idle),
@@ -121,11 +124,13 @@ impl State {
         }
     }
 
-    // A mode that follows the clock owes it where it differs from what was told, whatever was owed before.
+    // A mode that follows the clock owes it where it differs from what was told, whatever was owed
+    // before.
     fn enter(&mut self, mode: Mode)
         ensures { state_of self.new ≡ record (state_of self.old) {
           mode = mode;
-          times_owed = follows_clock mode && not (is_told (state_of self.old).told_clock (state_of self.old).clock);
+          times_owed = let before = state_of self.old in
+              follows_clock mode && not (is_told before.told_clock before.clock);
         } }
     {
         self.mode = mode;
@@ -140,7 +145,8 @@ impl State {
         requires { length self.old.owed.items < MAX_OWED }
         ensures { state_of self.new ≡ record (state_of self.old) {
           owed = (state_of self.old).owed
-              ++ acknowledgements (clock_seen self.old.clock) self.old.identity (clock_content message.now);
+              ++ acknowledgements (clock_seen self.old.clock) self.old.identity
+              (clock_content message.now);
         } }
     {
         if let Clock::Times(_) = self.clock {

@@ -8,13 +8,13 @@ use std::process::Abort;
 use std::test::Fail;
 
 // The dump of the starting position, and the one with no pawn on e2.
-const START: [u8; 67] = [
+const START: [u8; MAX_SENT] = [
     0x86, 0x00, 0x43, 8, 9, 10, 12, 11, 10, 9, 8, 7, 7, 7, 7, 7, 7, 7, 7, 0, 0, 0, 0, 0, 0, 0, 0,
     0, 0, 0, 0, 0, 0, 0, 0, 0, 0, 0, 0, 0, 0, 0, 0, 0, 0, 0, 0, 0, 0, 0, 0, 1, 1, 1, 1, 1, 1, 1, 1,
     2, 3, 4, 6, 5, 4, 3, 2,
 ];
 
-const WITHOUT_E2: [u8; 67] = [
+const WITHOUT_E2: [u8; MAX_SENT] = [
     0x86, 0x00, 0x43, 8, 9, 10, 12, 11, 10, 9, 8, 7, 7, 7, 7, 7, 7, 7, 7, 0, 0, 0, 0, 0, 0, 0, 0,
     0, 0, 0, 0, 0, 0, 0, 0, 0, 0, 0, 0, 0, 0, 0, 0, 0, 0, 0, 0, 0, 0, 0, 0, 1, 1, 1, 1, 0, 1, 1, 1,
     2, 3, 4, 6, 5, 4, 3, 2,
@@ -90,7 +90,7 @@ use Step::*;
 
 fn play(rt: &impl Abort, board: &mut Board, steps: &[Step<'_>]) -> Result<(), Fail> {
     for step in steps {
-        let mut out = [0xff; 67];
+        let mut out = [0xff; MAX_SENT];
         match *step {
             Take(piece) => {
                 let taken = board.take(piece)?;
@@ -241,7 +241,7 @@ fn dump_waits_for_67_bytes_of_room(rt: HostRuntime) -> Result<(), Fail> {
     assert_eq!(rt; board.mode(), Mode::UpdateBoard);
     assert_eq!(rt; board.owed_len(), 1);
     let mut out = [0xff; 66];
-    assert_eq!(rt; board.poll(&mut out), Polled::NeedRoom(67));
+    assert_eq!(rt; board.poll(&mut out), Polled::NeedRoom(MAX_SENT));
     assert_eq!(rt; out, [0xff; 66]);
     assert_eq!(rt; board.owed_len(), 1);
     play(&rt, &mut board, &[Sends(&START), IsSettled])
@@ -352,7 +352,8 @@ fn lost_line_leaves_the_squares_and_the_clock(rt: HostRuntime) -> Result<(), Fai
     assert_eq!(rt; (board.owed_len(), board.partial()), (0, 0));
     assert_eq!(rt; board.position().get(Square::parse("e2")?), Piece::Empty);
     assert_eq!(rt; *board.clock(), running);
-    // the change is told by a dump alone; the clock is owed again, though it was not handed in again
+    // the change is told by a dump alone; the clock is owed again, though it was not handed in
+    // again
     play(
         &rt,
         &mut board,
@@ -494,7 +495,7 @@ fn take_all(
         }
         if board.owed_len() == MAX_OWED {
             assert_eq!(rt; board.take(left).err(), Some(Busy));
-            assert!(rt; matches!(board.poll(&mut [0; 67]), Polled::Wrote(_)));
+            assert!(rt; matches!(board.poll(&mut [0; MAX_SENT]), Polled::Wrote(_)));
         }
         let taken = board.take(left)?;
         let (used, rest) = left.split_at(taken.used);
@@ -523,7 +524,7 @@ fn is_left_as(board: &Board, row: &Row<'_>) -> bool {
 // Sends all that there is to send: 8 replies and the times at most.
 fn send_all(rt: &impl Abort, board: &mut Board) {
     for _ in 0..=MAX_OWED {
-        board.poll(&mut [0; 67]);
+        board.poll(&mut [0; MAX_SENT]);
     }
     assert!(rt; !board.owes());
 }

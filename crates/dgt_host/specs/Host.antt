@@ -1,29 +1,22 @@
--- What contracts see of a host, and what bytes make of it.
-use Rattle.std.specs.Prelude.{ℕ, List, [], ◌∷◌, ◌++◌, Option, None, option_map}
+-- What contracts see of a host, and what messages and bytes make of it.
+use Rattle.std.specs.Prelude.{◌≡◌, ◌≢◌, ℕ, List, [], ◌∷◌, ◌++◌, Option, Some, None, Bool, option_map, if◌then◌else◌, slice_get, slice_set}
+use Rattle.dgt_values.specs.contracts.kinds.KindPartialEq.TheImpl as kinds
 use Rattle.dgt_values.specs.declared.kinds.Kind.{Kind}
 use Rattle.dgt_values.specs.declared.pieces.Piece.{Piece}
 use Rattle.dgt_values.specs.declared.positions.Position.{Position}
 use Rattle.dgt_values.specs.Pieces.{pieces_of}
 use Rattle.dgt_message.specs.declared.clock.Clock.{Clock}
 use Rattle.dgt_message.specs.Content.{Content}
-use Rattle.dgt_message.specs.Kind.{kind_of}
+use Rattle.dgt_message.specs.Content.Content.{dump, field, times, no_clock}
 use Rattle.dgt_message.specs.ClockState.{ClockState, clock_seen}
+use Rattle.dgt_message.specs.Kind.{kind_of}
 use Rattle.dgt_decode.specs.Grammar.{Event, Message, Placed, events, open_message}
-use Rattle.dgt_host.specs.Hearing.{awaited_after, clock_after, picture_after}
 
 pub record HostView : Type 0 where
-  -- the pieces of the board, once they are known
-  pub picture : Option (List Piece)
-  -- what the board's clock told last
-  pub clock : Option ClockState
-  -- the kinds of the replies that are awaited, the next one first
-  pub awaited : List Kind
-  -- the bytes of a message that isn't finished
-  pub unread : List ℕ
-
--- a host just made
-abbrev pub new_host : HostView
-new_host = record { picture = None; clock = None; awaited = []; unread = [] }
+  pub picture : Option (List Piece)  -- the pieces of the board, once they are known
+  pub clock : Option ClockState  -- what the board's clock told last
+  pub awaited : List Kind  -- the kinds of the replies that are awaited, the next one first
+  pub unread : List ℕ  -- the bytes of a message that isn't finished
 
 abbrev pub host_seen : Option Position → Option Clock → List Kind → List ℕ → HostView
 host_seen picture clock awaited unread =
@@ -33,6 +26,47 @@ host_seen picture clock awaited unread =
       awaited = awaited;
       unread = unread;
     }
+
+-- a host just made
+abbrev pub new_host : HostView
+new_host = record { picture = None; clock = None; awaited = []; unread = [] }
+
+-- the picture after a message: a dump sets it, a field sets one square of a picture that is known
+abbrev pub picture_after : Option (List Piece) → Content → Option (List Piece)
+picture_after picture (dump pieces) = Some pieces
+picture_after picture (field square piece) =
+    option_map (λ pieces. slice_set pieces square piece) picture
+picture_after picture _ = picture
+
+abbrev pub picture_after_all : Option (List Piece) → List Content → Option (List Piece)
+picture_after_all picture [] = picture
+picture_after_all picture (said ∷ more) = picture_after_all (picture_after picture said) more
+
+-- the clock after a message: what it tells of a clock, if it does
+abbrev pub clock_after : Option ClockState → Content → Option ClockState
+clock_after before (times readings) = Some (ClockState.times readings)
+clock_after before (no_clock absence) = Some (ClockState.no_clock absence)
+clock_after before _ = before
+
+abbrev pub clock_after_all : Option ClockState → List Content → Option ClockState
+clock_after_all before [] = before
+clock_after_all before (said ∷ more) = clock_after_all (clock_after before said) more
+
+-- what `==` says of two kinds: whether they are the same
+abbrev pub is_same_kind : Kind → Kind → Bool
+is_same_kind = (kinds.eq-value).it
+
+-- what is awaited after a message of this kind: the kind is taken off where it is the first
+abbrev pub awaited_after : List Kind → Option Kind → List Kind
+awaited_after awaited None = awaited
+awaited_after [] (Some kind) = []
+awaited_after (first ∷ more) (Some kind) = if is_same_kind first kind then more else first ∷ more
+
+-- a message of a kind that is not the first awaited
+abbrev pub IsUnasked : List Kind → Option Event → Type 0
+IsUnasked awaited (Some (Message said)) =
+    (kind : Kind) × (kind_of said ≡ Some kind) × (slice_get awaited 0 ≢ Some kind)
+IsUnasked awaited _ = ⊥
 
 abbrev pub host_after_message : HostView → Content → HostView
 host_after_message host said =
@@ -57,3 +91,9 @@ host_after host bytes =
     record (host_after_events host (events (host.unread ++ bytes))) {
       unread = open_message (host.unread ++ bytes);
     }
+
+-- a host that hears bytes in two pieces is the one that hears them in one
+abbrev pub HeardInPieces : Type 0
+HeardInPieces =
+    (host : HostView) (bytes more : List ℕ) →
+    host_after (host_after host bytes) more ≡ host_after host (bytes ++ more)

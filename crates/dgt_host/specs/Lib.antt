@@ -1,4 +1,3 @@
-pub mod Hearing
+-- Cited by public contracts, in the order to read.
 pub mod Host
 pub mod Sending
-pub mod Laws

@@ -23,16 +23,20 @@ follow_bytes = spelling UpdateBoard ++ spelling Dump
 abbrev pub restart_bytes : List ℕ
 restart_bytes = replicate 255 0 ++ follow_bytes
 
--- Bytes are sent whose reply has this kind. They stand at the front of the slice, the rest of which
--- is as it was, and the kind is awaited last; or one more can't be awaited, or else the slice is
--- too short for them, and nothing changes.
-abbrev pub Sends :
-    Option Kind → List ℕ → HostView → HostView → List ℕ → List ℕ → Result ℕ SendFault → Type 0
-Sends kind bytes before after old new (Ok written) =
-    (awaits_too_many before kind ≡ false) × (written ≡ length bytes) × (written ≤ length old)
-    × (new ≡ bytes ++ drop written old) × (after ≡ host_awaiting before kind)
-Sends kind bytes before after old new (Err TooMany) =
-    IsTrue (awaits_too_many before kind) × (new ≡ old) × (after ≡ before)
-Sends kind bytes before after old new (Err (NoRoom need)) =
-    (awaits_too_many before kind ≡ false) × (need ≡ length bytes) × (length old < need)
+-- bytes that a host sends, and the kind of the reply that it then awaits
+pub record Request : Type 0 where
+  pub kind : Option Kind
+  pub bytes : List ℕ
+
+-- The bytes stand at the front of the slice, the rest of which is as it was, and the kind is
+-- awaited last; or one more can't be awaited, or else the slice is too short for them, and nothing
+-- changes.
+abbrev pub Sends : Request → HostView → HostView → List ℕ → List ℕ → Result ℕ SendFault → Type 0
+Sends x before after old new (Ok written) =
+    (awaits_too_many before x.kind ≡ false) × (written ≡ length x.bytes) × (written ≤ length old)
+    × (new ≡ x.bytes ++ drop written old) × (after ≡ host_awaiting before x.kind)
+Sends x before after old new (Err TooMany) =
+    IsTrue (awaits_too_many before x.kind) × (new ≡ old) × (after ≡ before)
+Sends x before after old new (Err (NoRoom need)) =
+    (awaits_too_many before x.kind ≡ false) × (need ≡ length x.bytes) × (length old < need)
     × (new ≡ old) × (after ≡ before)

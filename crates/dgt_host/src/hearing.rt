@@ -6,8 +6,7 @@ ghost use Rattle.dgt_message.specs.ClockState.{clock_seen};
 ghost use Rattle.dgt_message.specs.Content.{content};
 ghost use Rattle.dgt_message.specs.Kind.{kind_of};
 ghost use Rattle.dgt_decode.specs.Feeding.{event_content};
-ghost use Rattle.dgt_host.specs.Hearing.{awaited_after, clock_after, is_same_kind, picture_after, IsUnasked};
-ghost use Rattle.dgt_host.specs.Host.{host_after_event, host_seen};
+ghost use Rattle.dgt_host.specs.Host.{IsUnasked, awaited_after, clock_after, host_after_event, host_seen, is_same_kind, picture_after};
 
 use crate::host::MAX_AWAITED;
 use arrayvec::ArrayVec;
@@ -45,7 +44,7 @@ fn picture_after(picture: Option<Position>, message: &Message<'_>) -> Option<Pos
     }
 }
 
-// What is told of a clock sets the clock.
+// What a board tells of its clock sets the clock.
 fn clock_after(clock: Option<Clock>, message: &Message<'_>) -> Option<Clock>
     ensures { option_map clock_seen result
         ≡ clock_after (option_map clock_seen clock) (content message.now) }
@@ -63,10 +62,11 @@ fn is_same(first: Kind, second: Kind) -> bool
     first == second
 }
 
-// Takes the kind of a message off where it is the first awaited, and tells whether the message has
-// a kind that isn't.
+// Takes the kind of a message off where it is the first awaited, and answers whether the message
+// has a kind that isn't.
 fn take_off(awaited: &mut ArrayVec<Kind, MAX_AWAITED>, message: &Message<'_>) -> bool
-    ensures awaited { awaited.new.items ≡ awaited_after awaited.old.items (kind_of (content message.now)) }
+    ensures awaited { awaited.new.items
+        ≡ awaited_after awaited.old.items (kind_of (content message.now)) }
     ensures unasked { IsTrue result
         ↔ IsUnasked awaited.old.items (Some (event_content (Event.Message message.now))) }
 {
@@ -82,7 +82,7 @@ fn take_off(awaited: &mut ArrayVec<Kind, MAX_AWAITED>, message: &Message<'_>) ->
     }
 }
 
-/// Changes the parts of a host as an event does, and tells whether it is a message that was not
+/// Changes the parts of a host as an event does, and answers whether it is a message that was not
 /// asked for.
 pub(crate) fn hear_event(
     event: &Event<'_>,

@@ -10,8 +10,7 @@ ghost use Rattle.dgt_command.specs.Kind.{kind_of_command};
 ghost use Rattle.dgt_command.specs.Words.{spelling, Spells};
 ghost use Rattle.dgt_decode.specs.Grammar.{open_message};
 ghost use Rattle.dgt_decode.specs.Feeding.{FirstEvent, event_content_if_any};
-ghost use Rattle.dgt_host.specs.Hearing.{IsUnasked};
-ghost use Rattle.dgt_host.specs.Host.{host_after, new_host};
+ghost use Rattle.dgt_host.specs.Host.{IsUnasked, host_after, new_host};
 ghost use Rattle.dgt_host.specs.Sending.{Sends, awaits_too_many, follow_bytes, restart_bytes};
 
 use crate::hearing::{Heard, hear_event};
@@ -47,7 +46,8 @@ impl Model for Host {
 
     ghost Value = { HostView };
 
-    ghost view = { λ host. host_seen host.picture host.clock host.awaited.items (open_message host.framer) };
+    ghost view = { λ host.
+        host_seen host.picture host.clock host.awaited.items (open_message host.framer) };
 }
 
 impl Host {
@@ -73,8 +73,10 @@ impl Host {
     /// slice is shorter than the command.
     pub fn send(&mut self, command: &Command<'_>, out: &mut [u8]) -> Result<usize, SendFault>
         ensures sends { let said = command_content command.now in
-            Sends (kind_of_command said) (spelling said) self.old self.new out.old out.new result }
-        ensures spells { let said = command_content command.now in OnOk result (Spells said (spelling said)) }
+            Sends (record { kind = kind_of_command said; bytes = spelling said })
+            self.old self.new out.old out.new result }
+        ensures spells { let said = command_content command.now in
+            OnOk result (Spells said (spelling said)) }
         ensures limit { length (spelling (command_content command.now)) ≤ 257 }
     {
         let kind = kind_of_command(command);
@@ -95,13 +97,14 @@ impl Host {
     /// First `TooMany`, where 16 replies are awaited. Then `NoRoom`, where the slice is shorter
     /// than 2.
     pub fn follow(&mut self, out: &mut [u8]) -> Result<usize, SendFault>
-        ensures { Sends (Some Kind.Dump) follow_bytes self.old self.new out.old out.new result }
+        ensures { Sends (record { kind = Some Kind.Dump; bytes = follow_bytes })
+            self.old self.new out.old out.new result }
     {
         self.ask_for_dump(0, out)
     }
 
-    /// Begins anew with a board that may be in the middle of a command: writes 255 bytes `00`, which
-    /// end it as a clock message, an LED frame or a fault, and then, as [`Host::follow`],
+    /// Begins anew with a board that may be in the middle of a command: writes 255 bytes `00`,
+    /// which end it as a clock message, an LED frame or a fault, and then, as [`Host::follow`],
     /// `UpdateBoard` and `Dump`, into the front of the slice, and answers 257. The dump is awaited
     /// from then on.
     ///
@@ -110,7 +113,8 @@ impl Host {
     /// First `TooMany`, where 16 replies are awaited. Then `NoRoom`, where the slice is shorter
     /// than 257.
     pub fn restart(&mut self, out: &mut [u8]) -> Result<usize, SendFault>
-        ensures { Sends (Some Kind.Dump) restart_bytes self.old self.new out.old out.new result }
+        ensures { Sends (record { kind = Some Kind.Dump; bytes = restart_bytes })
+            self.old self.new out.old out.new result }
     {
         self.ask_for_dump(SETTLING_ZEROS, out)
     }
@@ -118,7 +122,8 @@ impl Host {
     // Writes so many bytes `00`, and then what asks for the updates and the whole of the board.
     fn ask_for_dump(&mut self, zeros: usize, out: &mut [u8]) -> Result<usize, SendFault>
         requires { zeros ≤ 255 }
-        ensures { Sends (Some Kind.Dump) (replicate zeros 0 ++ follow_bytes)
+        ensures { let bytes = replicate zeros 0 ++ follow_bytes in
+            Sends (record { kind = Some Kind.Dump; bytes = bytes })
             self.old self.new out.old out.new result }
     {
         if self.awaited.is_full() {
@@ -208,15 +213,16 @@ impl Host {
                 unasked: false,
             };
         };
+        let event = self.framer.event(found);
         let unasked = hear_event(
-            &self.framer.event(found),
+            &event,
             &mut self.picture,
             &mut self.clock,
             &mut self.awaited,
         );
         Heard {
             used: advanced.used,
-            event: Some(self.framer.event(found)),
+            event: Some(event),
             unasked,
         }
     }

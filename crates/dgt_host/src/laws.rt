@@ -1,9 +1,10 @@
 //! What holds of a host whatever it hears. Nothing here runs: each function stands for the fact
 //! that its contract states.
 
-ghost use Rattle.std.specs.Prelude.{◌≡◌};
+ghost use Rattle.std.specs.Prelude.{◌≡◌, ℕ, List};
 ghost use Rattle.dgt_values.specs.Equality.{EqualIsSame};
-ghost use Rattle.dgt_host.specs.Laws.{HeardInPieces};
+ghost use Rattle.dgt_decode.specs.Grammar.{Placed, events_behind};
+ghost use Rattle.dgt_host.specs.Host.{HeardInPieces, HostView, host_after_events};
 
 use crate::{Kind, MAX_AWAITED, SendFault};
 
@@ -25,3 +26,9 @@ pub fn heard_in_pieces()
     dgt_decode::laws::events_append();
     dgt_decode::laws::open_append();
 }
+
+/// What a host becomes doesn't depend on where the events stand.
+pub fn places_do_not_matter()
+    ensures { (host : HostView) (places : ℕ) (events : List Placed)
+        → host_after_events host (events_behind places events) ≡ host_after_events host events }
+{}

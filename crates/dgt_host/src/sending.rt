@@ -5,8 +5,8 @@ use thiserror::Error;
 /// Why nothing was sent. The host and the slice are as they were.
 #[derive(Clone, Copy, Debug, PartialEq, Eq, Error)]
 pub enum SendFault {
-    /// The reply would have to be awaited, and 16 are awaited already. This is told before a want
-    /// of room.
+    /// The reply would have to be awaited, and 16 are awaited already. This goes before a want of
+    /// room.
     #[error("16 replies are awaited already")]
     TooMany,
     /// The slice is shorter than what is to be written, which takes `need` bytes.

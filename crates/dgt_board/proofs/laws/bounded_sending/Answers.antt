@@ -1,8 +1,8 @@
-use Rattle.dgt_board.proofs.SendingLemmas.{left-at_most, next_lowers}
+use Rattle.dgt_board.proofs.SendingLemmas.{left-at_most, sending_lowers}
 use Rattle.dgt_board.proofs.laws.bounded_sending.Goals as goal
 
 pub returns-clause-bound : goal.returns-clause-bound
 returns-clause-bound c = left-at_most
 
 pub returns-clause-falls : goal.returns-clause-falls
-returns-clause-falls c = next_lowers
+returns-clause-falls c = sending_lowers

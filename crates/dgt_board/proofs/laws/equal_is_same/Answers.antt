@@ -1,5 +1,4 @@
 use Rattle.dgt_command.specs.declared.decoder.CommandFed.{CommandFed}
-use Rattle.dgt_command.proofs.EqualCommands.{equal_fed}
 use Rattle.dgt_board.specs.declared.boards.Taken.{Taken}
 use Rattle.dgt_board.proofs.laws.equal_is_same.Goals as goal
 
@@ -9,4 +8,4 @@ as_fed taken = record { used = taken.used; event = taken.event }
 
 pub returns-clause-taken : goal.returns-clause-taken
 unfolding as_fed
-returns-clause-taken c = λ a b. equal_fed (as_fed a) (as_fed b)
+returns-clause-taken c = λ a b. c.equal_is_same.ensures.fed (as_fed a) (as_fed b)

@@ -1,4 +1,4 @@
-use Rattle.dgt_command.proofs.DivisionLemmas.{nothing_is_partial}
+use Rattle.dgt_board.proofs.TakingLemmas.{nothing_is_partial}
 use Rattle.dgt_board.proofs.boards.Board.line_lost.Goals as goal
 
 pub invariant_of-self : goal.invariant_of-self

@@ -1,11 +1,11 @@
 use Rattle.std.proofs.Common.{rules, ◌≡◌, refl, [], ◌++◌, take}
-use Rattle.dgt_command.proofs.DivisionLemmas.{nothing_is_partial}
 use Rattle.dgt_command.specs.Content.{event_content}
 use Rattle.dgt_command.specs.Framing.{rest_of}
 use Rattle.dgt_command.specs.Words.{IsWord}
-use Rattle.dgt_board.specs.Effect.{effect}
+use Rattle.dgt_board.specs.State.{effect}
 use Rattle.dgt_board.specs.Kept.{state_of}
-use Rattle.dgt_board.proofs.TakingLemmas.{takes_word}
+use Rattle.dgt_board.specs.View.{BoardView}
+use Rattle.dgt_board.proofs.TakingLemmas.{nothing_is_partial, takes_word}
 use Rattle.dgt_board.proofs.boards.Board.take.Goals as goal
 
 pub invariant_of-self-2 : goal.invariant_of-self-2
@@ -14,12 +14,15 @@ invariant_of-self-2 c = rw (c.advance-advanced.ensures.rest, c.in-Some.is) nothi
 pub returns : goal.returns
 returns c =
     let bytes = take c.advance-advanced.result.used c.args.piece.now in
-    let word : IsWord (event_content c.event-2.result) (c.args.self.now.partial ++ bytes) =
-    rw (c.event-2.ensures, ← c.self.view_is) (rw c.in-Some.is at c.advance-advanced.ensures.found) in
-    let state : state_of c.obey.new.self ≡ effect c.args.self.now.state (event_content c.event-2.result) =
-    rw (c.event-2.ensures, ← c.event.ensures, ← c.self.view_is) c.obey.ensures in
+    let event = event_content c.event-event.result in
+    let word : IsWord event (c.args.self.now.partial ++ bytes) =
+    rw (c.event-event.ensures, ← c.self.view_is) (rw c.in-Some.is at c.advance-advanced.ensures.found) in
+    let state : state_of c.obey.new.self ≡ effect c.args.self.now.state event =
+    rw (← c.self.view_is) c.obey.ensures in
     let rest : rest_of c.advance-advanced.new.self ≡ [] = rw c.in-Some.is at c.advance-advanced.ensures.rest in
-    let both = takes_word c.args.self.now (record { state = state_of c.obey.new.self; partial = rest_of c.advance-advanced.new.self }) bytes (event_content c.event-2.result) word state rest in (
+    let after : BoardView = record { state = state_of c.obey.new.self; partial = rest_of c.advance-advanced.new.self }
+    in
+    let both = takes_word c.args.self.now after bytes event word state rest in (
       (refl, λ _. tt, both),
       record {
         after_borrow = tt;

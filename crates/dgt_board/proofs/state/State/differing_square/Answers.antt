@@ -5,9 +5,13 @@ use Rattle.dgt_board.proofs.state.State.differing_square.Goals as goal
 
 pub returns-then-differing-eq0 : goal.returns-then-differing-eq0
 returns-then-differing-eq0 c =
-    none_differs (state_of c.args.self.now) c.differ-differing.result c.args.self.now.told_squares.all c.args.self.now.squares.all c.differ-differing.ensures (omega arith)
+    let kept = c.args.self.now in
+    none_differs (state_of kept) c.differ-differing.result kept.told_squares.all kept.squares.all
+    c.differ-differing.ensures (omega arith)
 
 pub returns : goal.returns
 returns c =
+    let kept = c.args.self.now in
     rw c.square_at.ensures
-    (lowest_differs (state_of c.args.self.now) c.differ-differing.result c.args.self.now.told_squares.all c.args.self.now.squares.all c.differ-differing.ensures (omega arith) (omega arith))
+    (lowest_differs (state_of kept) c.differ-differing.result kept.told_squares.all kept.squares.all
+    c.differ-differing.ensures (omega arith) (omega arith))
