@@ -45,8 +45,8 @@ pub data Move : Type 0 where
   Hear : Move
   -- both ends lose the line, and all that is under way on it
   Break : Move
-  -- The host alone loses the line and what is under way on it, and begins anew. What the board finds
-  -- on the line up to where it is asked anew is noise.
+  -- The host alone loses the line and what is under way on it, and begins anew. What the board
+  -- finds on the line up to where it is asked anew is noise.
   HostBreak : (noise : List EventContent) → IsNoiseList noise → Move
 
 abbrev pub IsHostBreak : Move → Type 0

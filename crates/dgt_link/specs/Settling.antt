@@ -17,8 +17,8 @@ IsSettlingMove Move.Take = Unit {0}
 IsSettlingMove Move.Hear = Unit {0}
 IsSettlingMove move = IsSending move
 
--- At least as many such moves as are left until all is quiet: a message is heard; what the board has
--- to tell is sent and heard; a command is taken, and what it adds is sent and heard.
+-- At least as many such moves as are left until all is quiet: a message is heard; what the board
+-- has to tell is sent and heard; a command is taken, and what it adds is sent and heard.
 abbrev pub moves_left : MachineState → ℕ
 moves_left x = length x.up + 2 * backlog x.board + 3 * length x.down
 
@@ -44,9 +44,9 @@ pub record SettlesIn (count : ℕ) (world after : WorldView) : Type 0 where
   pub counted : count ≡ length acts
   pub run : Runs acts world (replicate count Outcome.Done) after
 
--- At least as many deliveries and sendings as can be done in a row, in whatever pieces: each byte is
--- delivered, a byte that the board takes adds to its backlog by one at most, and a message fits into
--- the up line.
+-- At least as many deliveries and sendings as can be done in a row, in whatever pieces: each byte
+-- is delivered, a byte that the board takes adds to its backlog by one at most, and a message fits
+-- into the up line.
 abbrev pub steps_left : WorldView → ℕ
 steps_left world =
     length world.up.bytes + (world.up.capacity + 1) * backlog world.board.state

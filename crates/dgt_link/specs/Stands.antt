@@ -18,7 +18,8 @@ pub record AreSpelled (said : List Content) (bytes : List ℕ) : Type 0 where
   pub in_a_row : bytes ≡ flat_map spelling said
 
 -- The bytes of the lines, and those that the ends hold of an unfinished message and an unfinished
--- command, are the messages and the commands under way. All else is the same, and the state is sound.
+-- command, are the messages and the commands under way. All else is the same, and the state is
+-- sound.
 pub record StandsFor (world : WorldView) (x : MachineState) : Type 0 where
   pub sound : IsSound x
   pub board : world.board.state ≡ x.board

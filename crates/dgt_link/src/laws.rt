@@ -38,8 +38,8 @@ pub fn limits()
     ensures down { MIN_DOWN ≡ 257 }
 {}
 
-/// Two values are equal, as `==` compares them, exactly where they are the same. Of lent bytes the bytes count, and
-/// not where they lie.
+/// Two values are equal, as `==` compares them, exactly where they are the same. Of lent bytes the
+/// bytes count, and not where they lie.
 pub fn equal_is_same()
     ensures outcome { EqualIsSame ⟦<ActOutcome as PartialEq>⟧.eq }
     ensures world_fault { EqualIsSame ⟦<WorldFault as PartialEq>⟧.eq }
@@ -57,8 +57,8 @@ pub fn new_is_sound()
         length position ≡ 64 → IsExact (new_state position clock identity) }
 {}
 
-/// Each move keeps a sound state sound, and each but a host break an exact one exact. A break makes a
-/// sound one exact.
+/// Each move keeps a sound state sound, and each but a host break an exact one exact. A break makes
+/// a sound one exact.
 pub fn moves_keep()
     ensures sound { (x : MachineState) (move : Move) → IsSound x → IsSound (after_move x move) }
     ensures exact { (x : MachineState) (move : Move) → ¬ (IsHostBreak move) →
@@ -88,8 +88,8 @@ pub fn answers_in_order()
 {}
 
 /// What a move makes of the promise: a dump that is asked for begins its first half, which only a
-/// break ends. Its second half is that of the last command that sets a mode, where a break counts as
-/// a reset. A host break begins both.
+/// break ends. Its second half is that of the last command that sets a mode, where a break counts
+/// as a reset. A host break begins both.
 pub fn promise_is_kept()
     ensures begun { (x : MachineState) → PictureIsComing (after_move x (Move.Ask CommandContent.Dump)) }
     ensures kept { (x : MachineState) (move : Move) → move ≢ Move.Break →
@@ -114,9 +114,9 @@ pub fn at_quiet()
         → x.picture ≡ Some x.board.squares }
 {}
 
-/// After any moves: sound stays sound, and exact without a host break exact. Where the commands among
-/// them, after the last break, ask for the picture, it is promised, and is the board's squares once
-/// all is quiet.
+/// After any moves: sound stays sound, and exact without a host break exact. Where the commands
+/// among them, after the last break, ask for the picture, it is promised, and is the board's
+/// squares once all is quiet.
 pub fn picture_after_moves()
     ensures sound { (x : MachineState) (moves : List Move) → IsSound x → IsSound (after_moves x moves) }
     ensures exact { (x : MachineState) (moves : List Move) → AllByRecursion (λ move. ¬ (IsHostBreak move)) moves
@@ -281,12 +281,13 @@ pub fn picture_after_acts()
     at_quiet_world();
 }
 
-/// From each sound state some takes of the board, sendings of the board and hears of the host lead to
-/// a quiet one. They are at most one for each message under way, two for each reply, square and clock
-/// that the board has still to tell in some mode, and three for each command and fault under way.
+/// From each sound state some takes of the board, sendings of the board and hears of the host lead
+/// to a quiet one. They are at most one for each message under way, two for each reply, square and
+/// clock that the board has still to tell in some mode, and three for each command and fault under
+/// way.
 ///
-/// Such moves keep the squares, the clock and the mode to come, and the picture of a promised state,
-/// once all is quiet, is its squares.
+/// Such moves keep the squares, the clock and the mode to come, and the picture of a promised
+/// state, once all is quiet, is its squares.
 pub fn quiet_is_reached()
     ensures reached { (x : MachineState) → IsSound x → (moves : List Move) × SettlesBy moves x }
     ensures squares { (x : MachineState) (moves : List Move) → AllByRecursion IsSettlingMove moves

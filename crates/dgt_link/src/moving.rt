@@ -86,8 +86,8 @@ pub fn send_next(board: &mut Board, line: &mut Line) -> Outcome
     }
 }
 
-// The board takes bytes at the front of the line, at most so many, up to the end of a command or a fault.
-// Answers how many.
+// The board takes bytes at the front of the line, at most so many, up to the end of a command or a
+// fault. Answers how many.
 fn take_front(board: &mut Board, line: &mut Line, most: usize) -> usize
     requires most { 0 < most }
     requires some { 0 < length line.old.bytes }
@@ -105,7 +105,8 @@ fn take_front(board: &mut Board, line: &mut Line, most: usize) -> usize
     used
 }
 
-// The host hears bytes at the front of the line, at most so many, up to its next event. Answers how many.
+// The host hears bytes at the front of the line, at most so many, up to its next event. Answers how
+// many.
 fn hear_front(host: &mut Host, line: &mut Line, most: usize) -> usize
     requires most { 0 < most }
     requires some { 0 < length line.old.bytes }

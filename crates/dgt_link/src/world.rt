@@ -122,8 +122,8 @@ impl World {
         }
     }
 
-    // A new world whose lines have this memory, where it isn't refused. It comes back, with none taken, where a
-    // line would be too small.
+    // A new world whose lines have this memory, where it isn't refused. It comes back, with none
+    // taken, where a line would be too small.
     fn with_memory(
         memory: LineMemory,
         position: Position,
@@ -185,14 +185,15 @@ impl World {
     /// Does one act, and answers what came of it. What isn't `Done` changes nothing.
     ///
     /// `Change`, `ClockRead`, `Break` and `HostBreak` are always `Done`. `Host` is first `TooMany`,
-    /// where the reply would have to be awaited and 16 are awaited, then `NoRoom`, where the down line
-    /// has too little room for the command. `BoardSend` is first `Nothing`, where the board has nothing
-    /// to send, then `NoRoom`, where the up line has too little room for the message. `ToBoard` is
-    /// first `Nothing`, where the count is 0 or the down line is empty, then `Busy`, where the board
-    /// owes 8 replies. `ToHost` is `Nothing` where the count is 0 or the up line is empty.
+    /// where the reply would have to be awaited and 16 are awaited, then `NoRoom`, where the down
+    /// line has too little room for the command. `BoardSend` is first `Nothing`, where the board
+    /// has nothing to send, then `NoRoom`, where the up line has too little room for the message.
+    /// `ToBoard` is first `Nothing`, where the count is 0 or the down line is empty, then `Busy`,
+    /// where the board owes 8 replies. `ToHost` is `Nothing` where the count is 0 or the up line is
+    /// empty.
     ///
-    /// After a `HostBreak` the down line holds 257 bytes and the board is as it was. What it takes of
-    /// them is noise, and then `UpdateBoard` and `Dump`.
+    /// After a `HostBreak` the down line holds 257 bytes and the board is as it was. What it takes
+    /// of them is noise, and then `UpdateBoard` and `Dump`.
     pub fn step(&mut self, act: Act<'_>) -> Outcome
         ensures exact { Step (act_content act.entry) self.old result self.new }
         ensures unchanged { result ≢ Outcome.Done → self.new ≡ self.old }
@@ -225,8 +226,8 @@ impl World {
     /// Does all acts in order, and answers how many were `Done`.
     ///
     /// Where those that were done after the last `Break` ask for a dump, and the last of them that
-    /// asks for a mode asks for updates, the host's picture is the board's position once the world is
-    /// quiet. A `HostBreak` asks for both.
+    /// asks for a mode asks for updates, the host's picture is the board's position once the world
+    /// is quiet. A `HostBreak` asks for both.
     pub fn run(&mut self, acts: &[Act<'_>]) -> usize
         ensures exact { (outcomes : List Outcome) × (result ≡ done_count outcomes)
             × Runs (map act_content acts.now) self.old outcomes self.new }
@@ -339,16 +340,16 @@ impl World {
     /// quiet, and answers how many acts that took. A quiet world takes none.
     ///
     /// The acts are `ToHost`, `BoardSend` and `ToBoard` alone, and each is `Done`. They are at most
-    /// three for each byte in the down line, two for each reply that the board owes, for each square
-    /// that differs from what it has told and for a clock that it owes, and one. No square, no clock
-    /// of the board and no command is new. So the mode is that of the last mode command under way, and
-    /// where a dump was asked for and this mode asks for updates, the host's picture is the board's
-    /// position.
+    /// three for each byte in the down line, two for each reply that the board owes, for each
+    /// square that differs from what it has told and for a clock that it owes, and one. No square,
+    /// no clock of the board and no command is new. So the mode is that of the last mode command
+    /// under way, and where a dump was asked for and this mode asks for updates, the host's picture
+    /// is the board's position.
     ///
     /// All of that holds after a `Break` and after a `HostBreak` too, whatever was under way then.
     /// After a `Break` no picture is known until a dump is asked for again. After a `HostBreak` the
-    /// 257 bytes in the down line are noise, and then `UpdateBoard` and `Dump`: so the picture is the
-    /// board's position again, but the host's clock may be unknown.
+    /// 257 bytes in the down line are noise, and then `UpdateBoard` and `Dump`: so the picture is
+    /// the board's position again, but the host's clock may be unknown.
     pub fn settle(&mut self) -> u128
         ensures quiet { IsQuietWorld self.new }
         ensures run { SettlesIn result self.old self.new }
@@ -428,8 +429,8 @@ impl World {
         &self.board
     }
 
-    /// The host. Its picture, once it has heard all messages under way, is unknown or the squares as
-    /// the board has told them; a message that it has heard a part of is one of them.
+    /// The host. Its picture, once it has heard all messages under way, is unknown or the squares
+    /// as the board has told them; a message that it has heard a part of is one of them.
     pub fn host(&self) -> &Host
         ensures host { result.now ≡ self.now.host }
         ensures fold { (x : MachineState) → StandsFor self.now x →
