@@ -8,7 +8,7 @@ use Rattle.dgt_message.specs.Content.{Content}
 use Rattle.dgt_message.specs.Kind.{kind_of}
 use Rattle.dgt_decode.specs.Grammar.{Event}
 use Rattle.dgt_host.specs.Hearing.{IsUnasked}
-use Rattle.dgt_link.specs.Machine.{State}
+use Rattle.dgt_link.specs.Machine.{MachineState}
 use Rattle.dgt_link.specs.Sound.{IsExact, kind_of_event, kind_of_reply}
 
 -- messages without a kind come for nothing that is awaited
@@ -25,7 +25,7 @@ first_kinds before later message kind none is =
     ∙ ap (λ (kinds : List Kind). kinds ++ filter_map kind_of (message ∷ later)) (no_kinds before none)
     ∙ ap (λ (kind : Option Kind). cons_option kind (filter_map kind_of later)) is
 
-pub first_answer : (x : State) (before later : List Content) (message : Content) (kind : Kind) → IsExact x
+pub first_answer : (x : MachineState) (before later : List Content) (message : Content) (kind : Kind) → IsExact x
     → x.up ≡ before ++ message ∷ later → All (λ other. kind_of other ≡ None) before → kind_of message ≡ Some kind
     → (others : List Kind) × (x.awaited ≡ kind ∷ others)
 first_answer x before later message kind exact e none is = (
@@ -34,7 +34,7 @@ first_answer x before later message kind exact e none is = (
       (ap (filter_map kind_of) e ∙ first_kinds before later message kind none is),
 )
 
-pub never_unasked : (x : State) (later : List Content) (message : Content) → IsExact x → x.up ≡ message ∷ later
+pub never_unasked : (x : MachineState) (later : List Content) (message : Content) → IsExact x → x.up ≡ message ∷ later
     → ¬ (IsUnasked x.awaited (Some (Event.Message message)))
 never_unasked x later message exact e (kind, is, other) =
     other (ap (λ (kinds : List Kind). slice_get kinds 0) (first_answer x [] later message kind exact e (All-nil (λ other. kind_of other ≡ None)) is).1)

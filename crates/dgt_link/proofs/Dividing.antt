@@ -1,13 +1,22 @@
 -- How the division of a front of bytes goes on.
-use Rattle.std.proofs.Common.{◌≡◌, refl, sym, ap, ◌∙◌, ◌⊎◌, inl, inr, ℕ, List, [], ◌∷◌, ◌++◌, append_assoc, rules}
+use Rattle.std.proofs.Common.{◌≡◌, refl, sym, ap, ◌∙◌, ◌⊎◌, inl, inr, ℕ, List, [], ◌∷◌, ◌++◌, append_assoc, map, rules}
 use Rattle.std.proofs.lemmas.List.{append-nil}
 use Rattle.dgt_command.specs.Content.{CommandContent, EventContent}
 use Rattle.dgt_command.specs.Words.{Divides, IsPartial, IsWord, Spells, spelling}
 use Rattle.dgt_command.specs.Laws.{DivisionsAppend, NoWordBeginsAnother}
-use Rattle.dgt_command.proofs.DivisionLemmas.{nothing_is_partial}
 use Rattle.dgt_host.specs.Sending.{follow_bytes}
-use Rattle.dgt_link.specs.Machine.{asked_anew}
-use Rattle.dgt_link.proofs.Fronts.{IsShorter, Reaches, fronts, not_empty}
+use Rattle.dgt_link.specs.Machine.{commands_anew}
+use Rattle.dgt_link.proofs.Lists.{IsShorter, Reaches, fronts, not_empty}
+
+-- no byte is a part of a command
+pub nothing_is_partial : IsPartial []
+nothing_is_partial =
+    record {
+      event = EventContent.Read CommandContent.Dump;
+      next = 0x42;
+      more = [];
+      word = record { form = (tt, refl); are_bytes = search rules };
+    }
 
 cons_same : (event other : EventContent) (events all : List EventContent) → event ≡ other → all ≡ events → other ∷ all ≡ event ∷ events
 cons_same event other events all same rest = rw (same, rest) refl
@@ -19,7 +28,7 @@ divides_command append bytes events command divides spells =
     (spelling command, [], record { form = (spells.is_command, refl); are_bytes = spells.are_bytes }, sym (append-nil (spelling command)), (refl, nothing_is_partial))
 
 -- what a host asks with that begins anew is what it asks for
-pub anew_divides : Divides follow_bytes asked_anew []
+pub anew_divides : Divides follow_bytes (map EventContent.Read commands_anew) []
 anew_divides = (
   0x44 ∷ [],
   0x42 ∷ [],

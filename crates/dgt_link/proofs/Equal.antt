@@ -1,32 +1,36 @@
 -- What the derived `==` says of acts.
 use Rattle.std.proofs.Common.{refl, rules}
-use Rattle.dgt_message.proofs.Equal.{equal_clocks}
-use Rattle.dgt_command.specs.Equality.{EqualIsSameReadOf}
-use Rattle.dgt_command.proofs.EqualCommands.{equal_commands}
-use Rattle.dgt_link.specs.Act.{act_content}
-use Rattle.dgt_link.specs.Equality.{ActHasArrays}
+use Rattle.dgt_values.specs.Equality.{EqualIsSameRead}
+use Rattle.dgt_message.specs.ClockState.{clock_seen}
+use Rattle.dgt_message.specs.contracts.clock.ClockPartialEq.TheImpl as derived_clock
+use Rattle.dgt_command.specs.Content.{command_content}
+use Rattle.dgt_command.specs.Equality.{CommandHasArrays, EqualIsSameReadOf}
+use Rattle.dgt_command.specs.contracts.command.CommandPartialEq.TheImpl as derived_command
+use Rattle.dgt_link.specs.Act.{ActHasArrays, act_content}
 use Rattle.dgt_link.specs.declared.acts.Act.TheVariants as act
 use Rattle.dgt_link.specs.contracts.acts.ActPartialEq.TheImpl as derived
 
--- two acts are equal exactly where they do the same
-pub equal_acts : EqualIsSameReadOf ActHasArrays act_content (derived.eq-value).it
-equal_acts (act.Change square piece) (act.Change other second) h k = search rules
-equal_acts (act.ClockRead a) (act.ClockRead b) h k =
-    let same = equal_clocks a b in
-    (λ t. let seen = same.0 t in cc, λ e. same.1 cc)
-equal_acts (act.Host a) (act.Host b) h k =
-    let same = equal_commands a b h k in
-    (λ t. let said = same.0 t in cc, λ e. same.1 cc)
-equal_acts act.BoardSend act.BoardSend h k = (λ _. refl, λ _. refl)
-equal_acts (act.ToBoard a) (act.ToBoard b) h k = search rules
-equal_acts (act.ToHost a) (act.ToHost b) h k = search rules
-equal_acts act.Break act.Break h k = (λ _. refl, λ _. refl)
-equal_acts act.HostBreak act.HostBreak h k = (λ _. refl, λ _. refl)
-equal_acts (act.Change square piece) _ h k = (λ t. cc, λ e. cc)
-equal_acts (act.ClockRead a) _ h k = (λ t. cc, λ e. cc)
-equal_acts (act.Host a) _ h k = (λ t. cc, λ e. cc)
-equal_acts act.BoardSend _ h k = (λ t. cc, λ e. cc)
-equal_acts (act.ToBoard a) _ h k = (λ t. cc, λ e. cc)
-equal_acts (act.ToHost a) _ h k = (λ t. cc, λ e. cc)
-equal_acts act.Break _ h k = (λ t. cc, λ e. cc)
-equal_acts act.HostBreak _ h k = (λ t. cc, λ e. cc)
+module _ (equal_clocks : EqualIsSameRead clock_seen (derived_clock.eq-value).it)
+    (equal_commands : EqualIsSameReadOf CommandHasArrays command_content (derived_command.eq-value).it) where
+  -- two acts are equal exactly where they do the same
+  pub equal_acts : EqualIsSameReadOf ActHasArrays act_content (derived.eq-value).it
+  equal_acts (act.Change square piece) (act.Change other second) h k = search rules
+  equal_acts (act.ClockRead a) (act.ClockRead b) h k =
+      let same = equal_clocks a b in
+      (λ t. let seen = same.0 t in cc, λ e. same.1 cc)
+  equal_acts (act.Host a) (act.Host b) h k =
+      let same = equal_commands a b h k in
+      (λ t. let said = same.0 t in cc, λ e. same.1 cc)
+  equal_acts act.BoardSend act.BoardSend h k = (λ _. refl, λ _. refl)
+  equal_acts (act.ToBoard a) (act.ToBoard b) h k = search rules
+  equal_acts (act.ToHost a) (act.ToHost b) h k = search rules
+  equal_acts act.Break act.Break h k = (λ _. refl, λ _. refl)
+  equal_acts act.HostBreak act.HostBreak h k = (λ _. refl, λ _. refl)
+  equal_acts (act.Change square piece) _ h k = (λ t. cc, λ e. cc)
+  equal_acts (act.ClockRead a) _ h k = (λ t. cc, λ e. cc)
+  equal_acts (act.Host a) _ h k = (λ t. cc, λ e. cc)
+  equal_acts act.BoardSend _ h k = (λ t. cc, λ e. cc)
+  equal_acts (act.ToBoard a) _ h k = (λ t. cc, λ e. cc)
+  equal_acts (act.ToHost a) _ h k = (λ t. cc, λ e. cc)
+  equal_acts act.Break _ h k = (λ t. cc, λ e. cc)
+  equal_acts act.HostBreak _ h k = (λ t. cc, λ e. cc)

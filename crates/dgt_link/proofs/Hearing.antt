@@ -5,10 +5,9 @@ use Rattle.dgt_message.specs.Content.{Content, IsMessage}
 use Rattle.dgt_message.specs.Spelling.{spelling}
 use Rattle.dgt_decode.specs.Grammar.{Message, Placed, at_place, events, events_behind, open_message}
 use Rattle.dgt_decode.specs.Laws.{EventsAppend, OpenAppend, QuietHeld, SpellingIsRead}
-use Rattle.dgt_host.specs.Host.{HostView, host_after_events, host_after_message}
-use Rattle.dgt_host.proofs.HearingLemmas.{host_after_events-behind}
+use Rattle.dgt_host.specs.Host.{HostView, host_after_event, host_after_events, host_after_message}
 use Rattle.dgt_link.specs.Stands.{AreSpelled}
-use Rattle.dgt_link.proofs.Fronts.{IsShorter, Reaches, fronts, left_empty, not_empty, right_empty}
+use Rattle.dgt_link.proofs.Lists.{IsShorter, Reaches, fronts, left_empty, not_empty, right_empty}
 
 -- the laws of the decoder
 pub record Reads : Type 0 where
@@ -25,6 +24,12 @@ no_events = refl
 pub nothing_open : open_message [] ≡ []
 unfolding open_message
 nothing_open = refl
+
+-- where an event stands doesn't matter to a host
+host_after_events-behind : (host : HostView) (n : ℕ) (xs : List Placed)
+    → host_after_events host (events_behind n xs) ≡ host_after_events host xs
+host_after_events-behind host n [] = refl
+host_after_events-behind host n (x ∷ xs) = host_after_events-behind (host_after_event host x.event) n xs
 
 -- the host after messages
 abbrev pub host_after_messages : HostView → List Content → HostView

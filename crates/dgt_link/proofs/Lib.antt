@@ -1,3 +1,4 @@
+pub mod Lists
 pub mod Subsequences
 pub mod Telling
 pub mod Taking
@@ -7,7 +8,6 @@ pub mod Quiet
 pub mod Sending
 pub mod Runs
 pub mod Answering
-pub mod Fronts
 pub mod Moved
 pub mod Dividing
 pub mod Hearing

@@ -8,27 +8,21 @@ use Rattle.std.proofs.lemmas.List.{drop-drop, length-drop, length-take, length-t
 use Rattle.dgt_message.specs.Content.{Content}
 use Rattle.dgt_message.specs.Spelling.{Spells, spelling}
 use Rattle.dgt_command.specs.Content.{EventContent}
-use Rattle.dgt_command.specs.Laws.{DivisionsAppend}
 use Rattle.dgt_command.specs.Words.{IsPartial, IsWord}
 use Rattle.dgt_board.specs.declared.sending.Polled.{Polled}
 use Rattle.dgt_board.specs.Polls.{Polls}
 use Rattle.dgt_board.specs.State.{BoardState}
 use Rattle.dgt_board.specs.Sending.{after_sending}
-use Rattle.dgt_board.specs.Effect.{effect, effects}
 use Rattle.dgt_board.specs.View.{BoardView, HasTaken, after_bytes}
 use Rattle.dgt_host.specs.Host.{HostView, host_after}
 use Rattle.dgt_host.specs.Laws.{HeardInPieces}
 use Rattle.dgt_link.specs.declared.acts.Outcome.{Outcome}
-use Rattle.dgt_link.specs.Line.{LineContents, line_of, overflows, with_bytes, without_first}
-use Rattle.dgt_link.specs.Moving.{Delivers, StaysOpen, is_full, sending_outcome}
+use Rattle.dgt_link.specs.View.{LineContents, line_holding, overflows, with_bytes, without_first}
+use Rattle.dgt_link.specs.Step.{Delivers, StaysOpen, is_full, sending_outcome}
 
 left_on : (line now left : LineContents) (i n : ℕ) → now ≡ without_first line i → left ≡ without_first now n → left ≡ without_first line (i + n)
 left_on line now left i n e f =
-    f ∙ ap (λ (before : LineContents). without_first before n) e ∙ ap (λ (bytes : List ℕ). line_of bytes line.capacity) (drop-drop n i line.bytes)
-
-effects-append : (board : BoardState) (events more : List EventContent) → effects board (events ++ more) ≡ effects (effects board events) more
-effects-append board [] more = refl
-effects-append board (event ∷ events) more = effects-append (effect board event) events more
+    f ∙ ap (λ (before : LineContents). without_first before n) e ∙ ap (λ (bytes : List ℕ). line_holding bytes line.capacity) (drop-drop n i line.bytes)
 
 -- bytes of a piece of the front are bytes of the line
 pub front_bytes : (bytes front : List ℕ) (k used : ℕ) → front ≡ take (length front) bytes → used ≤ length (take k front) → take used (take k front) ≡ take used bytes
@@ -59,14 +53,11 @@ polled_is_sent count room (Some message) before after line left old new more (is
 
 -- ---- the board takes
 
--- bytes taken, and then more
-pub taken_on : DivisionsAppend → (before between after : BoardView) (bytes more : List ℕ) → HasTaken before bytes between → HasTaken between more after → HasTaken before (bytes ++ more) after
-taken_on append before between after bytes more first next =
-    record {
-      events = first.events ++ next.events;
-      divided = rw (← append_assoc before.partial bytes more) (append (before.partial ++ bytes) more first.events next.events between.partial after.partial first.divided next.divided);
-      state = next.state ∙ ap (λ (board : BoardState). effects board next.events) first.state ∙ sym (effects-append before.state first.events next.events);
-    }
+-- what was taken in turn was taken together
+abbrev TakingsAppend : Type 0
+TakingsAppend =
+    (before between after : BoardView) (bytes more : List ℕ) → HasTaken before bytes between → HasTaken between more after
+    → HasTaken before (bytes ++ more) after
 
 not_full : (n : ℕ) → n < 8 → nat_le 8 n ≡ false
 not_full n h = lt-leb 8 n h
@@ -134,9 +125,9 @@ some_taken : (before now : BoardView) (bytes : List ℕ) (moved : ℕ) → 0 < m
 some_taken before now bytes moved some (inl (none, same)) = absurd (omega (arith, some, none))
 some_taken before now bytes moved some (inr taken) = taken.1
 
-taken_more : DivisionsAppend → (before now new : BoardView) (bytes : List ℕ) (moved n : ℕ) → HasTakenAny before bytes moved now → HasTaken now (take n (drop moved bytes)) new → HasTaken before (take (moved + n) bytes) new
+taken_more : TakingsAppend → (before now new : BoardView) (bytes : List ℕ) (moved n : ℕ) → HasTakenAny before bytes moved now → HasTaken now (take n (drop moved bytes)) new → HasTaken before (take (moved + n) bytes) new
 taken_more append before now new bytes moved n (inl (none, same)) next = rw (take-add moved n bytes, none) (rw (none, same) at next)
-taken_more append before now new bytes moved n (inr taken) next = rw (take-add moved n bytes) (taken_on append before now new (take moved bytes) (take n (drop moved bytes)) taken.1 next)
+taken_more append before now new bytes moved n (inr taken) next = rw (take-add moved n bytes) (append before now new (take moved bytes) (take n (drop moved bytes)) taken.1 next)
 
 -- fewer than so many before, so many, or more
 data Fewer (fewer moved n : ℕ) : Type 0 where
@@ -153,7 +144,7 @@ fewer_than fewer moved n h = elim (leb_tells moved fewer) [
   ]
 ]
 
-pub taking_more : DivisionsAppend → (board now new : BoardView) (line left after : LineContents) (moved n : ℕ) → IsTaking board line moved now left → 0 < n → moved + n ≤ length line.bytes → length now.state.owed < 8
+pub taking_more : TakingsAppend → (board now new : BoardView) (line left after : LineContents) (moved n : ℕ) → IsTaking board line moved now left → 0 < n → moved + n ≤ length line.bytes → length now.state.owed < 8
     → HasTaken now (take n left.bytes) new → StaysOpen now left.bytes n → after ≡ without_first left n → IsTaking board line (moved + n) new after
 taking_more append board now new line left after moved n taking more within room next calm e =
     let rest : left.bytes ≡ drop moved line.bytes = ap (λ (l : LineContents). l.bytes) taking.left_is in

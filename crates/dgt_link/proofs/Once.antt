@@ -11,13 +11,11 @@ use Rattle.dgt_board.specs.Effect.{effects}
 use Rattle.dgt_board.specs.View.{BoardView, HasTaken}
 use Rattle.dgt_link.specs.Act.{ActContent}
 use Rattle.dgt_link.specs.declared.acts.Outcome.{Outcome}
-use Rattle.dgt_link.specs.Line.{LineContents, without_first}
-use Rattle.dgt_link.specs.Machine.{State}
+use Rattle.dgt_link.specs.View.{LineContents, without_first, WorldView}
+use Rattle.dgt_link.specs.Machine.{MachineState}
 use Rattle.dgt_link.specs.Stands.{StandsFor}
-use Rattle.dgt_link.specs.Moving.{Delivers, is_full}
-use Rattle.dgt_link.specs.Step.{Becomes, Runs, Step}
-use Rattle.dgt_link.specs.View.{WorldView}
-use Rattle.dgt_link.proofs.Fronts.{IsShorter, Reaches, fronts, not_empty}
+use Rattle.dgt_link.specs.Step.{Delivers, is_full, Becomes, Runs, Step}
+use Rattle.dgt_link.proofs.Lists.{IsShorter, Reaches, fronts, not_empty, some_same}
 
 order : (a b : ℕ) → (a < b) ⊎ ((b < a) ⊎ (a ≡ b))
 order a b =
@@ -26,22 +24,10 @@ order a b =
       | inl most ↦ elim (leb_tells a b) [ inr more ↦ inr (inl more.1) | inl same ↦ inr (inr (omega (arith, most.1, same.1))) ]
     ]
 
-some_same : {X : Type 0} (x y : X) → Some x ≡ Some y → x ≡ y
-some_same x y h = cc
-
 -- ---- one outcome and one world
 
-module _ (law : EachDividesOnce) where
-  -- a board has taken bytes in one way
-  one_board : (before one other : BoardView) (bytes : List ℕ) → HasTaken before bytes one → HasTaken before bytes other → one ≡ other
-  one_board before one other bytes first second =
-      let same = law.1 (before.partial ++ bytes) first.events second.events one.partial other.partial first.divided second.divided in
-      let state : one.state ≡ other.state = first.state ∙ ap (effects before.state) same.0 ∙ sym second.state in
-      rebuilt one other state same.1
-    where
-      rebuilt : (one other : BoardView) → one.state ≡ other.state → one.partial ≡ other.partial → one ≡ other
-      rebuilt one other state partial = rw (state, partial) refl
-
+-- a board has taken bytes in one way
+module _ (one_taking : (before after other : BoardView) (bytes : List ℕ) → HasTaken before bytes after → HasTaken before bytes other → after ≡ other) where
   -- a board that is full after some bytes took no more of them
   no_further : (count : ℕ) (before one other : BoardView) (line left rest : LineContents) (first : Delivers count before line one left) (second : Delivers count before line other rest) → first.moved < second.moved → ⊥
   no_further count before one other line left rest first second less = go first.ended
@@ -51,7 +37,7 @@ module _ (law : EachDividesOnce) where
       go (inr (inl all)) = omega (arith, all, less, second.within.1)
       go (inr (inr full)) =
           let stop = second.earlier first.moved first.some less in
-          let same : one ≡ stop.0 = one_board before one stop.0 (take first.moved line.bytes) first.taken stop.1 in
+          let same : one ≡ stop.0 = one_taking before one stop.0 (take first.moved line.bytes) first.taken stop.1 in
           false≢true (sym stop.2 ∙ ap (λ (board : BoardView). is_full board.state) (sym same) ∙ full)
 
   one_delivery : (count : ℕ) (before one other : BoardView) (line left rest : LineContents) → Delivers count before line one left → Delivers count before line other rest → (one ≡ other) × (left ≡ rest)
@@ -61,22 +47,21 @@ module _ (law : EachDividesOnce) where
       go (inl less) = absurd (no_further count before one other line left rest first second less)
       go (inr (inl less)) = absurd (no_further count before other one line rest left second first less)
       go (inr (inr same)) = (
-        one_board before one other (take second.moved line.bytes) (rw same at first.taken) second.taken,
+        one_taking before one other (take second.moved line.bytes) (rw same at first.taken) second.taken,
         first.left_is ∙ ap (without_first line) same ∙ sym second.left_is,
       )
 
   becomes_once : (act : ActContent) (world one other : WorldView) → Becomes act world one → Becomes act world other → one ≡ other
   becomes_once (ActContent.Change square piece) world one other e f = e ∙ sym f
   becomes_once (ActContent.ClockRead clock) world one other e f = e ∙ sym f
-  becomes_once (ActContent.Host command) world one other (host, line, (spells, is, left), e) (also, rest, (holds, was, more), f) =
-      rw (e, f, is, left, was, more) refl
-  becomes_once ActContent.BoardSend world one other (board, line, (message, is_next, spells, is, left), e) (also, rest, (said, is_also, holds, was, more), f) =
+  becomes_once (ActContent.Host command) world one other e f = e.1 ∙ sym f.1
+  becomes_once ActContent.BoardSend world one other (message, is_next, spells, e) (said, is_also, holds, f) =
       let same : message ≡ said = some_same message said (sym is_next ∙ is_also) in
-      rw (e, f, is, left, was, more, same) refl
+      rw (e, f, same) refl
   becomes_once (ActContent.ToBoard count) world one other (board, line, delivers, e) (also, rest, again, f) =
       let same = one_delivery count world.board board also world.down line rest delivers again in
       rw (e, f, same.0, same.1) refl
-  becomes_once (ActContent.ToHost count) world one other (host, line, (is, left), e) (also, rest, (was, more), f) = rw (e, f, is, left, was, more) refl
+  becomes_once (ActContent.ToHost count) world one other e f = e ∙ sym f
   becomes_once ActContent.Break world one other e f = e ∙ sym f
   becomes_once ActContent.HostBreak world one other e f = e ∙ sym f
 
@@ -134,10 +119,10 @@ module _ (law : SpelledOnce) where
           let rest : xs ≡ ys = on (sym (f ∙ ap (λ (front : List ℕ). front ++ flat_map spelling xs) same.1)) in
           rw (same.0, rest) refl
 
-rebuilt : (x y : State) → x.board ≡ y.board → x.up ≡ y.up → x.down ≡ y.down → x.picture ≡ y.picture → x.host_clock ≡ y.host_clock → x.awaited ≡ y.awaited → x ≡ y
+rebuilt : (x y : MachineState) → x.board ≡ y.board → x.up ≡ y.up → x.down ≡ y.down → x.picture ≡ y.picture → x.host_clock ≡ y.host_clock → x.awaited ≡ y.awaited → x ≡ y
 rebuilt x y board up down picture clock awaited = rw (board, up, down, picture, clock, awaited) refl
 
-pub one_state : SpelledOnce → EachDividesOnce → (world : WorldView) (x y : State) → StandsFor world x → StandsFor world y → x ≡ y
+pub one_state : SpelledOnce → EachDividesOnce → (world : WorldView) (x y : MachineState) → StandsFor world x → StandsFor world y → x ≡ y
 one_state spelled divided world x y one two =
     rebuilt x y (sym one.board ∙ two.board)
     (messages_once spelled x.up y.up one.up.are_messages two.up.are_messages (sym one.up.in_a_row ∙ two.up.in_a_row))

@@ -2,7 +2,7 @@
 use Rattle.std.proofs.Common.{IsTrue, cond, false, true, Bool, ◌≡◌, ◌≢◌, refl, sym, ap, ◌∙◌, ◌⊎◌, inl, inr, zero, suc, List, [], ◌∷◌, ◌++◌, Option, Some, None, ◌&&◌, arith}
 use Rattle.std.proofs.lemmas.List.Elements.{filter_map-append, Contains-append_left, Contains-append_right, Contains-append_cases, Contains-push}
 use Rattle.std.proofs.lemmas.Bool.{cond_both, false≢true}
-use Rattle.std.specs.Prelude.{IsSome, Contains, filter_map, unwrap_or}
+use Rattle.std.specs.Prelude.{IsSome, Contains, filter_map, map, unwrap_or}
 use Rattle.std.specs.List.{cons_option}
 use Rattle.dgt_values.specs.declared.kinds.Kind.{Kind}
 use Rattle.dgt_values.specs.declared.pieces.Piece.{Piece}
@@ -16,10 +16,11 @@ use Rattle.dgt_board.specs.Effect.{command_mode, effect, replies_to, effects}
 use Rattle.dgt_board.specs.Sending.{differs, field_of, reply_message}
 use Rattle.dgt_host.specs.Hearing.{picture_after, picture_after_all}
 use Rattle.dgt_command.specs.Words.{IsNoise, IsNoiseList}
-use Rattle.dgt_link.specs.Move.{IsHostBreak, Move}
-use Rattle.dgt_link.specs.Machine.{State, asked_anew, after_move, after_told, after_take, after_reply, after_hear}
+use Rattle.dgt_link.specs.Machine.{IsHostBreak, Move, MachineState, commands_anew, after_move, after_told, after_take, after_reply, after_hear}
 use Rattle.dgt_link.specs.Sound.{coming_picture}
-use Rattle.dgt_link.specs.Promise.{IsAsked, IsPromised, PictureIsComing, coming_mode, commands_after_move, commands_anew, event_mode, last_mode, mode_after}
+use Rattle.dgt_link.specs.Promise.{IsAsked, IsPromised, PictureIsComing, coming_mode, commands_after, event_mode, last_mode, mode_after, requests}
+use Rattle.dgt_link.proofs.Lists.{Contains-cons, nothing_contained}
+use Rattle.dgt_link.proofs.Taking.{nothing_of_noise}
 use Rattle.dgt_link.proofs.Telling.{picture_after_all-append}
 
 -- ---- the mode that is coming
@@ -47,13 +48,6 @@ picture_after_known (Some squares) (Content.dump pieces) known = refl
 picture_after_known (Some squares) (Content.field square piece) known = refl
 picture_after_known (Some squares) _ known = refl
 
-pub Contains-cons : {X : Type 0} (x y : X) (ys : List X) → Contains (y ∷ ys) x → (y ≡ x) ⊎ Contains ys x
-Contains-cons x y ys (zero, within, same) = inl same
-Contains-cons x y ys (suc k, within, same) = inr (k, omega arith, same)
-
-pub nothing_contained : {X : Type 0} (x : X) → Contains [] x → ⊥
-nothing_contained x (k, within, same) = omega arith
-
 -- a picture that comes, by its three ways: under way, owed, asked for
 abbrev Comes : Option (List Piece) → List Reply → List EventContent → Type 0
 Comes seen owed down = IsSome seen ⊎ (Contains owed (Reply.Of Kind.Dump) ⊎ Contains down (EventContent.Read CommandContent.Dump))
@@ -76,7 +70,7 @@ reply_comes board picture up first rest down (inr (inl owed)) = go (Contains-con
     go (inr owed) = inr (inl owed)
 reply_comes board picture up first rest down (inr (inr asked)) = inr (inr asked)
 
-reply_keeps_picture : (x : State) (owed : List Reply) → x.board.owed ≡ owed → PictureIsComing x → PictureIsComing (after_reply x owed)
+reply_keeps_picture : (x : MachineState) (owed : List Reply) → x.board.owed ≡ owed → PictureIsComing x → PictureIsComing (after_reply x owed)
 reply_keeps_picture x [] e coming = coming
 reply_keeps_picture x (first ∷ rest) e coming = reply_comes x.board x.picture x.up first rest x.down (rw e at coming)
 
@@ -100,11 +94,11 @@ take_comes board seen event rest (inr (inr asked)) = go (Contains-cons (EventCon
     go (inl e) = inr (inl (dump_owed board event e))
     go (inr later) = inr (inr later)
 
-take_keeps_picture : (x : State) (down : List EventContent) → x.down ≡ down → PictureIsComing x → PictureIsComing (after_take x down)
+take_keeps_picture : (x : MachineState) (down : List EventContent) → x.down ≡ down → PictureIsComing x → PictureIsComing (after_take x down)
 take_keeps_picture x [] e coming = coming
 take_keeps_picture x (event ∷ rest) e coming = take_comes x.board (coming_picture x) event rest (rw e at coming)
 
-hear_keeps_picture : (x : State) (up : List Content) → x.up ≡ up → PictureIsComing x → PictureIsComing (after_hear x up)
+hear_keeps_picture : (x : MachineState) (up : List Content) → x.up ≡ up → PictureIsComing x → PictureIsComing (after_hear x up)
 hear_keeps_picture x [] e coming = coming
 hear_keeps_picture x (message ∷ rest) e coming = rw e at coming
 
@@ -114,15 +108,15 @@ ask_comes seen owed down more (inl known) = inl known
 ask_comes seen owed down more (inr (inl owes)) = inr (inl owes)
 ask_comes seen owed down more (inr (inr asked)) = inr (inr (Contains-append_left down more (EventContent.Read CommandContent.Dump) asked))
 
-pub dump_asked : (x : State) → PictureIsComing (after_move x (Move.Ask CommandContent.Dump))
+pub dump_asked : (x : MachineState) → PictureIsComing (after_move x (Move.Ask CommandContent.Dump))
 dump_asked x = inr (inr (Contains-push x.down (EventContent.Read CommandContent.Dump)))
 
-pub anew_is_coming : (x : State) (noise : List EventContent) (is_noise : IsNoiseList noise) → PictureIsComing (after_move x (Move.HostBreak noise is_noise))
+pub anew_is_coming : (x : MachineState) (noise : List EventContent) (is_noise : IsNoiseList noise) → PictureIsComing (after_move x (Move.HostBreak noise is_noise))
 anew_is_coming x noise is_noise =
-    inr (inr (Contains-append_right noise asked_anew (EventContent.Read CommandContent.Dump) (1, omega arith, refl)))
+    inr (inr (Contains-append_right noise (map EventContent.Read commands_anew) (EventContent.Read CommandContent.Dump) (1, omega arith, refl)))
 
 -- only a break ends the first half of the promise
-pub picture_keeps_coming : (x : State) (move : Move) → move ≢ Move.Break → PictureIsComing x → PictureIsComing (after_move x move)
+pub picture_keeps_coming : (x : MachineState) (move : Move) → move ≢ Move.Break → PictureIsComing x → PictureIsComing (after_move x move)
 picture_keeps_coming x (Move.Change square piece) other coming = coming
 picture_keeps_coming x (Move.HandClock clock) other coming = coming
 picture_keeps_coming x (Move.Ask command) other coming = ask_comes (coming_picture x) x.board.owed x.down (EventContent.Read command ∷ []) coming
@@ -138,55 +132,45 @@ picture_keeps_coming x Move.Hear other coming = hear_keeps_picture x x.up refl c
 picture_keeps_coming x Move.Break other coming = absurd (other refl)
 picture_keeps_coming x (Move.HostBreak noise is_noise) other coming = anew_is_coming x noise is_noise
 
-pub break_ends : (x : State) → ¬ (PictureIsComing (after_move x Move.Break))
+pub break_ends : (x : MachineState) → ¬ (PictureIsComing (after_move x Move.Break))
 break_ends x (inl known) = false≢true known
 break_ends x (inr (inl owed)) = nothing_contained (Reply.Of Kind.Dump) owed
 break_ends x (inr (inr asked)) = nothing_contained (EventContent.Read CommandContent.Dump) asked
 
 -- ---- the second half: the mode that is coming
 
-take-mode : (x : State) (down : List EventContent) → x.down ≡ down → coming_mode (after_take x down) ≡ coming_mode x
+take-mode : (x : MachineState) (down : List EventContent) → x.down ≡ down → coming_mode (after_take x down) ≡ coming_mode x
 take-mode x [] e = refl
 take-mode x (event ∷ rest) e =
     rw (e, effect-mode x.board event) (last_mode-cons x.board.mode (event_mode event) (filter_map event_mode rest))
 
-reply-mode : (x : State) (owed : List Reply) → coming_mode (after_reply x owed) ≡ coming_mode x
+reply-mode : (x : MachineState) (owed : List Reply) → coming_mode (after_reply x owed) ≡ coming_mode x
 reply-mode x [] = refl
 reply-mode x (first ∷ rest) = refl
 
-hear-mode : (x : State) (up : List Content) → coming_mode (after_hear x up) ≡ coming_mode x
+hear-mode : (x : MachineState) (up : List Content) → coming_mode (after_hear x up) ≡ coming_mode x
 hear-mode x [] = refl
 hear-mode x (message ∷ rest) = refl
 
-ask-mode : (x : State) (command : CommandContent) → coming_mode (after_move x (Move.Ask command)) ≡ unwrap_or (command_mode command) (coming_mode x)
+ask-mode : (x : MachineState) (command : CommandContent) → coming_mode (after_move x (Move.Ask command)) ≡ unwrap_or (command_mode command) (coming_mode x)
 ask-mode x command =
     ap (last_mode x.board.mode) (filter_map-append event_mode x.down (EventContent.Read command ∷ []))
     ∙ last_mode-append x.board.mode (filter_map event_mode x.down) (cons_option (command_mode command) [])
     ∙ sym (last_mode-cons (coming_mode x) (command_mode command) [])
 
-sent-mode : (x : State) (message : Content) (test : Bool) → coming_mode (cond test (after_told x message) x) ≡ coming_mode x
+sent-mode : (x : MachineState) (message : Content) (test : Bool) → coming_mode (cond test (after_told x message) x) ≡ coming_mode x
 sent-mode x message true = refl
 sent-mode x message false = refl
 
-noise-mode : (event : EventContent) → IsNoise event → event_mode event ≡ None
-noise-mode (EventContent.Read (CommandContent.ClockMessage message)) h = refl
-noise-mode (EventContent.Read (CommandContent.Leds leds)) h = refl
-noise-mode (EventContent.Read _) h = absurd h
-noise-mode EventContent.BadSize h = refl
-noise-mode EventContent.BadStart h = refl
-noise-mode EventContent.BadEnd h = refl
-noise-mode (EventContent.Stray byte) h = refl
-
 noise-modes : (noise : List EventContent) → IsNoiseList noise → filter_map event_mode noise ≡ []
-noise-modes [] h = refl
-noise-modes (event ∷ rest) h = ap (λ (mode : Option Mode). cons_option mode (filter_map event_mode rest)) (noise-mode event h.0) ∙ noise-modes rest h.1
+noise-modes noise is_noise = nothing_of_noise event_mode (λ message. refl) (λ leds. refl) (refl, refl, refl) (λ byte. refl) noise is_noise
 
-anew-mode : (x : State) (noise : List EventContent) (is_noise : IsNoiseList noise) → coming_mode (after_move x (Move.HostBreak noise is_noise)) ≡ Mode.UpdateBoard
+anew-mode : (x : MachineState) (noise : List EventContent) (is_noise : IsNoiseList noise) → coming_mode (after_move x (Move.HostBreak noise is_noise)) ≡ Mode.UpdateBoard
 anew-mode x noise is_noise =
     ap (last_mode x.board.mode) (filter_map-append event_mode noise _ ∙ ap (λ (modes : List Mode). modes ++ Mode.UpdateBoard ∷ []) (noise-modes noise is_noise))
 
 -- the mode that is coming is that of the last command that sets one, or that of a break
-pub move-mode : (x : State) (move : Move) → coming_mode (after_move x move) ≡ mode_after (coming_mode x) move
+pub move-mode : (x : MachineState) (move : Move) → coming_mode (after_move x move) ≡ mode_after (coming_mode x) (requests move)
 move-mode x (Move.Change square piece) = refl
 move-mode x (Move.HandClock clock) = refl
 move-mode x (Move.Ask command) = ask-mode x command
@@ -201,12 +185,12 @@ move-mode x (Move.HostBreak noise is_noise) = anew-mode x noise is_noise
 -- ---- what was asked for, and what it promises
 
 -- what was asked for is what is coming, after the mode that was coming before
-pub record Keeps (commands : List CommandContent) (x : State) : Type 0 where
+pub record IsComing (commands : List CommandContent) (x : MachineState) : Type 0 where
   pub picture : Contains commands CommandContent.Dump → PictureIsComing x
   pub before : Mode
   pub mode : coming_mode x ≡ last_mode before (filter_map command_mode commands)
 
-pub nothing_asked : (x : State) → Keeps [] x
+pub nothing_asked : (x : MachineState) → IsComing [] x
 nothing_asked x = record { picture = λ h. absurd (nothing_contained CommandContent.Dump h); before = coming_mode x; mode = refl }
 
 asked-mode : (commands : List CommandContent) (command : CommandContent) (before mode : Mode) → mode ≡ last_mode before (filter_map command_mode commands) → unwrap_or (command_mode command) mode ≡ last_mode before (filter_map command_mode (commands ++ command ∷ []))
@@ -215,47 +199,48 @@ asked-mode commands command before mode e =
     ∙ last_mode-cons (last_mode before (filter_map command_mode commands)) (command_mode command) []
     ∙ sym (ap (last_mode before) (filter_map-append command_mode commands (command ∷ [])) ∙ last_mode-append before (filter_map command_mode commands) (cons_option (command_mode command) []))
 
-ask_keeps : (commands : List CommandContent) (x : State) (command : CommandContent) → Keeps commands x → Contains (commands ++ command ∷ []) CommandContent.Dump → PictureIsComing (after_move x (Move.Ask command))
-ask_keeps commands x command keeps h = go (Contains-append_cases commands (command ∷ []) CommandContent.Dump h)
+ask_comes_dump : (commands : List CommandContent) (x : MachineState) (command : CommandContent) → IsComing commands x → Contains (commands ++ command ∷ []) CommandContent.Dump → PictureIsComing (after_move x (Move.Ask command))
+ask_comes_dump commands x command coming h = go (Contains-append_cases commands (command ∷ []) CommandContent.Dump h)
   where
     new : (command ≡ CommandContent.Dump) ⊎ Contains [] CommandContent.Dump → PictureIsComing (after_move x (Move.Ask command))
     new (inl e) = rw e (dump_asked x)
     new (inr none) = absurd (nothing_contained CommandContent.Dump none)
 
     go : Contains commands CommandContent.Dump ⊎ Contains (command ∷ []) CommandContent.Dump → PictureIsComing (after_move x (Move.Ask command))
-    go (inl before) = picture_keeps_coming x (Move.Ask command) (λ e. cc) (keeps.picture before)
+    go (inl before) = picture_keeps_coming x (Move.Ask command) (λ e. cc) (coming.picture before)
     go (inr now) = new (Contains-cons CommandContent.Dump command [] now)
 
-asked_anew-mode : (before : Mode) (commands : List CommandContent) → last_mode before (filter_map command_mode (commands ++ commands_anew)) ≡ Mode.UpdateBoard
+asked_anew-mode : (before : Mode) (commands : List CommandContent)
+    → Mode.UpdateBoard ≡ last_mode before (filter_map command_mode (commands_after commands (map Some commands_anew)))
 asked_anew-mode before commands =
-    ap (last_mode before) (filter_map-append command_mode commands commands_anew)
-    ∙ last_mode-append before (filter_map command_mode commands) (Mode.UpdateBoard ∷ [])
+    asked-mode (commands ++ CommandContent.UpdateBoard ∷ []) CommandContent.Dump before Mode.UpdateBoard
+    (asked-mode commands CommandContent.UpdateBoard before (last_mode before (filter_map command_mode commands)) refl)
 
 -- a move that asks for nothing, and is no break
-still_keeps : (commands : List CommandContent) (x : State) (move : Move) → move ≢ Move.Break → mode_after (coming_mode x) move ≡ coming_mode x → Keeps commands x → Keeps commands (after_move x move)
-still_keeps commands x move other same keeps =
-    record { picture = λ h. picture_keeps_coming x move other (keeps.picture h); before = keeps.before; mode = move-mode x move ∙ same ∙ keeps.mode }
+still_comes : (commands : List CommandContent) (x : MachineState) (move : Move) → move ≢ Move.Break → mode_after (coming_mode x) (requests move) ≡ coming_mode x → IsComing commands x → IsComing commands (after_move x move)
+still_comes commands x move other same coming =
+    record { picture = λ h. picture_keeps_coming x move other (coming.picture h); before = coming.before; mode = move-mode x move ∙ same ∙ coming.mode }
 
-pub move_keeps : (commands : List CommandContent) (x : State) (move : Move) → Keeps commands x → Keeps (commands_after_move commands move) (after_move x move)
-move_keeps commands x (Move.Ask command) keeps =
+pub move_comes : (commands : List CommandContent) (x : MachineState) (move : Move) → IsComing commands x → IsComing (commands_after commands (requests move)) (after_move x move)
+move_comes commands x (Move.Ask command) coming =
     record {
-      picture = ask_keeps commands x command keeps;
-      before = keeps.before;
-      mode = ask-mode x command ∙ asked-mode commands command keeps.before (coming_mode x) keeps.mode;
+      picture = ask_comes_dump commands x command coming;
+      before = coming.before;
+      mode = ask-mode x command ∙ asked-mode commands command coming.before (coming_mode x) coming.mode;
     }
-move_keeps commands x (Move.Change square piece) keeps = still_keeps commands x (Move.Change square piece) (λ e. cc) refl keeps
-move_keeps commands x (Move.HandClock clock) keeps = still_keeps commands x (Move.HandClock clock) (λ e. cc) refl keeps
-move_keeps commands x Move.Take keeps = still_keeps commands x Move.Take (λ e. cc) refl keeps
-move_keeps commands x Move.Reply keeps = still_keeps commands x Move.Reply (λ e. cc) refl keeps
-move_keeps commands x (Move.Tell square) keeps = still_keeps commands x (Move.Tell square) (λ e. cc) refl keeps
-move_keeps commands x Move.TellClock keeps = still_keeps commands x Move.TellClock (λ e. cc) refl keeps
-move_keeps commands x Move.Hear keeps = still_keeps commands x Move.Hear (λ e. cc) refl keeps
-move_keeps commands x Move.Break keeps = nothing_asked (after_move x Move.Break)
-move_keeps commands x (Move.HostBreak noise is_noise) keeps =
+move_comes commands x (Move.Change square piece) coming = still_comes commands x (Move.Change square piece) (λ e. cc) refl coming
+move_comes commands x (Move.HandClock clock) coming = still_comes commands x (Move.HandClock clock) (λ e. cc) refl coming
+move_comes commands x Move.Take coming = still_comes commands x Move.Take (λ e. cc) refl coming
+move_comes commands x Move.Reply coming = still_comes commands x Move.Reply (λ e. cc) refl coming
+move_comes commands x (Move.Tell square) coming = still_comes commands x (Move.Tell square) (λ e. cc) refl coming
+move_comes commands x Move.TellClock coming = still_comes commands x Move.TellClock (λ e. cc) refl coming
+move_comes commands x Move.Hear coming = still_comes commands x Move.Hear (λ e. cc) refl coming
+move_comes commands x Move.Break coming = nothing_asked (after_move x Move.Break)
+move_comes commands x (Move.HostBreak noise is_noise) coming =
     record {
       picture = λ h. anew_is_coming x noise is_noise;
-      before = keeps.before;
-      mode = anew-mode x noise is_noise ∙ sym (asked_anew-mode keeps.before commands);
+      before = coming.before;
+      mode = anew-mode x noise is_noise ∙ asked_anew-mode coming.before commands;
     }
 
 -- a mode asked for holds whatever mode was before
@@ -263,60 +248,56 @@ asked_from_any : (before : Mode) (modes : List Mode) → IsTrue (updates (last_m
 asked_from_any before [] h = absurd (false≢true h)
 asked_from_any before (mode ∷ modes) h = h
 
-pub keeps_promise : (commands : List CommandContent) (x : State) → Keeps commands x → IsAsked commands → IsPromised x
-keeps_promise commands x keeps asks =
+pub coming_promise : (commands : List CommandContent) (x : MachineState) → IsComing commands x → IsAsked commands → IsPromised x
+coming_promise commands x coming asks =
     record {
-      picture = keeps.picture asks.dump;
-      mode = rw keeps.mode (asked_from_any keeps.before (filter_map command_mode commands) asks.mode);
+      picture = coming.picture asks.dump;
+      mode = rw coming.mode (asked_from_any coming.before (filter_map command_mode commands) asks.mode);
     }
 
-pub anew_is_promised : (x : State) (noise : List EventContent) (is_noise : IsNoiseList noise) → IsPromised (after_move x (Move.HostBreak noise is_noise))
+pub anew_is_promised : (x : MachineState) (noise : List EventContent) (is_noise : IsNoiseList noise) → IsPromised (after_move x (Move.HostBreak noise is_noise))
 anew_is_promised x noise is_noise = record { picture = anew_is_coming x noise is_noise; mode = rw (anew-mode x noise is_noise) refl }
 
 -- ---- the picture that the host comes to have
 
-dump_seen : (x : State) (owed rest : List Reply) → owed ≡ Reply.Of Kind.Dump ∷ rest → coming_picture (after_reply x owed) ≡ Some (after_reply x owed).board.told_squares
+dump_seen : (x : MachineState) (owed rest : List Reply) → owed ≡ Reply.Of Kind.Dump ∷ rest → coming_picture (after_reply x owed) ≡ Some (after_reply x owed).board.told_squares
 dump_seen x owed rest e = rw e (picture_after_all-append x.picture x.up (Content.dump x.board.squares))
 
-pub dump_is_seen : (x : State) (rest : List Reply) → x.board.owed ≡ Reply.Of Kind.Dump ∷ rest → coming_picture (after_move x Move.Reply) ≡ Some (after_move x Move.Reply).board.told_squares
+pub dump_is_seen : (x : MachineState) (rest : List Reply) → x.board.owed ≡ Reply.Of Kind.Dump ∷ rest → coming_picture (after_move x Move.Reply) ≡ Some (after_move x Move.Reply).board.told_squares
 dump_is_seen x rest e = dump_seen x x.board.owed rest e
 
-sent_known : (x : State) (message : Content) → IsSome (coming_picture x) → IsSome (picture_after_all x.picture (x.up ++ message ∷ []))
+sent_known : (x : MachineState) (message : Content) → IsSome (coming_picture x) → IsSome (picture_after_all x.picture (x.up ++ message ∷ []))
 sent_known x message known = rw (picture_after_all-append x.picture x.up message) (picture_after_known (coming_picture x) message known)
 
-reply_known : (x : State) (owed : List Reply) → IsSome (coming_picture x) → IsSome (coming_picture (after_reply x owed))
+reply_known : (x : MachineState) (owed : List Reply) → IsSome (coming_picture x) → IsSome (coming_picture (after_reply x owed))
 reply_known x [] known = known
 reply_known x (first ∷ rest) known = sent_known x (reply_message x.board first) known
 
-take_known : (x : State) (down : List EventContent) → IsSome (coming_picture x) → IsSome (coming_picture (after_take x down))
+take_known : (x : MachineState) (down : List EventContent) → IsSome (coming_picture x) → IsSome (coming_picture (after_take x down))
 take_known x [] known = known
 take_known x (event ∷ rest) known = known
 
-hear_known : (x : State) (up : List Content) → x.up ≡ up → IsSome (coming_picture x) → IsSome (coming_picture (after_hear x up))
+hear_known : (x : MachineState) (up : List Content) → x.up ≡ up → IsSome (coming_picture x) → IsSome (coming_picture (after_hear x up))
 hear_known x [] e known = known
 hear_known x (message ∷ rest) e known = rw e at known
 
-pub picture_stays_known : (x : State) (move : Move) → move ≢ Move.Break → ¬ (IsHostBreak move) → IsSome (coming_picture x) → IsSome (coming_picture (after_move x move))
+pub picture_stays_known : (x : MachineState) (move : Move) → move ≢ Move.Break → ¬ (IsHostBreak move) → IsSome (coming_picture x) → IsSome (coming_picture (after_move x move))
 picture_stays_known x (Move.Change square piece) other also known = known
 picture_stays_known x (Move.HandClock clock) other also known = known
 picture_stays_known x (Move.Ask command) other also known = known
 picture_stays_known x Move.Take other also known = take_known x x.down known
 picture_stays_known x Move.Reply other also known = reply_known x x.board.owed known
 picture_stays_known x (Move.Tell square) other also known =
-    cond_both (updates x.board.mode && differs x.board square) (after_told x (field_of x.board square)) x (λ (y : State). IsSome (coming_picture y))
+    cond_both (updates x.board.mode && differs x.board square) (after_told x (field_of x.board square)) x (λ (y : MachineState). IsSome (coming_picture y))
     (λ h. sent_known x (field_of x.board square) known) (λ h. known)
 picture_stays_known x Move.TellClock other also known =
-    cond_both x.board.times_owed (after_told x (clock_message x.board.clock)) x (λ (y : State). IsSome (coming_picture y))
+    cond_both x.board.times_owed (after_told x (clock_message x.board.clock)) x (λ (y : MachineState). IsSome (coming_picture y))
     (λ h. sent_known x (clock_message x.board.clock) known) (λ h. known)
 picture_stays_known x Move.Hear other also known = hear_known x x.up refl known
 picture_stays_known x Move.Break other also known = absurd (other refl)
 picture_stays_known x (Move.HostBreak noise is_noise) other also known = absurd (also tt)
 
 -- ---- what a board makes of it
-
-effects-append : (board : BoardState) (events more : List EventContent) → effects board (events ++ more) ≡ effects (effects board events) more
-effects-append board [] more = refl
-effects-append board (event ∷ events) more = effects-append (effect board event) events more
 
 effects-mode : (board : BoardState) (events : List EventContent) → (effects board events).mode ≡ last_mode board.mode (filter_map event_mode events)
 effects-mode board [] = refl

@@ -14,19 +14,11 @@ use Rattle.dgt_command.specs.Content.{CommandContent, EventContent}
 use Rattle.dgt_board.specs.declared.replies.Reply.{Reply}
 use Rattle.dgt_board.specs.State.{BoardState, follows_clock, updates}
 use Rattle.dgt_board.specs.Sending.{clock_news, differs, every_square, field_of, first_reply, pending_messages, piece_on, untold_squares}
-use Rattle.dgt_link.specs.Machine.{State}
+use Rattle.dgt_link.specs.Machine.{MachineState}
 use Rattle.dgt_link.specs.Sound.{IsSound, IsExact, IsUnknownOr, coming_kinds}
 use Rattle.dgt_link.specs.Promise.{IsPromised, IsQuiet, PictureIsComing, coming_mode}
-use Rattle.dgt_link.proofs.Promises.{nothing_contained}
+use Rattle.dgt_link.proofs.Lists.{left_empty, nothing_contained, right_empty}
 use Rattle.dgt_link.proofs.Subsequences.{subsequence_of_nothing}
-
-left_empty : {X : Type 0} (xs ys : List X) → xs ++ ys ≡ [] → xs ≡ []
-left_empty [] ys h = refl
-left_empty (x ∷ xs) ys h = cc
-
-right_empty : {X : Type 0} (xs ys : List X) → xs ++ ys ≡ [] → ys ≡ []
-right_empty [] ys h = h
-right_empty (x ∷ xs) ys h = cc
 
 -- ---- nothing is pending
 
@@ -98,17 +90,17 @@ up_to_date board squares told nothing =
     none : untold_squares board ≡ []
     none = map_empty (field_of board) (untold_squares board) (left_empty (map (field_of board) (untold_squares board)) (clock_news board) rest)
 
-quiet_up_to_date : (x : State) → IsSound x → IsQuiet x → IsUpToDate x.board
+quiet_up_to_date : (x : MachineState) → IsSound x → IsQuiet x → IsUpToDate x.board
 quiet_up_to_date x sound quiet = up_to_date x.board sound.squares sound.told_squares quiet.pending
 
 -- the host's picture, where the mode asks for updates
-picture_at_quiet : (x : State) → IsSound x → IsQuiet x → IsUnknownOr x.picture (Some x.board.told_squares)
+picture_at_quiet : (x : MachineState) → IsSound x → IsQuiet x → IsUnknownOr x.picture (Some x.board.told_squares)
 picture_at_quiet x sound quiet = rw quiet.up at sound.picture
 
 told_squares : (picture : Option (List Piece)) (told squares : List Piece) → told ≡ squares → IsUnknownOr picture (Some told) → IsUnknownOr picture (Some squares)
 told_squares picture told squares e h = rw e at h
 
-pub quiet_picture : (x : State) → IsSound x → IsQuiet x → IsTrue (updates x.board.mode) → IsUnknownOr x.picture (Some x.board.squares)
+pub quiet_picture : (x : MachineState) → IsSound x → IsQuiet x → IsTrue (updates x.board.mode) → IsUnknownOr x.picture (Some x.board.squares)
 quiet_picture x sound quiet asks =
     told_squares x.picture x.board.told_squares x.board.squares ((quiet_up_to_date x sound quiet).squares asks) (picture_at_quiet x sound quiet)
 
@@ -117,16 +109,16 @@ known picture told some (inl none) = absurd (false≢true (ap is_some (sym none)
 known picture told some (inr same) = same
 
 -- at quiet a picture that was coming has come
-picture_has_come : (x : State) → IsSound x → IsQuiet x → PictureIsComing x → IsSome x.picture
+picture_has_come : (x : MachineState) → IsSound x → IsQuiet x → PictureIsComing x → IsSome x.picture
 picture_has_come x sound quiet (inl seen) = rw quiet.up at seen
 picture_has_come x sound quiet (inr (inl owed)) = absurd (nothing_contained (Reply.Of Kind.Dump) (rw (quiet_up_to_date x sound quiet).owed at owed))
 picture_has_come x sound quiet (inr (inr asked)) = absurd (nothing_contained (EventContent.Read CommandContent.Dump) (rw quiet.down at asked))
 
-quiet_mode : (x : State) → IsQuiet x → coming_mode x ≡ x.board.mode
+quiet_mode : (x : MachineState) → IsQuiet x → coming_mode x ≡ x.board.mode
 quiet_mode x quiet = rw quiet.down
 
 -- a promised state that is quiet has the board's squares as its picture
-pub promised_picture : (x : State) → IsSound x → IsPromised x → IsQuiet x → x.picture ≡ Some x.board.squares
+pub promised_picture : (x : MachineState) → IsSound x → IsPromised x → IsQuiet x → x.picture ≡ Some x.board.squares
 promised_picture x sound promised quiet =
     known x.picture (Some x.board.squares) (picture_has_come x sound quiet promised.picture)
     (quiet_picture x sound quiet (rw (quiet_mode x quiet) at promised.mode))
@@ -136,14 +128,14 @@ told_clock : (owed : Bool) (told clock : Option ClockState) → owed ≡ false �
 told_clock owed told clock none (inl owes) = absurd (false≢true (sym none ∙ owes))
 told_clock owed told clock none (inr same) = same
 
-pub quiet_clock : (x : State) → IsExact x → IsQuiet x → IsTrue (follows_clock x.board.mode) → x.host_clock ≡ Some x.board.clock
+pub quiet_clock : (x : MachineState) → IsExact x → IsQuiet x → IsTrue (follows_clock x.board.mode) → x.host_clock ≡ Some x.board.clock
 quiet_clock x exact quiet follows =
     (rw quiet.up at exact.clock)
     ∙ told_clock x.board.times_owed x.board.told_clock (Some x.board.clock) (quiet_up_to_date x exact.sound quiet).times_owed (exact.sound.followed follows)
 
 -- nothing is awaited at quiet
-nothing_comes : (x : State) → IsSound x → IsQuiet x → coming_kinds x ≡ []
+nothing_comes : (x : MachineState) → IsSound x → IsQuiet x → coming_kinds x ≡ []
 nothing_comes x sound quiet = rw (quiet.up, quiet.down, (quiet_up_to_date x sound quiet).owed)
 
-pub quiet_awaited : (x : State) → IsSound x → IsQuiet x → x.awaited ≡ []
+pub quiet_awaited : (x : MachineState) → IsSound x → IsQuiet x → x.awaited ≡ []
 quiet_awaited x sound quiet = subsequence_of_nothing x.awaited (rw (nothing_comes x sound quiet) at sound.awaited)

@@ -1,29 +1,63 @@
 -- What holds after any moves.
-use Rattle.std.proofs.Common.{◌≡◌, List, [], ◌∷◌, Some}
+use Rattle.std.proofs.Common.{◌≡◌, refl, sym, ap, ◌∙◌, List, [], ◌∷◌, ◌++◌, Option, Some, None}
+use Rattle.std.specs.Prelude.{flat_map, unwrap_or}
 use Rattle.std.specs.List.{AllByRecursion}
 use Rattle.dgt_command.specs.Content.{CommandContent}
-use Rattle.dgt_link.specs.Move.{IsHostBreak, Move}
-use Rattle.dgt_link.specs.Machine.{State, after_move, after_moves}
+use Rattle.dgt_board.specs.declared.modes.Mode.{Mode}
+use Rattle.dgt_board.specs.Effect.{command_mode}
+use Rattle.dgt_link.specs.Machine.{IsHostBreak, MachineState, Move, after_move, after_moves}
 use Rattle.dgt_link.specs.Sound.{IsSound, IsExact}
-use Rattle.dgt_link.specs.Promise.{IsAsked, IsPromised, IsQuiet, commands_after_move, commands_after_moves}
+use Rattle.dgt_link.specs.Promise.{IsAsked, IsPromised, IsQuiet, coming_mode, commands_after, mode_after, requests}
 use Rattle.dgt_link.proofs.Soundness.{move_sound, move_exact}
-use Rattle.dgt_link.proofs.Promises.{Keeps, nothing_asked, move_keeps, keeps_promise}
+use Rattle.dgt_link.proofs.Promises.{IsComing, coming_promise, move-mode, move_comes, nothing_asked}
 use Rattle.dgt_link.proofs.Quiet.{promised_picture}
 
-pub moves_sound : (x : State) (moves : List Move) → IsSound x → IsSound (after_moves x moves)
+pub moves_sound : (x : MachineState) (moves : List Move) → IsSound x → IsSound (after_moves x moves)
 moves_sound x [] sound = sound
 moves_sound x (move ∷ moves) sound = moves_sound (after_move x move) moves (move_sound x move sound)
 
-pub moves_exact : (x : State) (moves : List Move) → AllByRecursion (λ move. ¬ (IsHostBreak move)) moves → IsExact x → IsExact (after_moves x moves)
+pub moves_exact : (x : MachineState) (moves : List Move) → AllByRecursion (λ move. ¬ (IsHostBreak move)) moves
+    → IsExact x → IsExact (after_moves x moves)
 moves_exact x [] others exact = exact
 moves_exact x (move ∷ moves) others exact = moves_exact (after_move x move) moves others.1 (move_exact x move others.0 exact)
 
-moves_keep : (commands : List CommandContent) (x : State) (moves : List Move) → Keeps commands x → Keeps (commands_after_moves commands moves) (after_moves x moves)
-moves_keep commands x [] keeps = keeps
-moves_keep commands x (move ∷ moves) keeps = moves_keep (commands_after_move commands move) (after_move x move) moves (move_keeps commands x move keeps)
+-- ---- what moves ask
 
-pub moves_promise : (x : State) (moves : List Move) → IsAsked (commands_after_moves [] moves) → IsPromised (after_moves x moves)
-moves_promise x moves asked = keeps_promise (commands_after_moves [] moves) (after_moves x moves) (moves_keep [] x moves (nothing_asked x)) asked
+commands_after-append : (before : List CommandContent) (asked more : List (Option CommandContent))
+    → commands_after before (asked ++ more) ≡ commands_after (commands_after before asked) more
+commands_after-append before [] more = refl
+commands_after-append before (None ∷ asked) more = commands_after-append [] asked more
+commands_after-append before (Some command ∷ asked) more = commands_after-append (before ++ command ∷ []) asked more
 
-pub moves_picture : (x : State) (moves : List Move) → IsSound x → IsAsked (commands_after_moves [] moves) → IsQuiet (after_moves x moves) → (after_moves x moves).picture ≡ Some (after_moves x moves).board.squares
-moves_picture x moves sound asked quiet = promised_picture (after_moves x moves) (moves_sound x moves sound) (moves_promise x moves asked) quiet
+mode_after-append : (before : Mode) (asked more : List (Option CommandContent))
+    → mode_after before (asked ++ more) ≡ mode_after (mode_after before asked) more
+mode_after-append before [] more = refl
+mode_after-append before (None ∷ asked) more = mode_after-append Mode.Idle asked more
+mode_after-append before (Some command ∷ asked) more =
+    mode_after-append (unwrap_or (command_mode command) before) asked more
+
+moves_come : (commands : List CommandContent) (x : MachineState) (moves : List Move) → IsComing commands x
+    → IsComing (commands_after commands (flat_map requests moves)) (after_moves x moves)
+moves_come commands x [] coming = coming
+moves_come commands x (move ∷ moves) coming =
+    rw (commands_after-append commands (requests move) (flat_map requests moves))
+    (moves_come (commands_after commands (requests move)) (after_move x move) moves (move_comes commands x move coming))
+
+pub moves-mode : (x : MachineState) (moves : List Move)
+    → coming_mode (after_moves x moves) ≡ mode_after (coming_mode x) (flat_map requests moves)
+moves-mode x [] = refl
+moves-mode x (move ∷ moves) =
+    moves-mode (after_move x move) moves ∙ ap (λ (mode : Mode). mode_after mode (flat_map requests moves)) (move-mode x move)
+    ∙ sym (mode_after-append (coming_mode x) (requests move) (flat_map requests moves))
+
+pub moves_promise : (x : MachineState) (moves : List Move) → IsAsked (commands_after [] (flat_map requests moves))
+    → IsPromised (after_moves x moves)
+moves_promise x moves asked =
+    coming_promise (commands_after [] (flat_map requests moves)) (after_moves x moves)
+    (moves_come [] x moves (nothing_asked x)) asked
+
+pub moves_picture : (x : MachineState) (moves : List Move) → IsSound x
+    → IsAsked (commands_after [] (flat_map requests moves)) → IsQuiet (after_moves x moves)
+    → (after_moves x moves).picture ≡ Some (after_moves x moves).board.squares
+moves_picture x moves sound asked quiet =
+    promised_picture (after_moves x moves) (moves_sound x moves sound) (moves_promise x moves asked) quiet

@@ -7,8 +7,8 @@ use Rattle.dgt_message.specs.ClockState.{clock_message}
 use Rattle.dgt_board.specs.declared.replies.Reply.{Reply}
 use Rattle.dgt_board.specs.State.{BoardState, updates}
 use Rattle.dgt_board.specs.Sending.{after_sending, after_telling, clock_news, differs, every_square, field_of, first_message, first_reply, next_message, reply_message, untold_squares}
-use Rattle.dgt_link.specs.Move.{IsSending, Move}
-use Rattle.dgt_link.specs.Machine.{State, after_move, after_reply, after_told}
+use Rattle.dgt_link.specs.Machine.{IsSending, Move, MachineState, after_move, after_reply, after_told}
+use Rattle.dgt_link.proofs.Lists.{some_same}
 
 -- what a message tells does not depend on the replies owed
 told_squares_after-owed : (board : BoardState) (owed : List Reply) (message : Content) → after_telling (record board { owed = owed }) message ≡ record (after_telling board message) { owed = owed }
@@ -18,25 +18,22 @@ told_squares_after-owed board owed (Content.times readings) = refl
 told_squares_after-owed board owed (Content.no_clock absence) = refl
 told_squares_after-owed board owed _ = refl
 
-abbrev sent_state : State → Content → State
+abbrev sent_state : MachineState → Content → MachineState
 sent_state x message = record x { board = after_sending x.board message; up = x.up ++ message ∷ [] }
 
 -- a move that sends the message
-abbrev SendsIt : State → Content → Type 0
+abbrev SendsIt : MachineState → Content → Type 0
 SendsIt x message = (move : Move) × IsSending move × (after_move x move ≡ sent_state x message)
 
-reply_is_sent : (x : State) (first : Reply) (rest owed : List Reply) → owed ≡ first ∷ rest → after_reply x owed ≡ record x { board = record (after_telling x.board (reply_message x.board first)) { owed = drop 1 owed }; up = x.up ++ reply_message x.board first ∷ [] }
+reply_is_sent : (x : MachineState) (first : Reply) (rest owed : List Reply) → owed ≡ first ∷ rest → after_reply x owed ≡ record x { board = record (after_telling x.board (reply_message x.board first)) { owed = drop 1 owed }; up = x.up ++ reply_message x.board first ∷ [] }
 reply_is_sent x first rest owed e =
     rw e (ap (λ (board : BoardState). record x { board = board; up = x.up ++ reply_message x.board first ∷ [] }) (told_squares_after-owed x.board rest (reply_message x.board first)))
 
 -- with no reply owed
-without_reply : (x : State) (message : Content) → x.board.owed ≡ [] → after_told x message ≡ sent_state x message
+without_reply : (x : MachineState) (message : Content) → x.board.owed ≡ [] → after_told x message ≡ sent_state x message
 without_reply x message e =
     ap (λ (owed : List Reply). record x { board = record (after_telling x.board message) { owed = owed }; up = x.up ++ message ∷ [] })
     (e ∙ sym (ap (drop 1) e))
-
-some_same : {X : Type 0} (x y : X) → Some x ≡ Some y → x ≡ y
-some_same x y h = cc
 
 -- the first of the field updates, or what comes after them
 abbrev FirstField : Bool → (ℕ → Content) → (ℕ → Bool) → Content → Type 0
@@ -57,7 +54,7 @@ first_news : (owed : Bool) (news message : Content) → first_message (cond owed
 first_news true news message h = (refl, some_same news message h)
 first_news false news message h = cc
 
-tell_is_sent : (x : State) (message : Content) → x.board.owed ≡ [] → FirstField (updates x.board.mode) (field_of x.board) (differs x.board) message → SendsIt x message
+tell_is_sent : (x : MachineState) (message : Content) → x.board.owed ≡ [] → FirstField (updates x.board.mode) (field_of x.board) (differs x.board) message → SendsIt x message
 tell_is_sent x message none (square, asks, differing, same) = (
   Move.Tell square,
   tt,
@@ -65,7 +62,7 @@ tell_is_sent x message none (square, asks, differing, same) = (
       ∙ without_reply x (field_of x.board square) none ∙ ap (sent_state x) same,
 )
 
-clock_is_sent : (x : State) (message : Content) → x.board.owed ≡ [] → (x.board.times_owed ≡ true) × (clock_message x.board.clock ≡ message) → SendsIt x message
+clock_is_sent : (x : MachineState) (message : Content) → x.board.owed ≡ [] → (x.board.times_owed ≡ true) × (clock_message x.board.clock ≡ message) → SendsIt x message
 clock_is_sent x message none (owed, same) = (
   Move.TellClock,
   tt,
@@ -73,7 +70,7 @@ clock_is_sent x message none (owed, same) = (
       ∙ without_reply x (clock_message x.board.clock) none ∙ ap (sent_state x) same,
 )
 
-next_of : (x : State) (owed : List Reply) (message : Content) → x.board.owed ≡ owed → first_message (first_reply x.board owed ++ (map (field_of x.board) (untold_squares x.board) ++ clock_news x.board)) ≡ Some message → SendsIt x message
+next_of : (x : MachineState) (owed : List Reply) (message : Content) → x.board.owed ≡ owed → first_message (first_reply x.board owed ++ (map (field_of x.board) (untold_squares x.board) ++ clock_news x.board)) ≡ Some message → SendsIt x message
 next_of x (first ∷ rest) message e h =
     (Move.Reply, tt, reply_is_sent x first rest x.board.owed e ∙ ap (sent_state x) (some_same (reply_message x.board first) message h))
 next_of x [] message e h =
@@ -83,5 +80,5 @@ next_of x [] message e h =
     ]
 
 -- the message that a board sends next is sent by a move
-pub next_is_sent : (x : State) (message : Content) → next_message x.board ≡ Some message → SendsIt x message
+pub next_is_sent : (x : MachineState) (message : Content) → next_message x.board ≡ Some message → SendsIt x message
 next_is_sent x message h = next_of x x.board.owed message refl h

@@ -19,22 +19,18 @@ use Rattle.dgt_board.specs.Effect.{effect, effects}
 use Rattle.dgt_board.specs.State.{BoardState, follows_clock, updates}
 use Rattle.dgt_board.specs.Sending.{after_sending, next_message}
 use Rattle.dgt_link.specs.Act.{ActContent}
-use Rattle.dgt_link.specs.ActMoves.{StandsAfterStep}
-use Rattle.dgt_link.specs.Asked.{mode_after_step}
+use Rattle.dgt_link.specs.Stands.{StandsAfterStep, AreSpelled, IsExactWorld, IsWorld, StandsFor}
+use Rattle.dgt_link.specs.Promise.{mode_after, act_requests, IsPromised, PictureIsComing, coming_mode}
 use Rattle.dgt_link.specs.declared.acts.Outcome.{Outcome}
-use Rattle.dgt_link.specs.Line.{overflows}
-use Rattle.dgt_link.specs.Machine.{State, after_moves}
-use Rattle.dgt_link.specs.Moving.{moves_nothing}
-use Rattle.dgt_link.specs.Promise.{IsPromised, PictureIsComing, coming_mode}
-use Rattle.dgt_link.specs.Settling.{IsSettling, SettlesIn, steps_left, work_left}
+use Rattle.dgt_link.specs.View.{overflows, IsQuietWorld, WorldView}
+use Rattle.dgt_link.specs.Machine.{MachineState, after_moves}
+use Rattle.dgt_link.specs.Step.{moves_nothing, Becomes, Runs, Step, done_count}
+use Rattle.dgt_link.specs.Settling.{IsSettling, SettlesIn, steps_left}
+use Rattle.dgt_link.specs.Work.{work_left}
 use Rattle.dgt_link.specs.Sound.{IsUnknownOr}
-use Rattle.dgt_link.specs.Stands.{AreSpelled, IsExactWorld, IsWorld, StandsFor}
-use Rattle.dgt_link.specs.Step.{Becomes, Runs, Step, done_count}
-use Rattle.dgt_link.specs.View.{IsQuietWorld, WorldView}
 use Rattle.dgt_link.proofs.Dividing.{no_word_within}
-use Rattle.dgt_link.proofs.Fronts.{IsShorter, Reaches, fronts}
+use Rattle.dgt_link.proofs.Lists.{Contains-cons, all_append, nothing_contained, IsShorter, Reaches, fronts}
 use Rattle.dgt_link.proofs.Hearing.{Reads, held_alone, nothing_open}
-use Rattle.dgt_link.proofs.Promises.{Contains-cons, nothing_contained}
 use Rattle.dgt_link.proofs.Resting.{quiet_state, world_awaits_nothing, world_clock_told, world_picture, world_picture_told}
 use Rattle.dgt_link.proofs.Running.{run-push}
 use Rattle.dgt_link.proofs.Taking.{effect_leaves}
@@ -80,11 +76,11 @@ effects_keep board (event ∷ events) =
     (rest.0 ∙ first.squares, rest.1 ∙ first.clock)
 
 becomes_kept : (act : ActContent) (world after : WorldView) → IsSettling act → Becomes act world after → Kept world after
-becomes_kept ActContent.BoardSend world after is (board, line, (message, is_next, spells, sent, left), same) = rw (same, sent) (record { squares = refl; clock = refl })
+becomes_kept ActContent.BoardSend world after is (message, is_next, spells, same) = rw same (record { squares = refl; clock = refl })
 becomes_kept (ActContent.ToBoard count) world after is (board, line, delivers, same) =
     let kept = effects_keep world.board.state delivers.taken.events in
     rw (same, delivers.taken.state) (record { squares = kept.0; clock = kept.1 })
-becomes_kept (ActContent.ToHost count) world after is (host, line, heard, same) = rw same (record { squares = refl; clock = refl })
+becomes_kept (ActContent.ToHost count) world after is same = rw same (record { squares = refl; clock = refl })
 becomes_kept (ActContent.Change square piece) world after none same = absurd none
 becomes_kept (ActContent.ClockRead clock) world after none same = absurd none
 becomes_kept (ActContent.Host command) world after none same = absurd none
@@ -107,7 +103,7 @@ run_kept (act ∷ acts) world after (answer ∷ answers) all (between, step, run
 run_kept [] world after (answer ∷ answers) all none = absurd none
 run_kept (act ∷ acts) world after [] all none = absurd none
 
-settling_mode : (before : Mode) (act : ActContent) (answer : Outcome) → IsSettling act → mode_after_step before act answer ≡ before
+settling_mode : (before : Mode) (act : ActContent) (answer : Outcome) → IsSettling act → mode_after before (act_requests answer act) ≡ before
 settling_mode before ActContent.BoardSend Outcome.Done is = refl
 settling_mode before (ActContent.ToBoard count) Outcome.Done is = refl
 settling_mode before (ActContent.ToHost count) Outcome.Done is = refl
@@ -142,20 +138,20 @@ settling_no_host_break (act ∷ acts) all found = go (settling_no_host_break act
     go rest (inr later) = rest later
 
 -- the world after stands for a state with the same mode to come, whose picture still comes
-pub record KeepsPromise (x : State) (after : WorldView) : Type 0 where
-  pub state : State
+pub record KeepsPromise (x : MachineState) (after : WorldView) : Type 0 where
+  pub state : MachineState
   pub stands : StandsFor after state
   pub mode : coming_mode state ≡ coming_mode x
   pub picture : PictureIsComing x → PictureIsComing state
 
-module _ (moves : (act : ActContent) (world after : WorldView) (answer : Outcome) (x : State) → StandsFor world x → Step act world answer after → StandsAfterStep act answer x after)
-    (mode : (act : ActContent) (world after : WorldView) (answer : Outcome) (x y : State) → StandsFor world x → Step act world answer after → StandsFor after y → coming_mode y ≡ mode_after_step (coming_mode x) act answer)
-    (kept : (act : ActContent) (world after : WorldView) (answer : Outcome) (x y : State) → act ≢ ActContent.Break → StandsFor world x → Step act world answer after → StandsFor after y → PictureIsComing x → PictureIsComing y) where
-  pub run_promise : (acts : List ActContent) (world after : WorldView) (answers : List Outcome) (x : State) → AllByRecursion IsSettling acts → StandsFor world x → Runs acts world answers after → KeepsPromise x after
+module _ (moves : (act : ActContent) (world after : WorldView) (answer : Outcome) (x : MachineState) → StandsFor world x → Step act world answer after → StandsAfterStep act answer x after)
+    (mode : (act : ActContent) (world after : WorldView) (answer : Outcome) (x y : MachineState) → StandsFor world x → Step act world answer after → StandsFor after y → coming_mode y ≡ mode_after (coming_mode x) (act_requests answer act))
+    (kept : (act : ActContent) (world after : WorldView) (answer : Outcome) (x y : MachineState) → act ≢ ActContent.Break → StandsFor world x → Step act world answer after → StandsFor after y → PictureIsComing x → PictureIsComing y) where
+  pub run_promise : (acts : List ActContent) (world after : WorldView) (answers : List Outcome) (x : MachineState) → AllByRecursion IsSettling acts → StandsFor world x → Runs acts world answers after → KeepsPromise x after
   run_promise [] world after [] x all stands same = record { state = x; stands = rw same stands; mode = refl; picture = λ h. h }
   run_promise (act ∷ acts) world after (answer ∷ answers) x all stands (between, step, runs) =
       let reached = moves act world between answer x stands step in
-      let y : State = after_moves x reached.0 in
+      let y : MachineState = after_moves x reached.0 in
       let rest = run_promise acts between after answers y all.1 reached.2 runs in
       record {
         state = rest.state;
@@ -177,10 +173,10 @@ at_most_one n = go (n == 0)
 
 module _ (falls : (board : BoardState) (message : Content) → length board.told_squares ≡ 64 → next_message board ≡ Some message → backlog (after_sending board message) < backlog board) where
   pub send_works : (world after : WorldView) → length world.board.state.told_squares ≡ 64 → Becomes ActContent.BoardSend world after → work_left after < work_left world
-  send_works world after squares (board, line, (message, is_next, spells, sent, left), same) =
+  send_works world after squares (message, is_next, spells, same) =
       let less = falls world.board.state message squares is_next in
       let flag = at_most_one (length (world.up.bytes ++ spelling message)) in
-      rw (same, sent, left) (omega (arith, less, flag))
+      rw same (omega (arith, less, flag))
 
 module _ (short : WordsAreShort) (within : NoWordBeginsAnother) (rises : (board : BoardState) (events : List EventContent) → backlog (effects board events) ≤ backlog board + length events) where
   pub take_works : (world after : WorldView) (count : ℕ) → IsPartial world.board.partial → Becomes (ActContent.ToBoard count) world after → work_left after < work_left world
@@ -198,8 +194,8 @@ no_more : (bytes : List ℕ) → length (drop (length bytes) bytes) ≡ 0
 no_more bytes = ap length (drop_all (length bytes) bytes (omega arith))
 
 pub hear_works : (world after : WorldView) → (length world.up.bytes == 0) ≡ false → Becomes (ActContent.ToHost (length world.up.bytes)) world after → work_left after < work_left world
-hear_works world after some (host, line, (heard, left), same) =
-    rw (same, left, no_more world.up.bytes, some) (omega arith)
+hear_works world after some same =
+    rw (same, no_more world.up.bytes, some) (omega arith)
 
 -- ---- at rest
 
@@ -287,22 +283,18 @@ pub settled_more : (old now new : WorldView) (done : ℕ) → SettlesIn done old
 settled_more old now new done settled (act, is, step, less) =
     record {
       acts = settled.acts ++ act ∷ [];
-      settling = AllByRecursion-push settled.acts act settled.settling is;
+      settling = all_append IsSettling settled.acts (act ∷ []) settled.settling (is, tt);
       counted = rw (length-append settled.acts (act ∷ [])) (omega (arith, settled.counted));
       run = rw (← replicate_more done Outcome.Done) (run-push settled.acts (replicate done Outcome.Done) act Outcome.Done old now new settled.run step);
     }
-  where
-    AllByRecursion-push : (acts : List ActContent) (act : ActContent) → AllByRecursion IsSettling acts → IsSettling act → AllByRecursion IsSettling (acts ++ act ∷ [])
-    AllByRecursion-push [] act all is = (is, tt)
-    AllByRecursion-push (first ∷ acts) act all is = (all.0, AllByRecursion-push acts act all.1 is)
 
 pub settled_kept : (count : ℕ) (old new : WorldView) → SettlesIn count old new → Kept old new
 settled_kept count old new settled = run_kept settled.acts old new (replicate count Outcome.Done) settled.settling settled.run
 
-module _ (moves : (act : ActContent) (world after : WorldView) (answer : Outcome) (x : State) → StandsFor world x → Step act world answer after → StandsAfterStep act answer x after)
-    (mode : (act : ActContent) (world after : WorldView) (answer : Outcome) (x y : State) → StandsFor world x → Step act world answer after → StandsFor after y → coming_mode y ≡ mode_after_step (coming_mode x) act answer)
-    (kept : (act : ActContent) (world after : WorldView) (answer : Outcome) (x y : State) → act ≢ ActContent.Break → StandsFor world x → Step act world answer after → StandsFor after y → PictureIsComing x → PictureIsComing y)
-    (law : EachDividesOnce) (count : ℕ) (old new : WorldView) (settled : SettlesIn count old new) (quiet : IsQuietWorld new) (x : State) (stands : StandsFor old x) where
+module _ (moves : (act : ActContent) (world after : WorldView) (answer : Outcome) (x : MachineState) → StandsFor world x → Step act world answer after → StandsAfterStep act answer x after)
+    (mode : (act : ActContent) (world after : WorldView) (answer : Outcome) (x y : MachineState) → StandsFor world x → Step act world answer after → StandsFor after y → coming_mode y ≡ mode_after (coming_mode x) (act_requests answer act))
+    (kept : (act : ActContent) (world after : WorldView) (answer : Outcome) (x y : MachineState) → act ≢ ActContent.Break → StandsFor world x → Step act world answer after → StandsFor after y → PictureIsComing x → PictureIsComing y)
+    (law : EachDividesOnce) (count : ℕ) (old new : WorldView) (settled : SettlesIn count old new) (quiet : IsQuietWorld new) (x : MachineState) (stands : StandsFor old x) where
   promise : KeepsPromise x new
   promise = run_promise moves mode kept settled.acts old new (replicate count Outcome.Done) x settled.settling stands settled.run
 
@@ -354,21 +346,21 @@ fits : (capacity needed : ℕ) → nat_lt capacity needed ≡ false → needed �
 fits capacity needed h = ltb-false capacity needed h
 
 hear_steps : (world after : WorldView) (count : ℕ) → moves_nothing count world.up ≡ false → Becomes (ActContent.ToHost count) world after → steps_left after < steps_left world
-hear_steps world after count some (host, line, (heard, left), same) =
+hear_steps world after count some same =
     let parts = neither (count == 0) (length world.up.bytes == 0) some in
     let counts = positive count parts.0 in
     let bytes = positive (length world.up.bytes) parts.1 in
     let less : length (drop count world.up.bytes) < length world.up.bytes = rw (length-drop count world.up.bytes) (omega (arith, counts, bytes)) in
-    rw (same, left) (omega (arith, less))
+    rw same (omega (arith, less))
 
 module _ (falls : (board : BoardState) (message : Content) → length board.told_squares ≡ 64 → next_message board ≡ Some message → backlog (after_sending board message) < backlog board) where
   send_steps : (world after : WorldView) → length world.board.state.told_squares ≡ 64 → ((message : Content) → next_message world.board.state ≡ Some message → overflows world.up (spelling message) ≡ false) → Becomes ActContent.BoardSend world after → steps_left after < steps_left world
-  send_steps world after squares room (board, line, (message, is_next, spells, sent, left), same) =
+  send_steps world after squares room (message, is_next, spells, same) =
       let less = falls world.board.state message squares is_next in
       let few = fits world.up.capacity (length world.up.bytes + length (spelling message)) (room message is_next) in
       let size = length-append world.up.bytes (spelling message) in
       let weighed = mul-le-mul_left (world.up.capacity + 1) less in
-      rw (same, sent, left) (omega (arith, few, size, weighed))
+      rw same (omega (arith, few, size, weighed))
 
 module _ (short : WordsAreShort) (within : NoWordBeginsAnother) (rises : (board : BoardState) (events : List EventContent) → backlog (effects board events) ≤ backlog board + length events) where
   take_steps : (world after : WorldView) (count : ℕ) → IsPartial world.board.partial → Becomes (ActContent.ToBoard count) world after → steps_left after < steps_left world

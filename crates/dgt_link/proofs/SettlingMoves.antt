@@ -13,9 +13,8 @@ use Rattle.dgt_board.specs.Backlog.{backlog}
 use Rattle.dgt_board.specs.Effect.{effects}
 use Rattle.dgt_board.specs.State.{BoardState, updates}
 use Rattle.dgt_board.specs.Sending.{after_sending, differs, field_of, next_message, pending_messages}
-use Rattle.dgt_link.specs.Machine.{State, after_hear, after_move, after_moves, after_reply, after_take, after_told}
-use Rattle.dgt_link.specs.Move.{IsSending, Move}
-use Rattle.dgt_link.specs.Promise.{IsPromised, IsQuiet, PictureIsComing, coming_mode, mode_after}
+use Rattle.dgt_link.specs.Machine.{MachineState, after_hear, after_move, after_moves, after_reply, after_take, after_told, IsSending, Move}
+use Rattle.dgt_link.specs.Promise.{IsPromised, IsQuiet, PictureIsComing, coming_mode, mode_after, requests}
 use Rattle.dgt_link.specs.Settling.{IsSettlingMove, SettlesBy, moves_left}
 use Rattle.dgt_link.specs.Sound.{IsSound}
 use Rattle.dgt_link.proofs.Promises.{move-mode, picture_keeps_coming}
@@ -41,28 +40,28 @@ sending_settles (Move.Ask command) none = absurd none
 -- ---- a move nearer
 
 -- a move after which fewer are left
-abbrev NearerBy : State → Move → Type 0
+abbrev NearerBy : MachineState → Move → Type 0
 NearerBy x move = IsSettlingMove move × (moves_left (after_move x move) < moves_left x)
 
-hears_nearer : (x : State) (message : Content) (later : List Content) → x.up ≡ message ∷ later → NearerBy x Move.Hear
+hears_nearer : (x : MachineState) (message : Content) (later : List Content) → x.up ≡ message ∷ later → NearerBy x Move.Hear
 hears_nearer x message later e = (tt, rw e (omega arith))
 
 module _ (falls : (board : BoardState) (message : Content) → length board.told_squares ≡ 64 → next_message board ≡ Some message → backlog (after_sending board message) < backlog board)
     (rises : (board : BoardState) (events : List EventContent) → backlog (effects board events) ≤ backlog board + length events) where
-  sends_nearer : (x : State) (message : Content) → IsSound x → next_message x.board ≡ Some message → (move : Move) × NearerBy x move
+  sends_nearer : (x : MachineState) (message : Content) → IsSound x → next_message x.board ≡ Some message → (move : Move) × NearerBy x move
   sends_nearer x message sound e =
       let sent = next_is_sent x message e in
       let less = falls x.board message sound.told_squares e in
       let size = length-append x.up (message ∷ []) in
       (sent.0, (sending_settles sent.0 sent.1, rw sent.2 (omega (arith, less, size))))
 
-  takes_nearer : (x : State) (event : EventContent) (later : List EventContent) → x.down ≡ event ∷ later → NearerBy x Move.Take
+  takes_nearer : (x : MachineState) (event : EventContent) (later : List EventContent) → x.down ≡ event ∷ later → NearerBy x Move.Take
   takes_nearer x event later e =
       let more = rises x.board (event ∷ []) in
       (tt, rw e (omega (arith, more)))
 
   -- a state is quiet, or a move leads nearer
-  nearer : (x : State) → IsSound x → IsQuiet x ⊎ ((move : Move) × NearerBy x move)
+  nearer : (x : MachineState) → IsSound x → IsQuiet x ⊎ ((move : Move) × NearerBy x move)
   nearer x sound = up x.up refl
     where
       down : x.up ≡ [] → next_message x.board ≡ None → (events : List EventContent) → x.down ≡ events → IsQuiet x ⊎ ((move : Move) × NearerBy x move)
@@ -77,10 +76,10 @@ module _ (falls : (board : BoardState) (message : Content) → length board.told
       up [] e = next e (next_message x.board) refl
       up (message ∷ later) e = inr (Move.Hear, hears_nearer x message later e)
 
-  further : (x : State) (move : Move) (moves : List Move) → NearerBy x move → SettlesBy moves (after_move x move) → SettlesBy (move ∷ moves) x
+  further : (x : MachineState) (move : Move) (moves : List Move) → NearerBy x move → SettlesBy moves (after_move x move) → SettlesBy (move ∷ moves) x
   further x move moves (is, less) settles = record { settling = (is, settles.settling); few = (let few = settles.few in omega (arith, less, few)); quiet = settles.quiet }
 
-  reached_within : (most : ℕ) (x : State) → IsSound x → moves_left x ≤ most → (moves : List Move) × SettlesBy moves x
+  reached_within : (most : ℕ) (x : MachineState) → IsSound x → moves_left x ≤ most → (moves : List Move) × SettlesBy moves x
   reached_within zero x sound few = go (nearer x sound)
     where
       go : IsQuiet x ⊎ ((move : Move) × NearerBy x move) → (moves : List Move) × SettlesBy moves x
@@ -88,42 +87,42 @@ module _ (falls : (board : BoardState) (message : Content) → length board.told
       go (inr (move, (is, less))) = absurd (omega (arith, less, few))
   reached_within (suc most) x sound few = go (reached_within most) (nearer x sound)
     where
-      go : ((y : State) → IsSound y → moves_left y ≤ most → (moves : List Move) × SettlesBy moves y) → IsQuiet x ⊎ ((move : Move) × NearerBy x move) → (moves : List Move) × SettlesBy moves x
+      go : ((y : MachineState) → IsSound y → moves_left y ≤ most → (moves : List Move) × SettlesBy moves y) → IsQuiet x ⊎ ((move : Move) × NearerBy x move) → (moves : List Move) × SettlesBy moves x
       go rest (inl quiet) = ([], record { settling = tt; few = omega arith; quiet = quiet })
       go rest (inr (move, (is, less))) =
           let later = rest (after_move x move) (move_sound x move sound) (omega (arith, less, few)) in
           (move ∷ later.0, further x move later.0 (is, less) later.1)
 
-  pub quiet_is_reached : (x : State) → IsSound x → (moves : List Move) × SettlesBy moves x
+  pub quiet_is_reached : (x : MachineState) → IsSound x → (moves : List Move) × SettlesBy moves x
   quiet_is_reached x sound = reached_within (moves_left x) x sound (omega arith)
 
 -- ---- what such moves keep
 
 -- the squares, the clock and the mode to come
-pub record KeepsAll (x y : State) : Type 0 where
+pub record KeepsAll (x y : MachineState) : Type 0 where
   pub squares : y.board.squares ≡ x.board.squares
   pub clock : y.board.clock ≡ x.board.clock
 
-same_all : (x : State) → KeepsAll x x
+same_all : (x : MachineState) → KeepsAll x x
 same_all x = record { squares = refl; clock = refl }
 
-take_keeps_all : (x : State) (events : List EventContent) → KeepsAll x (after_take x events)
+take_keeps_all : (x : MachineState) (events : List EventContent) → KeepsAll x (after_take x events)
 take_keeps_all x [] = same_all x
 take_keeps_all x (event ∷ later) = let kept = effect_leaves x.board event in record { squares = kept.squares; clock = kept.clock }
 
-reply_keeps_all : (x : State) (replies : List Reply) → KeepsAll x (after_reply x replies)
+reply_keeps_all : (x : MachineState) (replies : List Reply) → KeepsAll x (after_reply x replies)
 reply_keeps_all x [] = same_all x
 reply_keeps_all x (reply ∷ later) = record { squares = refl; clock = refl }
 
-hear_keeps_all : (x : State) (messages : List Content) → KeepsAll x (after_hear x messages)
+hear_keeps_all : (x : MachineState) (messages : List Content) → KeepsAll x (after_hear x messages)
 hear_keeps_all x [] = same_all x
 hear_keeps_all x (message ∷ later) = record { squares = refl; clock = refl }
 
-told_keeps_all : (x : State) (asks : Bool) (message : Content) → KeepsAll x (cond asks (after_told x message) x)
+told_keeps_all : (x : MachineState) (asks : Bool) (message : Content) → KeepsAll x (cond asks (after_told x message) x)
 told_keeps_all x true message = record { squares = refl; clock = refl }
 told_keeps_all x false message = same_all x
 
-move_keeps_all : (x : State) (move : Move) → IsSettlingMove move → KeepsAll x (after_move x move)
+move_keeps_all : (x : MachineState) (move : Move) → IsSettlingMove move → KeepsAll x (after_move x move)
 move_keeps_all x Move.Take is = take_keeps_all x x.down
 move_keeps_all x Move.Reply is = reply_keeps_all x x.board.owed
 move_keeps_all x (Move.Tell square) is = told_keeps_all x (updates x.board.mode && differs x.board square) (field_of x.board square)
@@ -135,7 +134,7 @@ move_keeps_all x (Move.Change square piece) none = absurd none
 move_keeps_all x (Move.HandClock clock) none = absurd none
 move_keeps_all x (Move.Ask command) none = absurd none
 
-settling_keeps_mode : (before : Mode) (move : Move) → IsSettlingMove move → mode_after before move ≡ before
+settling_keeps_mode : (before : Mode) (move : Move) → IsSettlingMove move → mode_after before (requests move) ≡ before
 settling_keeps_mode before Move.Take is = refl
 settling_keeps_mode before Move.Reply is = refl
 settling_keeps_mode before (Move.Tell square) is = refl
@@ -159,23 +158,23 @@ settling_breaks_nothing (Move.Change square piece) none e = none
 settling_breaks_nothing (Move.HandClock clock) none e = none
 settling_breaks_nothing (Move.Ask command) none e = none
 
-pub settling_squares : (x : State) (moves : List Move) → AllByRecursion IsSettlingMove moves → (after_moves x moves).board.squares ≡ x.board.squares
+pub settling_squares : (x : MachineState) (moves : List Move) → AllByRecursion IsSettlingMove moves → (after_moves x moves).board.squares ≡ x.board.squares
 settling_squares x [] all = refl
 settling_squares x (move ∷ moves) all = settling_squares (after_move x move) moves all.1 ∙ (move_keeps_all x move all.0).squares
 
-pub settling_clock : (x : State) (moves : List Move) → AllByRecursion IsSettlingMove moves → (after_moves x moves).board.clock ≡ x.board.clock
+pub settling_clock : (x : MachineState) (moves : List Move) → AllByRecursion IsSettlingMove moves → (after_moves x moves).board.clock ≡ x.board.clock
 settling_clock x [] all = refl
 settling_clock x (move ∷ moves) all = settling_clock (after_move x move) moves all.1 ∙ (move_keeps_all x move all.0).clock
 
-pub settling_mode : (x : State) (moves : List Move) → AllByRecursion IsSettlingMove moves → coming_mode (after_moves x moves) ≡ coming_mode x
+pub settling_mode : (x : MachineState) (moves : List Move) → AllByRecursion IsSettlingMove moves → coming_mode (after_moves x moves) ≡ coming_mode x
 settling_mode x [] all = refl
 settling_mode x (move ∷ moves) all = settling_mode (after_move x move) moves all.1 ∙ move-mode x move ∙ settling_keeps_mode (coming_mode x) move all.0
 
-settling_comes : (x : State) (moves : List Move) → AllByRecursion IsSettlingMove moves → PictureIsComing x → PictureIsComing (after_moves x moves)
+settling_comes : (x : MachineState) (moves : List Move) → AllByRecursion IsSettlingMove moves → PictureIsComing x → PictureIsComing (after_moves x moves)
 settling_comes x [] all comes = comes
 settling_comes x (move ∷ moves) all comes = settling_comes (after_move x move) moves all.1 (picture_keeps_coming x move (settling_breaks_nothing move all.0) comes)
 
-pub settling_picture : (x : State) (moves : List Move) → IsSound x → IsPromised x → AllByRecursion IsSettlingMove moves → IsQuiet (after_moves x moves)
+pub settling_picture : (x : MachineState) (moves : List Move) → IsSound x → IsPromised x → AllByRecursion IsSettlingMove moves → IsQuiet (after_moves x moves)
     → (after_moves x moves).picture ≡ Some x.board.squares
 settling_picture x moves sound promised all quiet =
     let promised' : IsPromised (after_moves x moves)

@@ -18,27 +18,26 @@ use Rattle.dgt_board.specs.State.{updates}
 use Rattle.dgt_board.specs.Effect.{effect}
 use Rattle.dgt_board.specs.Sending.{differs, field_of, reply_message}
 use Rattle.dgt_host.specs.Hearing.{awaited_after}
-use Rattle.dgt_link.specs.Move.{IsHostBreak, Move}
-use Rattle.dgt_link.specs.Machine.{State, new_state, after_move, after_told, after_take, after_reply, after_hear}
+use Rattle.dgt_link.specs.Machine.{IsHostBreak, Move, MachineState, new_state, after_move, after_told, after_take, after_reply, after_hear}
 use Rattle.dgt_link.specs.Sound.{IsSound, IsExact, coming_kinds, kind_of_event, kind_of_reply}
 use Rattle.dgt_link.proofs.Subsequences.{subsequence_at_end, subsequence_append, awaited_after-subsequence, awaited_exactly, one_more, moved_over}
 use Rattle.dgt_link.proofs.Telling.{Tells, field_tells, clock_tells, reply_tells, reply_message-kind, clock_message-kind, picture_told, clock_told_of, clock_after_all-append, followed_after, handed_or_told}
-use Rattle.dgt_command.specs.Words.{IsNoise, IsNoiseList}
-use Rattle.dgt_link.proofs.Taking.{Leaves, effect-kinds, effect_followed, effect_leaves}
+use Rattle.dgt_command.specs.Words.{IsNoiseList}
+use Rattle.dgt_link.proofs.Taking.{Leaves, effect-kinds, effect_followed, effect_leaves, nothing_of_noise}
 
 -- the state with other replies owed
-abbrev owing : State → List Reply → State
+abbrev owing : MachineState → List Reply → MachineState
 owing x owed = record x { board = record x.board { owed = owed } }
 
 -- ---- a message is sent, whose kind was the first owed
 
-send-kinds : (x : State) (owed : List Reply) (message : Content) → filter_map kind_of_reply x.board.owed ≡ cons_option (kind_of message) (filter_map kind_of_reply owed) → coming_kinds (after_told (owing x owed) message) ≡ coming_kinds x
+send-kinds : (x : MachineState) (owed : List Reply) (message : Content) → filter_map kind_of_reply x.board.owed ≡ cons_option (kind_of message) (filter_map kind_of_reply owed) → coming_kinds (after_told (owing x owed) message) ≡ coming_kinds x
 send-kinds x owed message first =
     ap (λ (up : List Kind). up ++ (filter_map kind_of_reply owed ++ filter_map kind_of_event x.down)) (filter_map-append kind_of x.up (message ∷ []))
     ∙ moved_over (filter_map kind_of x.up) (kind_of message) (filter_map kind_of_reply owed) (filter_map kind_of_event x.down)
     ∙ ap (λ (owed : List Kind). filter_map kind_of x.up ++ (owed ++ filter_map kind_of_event x.down)) (sym first)
 
-send_sound : (x : State) (owed : List Reply) (message : Content) → Tells (record x.board { owed = owed }) message → filter_map kind_of_reply x.board.owed ≡ cons_option (kind_of message) (filter_map kind_of_reply owed) → IsSound x → IsSound (after_told (owing x owed) message)
+send_sound : (x : MachineState) (owed : List Reply) (message : Content) → Tells (record x.board { owed = owed }) message → filter_map kind_of_reply x.board.owed ≡ cons_option (kind_of message) (filter_map kind_of_reply owed) → IsSound x → IsSound (after_told (owing x owed) message)
 send_sound x owed message tells first sound =
     record {
       squares = sound.squares;
@@ -49,7 +48,7 @@ send_sound x owed message tells first sound =
       awaited = rw (send-kinds x owed message first) sound.awaited;
     }
 
-send_exact : (x : State) (owed : List Reply) (message : Content) → Tells (record x.board { owed = owed }) message → filter_map kind_of_reply x.board.owed ≡ cons_option (kind_of message) (filter_map kind_of_reply owed) → IsExact x → IsExact (after_told (owing x owed) message)
+send_exact : (x : MachineState) (owed : List Reply) (message : Content) → Tells (record x.board { owed = owed }) message → filter_map kind_of_reply x.board.owed ≡ cons_option (kind_of message) (filter_map kind_of_reply owed) → IsExact x → IsExact (after_told (owing x owed) message)
 send_exact x owed message tells first exact =
     record {
       sound = send_sound x owed message tells first exact.sound;
@@ -59,32 +58,32 @@ send_exact x owed message tells first exact =
 
 -- ---- the moves, one by one
 
-reply_sound : (x : State) (owed : List Reply) → x.board.owed ≡ owed → IsSound x → IsSound (after_reply x owed)
+reply_sound : (x : MachineState) (owed : List Reply) → x.board.owed ≡ owed → IsSound x → IsSound (after_reply x owed)
 reply_sound x [] e sound = sound
 reply_sound x (first ∷ rest) e sound =
     send_sound x rest (reply_message x.board first) (reply_tells (record x.board { owed = rest }) first)
     (rw e (rw (reply_message-kind x.board first))) sound
 
-reply_exact : (x : State) (owed : List Reply) → x.board.owed ≡ owed → IsExact x → IsExact (after_reply x owed)
+reply_exact : (x : MachineState) (owed : List Reply) → x.board.owed ≡ owed → IsExact x → IsExact (after_reply x owed)
 reply_exact x [] e exact = exact
 reply_exact x (first ∷ rest) e exact =
     send_exact x rest (reply_message x.board first) (reply_tells (record x.board { owed = rest }) first)
     (rw e (rw (reply_message-kind x.board first))) exact
 
-tell_clock_first : (x : State) → filter_map kind_of_reply x.board.owed ≡ cons_option (kind_of (clock_message x.board.clock)) (filter_map kind_of_reply x.board.owed)
+tell_clock_first : (x : MachineState) → filter_map kind_of_reply x.board.owed ≡ cons_option (kind_of (clock_message x.board.clock)) (filter_map kind_of_reply x.board.owed)
 tell_clock_first x = rw (clock_message-kind x.board.clock)
 
 -- what is asked for, or taken, keeps the kinds that come
-ask-kinds : (x : State) (command : CommandContent) → coming_kinds (after_move x (Move.Ask command)) ≡ coming_kinds x ++ option_to_list (kind_of_command command)
+ask-kinds : (x : MachineState) (command : CommandContent) → coming_kinds (after_move x (Move.Ask command)) ≡ coming_kinds x ++ option_to_list (kind_of_command command)
 ask-kinds x command =
     ap (λ (down : List Kind). filter_map kind_of x.up ++ (filter_map kind_of_reply x.board.owed ++ down))
     (filter_map-append kind_of_event x.down (EventContent.Read command ∷ []) ∙ ap (λ (new : List Kind). filter_map kind_of_event x.down ++ new) (one_more (kind_of_command command)))
     ∙ sym (append_assoc (filter_map kind_of x.up) _ _ ∙ ap (λ (rest : List Kind). filter_map kind_of x.up ++ rest) (append_assoc (filter_map kind_of_reply x.board.owed) _ _))
 
-take-kinds : (x : State) (event : EventContent) (rest : List EventContent) → x.down ≡ event ∷ rest → coming_kinds (after_take x (event ∷ rest)) ≡ coming_kinds x
+take-kinds : (x : MachineState) (event : EventContent) (rest : List EventContent) → x.down ≡ event ∷ rest → coming_kinds (after_take x (event ∷ rest)) ≡ coming_kinds x
 take-kinds x event rest e = rw e (ap (λ (kinds : List Kind). filter_map kind_of x.up ++ kinds) (effect-kinds x.board event rest))
 
-take_sound : (x : State) (down : List EventContent) → x.down ≡ down → IsSound x → IsSound (after_take x down)
+take_sound : (x : MachineState) (down : List EventContent) → x.down ≡ down → IsSound x → IsSound (after_take x down)
 take_sound x [] e sound = sound
 take_sound x (event ∷ rest) e sound =
     record {
@@ -99,7 +98,7 @@ take_sound x (event ∷ rest) e sound =
     leaves : Leaves x.board (effect x.board event)
     leaves = effect_leaves x.board event
 
-take_exact : (x : State) (down : List EventContent) → x.down ≡ down → IsExact x → IsExact (after_take x down)
+take_exact : (x : MachineState) (down : List EventContent) → x.down ≡ down → IsExact x → IsExact (after_take x down)
 take_exact x [] e exact = exact
 take_exact x (event ∷ rest) e exact =
     record {
@@ -113,10 +112,10 @@ kinds_after_first None up rest = refl
 kinds_after_first (Some kind) up rest = refl
 
 -- the kinds that come, where a message is the first under way
-hear-kinds : (x : State) (message : Content) (rest : List Content) → x.up ≡ message ∷ rest → coming_kinds x ≡ cons_option (kind_of message) (coming_kinds (after_hear x (message ∷ rest)))
+hear-kinds : (x : MachineState) (message : Content) (rest : List Content) → x.up ≡ message ∷ rest → coming_kinds x ≡ cons_option (kind_of message) (coming_kinds (after_hear x (message ∷ rest)))
 hear-kinds x message rest e = rw e (kinds_after_first (kind_of message) (filter_map kind_of rest) _)
 
-hear_sound : (x : State) (up : List Content) → x.up ≡ up → IsSound x → IsSound (after_hear x up)
+hear_sound : (x : MachineState) (up : List Content) → x.up ≡ up → IsSound x → IsSound (after_hear x up)
 hear_sound x [] e sound = sound
 hear_sound x (message ∷ rest) e sound =
     record {
@@ -128,7 +127,7 @@ hear_sound x (message ∷ rest) e sound =
       awaited = awaited_after-subsequence x.awaited (kind_of message) _ (rw (hear-kinds x message rest e) at sound.awaited);
     }
 
-hear_exact : (x : State) (up : List Content) → x.up ≡ up → IsExact x → IsExact (after_hear x up)
+hear_exact : (x : MachineState) (up : List Content) → x.up ≡ up → IsExact x → IsExact (after_hear x up)
 hear_exact x [] e exact = exact
 hear_exact x (message ∷ rest) e exact =
     record {
@@ -144,28 +143,18 @@ new_sound position clock identity h =
 pub new_exact : (position : List Piece) (clock : ClockState) (identity : IdentityContent) → length position ≡ 64 → IsExact (new_state position clock identity)
 new_exact position clock identity h = record { sound = new_sound position clock identity h; clock = refl; awaited = refl }
 
-noise-kind : (event : EventContent) → IsNoise event → kind_of_event event ≡ None
-noise-kind (EventContent.Read (CommandContent.ClockMessage message)) h = refl
-noise-kind (EventContent.Read (CommandContent.Leds leds)) h = refl
-noise-kind (EventContent.Read _) h = absurd h
-noise-kind EventContent.BadSize h = refl
-noise-kind EventContent.BadStart h = refl
-noise-kind EventContent.BadEnd h = refl
-noise-kind (EventContent.Stray byte) h = refl
-
 noise-kinds : (noise : List EventContent) → IsNoiseList noise → filter_map kind_of_event noise ≡ []
-noise-kinds [] h = refl
-noise-kinds (event ∷ rest) h = ap (λ (kind : Option Kind). cons_option kind (filter_map kind_of_event rest)) (noise-kind event h.0) ∙ noise-kinds rest h.1
+noise-kinds noise is_noise = nothing_of_noise kind_of_event (λ message. refl) (λ leds. refl) (refl, refl, refl) (λ byte. refl) noise is_noise
 
 -- of what a host asks for that begins anew, a dump alone has a kind
-host_break-kinds : (x : State) (noise : List EventContent) (is_noise : IsNoiseList noise) → coming_kinds (after_move x (Move.HostBreak noise is_noise)) ≡ filter_map kind_of_reply x.board.owed ++ Kind.Dump ∷ []
+host_break-kinds : (x : MachineState) (noise : List EventContent) (is_noise : IsNoiseList noise) → coming_kinds (after_move x (Move.HostBreak noise is_noise)) ≡ filter_map kind_of_reply x.board.owed ++ Kind.Dump ∷ []
 host_break-kinds x noise is_noise =
     ap (λ (down : List Kind). filter_map kind_of_reply x.board.owed ++ down)
     (filter_map-append kind_of_event noise _ ∙ ap (λ (kinds : List Kind). kinds ++ Kind.Dump ∷ []) (noise-kinds noise is_noise))
 
 -- ---- every move
 
-pub move_sound : (x : State) (move : Move) → IsSound x → IsSound (after_move x move)
+pub move_sound : (x : MachineState) (move : Move) → IsSound x → IsSound (after_move x move)
 move_sound x (Move.Change square piece) sound =
     record {
       squares = length-set x.board.squares square piece ∙ sound.squares;
@@ -214,10 +203,10 @@ move_sound x (Move.HostBreak noise is_noise) sound =
     }
 
 -- both ends are as new, but for the squares, the clock and the identity
-pub break_exact : (x : State) → IsSound x → IsExact (after_move x Move.Break)
+pub break_exact : (x : MachineState) → IsSound x → IsExact (after_move x Move.Break)
 break_exact x sound = new_exact x.board.squares x.board.clock x.board.identity sound.squares
 
-pub move_exact : (x : State) (move : Move) → ¬ (IsHostBreak move) → IsExact x → IsExact (after_move x move)
+pub move_exact : (x : MachineState) (move : Move) → ¬ (IsHostBreak move) → IsExact x → IsExact (after_move x move)
 move_exact x (Move.Change square piece) other exact = record { sound = move_sound x (Move.Change square piece) exact.sound; clock = exact.clock; awaited = exact.awaited }
 move_exact x (Move.HandClock clock) other exact = record { sound = move_sound x (Move.HandClock clock) exact.sound; clock = exact.clock; awaited = exact.awaited }
 move_exact x (Move.Ask command) other exact =

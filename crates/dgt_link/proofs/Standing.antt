@@ -3,7 +3,7 @@ use Rattle.std.proofs.Common.{◌≡◌, ◌≢◌, refl, sym, ap, ◌∙◌, �
 use Rattle.std.proofs.lemmas.List.{append-nil, take-append-drop}
 use Rattle.std.proofs.lemmas.Grind.{flat_map-append}
 use Rattle.std.specs.List.{AllByRecursion, flat_map}
-use Rattle.std.specs.Prelude.{Contains}
+use Rattle.std.specs.Prelude.{Contains, map}
 use Rattle.dgt_values.specs.declared.pieces.Piece.{Piece}
 use Rattle.dgt_values.specs.declared.kinds.Kind.{Kind}
 use Rattle.dgt_message.specs.Content.{Content, IsMessage}
@@ -12,7 +12,6 @@ use Rattle.dgt_message.specs.Spelling.{Spells, spelling}
 use Rattle.dgt_command.specs.Content.{CommandContent, EventContent}
 use Rattle.dgt_command.specs.Words.{spelling as command_spelling}
 use Rattle.dgt_command.specs.Laws.{DivisionsAppend, NoWordBeginsAnother, ZerosSettleTheReader}
-use Rattle.dgt_command.proofs.DivisionLemmas.{nothing_is_partial}
 use Rattle.dgt_command.specs.Kind.{kind_of_command}
 use Rattle.dgt_board.specs.Identity.{IdentityContent}
 use Rattle.dgt_board.specs.State.{BoardState, after_change, after_hand_clock, after_line_lost}
@@ -22,15 +21,14 @@ use Rattle.dgt_host.specs.Host.{HostView, host_after_message}
 use Rattle.dgt_host.specs.Sending.{follow_bytes}
 use Rattle.dgt_link.specs.Act.{ActContent}
 use Rattle.dgt_link.specs.declared.acts.Outcome.{Outcome}
-use Rattle.dgt_link.specs.Move.{Move}
-use Rattle.dgt_link.specs.Machine.{State, asked_anew, after_hear, after_move, after_moves, after_take, new_state}
+use Rattle.dgt_link.specs.Machine.{Move, MachineState, commands_anew, after_hear, after_move, after_moves, after_take, new_state}
 use Rattle.dgt_link.specs.Sound.{IsSound}
-use Rattle.dgt_link.specs.Stands.{AreSpelled, IsExactWorld, IsWorld, StandsFor}
+use Rattle.dgt_link.specs.Stands.{AreSpelled, IsExactWorld, IsWorld, StandsFor, StandsAfterRun, StandsAfterStep}
 use Rattle.dgt_link.specs.Step.{Becomes, Runs, Step, with_state}
 use Rattle.dgt_link.specs.View.{WorldView, new_world}
-use Rattle.dgt_link.specs.ActMoves.{AreMovesOfAct, StandsAfterRun, StandsAfterStep}
 use Rattle.dgt_link.proofs.Asking.{break_moves, run_is_other, step_is_other}
-use Rattle.dgt_link.proofs.Dividing.{anew_divides, divides_command, divides_end, divides_front}
+use Rattle.dgt_link.proofs.Dividing.{anew_divides, divides_command, divides_end, divides_front, nothing_is_partial}
+use Rattle.dgt_link.proofs.Lists.{all_append}
 use Rattle.dgt_link.proofs.Hearing.{Reads, heard_front, host_after_messages}
 use Rattle.dgt_link.proofs.Runs.{moves_exact, moves_sound}
 use Rattle.dgt_link.proofs.Sending.{next_is_sent}
@@ -43,38 +41,38 @@ pub record Grammars : Type 0 where
   pub no_word_begins_another : NoWordBeginsAnother
   pub zeros_settle : ZerosSettleTheReader
 
-pub moves-append : (x : State) (moves more : List Move) → after_moves x (moves ++ more) ≡ after_moves (after_moves x moves) more
+pub moves-append : (x : MachineState) (moves more : List Move) → after_moves x (moves ++ more) ≡ after_moves (after_moves x moves) more
 moves-append x [] more = refl
 moves-append x (move ∷ moves) more = moves-append (after_move x move) moves more
 
 -- ---- the machine takes what the board took, and hears what the host heard
 
-abbrev taken_state : State → List EventContent → List EventContent → State
+abbrev taken_state : MachineState → List EventContent → List EventContent → MachineState
 taken_state x events left = record x { board = effects x.board events; down = left }
 
-takes : (events left : List EventContent) (x : State) → x.down ≡ events ++ left → after_moves x (replicate (length events) Move.Take) ≡ taken_state x events left
+takes : (events left : List EventContent) (x : MachineState) → x.down ≡ events ++ left → after_moves x (replicate (length events) Move.Take) ≡ taken_state x events left
 takes [] left x e = ap (λ (down : List EventContent). record x { down = down }) e
 takes (event ∷ events) left x e =
     let first : after_move x Move.Take ≡ record x { board = effect x.board event; down = events ++ left } = ap (after_take x) e in
-    ap (λ (y : State). after_moves y (replicate (length events) Move.Take)) first
+    ap (λ (y : MachineState). after_moves y (replicate (length events) Move.Take)) first
     ∙ takes events left (record x { board = effect x.board event; down = events ++ left }) refl
 
 -- the host's part of a state
-abbrev with_host : State → HostView → List Content → State
+abbrev with_host : MachineState → HostView → List Content → MachineState
 with_host x host left =
     record x { picture = host.picture; host_clock = host.clock; awaited = host.awaited; up = left }
 
-record IsHostOf (host : HostView) (x : State) : Type 0 where
+record IsHostOf (host : HostView) (x : MachineState) : Type 0 where
   pub picture : host.picture ≡ x.picture
   pub clock : host.clock ≡ x.host_clock
   pub awaited : host.awaited ≡ x.awaited
 
-hears : (messages left : List Content) (x : State) (host : HostView) → x.up ≡ messages ++ left → IsHostOf host x → after_moves x (replicate (length messages) Move.Hear) ≡ with_host x (host_after_messages host messages) left
+hears : (messages left : List Content) (x : MachineState) (host : HostView) → x.up ≡ messages ++ left → IsHostOf host x → after_moves x (replicate (length messages) Move.Hear) ≡ with_host x (host_after_messages host messages) left
 hears [] left x host e of = rw (← e, of.picture, of.clock, of.awaited) refl
 hears (message ∷ messages) left x host e of =
     let after = host_after_message host message in
     let first : after_move x Move.Hear ≡ with_host x after (messages ++ left) = ap (after_hear x) e ∙ rw (of.picture, of.clock, of.awaited) refl in
-    ap (λ (y : State). after_moves y (replicate (length messages) Move.Hear)) first
+    ap (λ (y : MachineState). after_moves y (replicate (length messages) Move.Hear)) first
     ∙ hears messages left (with_host x after (messages ++ left)) after refl (record { picture = refl; clock = refl; awaited = refl })
 
 -- a front of a line, and what is left of it
@@ -116,26 +114,17 @@ new_is_exact position clock identity up down squares =
 
 -- ---- an act that is done
 
--- one more message behind messages in a row
-AllByRecursion-push : (messages : List Content) (message : Content) → AllByRecursion IsMessage messages → IsMessage message → AllByRecursion IsMessage (messages ++ message ∷ [])
-AllByRecursion-push [] message all is = (is, tt)
-AllByRecursion-push (first ∷ messages) message all is = (all.0, AllByRecursion-push messages message all.1 is)
-
 spelled_more : (bytes : List ℕ) (messages : List Content) (message : Content) → Spells message (spelling message) → AreSpelled messages bytes → AreSpelled (messages ++ message ∷ []) (bytes ++ spelling message)
 spelled_more bytes messages message spells spelled =
     record {
-      are_messages = AllByRecursion-push messages message spelled.are_messages spells.is_message;
+      are_messages = all_append IsMessage messages (message ∷ []) spelled.are_messages (spells.is_message, tt);
       in_a_row =
           ap (λ (front : List ℕ). front ++ spelling message) spelled.in_a_row
           ∙ sym (flat_map-append spelling messages (message ∷ []) ∙ ap (λ (last : List ℕ). flat_map spelling messages ++ last) (append-nil (spelling message)));
     }
 
--- the world after the act stands for a state that is reached by it
-abbrev Reaches : ActContent → WorldView → State → Type 0
-Reaches act after x = (moves : List Move) × AreMovesOfAct act moves × StandsFor after (after_moves x moves)
-
 -- only the board is another
-board_stands : (world : WorldView) (x : State) (state board : BoardState) → StandsFor world x → IsSound (record x { board = board }) → state ≡ board → StandsFor (with_state world state) (record x { board = board })
+board_stands : (world : WorldView) (x : MachineState) (state board : BoardState) → StandsFor world x → IsSound (record x { board = board }) → state ≡ board → StandsFor (with_state world state) (record x { board = board })
 board_stands world x state board stands sound same =
     record {
       sound = sound;
@@ -148,7 +137,7 @@ board_stands world x state board stands sound same =
       partial = stands.partial;
     }
 
-change_reaches : (world : WorldView) (square : ℕ) (piece : Piece) (after : WorldView) (x : State) → StandsFor world x → Becomes (ActContent.Change square piece) world after → Reaches (ActContent.Change square piece) after x
+change_reaches : (world : WorldView) (square : ℕ) (piece : Piece) (after : WorldView) (x : MachineState) → StandsFor world x → Becomes (ActContent.Change square piece) world after → StandsAfterStep (ActContent.Change square piece) Outcome.Done x after
 change_reaches world square piece after x stands same = (
   Move.Change square piece ∷ [],
   refl,
@@ -157,7 +146,7 @@ change_reaches world square piece after x stands same = (
       (ap (λ (board : BoardState). after_change board square piece) stands.board)),
 )
 
-clock_reaches : (world : WorldView) (clock : ClockState) (after : WorldView) (x : State) → StandsFor world x → Becomes (ActContent.ClockRead clock) world after → Reaches (ActContent.ClockRead clock) after x
+clock_reaches : (world : WorldView) (clock : ClockState) (after : WorldView) (x : MachineState) → StandsFor world x → Becomes (ActContent.ClockRead clock) world after → StandsAfterStep (ActContent.ClockRead clock) Outcome.Done x after
 clock_reaches world clock after x stands same = (
   Move.HandClock clock ∷ [],
   refl,
@@ -167,11 +156,11 @@ clock_reaches world clock after x stands same = (
 )
 
 module _ (laws : Grammars) where
-  ask_reaches : (world : WorldView) (command : CommandContent) (after : WorldView) (x : State) → StandsFor world x → Becomes (ActContent.Host command) world after → Reaches (ActContent.Host command) after x
-  ask_reaches world command after x stands (host, line, (spells, is, left), same) = (
+  ask_reaches : (world : WorldView) (command : CommandContent) (after : WorldView) (x : MachineState) → StandsFor world x → Becomes (ActContent.Host command) world after → StandsAfterStep (ActContent.Host command) Outcome.Done x after
+  ask_reaches world command after x stands (spells, same) = (
     Move.Ask command ∷ [],
     refl,
-    rw (same, is, left)
+    rw same
         (record {
           sound = move_sound x (Move.Ask command) stands.sound;
           board = stands.board;
@@ -185,12 +174,12 @@ module _ (laws : Grammars) where
         }),
   )
 
-  send_reaches : (world after : WorldView) (x : State) → StandsFor world x → Becomes ActContent.BoardSend world after → Reaches ActContent.BoardSend after x
-  send_reaches world after x stands (sent, line, (message, is_next, spells, is, left), same) =
+  send_reaches : (world after : WorldView) (x : MachineState) → StandsFor world x → Becomes ActContent.BoardSend world after → StandsAfterStep ActContent.BoardSend Outcome.Done x after
+  send_reaches world after x stands (message, is_next, spells, same) =
       let by = next_is_sent x message (ap next_message (sym stands.board) ∙ is_next) in (
         by.0 ∷ [],
         (by.0, by.1, refl),
-        rw (same, is, left, by.2)
+        rw (same, by.2)
             (record {
               sound = rw by.2 at (move_sound x by.0 stands.sound);
               board = ap (λ (board : BoardState). after_sending board message) stands.board;
@@ -204,7 +193,7 @@ module _ (laws : Grammars) where
             }),
       )
 
-  take_reaches : (world : WorldView) (count : ℕ) (after : WorldView) (x : State) → StandsFor world x → Becomes (ActContent.ToBoard count) world after → Reaches (ActContent.ToBoard count) after x
+  take_reaches : (world : WorldView) (count : ℕ) (after : WorldView) (x : MachineState) → StandsFor world x → Becomes (ActContent.ToBoard count) world after → StandsAfterStep (ActContent.ToBoard count) Outcome.Done x after
   take_reaches world count after x stands (board, line, delivers, same) =
       let taken = delivers.taken in
       let front = divides_front laws.no_word_begins_another (world.board.partial ++ take delivers.moved world.down.bytes) (drop delivers.moved world.down.bytes) taken.events x.down board.partial [] taken.divided
@@ -226,8 +215,8 @@ module _ (laws : Grammars) where
             }),
       )
 
-  hear_reaches : (world : WorldView) (count : ℕ) (after : WorldView) (x : State) → StandsFor world x → Becomes (ActContent.ToHost count) world after → Reaches (ActContent.ToHost count) after x
-  hear_reaches world count after x stands (heard, line, (is, left), same) =
+  hear_reaches : (world : WorldView) (count : ℕ) (after : WorldView) (x : MachineState) → StandsFor world x → Becomes (ActContent.ToHost count) world after → StandsAfterStep (ActContent.ToHost count) Outcome.Done x after
+  hear_reaches world count after x stands same =
       let bytes = world.host.unread ++ take count world.up.bytes in
       let front = heard_front laws.reads bytes (drop count world.up.bytes) x.up (rw (front_of world.host.unread world.up.bytes count) at stands.up) in
       let moves : List Move = replicate (length front.heard) Move.Hear in
@@ -235,7 +224,7 @@ module _ (laws : Grammars) where
       hears front.heard front.left x world.host front.all (record { picture = stands.picture; clock = stands.clock; awaited = stands.awaited }) in (
         moves,
         (length front.heard, refl),
-        rw (same, is, left, led, front.host world.host)
+        rw (same, led, front.host world.host)
             (record {
               sound = rw led at (moves_sound x moves stands.sound);
               board = stands.board;
@@ -248,7 +237,7 @@ module _ (laws : Grammars) where
             }),
       )
 
-  break_reaches : (world after : WorldView) (x : State) → StandsFor world x → Becomes ActContent.Break world after → Reaches ActContent.Break after x
+  break_reaches : (world after : WorldView) (x : MachineState) → StandsFor world x → Becomes ActContent.Break world after → StandsAfterStep ActContent.Break Outcome.Done x after
   break_reaches world after x stands same = (
     Move.Break ∷ [],
     refl,
@@ -265,7 +254,7 @@ module _ (laws : Grammars) where
         }),
   )
 
-  host_break_reaches : (world after : WorldView) (x : State) → StandsFor world x → Becomes ActContent.HostBreak world after → Reaches ActContent.HostBreak after x
+  host_break_reaches : (world after : WorldView) (x : MachineState) → StandsFor world x → Becomes ActContent.HostBreak world after → StandsAfterStep ActContent.HostBreak Outcome.Done x after
   host_break_reaches world after x stands same =
       let noise = laws.zeros_settle world.board.partial stands.partial in (
         Move.HostBreak noise.0 noise.1 ∷ [],
@@ -279,12 +268,12 @@ module _ (laws : Grammars) where
               awaited = refl;
               up = record { are_messages = tt; in_a_row = refl };
               down = rw (append_assoc world.board.partial (replicate 255 0) follow_bytes) at
-                  (laws.divisions_append (world.board.partial ++ replicate 255 0) follow_bytes noise.0 asked_anew [] [] noise.2 anew_divides);
+                  (laws.divisions_append (world.board.partial ++ replicate 255 0) follow_bytes noise.0 (map EventContent.Read commands_anew) [] [] noise.2 anew_divides);
               partial = stands.partial;
             }),
       )
 
-  done_reaches : (act : ActContent) (world after : WorldView) (x : State) → StandsFor world x → Becomes act world after → Reaches act after x
+  done_reaches : (act : ActContent) (world after : WorldView) (x : MachineState) → StandsFor world x → Becomes act world after → StandsAfterStep act Outcome.Done x after
   done_reaches (ActContent.Change square piece) world after x stands becomes = change_reaches world square piece after x stands becomes
   done_reaches (ActContent.ClockRead clock) world after x stands becomes = clock_reaches world clock after x stands becomes
   done_reaches (ActContent.Host command) world after x stands becomes = ask_reaches world command after x stands becomes
@@ -294,14 +283,14 @@ module _ (laws : Grammars) where
   done_reaches ActContent.Break world after x stands becomes = break_reaches world after x stands becomes
   done_reaches ActContent.HostBreak world after x stands becomes = host_break_reaches world after x stands becomes
 
-  pub step_stands : (act : ActContent) (world : WorldView) (answer : Outcome) (after : WorldView) (x : State) → StandsFor world x → Step act world answer after → StandsAfterStep act answer x after
+  pub step_stands : (act : ActContent) (world : WorldView) (answer : Outcome) (after : WorldView) (x : MachineState) → StandsFor world x → Step act world answer after → StandsAfterStep act answer x after
   step_stands act world Outcome.Done after x stands step = done_reaches act world after x stands step.leaves
   step_stands act world Outcome.Nothing after x stands step = ([], refl, rw step.leaves stands)
   step_stands act world Outcome.NoRoom after x stands step = ([], refl, rw step.leaves stands)
   step_stands act world Outcome.Busy after x stands step = ([], refl, rw step.leaves stands)
   step_stands act world Outcome.TooMany after x stands step = ([], refl, rw step.leaves stands)
 
-  pub run_stands : (acts : List ActContent) (world : WorldView) (answers : List Outcome) (after : WorldView) (x : State) → StandsFor world x → Runs acts world answers after → StandsAfterRun acts answers x after
+  pub run_stands : (acts : List ActContent) (world : WorldView) (answers : List Outcome) (after : WorldView) (x : MachineState) → StandsFor world x → Runs acts world answers after → StandsAfterRun acts answers x after
   run_stands [] world [] after x stands same = ([], refl, rw same stands)
   run_stands (act ∷ acts) world (answer ∷ answers) after x stands (between, step, runs) =
       let first = step_stands act world answer between x stands step in
@@ -322,10 +311,10 @@ same_rooms world after same = record { up = ap (λ (w : WorldView). w.up.capacit
 becomes_rooms : (act : ActContent) (world after : WorldView) → Becomes act world after → HasRooms world after
 becomes_rooms (ActContent.Change square piece) world after same = rw same (record { up = refl; down = refl })
 becomes_rooms (ActContent.ClockRead clock) world after same = rw same (record { up = refl; down = refl })
-becomes_rooms (ActContent.Host command) world after (host, line, (spells, is, left), same) = rw (same, left) (record { up = refl; down = refl })
-becomes_rooms ActContent.BoardSend world after (board, line, (message, is_next, spells, is, left), same) = rw (same, left) (record { up = refl; down = refl })
+becomes_rooms (ActContent.Host command) world after (spells, same) = rw same (record { up = refl; down = refl })
+becomes_rooms ActContent.BoardSend world after (message, is_next, spells, same) = rw same (record { up = refl; down = refl })
 becomes_rooms (ActContent.ToBoard count) world after (board, line, delivers, same) = rw (same, delivers.left_is) (record { up = refl; down = refl })
-becomes_rooms (ActContent.ToHost count) world after (host, line, (is, left), same) = rw (same, left) (record { up = refl; down = refl })
+becomes_rooms (ActContent.ToHost count) world after same = rw same (record { up = refl; down = refl })
 becomes_rooms ActContent.Break world after same = rw same (record { up = refl; down = refl })
 becomes_rooms ActContent.HostBreak world after same = rw same (record { up = refl; down = refl })
 
@@ -338,7 +327,7 @@ step_rooms act world Outcome.TooMany after step = same_rooms world after step.le
 
 -- ---- what is kept
 
-module _ (moves : (act : ActContent) (world after : WorldView) (answer : Outcome) (x : State) → StandsFor world x → Step act world answer after → StandsAfterStep act answer x after) where
+module _ (moves : (act : ActContent) (world after : WorldView) (answer : Outcome) (x : MachineState) → StandsFor world x → Step act world answer after → StandsAfterStep act answer x after) where
   -- what an act leaves of a world is one
   pub step_is_world : (act : ActContent) (world after : WorldView) (answer : Outcome) → IsWorld world → Step act world answer after → IsWorld after
   step_is_world act world after answer is step =
@@ -363,7 +352,7 @@ module _ (moves : (act : ActContent) (world after : WorldView) (answer : Outcome
       let broken : after_moves is.state reached.0 ≡ after_move is.state Move.Break = break_moves is.state answer reached.0 step.answers reached.1 in
       record { state = after_moves is.state reached.0; stands = reached.2; exact = rw broken (break_exact is.state is.stands.sound) }
 
-pub run_keeps_exact : ((acts : List ActContent) (world after : WorldView) (answers : List Outcome) (x : State) → StandsFor world x → Runs acts world answers after → StandsAfterRun acts answers x after) → (acts : List ActContent) (world after : WorldView) (answers : List Outcome) → ¬ (Contains acts ActContent.HostBreak) → IsExactWorld world → Runs acts world answers after → IsExactWorld after
+pub run_keeps_exact : ((acts : List ActContent) (world after : WorldView) (answers : List Outcome) (x : MachineState) → StandsFor world x → Runs acts world answers after → StandsAfterRun acts answers x after) → (acts : List ActContent) (world after : WorldView) (answers : List Outcome) → ¬ (Contains acts ActContent.HostBreak) → IsExactWorld world → Runs acts world answers after → IsExactWorld after
 run_keeps_exact moves acts world after answers none is runs =
     let reached = moves acts world after answers is.state is.stands runs in
     record { state = after_moves is.state reached.0; stands = reached.2; exact = moves_exact is.state reached.0 (run_is_other acts answers reached.0 none reached.1) is.exact }

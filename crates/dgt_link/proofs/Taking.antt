@@ -1,5 +1,5 @@
 -- What a command that the board takes makes of the kinds owed and of the clock that is followed.
-use Rattle.std.proofs.Common.{◌≡◌, refl, ap, ◌∙◌, ◌⊎◌, List, [], ◌∷◌, ◌++◌, Option, Some, None, append_assoc}
+use Rattle.std.proofs.Common.{◌≡◌, refl, ap, ◌∙◌, ◌⊎◌, ℕ, List, [], ◌∷◌, ◌++◌, Option, Some, None, append_assoc}
 use Rattle.std.proofs.lemmas.List.{append-nil}
 use Rattle.std.proofs.lemmas.List.Elements.{filter_map-append}
 use Rattle.std.proofs.lemmas.Bool.{false≢true}
@@ -9,6 +9,7 @@ use Rattle.dgt_values.specs.declared.kinds.Kind.{Kind}
 use Rattle.dgt_message.specs.ClockState.{ClockState}
 use Rattle.dgt_command.specs.Content.{ClockContent, CommandContent, EventContent}
 use Rattle.dgt_command.specs.Kind.{kind_of_command}
+use Rattle.dgt_command.specs.Words.{IsNoise, IsNoiseList}
 use Rattle.dgt_board.specs.Identity.{IdentityContent}
 use Rattle.dgt_board.specs.State.{BoardState, follows_clock}
 use Rattle.dgt_board.specs.Effect.{acknowledgements, after_command, effect, replies_to}
@@ -69,3 +70,28 @@ effect_leaves board EventContent.BadSize = record { squares = refl; clock = refl
 effect_leaves board EventContent.BadStart = record { squares = refl; clock = refl; told_squares = refl; told_clock = refl }
 effect_leaves board EventContent.BadEnd = record { squares = refl; clock = refl; told_squares = refl; told_clock = refl }
 effect_leaves board (EventContent.Stray byte) = record { squares = refl; clock = refl; told_squares = refl; told_clock = refl }
+
+-- ---- noise
+
+-- what nothing is read of in a clock message, in an LED frame and in a fault, nothing is read of in noise
+pub nothing_of_noise : {X : Type 0} (read : EventContent → Option X)
+    → ((message : ClockContent) → read (EventContent.Read (CommandContent.ClockMessage message)) ≡ None)
+    → ((leds : List ℕ) → read (EventContent.Read (CommandContent.Leds leds)) ≡ None)
+    → (read EventContent.BadSize ≡ None) × (read EventContent.BadStart ≡ None) × (read EventContent.BadEnd ≡ None)
+    → ((byte : ℕ) → read (EventContent.Stray byte) ≡ None)
+    → (noise : List EventContent) → IsNoiseList noise → filter_map read noise ≡ []
+nothing_of_noise {X = X} read message leds faults stray noise is_noise = of noise is_noise
+  where
+    one : (event : EventContent) → IsNoise event → read event ≡ None
+    one (EventContent.Read (CommandContent.ClockMessage said)) h = message said
+    one (EventContent.Read (CommandContent.Leds lit)) h = leds lit
+    one (EventContent.Read _) h = absurd h
+    one EventContent.BadSize h = faults.0
+    one EventContent.BadStart h = faults.1
+    one EventContent.BadEnd h = faults.2
+    one (EventContent.Stray byte) h = stray byte
+
+    of : (noise : List EventContent) → IsNoiseList noise → filter_map read noise ≡ []
+    of [] h = refl
+    of (event ∷ rest) h =
+        ap (λ (found : Option X). cons_option found (filter_map read rest)) (one event h.0) ∙ of rest h.1

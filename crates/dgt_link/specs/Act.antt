@@ -4,6 +4,7 @@ use Rattle.dgt_values.specs.declared.pieces.Piece.{Piece}
 use Rattle.dgt_values.specs.Square.{square_number}
 use Rattle.dgt_message.specs.ClockState.{ClockState, clock_seen}
 use Rattle.dgt_command.specs.Content.{CommandContent, command_content}
+use Rattle.dgt_command.specs.Equality.{CommandHasArrays}
 use Rattle.dgt_link.specs.declared.acts.Act.{Act}
 use Rattle.dgt_link.specs.declared.acts.Act.TheVariants as act
 
@@ -26,3 +27,8 @@ act_content (act.ToBoard count) = ToBoard count
 act_content (act.ToHost count) = ToHost count
 act_content act.Break = Break
 act_content act.HostBreak = HostBreak
+
+-- the arrays of its command are as long as their types say
+abbrev pub ActHasArrays : Act → Type 0
+ActHasArrays (act.Host command) = CommandHasArrays command
+ActHasArrays _ = Unit {0}

@@ -1,14 +1,11 @@
+-- cited by public contracts
 pub mod Act
-pub mod Line
 pub mod View
-pub mod Moving
 pub mod Step
-pub mod Move
 pub mod Machine
 pub mod Sound
-pub mod Promise
 pub mod Stands
-pub mod ActMoves
-pub mod Asked
-pub mod Equality
+pub mod Promise
 pub mod Settling
+-- for bodies alone
+pub mod Work

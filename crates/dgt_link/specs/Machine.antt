@@ -1,6 +1,7 @@
--- A board, a host, and the messages and commands under way between them. Bytes and buffers don't
--- come into it.
-use Rattle.std.specs.Prelude.{List, [], ◌∷◌, ◌++◌, Option, None, ◌&&◌, if◌then◌else◌, option_to_list}
+-- A board, a host, the messages and commands under way between them, and what may happen to them.
+-- Bytes and buffers don't come into it.
+use Rattle.std.specs.Prelude.{ℕ, List, [], ◌∷◌, ◌++◌, Option, None, ◌&&◌, if◌then◌else◌}
+use Rattle.std.specs.Prelude.{map, option_to_list}
 use Rattle.dgt_values.specs.declared.pieces.Piece.{Piece}
 use Rattle.dgt_values.specs.declared.kinds.Kind.{Kind}
 use Rattle.dgt_message.specs.Content.{Content}
@@ -8,15 +9,16 @@ use Rattle.dgt_message.specs.ClockState.{ClockState, clock_message}
 use Rattle.dgt_message.specs.Kind.{kind_of}
 use Rattle.dgt_command.specs.Content.{CommandContent, EventContent}
 use Rattle.dgt_command.specs.Kind.{kind_of_command}
-use Rattle.dgt_board.specs.declared.replies.Reply.{Reply}
+use Rattle.dgt_command.specs.Words.{IsNoiseList}
+use Rattle.dgt_board.specs.declared.replies.Reply.{Reply as OwedReply}
 use Rattle.dgt_board.specs.Identity.{IdentityContent}
-use Rattle.dgt_board.specs.State.{BoardState, new_board, after_change, after_hand_clock, after_line_lost, updates}
+use Rattle.dgt_board.specs.State.{BoardState, new_board, after_change, after_hand_clock}
+use Rattle.dgt_board.specs.State.{after_line_lost, updates}
 use Rattle.dgt_board.specs.Effect.{effect}
 use Rattle.dgt_board.specs.Sending.{after_telling, differs, field_of, reply_message}
 use Rattle.dgt_host.specs.Hearing.{awaited_after, clock_after, picture_after}
-use Rattle.dgt_link.specs.Move.{Move}
 
-pub record State : Type 0 where
+pub record MachineState : Type 0 where
   pub board : BoardState
   pub up : List Content  -- sent by the board and not heard yet, the oldest first
   pub down : List EventContent  -- sent to the board and not taken yet, the oldest first
@@ -24,11 +26,45 @@ pub record State : Type 0 where
   pub host_clock : Option ClockState
   pub awaited : List Kind
 
--- a board and a host just made
-abbrev pub new_state : List Piece → ClockState → IdentityContent → State
-new_state position clock identity =
+pub data Move : Type 0 where
+  -- a piece is put on a square of the board, or taken from it
+  Change : (square : ℕ) (piece : Piece) → Move
+  -- the board's clock is handed in
+  HandClock : (clock : ClockState) → Move
+  -- the host sends a command
+  Ask : (command : CommandContent) → Move
+  -- the board takes the oldest command under way
+  Take : Move
+  -- the board sends the oldest reply that it owes
+  Reply : Move
+  -- the board sends one square that differs from what it told
+  Tell : (square : ℕ) → Move
+  -- the board sends its clock
+  TellClock : Move
+  -- the host hears the oldest message under way
+  Hear : Move
+  -- both ends lose the line, and all that is under way on it
+  Break : Move
+  -- The host alone loses the line and what is under way on it, and begins anew. What the board
+  -- finds on the line up to where it is asked anew is noise.
+  HostBreak : (noise : List EventContent) → IsNoiseList noise → Move
+
+abbrev pub IsHostBreak : Move → Type 0
+IsHostBreak (Move.HostBreak noise is_noise) = Unit {0}
+IsHostBreak _ = ⊥
+
+-- a move by which the board sends something
+abbrev pub IsSending : Move → Type 0
+IsSending Move.Reply = Unit {0}
+IsSending (Move.Tell square) = Unit {0}
+IsSending Move.TellClock = Unit {0}
+IsSending _ = ⊥
+
+-- a board, a host just made, and nothing under way
+abbrev pub state_of_board : BoardState → MachineState
+state_of_board board =
     record {
-      board = new_board position clock identity;
+      board = board;
       up = [];
       down = [];
       picture = None;
@@ -36,24 +72,34 @@ new_state position clock identity =
       awaited = [];
     }
 
--- the state after the board tells a message
-abbrev pub after_told : State → Content → State
+-- a board and a host just made
+abbrev pub new_state : List Piece → ClockState → IdentityContent → MachineState
+new_state position clock identity = state_of_board (new_board position clock identity)
+
+-- what a host asks for that begins anew: the updates, and the whole board
+abbrev pub commands_anew : List CommandContent
+commands_anew = CommandContent.UpdateBoard ∷ CommandContent.Dump ∷ []
+
+-- ---- what a move makes of a state: one that can't happen changes nothing
+
+-- the board tells a message
+abbrev pub after_told : MachineState → Content → MachineState
 after_told x message =
     record x { board = after_telling x.board message; up = x.up ++ message ∷ [] }
 
--- the state after the first of these commands is taken
-abbrev pub after_take : State → List EventContent → State
+-- the first of these commands is taken
+abbrev pub after_take : MachineState → List EventContent → MachineState
 after_take x [] = x
 after_take x (event ∷ later) = record x { board = effect x.board event; down = later }
 
--- the state after the first of these replies is sent
-abbrev pub after_reply : State → List Reply → State
+-- the first of these replies is sent
+abbrev pub after_reply : MachineState → List OwedReply → MachineState
 after_reply x [] = x
 after_reply x (reply ∷ later) =
     after_told (record x { board = record x.board { owed = later } }) (reply_message x.board reply)
 
--- the state after the first of these messages is heard
-abbrev pub after_hear : State → List Content → State
+-- the first of these messages is heard
+abbrev pub after_hear : MachineState → List Content → MachineState
 after_hear x [] = x
 after_hear x (message ∷ later) =
     record x {
@@ -63,37 +109,7 @@ after_hear x (message ∷ later) =
       awaited = awaited_after x.awaited (kind_of message);
     }
 
--- the state after both ends lose the line: nothing is under way, and the host is as new
-abbrev pub after_break : State → State
-after_break x =
-    record {
-      board = after_line_lost x.board;
-      up = [];
-      down = [];
-      picture = None;
-      host_clock = None;
-      awaited = [];
-    }
-
--- what a host asks for that begins anew: the updates, and the whole board
-abbrev pub asked_anew : List EventContent
-asked_anew = EventContent.Read CommandContent.UpdateBoard ∷ EventContent.Read CommandContent.Dump ∷ []
-
--- The state after the host alone loses the line and begins anew: the board is as it was. What comes to
--- it is noise, and then what the host asks for.
-abbrev pub after_host_break : State → List EventContent → State
-after_host_break x noise =
-    record {
-      board = x.board;
-      up = [];
-      down = noise ++ asked_anew;
-      picture = None;
-      host_clock = None;
-      awaited = Kind.Dump ∷ [];
-    }
-
--- the state after a move: one that can't happen changes nothing
-abbrev pub after_move : State → Move → State
+abbrev pub after_move : MachineState → Move → MachineState
 after_move x (Move.Change square piece) = record x { board = after_change x.board square piece }
 after_move x (Move.HandClock clock) = record x { board = after_hand_clock x.board clock }
 after_move x (Move.Ask command) =
@@ -109,9 +125,13 @@ after_move x (Move.Tell square) =
 after_move x Move.TellClock =
     if x.board.times_owed then after_told x (clock_message x.board.clock) else x
 after_move x Move.Hear = after_hear x x.up
-after_move x Move.Break = after_break x
-after_move x (Move.HostBreak noise is_noise) = after_host_break x noise
+after_move x Move.Break = state_of_board (after_line_lost x.board)
+after_move x (Move.HostBreak noise is_noise) =
+    record (state_of_board x.board) {
+      down = noise ++ map EventContent.Read commands_anew;
+      awaited = Kind.Dump ∷ [];
+    }
 
-abbrev pub after_moves : State → List Move → State
+abbrev pub after_moves : MachineState → List Move → MachineState
 after_moves x [] = x
 after_moves x (move ∷ moves) = after_moves (after_move x move) moves

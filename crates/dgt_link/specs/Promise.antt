@@ -1,5 +1,6 @@
 -- When the host's picture is promised to be the board's squares.
-use Rattle.std.specs.Prelude.{◌≡◌, ◌⊎◌, List, [], ◌∷◌, ◌++◌, Option, None, IsTrue, Contains, IsSome, filter_map, unwrap_or}
+use Rattle.std.specs.Prelude.{◌≡◌, ◌⊎◌, List, [], ◌∷◌, ◌++◌, Option, Some, None, IsSome, IsTrue}
+use Rattle.std.specs.Prelude.{Contains, filter_map, map, unwrap_or}
 use Rattle.dgt_values.specs.declared.kinds.Kind.{Kind}
 use Rattle.dgt_command.specs.Content.{CommandContent, EventContent}
 use Rattle.dgt_command.specs.Words.{IsNoiseList}
@@ -8,8 +9,9 @@ use Rattle.dgt_board.specs.declared.replies.Reply.{Reply}
 use Rattle.dgt_board.specs.State.{updates}
 use Rattle.dgt_board.specs.Effect.{command_mode}
 use Rattle.dgt_board.specs.Sending.{pending_messages}
-use Rattle.dgt_link.specs.Move.{Move}
-use Rattle.dgt_link.specs.Machine.{State, asked_anew}
+use Rattle.dgt_link.specs.declared.acts.Outcome.{Outcome}
+use Rattle.dgt_link.specs.Act.{ActContent}
+use Rattle.dgt_link.specs.Machine.{MachineState, Move, commands_anew}
 use Rattle.dgt_link.specs.Sound.{coming_picture}
 
 -- the last of these modes, or the one before them where there is none
@@ -17,29 +19,50 @@ abbrev pub last_mode : Mode → List Mode → Mode
 last_mode before [] = before
 last_mode before (mode ∷ modes) = last_mode mode modes
 
--- ---- of commands
+-- ---- what is asked of the board
 
--- what a host asks for that begins anew
-abbrev pub commands_anew : List CommandContent
-commands_anew = CommandContent.UpdateBoard ∷ CommandContent.Dump ∷ []
+-- by a move: its commands in order, and `None` where it ends what was asked before
+abbrev pub requests : Move → List (Option CommandContent)
+requests (Move.Ask command) = Some command ∷ []
+requests Move.Break = None ∷ []
+requests (Move.HostBreak noise is_noise) = map Some commands_anew
+requests _ = []
 
--- the commands sent since the last break, after a move, where these were before it
-abbrev pub commands_after_move : List CommandContent → Move → List CommandContent
-commands_after_move before (Move.Ask command) = before ++ command ∷ []
-commands_after_move before Move.Break = []
-commands_after_move before (Move.HostBreak noise is_noise) = before ++ commands_anew
-commands_after_move before _ = before
+-- by an act with its outcome: what isn't done asks nothing
+abbrev pub act_requests : Outcome → ActContent → List (Option CommandContent)
+act_requests Outcome.Done (ActContent.Host command) = Some command ∷ []
+act_requests Outcome.Done ActContent.Break = None ∷ []
+act_requests Outcome.Done ActContent.HostBreak = map Some commands_anew
+act_requests _ _ = []
 
--- and after moves in order
-abbrev pub commands_after_moves : List CommandContent → List Move → List CommandContent
-commands_after_moves before [] = before
-commands_after_moves before (move ∷ moves) =
-    commands_after_moves (commands_after_move before move) moves
+-- by acts in order
+abbrev pub run_requests : List ActContent → List Outcome → List (Option CommandContent)
+run_requests (act ∷ acts) (outcome ∷ outcomes) =
+    act_requests outcome act ++ run_requests acts outcomes
+run_requests _ _ = []
+
+-- the commands since the last break, after requests, where these were before them
+abbrev pub commands_after : List CommandContent → List (Option CommandContent) → List CommandContent
+commands_after before [] = before
+commands_after before (None ∷ later) = commands_after [] later
+commands_after before (Some command ∷ later) = commands_after (before ++ command ∷ []) later
 
 -- a dump is among the commands, and the last of them that sets a mode is there and asks for updates
 pub record IsAsked (commands : List CommandContent) : Type 0 where
   pub dump : Contains commands CommandContent.Dump
   pub mode : IsTrue (updates (last_mode Mode.Idle (filter_map command_mode commands)))
+
+-- Among the acts that are done after the last break a dump is asked for, and the last of them that
+-- asks for a mode is there and asks for updates.
+abbrev pub IsAskedBy : List ActContent → List Outcome → Type 0
+IsAskedBy acts outcomes = IsAsked (commands_after [] (run_requests acts outcomes))
+
+-- the mode to come after requests, where this one was before them: a break counts as a reset
+abbrev pub mode_after : Mode → List (Option CommandContent) → Mode
+mode_after before [] = before
+mode_after before (None ∷ later) = mode_after Mode.Idle later
+mode_after before (Some command ∷ later) =
+    mode_after (unwrap_or (command_mode command) before) later
 
 -- ---- of states
 
@@ -49,39 +72,27 @@ event_mode (EventContent.Read command) = command_mode command
 event_mode _ = None
 
 -- the mode once the board has taken all commands under way
-abbrev pub coming_mode : State → Mode
+abbrev pub coming_mode : MachineState → Mode
 coming_mode x = last_mode x.board.mode (filter_map event_mode x.down)
 
--- The mode to come after a move, where this one was to come before it: a command that sets a mode
--- makes it its own, a break counts as a reset, and a host break as `UpdateBoard`.
-abbrev pub mode_after : Mode → Move → Mode
-mode_after before (Move.Ask command) = unwrap_or (command_mode command) before
-mode_after before Move.Break = Mode.Idle
-mode_after before (Move.HostBreak noise is_noise) = Mode.UpdateBoard
-mode_after before _ = before
-
 -- the picture to come is known, or a dump is owed or asked for
-abbrev pub PictureIsComing : State → Type 0
+abbrev pub PictureIsComing : MachineState → Type 0
 PictureIsComing x =
-    IsSome (coming_picture x)
-    ⊎ (Contains x.board.owed (Reply.Of Kind.Dump) ⊎ Contains x.down (EventContent.Read CommandContent.Dump))
+    IsSome (coming_picture x) ⊎ (Contains x.board.owed (Reply.Of Kind.Dump)
+    ⊎ Contains x.down (EventContent.Read CommandContent.Dump))
 
--- the last mode command under way, or else the board's mode, asks for updates
-abbrev pub UpdatesAreComing : State → Type 0
-UpdatesAreComing x = IsTrue (updates (coming_mode x))
-
-pub record IsPromised (x : State) : Type 0 where
+pub record IsPromised (x : MachineState) : Type 0 where
   pub picture : PictureIsComing x
-  pub mode : UpdatesAreComing x
+  pub mode : IsTrue (updates (coming_mode x))
 
 -- noise comes to the board, and then what a host asks for that begins anew
-pub record IsRestarted (x : State) : Type 0 where
+pub record IsRestarted (x : MachineState) : Type 0 where
   pub noise : List EventContent
   pub is_noise : IsNoiseList noise
-  pub down : x.down ≡ noise ++ asked_anew
+  pub down : x.down ≡ noise ++ map EventContent.Read commands_anew
 
 -- nothing is under way, and the board has nothing to send
-pub record IsQuiet (x : State) : Type 0 where
+pub record IsQuiet (x : MachineState) : Type 0 where
   pub up : x.up ≡ []
   pub down : x.down ≡ []
   pub pending : pending_messages x.board ≡ []

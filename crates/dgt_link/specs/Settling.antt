@@ -1,12 +1,10 @@
 -- How a world comes to rest: what is under way is delivered, and the board sends what it owes.
-use Rattle.std.specs.Prelude.{◌≡◌, ℕ, ◌+◌, ◌*◌, ◌≤◌, List, ◌==◌, if◌then◌else◌, length, replicate}
+use Rattle.std.specs.Prelude.{◌≡◌, ℕ, ◌+◌, ◌*◌, ◌≤◌, List, length, replicate}
 use Rattle.std.specs.List.{AllByRecursion}
 use Rattle.dgt_board.specs.Backlog.{backlog}
-use Rattle.dgt_link.specs.Act.{ActContent}
 use Rattle.dgt_link.specs.declared.acts.Outcome.{Outcome}
-use Rattle.dgt_link.specs.Line.{LineContents}
-use Rattle.dgt_link.specs.Machine.{State, after_moves}
-use Rattle.dgt_link.specs.Move.{IsSending, Move}
+use Rattle.dgt_link.specs.Act.{ActContent}
+use Rattle.dgt_link.specs.Machine.{IsSending, MachineState, Move, after_moves}
 use Rattle.dgt_link.specs.Promise.{IsQuiet}
 use Rattle.dgt_link.specs.Step.{Runs}
 use Rattle.dgt_link.specs.View.{WorldView}
@@ -19,13 +17,13 @@ IsSettlingMove Move.Take = Unit {0}
 IsSettlingMove Move.Hear = Unit {0}
 IsSettlingMove move = IsSending move
 
--- At least as many such moves as are left until all is quiet: a message is heard; what the board has
--- to tell is sent and heard; a command is taken, and what it adds is sent and heard.
-abbrev pub moves_left : State → ℕ
+-- At least as many such moves as are left until all is quiet: a message is heard; what the board
+-- has to tell is sent and heard; a command is taken, and what it adds is sent and heard.
+abbrev pub moves_left : MachineState → ℕ
 moves_left x = length x.up + 2 * backlog x.board + 3 * length x.down
 
 -- such moves, at most so many, lead to a quiet state
-pub record SettlesBy (moves : List Move) (x : State) : Type 0 where
+pub record SettlesBy (moves : List Move) (x : MachineState) : Type 0 where
   pub settling : AllByRecursion IsSettlingMove moves
   pub few : length moves ≤ moves_left x
   pub quiet : IsQuiet (after_moves x moves)
@@ -46,17 +44,9 @@ pub record SettlesIn (count : ℕ) (world after : WorldView) : Type 0 where
   pub counted : count ≡ length acts
   pub run : Runs acts world (replicate count Outcome.Done) after
 
--- one delivery for a line that has bytes
-abbrev pub pending_delivery : LineContents → ℕ
-pending_delivery line = if length line.bytes == 0 then 0 else 1
-
--- at least as many deliveries and sendings as are left until the world is quiet
-abbrev pub work_left : WorldView → ℕ
-work_left world =
-    3 * length world.down.bytes + 2 * backlog world.board.state + pending_delivery world.up
-
--- at least as many deliveries and sendings as can be done in a row, in whatever pieces: each byte is delivered,
--- a byte that the board takes adds to its backlog by one at most, and a message fits into the up line
+-- At least as many deliveries and sendings as can be done in a row, in whatever pieces: each byte
+-- is delivered, a byte that the board takes adds to its backlog by one at most, and a message fits
+-- into the up line.
 abbrev pub steps_left : WorldView → ℕ
 steps_left world =
     length world.up.bytes + (world.up.capacity + 1) * backlog world.board.state

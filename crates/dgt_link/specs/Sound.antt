@@ -1,5 +1,6 @@
 -- What holds between a board and its host whatever has happened.
-use Rattle.std.specs.Prelude.{◌≡◌, ◌⊎◌, List, [], ◌∷◌, ◌++◌, Option, Some, None, IsTrue, length, filter_map}
+use Rattle.std.specs.Prelude.{◌≡◌, ◌⊎◌, List, [], ◌∷◌, ◌++◌, Option, Some, None, IsTrue, length}
+use Rattle.std.specs.Prelude.{filter_map}
 use Rattle.dgt_values.specs.declared.pieces.Piece.{Piece}
 use Rattle.dgt_values.specs.declared.kinds.Kind.{Kind}
 use Rattle.dgt_message.specs.ClockState.{ClockState}
@@ -9,7 +10,7 @@ use Rattle.dgt_command.specs.Kind.{kind_of_command}
 use Rattle.dgt_board.specs.declared.replies.Reply.{Reply}
 use Rattle.dgt_board.specs.State.{follows_clock}
 use Rattle.dgt_host.specs.Hearing.{clock_after_all, picture_after_all}
-use Rattle.dgt_link.specs.Machine.{State}
+use Rattle.dgt_link.specs.Machine.{MachineState}
 
 -- ---- what comes to the host
 
@@ -24,14 +25,14 @@ kind_of_event (EventContent.Read command) = kind_of_command command
 kind_of_event _ = None
 
 -- the picture, and the host's clock, once all messages under way are heard
-abbrev pub coming_picture : State → Option (List Piece)
+abbrev pub coming_picture : MachineState → Option (List Piece)
 coming_picture x = picture_after_all x.picture x.up
 
-abbrev pub coming_clock : State → Option ClockState
+abbrev pub coming_clock : MachineState → Option ClockState
 coming_clock x = clock_after_all x.host_clock x.up
 
 -- the kinds of the messages under way, then of the replies owed, then of those asked for
-abbrev pub coming_kinds : State → List Kind
+abbrev pub coming_kinds : MachineState → List Kind
 coming_kinds x =
     filter_map kind_of x.up
     ++ (filter_map kind_of_reply x.board.owed ++ filter_map kind_of_event x.down)
@@ -47,7 +48,7 @@ IsSubsequence (x ∷ xs) (y ∷ ys) = ((x ≡ y) × IsSubsequence xs ys) ⊎ IsS
 abbrev pub IsUnknownOr : {X : Type 0} → Option X → Option X → Type 0
 IsUnknownOr known told = (known ≡ None) ⊎ (known ≡ told)
 
-pub record IsSound (x : State) : Type 0 where
+pub record IsSound (x : MachineState) : Type 0 where
   -- both positions have 64 squares
   pub squares : length x.board.squares ≡ 64
   pub told_squares : length x.board.told_squares ≡ 64
@@ -62,7 +63,7 @@ pub record IsSound (x : State) : Type 0 where
   pub awaited : IsSubsequence x.awaited (coming_kinds x)
 
 -- and nothing more comes than the host knows of
-pub record IsExact (x : State) : Type 0 where
+pub record IsExact (x : MachineState) : Type 0 where
   pub sound : IsSound x
   pub clock : coming_clock x ≡ x.board.told_clock
   pub awaited : x.awaited ≡ coming_kinds x

@@ -1,11 +1,15 @@
--- The states of the machine for which a world stands.
-use Rattle.std.specs.Prelude.{◌≡◌, ℕ, ◌≤◌, List, [], ◌++◌}
+-- The states of the machine for which a world stands, and the moves that acts come to.
+use Rattle.std.specs.Prelude.{◌≡◌, ℕ, ◌≤◌, List, [], ◌∷◌, ◌++◌, replicate}
 use Rattle.std.specs.List.{AllByRecursion, flat_map}
 use Rattle.dgt_message.specs.Content.{Content, IsMessage}
 use Rattle.dgt_message.specs.Spelling.{spelling}
-use Rattle.dgt_command.specs.Words.{Divides, IsPartial}
-use Rattle.dgt_link.specs.Machine.{State}
+use Rattle.dgt_command.specs.Content.{EventContent}
+use Rattle.dgt_command.specs.Words.{Divides, IsNoiseList, IsPartial}
+use Rattle.dgt_link.specs.declared.acts.Outcome.{Outcome}
+use Rattle.dgt_link.specs.Act.{ActContent}
+use Rattle.dgt_link.specs.Machine.{IsSending, MachineState, Move, after_moves}
 use Rattle.dgt_link.specs.Sound.{IsExact, IsSound}
+use Rattle.dgt_link.specs.Step.{IfDone}
 use Rattle.dgt_link.specs.View.{WorldView}
 
 -- these are messages, and the bytes are what is written of them in a row
@@ -14,8 +18,9 @@ pub record AreSpelled (said : List Content) (bytes : List ℕ) : Type 0 where
   pub in_a_row : bytes ≡ flat_map spelling said
 
 -- The bytes of the lines, and those that the ends hold of an unfinished message and an unfinished
--- command, are the messages and the commands under way. All else is the same, and the state is sound.
-pub record StandsFor (world : WorldView) (x : State) : Type 0 where
+-- command, are the messages and the commands under way. All else is the same, and the state is
+-- sound.
+pub record StandsFor (world : WorldView) (x : MachineState) : Type 0 where
   pub sound : IsSound x
   pub board : world.board.state ≡ x.board
   pub picture : world.host.picture ≡ x.picture
@@ -28,14 +33,51 @@ pub record StandsFor (world : WorldView) (x : State) : Type 0 where
 
 -- the world stands for an exact state
 pub record IsExactWorld (world : WorldView) : Type 0 where
-  pub state : State
+  pub state : MachineState
   pub stands : StandsFor world state
   pub exact : IsExact state
 
 -- There is a sound state for which the world stands, and the longest message that a board sends and
 -- the longest command fit into its lines.
 pub record IsWorld (world : WorldView) : Type 0 where
-  pub state : State
+  pub state : MachineState
   pub stands : StandsFor world state
   pub up_room : 67 ≤ world.up.capacity
   pub down_room : 257 ≤ world.down.capacity
+
+-- ---- the moves of acts
+
+-- an act that is done is its own move, or for a delivery takes alone or hears alone
+abbrev pub AreMovesOfAct : ActContent → List Move → Type 0
+AreMovesOfAct (ActContent.Change square piece) moves = moves ≡ Move.Change square piece ∷ []
+AreMovesOfAct (ActContent.ClockRead clock) moves = moves ≡ Move.HandClock clock ∷ []
+AreMovesOfAct (ActContent.Host command) moves = moves ≡ Move.Ask command ∷ []
+AreMovesOfAct ActContent.BoardSend moves = (move : Move) × IsSending move × (moves ≡ move ∷ [])
+AreMovesOfAct (ActContent.ToBoard _) moves = (count : ℕ) × (moves ≡ replicate count Move.Take)
+AreMovesOfAct (ActContent.ToHost _) moves = (count : ℕ) × (moves ≡ replicate count Move.Hear)
+AreMovesOfAct ActContent.Break moves = moves ≡ Move.Break ∷ []
+AreMovesOfAct ActContent.HostBreak moves =
+    (noise : List EventContent) × (is_noise : IsNoiseList noise)
+    × (moves ≡ Move.HostBreak noise is_noise ∷ [])
+
+-- what isn't done is no move
+abbrev pub AreMovesOfStep : ActContent → Outcome → List Move → Type 0
+AreMovesOfStep act outcome moves = IfDone outcome (AreMovesOfAct act moves) (moves ≡ [])
+
+-- acts in order, each with its outcome
+abbrev pub AreMovesOfRun : List ActContent → List Outcome → List Move → Type 0
+AreMovesOfRun [] [] moves = moves ≡ []
+AreMovesOfRun (act ∷ acts) (outcome ∷ outcomes) moves =
+    (first : List Move) × (later : List Move) × AreMovesOfStep act outcome first
+    × AreMovesOfRun acts outcomes later × (moves ≡ first ++ later)
+AreMovesOfRun _ _ moves = ⊥
+
+-- the world after an act stands for a state to which the act's moves lead from this one
+abbrev pub StandsAfterStep : ActContent → Outcome → MachineState → WorldView → Type 0
+StandsAfterStep act outcome x after =
+    (moves : List Move) × AreMovesOfStep act outcome moves × StandsFor after (after_moves x moves)
+
+-- and the same after acts in order
+abbrev pub StandsAfterRun : List ActContent → List Outcome → MachineState → WorldView → Type 0
+StandsAfterRun acts outcomes x after =
+    (moves : List Move) × AreMovesOfRun acts outcomes moves × StandsFor after (after_moves x moves)

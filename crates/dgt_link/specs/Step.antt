@@ -1,51 +1,86 @@
 -- An act on a world: what comes of it, and what it leaves.
-use Rattle.std.specs.Prelude.{◌≡◌, ℕ, ◌+◌, List, [], ◌∷◌, Some}
+use Rattle.std.specs.Prelude.{◌≡◌, ◌⊎◌, ℕ, ◌+◌, ◌<◌, ◌≤◌, ◌==◌, List, [], ◌∷◌, length, take}
+use Rattle.std.specs.Prelude.{Option, Some, None, Bool, false, ◌||◌, if◌then◌else◌, IsTrue, nat_le}
 use Rattle.dgt_values.specs.declared.kinds.Kind.{Kind}
+use Rattle.dgt_message.specs.Content.{Content}
+use Rattle.dgt_message.specs.Spelling.{Spells, spelling}
+use Rattle.dgt_command.specs.Content.{CommandContent}
+use Rattle.dgt_command.specs.Kind.{kind_of_command}
+use Rattle.dgt_command.specs.Words.{Spells as SpellsCommand, spelling as command_spelling}
 use Rattle.dgt_board.specs.State.{BoardState, after_change, after_hand_clock}
-use Rattle.dgt_board.specs.Sending.{next_message}
-use Rattle.dgt_board.specs.View.{BoardView, view_after_line_lost}
-use Rattle.dgt_host.specs.Host.{HostView, new_host}
-use Rattle.dgt_host.specs.Sending.{host_awaiting, restart_bytes}
-use Rattle.dgt_link.specs.Act.{ActContent}
+use Rattle.dgt_board.specs.Sending.{after_sending, next_message}
+use Rattle.dgt_board.specs.View.{BoardView, HasTaken, view_after_line_lost}
+use Rattle.dgt_host.specs.Host.{HostView, host_after, new_host}
+use Rattle.dgt_host.specs.Sending.{awaits_too_many, host_awaiting, restart_bytes}
 use Rattle.dgt_link.specs.declared.acts.Outcome.{Outcome}
-use Rattle.dgt_link.specs.Line.{LineContents, line_of}
-use Rattle.dgt_link.specs.Moving.{asking_outcome, hearing_outcome, sending_outcome, taking_outcome, Delivers, HasAsked, HasHeard, HasSent, IfDone}
-use Rattle.dgt_link.specs.View.{WorldView}
+use Rattle.dgt_link.specs.Act.{ActContent}
+use Rattle.dgt_link.specs.View.{LineContents, WorldView, line_holding, overflows, with_bytes, without_first}
 
--- what comes of an act
+-- ---- what comes of an act
+
+-- the board owes as many replies as it can
+abbrev pub is_full : BoardState → Bool
+is_full board = nat_le 8 (length board.owed)
+
+-- no byte is asked for, or the line has none
+abbrev pub moves_nothing : ℕ → LineContents → Bool
+moves_nothing count line = (count == 0) || (length line.bytes == 0)
+
+-- of the host that sends a command into the line
+abbrev pub asking_outcome : CommandContent → HostView → LineContents → Outcome
+asking_outcome command host line =
+    if awaits_too_many host (kind_of_command command) then Outcome.TooMany
+    else if overflows line (command_spelling command) then Outcome.NoRoom
+    else Outcome.Done
+
+-- of the board that sends this message, if there is one, into the line
+abbrev pub sending_outcome : Option Content → LineContents → Outcome
+sending_outcome None line = Outcome.Nothing
+sending_outcome (Some message) line =
+    if overflows line (spelling message) then Outcome.NoRoom else Outcome.Done
+
+-- of the board that takes at most so many bytes of the line
+abbrev pub taking_outcome : ℕ → BoardView → LineContents → Outcome
+taking_outcome count board line =
+    if moves_nothing count line then Outcome.Nothing
+    else if is_full board.state then Outcome.Busy
+    else Outcome.Done
+
+-- of the host that hears at most so many bytes of the line
+abbrev pub hearing_outcome : ℕ → LineContents → Outcome
+hearing_outcome count line =
+    if moves_nothing count line then Outcome.Nothing else Outcome.Done
+
 abbrev pub outcome : ActContent → WorldView → Outcome
-outcome (ActContent.Change square piece) world = Outcome.Done
-outcome (ActContent.ClockRead clock) world = Outcome.Done
 outcome (ActContent.Host command) world = asking_outcome command world.host world.down
 outcome ActContent.BoardSend world = sending_outcome (next_message world.board.state) world.up
 outcome (ActContent.ToBoard count) world = taking_outcome count world.board world.down
 outcome (ActContent.ToHost count) world = hearing_outcome count world.up
-outcome ActContent.Break world = Outcome.Done
-outcome ActContent.HostBreak world = Outcome.Done
+outcome _ world = Outcome.Done
+
+-- ---- what an act leaves
+
+-- fewer than so many of these bytes leave the board with room for a reply
+abbrev pub StaysOpen : BoardView → List ℕ → ℕ → Type 0
+StaysOpen board bytes moved =
+    (fewer : ℕ) → 0 < fewer → fewer < moved
+    → (between : BoardView) × HasTaken board (take fewer bytes) between
+    × (is_full between.state ≡ false)
+
+-- the board takes the line's bytes one by one, until so many are taken, none is left or it is full
+pub record Delivers (count : ℕ) (before : BoardView) (line : LineContents) (after : BoardView)
+    (left : LineContents) : Type 0 where
+  pub moved : ℕ
+  pub some : 0 < moved
+  pub within : (moved ≤ count) × (moved ≤ length line.bytes)
+  pub taken : HasTaken before (take moved line.bytes) after
+  pub left_is : left ≡ without_first line moved
+  pub earlier : StaysOpen before line.bytes moved
+  pub ended : (moved ≡ count) ⊎ ((moved ≡ length line.bytes) ⊎ IsTrue (is_full after.state))
 
 -- the world with this state of its board
 abbrev pub with_state : WorldView → BoardState → WorldView
 with_state world state = record world { board = record world.board { state = state } }
-
--- the world after both ends lose the line: both lines are empty
-abbrev pub world_after_break : WorldView → WorldView
-world_after_break world =
-    record {
-      board = view_after_line_lost world.board;
-      host = new_host;
-      up = line_of [] world.up.capacity;
-      down = line_of [] world.down.capacity;
-    }
-
--- The world after the host alone loses the line and begins anew: the board is as it was, and the line
--- to it holds what the host asks with.
-abbrev pub world_after_host_break : WorldView → WorldView
-world_after_host_break world =
-    record world {
-      host = host_awaiting new_host (Some Kind.Dump);
-      up = line_of [] world.up.capacity;
-      down = line_of restart_bytes world.down.capacity;
-    }
 
 -- what an act leaves, where it is done
 abbrev pub Becomes : ActContent → WorldView → WorldView → Type 0
@@ -54,22 +89,49 @@ Becomes (ActContent.Change square piece) world after =
 Becomes (ActContent.ClockRead clock) world after =
     after ≡ with_state world (after_hand_clock world.board.state clock)
 Becomes (ActContent.Host command) world after =
-    (host : HostView) × (line : LineContents) × HasAsked command world.host world.down host line
-    × (after ≡ record world { host = host; down = line })
+    SpellsCommand command (command_spelling command)
+    × (after ≡ record world {
+      host = host_awaiting world.host (kind_of_command command);
+      down = with_bytes world.down (command_spelling command);
+    })
 Becomes ActContent.BoardSend world after =
-    (board : BoardView) × (line : LineContents) × HasSent world.board world.up board line
-    × (after ≡ record world { board = board; up = line })
+    (message : Content) × (next_message world.board.state ≡ Some message)
+    × Spells message (spelling message)
+    × (after ≡ record (with_state world (after_sending world.board.state message)) {
+      up = with_bytes world.up (spelling message);
+    })
 Becomes (ActContent.ToBoard count) world after =
     (board : BoardView) × (line : LineContents) × Delivers count world.board world.down board line
     × (after ≡ record world { board = board; down = line })
 Becomes (ActContent.ToHost count) world after =
-    (host : HostView) × (line : LineContents) × HasHeard count world.host world.up host line
-    × (after ≡ record world { host = host; up = line })
-Becomes ActContent.Break world after = after ≡ world_after_break world
-Becomes ActContent.HostBreak world after = after ≡ world_after_host_break world
+    after ≡ record world {
+      host = host_after world.host (take count world.up.bytes);
+      up = without_first world.up count;
+    }
+-- both ends lose the line
+Becomes ActContent.Break world after =
+    after ≡ record {
+      board = view_after_line_lost world.board;
+      host = new_host;
+      up = line_holding [] world.up.capacity;
+      down = line_holding [] world.down.capacity;
+    }
+-- the host alone loses it, and asks anew
+Becomes ActContent.HostBreak world after =
+    after ≡ record world {
+      host = host_awaiting new_host (Some Kind.Dump);
+      up = line_holding [] world.up.capacity;
+      down = line_holding restart_bytes world.down.capacity;
+    }
+
+-- the first of these where an act is done, and else the second
+abbrev pub IfDone : Outcome → Type 0 → Type 0 → Type 0
+IfDone Outcome.Done done kept = done
+IfDone _ done kept = kept
 
 -- An act on a world, its outcome, and the world after it. What isn't done changes nothing.
-pub record Step (act : ActContent) (world : WorldView) (answer : Outcome) (after : WorldView) : Type 0 where
+pub record Step (act : ActContent) (world : WorldView) (answer : Outcome) (after : WorldView)
+    : Type 0 where
   pub answers : answer ≡ outcome act world
   pub leaves : IfDone answer (Becomes act world after) (after ≡ world)
 
@@ -78,8 +140,7 @@ abbrev pub Runs : List ActContent → WorldView → List Outcome → WorldView �
 Runs [] world [] after = after ≡ world
 Runs (act ∷ acts) world (answer ∷ answers) after =
     (between : WorldView) × Step act world answer between × Runs acts between answers after
-Runs [] world (answer ∷ answers) after = ⊥
-Runs (act ∷ acts) world [] after = ⊥
+Runs _ world _ after = ⊥
 
 -- how many of these acts were done
 abbrev pub done_count : List Outcome → ℕ

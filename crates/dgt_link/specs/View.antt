@@ -1,12 +1,31 @@
 -- A world as contracts see it: a board, a host, and the two lines of bytes between them.
-use Rattle.std.specs.Prelude.{◌≡◌, ℕ, List, [], None}
+use Rattle.std.specs.Prelude.{◌≡◌, ℕ, ◌+◌, List, [], ◌++◌, Bool, None, drop, length, nat_lt}
 use Rattle.dgt_values.specs.declared.pieces.Piece.{Piece}
 use Rattle.dgt_message.specs.ClockState.{ClockState}
 use Rattle.dgt_board.specs.Identity.{IdentityContent}
 use Rattle.dgt_board.specs.Sending.{next_message}
 use Rattle.dgt_board.specs.View.{BoardView, new_view}
 use Rattle.dgt_host.specs.Host.{HostView, new_host}
-use Rattle.dgt_link.specs.Line.{LineContents, line_of}
+
+-- the bytes in a line, the oldest first, and how many it takes at most
+pub record LineContents : Type 0 where
+  pub bytes : List ℕ
+  pub capacity : ℕ
+
+abbrev pub line_holding : List ℕ → ℕ → LineContents
+line_holding bytes capacity = record { bytes = bytes; capacity = capacity }
+
+-- the line with these bytes at its end
+abbrev pub with_bytes : LineContents → List ℕ → LineContents
+with_bytes line bytes = line_holding (line.bytes ++ bytes) line.capacity
+
+-- the line without so many of its oldest bytes
+abbrev pub without_first : LineContents → ℕ → LineContents
+without_first line count = line_holding (drop count line.bytes) line.capacity
+
+-- whether the line has too little room for these bytes
+abbrev pub overflows : LineContents → List ℕ → Bool
+overflows line bytes = nat_lt line.capacity (length line.bytes + length bytes)
 
 pub record WorldView : Type 0 where
   pub board : BoardView
@@ -20,8 +39,8 @@ new_world position clock identity up down =
     record {
       board = new_view position clock identity;
       host = new_host;
-      up = line_of [] up;
-      down = line_of [] down;
+      up = line_holding [] up;
+      down = line_holding [] down;
     }
 
 -- both lines are empty, the host has no unread and the board no partial bytes, and the board has

@@ -4,8 +4,8 @@ use dgt_command::Command;
 use dgt_message::Clock;
 use dgt_values::{Piece, Square};
 
-/// What is done to a world. The line from the host to the board is the down line, the one from the board to the host
-/// the up line.
+/// What is done to a world. The line from the host to the board is the down line, the one from the
+/// board to the host the up line.
 #[derive(Clone, Copy, Debug, PartialEq, Eq)]
 pub enum Act<'a> {
     /// A piece is put on a square of the board; `Piece::Empty` takes away what stood there.
@@ -16,11 +16,13 @@ pub enum Act<'a> {
     Host(Command<'a>),
     /// The board sends its next message into the up line.
     BoardSend,
-    /// The board takes bytes of the down line, one by one, until so many are taken, none is left or it owes 8 replies.
+    /// The board takes bytes of the down line, one by one, until so many are taken, none is left or
+    /// it owes 8 replies.
     ToBoard(usize),
     /// The host hears bytes of the up line, one by one, until so many are heard or none is left.
     ToHost(usize),
-    /// Both lines lose all their bytes, and both ends see it: what `line_lost` of a board and of a host say.
+    /// Both lines lose all their bytes, and both ends see it: what `line_lost` of a board and of a
+    /// host say.
     Break,
     /// Both lines lose all their bytes, and the host alone sees it: it is as new, and sends what
     /// `restart` of a host writes into the down line.

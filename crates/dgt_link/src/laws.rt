@@ -1,7 +1,7 @@
 //! What holds of the machine of a board and its host, and of the worlds that stand for its states.
 //! Nothing here runs: each function stands for the facts that its contract states.
 
-ghost use Rattle.std.specs.Prelude.{◌≡◌, ◌≢◌, ◌≤◌, List, [], ◌∷◌, ◌++◌, All, Contains, Option, Some, None, length, IsTrue, IsSome};
+ghost use Rattle.std.specs.Prelude.{◌≡◌, ◌≢◌, ◌≤◌, List, [], ◌∷◌, ◌++◌, All, Contains, Option, Some, None, flat_map, length, map, IsTrue, IsSome};
 ghost use Rattle.std.specs.List.{AllByRecursion};
 ghost use Rattle.dgt_values.specs.declared.pieces.Piece.{Piece};
 ghost use Rattle.dgt_values.specs.Equality.{EqualIsSame};
@@ -19,18 +19,13 @@ ghost use Rattle.dgt_board.specs.State.{BoardState, follows_clock, updates};
 ghost use Rattle.dgt_board.specs.declared.modes.Mode.{Mode};
 ghost use Rattle.dgt_board.specs.Effect.{effects};
 ghost use Rattle.dgt_board.specs.Sending.{after_sending, next_message};
-ghost use Rattle.dgt_host.specs.Hearing.{IsUnasked};
-ghost use Rattle.dgt_link.specs.Move.{IsHostBreak, IsSending, Move};
-ghost use Rattle.dgt_link.specs.Machine.{State, after_move, after_moves, asked_anew, new_state};
+ghost use Rattle.dgt_host.specs.Hearing.{IsUnasked, picture_after_all};
+ghost use Rattle.dgt_link.specs.Machine.{IsHostBreak, IsSending, MachineState, Move, after_move, after_moves, commands_anew, new_state};
 ghost use Rattle.dgt_link.specs.Sound.{IsExact, IsSound, IsUnknownOr, coming_picture};
-ghost use Rattle.dgt_link.specs.Promise.{IsAsked, IsPromised, IsQuiet, IsRestarted, PictureIsComing, coming_mode, commands_after_moves, mode_after};
-ghost use Rattle.dgt_host.specs.Hearing.{picture_after_all};
-ghost use Rattle.dgt_link.specs.Act.{ActContent, act_content};
-ghost use Rattle.dgt_link.specs.Equality.{ActHasArrays};
-ghost use Rattle.dgt_link.specs.ActMoves.{StandsAfterRun, StandsAfterStep};
-ghost use Rattle.dgt_link.specs.Asked.{IsAskedBy, mode_after_step};
+ghost use Rattle.dgt_link.specs.Promise.{IsAsked, IsAskedBy, IsPromised, IsQuiet, IsRestarted, PictureIsComing, act_requests, coming_mode, commands_after, mode_after, requests};
+ghost use Rattle.dgt_link.specs.Act.{ActContent, act_content, ActHasArrays};
+ghost use Rattle.dgt_link.specs.Stands.{StandsAfterRun, StandsAfterStep, IsExactWorld, IsWorld, StandsFor};
 ghost use Rattle.dgt_link.specs.declared.acts.Outcome.{Outcome};
-ghost use Rattle.dgt_link.specs.Stands.{IsExactWorld, IsWorld, StandsFor};
 ghost use Rattle.dgt_link.specs.Step.{Runs, Step, done_count};
 ghost use Rattle.dgt_link.specs.Settling.{IsSettling, IsSettlingMove, SettlesBy, steps_left};
 ghost use Rattle.dgt_link.specs.View.{IsQuietWorld, WorldView};
@@ -43,13 +38,16 @@ pub fn limits()
     ensures down { MIN_DOWN ≡ 257 }
 {}
 
-/// Two values are equal, as `==` compares them, exactly where they are the same. Of lent bytes the bytes count, and
-/// not where they lie.
+/// Two values are equal, as `==` compares them, exactly where they are the same. Of lent bytes the
+/// bytes count, and not where they lie.
 pub fn equal_is_same()
     ensures outcome { EqualIsSame ⟦<ActOutcome as PartialEq>⟧.eq }
     ensures world_fault { EqualIsSame ⟦<WorldFault as PartialEq>⟧.eq }
     ensures act { EqualIsSameReadOf ActHasArrays act_content ⟦<Act<'static> as PartialEq>⟧.eq }
-{}
+{
+    dgt_message::laws::equal_is_same();
+    dgt_command::laws::equal_is_same();
+}
 
 /// A board and a host just made are sound, and exact.
 pub fn new_is_sound()
@@ -59,74 +57,74 @@ pub fn new_is_sound()
         length position ≡ 64 → IsExact (new_state position clock identity) }
 {}
 
-/// Each move keeps a sound state sound, and each but a host break an exact one exact. A break makes a
-/// sound one exact.
+/// Each move keeps a sound state sound, and each but a host break an exact one exact. A break makes
+/// a sound one exact.
 pub fn moves_keep()
-    ensures sound { (x : State) (move : Move) → IsSound x → IsSound (after_move x move) }
-    ensures exact { (x : State) (move : Move) → ¬ (IsHostBreak move) →
+    ensures sound { (x : MachineState) (move : Move) → IsSound x → IsSound (after_move x move) }
+    ensures exact { (x : MachineState) (move : Move) → ¬ (IsHostBreak move) →
         IsExact x → IsExact (after_move x move) }
-    ensures exact_again { (x : State) → IsSound x → IsExact (after_move x Move.Break) }
+    ensures exact_again { (x : MachineState) → IsSound x → IsExact (after_move x Move.Break) }
 {}
 
 /// A dump that is sent makes the picture to come the squares as the board has told them, and only a
 /// break or a host break makes it unknown.
 pub fn dump_is_told()
-    ensures told { (x : State) (later : List Reply) → x.board.owed ≡ Reply.Of Kind.Dump ∷ later →
+    ensures told { (x : MachineState) (later : List Reply) → x.board.owed ≡ Reply.Of Kind.Dump ∷ later →
         coming_picture (after_move x Move.Reply)
         ≡ Some (after_move x Move.Reply).board.told_squares }
-    ensures known { (x : State) (move : Move) → move ≢ Move.Break → ¬ (IsHostBreak move) →
+    ensures known { (x : MachineState) (move : Move) → move ≢ Move.Break → ¬ (IsHostBreak move) →
         IsSome (coming_picture x) → IsSome (coming_picture (after_move x move)) }
 {}
 
 /// In an exact state the next message to be heard that has a kind has the one that is awaited
 /// first, and is not unasked.
 pub fn answers_in_order()
-    ensures first { (x : State) (before later : List Content) (message : Content) (kind : Kind) →
+    ensures first { (x : MachineState) (before later : List Content) (message : Content) (kind : Kind) →
         IsExact x → x.up ≡ before ++ message ∷ later
         → All (λ other. kind_of other ≡ None) before → kind_of message ≡ Some kind
         → (others : List Kind) × (x.awaited ≡ kind ∷ others) }
-    ensures asked { (x : State) (later : List Content) (message : Content) →
+    ensures asked { (x : MachineState) (later : List Content) (message : Content) →
         IsExact x → x.up ≡ message ∷ later → ¬ (IsUnasked x.awaited (Some (Event.Message message))) }
 {}
 
 /// What a move makes of the promise: a dump that is asked for begins its first half, which only a
-/// break ends. Its second half is that of the last command that sets a mode, where a break counts as
-/// a reset. A host break begins both.
+/// break ends. Its second half is that of the last command that sets a mode, where a break counts
+/// as a reset. A host break begins both.
 pub fn promise_is_kept()
-    ensures begun { (x : State) → PictureIsComing (after_move x (Move.Ask CommandContent.Dump)) }
-    ensures kept { (x : State) (move : Move) → move ≢ Move.Break →
+    ensures begun { (x : MachineState) → PictureIsComing (after_move x (Move.Ask CommandContent.Dump)) }
+    ensures kept { (x : MachineState) (move : Move) → move ≢ Move.Break →
         PictureIsComing x → PictureIsComing (after_move x move) }
-    ensures ended { (x : State) → ¬ (PictureIsComing (after_move x Move.Break)) }
-    ensures begun_anew { (x : State) (noise : List EventContent) (is_noise : IsNoiseList noise) →
+    ensures ended { (x : MachineState) → ¬ (PictureIsComing (after_move x Move.Break)) }
+    ensures begun_anew { (x : MachineState) (noise : List EventContent) (is_noise : IsNoiseList noise) →
         IsPromised (after_move x (Move.HostBreak noise is_noise)) }
-    ensures mode { (x : State) (move : Move) →
-        coming_mode (after_move x move) ≡ mode_after (coming_mode x) move }
+    ensures mode { (x : MachineState) (move : Move) →
+        coming_mode (after_move x move) ≡ mode_after (coming_mode x) (requests move) }
 {}
 
 /// Where a sound state is quiet, nothing is awaited, and a picture that is known is the board's
 /// squares if the mode asks for updates. In an exact one the host's clock is the board's if the
 /// mode follows it. Of a promised one the picture is known.
 pub fn at_quiet()
-    ensures awaited { (x : State) → IsSound x → IsQuiet x → x.awaited ≡ [] }
-    ensures picture { (x : State) → IsSound x → IsQuiet x → IsTrue (updates x.board.mode)
+    ensures awaited { (x : MachineState) → IsSound x → IsQuiet x → x.awaited ≡ [] }
+    ensures picture { (x : MachineState) → IsSound x → IsQuiet x → IsTrue (updates x.board.mode)
         → IsUnknownOr x.picture (Some x.board.squares) }
-    ensures clock { (x : State) → IsExact x → IsQuiet x → IsTrue (follows_clock x.board.mode)
+    ensures clock { (x : MachineState) → IsExact x → IsQuiet x → IsTrue (follows_clock x.board.mode)
         → x.host_clock ≡ Some x.board.clock }
-    ensures promised { (x : State) → IsSound x → IsPromised x → IsQuiet x
+    ensures promised { (x : MachineState) → IsSound x → IsPromised x → IsQuiet x
         → x.picture ≡ Some x.board.squares }
 {}
 
-/// After any moves: sound stays sound, and exact without a host break exact. Where the commands among
-/// them, after the last break, ask for the picture, it is promised, and is the board's squares once
-/// all is quiet.
+/// After any moves: sound stays sound, and exact without a host break exact. Where the commands
+/// among them, after the last break, ask for the picture, it is promised, and is the board's
+/// squares once all is quiet.
 pub fn picture_after_moves()
-    ensures sound { (x : State) (moves : List Move) → IsSound x → IsSound (after_moves x moves) }
-    ensures exact { (x : State) (moves : List Move) → AllByRecursion (λ move. ¬ (IsHostBreak move)) moves
+    ensures sound { (x : MachineState) (moves : List Move) → IsSound x → IsSound (after_moves x moves) }
+    ensures exact { (x : MachineState) (moves : List Move) → AllByRecursion (λ move. ¬ (IsHostBreak move)) moves
         → IsExact x → IsExact (after_moves x moves) }
-    ensures promised { (x : State) (moves : List Move) →
-        IsAsked (commands_after_moves [] moves) → IsPromised (after_moves x moves) }
-    ensures picture { (x : State) (moves : List Move) → IsSound x
-        → IsAsked (commands_after_moves [] moves) → IsQuiet (after_moves x moves)
+    ensures promised { (x : MachineState) (moves : List Move) →
+        IsAsked (commands_after [] (flat_map requests moves)) → IsPromised (after_moves x moves) }
+    ensures picture { (x : MachineState) (moves : List Move) → IsSound x
+        → IsAsked (commands_after [] (flat_map requests moves)) → IsQuiet (after_moves x moves)
         → (after_moves x moves).picture ≡ Some (after_moves x moves).board.squares }
 {}
 
@@ -135,13 +133,13 @@ pub fn picture_after_moves()
 pub fn restart_is_taken()
     ensures noise { (board : BoardState) (noise : List EventContent) → IsNoiseList noise →
         (effects board noise).mode ≡ board.mode }
-    ensures taken { (board : BoardState) → let after = effects board asked_anew in
+    ensures taken { (board : BoardState) → let after = effects board (map EventContent.Read commands_anew) in
         (after.mode ≡ Mode.UpdateBoard) × (after.owed ≡ board.owed ++ Reply.Of Kind.Dump ∷ []) }
 {}
 
 /// What a board sends next is sent by one of the moves.
 pub fn next_is_sent()
-    ensures { (x : State) (message : Content) → next_message x.board ≡ Some message
+    ensures { (x : MachineState) (message : Content) → next_message x.board ≡ Some message
         → (move : Move) × IsSending move
         × (after_move x move
         ≡ record x { board = after_sending x.board message; up = x.up ++ message ∷ [] }) }
@@ -150,7 +148,7 @@ pub fn next_is_sent()
 /// A world stands for one state at most: the bytes alone say which messages and which commands are
 /// under way.
 pub fn worlds_stand_for_one_state()
-    ensures { (world : WorldView) (x y : State) → StandsFor world x → StandsFor world y → x ≡ y }
+    ensures { (world : WorldView) (x y : MachineState) → StandsFor world x → StandsFor world y → x ≡ y }
 {
     dgt_message::laws::spelling_spells();
     dgt_message::laws::spelled_once();
@@ -167,17 +165,17 @@ pub fn acts_have_one_outcome()
         Runs acts world answers after → Runs acts world others other
         → (answers ≡ others) × (after ≡ other) }
 {
-    dgt_command::laws::one_division();
+    dgt_board::laws::one_taking();
 }
 
 /// What an act leaves of a world that stands for a state stands for one to which the machine comes
 /// by the act's own move, or for a delivery by takes or hears alone. A run of acts is so a run of
 /// the machine.
 pub fn acts_are_moves()
-    ensures one { (act : ActContent) (world after : WorldView) (answer : Outcome) (x : State) →
+    ensures one { (act : ActContent) (world after : WorldView) (answer : Outcome) (x : MachineState) →
         StandsFor world x → Step act world answer after → StandsAfterStep act answer x after }
     ensures all { (acts : List ActContent) (world after : WorldView) (answers : List Outcome)
-        (x : State) →
+        (x : MachineState) →
         StandsFor world x → Runs acts world answers after → StandsAfterRun acts answers x after }
 {
     dgt_decode::laws::events_append();
@@ -210,21 +208,21 @@ pub fn acts_keep()
 /// break ends. Its second half is that of the last mode asked for, where a break counts as a reset.
 /// A host break begins both: noise comes to the board, and then what the host asks for.
 pub fn promise_by_acts()
-    ensures begun { (world after : WorldView) (x y : State) →
+    ensures begun { (world after : WorldView) (x y : MachineState) →
         StandsFor world x → Step (ActContent.Host CommandContent.Dump) world Outcome.Done after
         → StandsFor after y → PictureIsComing y }
-    ensures kept { (act : ActContent) (world after : WorldView) (answer : Outcome) (x y : State) →
+    ensures kept { (act : ActContent) (world after : WorldView) (answer : Outcome) (x y : MachineState) →
         act ≢ ActContent.Break → StandsFor world x → Step act world answer after
         → StandsFor after y → PictureIsComing x → PictureIsComing y }
-    ensures ended { (world after : WorldView) (answer : Outcome) (x y : State) →
+    ensures ended { (world after : WorldView) (answer : Outcome) (x y : MachineState) →
         StandsFor world x → Step ActContent.Break world answer after
         → StandsFor after y → ¬ (PictureIsComing y) }
-    ensures begun_anew { (world after : WorldView) (answer : Outcome) (x y : State) →
+    ensures begun_anew { (world after : WorldView) (answer : Outcome) (x y : MachineState) →
         StandsFor world x → Step ActContent.HostBreak world answer after
         → StandsFor after y → IsRestarted y × IsPromised y }
-    ensures mode { (act : ActContent) (world after : WorldView) (answer : Outcome) (x y : State) →
+    ensures mode { (act : ActContent) (world after : WorldView) (answer : Outcome) (x y : MachineState) →
         StandsFor world x → Step act world answer after
-        → StandsFor after y → coming_mode y ≡ mode_after_step (coming_mode x) act answer }
+        → StandsFor after y → coming_mode y ≡ mode_after (coming_mode x) (act_requests answer act) }
 {
     acts_are_moves();
     worlds_stand_for_one_state();
@@ -236,14 +234,14 @@ pub fn promise_by_acts()
 /// In a world that stands for an exact state the next message to be heard that has a kind has the
 /// one that is awaited first, and is not unasked.
 pub fn worlds_are_told()
-    ensures fold { (world : WorldView) (x : State) → StandsFor world x →
+    ensures fold { (world : WorldView) (x : MachineState) → StandsFor world x →
         IsUnknownOr (picture_after_all world.host.picture x.up) (Some world.board.state.told_squares) }
-    ensures first { (world : WorldView) (x : State) (before later : List Content)
+    ensures first { (world : WorldView) (x : MachineState) (before later : List Content)
         (message : Content) (kind : Kind) → StandsFor world x → IsExact x
         → x.up ≡ before ++ message ∷ later
         → All (λ other. kind_of other ≡ None) before → kind_of message ≡ Some kind
         → (others : List Kind) × (world.host.awaited ≡ kind ∷ others) }
-    ensures asked { (world : WorldView) (x : State) (later : List Content) (message : Content) →
+    ensures asked { (world : WorldView) (x : MachineState) (later : List Content) (message : Content) →
         StandsFor world x → IsExact x → x.up ≡ message ∷ later
         → ¬ (IsUnasked world.host.awaited (Some (Event.Message message))) }
 {}
@@ -252,15 +250,15 @@ pub fn worlds_are_told()
 /// mode asks for updates. If it follows the clock, and the world stands for an exact state, the
 /// host's clock is the board's. Where it stands for a promised state the picture is known.
 pub fn at_quiet_world()
-    ensures awaited { (world : WorldView) (x : State) → StandsFor world x → IsQuietWorld world
+    ensures awaited { (world : WorldView) (x : MachineState) → StandsFor world x → IsQuietWorld world
         → world.host.awaited ≡ [] }
-    ensures told { (world : WorldView) (x : State) → StandsFor world x → IsQuietWorld world
+    ensures told { (world : WorldView) (x : MachineState) → StandsFor world x → IsQuietWorld world
         → IsTrue (updates world.board.state.mode)
         → IsUnknownOr world.host.picture (Some world.board.state.squares) }
-    ensures clock { (world : WorldView) (x : State) → StandsFor world x → IsQuietWorld world
+    ensures clock { (world : WorldView) (x : MachineState) → StandsFor world x → IsQuietWorld world
         → IsExact x → IsTrue (follows_clock world.board.state.mode)
         → world.host.clock ≡ Some world.board.state.clock }
-    ensures picture { (world : WorldView) (x : State) → StandsFor world x → IsQuietWorld world
+    ensures picture { (world : WorldView) (x : MachineState) → StandsFor world x → IsQuietWorld world
         → IsPromised x → world.host.picture ≡ Some world.board.state.squares }
 {
     dgt_command::laws::one_division();
@@ -271,11 +269,11 @@ pub fn at_quiet_world()
 /// the host's picture is the board's squares.
 pub fn picture_after_acts()
     ensures promised { (acts : List ActContent) (world after : WorldView)
-        (answers : List Outcome) (x : State) →
+        (answers : List Outcome) (x : MachineState) →
         StandsFor world x → Runs acts world answers after → IsAskedBy acts answers
-        → (y : State) × StandsFor after y × IsPromised y }
+        → (y : MachineState) × StandsFor after y × IsPromised y }
     ensures picture { (acts : List ActContent) (world after : WorldView)
-        (answers : List Outcome) (x : State) →
+        (answers : List Outcome) (x : MachineState) →
         StandsFor world x → Runs acts world answers after → IsAskedBy acts answers
         → IsQuietWorld after → after.host.picture ≡ Some after.board.state.squares }
 {
@@ -283,21 +281,22 @@ pub fn picture_after_acts()
     at_quiet_world();
 }
 
-/// From each sound state some takes of the board, sendings of the board and hears of the host lead to
-/// a quiet one. They are at most one for each message under way, two for each reply, square and clock
-/// that the board has still to tell in some mode, and three for each command and fault under way.
+/// From each sound state some takes of the board, sendings of the board and hears of the host lead
+/// to a quiet one. They are at most one for each message under way, two for each reply, square and
+/// clock that the board has still to tell in some mode, and three for each command and fault under
+/// way.
 ///
-/// Such moves keep the squares, the clock and the mode to come, and the picture of a promised state,
-/// once all is quiet, is its squares.
+/// Such moves keep the squares, the clock and the mode to come, and the picture of a promised
+/// state, once all is quiet, is its squares.
 pub fn quiet_is_reached()
-    ensures reached { (x : State) → IsSound x → (moves : List Move) × SettlesBy moves x }
-    ensures squares { (x : State) (moves : List Move) → AllByRecursion IsSettlingMove moves
+    ensures reached { (x : MachineState) → IsSound x → (moves : List Move) × SettlesBy moves x }
+    ensures squares { (x : MachineState) (moves : List Move) → AllByRecursion IsSettlingMove moves
         → (after_moves x moves).board.squares ≡ x.board.squares }
-    ensures clock { (x : State) (moves : List Move) → AllByRecursion IsSettlingMove moves
+    ensures clock { (x : MachineState) (moves : List Move) → AllByRecursion IsSettlingMove moves
         → (after_moves x moves).board.clock ≡ x.board.clock }
-    ensures mode { (x : State) (moves : List Move) → AllByRecursion IsSettlingMove moves
+    ensures mode { (x : MachineState) (moves : List Move) → AllByRecursion IsSettlingMove moves
         → coming_mode (after_moves x moves) ≡ coming_mode x }
-    ensures picture { (x : State) (moves : List Move) → IsSound x → IsPromised x
+    ensures picture { (x : MachineState) (moves : List Move) → IsSound x → IsPromised x
         → AllByRecursion IsSettlingMove moves → IsQuiet (after_moves x moves)
         → (after_moves x moves).picture ≡ Some x.board.squares }
 {

@@ -1,7 +1,7 @@
 //! Lines of bytes, all of whose memory is taken where they are made.
 
 ghost use Rattle.std.specs.Prelude.{◌≡◌, ◌+◌, ◌<◌, ◌≤◌, ◌==◌, [], length, take, IfOk};
-ghost use Rattle.dgt_link.specs.Line.{line_of, with_bytes, without_first};
+ghost use Rattle.dgt_link.specs.View.{line_holding, with_bytes, without_first};
 
 use circular_buffer::HeapCircularBuffer;
 use std::alloc::{AllocError, Global};
@@ -14,17 +14,17 @@ pub struct Line {
 }
 
 impl Model for Line {
-    ghost use Rattle.dgt_link.specs.Line.{LineContents, line_of};
+    ghost use Rattle.dgt_link.specs.View.{LineContents, line_holding};
 
     ghost Value = { LineContents };
 
-    ghost view = { λ line. line_of line.ring.items line.ring.capacity };
+    ghost view = { λ line. line_holding line.ring.items line.ring.capacity };
 }
 
 impl Line {
     // An empty line of this capacity. No other call takes memory.
     fn new(alloc: Global, capacity: usize) -> Result<Self, AllocError>
-        ensures { IfOk result (λ line. line ≡ line_of [] capacity) }
+        ensures { IfOk result (λ line. line ≡ line_holding [] capacity) }
     {
         Ok(Line {
             ring: HeapCircularBuffer::with_capacity(alloc, capacity)?,
@@ -73,7 +73,7 @@ impl Line {
 
     /// Takes all bytes out.
     pub fn clear(&mut self)
-        ensures { self.new ≡ line_of [] self.old.capacity }
+        ensures { self.new ≡ line_holding [] self.old.capacity }
     {
         self.ring.clear();
     }
@@ -101,7 +101,7 @@ impl LineMemory {
 
     /// Takes it, for two empty lines of these capacities.
     pub fn lines(self, first: usize, second: usize) -> Result<(Line, Line), AllocError>
-        ensures { IfOk result (λ lines. (lines.0 ≡ line_of [] first) × (lines.1 ≡ line_of [] second)) }
+        ensures { IfOk result (λ lines. (lines.0 ≡ line_holding [] first) × (lines.1 ≡ line_holding [] second)) }
     {
         Ok((
             Line::new(self.alloc, first)?,

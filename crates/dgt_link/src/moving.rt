@@ -2,12 +2,18 @@
 
 ghost use Rattle.std.specs.Prelude.{◌≡◌, ◌+◌, ◌<◌, ◌≤◌, [], Some, length, take};
 ghost use Rattle.dgt_values.specs.declared.kinds.Kind.{Kind};
+ghost use Rattle.dgt_message.specs.Content.{Content};
+ghost use Rattle.dgt_message.specs.Spelling.{Spells, spelling};
 ghost use Rattle.dgt_command.specs.Content.{command_content};
+ghost use Rattle.dgt_command.specs.Kind.{kind_of_command};
+ghost use Rattle.dgt_command.specs.Words.{Spells as SpellsCommand, spelling as command_spelling};
+ghost use Rattle.dgt_board.specs.Sending.{after_sending, next_message};
 ghost use Rattle.dgt_board.specs.View.{HasTaken};
 ghost use Rattle.dgt_host.specs.Host.{host_after, new_host};
 ghost use Rattle.dgt_host.specs.Sending.{host_awaiting, restart_bytes};
-ghost use Rattle.dgt_link.specs.Line.{line_of, without_first};
-ghost use Rattle.dgt_link.specs.Moving.{AsksInto, DeliversDown, DeliversUp, SendsInto, StaysOpen};
+ghost use Rattle.dgt_link.specs.View.{line_holding, with_bytes, without_first};
+ghost use Rattle.dgt_link.specs.Step.{Delivers, IfDone, StaysOpen};
+ghost use Rattle.dgt_link.specs.Step.{asking_outcome, hearing_outcome, sending_outcome, taking_outcome};
 
 use crate::acts::Outcome;
 use crate::line::Line;
@@ -23,7 +29,12 @@ pub const MAX_SENT: usize = 67;
 
 /// The host sends a command into the line.
 pub fn ask(host: &mut Host, line: &mut Line, command: &Command<'_>) -> Outcome
-    ensures { AsksInto result (command_content command.now) host.old line.old host.new line.new }
+    ensures outcome { result ≡ asking_outcome (command_content command.now) host.old line.old }
+    ensures leaves { let said = command_content command.now in IfDone result
+        (SpellsCommand said (command_spelling said)
+        × (host.new ≡ host_awaiting host.old (kind_of_command said))
+        × (line.new ≡ with_bytes line.old (command_spelling said)))
+        ((host.new ≡ host.old) × (line.new ≡ line.old)) }
 {
     let mut bytes = [0; MAX_WORD];
     let room = bytes.len().min(line.room());
@@ -41,8 +52,8 @@ pub fn ask(host: &mut Host, line: &mut Line, command: &Command<'_>) -> Outcome
 pub fn restart(host: &mut Host, up: &mut Line, down: &mut Line)
     requires { 257 ≤ down.old.capacity }
     ensures host { host.new ≡ host_awaiting new_host (Some Kind.Dump) }
-    ensures up { up.new ≡ line_of [] up.old.capacity }
-    ensures down { down.new ≡ line_of restart_bytes down.old.capacity }
+    ensures up { up.new ≡ line_holding [] up.old.capacity }
+    ensures down { down.new ≡ line_holding restart_bytes down.old.capacity }
 {
     host.line_lost();
     up.clear();
@@ -54,7 +65,13 @@ pub fn restart(host: &mut Host, up: &mut Line, down: &mut Line)
 
 /// The board sends its next message into the line.
 pub fn send_next(board: &mut Board, line: &mut Line) -> Outcome
-    ensures sends { SendsInto result board.old line.old board.new line.new }
+    ensures outcome { result ≡ sending_outcome (next_message board.old.state) line.old }
+    ensures leaves { IfDone result
+        ((message : Content) × (next_message board.old.state ≡ Some message)
+        × Spells message (spelling message)
+        × (board.new ≡ record board.old { state = after_sending board.old.state message })
+        × (line.new ≡ with_bytes line.old (spelling message)))
+        ((board.new ≡ board.old) × (line.new ≡ line.old)) }
     ensures room { result ≡ Outcome.NoRoom → line.old.capacity < length line.old.bytes + MAX_SENT }
 {
     let mut bytes = [0; MAX_SENT];
@@ -69,8 +86,8 @@ pub fn send_next(board: &mut Board, line: &mut Line) -> Outcome
     }
 }
 
-// The board takes bytes at the front of the line, at most so many, up to the end of a command or a fault.
-// Answers how many.
+// The board takes bytes at the front of the line, at most so many, up to the end of a command or a
+// fault. Answers how many.
 fn take_front(board: &mut Board, line: &mut Line, most: usize) -> usize
     requires most { 0 < most }
     requires some { 0 < length line.old.bytes }
@@ -88,7 +105,8 @@ fn take_front(board: &mut Board, line: &mut Line, most: usize) -> usize
     used
 }
 
-// The host hears bytes at the front of the line, at most so many, up to its next event. Answers how many.
+// The host hears bytes at the front of the line, at most so many, up to its next event. Answers how
+// many.
 fn hear_front(host: &mut Host, line: &mut Line, most: usize) -> usize
     requires most { 0 < most }
     requires some { 0 < length line.old.bytes }
@@ -107,9 +125,11 @@ fn hear_front(host: &mut Host, line: &mut Line, most: usize) -> usize
 /// The board takes bytes of the line, one by one, until so many are taken, none is left or it owes
 /// as many replies as it can.
 pub fn to_board(board: &mut Board, line: &mut Line, count: usize) -> Outcome
-    ensures { DeliversDown result count board.old line.old board.new line.new }
+    ensures outcome { result ≡ taking_outcome count board.old line.old }
+    ensures leaves { IfDone result (Delivers count board.old line.old board.new line.new)
+        ((board.new ≡ board.old) × (line.new ≡ line.old)) }
 {
-    dgt_command::laws::divisions_append();
+    dgt_board::laws::takings_append();
     if count == 0 || line.is_empty() {
         return Outcome::Nothing;
     }
@@ -126,7 +146,11 @@ pub fn to_board(board: &mut Board, line: &mut Line, count: usize) -> Outcome
 
 /// The host hears bytes of the line, one by one, until so many are heard or none is left.
 pub fn to_host(host: &mut Host, line: &mut Line, count: usize) -> Outcome
-    ensures { DeliversUp result count host.old line.old host.new line.new }
+    ensures outcome { result ≡ hearing_outcome count line.old }
+    ensures leaves { IfDone result
+        ((host.new ≡ host_after host.old (take count line.old.bytes))
+        × (line.new ≡ without_first line.old count))
+        ((host.new ≡ host.old) × (line.new ≡ line.old)) }
 {
     dgt_host::laws::heard_in_pieces();
     if count == 0 || line.is_empty() {

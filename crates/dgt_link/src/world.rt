@@ -12,13 +12,12 @@ ghost use Rattle.dgt_board.specs.Sending.{next_message};
 ghost use Rattle.dgt_board.specs.State.{follows_clock, updates};
 ghost use Rattle.dgt_host.specs.Hearing.{picture_after_all};
 ghost use Rattle.dgt_link.specs.Act.{ActContent, act_content};
-ghost use Rattle.dgt_link.specs.ActMoves.{StandsAfterRun, StandsAfterStep};
-ghost use Rattle.dgt_link.specs.Asked.{IsAskedBy, mode_after_step};
-ghost use Rattle.dgt_link.specs.Machine.{State, new_state};
-ghost use Rattle.dgt_link.specs.Promise.{IsPromised, IsRestarted, PictureIsComing, coming_mode};
-ghost use Rattle.dgt_link.specs.Settling.{IsSettling, SettlesIn, work_left};
+ghost use Rattle.dgt_link.specs.Stands.{StandsAfterRun, StandsAfterStep, IsExactWorld, StandsFor};
+ghost use Rattle.dgt_link.specs.Promise.{IsAskedBy, IsPromised, IsRestarted, PictureIsComing, act_requests, coming_mode, mode_after};
+ghost use Rattle.dgt_link.specs.Machine.{MachineState, new_state};
+ghost use Rattle.dgt_link.specs.Settling.{IsSettling, SettlesIn};
+ghost use Rattle.dgt_link.specs.Work.{work_left};
 ghost use Rattle.dgt_link.specs.Sound.{IsExact, IsSound, IsUnknownOr};
-ghost use Rattle.dgt_link.specs.Stands.{IsExactWorld, StandsFor};
 ghost use Rattle.dgt_link.specs.Step.{Runs, Step, done_count};
 ghost use Rattle.dgt_link.specs.View.{IsQuietWorld, new_world};
 
@@ -123,8 +122,8 @@ impl World {
         }
     }
 
-    // A new world whose lines have this memory, where it isn't refused. It comes back, with none taken, where a
-    // line would be too small.
+    // A new world whose lines have this memory, where it isn't refused. It comes back, with none
+    // taken, where a line would be too small.
     fn with_memory(
         memory: LineMemory,
         position: Position,
@@ -186,35 +185,36 @@ impl World {
     /// Does one act, and answers what came of it. What isn't `Done` changes nothing.
     ///
     /// `Change`, `ClockRead`, `Break` and `HostBreak` are always `Done`. `Host` is first `TooMany`,
-    /// where the reply would have to be awaited and 16 are awaited, then `NoRoom`, where the down line
-    /// has too little room for the command. `BoardSend` is first `Nothing`, where the board has nothing
-    /// to send, then `NoRoom`, where the up line has too little room for the message. `ToBoard` is
-    /// first `Nothing`, where the count is 0 or the down line is empty, then `Busy`, where the board
-    /// owes 8 replies. `ToHost` is `Nothing` where the count is 0 or the up line is empty.
+    /// where the reply would have to be awaited and 16 are awaited, then `NoRoom`, where the down
+    /// line has too little room for the command. `BoardSend` is first `Nothing`, where the board
+    /// has nothing to send, then `NoRoom`, where the up line has too little room for the message.
+    /// `ToBoard` is first `Nothing`, where the count is 0 or the down line is empty, then `Busy`,
+    /// where the board owes 8 replies. `ToHost` is `Nothing` where the count is 0 or the up line is
+    /// empty.
     ///
-    /// After a `HostBreak` the down line holds 257 bytes and the board is as it was. What it takes of
-    /// them is noise, and then `UpdateBoard` and `Dump`.
+    /// After a `HostBreak` the down line holds 257 bytes and the board is as it was. What it takes
+    /// of them is noise, and then `UpdateBoard` and `Dump`.
     pub fn step(&mut self, act: Act<'_>) -> Outcome
         ensures exact { Step (act_content act.entry) self.old result self.new }
         ensures unchanged { result ≢ Outcome.Done → self.new ≡ self.old }
-        ensures moves { (x : State) → StandsFor self.old x →
+        ensures moves { (x : MachineState) → StandsFor self.old x →
             StandsAfterStep (act_content act.entry) result x self.new }
-        ensures sound { (y : State) × StandsFor self.new y × IsSound y }
+        ensures sound { (y : MachineState) × StandsFor self.new y × IsSound y }
         ensures stays_exact { act_content act.entry ≢ ActContent.HostBreak →
             IsExactWorld self.old → IsExactWorld self.new }
         ensures exact_again { act_content act.entry ≡ ActContent.Break → IsExactWorld self.new }
         ensures begun { act_content act.entry ≡ ActContent.Host CommandContent.Dump →
-            result ≡ Outcome.Done → (y : State) → StandsFor self.new y → PictureIsComing y }
-        ensures kept { act_content act.entry ≢ ActContent.Break → (x y : State) →
+            result ≡ Outcome.Done → (y : MachineState) → StandsFor self.new y → PictureIsComing y }
+        ensures kept { act_content act.entry ≢ ActContent.Break → (x y : MachineState) →
             StandsFor self.old x → StandsFor self.new y → PictureIsComing x → PictureIsComing y }
-        ensures ended { act_content act.entry ≡ ActContent.Break → (y : State) →
+        ensures ended { act_content act.entry ≡ ActContent.Break → (y : MachineState) →
             StandsFor self.new y → ¬ (PictureIsComing y) }
         ensures host_break { act_content act.entry ≡ ActContent.HostBreak → (result ≡ Outcome.Done)
             × (length self.new.down.bytes ≡ 257) × (self.new.board ≡ self.old.board) }
-        ensures restarted { act_content act.entry ≡ ActContent.HostBreak → (y : State) →
+        ensures restarted { act_content act.entry ≡ ActContent.HostBreak → (y : MachineState) →
             StandsFor self.new y → IsRestarted y × IsPromised y }
-        ensures mode { (x y : State) → StandsFor self.old x → StandsFor self.new y →
-            coming_mode y ≡ mode_after_step (coming_mode x) (act_content act.entry) result }
+        ensures mode { (x y : MachineState) → StandsFor self.old x → StandsFor self.new y →
+            coming_mode y ≡ mode_after (coming_mode x) (act_requests result (act_content act.entry)) }
     {
         laws::acts_are_moves();
         laws::acts_keep();
@@ -226,21 +226,21 @@ impl World {
     /// Does all acts in order, and answers how many were `Done`.
     ///
     /// Where those that were done after the last `Break` ask for a dump, and the last of them that
-    /// asks for a mode asks for updates, the host's picture is the board's position once the world is
-    /// quiet. A `HostBreak` asks for both.
+    /// asks for a mode asks for updates, the host's picture is the board's position once the world
+    /// is quiet. A `HostBreak` asks for both.
     pub fn run(&mut self, acts: &[Act<'_>]) -> usize
         ensures exact { (outcomes : List Outcome) × (result ≡ done_count outcomes)
             × Runs (map act_content acts.now) self.old outcomes self.new }
         ensures moves { (outcomes : List Outcome) →
             Runs (map act_content acts.now) self.old outcomes self.new →
-            (x : State) → StandsFor self.old x →
+            (x : MachineState) → StandsFor self.old x →
             StandsAfterRun (map act_content acts.now) outcomes x self.new }
         ensures stays_exact { ¬ (Contains (map act_content acts.now) ActContent.HostBreak) →
             IsExactWorld self.old → IsExactWorld self.new }
         ensures promised { (outcomes : List Outcome) →
             Runs (map act_content acts.now) self.old outcomes self.new →
             IsAskedBy (map act_content acts.now) outcomes →
-            (y : State) × StandsFor self.new y × IsPromised y }
+            (y : MachineState) × StandsFor self.new y × IsPromised y }
         ensures picture { (outcomes : List Outcome) →
             Runs (map act_content acts.now) self.old outcomes self.new →
             IsAskedBy (map act_content acts.now) outcomes → IsQuietWorld self.new →
@@ -340,16 +340,16 @@ impl World {
     /// quiet, and answers how many acts that took. A quiet world takes none.
     ///
     /// The acts are `ToHost`, `BoardSend` and `ToBoard` alone, and each is `Done`. They are at most
-    /// three for each byte in the down line, two for each reply that the board owes, for each square
-    /// that differs from what it has told and for a clock that it owes, and one. No square, no clock
-    /// of the board and no command is new. So the mode is that of the last mode command under way, and
-    /// where a dump was asked for and this mode asks for updates, the host's picture is the board's
-    /// position.
+    /// three for each byte in the down line, two for each reply that the board owes, for each
+    /// square that differs from what it has told and for a clock that it owes, and one. No square,
+    /// no clock of the board and no command is new. So the mode is that of the last mode command
+    /// under way, and where a dump was asked for and this mode asks for updates, the host's picture
+    /// is the board's position.
     ///
     /// All of that holds after a `Break` and after a `HostBreak` too, whatever was under way then.
     /// After a `Break` no picture is known until a dump is asked for again. After a `HostBreak` the
-    /// 257 bytes in the down line are noise, and then `UpdateBoard` and `Dump`: so the picture is the
-    /// board's position again, but the host's clock may be unknown.
+    /// 257 bytes in the down line are noise, and then `UpdateBoard` and `Dump`: so the picture is
+    /// the board's position again, but the host's clock may be unknown.
     pub fn settle(&mut self) -> u128
         ensures quiet { IsQuietWorld self.new }
         ensures run { SettlesIn result self.old self.new }
@@ -358,9 +358,9 @@ impl World {
         ensures at_most { result ≤ 3 * length self.old.down.bytes + 147 }
         ensures keeps_squares { self.new.board.state.squares ≡ self.old.board.state.squares }
         ensures keeps_clock { self.new.board.state.clock ≡ self.old.board.state.clock }
-        ensures mode { (x : State) → StandsFor self.old x →
+        ensures mode { (x : MachineState) → StandsFor self.old x →
             self.new.board.state.mode ≡ coming_mode x }
-        ensures picture { (x : State) → StandsFor self.old x → IsPromised x →
+        ensures picture { (x : MachineState) → StandsFor self.old x → IsPromised x →
             self.new.host.picture ≡ Some self.old.board.state.squares }
         ensures told { IsTrue (updates self.new.board.state.mode) →
             IsUnknownOr self.new.host.picture (Some self.old.board.state.squares) }
@@ -384,7 +384,7 @@ impl World {
 
     // A world stands for a state of the machine.
     fn stands(&self)
-        ensures { (x : State) × StandsFor self.now x }
+        ensures { (x : MachineState) × StandsFor self.now x }
     {
         self.up.is_empty();
     }
@@ -403,9 +403,9 @@ impl World {
             IsTrue (follows_clock self.now.board.state.mode) →
             self.now.host.clock ≡ Some self.now.board.state.clock }
         ensures awaited { IsTrue result → self.now.host.awaited ≡ [] }
-        ensures picture { IsTrue result → (x : State) → StandsFor self.now x → IsPromised x →
+        ensures picture { IsTrue result → (x : MachineState) → StandsFor self.now x → IsPromised x →
             self.now.host.picture ≡ Some self.now.board.state.squares }
-        ensures stands { (x : State) × StandsFor self.now x }
+        ensures stands { (x : MachineState) × StandsFor self.now x }
     {
         laws::at_quiet_world();
         self.stands();
@@ -429,19 +429,19 @@ impl World {
         &self.board
     }
 
-    /// The host. Its picture, once it has heard all messages under way, is unknown or the squares as
-    /// the board has told them; a message that it has heard a part of is one of them.
+    /// The host. Its picture, once it has heard all messages under way, is unknown or the squares
+    /// as the board has told them; a message that it has heard a part of is one of them.
     pub fn host(&self) -> &Host
         ensures host { result.now ≡ self.now.host }
-        ensures fold { (x : State) → StandsFor self.now x →
+        ensures fold { (x : MachineState) → StandsFor self.now x →
             IsUnknownOr (picture_after_all self.now.host.picture x.up)
             (Some self.now.board.state.told_squares) }
-        ensures first { (x : State) (before later : List Content) (message : Content)
+        ensures first { (x : MachineState) (before later : List Content) (message : Content)
             (kind : Kind) → StandsFor self.now x → IsExact x →
             x.up ≡ before ++ message ∷ later →
             All (λ other. kind_of other ≡ None) before → kind_of message ≡ Some kind →
             (others : List Kind) × (self.now.host.awaited ≡ kind ∷ others) }
-        ensures stands { (x : State) × StandsFor self.now x }
+        ensures stands { (x : MachineState) × StandsFor self.now x }
     {
         laws::worlds_are_told();
         self.stands();

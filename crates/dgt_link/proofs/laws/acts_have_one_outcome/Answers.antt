@@ -2,7 +2,7 @@ use Rattle.dgt_link.proofs.Once.{one_run, one_step}
 use Rattle.dgt_link.proofs.laws.acts_have_one_outcome.Goals as goal
 
 pub returns-clause-one : goal.returns-clause-one
-returns-clause-one c = one_step c.one_division.ensures
+returns-clause-one c = one_step c.one_taking.ensures
 
 pub returns-clause-all : goal.returns-clause-all
-returns-clause-all c = one_run c.one_division.ensures
+returns-clause-all c = one_run c.one_taking.ensures

@@ -7,13 +7,14 @@ loop-moved-preserved c =
     let rest = left_length _ _ c.args.line.now c.loop-moved.line c.loop-moved.moved c.loop-moved.invariant.taking in
     record {
       most = omega arith;
-      taking = taking_more c.divisions_append.ensures _ _ _ c.args.line.now c.loop-moved.line _ c.loop-moved.moved c.take_front-moved.result c.loop-moved.invariant.taking c.take_front-moved.ensures.some (omega (arith, rest, c.take_front-moved.ensures.within)) (omega arith)
+      taking = taking_more c.takings_append.ensures _ _ _ c.args.line.now c.loop-moved.line _ c.loop-moved.moved c.take_front-moved.result c.loop-moved.invariant.taking c.take_front-moved.ensures.some (omega (arith, rest, c.take_front-moved.ensures.within)) (omega arith)
           c.take_front-moved.ensures.taken c.take_front-moved.ensures.earlier c.take_front-moved.ensures.left;
     }
 
 pub returns-else-owed_len-lt-MAX_OWED : goal.returns-else-owed_len-lt-MAX_OWED
 returns-else-owed_len-lt-MAX_OWED c =
-    let some = some_moved _ _ c.args.line.now c.loop-moved.line c.loop-moved.moved c.loop-moved.invariant.taking (omega arith) (omega arith) in (
-      search rules,
-      taking_ends c.args.count c.loop-moved.moved _ _ c.args.line.now c.loop-moved.line c.loop-moved.invariant.taking some (omega arith) (inr (inr (search rules))),
-    )
+    let some = some_moved _ _ c.args.line.now c.loop-moved.line c.loop-moved.moved c.loop-moved.invariant.taking (omega arith) (omega arith) in
+    record {
+      outcome = search rules;
+      leaves = taking_ends c.args.count c.loop-moved.moved _ _ c.args.line.now c.loop-moved.line c.loop-moved.invariant.taking some (omega arith) (inr (inr (search rules)));
+    }

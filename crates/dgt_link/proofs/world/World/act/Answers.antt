@@ -20,17 +20,17 @@ invariant_of-self-in-ClockRead c =
 pub invariant_of-self-in-Host : goal.invariant_of-self-in-Host
 invariant_of-self-in-Host c =
     c.acts_keep.ensures.sound (ActContent.Host (command_content c.in-Host.command)) _ _ c.ask.result c.self-in-Host.invariant
-    (ask_step _ (command_content c.in-Host.command) c.ask.result _ _ c.ask.ensures)
+    (ask_step _ c.ask.result (command_content c.in-Host.command) _ _ c.ask.ensures.outcome c.ask.ensures.leaves)
 
 pub invariant_of-self-in-ToBoard : goal.invariant_of-self-in-ToBoard
 invariant_of-self-in-ToBoard c =
     c.acts_keep.ensures.sound (ActContent.ToBoard c.in-ToBoard.count) _ _ c.to_board.result c.self-in-ToBoard.invariant
-    (down_step _ c.in-ToBoard.count c.to_board.result _ _ c.to_board.ensures)
+    (down_step _ c.to_board.result c.in-ToBoard.count _ _ c.to_board.ensures.outcome c.to_board.ensures.leaves)
 
 pub invariant_of-self-in-ToHost : goal.invariant_of-self-in-ToHost
 invariant_of-self-in-ToHost c =
     c.acts_keep.ensures.sound (ActContent.ToHost c.in-ToHost.count) _ _ c.to_host.result c.self-in-ToHost.invariant
-    (up_step _ c.in-ToHost.count c.to_host.result _ _ c.to_host.ensures)
+    (up_step _ c.to_host.result c.in-ToHost.count _ _ c.to_host.ensures.outcome c.to_host.ensures.leaves)
 
 pub invariant_of-self-in-Break : goal.invariant_of-self-in-Break
 invariant_of-self-in-Break c =

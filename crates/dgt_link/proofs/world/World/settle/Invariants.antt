@@ -1,5 +1,6 @@
 use Rattle.std.proofs.Common.{◌≤◌, ◌+◌}
-use Rattle.dgt_link.specs.Settling.{SettlesIn, work_left}
+use Rattle.dgt_link.specs.Settling.{SettlesIn}
+use Rattle.dgt_link.specs.Work.{work_left}
 use Rattle.dgt_link.proofs.world.World.settle.Given as goal
 
 abbrev pub invariant-loop-done : goal.invariant-loop-done

@@ -1,20 +1,20 @@
 use Rattle.std.proofs.Common.{◌≡◌, [], arith, rules}
 use Rattle.dgt_values.specs.Pieces.{pieces_of}
 use Rattle.dgt_message.specs.ClockState.{clock_seen}
-use Rattle.dgt_link.specs.Line.{line_of}
+use Rattle.dgt_link.specs.View.{line_holding}
 use Rattle.dgt_link.proofs.Standing.{new_is_exact, new_is_world}
 use Rattle.dgt_link.proofs.world.World.with_memory.Goals as goal
 
 pub invariant_of-result : goal.invariant_of-result
 invariant_of-result c =
-    let up : c.in-Ok.up ≡ line_of [] c.args.up = search rules in
-    let down : c.in-Ok.down ≡ line_of [] c.args.down = search rules in
+    let up : c.in-Ok.up ≡ line_holding [] c.args.up = search rules in
+    let down : c.in-Ok.down ≡ line_holding [] c.args.down = search rules in
     rw (c.new.ensures, c.new-in-Ok.ensures, up, down)
     (new_is_world (pieces_of c.args.position) (clock_seen c.args.clock) c.args.identity c.args.up c.args.down c.args.position.all (omega arith) (omega arith))
 
 pub returns-in-Ok-clause-exact : goal.returns-in-Ok-clause-exact
 returns-in-Ok-clause-exact c =
-    let up : c.in-Ok.up ≡ line_of [] c.args.up = search rules in
-    let down : c.in-Ok.down ≡ line_of [] c.args.down = search rules in
+    let up : c.in-Ok.up ≡ line_holding [] c.args.up = search rules in
+    let down : c.in-Ok.down ≡ line_holding [] c.args.down = search rules in
     rw (c.new.ensures, c.new-in-Ok.ensures, up, down)
     (new_is_exact (pieces_of c.args.position) (clock_seen c.args.clock) c.args.identity c.args.up c.args.down c.args.position.all)

@@ -1,0 +1,62 @@
+-- Lists in two parts, what holds of each element, and fronts of one list.
+use Rattle.std.proofs.Common.{◌≡◌, refl, sym, ◌⊎◌, inl, inr, ℕ, zero, suc, List, [], ◌∷◌, ◌++◌, Some, replicate, arith}
+use Rattle.std.specs.Prelude.{Contains}
+use Rattle.std.specs.List.{AllByRecursion}
+
+pub not_empty : {X : Type 0} (xs : List X) (y : X) (ys : List X) → xs ++ y ∷ ys ≡ [] → ⊥
+not_empty [] y ys h = cc
+not_empty (x ∷ xs) y ys h = cc
+
+pub left_empty : {X : Type 0} (xs ys : List X) → xs ++ ys ≡ [] → xs ≡ []
+left_empty [] ys h = refl
+left_empty (x ∷ xs) ys h = cc
+
+pub right_empty : {X : Type 0} (xs ys : List X) → xs ++ ys ≡ [] → ys ≡ []
+right_empty [] ys h = h
+right_empty (x ∷ xs) ys h = cc
+
+pub some_same : {X : Type 0} (x y : X) → Some x ≡ Some y → x ≡ y
+some_same x y h = cc
+
+-- ---- elements
+
+pub Contains-cons : {X : Type 0} (x y : X) (ys : List X) → Contains (y ∷ ys) x → (y ≡ x) ⊎ Contains ys x
+Contains-cons x y ys (zero, within, same) = inl same
+Contains-cons x y ys (suc k, within, same) = inr (k, omega arith, same)
+
+pub nothing_contained : {X : Type 0} (x : X) → Contains [] x → ⊥
+nothing_contained x (k, within, same) = omega arith
+
+pub all_append : {X : Type 0} (P : X → Type 0) (xs ys : List X)
+    → AllByRecursion P xs → AllByRecursion P ys → AllByRecursion P (xs ++ ys)
+all_append P [] ys first later = later
+all_append P (x ∷ xs) ys first later = (first.0, all_append P xs ys first.1 later)
+
+pub all_replicate : {X : Type 0} (P : X → Type 0) (count : ℕ) (x : X) → P x → AllByRecursion P (replicate count x)
+all_replicate P zero x is = tt
+all_replicate P (suc count) x is = (is, all_replicate P count x is)
+
+-- ---- fronts
+
+-- some of the word is behind the bytes
+abbrev pub IsShorter : List ℕ → List ℕ → Type 0
+IsShorter bytes word = (next : ℕ) × (more : List ℕ) × (word ≡ bytes ++ next ∷ more)
+
+-- the bytes are the word and more, which is the front of what follows the word
+abbrev pub Reaches : List ℕ → List ℕ → List ℕ → List ℕ → Type 0
+Reaches bytes after word rest = (more : List ℕ) × (bytes ≡ word ++ more) × (rest ≡ more ++ after)
+
+-- of two fronts of one list, one is a front of the other
+pub fronts : (bytes after word rest : List ℕ) → bytes ++ after ≡ word ++ rest
+    → IsShorter bytes word ⊎ Reaches bytes after word rest
+fronts bytes after [] rest h = inr (bytes, refl, sym h)
+fronts [] after (byte ∷ word) rest h = inl (byte, word, refl)
+fronts (first ∷ bytes) after (byte ∷ word) rest h = go (fronts bytes after word rest cc)
+  where
+    same : first ≡ byte
+    same = cc
+
+    go : IsShorter bytes word ⊎ Reaches bytes after word rest
+        → IsShorter (first ∷ bytes) (byte ∷ word) ⊎ Reaches (first ∷ bytes) after (byte ∷ word) rest
+    go (inl (next, more, e)) = inl (next, more, cc)
+    go (inr (more, e, f)) = inr (more, cc, f)

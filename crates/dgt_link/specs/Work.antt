@@ -1,0 +1,10 @@
+-- How much is left to do until a world is quiet, where each delivery is of all that is in the line.
+use Rattle.std.specs.Prelude.{ℕ, ◌+◌, ◌*◌, ◌==◌, if◌then◌else◌, length}
+use Rattle.dgt_board.specs.Backlog.{backlog}
+use Rattle.dgt_link.specs.View.{WorldView}
+
+-- at least as many deliveries and sendings: one for an up line that has bytes
+abbrev pub work_left : WorldView → ℕ
+work_left world =
+    3 * length world.down.bytes + 2 * backlog world.board.state
+    + (if length world.up.bytes == 0 then 0 else 1)
