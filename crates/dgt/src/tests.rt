@@ -1,5 +1,6 @@
 //! Whole runs of the program, over words and streams in memory.
 mod boards;
+mod engines;
 mod helps;
 mod scripts;
 

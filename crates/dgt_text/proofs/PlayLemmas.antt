@@ -1,5 +1,5 @@
 -- Lines that are played in a row.
-use Rattle.std.proofs.Common.{◌≡◌, ◌≢◌, ℕ, ◌+◌, ◌-◌, ◌<◌, List, [], ◌∷◌, ◌++◌, ◌⊎◌, inl, inr, Option, Bool, Result, Ok, Err, IsErrAnd, IsTrue, refl, sym, ◌∙◌, ap, subst, length, arith, append_assoc, append-nil, length-append, zero, suc, take, drop, slice_index, add-one}
+use Rattle.std.proofs.Common.{◌≡◌, ◌≢◌, ℕ, ◌+◌, ◌-◌, ◌<◌, List, [], ◌∷◌, ◌++◌, ◌⊎◌, inl, inr, Bool, Result, Ok, Err, IsErrAnd, IsTrue, refl, sym, ◌∙◌, ap, subst, length, arith, append_assoc, append-nil, length-append, zero, suc, take, drop, slice_index, add-one}
 use Rattle.std.specs.Prelude.{◌↔◌, All, flat_map}
 use Rattle.std.specs.Io.KnownBytes.{Appends}
 use Rattle.std.proofs.KnownBytes.{Appends-trans, Appends-nil}
@@ -11,16 +11,17 @@ use Rattle.dgt_link.specs.Act.{ActContent}
 use Rattle.dgt_link.specs.declared.acts.Outcome.{Outcome}
 use Rattle.dgt_link.specs.Step.{Step}
 use Rattle.dgt_link.specs.View.{IsQuietWorld, WorldView}
-use Rattle.dgt_text.specs.declared.faults.RunFault.{RunFault}
-use Rattle.dgt_text.specs.declared.faults.RunFault.TheVariants.{ReadFailed, WriteFailed, TooManyTurns, BadLine}
-use Rattle.dgt_text.specs.declared.script_lines.LineBuffer.{LineBuffer}
-use Rattle.dgt_text.specs.Closing.{closing_lines, outcome_line}
+use Rattle.dgt_lines.specs.declared.faults.RunFault.{RunFault}
+use Rattle.dgt_lines.specs.declared.faults.RunFault.TheVariants.{ReadFailed, WriteFailed, TooManyTurns, BadLine}
+use Rattle.dgt_script.specs.declared.script_lines.LineBuffer.{LineBuffer}
+use Rattle.dgt_script.specs.Closing.{closing_lines, outcome_line}
 use Rattle.dgt_text.specs.Monitoring.{IsFront}
-use Rattle.dgt_text.specs.Runs.{Writes, Stopped}
-use Rattle.dgt_text.specs.Script.{IsAsked, IsBadAt}
-use Rattle.dgt_text.specs.ScriptLines.{HasNoFeed, IsCut, Keeps, ended}
+use Rattle.dgt_lines.specs.Writing.{Writes, Stopped}
+use Rattle.dgt_script.specs.Script.{AsksFor, IsBadAt}
+use Rattle.dgt_script.specs.ScriptLines.{HasNoFeed, IsCut, KeepsLine, ended}
 use Rattle.dgt_text.specs.Simulating.{BeginsWith, IsSimulatedFrom, Plays, PlaysLine, PlaysOn, PlaysPiece, PlaysTorn, Stops, Took, all_lines}
 use Rattle.dgt_text.proofs.RunLemmas.{slice_from, slice_more, slice_room}
+use Rattle.dgt_lines.specs.declared.ends.Sink.{Ghosts as Sink}
 
 -- ---- lines
 
@@ -92,7 +93,7 @@ plays_append w m l (line ∷ ls) ks t u p q = (
   plays_append p.2 m l ls ks p.3 u p.7 q,
 )
 
-pub plays_one : (w l : WorldView) (line : List ℕ) (act : ActContent) (o : Outcome) → IsAsked line act → Step act w o l → Plays w (line ∷ []) (outcome_line o) l
+pub plays_one : (w l : WorldView) (line : List ℕ) (act : ActContent) (o : Outcome) → AsksFor line act → Step act w o l → Plays w (line ∷ []) (outcome_line o) l
 plays_one w l line act o h s = (act, o, l, [], h, s, sym (append-nil (outcome_line o)), (refl, refl))
 
 -- no line
@@ -211,32 +212,32 @@ front_none : (front rest : List ℕ) → [] ≡ front ++ rest → front ≡ []
 front_none [] rest h = refl
 front_none (b ∷ front) rest h = cc
 
-module _ {S : Type 0} (written : S → Option (List ℕ)) (failed late : S → Bool) where
-  pub stopped_none : (a b : S) → Stopped written failed late a b [] → Appends (written a) (written b) []
-  stopped_none a b p = subst (λ l. Appends (written a) (written b) l) (front_none p.front p.rest p.whole) p.appends
+module _ {S : Type 0} (W : Sink S) where
+  pub stopped_none : (a b : S) → Stopped W a b [] → Appends (W.written a) (W.written b) []
+  stopped_none a b p = subst (λ l. Appends (W.written a) (W.written b) l) (front_none p.front p.rest p.whole) p.appends
 
   -- the line of an outcome, or a front of it
-  pub line_put : {A : Type 0} (at_end : Bool) (r : Result A RunFault) (w l : WorldView) (a b : S) (number : ℕ) (line bytes : List ℕ) (act : ActContent) (o : Outcome) → Writes written failed late a b r (outcome_line o)
-      → IsAsked line act → Step act w o l → BeginsWith at_end bytes (line ∷ []) → PlaysLine written at_end w l a b r number line bytes
+  pub line_put : {A : Type 0} (at_end : Bool) (r : Result A RunFault) (w l : WorldView) (a b : S) (number : ℕ) (line bytes : List ℕ) (act : ActContent) (o : Outcome) → Writes W a b r (outcome_line o)
+      → AsksFor line act → Step act w o l → BeginsWith at_end bytes (line ∷ []) → PlaysLine W at_end w l a b r number line bytes
   line_put at_end (Ok x) w l a b number line bytes act o p h s g = (outcome_line o, p.appends, plays_one w l line act o h s)
   line_put at_end (Err e) w l a b number line bytes act o p h s g =
-      subst (λ f. Took written a b (Stops at_end f w l number bytes)) (sym p.0)
+      subst (λ f. Took W a b (Stops at_end f w l number bytes)) (sym p.0)
       (p.1.front, p.1.appends, (line ∷ [], g, torn_one w l line p.1.front (outcome_line o) (plays_one w l line act o h s) (p.1.rest, p.1.whole)))
 
-module _ {S : Type 0} (written : S → Option (List ℕ)) where
+module _ {S : Type 0} (W : Sink S) where
   -- a line that asks for no act
   pub line_refused : {A : Type 0} (at_end : Bool) (r : Result A RunFault) (w : WorldView) (a b : S) (number at : ℕ) (line bytes : List ℕ) → (r ≡ Err (BadLine number at)) ⊎ (r ≡ Err WriteFailed)
-      → Appends (written a) (written b) [] → IsBadAt line at → BeginsWith at_end bytes (line ∷ []) → PlaysLine written at_end w w a b r number line bytes
+      → Appends (W.written a) (W.written b) [] → IsBadAt line at → BeginsWith at_end bytes (line ∷ []) → PlaysLine W at_end w w a b r number line bytes
   line_refused {A = A} at_end r w a b number at line bytes (inl e) p h g =
-      subst (λ x. PlaysLine {A = A} written at_end w w a b x number line bytes) (sym e)
+      subst (λ x. PlaysLine {A = A} W at_end w w a b x number line bytes) (sym e)
       ([], p, ([], line, g, (refl, refl), h, omega arith))
   line_refused {A = A} at_end r w a b number at line bytes (inr e) p h g =
-      subst (λ x. PlaysLine {A = A} written at_end w w a b x number line bytes) (sym e)
+      subst (λ x. PlaysLine {A = A} W at_end w w a b x number line bytes) (sym e)
       ([], p, ([], begins_none at_end bytes, torn_none w))
 
   -- ---- pieces
 
-  pub on_none : (w : WorldView) (a : S) (line : LineBuffer) (number : ℕ) (rest : List ℕ) → Keeps line rest → HasNoFeed rest → PlaysOn written w w a a line number number rest
+  pub on_none : (w : WorldView) (a : S) (line : LineBuffer) (number : ℕ) (rest : List ℕ) → KeepsLine line rest → HasNoFeed rest → PlaysOn W w w a a line number number rest
   on_none w a line number rest k h = record {
     lines = [];
     rest = rest;
@@ -245,12 +246,12 @@ module _ {S : Type 0} (written : S → Option (List ℕ)) where
     kept = k;
     counted = omega arith;
     plays = (refl, refl);
-    wrote = Appends-nil (written a);
+    wrote = Appends-nil (W.written a);
   }
 
   -- a line with its line feed
-  pub on_one : (w l : WorldView) (a b : S) (line : LineBuffer) (number : ℕ) (whole : List ℕ) → Keeps line [] → HasNoFeed whole → Took written a b (λ out. Plays w (whole ∷ []) out l)
-      → PlaysOn written w l a b line number (number + 1) (whole ++ 10 ∷ [])
+  pub on_one : (w l : WorldView) (a b : S) (line : LineBuffer) (number : ℕ) (whole : List ℕ) → KeepsLine line [] → HasNoFeed whole → Took W a b (λ out. Plays w (whole ∷ []) out l)
+      → PlaysOn W w l a b line number (number + 1) (whole ++ 10 ∷ [])
   on_one w l a b line number whole k h p = record {
     lines = whole ∷ [];
     rest = [];
@@ -262,11 +263,11 @@ module _ {S : Type 0} (written : S → Option (List ℕ)) where
     wrote = p.1;
   }
 
-  on_whole : {w m : WorldView} {a b : S} {line : LineBuffer} {n n' : ℕ} (bytes : List ℕ) (q : PlaysOn written w m a b line n n' bytes) (p : List ℕ) → bytes ++ p ≡ flat_map ended q.lines ++ (q.rest ++ p)
+  on_whole : {w m : WorldView} {a b : S} {line : LineBuffer} {n n' : ℕ} (bytes : List ℕ) (q : PlaysOn W w m a b line n n' bytes) (p : List ℕ) → bytes ++ p ≡ flat_map ended q.lines ++ (q.rest ++ p)
   on_whole bytes q p = ap (λ l. l ++ p) q.cut.whole ∙ append_assoc (flat_map ended q.lines) q.rest p
 
-  pub on_more : (w m l : WorldView) (a b c : S) (line line' : LineBuffer) (n n' n'' : ℕ) (bytes piece : List ℕ) (q : PlaysOn written w m a b line n n' bytes) → PlaysOn written m l b c line' n' n'' (q.rest ++ piece)
-      → PlaysOn written w l a c line' n n'' (bytes ++ piece)
+  pub on_more : (w m l : WorldView) (a b c : S) (line line' : LineBuffer) (n n' n'' : ℕ) (bytes piece : List ℕ) (q : PlaysOn W w m a b line n n' bytes) → PlaysOn W m l b c line' n' n'' (q.rest ++ piece)
+      → PlaysOn W w l a c line' n n'' (bytes ++ piece)
   on_more w m l a b c line line' n n' n'' bytes piece q p = record {
     lines = q.lines ++ p.lines;
     rest = p.rest;
@@ -279,28 +280,28 @@ module _ {S : Type 0} (written : S → Option (List ℕ)) where
   }
 
   -- more bytes of the line
-  pub on_held : (w m : WorldView) (a b : S) (line line' : LineBuffer) (n n' : ℕ) (bytes p : List ℕ) (q : PlaysOn written w m a b line n n' bytes) → HasNoFeed p → Keeps line' (q.rest ++ p)
-      → PlaysOn written w m a b line' n n' (bytes ++ p)
+  pub on_held : (w m : WorldView) (a b : S) (line line' : LineBuffer) (n n' : ℕ) (bytes p : List ℕ) (q : PlaysOn W w m a b line n n' bytes) → HasNoFeed p → KeepsLine line' (q.rest ++ p)
+      → PlaysOn W w m a b line' n n' (bytes ++ p)
   on_held w m a b line line' n n' bytes p q h k = on_more w m m a b b line line' n n' n' bytes p q (on_none m b line' n' (q.rest ++ p) k (All-append (λ x. x ≢ 10) q.rest p q.cut.last h))
 
   -- a line feed after them
-  pub on_line : (w m l : WorldView) (a b c : S) (line line' : LineBuffer) (n n' : ℕ) (bytes p : List ℕ) (q : PlaysOn written w m a b line n n' bytes) → HasNoFeed p → Keeps line' []
-      → Took written b c (λ out. Plays m ((q.rest ++ p) ∷ []) out l) → PlaysOn written w l a c line' n (n' + 1) (bytes ++ (p ++ 10 ∷ []))
+  pub on_line : (w m l : WorldView) (a b c : S) (line line' : LineBuffer) (n n' : ℕ) (bytes p : List ℕ) (q : PlaysOn W w m a b line n n' bytes) → HasNoFeed p → KeepsLine line' []
+      → Took W b c (λ out. Plays m ((q.rest ++ p) ∷ []) out l) → PlaysOn W w l a c line' n (n' + 1) (bytes ++ (p ++ 10 ∷ []))
   on_line w m l a b c line line' n n' bytes p q h k t = on_more w m l a b c line line' n n' (n' + 1) bytes (p ++ 10 ∷ []) q
-      (subst (λ x. PlaysOn written m l b c line' n' (n' + 1) x) (append_assoc q.rest p (10 ∷ []))
+      (subst (λ x. PlaysOn W m l b c line' n' (n' + 1) x) (append_assoc q.rest p (10 ∷ []))
       (on_one m l b c line' n' (q.rest ++ p) k (All-append (λ x. x ≢ 10) q.rest p q.cut.last h) t))
 
   -- what stops the run after them
-  pub on_stops : (at_end : Bool) (e : RunFault) (w m l : WorldView) (a b c : S) (line : LineBuffer) (n n' : ℕ) (bytes p : List ℕ) (q : PlaysOn written w m a b line n n' bytes) → Took written b c (Stops at_end e m l n' (q.rest ++ p))
-      → Took written a c (Stops at_end e w l n (bytes ++ p))
+  pub on_stops : (at_end : Bool) (e : RunFault) (w m l : WorldView) (a b c : S) (line : LineBuffer) (n n' : ℕ) (bytes p : List ℕ) (q : PlaysOn W w m a b line n n' bytes) → Took W b c (Stops at_end e m l n' (q.rest ++ p))
+      → Took W a c (Stops at_end e w l n (bytes ++ p))
   on_stops at_end e w m l a b c line n n' bytes p q t = (
     q.text ++ t.0,
     Appends-trans _ _ _ q.text t.0 q.wrote t.1,
     stops_after at_end e w m l n n' (bytes ++ p) (q.rest ++ p) q.text t.0 q.lines (on_whole bytes q p) q.cut.each q.counted q.plays t.2,
   )
 
-  pub on_simulated : {A : Type 0} (at_end : Bool) (r : Result A RunFault) (w m l : WorldView) (a b c : S) (line : LineBuffer) (n n' : ℕ) (bytes p : List ℕ) (q : PlaysOn written w m a b line n n' bytes)
-      → Took written b c (IsSimulatedFrom at_end n' r m l (q.rest ++ p)) → Took written a c (IsSimulatedFrom at_end n r w l (bytes ++ p))
+  pub on_simulated : {A : Type 0} (at_end : Bool) (r : Result A RunFault) (w m l : WorldView) (a b c : S) (line : LineBuffer) (n n' : ℕ) (bytes p : List ℕ) (q : PlaysOn W w m a b line n n' bytes)
+      → Took W b c (IsSimulatedFrom at_end n' r m l (q.rest ++ p)) → Took W a c (IsSimulatedFrom at_end n r w l (bytes ++ p))
   on_simulated at_end r w m l a b c line n n' bytes p q t = (
     q.text ++ t.0,
     Appends-trans _ _ _ q.text t.0 q.wrote t.1,
@@ -308,35 +309,35 @@ module _ {S : Type 0} (written : S → Option (List ℕ)) where
   )
 
   -- the exit of a `?` in a piece
-  pub piece_exit : {A : Type 0} (at_end : Bool) (r : Result A RunFault) (e : RunFault) (w l : WorldView) (a b : S) (line : LineBuffer) (n n' : ℕ) (bytes : List ℕ) → IsErrAnd r (λ y. y ≡ e) → Took written a b (Stops at_end e w l n bytes)
-      → PlaysPiece written at_end w l a b line n n' r bytes
+  pub piece_exit : {A : Type 0} (at_end : Bool) (r : Result A RunFault) (e : RunFault) (w l : WorldView) (a b : S) (line : LineBuffer) (n n' : ℕ) (bytes : List ℕ) → IsErrAnd r (λ y. y ≡ e) → Took W a b (Stops at_end e w l n bytes)
+      → PlaysPiece W at_end w l a b line n n' r bytes
   piece_exit at_end (Ok x) e w l a b line n n' bytes k t = absurd k
-  piece_exit at_end (Err y) e w l a b line n n' bytes k t = subst (λ f. Took written a b (Stops at_end f w l n bytes)) (sym k) t
+  piece_exit at_end (Err y) e w l a b line n n' bytes k t = subst (λ f. Took W a b (Stops at_end f w l n bytes)) (sym k) t
 
   -- ---- the end
 
   -- the exit of a `?` at the end
-  pub end_exit : {A : Type 0} (at_end : Bool) (r : Result A RunFault) (e : RunFault) (w l : WorldView) (a b : S) (n : ℕ) (bytes : List ℕ) → IsErrAnd r (λ y. y ≡ e) → Took written a b (Stops at_end e w l n bytes)
-      → Took written a b (IsSimulatedFrom at_end n r w l bytes)
+  pub end_exit : {A : Type 0} (at_end : Bool) (r : Result A RunFault) (e : RunFault) (w l : WorldView) (a b : S) (n : ℕ) (bytes : List ℕ) → IsErrAnd r (λ y. y ≡ e) → Took W a b (Stops at_end e w l n bytes)
+      → Took W a b (IsSimulatedFrom at_end n r w l bytes)
   end_exit at_end (Ok x) e w l a b n bytes k t = absurd k
-  end_exit {A = A} at_end (Err y) e w l a b n bytes k t = subst (λ f. let r : Result A RunFault = Err f in Took written a b (IsSimulatedFrom at_end n r w l bytes)) (sym k) (t.0, t.1, stops_simulated at_end A e w l n bytes t.0 t.2)
+  end_exit {A = A} at_end (Err y) e w l a b n bytes k t = subst (λ f. let r : Result A RunFault = Err f in Took W a b (IsSimulatedFrom at_end n r w l bytes)) (sym k) (t.0, t.1, stops_simulated at_end A e w l n bytes t.0 t.2)
 
-  pub end_some : (w l : WorldView) (a b : S) (rest : List ℕ) → rest ≢ [] → Took written a b (λ out. Plays w (rest ∷ []) out l) → Took written a b (λ out. Plays w (all_lines [] rest) out l)
+  pub end_some : (w l : WorldView) (a b : S) (rest : List ℕ) → rest ≢ [] → Took W a b (λ out. Plays w (rest ∷ []) out l) → Took W a b (λ out. Plays w (all_lines [] rest) out l)
   end_some w l a b [] n t = absurd (n refl)
   end_some w l a b (byte ∷ rest) n t = t
 
-  pub end_none : (w l : WorldView) (a b : S) (rest : List ℕ) → rest ≡ [] → l ≡ w → b ≡ a → Took written a b (λ out. Plays w (all_lines [] rest) out l)
-  end_none w l a b rest e f h = rw (e, f, h) ([], Appends-nil (written a), (refl, refl))
+  pub end_none : (w l : WorldView) (a b : S) (rest : List ℕ) → rest ≡ [] → l ≡ w → b ≡ a → Took W a b (λ out. Plays w (all_lines [] rest) out l)
+  end_none w l a b rest e f h = rw (e, f, h) ([], Appends-nil (W.written a), (refl, refl))
 
   -- the closing lines, or a front of them
-  pub end_closing : {A : Type 0} (at_end : Bool) (failed late : S → Bool) (r : Result A RunFault) (w l : WorldView) (a b c : S) (n : ℕ) (rest : List ℕ) (quiet : Bool) → IsTrue at_end → HasNoFeed rest
-      → Took written a b (λ out. Plays w (all_lines [] rest) out l) → (IsTrue quiet ↔ IsQuietWorld l) → Writes written failed late b c r (closing_lines l quiet) → Took written a c (IsSimulatedFrom at_end n r w l rest)
-  end_closing at_end failed late (Ok x) w l a b c n rest quiet e h t k p = (
+  pub end_closing : {A : Type 0} (at_end : Bool) (r : Result A RunFault) (w l : WorldView) (a b c : S) (n : ℕ) (rest : List ℕ) (quiet : Bool) → IsTrue at_end → HasNoFeed rest
+      → Took W a b (λ out. Plays w (all_lines [] rest) out l) → (IsTrue quiet ↔ IsQuietWorld l) → Writes W b c r (closing_lines l quiet) → Took W a c (IsSimulatedFrom at_end n r w l rest)
+  end_closing at_end (Ok x) w l a b c n rest quiet e h t k p = (
     t.0 ++ closing_lines l quiet,
     Appends-trans _ _ _ t.0 (closing_lines l quiet) t.1 p.appends,
     ([], rest, t.0, quiet, record { whole = refl; each = all_none; last = h }, t.2, k, refl),
   )
-  end_closing {A = A} at_end failed late (Err f) w l a b c n rest quiet e h t k p = subst (λ g. let r : Result A RunFault = Err g in Took written a c (IsSimulatedFrom at_end n r w l rest)) (sym p.0) (
+  end_closing {A = A} at_end (Err f) w l a b c n rest quiet e h t k p = subst (λ g. let r : Result A RunFault = Err g in Took W a c (IsSimulatedFrom at_end n r w l rest)) (sym p.0) (
     t.0 ++ p.1.front,
     Appends-trans _ _ _ t.0 p.1.front t.1 p.1.appends,
     inr ([], rest, t.0, quiet, p.1.front, record { whole = refl; each = all_none; last = h }, t.2, k, (p.1.rest, p.1.whole), refl, e),

@@ -5,9 +5,9 @@ use Rattle.dgt_link.specs.Act.{ActContent}
 use Rattle.dgt_link.specs.declared.acts.Outcome.{Outcome}
 use Rattle.dgt_link.specs.Step.{Step}
 use Rattle.dgt_link.specs.View.{WorldView}
-use Rattle.dgt_text.specs.Closing.{outcome_line}
-use Rattle.dgt_text.specs.Script.{IsAsked}
-use Rattle.dgt_text.specs.ScriptLines.{HasNoFeed, IsCut, ended}
+use Rattle.dgt_script.specs.Closing.{outcome_line}
+use Rattle.dgt_script.specs.Script.{AsksFor}
+use Rattle.dgt_script.specs.ScriptLines.{HasNoFeed, IsCut, ended}
 use Rattle.dgt_text.specs.Simulating.{Plays}
 
 rest_of : {A : Type 0} (P : A → Type 0) (x : A) (xs : List A) → All P (x ∷ xs) → All P xs
@@ -49,7 +49,7 @@ lines_once (line ∷ ls) (other ∷ ks) r s h k f g e =
 pub cut_once : (bytes : List ℕ) (lines others : List (List ℕ)) (rest other : List ℕ) → IsCut bytes lines rest → IsCut bytes others other → (lines ≡ others) × (rest ≡ other)
 cut_once bytes lines others rest other c d = lines_once lines others rest other c.each d.each c.last d.last (sym c.whole ∙ d.whole)
 
-module _ (meaning : (line : List ℕ) (first second : ActContent) → IsAsked line first → IsAsked line second → first ≡ second)
+module _ (meaning : (line : List ℕ) (first second : ActContent) → AsksFor line first → AsksFor line second → first ≡ second)
     (one : (act : ActContent) (world after other : WorldView) (answer also : Outcome) → Step act world answer after → Step act world also other → (answer ≡ also) × (after ≡ other)) where
   pub plays_once : (w : WorldView) (ls : List (List ℕ)) (t u : List ℕ) (l k : WorldView) → Plays w ls t l → Plays w ls u k → (t ≡ u) × (l ≡ k)
   plays_once w [] t u l k p q = (p.0 ∙ sym q.0, sym p.1 ∙ q.1)

@@ -1,5 +1,5 @@
 -- How a run of `simulate` ends.
-use Rattle.std.proofs.Common.{◌≡◌, ℕ, List, [], ◌++◌, Bool, true, Option, Some, Result, Ok, Err, IsErrAnd, IsTrue, OnOk, sym, ◌∙◌, ap, subst, append-nil}
+use Rattle.std.proofs.Common.{◌≡◌, ℕ, List, [], ◌++◌, Bool, true, Some, Result, Ok, Err, IsErrAnd, IsTrue, OnOk, sym, ◌∙◌, ap, subst, append-nil}
 use Rattle.std.specs.Prelude.{IfErr}
 use Rattle.std.specs.Io.KnownBytes.{Appends, Consumes}
 use Rattle.std.proofs.KnownBytes.{Appends-trans, Consumes-nil, Consumes-trans}
@@ -7,13 +7,16 @@ use Rattle.dgt_link.specs.Machine.{State}
 use Rattle.dgt_link.specs.Promise.{IsPromised}
 use Rattle.dgt_link.specs.Stands.{StandsFor}
 use Rattle.dgt_link.specs.View.{IsQuietWorld, WorldView}
-use Rattle.dgt_text.specs.declared.faults.RunFault.{RunFault}
-use Rattle.dgt_text.specs.declared.faults.RunFault.TheVariants.{ReadFailed, WriteFailed, TooManyTurns, BadLine}
-use Rattle.dgt_text.specs.declared.script_lines.LineBuffer.{LineBuffer}
-use Rattle.dgt_text.specs.Closing.{ClosingLinesAgree, closing_lines}
-use Rattle.dgt_text.specs.Runs.{HasTurns, Ran, Stopped}
+use Rattle.dgt_lines.specs.declared.faults.RunFault.{RunFault}
+use Rattle.dgt_lines.specs.declared.faults.RunFault.TheVariants.{ReadFailed, WriteFailed, TooManyTurns, BadLine}
+use Rattle.dgt_script.specs.declared.script_lines.LineBuffer.{LineBuffer}
+use Rattle.dgt_script.specs.Closing.{ClosingLinesAgree, closing_lines}
+use Rattle.dgt_lines.specs.Writing.{Stopped}
+use Rattle.dgt_text.specs.Turns.{HasTurns, Ran}
 use Rattle.dgt_text.specs.Simulating.{IsOfLine, IsSimulated, IsSimulatedFrom, PlaysOn, Stops, TellsPicture, Took}
 use Rattle.dgt_text.proofs.PlayLemmas.{begins_none, end_exit, on_simulated, stopped_none, torn_none}
+use Rattle.dgt_lines.specs.declared.ends.Source.{Ghosts as Source}
+use Rattle.dgt_lines.specs.declared.ends.Sink.{Ghosts as Sink}
 
 -- a fault of a line is none of turns
 line_turns : {A : Type 0} (limit : ℕ) (r : Result A RunFault) (bytes : List ℕ) → IfErr r IsOfLine → HasTurns limit r bytes
@@ -38,9 +41,9 @@ is_true : {b : Bool} → IsTrue b → b ≡ true
 is_true h = cc
 
 -- the lines that were played, and a flush
-pub plays_flushed : {T : Type 0} (written : T → Option (List ℕ)) (c d d' : T) (w m : WorldView) (line : LineBuffer) (n : ℕ) (bytes : List ℕ) → PlaysOn written w m c d line 1 n bytes → Appends (written d) (written d') []
-    → PlaysOn written w m c d' line 1 n bytes
-plays_flushed written c d d' w m line n bytes q p = record {
+pub plays_flushed : {T : Type 0} (W : Sink T) (c d d' : T) (w m : WorldView) (line : LineBuffer) (n : ℕ) (bytes : List ℕ) → PlaysOn W w m c d line 1 n bytes → Appends (W.written d) (W.written d') []
+    → PlaysOn W w m c d' line 1 n bytes
+plays_flushed W c d d' w m line n bytes q p = record {
   lines = q.lines;
   rest = q.rest;
   text = q.text;
@@ -48,35 +51,35 @@ plays_flushed written c d d' w m line n bytes q p = record {
   kept = q.kept;
   counted = q.counted;
   plays = q.plays;
-  wrote = subst (λ l. Appends (written c) (written d') l) (append-nil q.text) (Appends-trans _ _ _ q.text [] q.wrote p);
+  wrote = subst (λ l. Appends (W.written c) (W.written d') l) (append-nil q.text) (Appends-trans _ _ _ q.text [] q.wrote p);
 }
 
-module _ {S T : Type 0} (left : S → Option (List ℕ)) (written : T → Option (List ℕ)) where
+module _ {S T : Type 0} (R : Source S) (W : Sink T) where
   -- how the run ends
-  pub scripted_ends : {A : Type 0} (at_end : Bool) (limit : ℕ) (r : Result A RunFault) (a b b' : S) (c d d' : T) (w m l : WorldView) (line : LineBuffer) (n : ℕ) (bytes piece : List ℕ) → Consumes (left a) (left b) bytes → (q : PlaysOn written w m c d line 1 n bytes)
-      → Consumes (left b) (left b') piece → IfErr r IsOfLine → Took written d d' (IsSimulatedFrom at_end n r m l (q.rest ++ piece)) → Ran left written a b' c d' limit r (IsSimulated at_end r w l)
+  pub scripted_ends : {A : Type 0} (at_end : Bool) (limit : ℕ) (r : Result A RunFault) (a b b' : S) (c d d' : T) (w m l : WorldView) (line : LineBuffer) (n : ℕ) (bytes piece : List ℕ) → Consumes (R.left a) (R.left b) bytes → (q : PlaysOn W w m c d line 1 n bytes)
+      → Consumes (R.left b) (R.left b') piece → IfErr r IsOfLine → Took W d d' (IsSimulatedFrom at_end n r m l (q.rest ++ piece)) → Ran R W a b' c d' limit r (IsSimulated at_end r w l)
   scripted_ends at_end limit r a b b' c d d' w m l line n bytes piece g q p f t =
-      let whole = on_simulated written at_end r w m l c d d' line 1 n bytes piece q t in
+      let whole = on_simulated W at_end r w m l c d d' line 1 n bytes piece q t in
       (bytes ++ piece, whole.0, Consumes-trans _ _ _ bytes piece g p, whole.1, line_turns limit r (bytes ++ piece) f, whole.2)
 
   -- the exit of a `?` on a piece
-  pub scripted_stops : {A : Type 0} (at_end : Bool) (limit : ℕ) (r : Result A RunFault) (e : RunFault) (a b b' : S) (c d d' : T) (w m l : WorldView) (line : LineBuffer) (n : ℕ) (bytes piece : List ℕ) → Consumes (left a) (left b) bytes → (q : PlaysOn written w m c d line 1 n bytes)
-      → Consumes (left b) (left b') piece → IsErrAnd r (λ y. y ≡ e) → Took written d d' (Stops at_end e m l n (q.rest ++ piece)) → Ran left written a b' c d' limit r (IsSimulated at_end r w l)
+  pub scripted_stops : {A : Type 0} (at_end : Bool) (limit : ℕ) (r : Result A RunFault) (e : RunFault) (a b b' : S) (c d d' : T) (w m l : WorldView) (line : LineBuffer) (n : ℕ) (bytes piece : List ℕ) → Consumes (R.left a) (R.left b) bytes → (q : PlaysOn W w m c d line 1 n bytes)
+      → Consumes (R.left b) (R.left b') piece → IsErrAnd r (λ y. y ≡ e) → Took W d d' (Stops at_end e m l n (q.rest ++ piece)) → Ran R W a b' c d' limit r (IsSimulated at_end r w l)
   scripted_stops at_end limit r e a b b' c d d' w m l line n bytes piece g q p k t =
       scripted_ends at_end limit r a b b' c d d' w m l line n bytes piece g q p (stop_line at_end r e m l n (q.rest ++ piece) t.0 k t.2)
-      (end_exit written at_end r e m l d d' n (q.rest ++ piece) k t)
+      (end_exit W at_end r e m l d d' n (q.rest ++ piece) k t)
 
   -- and on a flush
-  pub scripted_unflushed : {A : Type 0} (failed late : T → Bool) (at_end : Bool) (limit : ℕ) (r : Result A RunFault) (e : RunFault) (a b : S) (c d d' : T) (w m : WorldView) (line : LineBuffer) (n : ℕ) (bytes : List ℕ)
-      → Consumes (left a) (left b) bytes → PlaysOn written w m c d line 1 n bytes → IsErrAnd r (λ y. y ≡ e) → (e ≡ WriteFailed) × Stopped written failed late d d' [] → Ran left written a b c d' limit r (IsSimulated at_end r w m)
-  scripted_unflushed failed late at_end limit r e a b c d d' w m line n bytes g q k s =
-      scripted_stops at_end limit r e a b b c d d' w m m line n bytes [] g q (Consumes-nil (left b)) k
-      (subst (λ f. Took written d d' (Stops at_end f m m n (q.rest ++ []))) (sym s.0) ([], stopped_none written failed late d d' s.1, ([], begins_none at_end (q.rest ++ []), torn_none m)))
+  pub scripted_unflushed : {A : Type 0} (at_end : Bool) (limit : ℕ) (r : Result A RunFault) (e : RunFault) (a b : S) (c d d' : T) (w m : WorldView) (line : LineBuffer) (n : ℕ) (bytes : List ℕ)
+      → Consumes (R.left a) (R.left b) bytes → PlaysOn W w m c d line 1 n bytes → IsErrAnd r (λ y. y ≡ e) → (e ≡ WriteFailed) × Stopped W d d' [] → Ran R W a b c d' limit r (IsSimulated at_end r w m)
+  scripted_unflushed at_end limit r e a b c d d' w m line n bytes g q k s =
+      scripted_stops at_end limit r e a b b c d d' w m m line n bytes [] g q (Consumes-nil (R.left b)) k
+      (subst (λ f. Took W d d' (Stops at_end f m m n (q.rest ++ []))) (sym s.0) ([], stopped_none W d d' s.1, ([], begins_none at_end (q.rest ++ []), torn_none m)))
 
   -- the closing lines of a world that is promised and quiet
   pub simulated_pictures : {A : Type 0} (at_end : Bool) (limit : ℕ) (r : Result A RunFault) (a b : S) (c d : T) (w l : WorldView) → ClosingLinesAgree
       → ((x : State) → StandsFor l x → IsPromised x → IsQuietWorld l → l.host.picture ≡ Some l.board.state.squares)
-      → Ran left written a b c d limit r (IsSimulated at_end r w l) → Ran left written a b c d limit r (λ _ out. OnOk r (TellsPicture l out))
+      → Ran R W a b c d limit r (IsSimulated at_end r w l) → Ran R W a b c d limit r (λ _ out. OnOk r (TellsPicture l out))
   simulated_pictures at_end limit (Ok x) a b c d w l agree same p =
       let s = p.5 in (
         p.0,

@@ -1,5 +1,5 @@
 -- What a board's conversation leaves in a sink.
-use Rattle.std.proofs.Common.{◌≡◌, ℕ, ◌+◌, ◌-◌, ◌≤◌, List, [], ◌∷◌, ◌++◌, Option, Some, None, Bool, Result, Ok, Err, IsErrAnd, refl, sym, ◌∙◌, ap, subst, append_assoc, append-nil, length, take, drop, arith, true, false, is_some, IfSome, IfNone, option_map}
+use Rattle.std.proofs.Common.{◌≡◌, ℕ, ◌+◌, ◌-◌, ◌≤◌, List, [], ◌∷◌, ◌++◌, Option, Some, None, Result, Ok, Err, IsErrAnd, refl, sym, ◌∙◌, ap, subst, append_assoc, append-nil, length, take, drop, arith, true, false, is_some, IfSome, IfNone, option_map}
 use Rattle.std.proofs.Math.Seq.{take-append_seam}
 use Rattle.std.proofs.lemmas.List.{take-append-drop, take_all}
 use Rattle.std.specs.Io.KnownBytes.{Consumes}
@@ -13,11 +13,12 @@ use Rattle.dgt_board.specs.declared.sending.Polled.{Polled}
 use Rattle.dgt_board.specs.Sending.{after_sending, next_message}
 use Rattle.dgt_board.specs.Polls.{Polls}
 use Rattle.dgt_board.specs.View.{BoardView, after_bytes}
-use Rattle.dgt_text.specs.declared.ends.Source.{Ghosts as Source}
-use Rattle.dgt_text.specs.declared.ends.Sink.{Ghosts as Sink}
-use Rattle.dgt_text.specs.declared.faults.RunFault.{RunFault}
-use Rattle.dgt_text.specs.declared.faults.RunFault.TheVariants.{WriteFailed}
-use Rattle.dgt_text.specs.Runs.{Wrote, Stopped, Writes, Ran}
+use Rattle.dgt_lines.specs.declared.ends.Source.{Ghosts as Source}
+use Rattle.dgt_lines.specs.declared.ends.Sink.{Ghosts as Sink}
+use Rattle.dgt_lines.specs.declared.faults.RunFault.{RunFault}
+use Rattle.dgt_lines.specs.declared.faults.RunFault.TheVariants.{WriteFailed}
+use Rattle.dgt_lines.specs.Writing.{Wrote, Stopped, Writes}
+use Rattle.dgt_text.specs.Turns.{Ran}
 use Rattle.dgt_text.specs.Conversation.{Step, told, heard, Converses, events_heard, bytes_told, Hears}
 use Rattle.dgt_text.specs.Serving.{IsAlmostTold, IsServed, Served, Halted, Serves}
 use Rattle.dgt_text.proofs.RunLemmas.{wrote_none, wrote_then, slice_more}
@@ -90,31 +91,31 @@ almost_told_then steps more out p =
     }
 
 -- the board sent some of what it had to send, and took nothing
-pub record Sent {S : Type 0} (written : S → Option (List ℕ)) (failed late : S → Bool) (before after : BoardView) (old new : S) : Type 0 where
+pub record Sent {S : Type 0} (W : Sink S) (before after : BoardView) (old new : S) : Type 0 where
   pub steps : List Step
   pub conversation : Converses before.state steps after.state
   pub none_heard : events_heard steps ≡ []
   pub partial : after.partial ≡ before.partial
-  pub wrote : Wrote written failed late old new (bytes_told steps)
+  pub wrote : Wrote W old new (bytes_told steps)
 
-module _ {S : Type 0} (written : S → Option (List ℕ)) (failed late : S → Bool) where
-  pub sent_none : (board : BoardView) (a : S) → Sent written failed late board board a a
-  sent_none board a = record { steps = []; conversation = refl; none_heard = refl; partial = refl; wrote = wrote_none written failed late a }
+module _ {S : Type 0} (W : Sink S) where
+  pub sent_none : (board : BoardView) (a : S) → Sent W board board a a
+  sent_none board a = record { steps = []; conversation = refl; none_heard = refl; partial = refl; wrote = wrote_none W a }
 
-  pub sent_more : (old mid new : BoardView) (a b c : S) (message : Content) → Sent written failed late old mid a b → next_message mid.state ≡ Some message
-      → new ≡ record mid { state = after_sending mid.state message } → Wrote written failed late b c (spelling message) → Sent written failed late old new a c
+  pub sent_more : (old mid new : BoardView) (a b c : S) (message : Content) → Sent W old mid a b → next_message mid.state ≡ Some message
+      → new ≡ record mid { state = after_sending mid.state message } → Wrote W b c (spelling message) → Sent W old new a c
   sent_more old mid new a b c message p next is q =
       record {
         steps = p.steps ++ told message ∷ [];
         conversation = converses-told old.state mid.state new.state p.steps message p.conversation next (ap (λ (v : BoardView). v.state) is);
         none_heard = events_heard-append p.steps (told message ∷ []) ∙ ap (λ (l : List EventContent). l ++ []) p.none_heard;
         partial = ap (λ (v : BoardView). v.partial) is ∙ p.partial;
-        wrote = subst (λ (l : List ℕ). Wrote written failed late a c l) (ap (λ (l : List ℕ). bytes_told p.steps ++ l) (sym (append-nil (spelling message))) ∙ sym (bytes_told-append p.steps (told message ∷ [])))
-            (wrote_then written failed late a b c (bytes_told p.steps) (spelling message) p.wrote q);
+        wrote = subst (λ (l : List ℕ). Wrote W a c l) (ap (λ (l : List ℕ). bytes_told p.steps ++ l) (sym (append-nil (spelling message))) ∙ sym (bytes_told-append p.steps (told message ∷ [])))
+            (wrote_then W a b c (bytes_told p.steps) (spelling message) p.wrote q);
       }
 
   -- nothing is left to tell
-  pub sent_all : (old mid new : BoardView) (a b : S) → Sent written failed late old mid a b → IsPartial mid.partial → next_message mid.state ≡ None → new ≡ mid → Served written failed late old new a b []
+  pub sent_all : (old mid new : BoardView) (a b : S) → Sent W old mid a b → IsPartial mid.partial → next_message mid.state ≡ None → new ≡ mid → Served W old new a b []
   sent_all old mid new a b p partial none is =
       rw is (record {
         steps = p.steps;
@@ -123,8 +124,8 @@ module _ {S : Type 0} (written : S → Option (List ℕ)) (failed late : S → B
       })
 
   -- the sink refused a message
-  pub sent_halts : (old mid new : BoardView) (a b c : S) (message : Content) → Sent written failed late old mid a b → IsPartial mid.partial → next_message mid.state ≡ Some message
-      → new ≡ record mid { state = after_sending mid.state message } → Stopped written failed late b c (spelling message) → Halted written failed late old new a c []
+  pub sent_halts : (old mid new : BoardView) (a b c : S) (message : Content) → Sent W old mid a b → IsPartial mid.partial → next_message mid.state ≡ Some message
+      → new ≡ record mid { state = after_sending mid.state message } → Stopped W b c (spelling message) → Halted W old new a c []
   sent_halts old mid new a b c message p partial next is q =
       let steps = p.steps ++ told message ∷ [] in
       let conversation = converses-told old.state mid.state new.state p.steps message p.conversation next (ap (λ (v : BoardView). v.state) is) in
@@ -145,8 +146,8 @@ module _ {S : Type 0} (written : S → Option (List ℕ)) (failed late : S → B
   -- ---- bytes in a row
 
   -- steps that tell nothing, and what follows them
-  pub served_then : DivisionsAppend → (old mid between new : BoardView) (a b c : S) (s t : List ℕ) (steps : List Step) → Served written failed late old mid a b s → Hears mid t steps between → bytes_told steps ≡ []
-      → Served written failed late between new b c [] → Served written failed late old new a c (s ++ t)
+  pub served_then : DivisionsAppend → (old mid between new : BoardView) (a b c : S) (s t : List ℕ) (steps : List Step) → Served W old mid a b s → Hears mid t steps between → bytes_told steps ≡ []
+      → Served W between new b c [] → Served W old new a c (s ++ t)
   served_then append old mid between new a b c s t steps p h none q =
       let all = p.steps ++ (steps ++ q.steps) in
       let later : Hears mid (t ++ []) (steps ++ q.steps) new = hears_then append mid between new t [] steps q.steps h q.answers.hears in
@@ -158,10 +159,10 @@ module _ {S : Type 0} (written : S → Option (List ℕ)) (failed late : S → B
           hears = hears_then append old mid new s t p.steps (steps ++ q.steps) p.answers.hears (rw (append-nil t) at later);
           settled = q.answers.settled;
         };
-        wrote = subst (λ (l : List ℕ). Wrote written failed late a c l) (sym told) (wrote_then written failed late a b c (bytes_told p.steps) (bytes_told q.steps) p.wrote q.wrote);
+        wrote = subst (λ (l : List ℕ). Wrote W a c l) (sym told) (wrote_then W a b c (bytes_told p.steps) (bytes_told q.steps) p.wrote q.wrote);
       }
 
-  pub halted_longer : (old new : BoardView) (a b : S) (s t : List ℕ) → Halted written failed late old new a b s → Halted written failed late old new a b (s ++ t)
+  pub halted_longer : (old new : BoardView) (a b : S) (s t : List ℕ) → Halted W old new a b s → Halted W old new a b (s ++ t)
   halted_longer old new a b s t p =
       record {
         out = p.out;
@@ -171,8 +172,8 @@ module _ {S : Type 0} (written : S → Option (List ℕ)) (failed late : S → B
         in_time = p.in_time;
       }
 
-  halted_then : DivisionsAppend → (old mid new : BoardView) (a b c : S) (s t : List ℕ) (steps : List Step) → Hears old s steps mid → Wrote written failed late a b (bytes_told steps) → Halted written failed late mid new b c t
-      → Halted written failed late old new a c (s ++ t)
+  halted_then : DivisionsAppend → (old mid new : BoardView) (a b c : S) (s t : List ℕ) (steps : List Step) → Hears old s steps mid → Wrote W a b (bytes_told steps) → Halted W mid new b c t
+      → Halted W old new a c (s ++ t)
   halted_then append old mid new a b c s t steps h w q =
       record {
         out = bytes_told steps ++ q.out;
@@ -187,7 +188,7 @@ module _ {S : Type 0} (written : S → Option (List ℕ)) (failed late : S → B
       }
 
   -- some bytes, and then more
-  pub served_more : DivisionsAppend → (old mid new : BoardView) (a b c : S) (s t : List ℕ) → Served written failed late old mid a b s → Served written failed late mid new b c t → Served written failed late old new a c (s ++ t)
+  pub served_more : DivisionsAppend → (old mid new : BoardView) (a b c : S) (s t : List ℕ) → Served W old mid a b s → Served W mid new b c t → Served W old new a c (s ++ t)
   served_more append old mid new a b c s t p q =
       record {
         steps = p.steps ++ q.steps;
@@ -195,19 +196,19 @@ module _ {S : Type 0} (written : S → Option (List ℕ)) (failed late : S → B
           hears = hears_then append old mid new s t p.steps q.steps p.answers.hears q.answers.hears;
           settled = q.answers.settled;
         };
-        wrote = subst (λ (l : List ℕ). Wrote written failed late a c l) (sym (bytes_told-append p.steps q.steps)) (wrote_then written failed late a b c (bytes_told p.steps) (bytes_told q.steps) p.wrote q.wrote);
+        wrote = subst (λ (l : List ℕ). Wrote W a c l) (sym (bytes_told-append p.steps q.steps)) (wrote_then W a b c (bytes_told p.steps) (bytes_told q.steps) p.wrote q.wrote);
       }
 
   -- the sink refused after a word
-  pub served_halts : DivisionsAppend → (old mid between new : BoardView) (a b c : S) (s t : List ℕ) (event : EventContent) → Served written failed late old mid a b s → Hears mid t (heard event ∷ []) between
-      → Halted written failed late between new b c [] → Halted written failed late old new a c (s ++ t)
+  pub served_halts : DivisionsAppend → (old mid between new : BoardView) (a b c : S) (s t : List ℕ) (event : EventContent) → Served W old mid a b s → Hears mid t (heard event ∷ []) between
+      → Halted W between new b c [] → Halted W old new a c (s ++ t)
   served_halts append old mid between new a b c s t event p h q =
-      let later = halted_then append mid between new b b c t [] (heard event ∷ []) h (wrote_none written failed late b) q in
+      let later = halted_then append mid between new b b c t [] (heard event ∷ []) h (wrote_none W b) q in
       halted_then append old mid new a b c s t p.steps p.answers.hears p.wrote (rw (append-nil t) at later)
 
   -- bytes that end no word
-  pub served_part : DivisionsAppend → (old mid new : BoardView) (a b : S) (s t : List ℕ) → Served written failed late old mid a b s → IsPartial (mid.partial ++ t) → new ≡ after_bytes mid t None
-      → Served written failed late old new a b (s ++ t)
+  pub served_part : DivisionsAppend → (old mid new : BoardView) (a b : S) (s t : List ℕ) → Served W old mid a b s → IsPartial (mid.partial ++ t) → new ≡ after_bytes mid t None
+      → Served W old new a b (s ++ t)
   served_part append old mid new a b s t p partial is =
       record {
         steps = p.steps ++ [];
@@ -215,16 +216,16 @@ module _ {S : Type 0} (written : S → Option (List ℕ)) (failed late : S → B
           hears = hears_then append old mid new s t p.steps [] p.answers.hears (hears_part mid new t partial is);
           settled = ap (λ (v : BoardView). next_message v.state) is ∙ p.answers.settled;
         };
-        wrote = subst (λ (l : List Step). Wrote written failed late a b (bytes_told l)) (sym (append-nil p.steps)) p.wrote;
+        wrote = subst (λ (l : List Step). Wrote W a b (bytes_told l)) (sym (append-nil p.steps)) p.wrote;
       }
 
   -- a flush at the end
-  pub served_flushed : {A : Type 0} (old new : BoardView) (a b c : S) (s : List ℕ) (r : Result A RunFault) → Served written failed late old new a b s → Writes written failed late b c r [] → Serves written failed late old new a c r s
+  pub served_flushed : {A : Type 0} (old new : BoardView) (a b c : S) (s : List ℕ) (r : Result A RunFault) → Served W old new a b s → Writes W b c r [] → Serves W old new a c r s
   served_flushed old new a b c s (Ok x) p q =
       record {
         steps = p.steps;
         answers = p.answers;
-        wrote = subst (λ (l : List ℕ). Wrote written failed late a c l) (append-nil (bytes_told p.steps)) (wrote_then written failed late a b c (bytes_told p.steps) [] p.wrote q);
+        wrote = subst (λ (l : List ℕ). Wrote W a c l) (append-nil (bytes_told p.steps)) (wrote_then W a b c (bytes_told p.steps) [] p.wrote q);
       }
   served_flushed old new a b c s (Err e) p q = (
     q.0,
@@ -243,24 +244,24 @@ module _ {S : Type 0} (written : S → Option (List ℕ)) (failed late : S → B
 
   -- the exit of a `?`
   pub halted_exit : {A : Type 0} (old new : BoardView) (a b : S) (s : List ℕ) (r : Result A RunFault) (e : RunFault) → IsErrAnd r (λ y. y ≡ e) → e ≡ WriteFailed
-      → Halted written failed late old new a b s → Serves written failed late old new a b r s
+      → Halted W old new a b s → Serves W old new a b r s
   halted_exit old new a b s (Ok x) e k w q = absurd k
   halted_exit old new a b s (Err y) e k w q = (k ∙ w, q)
 
 -- ---- runs
 
-module _ {S T : Type 0} (left : S → Option (List ℕ)) (written : T → Option (List ℕ)) (failed late : T → Bool) where
+module _ {S T : Type 0} (R : Source S) (W : Sink T) where
   -- the sink refused
-  pub halted_run : {A : Type 0} (limit : ℕ) (a b : S) (c d : T) (old new : BoardView) (bytes : List ℕ) (r : Result A RunFault) (e : RunFault) → Consumes (left a) (left b) bytes
-      → Halted written failed late old new c d bytes → IsErrAnd r (λ y. y ≡ e) → e ≡ WriteFailed → Ran left written a b c d limit r (IsServed r old new)
+  pub halted_run : {A : Type 0} (limit : ℕ) (a b : S) (c d : T) (old new : BoardView) (bytes : List ℕ) (r : Result A RunFault) (e : RunFault) → Consumes (R.left a) (R.left b) bytes
+      → Halted W old new c d bytes → IsErrAnd r (λ y. y ≡ e) → e ≡ WriteFailed → Ran R W a b c d limit r (IsServed r old new)
   halted_run limit a b c d old new bytes (Ok x) e k q h w = absurd h
   halted_run {A = A} limit a b c d old new bytes (Err y) e k q h w =
-      subst (λ f. let r : Result A RunFault = Err f in Ran left written a b c d limit r (IsServed r old new)) (sym (h ∙ w)) (bytes, q.out, k, q.appends, tt, q.breaks)
+      subst (λ f. let r : Result A RunFault = Err f in Ran R W a b c d limit r (IsServed r old new)) (sym (h ∙ w)) (bytes, q.out, k, q.appends, tt, q.breaks)
 
 -- it refused after a read
 pub served_stops : {S T A : Type 0} {R : Source S} {W : Sink T} {a b : S} {c d : T} {taken limit : ℕ} → DivisionsAppend → (b' : S) (d' : T) (old mid new : BoardView) (piece : List ℕ) (r : Result A RunFault) (e : RunFault)
-    → (t : BetweenReads R W a b c d taken limit) → Served W.written W.failed W.late old mid c d t.bytes → Consumes (R.left b) (R.left b') piece → Halted W.written W.failed W.late mid new d d' piece
-    → IsErrAnd r (λ y. y ≡ e) → e ≡ WriteFailed → Ran R.left W.written a b' c d' limit r (IsServed r old new)
+    → (t : BetweenReads R W a b c d taken limit) → Served W old mid c d t.bytes → Consumes (R.left b) (R.left b') piece → Halted W mid new d d' piece
+    → IsErrAnd r (λ y. y ≡ e) → e ≡ WriteFailed → Ran R W a b' c d' limit r (IsServed r old new)
 served_stops {R = R} {W = W} {a = a} {b = b} {c = c} {d = d} {limit = limit} append b' d' old mid new piece r e t p k q h w =
-    halted_run R.left W.written W.failed W.late limit a b' c d' old new (t.bytes ++ piece) r e (Consumes-trans _ _ _ t.bytes piece t.given k)
-    (halted_then W.written W.failed W.late append old mid new c d d' t.bytes piece p.steps p.answers.hears p.wrote q) h w
+    halted_run R W limit a b' c d' old new (t.bytes ++ piece) r e (Consumes-trans _ _ _ t.bytes piece t.given k)
+    (halted_then W append old mid new c d d' t.bytes piece p.steps p.answers.hears p.wrote q) h w

@@ -2,9 +2,9 @@
 use Rattle.std.proofs.Common.{◌≡◌, ◌+◌, ◌-◌, ◌^◌, ◌<◌, ◌≤◌, ℕ, List, [], ◌++◌, false, length, min, take, IsTrue, arith, ◌∙◌, refl}
 use Rattle.std.specs.Io.KnownBytes.{Consumes}
 use Rattle.std.proofs.KnownBytes.{Consumes-nil, Consumes-trans}
-use Rattle.dgt_text.specs.declared.ends.Source.{Ghosts as Source}
-use Rattle.dgt_text.specs.declared.ends.Sink.{Ghosts as Sink}
-use Rattle.dgt_text.specs.Runs.{Wrote}
+use Rattle.dgt_lines.specs.declared.ends.Source.{Ghosts as Source}
+use Rattle.dgt_lines.specs.declared.ends.Sink.{Ghosts as Sink}
+use Rattle.dgt_lines.specs.Writing.{Wrote}
 use Rattle.dgt_text.proofs.RunLemmas.{piece_some, turn_more}
 
 -- so many of at most `limit` reads succeeded and gave these bytes, and none told the end; where nothing waited for a
@@ -22,7 +22,7 @@ pub record BetweenReads {S T : Type 0} (R : Source S) (W : Sink T) (source sourc
   pub flushed : IsTrue (W.flushed sink) → IsTrue (W.flushed sink')
 
 -- before the first read
-abbrev pub no_read : {S T : Type 0} {R : Source S} {W : Sink T} {a : S} {c d : T} {text : List ℕ} {limit : ℕ} → Wrote W.written W.failed W.late c d text → (IsTrue (W.flushed c) → IsTrue (W.flushed d))
+abbrev pub no_read : {S T : Type 0} {R : Source S} {W : Sink T} {a : S} {c d : T} {text : List ℕ} {limit : ℕ} → Wrote W c d text → (IsTrue (W.flushed c) → IsTrue (W.flushed d))
     → BetweenReads R W a a c d 0 limit
 no_read {R = R} {a = a} wrote flushed = record {
   bytes = [];
@@ -41,7 +41,7 @@ no_read {R = R} {a = a} wrote flushed = record {
 abbrev pub next_read : {S T : Type 0} {R : Source S} {W : Sink T} {a b b' : S} {c d d' d'' : T} {text : List ℕ} {taken limit : ℕ} → BetweenReads R W a b c d taken limit → taken < limit
     → (n : ℕ) (buffer : List ℕ) → n ≤ length buffer → Consumes (R.left b) (R.left b') (take n buffer) → R.failed b' ≡ R.failed b → (((n ≡ 0) × (0 < length buffer) → ⊥) → R.ended b' ≡ R.ended b)
     → R.reads b' ≡ min (R.reads b + 1) (2 ^ 64 - 1) → (R.failed b ≡ false → R.ended b ≡ false → R.late b' ≡ R.late b) → (n ≡ 0 → ⊥)
-    → W.failed d' ≡ W.failed d → (W.failed d ≡ false → W.late d' ≡ W.late d) → Wrote W.written W.failed W.late d' d'' text → IsTrue (W.flushed d'')
+    → W.failed d' ≡ W.failed d → (W.failed d ≡ false → W.late d' ≡ W.late d) → Wrote W d' d'' text → IsTrue (W.flushed d'')
     → BetweenReads R W a b' c d'' (taken + 1) limit
 next_read {taken = taken} p more n buffer bound given not_refused no_end counted in_time some kept sink_in_time wrote flushed =
     let not_ended = no_end (λ h. some h.0) in record {

@@ -1,17 +1,5 @@
-pub mod Marks
-pub mod Device
-pub mod Lines
-pub mod Wording
-pub mod Runs
 pub mod Turns
-pub mod FaultText
-pub mod Gathering
 pub mod Monitoring
 pub mod Conversation
 pub mod Serving
-pub mod ScriptWords
-pub mod Script
-pub mod ScriptReading
-pub mod ScriptLines
-pub mod Closing
 pub mod Simulating

@@ -1,9 +1,8 @@
 -- What `monitor` leaves in its sink.
-use Rattle.std.specs.Prelude.{◌≡◌, ℕ, ◌-◌, List, ◌++◌, length, flat_map, Result, Ok, Err}
-use Rattle.dgt_decode.specs.Grammar.{events, events_behind}
-use Rattle.dgt_text.specs.declared.faults.RunFault.{RunFault}
-use Rattle.dgt_text.specs.declared.faults.RunFault.TheVariants.{ReadFailed, WriteFailed, TooManyTurns, BadLine}
-use Rattle.dgt_text.specs.Lines.{line_of, lines, monitor_text}
+use Rattle.std.specs.Prelude.{◌≡◌, ℕ, List, ◌++◌, Result, Ok, Err}
+use Rattle.dgt_lines.specs.declared.faults.RunFault.{RunFault}
+use Rattle.dgt_lines.specs.declared.faults.RunFault.TheVariants.{ReadFailed, WriteFailed, TooManyTurns, BadLine}
+use Rattle.dgt_lines.specs.Lines.{lines, monitor_text}
 
 -- the first list is a front of the second
 abbrev pub IsFront : List ℕ → List ℕ → Type 0
@@ -16,7 +15,3 @@ IsMonitored (Err ReadFailed) bytes out = out ≡ lines bytes
 IsMonitored (Err TooManyTurns) bytes out = out ≡ lines bytes
 IsMonitored (Err WriteFailed) bytes out = IsFront out (monitor_text bytes)
 IsMonitored (Err (BadLine _ _)) bytes out = ⊥
-
--- the lines of a piece that comes after so many bytes, of which these are an unfinished message
-abbrev pub lines_after : List ℕ → ℕ → List ℕ → List ℕ
-lines_after held offset piece = flat_map line_of (events_behind (offset - length held) (events (held ++ piece)))

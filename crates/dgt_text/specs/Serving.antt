@@ -1,12 +1,13 @@
 -- What `serve` leaves in its sink, and how it leaves its board.
-use Rattle.std.specs.Prelude.{◌≡◌, ℕ, ◌≤◌, Bool, true, false, List, ◌++◌, length, Option, Result, Ok, Err, MatchResult}
+use Rattle.std.specs.Prelude.{◌≡◌, ℕ, ◌≤◌, true, false, List, ◌++◌, length, Result, Ok, Err, MatchResult}
 use Rattle.std.specs.Io.KnownBytes.{Appends}
 use Rattle.dgt_board.specs.View.{BoardView}
-use Rattle.dgt_text.specs.declared.faults.RunFault.{RunFault}
-use Rattle.dgt_text.specs.declared.faults.RunFault.TheVariants.{ReadFailed, WriteFailed, TooManyTurns, BadLine}
+use Rattle.dgt_lines.specs.declared.faults.RunFault.{RunFault}
+use Rattle.dgt_lines.specs.declared.faults.RunFault.TheVariants.{ReadFailed, WriteFailed, TooManyTurns, BadLine}
 use Rattle.dgt_text.specs.Conversation.{Step, bytes_told, Answers, HearsFront}
 use Rattle.dgt_text.specs.Monitoring.{IsFront}
-use Rattle.dgt_text.specs.Runs.{Wrote}
+use Rattle.dgt_lines.specs.Writing.{Wrote}
+use Rattle.dgt_lines.specs.declared.ends.Sink.{Ghosts as Sink}
 
 -- the board answered the bytes, and all that it told was written
 abbrev pub IsAnswered : BoardView → BoardView → List ℕ → List ℕ → Type 0
@@ -38,19 +39,19 @@ IsServed (Err (BadLine _ _)) before after bytes out = ⊥
 -- ---- a call that hands the board some bytes
 
 -- the board answered them, and the sink took what it told
-pub record Served {S : Type 0} (written : S → Option (List ℕ)) (failed late : S → Bool) (before after : BoardView) (old new : S) (bytes : List ℕ) : Type 0 where
+pub record Served {S : Type 0} (W : Sink S) (before after : BoardView) (old new : S) (bytes : List ℕ) : Type 0 where
   pub steps : List Step
   pub answers : Answers before bytes steps after
-  pub wrote : Wrote written failed late old new (bytes_told steps)
+  pub wrote : Wrote W old new (bytes_told steps)
 
 -- the sink refused
-pub record Halted {S : Type 0} (written : S → Option (List ℕ)) (failed late : S → Bool) (before after : BoardView) (old new : S) (bytes : List ℕ) : Type 0 where
+pub record Halted {S : Type 0} (W : Sink S) (before after : BoardView) (old new : S) (bytes : List ℕ) : Type 0 where
   pub out : List ℕ
   pub breaks : IsBrokenOff before after bytes out
-  pub appends : Appends (written old) (written new) out
-  pub refused : failed new ≡ true
-  pub in_time : failed old ≡ false → late new ≡ late old
+  pub appends : Appends (W.written old) (W.written new) out
+  pub refused : W.failed new ≡ true
+  pub in_time : W.failed old ≡ false → W.late new ≡ W.late old
 
-abbrev pub Serves : {S A : Type 0} → (S → Option (List ℕ)) → (S → Bool) → (S → Bool) → BoardView → BoardView → S → S → Result A RunFault → List ℕ → Type 0
-Serves written failed late before after old new r bytes =
-    MatchResult r (λ _. Served written failed late before after old new bytes) (λ e. (e ≡ WriteFailed) × Halted written failed late before after old new bytes)
+abbrev pub Serves : {S A : Type 0} → Sink S → BoardView → BoardView → S → S → Result A RunFault → List ℕ → Type 0
+Serves W before after old new r bytes =
+    MatchResult r (λ _. Served W before after old new bytes) (λ e. (e ≡ WriteFailed) × Halted W before after old new bytes)

@@ -1,5 +1,5 @@
 -- A script that is played in a world.
-use Rattle.std.specs.Prelude.{◌≡◌, ◌+◌, ◌≤◌, ◌↔◌, ◌⊎◌, ⊤, ℕ, Bool, true, List, [], ◌∷◌, ◌++◌, All, IsTrue, MatchResult, Option, Result, Ok, Err, codes, flat_map, length}
+use Rattle.std.specs.Prelude.{◌≡◌, ◌+◌, ◌≤◌, ◌↔◌, ◌⊎◌, ⊤, ℕ, Bool, true, List, [], ◌∷◌, ◌++◌, All, IsTrue, MatchResult, Result, Ok, Err, codes, flat_map, length}
 use Rattle.std.specs.Io.KnownBytes.{Appends}
 use Rattle.dgt_link.specs.Act.{ActContent}
 use Rattle.dgt_link.specs.declared.acts.Outcome.{Outcome}
@@ -9,13 +9,14 @@ use Rattle.dgt_link.specs.Stands.{StandsFor}
 use Rattle.dgt_link.specs.Step.{Step}
 use Rattle.dgt_link.specs.View.{IsQuietWorld, WorldView}
 use Rattle.dgt_values.specs.Placement.{placement_text}
-use Rattle.dgt_text.specs.declared.faults.RunFault.{RunFault}
-use Rattle.dgt_text.specs.declared.faults.RunFault.TheVariants.{ReadFailed, WriteFailed, TooManyTurns, BadLine}
-use Rattle.dgt_text.specs.declared.script_lines.LineBuffer.{LineBuffer}
-use Rattle.dgt_text.specs.Closing.{closing_lines, outcome_line}
+use Rattle.dgt_lines.specs.declared.ends.Sink.{Ghosts as Sink}
+use Rattle.dgt_lines.specs.declared.faults.RunFault.{RunFault}
+use Rattle.dgt_lines.specs.declared.faults.RunFault.TheVariants.{ReadFailed, WriteFailed, TooManyTurns, BadLine}
+use Rattle.dgt_script.specs.declared.script_lines.LineBuffer.{LineBuffer}
+use Rattle.dgt_script.specs.Closing.{closing_lines, outcome_line}
 use Rattle.dgt_text.specs.Monitoring.{IsFront}
-use Rattle.dgt_text.specs.Script.{IsAsked, IsBadAt}
-use Rattle.dgt_text.specs.ScriptLines.{HasNoFeed, IsCut, Keeps, ended}
+use Rattle.dgt_script.specs.Script.{AsksFor, IsBadAt}
+use Rattle.dgt_script.specs.ScriptLines.{HasNoFeed, IsCut, KeepsLine, ended}
 
 -- ---- lines
 
@@ -39,7 +40,7 @@ abbrev pub Plays : WorldView → List (List ℕ) → List ℕ → WorldView → 
 Plays world [] text last = (text ≡ []) × (world ≡ last)
 Plays world (line ∷ lines) text last =
     (act : ActContent) × (outcome : Outcome) × (between : WorldView) × (rest : List ℕ)
-    × IsAsked line act × Step act world outcome between × (text ≡ outcome_line outcome ++ rest)
+    × AsksFor line act × Step act world outcome between × (text ≡ outcome_line outcome ++ rest)
     × Plays between lines rest last
 
 -- the lines are played, but the outcome of the last one may be missing or torn
@@ -119,28 +120,28 @@ IsOfLine ReadFailed = ⊥
 IsOfLine TooManyTurns = ⊥
 
 -- between two moments the sink took bytes of which P holds
-abbrev pub Took : {S : Type 0} → (S → Option (List ℕ)) → S → S → (List ℕ → Type 0) → Type 0
-Took written old new P = (out : List ℕ) × Appends (written old) (written new) out × P out
+abbrev pub Took : {S : Type 0} → Sink S → S → S → (List ℕ → Type 0) → Type 0
+Took W old new P = (out : List ℕ) × Appends (W.written old) (W.written new) out × P out
 
 -- a line with this number, with which a script of these bytes begins
-abbrev pub PlaysLine : {S A : Type 0} → (S → Option (List ℕ)) → Bool → WorldView → WorldView → S → S → Result A RunFault → ℕ → List ℕ → List ℕ → Type 0
-PlaysLine written at_end world last old new r number line bytes =
-    MatchResult r (λ _. Took written old new (λ out. Plays world (line ∷ []) out last))
-    (λ fault. Took written old new (Stops at_end fault world last number bytes))
+abbrev pub PlaysLine : {S A : Type 0} → Sink S → Bool → WorldView → WorldView → S → S → Result A RunFault → ℕ → List ℕ → List ℕ → Type 0
+PlaysLine W at_end world last old new r number line bytes =
+    MatchResult r (λ _. Took W old new (λ out. Plays world (line ∷ []) out last))
+    (λ fault. Took W old new (Stops at_end fault world last number bytes))
 
 -- the lines that end among these bytes were played, and what is after them is kept
-pub record PlaysOn {S : Type 0} (written : S → Option (List ℕ)) (world last : WorldView) (old new : S) (line : LineBuffer) (number number' : ℕ) (bytes : List ℕ) : Type 0 where
+pub record PlaysOn {S : Type 0} (W : Sink S) (world last : WorldView) (old new : S) (line : LineBuffer) (number number' : ℕ) (bytes : List ℕ) : Type 0 where
   pub lines : List (List ℕ)
   pub rest : List ℕ
   pub text : List ℕ
   pub cut : IsCut bytes lines rest
-  pub kept : Keeps line rest
+  pub kept : KeepsLine line rest
   pub counted : number' ≡ number + length lines
   pub plays : Plays world lines text last
-  pub wrote : Appends (written old) (written new) text
+  pub wrote : Appends (W.written old) (W.written new) text
 
 -- a piece of a script; the bytes are those since the last line feed before it, and the piece
-abbrev pub PlaysPiece : {S A : Type 0} → (S → Option (List ℕ)) → Bool → WorldView → WorldView → S → S → LineBuffer → ℕ → ℕ → Result A RunFault → List ℕ → Type 0
-PlaysPiece written at_end world last old new line number number' r bytes =
-    MatchResult r (λ _. PlaysOn written world last old new line number number' bytes)
-    (λ fault. Took written old new (Stops at_end fault world last number bytes))
+abbrev pub PlaysPiece : {S A : Type 0} → Sink S → Bool → WorldView → WorldView → S → S → LineBuffer → ℕ → ℕ → Result A RunFault → List ℕ → Type 0
+PlaysPiece W at_end world last old new line number number' r bytes =
+    MatchResult r (λ _. PlaysOn W world last old new line number number' bytes)
+    (λ fault. Took W old new (Stops at_end fault world last number bytes))

@@ -1,11 +1,40 @@
 -- What a run in turns does to its source and its sink: how often it reads, when it stops, and which marks it leaves.
-use Rattle.std.specs.Prelude.{◌≡◌, ◌≢◌, ◌+◌, ◌^◌, ◌<◌, ◌≤◌, ℕ, false, Result, Err, IsTrue, OnOk}
-use Rattle.std.specs.Io.KnownBytes.{IsAtEnd}
-use Rattle.dgt_text.specs.declared.ends.Source.{Ghosts as Source}
-use Rattle.dgt_text.specs.declared.ends.Sink.{Ghosts as Sink}
-use Rattle.dgt_text.specs.declared.faults.RunFault.{RunFault}
-use Rattle.dgt_text.specs.declared.faults.RunFault.TheVariants.{WriteFailed, TooManyTurns}
-use Rattle.dgt_text.specs.Runs.{sink_mark_after, source_mark_after}
+use Rattle.std.specs.Prelude.{◌≡◌, ◌≢◌, ◌+◌, ◌^◌, ◌<◌, ◌≤◌, ⊤, ℕ, Bool, true, false, List, length, Result, Ok, Err, IsTrue, OnOk}
+use Rattle.std.specs.Io.KnownBytes.{Appends, Consumes, IsAtEnd}
+use Rattle.dgt_lines.specs.declared.ends.Source.{Ghosts as Source}
+use Rattle.dgt_lines.specs.declared.ends.Sink.{Ghosts as Sink}
+use Rattle.dgt_lines.specs.declared.faults.RunFault.{RunFault}
+use Rattle.dgt_lines.specs.declared.faults.RunFault.TheVariants.{ReadFailed, WriteFailed, TooManyTurns, BadLine}
+
+-- a run of at most so many turns was given these bytes: after its last turn it had one in each, at least
+abbrev pub HasTurns : {A : Type 0} → ℕ → Result A RunFault → List ℕ → Type 0
+HasTurns limit (Ok _) bytes = ⊤
+HasTurns limit (Err ReadFailed) bytes = ⊤
+HasTurns limit (Err WriteFailed) bytes = ⊤
+HasTurns limit (Err TooManyTurns) bytes = limit ≤ length bytes
+HasTurns limit (Err (BadLine _ _)) bytes = ⊤
+
+-- in a run of at most so many turns, which ended with this answer, the source gave `bytes` and the sink took `out`, of
+-- which P holds
+abbrev pub Ran : {S T A : Type 0} → Source S → Sink T → S → S → T → T → ℕ → Result A RunFault → (List ℕ → List ℕ → Type 0) → Type 0
+Ran R W source source' sink sink' limit r P =
+    (bytes : List ℕ) × (out : List ℕ) × Consumes (R.left source) (R.left source') bytes × Appends (W.written sink) (W.written sink') out × HasTurns limit r bytes × P bytes out
+
+-- a source's mark after a call that gave this answer
+abbrev pub source_mark_after : {A : Type 0} → Result A RunFault → Bool → Bool
+source_mark_after (Ok _) before = before
+source_mark_after (Err WriteFailed) before = before
+source_mark_after (Err ReadFailed) before = true
+source_mark_after (Err TooManyTurns) before = before
+source_mark_after (Err (BadLine _ _)) before = before
+
+-- a sink's mark after a call that gave this answer
+abbrev pub sink_mark_after : {A : Type 0} → Result A RunFault → Bool → Bool
+sink_mark_after (Ok _) before = before
+sink_mark_after (Err WriteFailed) before = true
+sink_mark_after (Err ReadFailed) before = before
+sink_mark_after (Err TooManyTurns) before = before
+sink_mark_after (Err (BadLine _ _)) before = before
 
 -- a run of at most `limit` turns, of which each is one read, ended with this answer
 pub record RunsInTurns {S T A : Type 0} (R : Source S) (W : Sink T) (source source' : S) (sink sink' : T) (limit : ℕ) (r : Result A RunFault) : Type 0 where

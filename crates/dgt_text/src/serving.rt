@@ -1,15 +1,13 @@
 //! The engine that answers for a board.
 
 ghost use Rattle.std.specs.Prelude.{[], IsTrue, OnOk};
-ghost use Rattle.dgt_text.specs.Runs.{Ran};
+ghost use Rattle.dgt_text.specs.Turns.{Ran, RunsInTurns};
 ghost use Rattle.dgt_text.specs.Serving.{IsServed, Serves};
-ghost use Rattle.dgt_text.specs.Turns.{RunsInTurns};
 
-use crate::ends::{MAX_PIECE, Sink, Source};
-use crate::faults::RunFault;
-use crate::gathering::{flush, put};
+use crate::MAX_PIECE;
 use dgt_board::{Board, Polled, Taken};
 use dgt_command::laws;
+use dgt_lines::{RunFault, Sink, Source, flush, put};
 
 // The most bytes of a message that a board sends: a dump.
 const MAX_SENT: usize = 67;
@@ -17,7 +15,7 @@ const MAX_SENT: usize = 67;
 // The board sends until it owes nothing. Each message is written before the next is asked for, so the board
 // is at most one message ahead of the sink.
 fn send_all<W: Sink>(board: &mut Board, writer: &mut W) -> Result<(), RunFault>
-    ensures { Serves W.written W.failed W.late board.old board.new writer.old writer.new result [] }
+    ensures { Serves W.Sink board.old board.new writer.old writer.new result [] }
 {
     let mut message = [0; MAX_SENT];
     while let Polled::Wrote(length) = board.poll(&mut message) {
@@ -29,7 +27,7 @@ fn send_all<W: Sink>(board: &mut Board, writer: &mut W) -> Result<(), RunFault>
 // The board sends until it owes nothing, and again after each command or fault of `piece`. Then the sink is
 // flushed.
 fn answer<W: Sink>(board: &mut Board, piece: &[u8], writer: &mut W) -> Result<(), RunFault>
-    ensures served { Serves W.written W.failed W.late board.old board.new writer.old writer.new
+    ensures served { Serves W.Sink board.old board.new writer.old writer.new
         result piece.now }
     ensures flushed { OnOk result (IsTrue (W.flushed writer.new)) }
 {
@@ -64,7 +62,7 @@ pub fn serve<R: Source, W: Sink>(
     limit: u32,
 ) -> Result<(), RunFault>
     // what was read, what was written of it, and how the board answers
-    ensures output { Ran R.left W.written reader.old reader.new writer.old writer.new limit result
+    ensures output { Ran R.Source W.Sink reader.old reader.new writer.old writer.new limit result
         (IsServed result board.old board.new) }
 
     // how often it reads, when it stops, and which marks it leaves

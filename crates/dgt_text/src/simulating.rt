@@ -3,21 +3,18 @@
 ghost use Rattle.std.specs.Prelude.{◌≡◌, ◌≢◌, ◌+◌, ◌^◌, ◌<◌, ◌≤◌, ◌↔◌, ◌⊎◌, ◌∷◌, ◌++◌, [], ℕ, Bool, false, List, length, IfErr, IsTrue, OnOk};
 ghost use Rattle.std.specs.Io.KnownBytes.{Appends};
 ghost use Rattle.dgt_link.specs.View.{IsQuietWorld};
-ghost use Rattle.dgt_text.specs.Closing.{closing_lines};
-ghost use Rattle.dgt_text.specs.Runs.{Ran, Writes, sink_mark_after};
-ghost use Rattle.dgt_text.specs.ScriptLines.{HasNoFeed, Keeps};
+ghost use Rattle.dgt_lines.specs.Writing.{Writes};
+ghost use Rattle.dgt_script.specs.Closing.{closing_lines};
+ghost use Rattle.dgt_text.specs.Turns.{Ran, sink_mark_after, RunsInTurns};
+ghost use Rattle.dgt_script.specs.ScriptLines.{HasNoFeed, KeepsLine};
 ghost use Rattle.dgt_text.specs.Simulating.{BeginsWith, IsOfLine, IsSimulated, IsSimulatedFrom, PlaysLine, PlaysPiece, TellsPicture, Took};
-ghost use Rattle.dgt_text.specs.Turns.{RunsInTurns};
 
-use crate::closing::{outcome_text, put_closing};
-use crate::cutting::len_before;
-use crate::ends::{MAX_PIECE, Sink, Source};
-use crate::faults::RunFault;
-use crate::gathering::{Outgoing, flush, put};
-use crate::laws;
-use crate::script::{LineFault, read_act};
-use crate::script_lines::{LineBuffer, MAX_LINE};
+use crate::{MAX_PIECE, laws};
+use dgt_lines::{RunFault, Sink, Source, flush, put};
 use dgt_link::World;
+use dgt_script::{
+    LineBuffer, LineFault, MAX_LINE, len_before, outcome_text, read_act, write_closing,
+};
 
 // Flushes, and then refuses a line.
 fn refuse<W: Sink>(writer: &mut W, line: u64, at: usize) -> Result<(), RunFault>
@@ -40,9 +37,9 @@ fn play_line<W: Sink>(
     number: u64,
     writer: &mut W,
 ) -> Result<(), RunFault>
-    ensures played { (at_end : Bool) (whole bytes : List ℕ) → Keeps line.now whole
+    ensures played { (at_end : Bool) (whole bytes : List ℕ) → KeepsLine line.now whole
         → BeginsWith at_end bytes (whole ∷ [])
-        → PlaysLine W.written at_end world.old world.new writer.old writer.new result number whole
+        → PlaysLine W.Sink at_end world.old world.new writer.old writer.new result number whole
         bytes }
     ensures faults { IfErr result IsOfLine }
     ensures sink_failed { W.failed writer.new ≡ sink_mark_after result (W.failed writer.old) }
@@ -69,8 +66,8 @@ fn play_piece<W: Sink>(
     writer: &mut W,
 ) -> Result<(), RunFault>
     requires { number.old + length piece.now < 2 ^ 64 }
-    ensures played { (at_end : Bool) (rest : List ℕ) → Keeps line.old rest → HasNoFeed rest
-        → PlaysPiece W.written at_end world.old world.new writer.old writer.new line.new
+    ensures played { (at_end : Bool) (rest : List ℕ) → KeepsLine line.old rest → HasNoFeed rest
+        → PlaysPiece W.Sink at_end world.old world.new writer.old writer.new line.new
         number.old number.new result (rest ++ piece.now) }
     ensures counted { OnOk result (number.new ≤ number.old + length piece.now) }
     ensures faults { IfErr result IsOfLine }
@@ -96,15 +93,12 @@ fn play_piece<W: Sink>(
 }
 
 // Writes the closing lines, and flushes.
-fn write_closing<W: Sink>(world: &World, writer: &mut W) -> Result<(), RunFault>
+fn close<W: Sink>(world: &World, writer: &mut W) -> Result<(), RunFault>
     ensures output { (quiet : Bool) × (IsTrue quiet ↔ IsQuietWorld world.now)
-        × Writes W.written W.failed W.late writer.old writer.new result
-        (closing_lines world.now quiet) }
+        × Writes W.Sink writer.old writer.new result (closing_lines world.now quiet) }
     ensures flushed { OnOk result (IsTrue (W.flushed writer.new)) }
 {
-    let mut outgoing = Outgoing::new();
-    put_closing(&mut outgoing, writer, world)?;
-    outgoing.write_out(writer)?;
+    write_closing(world, writer)?;
     flush(writer)
 }
 
@@ -115,8 +109,8 @@ fn play_end<W: Sink>(
     number: u64,
     writer: &mut W,
 ) -> Result<(), RunFault>
-    ensures played { (at_end : Bool) (rest : List ℕ) → IsTrue at_end → Keeps line.now rest
-        → HasNoFeed rest → Took W.written writer.old writer.new
+    ensures played { (at_end : Bool) (rest : List ℕ) → IsTrue at_end → KeepsLine line.now rest
+        → HasNoFeed rest → Took W.Sink writer.old writer.new
         (IsSimulatedFrom at_end number result world.old world.new rest) }
     ensures faults { IfErr result IsOfLine }
     ensures sink_failed { W.failed writer.new ≡ sink_mark_after result (W.failed writer.old) }
@@ -126,7 +120,7 @@ fn play_end<W: Sink>(
     if !line.is_empty() {
         play_line(world, line, number, writer)?;
     }
-    write_closing(world, writer)
+    close(world, writer)
 }
 
 /// Plays the script that the reader gives, in at most `limit` reads, in the world.
@@ -150,12 +144,12 @@ pub fn simulate<R: Source, W: Sink>(
     limit: u32,
 ) -> Result<(), RunFault>
     // what was read, what was written of it, and which world is left
-    ensures output { Ran R.left W.written reader.old reader.new writer.old writer.new limit result
+    ensures output { Ran R.Source W.Sink reader.old reader.new writer.old writer.new limit result
         (IsSimulated (R.ended reader.new) result world.old world.new) }
 
     // where updates and a dump were asked for, and the last line tells that all is quiet, the lines
     // of board and host tell one placement
-    ensures picture { Ran R.left W.written reader.old reader.new writer.old writer.new limit result
+    ensures picture { Ran R.Source W.Sink reader.old reader.new writer.old writer.new limit result
         (λ _ out. OnOk result (TellsPicture world.new out)) }
 
     // how often it reads, when it stops, and which marks it leaves

@@ -7,7 +7,7 @@ use Rattle.dgt_text.proofs.monitoring.monitor.Goals as goal
 
 pub loop-init : goal.loop-init
 loop-init g c = record {
-  in_turns = no_read (wrote_none g.W.Sink.written g.W.Sink.failed g.W.Sink.late _) (λ h. h);
+  in_turns = no_read (wrote_none g.W.Sink _) (λ h. h);
   heard = heard_none _ _ (open_new c.new-framer.ensures);
   empty = c.new-outgoing.ensures;
   short = omega arith;
@@ -17,16 +17,16 @@ pub returns-then-given-eq0-clause-output : goal.returns-then-given-eq0-clause-ou
 returns-then-given-eq0-clause-output g c = heard_end _ _ _ c.loop.invariant.in_turns c.loop.invariant.heard (rw c.if-given-eq0.true at c.in-Ok.ensures.bytes.0) c.write_end.ensures.output
 
 pub write_lines-requires-clause-held : goal.write_lines-requires-clause-held
-write_lines-requires-clause-held g c = heard_bound _ _ _ _ _ c.loop.invariant.heard
+write_lines-requires-clause-held g c = heard_bound c.lines_append.ensures.unfinished _ _ _ _ _ c.loop.invariant.heard
 
 pub returns-in_err-write_lines-clause-output : goal.returns-in_err-write_lines-clause-output
 returns-in_err-write_lines-clause-output g c =
-    heard_stopped c.events_append.ensures c.open_append.ensures _ _ _ _ _ c.loop.invariant.in_turns c.loop.invariant.heard c.in-Ok.ensures.bytes.0 c.in_err-write_lines.ensures.output.1 c.from_residual.ensures.1 c.in_err-write_lines.ensures.output.0
+    heard_stopped c.lines_append.ensures.lines _ _ _ _ _ c.loop.invariant.in_turns c.loop.invariant.heard c.in-Ok.ensures.bytes.0 c.in_err-write_lines.ensures.output.1 c.from_residual.ensures.1 c.in_err-write_lines.ensures.output.0
 
 pub returns-in_err-flush-clause-output : goal.returns-in_err-flush-clause-output
 returns-in_err-flush-clause-output g c =
-    let stop = stopped_after g.W.Sink.written g.W.Sink.failed g.W.Sink.late _ _ _ _ c.in_ok-write_lines.ensures.output c.in_err-flush.ensures.output.1 in
-    heard_stopped c.events_append.ensures c.open_append.ensures _ _ _ _ _ c.loop.invariant.in_turns c.loop.invariant.heard c.in-Ok.ensures.bytes.0 stop c.from_residual-in_err-flush.ensures.1 c.in_err-flush.ensures.output.0
+    let stop = stopped_after g.W.Sink _ _ _ _ c.in_ok-write_lines.ensures.output c.in_err-flush.ensures.output.1 in
+    heard_stopped c.lines_append.ensures.lines _ _ _ _ _ c.loop.invariant.in_turns c.loop.invariant.heard c.in-Ok.ensures.bytes.0 stop c.from_residual-in_err-flush.ensures.1 c.in_err-flush.ensures.output.0
 
 pub loop-preserved : goal.loop-preserved
 loop-preserved g c =
@@ -34,7 +34,7 @@ loop-preserved g c =
     let wrote = c.in_ok-write_lines.ensures in
     let flushed = c.in_ok-flush.ensures in record {
       in_turns = next_read c.loop.invariant.in_turns c.loop-test.true _ _ read.bound read.bytes.0 read.not_refused read.no_end read.counted read.in_time c.if-given-eq0.false wrote.output.kept wrote.output.in_time flushed.output flushed.flushed;
-      heard = heard_more c.events_append.ensures c.open_append.ensures _ _ _ _ _ _ _ _ _ _ c.loop.invariant.heard (length-take-le c.in-Ok.given c.read_some.new.buffer read.bound) wrote.output flushed.output wrote.framed;
+      heard = heard_more c.lines_append.ensures.lines c.open_append.ensures _ _ _ _ _ _ _ _ _ _ c.loop.invariant.heard (length-take-le c.in-Ok.given c.read_some.new.buffer read.bound) wrote.output flushed.output wrote.framed;
       empty = wrote.empty;
       short = omega (arith, read.bound, c.read_some.auto.buffer);
     }

@@ -7,7 +7,7 @@ use Rattle.dgt_text.proofs.monitoring.monitor.Given as goal
 abbrev pub invariant-loop : goal.invariant-loop
 invariant-loop g l = record {
   in_turns : BetweenReads g.R.Source g.W.Sink l.fn.reader l.reader l.fn.writer l.writer l.counter l.fn.limit;
-  heard : Heard g.W.Sink.written g.W.Sink.failed g.W.Sink.late l.fn.writer l.writer (open_message l.framer) l.offset in_turns.bytes;
+  heard : Heard g.W.Sink l.fn.writer l.writer (open_message l.framer) l.offset in_turns.bytes;
   empty : l.outgoing ≡ [];
   short : l.offset ≤ 4096 * l.counter;
 }

@@ -5,7 +5,7 @@ use Rattle.dgt_text.proofs.serving.answer.Given as goal
 abbrev pub invariant-loop-at : goal.invariant-loop-at
 invariant-loop-at g l = record {
   bound : l.at ≤ length l.piece;
-  served : Served g.W.Sink.written g.W.Sink.failed g.W.Sink.late l.fn.board l.board l.fn.writer l.writer (take l.at l.piece);
+  served : Served g.W.Sink l.fn.board l.board l.fn.writer l.writer (take l.at l.piece);
 }
 
 abbrev pub decreases-loop-at : goal.decreases-loop-at

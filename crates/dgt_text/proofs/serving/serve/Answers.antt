@@ -6,7 +6,7 @@ use Rattle.dgt_text.proofs.serving.serve.Goals as goal
 
 pub returns-in_err-answer-clause-output : goal.returns-in_err-answer-clause-output
 returns-in_err-answer-clause-output g c =
-    halted_run g.R.Source.left g.W.Sink.written g.W.Sink.failed g.W.Sink.late _ _ _ _ _ _ _ [] _ _ (Consumes-nil (g.R.Source.left c.args.reader.now)) c.in_err-answer.ensures.served.1 c.from_residual.ensures.1 c.in_err-answer.ensures.served.0
+    halted_run g.R.Source g.W.Sink _ _ _ _ _ _ _ [] _ _ (Consumes-nil (g.R.Source.left c.args.reader.now)) c.in_err-answer.ensures.served.1 c.from_residual.ensures.1 c.in_err-answer.ensures.served.0
 
 pub loop-init : goal.loop-init
 loop-init g c = record {
@@ -23,5 +23,5 @@ loop-preserved g c =
     let read = c.in-Ok.ensures in
     let answered = c.in_ok-answer-2.ensures in record {
       in_turns = next_read c.loop.invariant.in_turns c.loop-test.true _ _ read.bound read.bytes.0 read.not_refused read.no_end read.counted read.in_time c.if-given-eq0.false refl (λ _. refl) answered.served.wrote answered.flushed;
-      served = served_more g.W.Sink.written g.W.Sink.failed g.W.Sink.late c.divisions_append.ensures _ _ _ _ _ _ _ _ c.loop.invariant.served answered.served;
+      served = served_more g.W.Sink c.divisions_append.ensures _ _ _ _ _ _ _ _ c.loop.invariant.served answered.served;
     }

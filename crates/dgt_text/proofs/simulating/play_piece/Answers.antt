@@ -1,5 +1,5 @@
 use Rattle.std.proofs.Common.{refl, sym, ◌∙◌, append-nil, drop, true, arith}
-use Rattle.dgt_text.proofs.PieceLemmas.{feed_bound}
+use Rattle.dgt_text.proofs.RunLemmas.{feed_bound}
 use Rattle.dgt_text.proofs.PlayLemmas.{on_none, on_held, on_line, on_stops, piece_exit, held_bytes, line_bytes, left_bytes, feed_begins}
 use Rattle.dgt_text.proofs.simulating.play_piece.Goals as goal
 
@@ -9,7 +9,7 @@ loop-at-init g c = record {
   count = omega arith;
   not_failed = refl;
   in_time = λ _. refl;
-  played = λ rest h k. rw (append-nil rest) (on_none g.W.Sink.written c.args.world.now c.args.writer.now c.args.line.now c.args.number.now rest h k);
+  played = λ rest h k. rw (append-nil rest) (on_none g.W.Sink c.args.world.now c.args.writer.now c.args.line.now c.args.number.now rest h k);
 }
 
 pub loop-at-preserved : goal.loop-at-preserved
@@ -22,7 +22,7 @@ loop-at-preserved g c =
       in_time = c.loop-at.invariant.in_time;
       played = λ rest h k.
           let q = c.loop-at.invariant.played rest h k in
-          rw (sym (held_bytes rest p i n)) (on_held g.W.Sink.written _ _ _ _ _ _ _ _ _ _ q c.len_before-end.ensures.before (c.add.ensures q.rest q.kept));
+          rw (sym (held_bytes rest p i n)) (on_held g.W.Sink _ _ _ _ _ _ _ _ _ _ q c.len_before-end.ensures.before (c.add.ensures q.rest q.kept));
     }
 
 pub loop-at-preserved-then-at-piece : goal.loop-at-preserved-then-at-piece
@@ -37,7 +37,7 @@ loop-at-preserved-then-at-piece g c =
           let q = c.loop-at.invariant.played rest h k in
           let begins = feed_begins true q.rest p i n c.if-at-piece.true c.len_before-end.ensures.found q.cut.last c.len_before-end.ensures.before in
           rw (sym (line_bytes rest p i n c.if-at-piece.true c.len_before-end.ensures.found))
-          (on_line g.W.Sink.written _ _ _ _ _ _ _ _ _ _ _ _ q c.len_before-end.ensures.before c.new.ensures
+          (on_line g.W.Sink _ _ _ _ _ _ _ _ _ _ _ _ q c.len_before-end.ensures.before c.new.ensures
           (c.in_ok-play_line.ensures.played true _ _ (c.add.ensures q.rest q.kept) begins));
     }
 
@@ -46,5 +46,5 @@ returns-in_err-play_line-clause-played g c = λ at_end rest h k.
     let p = c.args.piece.now in let i = c.loop-at.at in let n = c.len_before-end.result in
     let q = c.loop-at.invariant.played rest h k in
     let begins = feed_begins at_end q.rest p i n c.if-at-piece.true c.len_before-end.ensures.found q.cut.last c.len_before-end.ensures.before in
-    piece_exit g.W.Sink.written at_end _ _ _ _ _ _ _ _ _ _ c.from_residual.ensures.1
-    (rw (left_bytes rest p i) at (on_stops g.W.Sink.written at_end _ _ _ _ _ _ _ _ _ _ _ (drop i p) q (c.in_err-play_line.ensures.played at_end _ _ (c.add.ensures q.rest q.kept) begins)))
+    piece_exit g.W.Sink at_end _ _ _ _ _ _ _ _ _ _ c.from_residual.ensures.1
+    (rw (left_bytes rest p i) at (on_stops g.W.Sink at_end _ _ _ _ _ _ _ _ _ _ _ (drop i p) q (c.in_err-play_line.ensures.played at_end _ _ (c.add.ensures q.rest q.kept) begins)))

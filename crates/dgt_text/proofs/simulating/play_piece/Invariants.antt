@@ -1,5 +1,5 @@
 use Rattle.std.proofs.Common.{◌≡◌, ◌≤◌, ◌-◌, ◌+◌, ◌++◌, false, List, ℕ, length, take}
-use Rattle.dgt_text.specs.ScriptLines.{HasNoFeed, Keeps}
+use Rattle.dgt_script.specs.ScriptLines.{HasNoFeed, KeepsLine}
 use Rattle.dgt_text.specs.Simulating.{PlaysOn}
 use Rattle.dgt_text.proofs.simulating.play_piece.Given as goal
 
@@ -9,8 +9,8 @@ invariant-loop-at g l = record {
   count : l.number ≤ l.fn.number + l.at;
   not_failed : g.W.Sink.failed l.writer ≡ g.W.Sink.failed l.fn.writer;
   in_time : g.W.Sink.failed l.fn.writer ≡ false → g.W.Sink.late l.writer ≡ g.W.Sink.late l.fn.writer;
-  played : (rest : List ℕ) → Keeps l.fn.line rest → HasNoFeed rest
-      → PlaysOn g.W.Sink.written l.fn.world l.world l.fn.writer l.writer l.line l.fn.number l.number (rest ++ take l.at l.piece);
+  played : (rest : List ℕ) → KeepsLine l.fn.line rest → HasNoFeed rest
+      → PlaysOn g.W.Sink l.fn.world l.world l.fn.writer l.writer l.line l.fn.number l.number (rest ++ take l.at l.piece);
 }
 
 abbrev pub decreases-loop-at : goal.decreases-loop-at

@@ -1,0 +1,256 @@
+//! Worked runs that fail, and readers and writers of the standard library that do.
+
+use crate::tests::engines::devices::{Broken, Lender, Recorder, Trickle, Zeros};
+use crate::tests::engines::serving::{VERSION, new_board};
+use crate::tests::engines::simulating::new_world;
+use crate::tests::engines::troubles::Trouble::{Flush, Read, Room, Turns};
+use crate::tests::engines::troubles::{Trial, Trouble};
+use crate::tests::engines::{FIELD, FIELD_LINE, START};
+use dgt_decode::Event;
+use dgt_message::{BodyFault, Message};
+use dgt_text::{Bytes, Device, RunFault, Source, monitor, serve, simulate, write_event};
+use dgt_values::{Body, Piece, SevenBit, Square};
+use std::process::Abort;
+use std::test::Fail;
+
+const WRITE_FAILED: Result<(), RunFault> = Err(RunFault::WriteFailed);
+
+const READ_FAILED: Result<(), RunFault> = Err(RunFault::ReadFailed);
+
+const TOO_MANY_TURNS: Result<(), RunFault> = Err(RunFault::TooManyTurns);
+
+// The bytes, how many of them a read gives, what fails and where; the answer, the reads and what is
+// written.
+type Run<'a> = (
+    &'a [u8],
+    usize,
+    Trouble,
+    u32,
+    Result<(), RunFault>,
+    u64,
+    &'a [u8],
+);
+
+// After a run of so many reads the sink has these bytes.
+fn assert_ran(rt: &impl Abort, source: &Lender<'_>, sink: &Recorder, reads: u64, taken: &[u8]) {
+    assert_eq!(rt; source.reads, reads);
+    assert_eq!(rt; sink.taken(), taken);
+    assert!(rt; !source.late && !sink.late);
+}
+
+#[test]
+fn monitors_that_fail(rt: HostRuntime) {
+    for room in 0..FIELD_LINE.len() {
+        let mut source = Lender::new(FIELD, 64);
+        let mut sink = Recorder::new();
+        sink.room = room;
+        assert_eq!(rt; monitor(&mut source, &mut sink, 10), WRITE_FAILED);
+        assert_ran(&rt, &source, &sink, 1, &FIELD_LINE[..room]);
+    }
+    let cut = [0x8e, 0x00, 0x05, 0x24, 0x01, 0x8e];
+    let stray = b"00000001 stray 00\n";
+    let rows: [Run<'_>; 9] = [
+        (FIELD, 64, Room, 20, Ok(()), 2, FIELD_LINE),
+        (FIELD, 64, Room, 9, WRITE_FAILED, 1, b"00000005 "),
+        (FIELD, 64, Flush, 1, WRITE_FAILED, 1, FIELD_LINE),
+        (&[0, 0], 1, Flush, 1, WRITE_FAILED, 1, stray),
+        (&cut, 64, Read, 2, READ_FAILED, 2, FIELD_LINE),
+        (&[], 64, Turns, 0, TOO_MANY_TURNS, 0, b""),
+        (&[], 64, Turns, 1, Ok(()), 1, b""),
+        (FIELD, 1, Turns, 5, TOO_MANY_TURNS, 5, FIELD_LINE),
+        (FIELD, 1, Turns, 6, Ok(()), 6, FIELD_LINE),
+    ];
+    for (bytes, step, trouble, at, answer, reads, taken) in rows {
+        let (mut source, mut sink, limit) = Trial { trouble, at }.ends(bytes, step);
+        assert_eq!(rt; monitor(&mut source, &mut sink, limit), answer);
+        assert_ran(&rt, &source, &sink, reads, taken);
+    }
+}
+
+#[test]
+fn a_reader_that_never_ends(rt: HostRuntime) {
+    let mut sink = Recorder::new();
+    let answer = monitor(&mut Device::new(Zeros), &mut sink, 3);
+    assert_eq!(rt; answer, TOO_MANY_TURNS);
+    assert_eq!(rt;
+        sink.taken(),
+        b"00000001 stray 00\n00000002 stray 00\n00000003 stray 00\n".as_slice()
+    );
+}
+
+#[test]
+fn servings_that_fail(rt: HostRuntime) -> Result<(), Fail> {
+    let versions = [0x4d, 0x4d];
+    let unfinished = [0x42, 0x2b, 0x04];
+    let rows: [Run<'_>; 4] = [
+        (&versions, 1, Flush, 2, WRITE_FAILED, 1, VERSION),
+        (&versions, 1, Turns, 0, TOO_MANY_TURNS, 0, b""),
+        (&versions, 1, Turns, 1, TOO_MANY_TURNS, 1, VERSION),
+        (&unfinished, 64, Read, 2, READ_FAILED, 2, START),
+    ];
+    for (bytes, step, trouble, at, answer, reads, taken) in rows {
+        let mut board = new_board()?;
+        let (mut source, mut sink, limit) = Trial { trouble, at }.ends(bytes, step);
+        assert_eq!(rt; serve(&mut board, &mut source, &mut sink, limit), answer);
+        assert_ran(&rt, &source, &sink, reads, taken);
+        let partial = if bytes == unfinished.as_slice() { 2 } else { 0 };
+        assert_eq!(rt; board.partial(), partial);
+    }
+    Ok(())
+}
+
+#[test]
+fn scripts_that_fail(rt: HostRuntime) -> Result<(), Fail> {
+    let one = b"nothing\n";
+    let rows: [Run<'_>; 4] = [
+        (b"send\nsend\n", 5, Flush, 1, WRITE_FAILED, 1, one),
+        (b"send\nsen", 64, Read, 2, READ_FAILED, 2, one),
+        (b"send\nsen", 1, Read, 9, READ_FAILED, 9, one),
+        (b"send\nsend", 64, Turns, 1, TOO_MANY_TURNS, 1, one),
+    ];
+    for (bytes, step, trouble, at, answer, reads, taken) in rows {
+        let mut world = new_world(rt.alloc())?;
+        let (mut source, mut sink, limit) = Trial { trouble, at }.ends(bytes, step);
+        assert_eq!(rt; simulate(&mut world, &mut source, &mut sink, limit), answer);
+        assert_ran(&rt, &source, &sink, reads, taken);
+    }
+    Ok(())
+}
+
+// The sink takes this front of the event's line, and no call comes after its refusal.
+fn assert_refused(rt: &impl Abort, mut sink: Recorder, event: &Event<'_>, front: &[u8]) {
+    assert_eq!(rt; write_event(&mut sink, 123456789, event), WRITE_FAILED);
+    assert_eq!(rt; sink.taken(), front);
+    assert!(rt; sink.failed && !sink.late);
+}
+
+// The line of an event, in one write, and what each refused write leaves of it.
+fn assert_line(rt: &impl Abort, event: &Event<'_>, line: &[u8]) {
+    let mut sink = Recorder::new();
+    assert_eq!(rt; write_event(&mut sink, 123456789, event), Ok(()));
+    assert_eq!(rt; sink.taken(), line);
+    assert_eq!(rt; (sink.writes, sink.flushes), (1, 0));
+    assert!(rt; !sink.failed && !sink.flushed);
+    for at in 0..line.len() {
+        let mut full = Recorder::new();
+        full.room = at;
+        assert_refused(rt, full, event, &line[..at]);
+        // a byte at a write, so that the write after these bytes is the one that fails
+        let mut refusing = Recorder::new();
+        refusing.step = 1;
+        refusing.write_fails_at = at as u64 + 1;
+        assert_refused(rt, refusing, event, &line[..at]);
+    }
+}
+
+#[test]
+fn the_line_of_one_event(rt: HostRuntime) -> Result<(), Fail> {
+    let square = Square::parse("h1")?;
+    let rows: [(Event<'_>, &[u8]); 4] = [
+        (
+            Event::Message(Message::Field {
+                square,
+                piece: Piece::BlackQueen,
+            }),
+            b"123456789 field h1 q\n",
+        ),
+        (
+            Event::Message(Message::Trademark(Body::new(&[0x53, 0x4a])?)),
+            b"123456789 trademark 534a\n",
+        ),
+        (
+            Event::Refused {
+                code: SevenBit::try_from(0x0e)?,
+                fault: BodyFault::BadSquare { at: 0 },
+            },
+            b"123456789 refused 0e badsquare 0\n",
+        ),
+        (Event::Stray(0x05), b"123456789 stray 05\n"),
+    ];
+    for (event, line) in &rows {
+        assert_line(&rt, event, line);
+    }
+    Ok(())
+}
+
+#[test]
+fn readers_and_writers_of_std_that_fail(rt: HostRuntime) -> Result<(), Fail> {
+    let mut board = new_board()?;
+    let mut world = new_world(rt.alloc())?;
+    let mut sink = Recorder::new();
+    let event = Event::Stray(0x05);
+    let answers = [
+        write_event(&mut Device::new(Broken), 1, &event),
+        monitor(&mut Bytes::new(FIELD), &mut Device::new(Broken), 10),
+        serve(
+            &mut board,
+            &mut Bytes::new(&[0x4d]),
+            &mut Device::new(Broken),
+            10,
+        ),
+        simulate(
+            &mut world,
+            &mut Bytes::new(b"send\n"),
+            &mut Device::new(Broken),
+            10,
+        ),
+    ];
+    assert_eq!(rt; answers, [WRITE_FAILED; 4]);
+    let answers = [
+        monitor(&mut Device::new(Broken), &mut sink, 10),
+        serve(&mut new_board()?, &mut Device::new(Broken), &mut sink, 10),
+        simulate(&mut world, &mut Device::new(Broken), &mut sink, 10),
+    ];
+    assert_eq!(rt; answers, [READ_FAILED; 3]);
+    assert_eq!(rt; sink.taken(), b"".as_slice());
+    Ok(())
+}
+
+#[test]
+fn readers_and_writers_of_std_that_are_interrupted(rt: HostRuntime) -> Result<(), Fail> {
+    // a byte at a call; the limit tells that a call that was made again is one read
+    for times in [0, 1, 3] {
+        let mut reader = Device::new(Trickle::new(FIELD, times));
+        let mut taken = Trickle::new(&[], times);
+        let answer = monitor(&mut reader, &mut Device::new(&mut taken), 6);
+        assert_eq!(rt; answer, Ok(()));
+        assert_eq!(rt; taken.taken.as_slice(), FIELD_LINE);
+        assert_eq!(rt; taken.flushes, 5);
+
+        let mut reader = Device::new(Trickle::new(&[0x4d, 0x42], times));
+        let mut taken = Trickle::new(&[], times);
+        let answer = serve(
+            &mut new_board()?,
+            &mut reader,
+            &mut Device::new(&mut taken),
+            3,
+        );
+        assert_eq!(rt; answer, Ok(()));
+        let sent = taken.taken.as_slice();
+        assert!(rt; sent.starts_with(VERSION) && sent.ends_with(START));
+        assert_eq!(rt;
+            (sent.len(), taken.flushes),
+            (VERSION.len() + START.len(), 3)
+        );
+
+        let mut world = new_world(rt.alloc())?;
+        let mut reader = Device::new(Trickle::new(b"send\nsned\n", times));
+        let mut taken = Trickle::new(&[], times);
+        let answer = simulate(&mut world, &mut reader, &mut Device::new(&mut taken), 11);
+        assert_eq!(rt; answer, Err(RunFault::BadLine { line: 2, at: 0 }));
+        assert_eq!(rt; taken.taken.as_slice(), b"nothing\n".as_slice());
+    }
+    Ok(())
+}
+
+#[test]
+fn a_call_that_is_interrupted_for_ever(rt: HostRuntime) {
+    let mut reader = Device::new(Trickle::new(FIELD, u32::MAX));
+    assert!(rt; reader.read_some(&mut [0; 8]).is_err());
+    let mut sink = Recorder::new();
+    assert_eq!(rt; monitor(&mut reader, &mut sink, 10), READ_FAILED);
+    let mut taken = Trickle::new(&[], u32::MAX);
+    let answer = monitor(&mut Bytes::new(FIELD), &mut Device::new(&mut taken), 10);
+    assert_eq!(rt; answer, WRITE_FAILED);
+    assert_eq!(rt; taken.taken.as_slice(), b"".as_slice());
+}

@@ -1,0 +1,115 @@
+-- Decimal digits, from the last one to the first.
+use Rattle.std.proofs.Common.{◌≡◌, ℕ, zero, suc, ◌+◌, ◌-◌, ◌*◌, ◌/◌, ◌%◌, ◌^◌, ◌<◌, ◌≤◌, List, [], ◌∷◌, ◌++◌, refl, sym, ◌∙◌, ap, length, arith, replicate, append_assoc, length-append, ◌⊎◌, inl, inr}
+use Rattle.std.proofs.Math.Nat.{div-div-eq-div-mul, pow-suc}
+use Rattle.std.proofs.lemmas.List.{replicate_more}
+use Rattle.std.proofs.lemmas.Bool.{cases_lt}
+use Rattle.std.proofs.lemmas.Fmt.{decimal_digit, decimal_step}
+use Rattle.std.specs.Prelude.{decimal}
+use Rattle.dgt_lines.specs.Lines.{padded_decimal}
+
+-- the digits of a number, of which 0 has none, with leading zeros to at least so many
+abbrev pub front : ℕ → ℕ → List ℕ
+front width zero = replicate width 48
+front width (suc n) = padded_decimal width (suc n)
+
+front_some : (width n : ℕ) → 0 < n → front width n ≡ padded_decimal width n
+front_some width zero h = absurd (omega arith)
+front_some width (suc n) h = refl
+
+-- the last digit of a number below 10
+digit_last : (width n : ℕ) → 0 < n → n < 10 → padded_decimal width n ≡ replicate (width - 1) 48 ++ (48 + n % 10) ∷ []
+digit_last width n h k =
+    let e : decimal n ≡ (48 + n) ∷ [] = decimal_digit n k in
+    let m : n ≡ n % 10 = omega arith in
+    ap (λ l. replicate (width - length l) 48 ++ l) e ∙ ap (λ d. replicate (width - 1) 48 ++ (48 + d) ∷ []) m
+
+-- the last digit of a longer number
+more_last : (width n : ℕ) → 10 ≤ n → n < 2 ^ 64 → padded_decimal width n ≡ padded_decimal (width - 1) (n / 10) ++ (48 + n % 10) ∷ []
+more_last width n h k =
+    let e : decimal n ≡ decimal (n / 10) ++ (48 + n % 10) ∷ [] = decimal_step n h k in
+    let l : length (decimal n) ≡ length (decimal (n / 10)) + 1 = ap length e ∙ length-append (decimal (n / 10)) _ in
+    let z : width - length (decimal n) ≡ width - 1 - length (decimal (n / 10)) = omega arith in
+    ap (λ j. replicate j 48 ++ decimal n) z ∙ ap (λ l. replicate (width - 1 - length (decimal (n / 10))) 48 ++ l) e
+    ∙ sym (append_assoc (replicate (width - 1 - length (decimal (n / 10))) 48) (decimal (n / 10)) _)
+
+-- one digit less
+pub front-last : (width n : ℕ) → n < 2 ^ 64 → (0 < n) ⊎ (0 < width) → front width n ≡ front (width - 1) (n / 10) ++ (48 + n % 10) ∷ []
+front-last width zero h k =
+    let some : 0 < width = elim k [ inl a ↦ absurd (omega arith) | inr b ↦ b ] in
+    let w : width ≡ width - 1 + 1 = omega arith in
+    ap (λ j. replicate j 48) w ∙ sym (replicate_more (width - 1) 48)
+front-last width (suc n) h k = elim (cases_lt (suc n) 10) [
+  | inl low ↦
+      let q : suc n / 10 ≡ 0 = omega arith in
+      digit_last width (suc n) (omega arith) low ∙ ap (λ j. front (width - 1) j ++ (48 + suc n % 10) ∷ []) (sym q)
+  | inr high ↦
+      more_last width (suc n) high h ∙ ap (λ l. l ++ (48 + suc n % 10) ∷ []) (sym (front_some (width - 1) (suc n / 10) (omega arith)))
+]
+
+-- all digits, where there is at least one
+pub front-all : (width n : ℕ) → 0 < width → front width n ≡ padded_decimal width n
+front-all width zero h =
+    let e : decimal 0 ≡ 48 ∷ [] = decimal_digit 0 (omega arith) in
+    let w : width ≡ width - 1 + 1 = omega arith in
+    ap (λ j. replicate j 48) w ∙ sym (replicate_more (width - 1) 48) ∙ sym (ap (λ l. replicate (width - length l) 48 ++ l) e)
+front-all width (suc n) h = refl
+
+-- without its last digit a number is below a smaller power of ten
+tenth : (n k : ℕ) → n < 10 ^ suc k → n / 10 < 10 ^ k
+tenth n k h = let e : 10 ^ suc k ≡ 10 ^ k * 10 = pow-suc 10 k in omega arith
+
+-- so many last digits
+abbrev pub last_digits : ℕ → ℕ → List ℕ
+last_digits zero n = []
+last_digits (suc k) n = last_digits k (n / 10) ++ (48 + n % 10) ∷ []
+
+front-last_digits : (k n : ℕ) → n < 10 ^ k → n < 2 ^ 64 → front k n ≡ last_digits k n
+front-last_digits zero n h b = let none : n ≡ 0 = omega arith in rw none refl
+front-last_digits (suc k) n h b =
+    front-last (suc k) n b (inr (omega arith))
+    ∙ ap (λ w. front w (n / 10) ++ (48 + n % 10) ∷ []) (omega arith)
+    ∙ ap (λ l. l ++ (48 + n % 10) ∷ []) (front-last_digits k (n / 10) (tenth n k h) (omega arith))
+
+-- eight digits
+padded_eight : (n : ℕ) → n < 100000000
+    → padded_decimal 8 n ≡ (48 + n / 10000000 % 10) ∷ (48 + n / 1000000 % 10) ∷ (48 + n / 100000 % 10) ∷ (48 + n / 10000 % 10) ∷ (48 + n / 1000 % 10) ∷ (48 + n / 100 % 10) ∷ (48 + n / 10 % 10) ∷ (48 + n % 10) ∷ []
+padded_eight n h = sym (front-all 8 n (omega arith)) ∙ front-last_digits 8 n h (omega arith) ∙ simp div-div-eq-div-mul refl
+
+-- eight digits, from four pairs
+pub padded_pairs : (n : ℕ) → n < 100000000
+    → padded_decimal 8 n ≡ (48 + n / 10000 / 100 / 10) ∷ (48 + n / 10000 / 100 % 10) ∷ (48 + n / 10000 % 100 / 10) ∷ (48 + n / 10000 % 100 % 10) ∷ (48 + n % 10000 / 100 / 10) ∷ (48 + n % 10000 / 100 % 10) ∷ (48 + n % 10000 % 100 / 10) ∷ (48 + n % 10000 % 100 % 10) ∷ []
+padded_pairs n small = padded_eight n small ∙ rw (a, b, c, d, e, f, g, h) refl
+  where
+    a : n / 10000000 % 10 ≡ n / 10000 / 100 / 10
+    a = omega (arith, small)
+
+    b : n / 1000000 % 10 ≡ n / 10000 / 100 % 10
+    b = omega arith
+
+    c : n / 100000 % 10 ≡ n / 10000 % 100 / 10
+    c = omega arith
+
+    d : n / 10000 % 10 ≡ n / 10000 % 100 % 10
+    d = omega arith
+
+    e : n / 1000 % 10 ≡ n % 10000 / 100 / 10
+    e = omega arith
+
+    f : n / 100 % 10 ≡ n % 10000 / 100 % 10
+    f = omega arith
+
+    g : n / 10 % 10 ≡ n % 10000 % 100 / 10
+    g = omega arith
+
+    h : n % 10 ≡ n % 10000 % 100 % 10
+    h = omega arith
+
+-- the same where there is a digit
+pub tenth_below : (n k : ℕ) → n < 10 ^ k → 0 < k → n / 10 < 10 ^ (k - 1)
+tenth_below n zero h p = absurd (omega arith)
+tenth_below n (suc k) h p = let j : suc k - 1 ≡ k = omega arith in rw j (tenth n k h)
+
+-- a number below 1 is none that has digits
+pub none_below : (n k : ℕ) → n < 10 ^ k → 0 < n → 0 < k
+none_below n zero h p = absurd (omega arith)
+none_below n (suc k) h p = omega arith

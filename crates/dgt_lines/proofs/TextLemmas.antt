@@ -1,0 +1,50 @@
+-- Texts that are written one part after another.
+use Rattle.std.proofs.Common.{◌≡◌, ℕ, ◌+◌, ◌-◌, ◌/◌, ◌%◌, ◌^◌, ◌<◌, List, [], ◌∷◌, ◌++◌, ◌∙◌, add-one, ap, append_assoc, append-nil, arith, get_or, inl, inr, length, map, refl, replicate, sym, take}
+use Rattle.std.proofs.Math.Seq.{take-suc}
+use Rattle.std.proofs.lemmas.Bool.{cases_lt}
+use Rattle.std.proofs.lemmas.Fmt.{decimal_digit, decimal_step, decimal_nonempty}
+use Rattle.std.specs.Prelude.{decimal}
+use Rattle.hex.specs.Hex.{encode_lower}
+use Rattle.dgt_lines.specs.Lines.{byte_text, bytes_text, padded_decimal, words_text}
+
+-- no leading zero
+pub padded_one : (n : ℕ) → n < 2 ^ 64 → padded_decimal 1 n ≡ decimal n
+padded_one n h =
+    let some = decimal_nonempty n h in
+    let z : 1 - length (decimal n) ≡ 0 = omega arith in
+    ap (λ j. replicate j 48 ++ decimal n) z
+
+-- two digits
+pub padded_two : (n : ℕ) → n < 100 → padded_decimal 2 n ≡ (48 + n / 10) ∷ (48 + n % 10) ∷ []
+padded_two n h = elim (cases_lt n 10) [
+  | inl low ↦
+      let e : decimal n ≡ (48 + n) ∷ [] = decimal_digit n low in
+      let tens : 48 ≡ 48 + n / 10 = omega arith in
+      let units : 48 + n ≡ 48 + n % 10 = omega arith in
+      ap (λ l. replicate (2 - length l) 48 ++ l) e ∙ ap (λ t. t ∷ (48 + n) ∷ []) tens ∙ ap (λ u. (48 + n / 10) ∷ u ∷ []) units
+  | inr high ↦
+      let tens : decimal (n / 10) ≡ (48 + n / 10) ∷ [] = decimal_digit (n / 10) (omega arith) in
+      let e : decimal n ≡ (48 + n / 10) ∷ (48 + n % 10) ∷ [] = decimal_step n high (omega arith) ∙ ap (λ l. l ++ (48 + n % 10) ∷ []) tens in
+      ap (λ l. replicate (2 - length l) 48 ++ l) e
+]
+
+-- no hyphen where there is a byte
+pub bytes_text_some : (bytes : List ℕ) → 0 < length bytes → bytes_text bytes ≡ encode_lower bytes
+bytes_text_some [] h = absurd (omega arith)
+bytes_text_some (byte ∷ bytes) h = refl
+
+-- two digits for each byte, and a space before them
+abbrev pub spaced_text : List ℕ → List ℕ
+spaced_text [] = []
+spaced_text (byte ∷ bytes) = 32 ∷ byte_text byte ++ spaced_text bytes
+
+spaced_text-append : (s t : List ℕ) → spaced_text (s ++ t) ≡ spaced_text s ++ spaced_text t
+spaced_text-append [] t = refl
+spaced_text-append (byte ∷ s) t = ap (λ l. 32 ∷ byte_text byte ++ l) (spaced_text-append s t) ∙ sym (append_assoc (32 ∷ byte_text byte) (spaced_text s) (spaced_text t))
+
+pub spaced_text-take : (s : List ℕ) (i : ℕ) → i < length s → spaced_text (take (i + 1) s) ≡ spaced_text (take i s) ++ (32 ∷ byte_text (get_or s i 0))
+spaced_text-take s i h = ap spaced_text (rw add-one (take-suc s i 0 h)) ∙ spaced_text-append (take i s) (get_or s i 0 ∷ []) ∙ ap (λ l. spaced_text (take i s) ++ l) (append-nil (32 ∷ byte_text (get_or s i 0)))
+
+pub words_text-bytes : (word bytes : List ℕ) → words_text (word ∷ map byte_text bytes) ≡ word ++ spaced_text bytes
+words_text-bytes word [] = sym (append-nil word)
+words_text-bytes word (byte ∷ bytes) = ap (λ l. word ++ 32 ∷ l) (words_text-bytes (byte_text byte) bytes)

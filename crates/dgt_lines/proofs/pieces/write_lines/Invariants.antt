@@ -1,0 +1,15 @@
+use Rattle.std.proofs.Common.{◌≤◌, ◌-◌, ◌++◌, ◌≡◌, length, take, []}
+use Rattle.dgt_lines.specs.Writing.{Gathered}
+use Rattle.dgt_lines.specs.Lines.{lines_after}
+use Rattle.dgt_decode.specs.Grammar.{open_message}
+use Rattle.dgt_lines.proofs.pieces.write_lines.Given as goal
+
+abbrev pub invariant-loop-at : goal.invariant-loop-at
+invariant-loop-at g l = record {
+  bound : l.at ≤ length l.piece;
+  output : Gathered g.W.Sink [] l.outgoing l.fn.writer l.writer (lines_after (open_message l.fn.framer) l.offset (take l.at l.piece));
+  framed : open_message l.framer ≡ open_message (open_message l.fn.framer ++ take l.at l.piece);
+}
+
+abbrev pub decreases-loop-at : goal.decreases-loop-at
+decreases-loop-at g l = length l.piece - l.at

@@ -1,0 +1,36 @@
+-- What a device shows of itself.
+use Rattle.std.specs.Prelude.{◌≡◌, ℕ, Bool, false, true}
+use Rattle.dgt_lines.specs.declared.std_device.Device.{Device}
+
+-- the reader or the writer
+abbrev pub device_inner : {T : Type 0} → Device T → T
+device_inner device = device.inner
+
+-- a call was refused
+abbrev pub device_failed : {T : Type 0} → Device T → Bool
+device_failed device = device.failed
+
+-- a read told the end
+abbrev pub device_ended : {T : Type 0} → Device T → Bool
+device_ended device = device.ended
+
+-- the reads so far
+abbrev pub device_reads : {T : Type 0} → Device T → ℕ
+device_reads device = device.reads
+
+-- no byte was written since a flush that succeeded
+abbrev pub device_flushed : {T : Type 0} → Device T → Bool
+device_flushed device = device.flushed
+
+-- a call came after one that was refused, or a read after the end
+abbrev pub device_late : {T : Type 0} → Device T → Bool
+device_late device = device.late
+
+-- as new, over this reader or writer: nothing was refused, read or written
+pub record IsNewDevice {T : Type 0} (device : Device T) (inner : T) : Type 0 where
+  pub over : device_inner device ≡ inner
+  pub not_failed : device_failed device ≡ false
+  pub not_ended : device_ended device ≡ false
+  pub unread : device_reads device ≡ 0
+  pub flushed : device_flushed device ≡ true
+  pub in_time : device_late device ≡ false

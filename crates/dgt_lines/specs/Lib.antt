@@ -1,0 +1,6 @@
+pub mod Lines
+pub mod Marks
+pub mod Writing
+pub mod FaultText
+pub mod Device
+pub mod Wording

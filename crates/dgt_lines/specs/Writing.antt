@@ -1,0 +1,36 @@
+-- What a call that writes on a caller's behalf does to the sink.
+use Rattle.std.specs.Prelude.{◌≡◌, ℕ, true, false, List, ◌++◌, Result, MatchResult}
+use Rattle.std.specs.Io.KnownBytes.{Appends}
+use Rattle.dgt_lines.specs.declared.faults.RunFault.{RunFault}
+use Rattle.dgt_lines.specs.declared.faults.RunFault.TheVariants.{WriteFailed}
+use Rattle.dgt_lines.specs.declared.ends.Sink.{Ghosts as Sink}
+
+-- the sink, whose bytes and marks these are, took all of the text
+pub record Wrote {S : Type 0} (W : Sink S) (old new : S) (text : List ℕ) : Type 0 where
+  pub appends : Appends (W.written old) (W.written new) text
+  pub kept : W.failed new ≡ W.failed old
+  pub in_time : W.failed old ≡ false → W.late new ≡ W.late old
+
+-- the sink took a prefix of the text, and then refused; no call came after that
+pub record Stopped {S : Type 0} (W : Sink S) (old new : S) (text : List ℕ) : Type 0 where
+  pub front : List ℕ
+  pub rest : List ℕ
+  pub whole : text ≡ front ++ rest
+  pub appends : Appends (W.written old) (W.written new) front
+  pub refused : W.failed new ≡ true
+  pub in_time : W.failed old ≡ false → W.late new ≡ W.late old
+
+-- a call that writes the text, or a prefix of it where the sink refuses
+abbrev pub Writes : {S A : Type 0} → Sink S → S → S → Result A RunFault → List ℕ → Type 0
+Writes W old new r text = MatchResult r (λ _. Wrote W old new text) (λ e. (e ≡ WriteFailed) × Stopped W old new text)
+
+-- the text came after what was held: the sink took a part of them, and the rest is held
+pub record Gathered {S : Type 0} (W : Sink S) (held held' : List ℕ) (old new : S) (text : List ℕ) : Type 0 where
+  pub out : List ℕ
+  pub whole : held ++ text ≡ out ++ held'
+  pub wrote : Wrote W old new out
+
+-- a call that gathers the text; where the sink refuses, it has a prefix of what was held and the text
+abbrev pub Gathers : {S A : Type 0} → Sink S → List ℕ → List ℕ → S → S → Result A RunFault → List ℕ → Type 0
+Gathers W held held' old new r text =
+    MatchResult r (λ _. Gathered W held held' old new text) (λ e. (e ≡ WriteFailed) × Stopped W old new (held ++ text))

@@ -1,0 +1,91 @@
+//! Where an engine's bytes come from and go to.
+
+ghost use Rattle.std.specs.Prelude.{◌≡◌, ◌+◌, ◌-◌, ◌^◌, ◌<◌, ◌≤◌, ℕ, Bool, false, List, length, min, Option, IsTrue, IfOk, OnOk, OnErr};
+ghost use Rattle.std.specs.Io.KnownBytes.{Keeps, ReadConsumes, WriteAppends};
+ghost use Rattle.dgt_lines.specs.Marks.{GivesEnd, TookSome};
+
+use thiserror::Error;
+
+/// A source or a sink refused a call.
+#[derive(Clone, Copy, Debug, PartialEq, Eq, Error)]
+#[error("the device failed")]
+pub struct Failed;
+
+/// Gives bytes.
+///
+/// Contracts see the bytes that are left, where a source tells them, and four marks: whether a call was
+/// refused, whether a read told the end, how many reads there were, and whether one came after a refusal or
+/// the end.
+pub trait Source {
+    // the bytes that are left, where the source tells them
+    ghost left: { Self → Option (List ℕ) };
+
+    // a call was refused
+    ghost failed: { Self → Bool };
+
+    // a read told the end
+    ghost ended: { Self → Bool };
+
+    // the reads so far
+    ghost reads: { Self → ℕ };
+
+    // a read came after one that was refused or told the end
+    ghost late: { Self → Bool };
+
+    /// Moves the next bytes to the front of `buffer`, and answers how many: none only at the end, or
+    /// where `buffer` is empty. What the rest of `buffer` holds then is open, and so is all of it after a
+    /// refusal, which moves no byte.
+    fn read_some(&mut self, buffer: &mut [u8]) -> Result<usize, Failed>
+        ensures bound { IfOk result (λ n. n ≤ length buffer.new) }
+        ensures bytes { ReadConsumes (left self.old) (left self.new) result buffer.new }
+        ensures refused { OnErr result (IsTrue (failed self.new)) }
+        ensures not_refused { OnOk result (failed self.new ≡ failed self.old) }
+        ensures end { GivesEnd result (length buffer.new) → IsTrue (ended self.new) }
+        ensures no_end { ¬ GivesEnd result (length buffer.new) → ended self.new ≡ ended self.old }
+        ensures counted { reads self.new ≡ min (reads self.old + 1) (2 ^ 64 - 1) }
+        ensures in_time { failed self.old ≡ false → ended self.old ≡ false →
+            late self.new ≡ late self.old }
+        ensures after_refusal { IsTrue (failed self.old) → IsTrue (late self.new) }
+        ensures after_end { IsTrue (ended self.old) → IsTrue (late self.new) };
+}
+
+/// Takes bytes.
+///
+/// Contracts see the bytes that were written, where a sink tells them, and three marks: whether a call was
+/// refused, whether all that was written was flushed, and whether a call came after a refusal.
+pub trait Sink {
+    // the bytes that were written, where the sink tells them
+    ghost written: { Self → Option (List ℕ) };
+
+    // a call was refused
+    ghost failed: { Self → Bool };
+
+    // no byte was written since a flush that succeeded
+    ghost flushed: { Self → Bool };
+
+    // a call came after one that was refused
+    ghost late: { Self → Bool };
+
+    /// Takes the first bytes of `bytes`, at least one where there is one, and answers how many. A refusal
+    /// takes none.
+    fn write_some(&mut self, bytes: &[u8]) -> Result<usize, Failed>
+        ensures bound { IfOk result (λ n. n ≤ length bytes.now) }
+        ensures some { IfOk result (λ n. 0 < length bytes.now → 0 < n) }
+        ensures bytes { WriteAppends (written self.old) (written self.new) result bytes.now }
+        ensures refused { OnErr result (IsTrue (failed self.new)) }
+        ensures not_refused { OnOk result (failed self.new ≡ failed self.old) }
+        ensures unflushed { TookSome result → flushed self.new ≡ false }
+        ensures same_flushed { ¬ TookSome result → flushed self.new ≡ flushed self.old }
+        ensures in_time { failed self.old ≡ false → late self.new ≡ late self.old }
+        ensures after_refusal { IsTrue (failed self.old) → IsTrue (late self.new) };
+
+    /// Passes on all that was written.
+    fn flush_all(&mut self) -> Result<(), Failed>
+        ensures bytes { Keeps (written self.old) (written self.new) }
+        ensures refused { OnErr result (IsTrue (failed self.new)) }
+        ensures not_refused { OnOk result (failed self.new ≡ failed self.old) }
+        ensures flushes { OnOk result (IsTrue (flushed self.new)) }
+        ensures same_flushed { OnErr result (flushed self.new ≡ flushed self.old) }
+        ensures in_time { failed self.old ≡ false → late self.new ≡ late self.old }
+        ensures after_refusal { IsTrue (failed self.old) → IsTrue (late self.new) };
+}

@@ -1,0 +1,160 @@
+//! How bytes are written: they are gathered, and go out in one write.
+
+ghost use Rattle.std.specs.Prelude.{◌≡◌, ◌≢◌, ◌+◌, ◌*◌, ◌<◌, ◌≤◌, [], ◌∷◌, ◌++◌, false, length, OnOk, IsTrue};
+ghost use Rattle.hex.specs.Hex.{encode_lower};
+ghost use Rattle.dgt_lines.specs.Lines.{padded_decimal};
+ghost use Rattle.dgt_lines.specs.Marks.{Waits};
+ghost use Rattle.dgt_lines.specs.Writing.{Writes, Gathers};
+
+use crate::ends::{Failed, Sink};
+use crate::faults::RunFault;
+use arrayvec::ArrayVec;
+use std::marker::Model;
+
+/// Writes all of these bytes, in as many writes as the sink asks for, without a flush.
+pub fn put<W: Sink>(writer: &mut W, bytes: &[u8]) -> Result<(), RunFault>
+    ensures output { Writes W.Sink writer.old writer.new result bytes.now }
+    ensures no_flush { W.flushed writer.old ≡ false → W.flushed writer.new ≡ false }
+    ensures unflushed { OnOk result (Waits bytes.now (W.flushed writer.old) →
+        W.flushed writer.new ≡ false) }
+{
+    let mut at = 0;
+    while at < bytes.len() {
+        match writer.write_some(&bytes[at..]) {
+            Ok(taken) => at += taken,
+            Err(Failed) => return Err(RunFault::WriteFailed),
+        }
+    }
+    Ok(())
+}
+
+/// Flushes the sink.
+pub fn flush<W: Sink>(writer: &mut W) -> Result<(), RunFault>
+    ensures output { Writes W.Sink writer.old writer.new result [] }
+    ensures flushed { OnOk result (IsTrue (W.flushed writer.new)) }
+{
+    match writer.flush_all() {
+        Ok(()) => Ok(()),
+        Err(Failed) => Err(RunFault::WriteFailed),
+    }
+}
+
+/// Room for all of a line but the bytes that a message carries.
+pub(crate) const LINE_ROOM: usize = 128;
+
+/// Bytes on their way to a sink, at most `ROOM` of them. Contracts see those that were not written yet.
+#[derive(Drop)]
+pub struct Outgoing<const ROOM: usize> {
+    bytes: ArrayVec<u8, ROOM>,
+}
+
+impl<const ROOM: usize> Model for Outgoing<ROOM> {
+    ghost use Rattle.std.specs.Prelude.{ℕ, List};
+
+    ghost Value = { List ℕ };
+
+    ghost view = { λ outgoing. outgoing.bytes.items };
+}
+
+impl<const ROOM: usize> Outgoing<ROOM> {
+    /// Nothing to write yet.
+    pub fn new() -> Self
+        ensures { result ≡ [] }
+    {
+        Outgoing {
+            bytes: ArrayVec::new(),
+        }
+    }
+
+    /// Writes all that was gathered. After a refused write the rest of it is dropped.
+    pub fn write_out<W: Sink>(&mut self, writer: &mut W) -> Result<(), RunFault>
+        ensures output { Writes W.Sink writer.old writer.new result self.old }
+        ensures empty { self.new ≡ [] }
+        ensures no_flush { W.flushed writer.old ≡ false → W.flushed writer.new ≡ false }
+        ensures unflushed { OnOk result (Waits self.old (W.flushed writer.old) →
+            W.flushed writer.new ≡ false) }
+    {
+        let answer = put(writer, self.bytes.as_slice());
+        self.bytes.clear();
+        answer
+    }
+
+    /// Writes what was gathered, unless there is room for a line behind it.
+    pub(crate) fn make_room<W: Sink>(&mut self, writer: &mut W) -> Result<(), RunFault>
+        requires { LINE_ROOM ≤ ROOM }
+        ensures output { Gathers W.Sink self.old self.new writer.old writer.new
+            result [] }
+        ensures room { OnOk result (length self.new + LINE_ROOM ≤ ROOM) }
+        ensures no_flush { W.flushed writer.old ≡ false → W.flushed writer.new ≡ false }
+    {
+        if self.bytes.remaining_capacity() < LINE_ROOM {
+            return self.write_out(writer);
+        }
+        Ok(())
+    }
+
+    /// Adds these bytes. Where there is no room for them, what was gathered is written first.
+    pub(crate) fn add<W: Sink>(&mut self, writer: &mut W, bytes: &[u8]) -> Result<(), RunFault>
+        ensures output { Gathers W.Sink self.old self.new writer.old writer.new
+            result bytes.now }
+        ensures no_flush { W.flushed writer.old ≡ false → W.flushed writer.new ≡ false }
+        ensures waits { OnOk result (bytes.now ≢ [] → Waits self.new (W.flushed writer.new)) }
+    {
+        if bytes.len() > self.bytes.remaining_capacity() {
+            self.write_out(writer)?;
+            if bytes.len() > self.bytes.remaining_capacity() {
+                return put(writer, bytes);
+            }
+        }
+        self.push(bytes);
+        Ok(())
+    }
+
+    /// Adds these bytes, for which there is room.
+    pub fn push(&mut self, bytes: &[u8])
+        requires { length self.old + length bytes.now ≤ ROOM }
+        ensures bytes { self.new ≡ self.old ++ bytes.now }
+        ensures len { length self.new ≡ length self.old + length bytes.now }
+    {
+        self.bytes.try_extend_from_slice(bytes).unwrap();
+    }
+
+    /// Adds two hexadecimal digits for each byte.
+    pub(crate) fn push_hex(&mut self, bytes: &[u8])
+        requires { length self.old + 2 * length bytes.now ≤ ROOM }
+        ensures bytes { self.new ≡ self.old ++ encode_lower bytes.now }
+        ensures len { length self.new ≡ length self.old + 2 * length bytes.now }
+    {
+        for byte in bytes {
+            self.push(&hex_digits(*byte));
+        }
+    }
+
+    /// Adds a number in decimal, with leading zeros to at least `width` digits.
+    pub(crate) fn push_decimal(&mut self, number: u64, width: usize)
+        requires room { length self.old + 20 ≤ ROOM }
+        requires some { 0 < width }
+        requires fits { width ≤ 20 }
+        ensures bytes { self.new ≡ self.old ++ padded_decimal width number }
+        ensures len { length self.new ≤ length self.old + 20 }
+    {
+        let mut digits = [0; 20];
+        let mut at = digits.len();
+        let mut rest = number;
+        while rest > 0 || digits.len() - at < width {
+            at -= 1;
+            digits[at] = b'0' + (rest % 10) as u8;
+            rest /= 10;
+        }
+        self.push(&digits[at..]);
+    }
+}
+
+/// A byte as two hexadecimal digits.
+pub(crate) fn hex_digits(byte: u8) -> [u8; 2]
+    ensures { result ≡ encode_lower (byte ∷ []) }
+{
+    let mut digits = [0; 2];
+    hex::encode_to_slice([byte].as_slice(), &mut digits).unwrap();
+    digits
+}

@@ -1,0 +1,36 @@
+//! Where bytes come from and go to, and the lines that say what a DGT board sends.
+//!
+//! A [`Source`] gives bytes and a [`Sink`] takes them. [`Bytes`] is a source over a slice, and [`Device`]
+//! makes either of a reader or writer of the standard library. Contracts name the bytes that a source gave
+//! and a sink took, where these tell them, also where a call was refused. [`put`] writes all of some bytes,
+//! [`flush`] passes them on, and [`Outgoing`] gathers them for one write. [`RunFault`] is why a run over a
+//! source and a sink stops.
+//!
+//! [`write_event`] writes the line of one event, as `00000005 field e4 P`: how many bytes had come, and
+//! what they say. [`write_lines`] writes the lines of a piece of what a board sends, and [`write_end`] the
+//! one of what is unfinished at the end.
+//!
+//! The format of lines is this project's own choice. No call takes memory. [`laws`] says what holds of
+//! lines as such.
+#![tactic(auto)]
+
+mod ends;
+mod faults;
+mod gathering;
+pub mod laws;
+mod lines;
+mod pieces;
+mod slice_source;
+mod std_device;
+#[cfg(test)]
+mod tests;
+mod wording;
+
+pub use ends::{Failed, Sink, Source};
+pub use faults::RunFault;
+pub use gathering::{Outgoing, flush, put};
+pub use lines::write_event;
+pub use pieces::{LINES_ROOM, write_end, write_lines};
+pub use slice_source::Bytes;
+pub use std_device::Device;
+pub use wording::push_clock;

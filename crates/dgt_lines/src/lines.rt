@@ -1,0 +1,247 @@
+//! The lines of events.
+
+ghost use Rattle.std.specs.Prelude.{◌≡◌, ◌+◌, ◌/◌, ◌%◌, ◌<◌, ◌≤◌, ◌++◌, [], ◌∷◌, false, length, IfSome, OnOk};
+ghost use Rattle.hex.specs.Hex.{encode_lower};
+ghost use Rattle.dgt_values.specs.Square.{square_number};
+ghost use Rattle.dgt_message.specs.Content.Content.{field};
+ghost use Rattle.dgt_decode.specs.Grammar.{Message, message_event};
+ghost use Rattle.dgt_decode.specs.Feeding.{IsWhole, event_content, found_in};
+ghost use Rattle.dgt_lines.specs.Writing.{Gathers, Writes};
+ghost use Rattle.dgt_lines.specs.Lines.{bytes_text, event_line, line, offset_text, padded_decimal, unfinished_text};
+ghost use Rattle.dgt_lines.specs.Marks.{Waits};
+
+use crate::ends::Sink;
+use crate::faults::RunFault;
+use crate::gathering::{LINE_ROOM, Outgoing};
+use crate::wording::{push_event, push_field};
+use dgt_decode::{Event, Found, Framer};
+use dgt_values::{Piece, Square};
+
+// How many carried bytes have their digits added at once.
+const PART: usize = 64;
+
+// Room for a line that is written by itself. One that carries more bytes takes more writes.
+const ROOM: usize = 1024;
+
+// Adds an offset, and a space.
+fn push_offset<const ROOM: usize>(text: &mut Outgoing<ROOM>, offset: u64)
+    requires { length text.old + LINE_ROOM ≤ ROOM }
+    ensures text { text.new ≡ text.old ++ (offset_text offset ++ 32 ∷ []) }
+    ensures room { length text.new + 100 ≤ ROOM }
+{
+    if offset < 100_000_000 {
+        text.push(&eight_digits(offset as u32));
+    } else {
+        text.push_decimal(offset, 8);
+    }
+    text.push(b" ");
+}
+
+// Eight digits, from pairs of them: this is faster than one after another.
+fn eight_digits(number: u32) -> [u8; 8]
+    requires { number < 100000000 }
+    ensures { result ≡ padded_decimal 8 number }
+{
+    let (high, low) = (number / 10_000, number % 10_000);
+    let [a, b] = two_digits(high / 100);
+    let [c, d] = two_digits(high % 100);
+    let [e, f] = two_digits(low / 100);
+    let [g, h] = two_digits(low % 100);
+    [a, b, c, d, e, f, g, h]
+}
+
+fn two_digits(number: u32) -> [u8; 2]
+    requires { number < 100 }
+    ensures { result ≡ (48 + number / 10) ∷ (48 + number % 10) ∷ [] }
+{
+    [b'0' + (number / 10) as u8, b'0' + (number % 10) as u8]
+}
+
+fn put_bytes<W: Sink, const ROOM: usize>(
+    outgoing: &mut Outgoing<ROOM>,
+    writer: &mut W,
+    bytes: &[u8],
+) -> Result<(), RunFault>
+    ensures output { Gathers W.Sink outgoing.old outgoing.new writer.old
+        writer.new result (bytes_text bytes.now) }
+    ensures no_flush { W.flushed writer.old ≡ false → W.flushed writer.new ≡ false }
+{
+    if bytes.is_empty() {
+        return outgoing.add(writer, b"-");
+    }
+    put_digits(outgoing, writer, bytes)
+}
+
+fn put_digits<W: Sink, const ROOM: usize>(
+    outgoing: &mut Outgoing<ROOM>,
+    writer: &mut W,
+    bytes: &[u8],
+) -> Result<(), RunFault>
+    ensures output { Gathers W.Sink outgoing.old outgoing.new writer.old
+        writer.new result (encode_lower bytes.now) }
+    ensures no_flush { W.flushed writer.old ≡ false → W.flushed writer.new ≡ false }
+{
+    let mut at = 0;
+    while at < bytes.len() {
+        let end = bytes.len().min(at + PART);
+        put_part(outgoing, writer, &bytes[at..end])?;
+        at = end;
+    }
+    Ok(())
+}
+
+// Two digits for each of a few bytes, added at once.
+fn put_part<W: Sink, const ROOM: usize>(
+    outgoing: &mut Outgoing<ROOM>,
+    writer: &mut W,
+    part: &[u8],
+) -> Result<(), RunFault>
+    requires { length part.now ≤ PART }
+    ensures output { Gathers W.Sink outgoing.old outgoing.new writer.old
+        writer.new result (encode_lower part.now) }
+    ensures no_flush { W.flushed writer.old ≡ false → W.flushed writer.new ≡ false }
+{
+    let mut digits = [0; 2 * PART];
+    let text = &mut digits[..2 * part.len()];
+    hex::encode_to_slice(part, text).unwrap();
+    outgoing.add(writer, text)
+}
+
+/// Gathers the line of an event that the byte at the end of so many bytes makes.
+pub(crate) fn put_event<W: Sink, const ROOM: usize>(
+    outgoing: &mut Outgoing<ROOM>,
+    writer: &mut W,
+    offset: u64,
+    event: &Event<'_>,
+) -> Result<(), RunFault>
+    requires { LINE_ROOM ≤ ROOM }
+    ensures output { Gathers W.Sink outgoing.old outgoing.new writer.old
+        writer.new result (event_line offset (event_content event.now)) }
+    ensures no_flush { W.flushed writer.old ≡ false → W.flushed writer.new ≡ false }
+    ensures waits { OnOk result (Waits outgoing.new (W.flushed writer.new)) }
+{
+    outgoing.make_room(writer)?;
+    push_offset(outgoing, offset);
+    match push_event(outgoing, event) {
+        None => {
+            outgoing.push(b"\n");
+            Ok(())
+        }
+        Some(body) => {
+            put_bytes(outgoing, writer, body.bytes())?;
+            outgoing.add(writer, b"\n")
+        }
+    }
+}
+
+/// Gathers the line of what a framer found. `found` is lent, since its copies cost more than the rest.
+pub(crate) fn put_found<W: Sink, const ROOM: usize>(
+    outgoing: &mut Outgoing<ROOM>,
+    writer: &mut W,
+    offset: u64,
+    framer: &Framer,
+    found: &Found,
+) -> Result<(), RunFault>
+    requires room { LINE_ROOM ≤ ROOM }
+    requires whole { found.now ≡ Found.Message → IsWhole framer.now }
+    ensures { Gathers W.Sink outgoing.old outgoing.new writer.old writer.new
+        result (event_line offset (found_in framer.now found.now)) }
+{
+    match found {
+        Found::Message => put_message(outgoing, writer, offset, framer),
+        other => put_event_of(outgoing, writer, offset, framer, *other),
+    }
+}
+
+// The line of what a framer found, by its event. Not inlined, since room for an event would be cleared for each
+// field too.
+#[inline(never)]
+fn put_event_of<W: Sink, const ROOM: usize>(
+    outgoing: &mut Outgoing<ROOM>,
+    writer: &mut W,
+    offset: u64,
+    framer: &Framer,
+    found: Found,
+) -> Result<(), RunFault>
+    requires room { LINE_ROOM ≤ ROOM }
+    requires whole { found ≡ Found.Message → IsWhole framer.now }
+    ensures { Gathers W.Sink outgoing.old outgoing.new writer.old writer.new
+        result (event_line offset (found_in framer.now found)) }
+{
+    put_event(outgoing, writer, offset, &framer.event(found))
+}
+
+// The line of a whole message. Most messages are fields, whose lines are formed without an event: that
+// spares copies.
+fn put_message<W: Sink, const ROOM: usize>(
+    outgoing: &mut Outgoing<ROOM>,
+    writer: &mut W,
+    offset: u64,
+    framer: &Framer,
+) -> Result<(), RunFault>
+    requires room { LINE_ROOM ≤ ROOM }
+    requires whole { IsWhole framer.now }
+    ensures { Gathers W.Sink outgoing.old outgoing.new writer.old writer.new
+        result (event_line offset (message_event framer.now)) }
+{
+    let Some((square, piece)) = field(framer.bytes()) else {
+        return put_event_of(outgoing, writer, offset, framer, Found::Message);
+    };
+    outgoing.make_room(writer)?;
+    push_offset(outgoing, offset);
+    push_field(outgoing, square, piece);
+    outgoing.push(b"\n");
+    Ok(())
+}
+
+// What a whole message says of one square, if it is a field.
+fn field(bytes: &[u8]) -> Option<(Square, Piece)>
+    requires { IsWhole bytes.now }
+    ensures { IfSome result (λ told. message_event bytes.now ≡
+        Message (field (square_number told.0) told.1)) }
+{
+    if bytes.len() != 5 || bytes[0] != 0x8e {
+        return None;
+    }
+    match (Square::from_index(bytes[3]), Piece::from_code(bytes[4])) {
+        (Ok(square), Ok(piece)) => Some((square, piece)),
+        _ => None,
+    }
+}
+
+/// Writes the line of a message of which so many bytes came, and no more.
+pub(crate) fn write_unfinished<W: Sink>(
+    writer: &mut W,
+    offset: u64,
+    have: usize,
+) -> Result<(), RunFault>
+    ensures { Writes W.Sink writer.old writer.new result
+        (line offset (unfinished_text have)) }
+{
+    let mut text = Outgoing::<LINE_ROOM>::new();
+    push_offset(&mut text, offset);
+    text.push(b"unfinished ");
+    text.push_decimal(have as u64, 1);
+    text.push(b"\n");
+    text.write_out(writer)
+}
+
+/// Writes the line of an event, without a flush.
+///
+/// A line is the offset in decimal, with leading zeros to at least eight digits, a space, what came, and a
+/// line feed, as in `00000005 field e4 P`. The offset is the number of bytes up to and including the one
+/// that made the event. The format is this project's own choice.
+///
+/// `WriteFailed` comes where the writer refuses, which then took the front of the line and gets nothing more.
+pub fn write_event<W: Sink>(writer: &mut W, offset: u64, event: &Event<'_>) -> Result<(), RunFault>
+    ensures output { Writes W.Sink writer.old writer.new result
+        (event_line offset (event_content event.now)) }
+
+    // nothing is flushed: the line waits for a flush, and what waited before still does
+    ensures unflushed { OnOk result (W.flushed writer.new ≡ false) }
+    ensures no_flush { W.flushed writer.old ≡ false → W.flushed writer.new ≡ false }
+{
+    let mut outgoing = Outgoing::<ROOM>::new();
+    put_event(&mut outgoing, writer, offset, event)?;
+    outgoing.write_out(writer)
+}

@@ -1,0 +1,62 @@
+//! The lines of what a board sends, piece after piece.
+
+ghost use Rattle.std.specs.Prelude.{◌≡◌, ◌+◌, ◌^◌, ◌<◌, ◌≤◌, [], ◌++◌, length, IsTrue, OnOk};
+ghost use Rattle.dgt_decode.specs.Grammar.{open_message};
+ghost use Rattle.dgt_lines.specs.Lines.{lines_after, unfinished_line};
+ghost use Rattle.dgt_lines.specs.Writing.{Writes};
+
+use crate::ends::Sink;
+use crate::faults::RunFault;
+use crate::gathering::{Outgoing, flush};
+use crate::lines::{put_found, write_unfinished};
+use dgt_decode::{Framer, laws};
+
+/// Room for the lines of 4,096 bytes of field updates: 820 lines of at most 32 bytes.
+pub const LINES_ROOM: usize = 32768;
+
+/// Writes the lines of a piece that comes after so many bytes, in one write where there is room for them.
+///
+/// `framer` holds what is unfinished of the bytes before. `WriteFailed` comes where the writer refuses,
+/// which then took the front of the lines.
+pub fn write_lines<W: Sink>(
+    framer: &mut Framer,
+    outgoing: &mut Outgoing<LINES_ROOM>,
+    offset: u64,
+    piece: &[u8],
+    writer: &mut W,
+) -> Result<(), RunFault>
+    requires empty { outgoing.old ≡ [] }
+    requires fits { offset + length piece.now < 2 ^ 64 }
+    requires held { length (open_message framer.old) ≤ offset }
+    ensures output { Writes W.Sink writer.old writer.new result
+        (lines_after (open_message framer.old) offset piece.now) }
+    ensures framed { OnOk result (open_message framer.new ≡
+        open_message (open_message framer.old ++ piece.now)) }
+    ensures empty { OnOk result (outgoing.new ≡ []) }
+{
+    laws::events_append();
+    laws::open_append();
+    let mut at = 0;
+    while at < piece.len() {
+        let advanced = framer.advance(&piece[at..]);
+        at += advanced.used;
+        if let Some(found) = &advanced.found {
+            put_found(outgoing, writer, offset + at as u64, framer, found)?;
+        }
+    }
+    outgoing.write_out(writer)
+}
+
+/// Writes and flushes a last line after so many bytes, where a message is unfinished.
+pub fn write_end<W: Sink>(framer: &Framer, offset: u64, writer: &mut W) -> Result<(), RunFault>
+    ensures output { Writes W.Sink writer.old writer.new result
+        (unfinished_line offset (open_message framer.now)) }
+    ensures flushed { OnOk result (IsTrue (W.flushed writer.old) → IsTrue (W.flushed writer.new)) }
+{
+    let have = framer.open_len();
+    if have == 0 {
+        return Ok(());
+    }
+    write_unfinished(writer, offset, have)?;
+    flush(writer)
+}

@@ -1,0 +1,165 @@
+//! The standard library's readers and writers as sources and sinks.
+
+ghost use Rattle.std.specs.Prelude.{◌≤◌, length, IfOk};
+ghost use Rattle.std.specs.Io.KnownBytes.{Keeps, ReadConsumes, WriteAppends};
+
+use crate::ends::{Failed, Sink, Source};
+use std::io::{ErrorKind, Read, Write};
+
+// How often a call is made, at most, where each time it is interrupted.
+const MAX_TRIES: u32 = 1 << 20;
+
+// A read, made again where it is interrupted.
+fn read_retrying<T: Read>(reader: &mut T, buffer: &mut [u8]) -> Result<usize, Failed>
+    ensures bound { IfOk result (λ n. n ≤ length buffer.new) }
+    ensures bytes { ReadConsumes (T.remaining reader.old) (T.remaining reader.new) result
+        buffer.new }
+{
+    for _ in 0..MAX_TRIES {
+        match reader.read(buffer) {
+            Ok(given) => return Ok(given),
+            Err(error) if error.kind() == ErrorKind::Interrupted => {}
+            Err(_) => return Err(Failed),
+        }
+    }
+    Err(Failed)
+}
+
+// A write, made again where it is interrupted.
+fn write_retrying<T: Write>(writer: &mut T, bytes: &[u8]) -> Result<usize, Failed>
+    ensures bound { IfOk result (λ n. n ≤ length bytes.now) }
+    ensures bytes { WriteAppends (T.contents writer.old) (T.contents writer.new) result bytes.now }
+{
+    for _ in 0..MAX_TRIES {
+        match writer.write(bytes) {
+            Ok(taken) => return Ok(taken),
+            Err(error) if error.kind() == ErrorKind::Interrupted => {}
+            Err(_) => return Err(Failed),
+        }
+    }
+    Err(Failed)
+}
+
+// A flush, made again where it is interrupted.
+fn flush_retrying<T: Write>(writer: &mut T) -> Result<(), Failed>
+    ensures { Keeps (T.contents writer.old) (T.contents writer.new) }
+{
+    for _ in 0..MAX_TRIES {
+        match writer.flush() {
+            Ok(()) => return Ok(()),
+            Err(error) if error.kind() == ErrorKind::Interrupted => {}
+            Err(_) => return Err(Failed),
+        }
+    }
+    Err(Failed)
+}
+
+/// A source or a sink over any reader or writer of the standard library.
+///
+/// It keeps its marks and its count, and tells the bytes that the reader or the writer tells. It
+/// refuses a call where the reader or the writer fails, and where a writer takes none of the bytes
+/// that it is given.
+///
+/// A read, write or flush that answers `ErrorKind::Interrupted`, as where a signal came while it
+/// waited, is no failure: it moved no byte, and is made again, as the standard library's own loops
+/// (`read_to_end`, `write_all`) do. So a run goes on over signals, and counts one read. A call that
+/// is interrupted 2^20 times in a row is refused, so that it returns over every reader and writer.
+#[derive(Drop)]
+pub struct Device<T> {
+    inner: T,
+    failed: bool,
+    ended: bool,
+    reads: u64,
+    flushed: bool,
+    late: bool,
+}
+
+impl<T> Device<T> {
+    ghost use Rattle.dgt_lines.specs.Device.{IsNewDevice};
+
+    /// A device that has not failed or ended, was not read and has nothing to flush.
+    pub fn new(inner: T) -> Self
+        ensures { IsNewDevice result inner }
+    {
+        Device {
+            inner,
+            failed: false,
+            ended: false,
+            reads: 0,
+            flushed: true,
+            late: false,
+        }
+    }
+}
+
+impl<T: Read> Source for Device<T> {
+    ghost use Rattle.dgt_lines.specs.Device.{device_ended, device_failed, device_inner, device_late, device_reads};
+
+    ghost left = { λ device. T.remaining (device_inner device) };
+
+    ghost failed = { device_failed };
+
+    ghost ended = { device_ended };
+
+    ghost reads = { device_reads };
+
+    ghost late = { device_late };
+
+    fn read_some(&mut self, buffer: &mut [u8]) -> Result<usize, Failed> {
+        self.reads = self.reads.saturating_add(1);
+        self.late = self.late || self.failed || self.ended;
+        match read_retrying(&mut self.inner, buffer) {
+            Ok(given) => {
+                if given == 0 && !buffer.is_empty() {
+                    self.ended = true;
+                }
+                Ok(given)
+            }
+            Err(Failed) => {
+                self.failed = true;
+                Err(Failed)
+            }
+        }
+    }
+}
+
+impl<T: Write> Sink for Device<T> {
+    ghost use Rattle.dgt_lines.specs.Device.{device_failed, device_flushed, device_inner, device_late};
+
+    ghost written = { λ device. T.contents (device_inner device) };
+
+    ghost failed = { device_failed };
+
+    ghost flushed = { device_flushed };
+
+    ghost late = { device_late };
+
+    fn write_some(&mut self, bytes: &[u8]) -> Result<usize, Failed> {
+        self.late = self.late || self.failed;
+        match write_retrying(&mut self.inner, bytes) {
+            Ok(taken) if taken > 0 => {
+                self.flushed = false;
+                Ok(taken)
+            }
+            Ok(_) if bytes.is_empty() => Ok(0),
+            _ => {
+                self.failed = true;
+                Err(Failed)
+            }
+        }
+    }
+
+    fn flush_all(&mut self) -> Result<(), Failed> {
+        self.late = self.late || self.failed;
+        match flush_retrying(&mut self.inner) {
+            Ok(()) => {
+                self.flushed = true;
+                Ok(())
+            }
+            Err(Failed) => {
+                self.failed = true;
+                Err(Failed)
+            }
+        }
+    }
+}

@@ -1,0 +1,13 @@
+//! Sources and sinks of the standard library, and lines.
+
+use crate::RunFault;
+use std::test::Fail;
+
+#[test]
+fn texts_of_faults(rt: HostRuntime) -> Result<(), Fail> {
+    assert_eq!(rt;
+        RunFault::ReadFailed.to_string(rt.alloc())?.as_str(),
+        "read failed"
+    );
+    Ok(())
+}

@@ -1,0 +1,232 @@
+//! The words for what a board sends.
+
+ghost use Rattle.std.specs.Prelude.{◌≡◌, ◌+◌, ◌<◌, ◌≤◌, [], ◌++◌, ◌∷◌, length, decimal, map};
+ghost use Rattle.dgt_values.specs.Bytes.{number};
+ghost use Rattle.dgt_values.specs.Square.{square_number};
+ghost use Rattle.dgt_message.specs.ClockState.{clock_message, clock_seen};
+ghost use Rattle.dgt_message.specs.Content.{content};
+ghost use Rattle.dgt_message.specs.Values.{absence_seen, answer_seen, time_seen, times_seen};
+ghost use Rattle.dgt_message.specs.Content.Content.{field, times, no_clock, ack, serial};
+ghost use Rattle.dgt_decode.specs.Grammar.{Refused};
+ghost use Rattle.dgt_decode.specs.Feeding.{event_content};
+ghost use Rattle.dgt_lines.specs.Lines.{byte_text, event_text, message_text, time_text};
+ghost use Rattle.dgt_lines.specs.Wording.{text_with};
+
+use crate::gathering::Outgoing;
+use dgt_decode::Event;
+use dgt_message::{BodyFault, Clock, ClockAck, Message, NoClock, Reading, Times};
+use dgt_values::{Body, Piece, SevenBit, Square};
+
+/// Adds the text of an event up to the bytes that it carries, and answers these.
+pub(crate) fn push_event<'a, const ROOM: usize>(
+    text: &mut Outgoing<ROOM>,
+    event: &Event<'a>,
+) -> Option<Body<'a>>
+    requires { length text.old + 100 ≤ ROOM }
+    ensures text { text_with text.new result ≡ text.old ++ event_text (event_content event.now) }
+    ensures room { length text.new < ROOM }
+{
+    match event {
+        Event::Message(message) => return push_message(text, message),
+        Event::Refused { code, fault } => push_refusal(text, *code, *fault),
+        Event::Cut { have } => {
+            text.push(b"cut ");
+            text.push_decimal(*have as u64, 1);
+        }
+        Event::BadLength => text.push(b"badlength"),
+        Event::Stray(byte) => {
+            text.push(b"stray ");
+            text.push_hex(&[*byte]);
+        }
+    }
+    None
+}
+
+fn push_message<'a, const ROOM: usize>(
+    text: &mut Outgoing<ROOM>,
+    message: &Message<'a>,
+) -> Option<Body<'a>>
+    requires { length text.old + 100 ≤ ROOM }
+    ensures text { text_with text.new result ≡ text.old ++ message_text (content message.now) }
+    ensures room { length text.new < ROOM }
+{
+    match message {
+        Message::Dump(position) => {
+            text.push(b"dump ");
+            text.push(position.placement().as_bytes());
+        }
+        Message::Field { square, piece } => push_field(text, *square, *piece),
+        Message::Times(times) => push_times(text, *times),
+        Message::NoClock(absence) => push_absence(text, *absence),
+        Message::Ack(answer) => push_ack(text, *answer),
+        Message::Serial(digits) => push_serial(text, digits),
+        Message::Version { main, sub } => {
+            text.push(b"version ");
+            text.push_decimal(main.get() as u64, 1);
+            text.push(b".");
+            text.push_decimal(sub.get() as u64, 1);
+        }
+        Message::Trademark(body) => {
+            text.push(b"trademark ");
+            return Some(*body);
+        }
+        Message::Battery(body) => {
+            text.push(b"battery ");
+            return Some(*body);
+        }
+        Message::LongSerial(body) => {
+            text.push(b"longserial ");
+            return Some(*body);
+        }
+        Message::Other { code, body } => {
+            text.push(b"other ");
+            text.push_hex(&[code.get().get()]);
+            text.push(b" ");
+            return Some(*body);
+        }
+    }
+    None
+}
+
+/// Adds the text of what stands on a square.
+pub(crate) fn push_field<const ROOM: usize>(text: &mut Outgoing<ROOM>, square: Square, piece: Piece)
+    requires { length text.old + 100 ≤ ROOM }
+    ensures text { text.new ≡ text.old ++ message_text (field (square_number square) piece) }
+    ensures len { length text.new ≡ length text.old + 10 }
+{
+    let [file, rank] = square.name();
+    text.push(b"field ");
+    text.push(&[file, rank, b' ', piece.letter() as u8]);
+}
+
+/// Adds the text of what the host knows of a clock.
+pub fn push_clock<const ROOM: usize>(text: &mut Outgoing<ROOM>, clock: Clock)
+    requires { length text.old + 100 ≤ ROOM }
+    ensures text { text.new ≡ text.old ++ message_text (clock_message (clock_seen clock)) }
+    ensures room { length text.new ≤ length text.old + 28 }
+{
+    match clock {
+        Clock::Times(times) => push_times(text, times),
+        Clock::NoClock(absence) => push_absence(text, absence),
+    }
+}
+
+// The text of the times that a clock shows.
+fn push_times<const ROOM: usize>(text: &mut Outgoing<ROOM>, readings: Times)
+    requires { length text.old + 100 ≤ ROOM }
+    ensures text { text.new ≡ text.old ++ message_text (times (times_seen readings)) }
+    ensures len { length text.new ≡ length text.old + 28 }
+{
+    text.push(b"times ");
+    text.push(&time_text(readings.first()));
+    text.push(b" ");
+    text.push(&time_text(readings.second()));
+    push_byte(text, readings.status().code().get());
+}
+
+fn time_text(reading: Reading) -> [u8; 9]
+    ensures { result ≡ time_text (time_seen reading) }
+{
+    let (minutes, seconds) = (reading.minutes(), reading.seconds());
+    [
+        b'0' + reading.hours(),
+        b':',
+        b'0' + minutes / 10,
+        b'0' + minutes % 10,
+        b':',
+        b'0' + seconds / 10,
+        b'0' + seconds % 10,
+        b' ',
+        b'0' + reading.flags(),
+    ]
+}
+
+// The text of a board without a clock.
+fn push_absence<const ROOM: usize>(text: &mut Outgoing<ROOM>, absence: NoClock)
+    requires { length text.old + 100 ≤ ROOM }
+    ensures text { text.new ≡ text.old ++ message_text (no_clock (absence_seen absence)) }
+    ensures len { length text.new ≡ length text.old + 23 }
+{
+    text.push(b"noclock ");
+    text.push_hex(&absence_bytes(absence));
+    push_byte(text, absence.status().code().get());
+}
+
+fn absence_bytes(absence: NoClock) -> [u8; 6]
+    ensures bytes { result ≡ (absence_seen absence).raw }
+    ensures len { length result ≡ 6 }
+{
+    let [a, b, c, d, e, f] = absence.raw();
+    [a.get(), b.get(), c.get(), d.get(), e.get(), f.get()]
+}
+
+fn push_ack<const ROOM: usize>(text: &mut Outgoing<ROOM>, answer: ClockAck)
+    requires { length text.old + 100 ≤ ROOM }
+    ensures text { text.new ≡ text.old ++ message_text (ack (answer_seen answer)) }
+    ensures len { length text.new ≡ length text.old + 18 }
+{
+    text.push(b"ack");
+    for byte in ack_bytes(answer) {
+        push_byte(text, byte);
+    }
+}
+
+fn ack_bytes(answer: ClockAck) -> [u8; 5]
+    ensures bytes { result ≡ (answer_seen answer).ack ++ (answer_seen answer).status ∷ [] }
+    ensures len { length result ≡ 5 }
+{
+    let [a, b, c, d] = answer.ack;
+    [a, b, c, d, answer.status.get()]
+}
+
+// A space, and a byte.
+fn push_byte<const ROOM: usize>(text: &mut Outgoing<ROOM>, byte: u8)
+    requires { length text.old + 3 ≤ ROOM }
+    ensures text { text.new ≡ text.old ++ 32 ∷ byte_text byte }
+    ensures len { length text.new ≡ length text.old + 3 }
+{
+    text.push(b" ");
+    text.push_hex(&[byte]);
+}
+
+fn push_serial<const ROOM: usize>(text: &mut Outgoing<ROOM>, digits: &[SevenBit; 5])
+    requires { length text.old + 100 ≤ ROOM }
+    ensures text { text.new ≡ text.old ++ message_text (serial (map number digits.now)) }
+    ensures len { length text.new ≡ length text.old + 17 }
+{
+    text.push(b"serial ");
+    text.push_hex(&serial_bytes(digits));
+}
+
+fn serial_bytes(digits: &[SevenBit; 5]) -> [u8; 5]
+    ensures bytes { result ≡ map number digits.now }
+    ensures len { length result ≡ 5 }
+{
+    let [a, b, c, d, e] = digits;
+    [a.get(), b.get(), c.get(), d.get(), e.get()]
+}
+
+fn push_refusal<const ROOM: usize>(text: &mut Outgoing<ROOM>, code: SevenBit, fault: BodyFault)
+    requires { length text.old + 100 ≤ ROOM }
+    ensures text { text.new ≡ text.old ++ event_text (Refused (number code) fault) }
+    ensures room { length text.new < ROOM }
+{
+    text.push(b"refused ");
+    text.push_hex(&[code.get()]);
+    match fault {
+        BodyFault::WrongSize => text.push(b" wrongsize"),
+        BodyFault::BadPiece { at } => push_place(text, b" badpiece ", at),
+        BodyFault::BadSquare { at } => push_place(text, b" badsquare ", at),
+        BodyFault::BadReading { at } => push_place(text, b" badreading ", at),
+    }
+}
+
+// A word, and an offset.
+fn push_place<const ROOM: usize>(text: &mut Outgoing<ROOM>, word: &[u8], at: usize)
+    requires { length text.old + length word.now + 20 ≤ ROOM }
+    ensures text { text.new ≡ text.old ++ (word.now ++ decimal at) }
+    ensures room { length text.new ≤ length text.old + length word.now + 20 }
+{
+    text.push(word);
+    text.push_decimal(at as u64, 1);
+}

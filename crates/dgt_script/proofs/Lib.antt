@@ -1,0 +1,5 @@
+pub mod ScriptWordLemmas
+pub mod ScriptLemmas
+pub mod MeaningLemmas
+pub mod KeepLemmas
+pub mod ClosingLemmas

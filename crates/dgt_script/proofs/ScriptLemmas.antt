@@ -1,0 +1,112 @@
+-- The words of a script's lines, and where they go wrong.
+use Rattle.std.proofs.Common.{◌≡◌, ◌≢◌, ℕ, ◌+◌, ◌-◌, ◌<◌, ◌≤◌, ◌==◌, List, [], ◌∷◌, Option, Some, None, refl, sym, ◌∙◌, ap, subst, arith, false, true, get_or, inl, inr, length, length-append, take, drop}
+use Rattle.std.specs.Prelude.{All, slice_index}
+use Rattle.std.specs.List.{position_or_len}
+use Rattle.std.specs.Slice.{IsGetRangeResult}
+use Rattle.std.specs.Borrow.{Bor}
+use Rattle.std.proofs.lemmas.Bool.Decides.{eqb_tells}
+use Rattle.std.proofs.lemmas.List.{get_or-take, length-drop, length-take-le, take_all}
+use Rattle.std.proofs.lemmas.List.Splits.{join_with_byte-slice_split, length-slice_split, slice_split_first, slice_split_none}
+use Rattle.std.proofs.lemmas.List.Sums.{fails_before_first, position_or_len_is}
+use Rattle.dgt_script.specs.declared.script_words.Verb.{Verb}
+use Rattle.dgt_script.specs.declared.script.Wrong.{Wrong}
+use Rattle.dgt_lines.specs.Lines.{words_text}
+use Rattle.dgt_script.specs.Script.{GoesWrong, IsBadAt, IsBadFrom, IsOf, WordKind, kinds_after, words}
+use Rattle.dgt_script.specs.ScriptWords.{verb_text}
+use Rattle.dgt_script.specs.ScriptReading.{left_words, GoesWrongBefore}
+
+-- the words of a line make the line
+pub words_text-words : (line : List ℕ) → words_text (words line) ≡ line
+words_text-words line = join_with_byte-slice_split 32 line
+
+pub length-words : (line : List ℕ) → length (words_text (words line)) ≡ length line
+length-words line = ap length (words_text-words line)
+
+pub length-left_words : (rest : Option (Bor (List ℕ))) (bytes : Bor (List ℕ)) → rest ≡ Some bytes → length bytes.now ≡ length (words_text (left_words rest))
+length-left_words None bytes h = absurd cc
+length-left_words (Some other) bytes h = let same : bytes.now ≡ other.now = cc in ap length same ∙ sym (length-words other.now)
+
+-- a word where none should be
+one_too_many : (parts : List (List ℕ)) → 0 < length parts → GoesWrong [] parts parts
+one_too_many [] h = absurd (omega arith)
+one_too_many (word ∷ parts) h = refl
+
+pub word_left : (rest : Option (Bor (List ℕ))) (bytes : Bor (List ℕ)) (wrong : Wrong) → rest ≡ Some bytes → wrong.left ≡ length bytes.now → GoesWrongBefore [] (left_words rest) wrong
+word_left None bytes wrong h e = absurd cc
+word_left (Some other) bytes wrong h e =
+    let same : bytes.now ≡ other.now = cc in
+    let some = length-slice_split (λ byte. byte == 32) other.now in
+    (words other.now, one_too_many (words other.now) (omega arith), e ∙ ap length same ∙ sym (length-words other.now))
+
+-- ---- What is left where words go wrong
+
+words_text-tail : (word : List ℕ) (parts : List (List ℕ)) → length (words_text parts) ≤ length (words_text (word ∷ parts))
+words_text-tail word [] = omega arith
+words_text-tail word (next ∷ parts) = omega (arith, length-append word (32 ∷ words_text (next ∷ parts)))
+
+goes_wrong_within : (kinds : List WordKind) (parts bad : List (List ℕ)) → GoesWrong kinds parts bad → length (words_text bad) ≤ length (words_text parts)
+goes_wrong_within [] [] bad h = absurd h
+goes_wrong_within [] (word ∷ parts) bad h = let e = ap (λ l. length (words_text l)) h in omega arith
+goes_wrong_within (kind ∷ kinds) [] bad h = let e = ap (λ l. length (words_text l)) h in omega arith
+goes_wrong_within (kind ∷ kinds) (word ∷ parts) bad (inl h) = let e = ap (λ l. length (words_text l)) h.1 in omega arith
+goes_wrong_within (kind ∷ kinds) (word ∷ parts) bad (inr h) =
+    let later = goes_wrong_within kinds parts bad h.1 in
+    let shorter = words_text-tail word parts in
+    omega arith
+
+pub bad_within : (parts bad : List (List ℕ)) → IsBadFrom parts bad → length (words_text bad) ≤ length (words_text parts)
+bad_within parts bad (inl h) = let e = ap (λ l. length (words_text l)) h.1 in omega arith
+bad_within parts bad (inr h) =
+    let whole = ap (λ l. length (words_text l)) h.2 in
+    let later = goes_wrong_within (kinds_after h.0) h.1 bad h.3 in
+    let shorter = words_text-tail (verb_text h.0) h.1 in
+    omega arith
+
+-- ---- The first word
+
+-- a list that is cut before the first space, or not at all
+words_cut : (line : List ℕ) (end : ℕ) (rest : Option (Bor (List ℕ))) → position_or_len (λ byte. byte == 32) line ≡ end → end ≤ length line
+    → IsGetRangeResult line (end + 1) (length line) rest → words line ≡ take end line ∷ left_words rest
+words_cut line end None e within get =
+    let whole : length line ≤ end = elim get.0 [ inl h ↦ omega arith | inr h ↦ absurd (omega arith) ] in
+    let none : All (λ byte. (byte == 32) ≡ false) line = λ k d h. fails_before_first (λ byte. byte == 32) line k d (omega arith) in
+    slice_split_none (λ byte. byte == 32) line none ∙ ap (λ l. l ∷ []) (sym (take_all end line whole))
+words_cut line end (Some bytes) e within get =
+    let room : end < length line = omega arith in
+    let sum : end + 1 + (length line - (end + 1)) ≡ length line = omega arith in
+    let later : bytes.now ≡ drop (end + 1) line = get.0.2 ∙ take_all (length line - (end + 1)) (drop (end + 1) line) (omega (arith, length-drop (end + 1) line)) in
+    slice_split_first (λ byte. byte == 32) line 0 (omega arith)
+    ∙ ap (λ n. take n line ∷ words (drop (n + 1) line)) e
+    ∙ ap (λ l. take end line ∷ words l) (sym later)
+
+pub first_word : (line : List ℕ) (end : ℕ) (rest : Option (Bor (List ℕ))) → end ≤ length line → All (λ byte. byte ≢ 32) (take end line) → (end < length line → slice_index line end ≡ 32)
+    → IsGetRangeResult line (end + 1) (length line) rest → words line ≡ take end line ∷ left_words rest
+first_word line end rest within before space get =
+    words_cut line end rest (position_or_len_is (λ byte. byte == 32) line end 0 within no_space a_space) within get
+  where
+    no_space : (k : ℕ) → k < end → (get_or line k 0 == 32) ≡ false
+    no_space k h = let other = before k 0 (omega (arith, length-take-le end line within)) in let e = get_or-take end line k 0 h in elim (eqb_tells (get_or line k 0) 32) [ inl same ↦ absurd (other (e ∙ same.1)) | inr ne ↦ ne.0 ]
+
+    a_space : end < length line → (get_or line end 0 == 32) ≡ true
+    a_space h = ap (λ byte. byte == 32) (space h)
+
+-- ---- Where a reader stops
+
+-- a word of another kind
+pub word_refused : (kind : WordKind) (kinds : List WordKind) (parts rest : List (List ℕ)) (word : List ℕ) (wrong : Wrong) → parts ≡ word ∷ rest → ¬ (IsOf kind word)
+    → wrong.left ≡ length (words_text parts) → GoesWrongBefore (kind ∷ kinds) parts wrong
+word_refused kind kinds [] rest word wrong e refused k = absurd cc
+word_refused kind kinds (first ∷ parts) rest word wrong e refused k =
+    let same : first ≡ word = cc in
+    (first ∷ parts, inl (λ of. refused (subst (λ w. IsOf kind w) same of), refl), k)
+
+-- a first word that is not allowed
+pub verb_refused : (parts rest : List (List ℕ)) (first : List ℕ) → parts ≡ first ∷ rest → ((verb : Verb) → first ≢ verb_text verb) → IsBadFrom parts parts
+verb_refused parts rest first e refused =
+    inl (λ verb later h. refused verb (let both : first ∷ rest ≡ verb_text verb ∷ later = sym e ∙ h in cc both), refl)
+
+pub left_within : (line : List ℕ) (left : ℕ) → (bad : List (List ℕ)) × IsBadFrom (words line) bad × (left ≡ length (words_text bad)) → left ≤ length line
+left_within line left h = let within = bad_within (words line) h.0 h.1 in let whole = length-words line in let e = h.2 in omega arith
+
+pub bad_from_there : (line : List ℕ) (left : ℕ) → length line ≤ 519 → (bad : List (List ℕ)) × IsBadFrom (words line) bad × (left ≡ length (words_text bad)) → IsBadAt line (length line - left)
+bad_from_there line left short h = let within = left_within line left h in let e = h.2 in inr (short, h.0, h.1, omega arith)

@@ -1,0 +1,88 @@
+-- The lines of a script, and the acts that they ask for.
+use Rattle.std.specs.Prelude.{◌≡◌, ◌≢◌, ℕ, ◌+◌, ◌<◌, ◌≤◌, ◌==◌, ◌⊎◌, List, [], ◌∷◌, length}
+use Rattle.std.specs.List.{slice_split}
+use Rattle.dgt_values.specs.declared.pieces.Piece.{Piece}
+use Rattle.dgt_message.specs.ClockState.{ClockState}
+use Rattle.dgt_command.specs.Content.{CommandContent}
+use Rattle.dgt_link.specs.Act.{ActContent, Change, ClockRead, Host, BoardSend, ToBoard, ToHost, Break, HostBreak}
+use Rattle.dgt_script.specs.declared.script.LineFault.{LineFault}
+use Rattle.dgt_script.specs.declared.script.LineFault.TheVariants.{BadLine}
+use Rattle.dgt_script.specs.declared.script_words.Verb.{Verb}
+use Rattle.dgt_script.specs.declared.script_words.Verb.TheVariants as verb
+use Rattle.dgt_lines.specs.Lines.{words_text}
+use Rattle.dgt_script.specs.ScriptWords.{verb_text, IsSquareWord, IsPieceWord, IsClockWord, IsCommandWord, IsCountWord}
+
+-- the words of a line are its parts between single spaces; an empty part is an empty word
+abbrev pub words : List ℕ → List (List ℕ)
+words line = slice_split (λ byte. byte == 32) line
+
+-- ---- Lines that are acts
+
+-- these words ask for this act
+abbrev pub Asks : List (List ℕ) → ActContent → Type 0
+Asks parts (Change square piece) =
+    (first : List ℕ) × (second : List ℕ) × (parts ≡ verb_text verb.Change ∷ first ∷ second ∷ []) × IsSquareWord first square × IsPieceWord second piece
+Asks parts (ClockRead clock) = (word : List ℕ) × (parts ≡ verb_text verb.Clock ∷ word ∷ []) × IsClockWord word clock
+Asks parts (Host command) = (word : List ℕ) × (parts ≡ verb_text verb.Host ∷ word ∷ []) × IsCommandWord word command
+Asks parts BoardSend = parts ≡ verb_text verb.Send ∷ []
+Asks parts (ToBoard count) = (word : List ℕ) × (parts ≡ verb_text verb.ToBoard ∷ word ∷ []) × IsCountWord word count
+Asks parts (ToHost count) = (word : List ℕ) × (parts ≡ verb_text verb.ToHost ∷ word ∷ []) × IsCountWord word count
+Asks parts Break = parts ≡ verb_text verb.Break ∷ []
+Asks parts HostBreak = parts ≡ verb_text verb.HostBreak ∷ []
+
+-- this line asks for this act
+abbrev pub AsksFor : List ℕ → ActContent → Type 0
+AsksFor line act = (length line ≤ 519) × Asks (words line) act
+
+-- ---- Lines that are not
+
+-- what a word behind the first one may be
+pub data WordKind : Type 0 where
+  a_square : WordKind
+  a_letter : WordKind
+  a_clock : WordKind
+  a_command : WordKind
+  a_count : WordKind
+
+-- the word is of this kind
+abbrev pub IsOf : WordKind → List ℕ → Type 0
+IsOf a_square word = (square : ℕ) × IsSquareWord word square
+IsOf a_letter word = (piece : Piece) × IsPieceWord word piece
+IsOf a_clock word = (clock : ClockState) × IsClockWord word clock
+IsOf a_command word = (command : CommandContent) × IsCommandWord word command
+IsOf a_count word = (count : ℕ) × IsCountWord word count
+
+-- what has to follow a first word, word for word
+abbrev pub kinds_after : Verb → List WordKind
+kinds_after verb.Change = a_square ∷ a_letter ∷ []
+kinds_after verb.Clock = a_clock ∷ []
+kinds_after verb.Host = a_command ∷ []
+kinds_after verb.Send = []
+kinds_after verb.ToBoard = a_count ∷ []
+kinds_after verb.ToHost = a_count ∷ []
+kinds_after verb.Break = []
+kinds_after verb.HostBreak = []
+
+-- words that should be of these kinds go wrong where `bad` begins: at the first that is of another kind or one too
+-- many, or behind the last, where one is missing
+abbrev pub GoesWrong : List WordKind → List (List ℕ) → List (List ℕ) → Type 0
+GoesWrong [] [] bad = ⊥
+GoesWrong [] (word ∷ parts) bad = bad ≡ word ∷ parts
+GoesWrong (kind ∷ kinds) [] bad = bad ≡ []
+GoesWrong (kind ∷ kinds) (word ∷ parts) bad = ((¬ IsOf kind word) × (bad ≡ word ∷ parts)) ⊎ (IsOf kind word × GoesWrong kinds parts bad)
+
+-- the words of a line go wrong where `bad` begins: at the first, or behind a first one that is allowed
+abbrev pub IsBadFrom : List (List ℕ) → List (List ℕ) → Type 0
+IsBadFrom parts bad =
+    (((verb : Verb) (rest : List (List ℕ)) → parts ≢ verb_text verb ∷ rest) × (bad ≡ parts))
+    ⊎ ((verb : Verb) × (rest : List (List ℕ)) × (parts ≡ verb_text verb ∷ rest) × GoesWrong (kinds_after verb) rest bad)
+
+-- this line asks for no act, and goes wrong at this offset, behind which the bad words stand
+abbrev pub IsBadAt : List ℕ → ℕ → Type 0
+IsBadAt line at =
+    ((519 < length line) × (at ≡ 519))
+    ⊎ ((length line ≤ 519) × (bad : List (List ℕ)) × IsBadFrom (words line) bad × (at + length (words_text bad) ≡ length line))
+
+-- the offset that is told
+abbrev pub bad_offset : LineFault → ℕ
+bad_offset (BadLine at) = at

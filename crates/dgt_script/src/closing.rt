@@ -1,0 +1,97 @@
+//! What is written of what comes of an act, and of a world at the end.
+
+ghost use Rattle.std.specs.Prelude.{◌≡◌, ◌+◌, ◌↔◌, ◌≤◌, ◌++◌, Bool, IsTrue, codes, length};
+ghost use Rattle.dgt_values.specs.Pieces.{pieces_of};
+ghost use Rattle.dgt_values.specs.Placement.{placement_text};
+ghost use Rattle.dgt_link.specs.View.{IsQuietWorld};
+ghost use Rattle.dgt_script.specs.Closing.{clock_text, closing_lines, named_line, outcome_line, picture_text, quiet_text};
+ghost use Rattle.dgt_lines.specs.Writing.{Writes};
+
+use dgt_lines::{Outgoing, RunFault, Sink, push_clock};
+use dgt_link::{Outcome, World};
+use dgt_values::Position;
+
+// Room for the closing lines.
+const CLOSING_ROOM: usize = 512;
+
+/// The line of what came of an act.
+pub fn outcome_text(outcome: Outcome) -> &'static [u8]
+    ensures { result.now ≡ outcome_line outcome }
+{
+    match outcome {
+        Outcome::Done => b"done\n",
+        Outcome::Nothing => b"nothing\n",
+        Outcome::NoRoom => b"noroom\n",
+        Outcome::Busy => b"busy\n",
+        Outcome::TooMany => b"toomany\n",
+    }
+}
+
+fn push_placement(text: &mut Outgoing<CLOSING_ROOM>, position: &Position)
+    requires { length text.old + 71 ≤ CLOSING_ROOM }
+    ensures text { text.new ≡ text.old ++ placement_text (pieces_of position.now) }
+    ensures room { length text.new ≤ length text.old + 71 }
+{
+    text.push(position.placement().as_bytes());
+}
+
+fn push_board(text: &mut Outgoing<CLOSING_ROOM>, world: &World)
+    requires { length text.old + 100 ≤ CLOSING_ROOM }
+    ensures text { text.new ≡ text.old
+        ++ named_line (codes "board") (placement_text world.now.board.state.squares) }
+    ensures room { length text.new ≤ length text.old + 100 }
+{
+    text.push(b"board ");
+    push_placement(text, world.board().position());
+    text.push(b"\n");
+}
+
+fn push_picture(text: &mut Outgoing<CLOSING_ROOM>, world: &World)
+    requires { length text.old + 100 ≤ CLOSING_ROOM }
+    ensures text { text.new ≡ text.old
+        ++ named_line (codes "host") (picture_text world.now.host.picture) }
+    ensures room { length text.new ≤ length text.old + 100 }
+{
+    text.push(b"host ");
+    match world.host().picture() {
+        Some(position) => push_placement(text, position),
+        None => text.push(b"unknown"),
+    }
+    text.push(b"\n");
+}
+
+fn push_host_clock(text: &mut Outgoing<CLOSING_ROOM>, world: &World)
+    requires { length text.old + 110 ≤ CLOSING_ROOM }
+    ensures text { text.new ≡ text.old
+        ++ named_line (codes "hostclock") (clock_text world.now.host.clock) }
+    ensures room { length text.new ≤ length text.old + 100 }
+{
+    text.push(b"hostclock ");
+    match world.host().clock() {
+        Some(clock) => push_clock(text, *clock),
+        None => text.push(b"unknown"),
+    }
+    text.push(b"\n");
+}
+
+fn push_quiet(text: &mut Outgoing<CLOSING_ROOM>, quiet: bool)
+    requires { length text.old + 10 ≤ CLOSING_ROOM }
+    ensures { text.new ≡ text.old ++ named_line (codes "quiet") (quiet_text quiet) }
+{
+    text.push(if quiet { b"quiet yes\n" } else { b"quiet no\n" });
+}
+
+/// Writes the four closing lines of a world, without a flush: the board's position, the host's picture, what
+/// the host knows of the clock, and whether all is quiet. `WriteFailed` comes where the writer refuses.
+pub fn write_closing<W: Sink>(world: &World, writer: &mut W) -> Result<(), RunFault>
+    ensures { (quiet : Bool) × (IsTrue quiet ↔ IsQuietWorld world.now)
+        × Writes W.Sink writer.old writer.new result (closing_lines world.now quiet) }
+{
+    let quiet = world.quiet();
+    let mut text = Outgoing::<CLOSING_ROOM>::new();
+    push_board(&mut text, world);
+    push_picture(&mut text, world);
+    push_host_clock(&mut text, world);
+    push_quiet(&mut text, quiet);
+    text.write_out(writer)
+}

@@ -1,0 +1,31 @@
+//! What holds of the lines of a script, and of closing lines, as such. Nothing here runs: each function
+//! stands for the facts that its contract states.
+
+ghost use Rattle.std.specs.Prelude.{◌≡◌, ℕ, List};
+ghost use Rattle.dgt_values.specs.Equality.{EqualIsSame};
+ghost use Rattle.dgt_link.specs.Act.{ActContent};
+ghost use Rattle.dgt_script.specs.Closing.{ClosingLinesAgree};
+ghost use Rattle.dgt_script.specs.Script.{AsksFor, IsBadAt};
+
+use crate::script::LineFault;
+
+/// Two values are equal, as `==` answers, exactly where they are the same.
+pub fn equal_is_same()
+    ensures line_fault { EqualIsSame ⟦<LineFault as PartialEq>⟧.eq }
+{}
+
+/// No line asks for two acts or goes wrong at two places, and none that asks for an act goes wrong.
+pub fn lines_have_one_meaning()
+    ensures one_act { (line : List ℕ) (first second : ActContent) →
+        AsksFor line first → AsksFor line second → first ≡ second }
+    ensures act_or_fault { (line : List ℕ) (act : ActContent) (at : ℕ) →
+        AsksFor line act → ¬ (IsBadAt line at) }
+    ensures one_place { (line : List ℕ) (first second : ℕ) →
+        IsBadAt line first → IsBadAt line second → first ≡ second }
+{}
+
+/// Where the host's picture is the board's position, the closing lines of board and host, which come
+/// first, have one and the same placement.
+pub fn closing_lines_agree()
+    ensures { ClosingLinesAgree }
+{}

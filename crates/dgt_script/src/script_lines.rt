@@ -1,0 +1,57 @@
+//! The lines of a script, from pieces of any lengths.
+
+ghost use Rattle.std.specs.Prelude.{◌≡◌, ◌↔◌, List, [], ◌++◌, IsTrue, ℕ};
+ghost use Rattle.dgt_script.specs.ScriptLines.{IsShort, KeepsLine};
+
+use arrayvec::ArrayVec;
+
+/// The longest line that is kept whole, in bytes.
+pub const MAX_LINE: usize = 519;
+
+/// A line that may not have ended: its first 519 bytes, and whether there were more.
+#[derive(Drop)]
+pub struct LineBuffer {
+    bytes: ArrayVec<u8, MAX_LINE>,
+    is_long: bool,
+}
+
+impl LineBuffer {
+    /// An empty line.
+    pub fn new() -> Self
+        ensures { KeepsLine result [] }
+    {
+        LineBuffer {
+            bytes: ArrayVec::new(),
+            is_long: false,
+        }
+    }
+
+    /// Adds bytes to the line. Those for which there is no room aren't kept.
+    pub fn add(&mut self, piece: &[u8])
+        ensures { (line : List ℕ) → KeepsLine self.old line → KeepsLine self.new (line ++ piece.now) }
+    {
+        let room = self.bytes.remaining_capacity();
+        self.is_long = self.is_long || piece.len() > room;
+        self.bytes
+            .try_extend_from_slice(&piece[..piece.len().min(room)])
+            .unwrap();
+    }
+
+    /// The whole line; `None` where it has more than 519 bytes.
+    pub fn line(&self) -> Option<&[u8]>
+        ensures { (line : List ℕ) → KeepsLine self.now line → IsShort line result }
+    {
+        if self.is_long {
+            None
+        } else {
+            Some(self.bytes.as_slice())
+        }
+    }
+
+    /// Whether the line has no byte.
+    pub fn is_empty(&self) -> bool
+        ensures { (line : List ℕ) → KeepsLine self.now line → (IsTrue result ↔ (line ≡ [])) }
+    {
+        self.bytes.is_empty()
+    }
+}

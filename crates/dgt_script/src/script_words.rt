@@ -1,0 +1,113 @@
+//! The words of a script line: the first one, and squares, pieces, clocks, commands and counts.
+
+ghost use Rattle.std.specs.Prelude.{◌≡◌, ◌≢◌, ℕ, MatchOption};
+ghost use Rattle.dgt_values.specs.declared.pieces.Piece.{Piece};
+ghost use Rattle.dgt_values.specs.Square.{square_number};
+ghost use Rattle.dgt_message.specs.ClockState.{clock_seen, ClockState};
+ghost use Rattle.dgt_message.specs.Content.{content};
+ghost use Rattle.dgt_command.specs.Content.{command_content, CommandContent};
+ghost use Rattle.dgt_script.specs.ScriptWords.{verb_text, IsClockWord, IsCommandWord, IsCountWord, IsPieceWord, IsSquareWord, Tells};
+ghost use Rattle.dgt_script.specs.declared.script_words.Verb.{Verb};
+
+use dgt_command::{Command, view_command};
+use dgt_message::{Clock, KnownCode, Message, view};
+use dgt_values::{Body, Piece, SevenBit, Square};
+use hex::FromHex;
+
+/// The words that a line may begin with.
+#[derive(Clone, Copy)]
+pub(crate) enum Verb {
+    Change,
+    Clock,
+    Host,
+    Send,
+    ToBoard,
+    ToHost,
+    Break,
+    HostBreak,
+}
+
+/// What a first word begins.
+pub(crate) fn verb_word(word: &[u8]) -> Option<Verb>
+    ensures { MatchOption result ((verb : Verb) → word.now ≢ verb_text verb) (λ verb. word.now ≡ verb_text verb) }
+{
+    match word {
+        b"change" => Some(Verb::Change),
+        b"clock" => Some(Verb::Clock),
+        b"host" => Some(Verb::Host),
+        b"send" => Some(Verb::Send),
+        b"toboard" => Some(Verb::ToBoard),
+        b"tohost" => Some(Verb::ToHost),
+        b"break" => Some(Verb::Break),
+        b"hostbreak" => Some(Verb::HostBreak),
+        _ => None,
+    }
+}
+
+/// The square of a name such as `e4`.
+pub(crate) fn square_word(word: &[u8]) -> Option<Square>
+    ensures { MatchOption result
+        ((square : ℕ) → ¬ (IsSquareWord word.now square))
+        (λ square. IsSquareWord word.now (square_number square)) }
+{
+    Square::parse(std::str::from_utf8(word).ok()?).ok()
+}
+
+/// The piece of a letter.
+pub(crate) fn piece_word(word: &[u8]) -> Option<Piece>
+    ensures { MatchOption result ((piece : Piece) → ¬ (IsPieceWord word.now piece)) (IsPieceWord word.now) }
+{
+    let [letter] = word else {
+        return None;
+    };
+    Piece::from_letter(char::from(*letter)).ok()
+}
+
+/// The clock that fourteen hexadecimal digits of either case tell of: the seven bytes of the body of a message of the
+/// times, or of one that no clock is connected.
+pub(crate) fn clock_word(word: &[u8]) -> Option<Clock>
+    ensures { MatchOption result
+        ((clock : ClockState) → ¬ (IsClockWord word.now clock))
+        (λ clock. IsClockWord word.now (clock_seen clock)) }
+{
+    let bytes = <[u8; 7] as FromHex>::from_hex(word).ok()?;
+    let code = SevenBit::try_from(KnownCode::Clock.number()).unwrap();
+    clock_of(view(code, Body::new(&bytes).ok()?).ok()?)
+}
+
+// The clock that a message tells of.
+fn clock_of(message: Message<'_>) -> Option<Clock>
+    ensures { MatchOption result
+        ((clock : ClockState) → ¬ (Tells (content message.entry) clock))
+        (λ clock. Tells (content message.entry) (clock_seen clock)) }
+{
+    match message {
+        Message::Times(times) => Some(Clock::Times(times)),
+        Message::NoClock(absence) => Some(Clock::NoClock(absence)),
+        _ => None,
+    }
+}
+
+/// The command whose bytes are these hexadecimal digits of either case, two for each byte. The bytes are put at the
+/// front of `store`, which has room for those of any command, and the command lends what it carries from there.
+pub(crate) fn command_word<'a>(word: &[u8], store: &'a mut [u8; 257]) -> Option<Command<'a>>
+    ensures { MatchOption result
+        ((command : CommandContent) → ¬ (IsCommandWord word.now command))
+        (λ command. IsCommandWord word.now (command_content command)) }
+{
+    let bytes = store.get_mut(..word.len() / 2)?;
+    hex::decode_to_slice(word, bytes).ok()?;
+    view_command(bytes)
+}
+
+/// A count from 1 to 65535 in decimal, with no leading zero.
+pub(crate) fn count_word(word: &[u8]) -> Option<usize>
+    ensures { MatchOption result ((count : ℕ) → ¬ (IsCountWord word.now count)) (IsCountWord word.now) }
+{
+    let first = *word.first()?;
+    if first == b'0' || !first.is_ascii_digit() {
+        return None;
+    }
+    let count: u16 = std::str::from_utf8(word).ok()?.parse().ok()?;
+    Some(count.into())
+}

@@ -1,5 +1,0 @@
-use Rattle.dgt_text.proofs.MeaningLemmas.{asked_not_bad, one_act, one_place}
-use Rattle.dgt_text.proofs.laws.lines_have_one_meaning.Goals as goal
-
-pub returns : goal.returns
-returns c = record { one_act = one_act; act_or_fault = asked_not_bad; one_place = one_place }

@@ -1,9 +1,0 @@
-use Rattle.std.proofs.Common.{arith}
-use Rattle.dgt_text.proofs.ScriptLemmas.{bad_from_there, left_within}
-use Rattle.dgt_text.proofs.script.read_act.Goals as goal
-
-pub overflow_sub-result : goal.overflow_sub-result
-overflow_sub-result c = left_within c.args.line.now c.in-Err.field-0.left c.in-Err.ensures
-
-pub returns-in-Err-clause-bad : goal.returns-in-Err-clause-bad
-returns-in-Err-clause-bad c = bad_from_there c.args.line.now c.in-Err.field-0.left (omega arith) c.in-Err.ensures

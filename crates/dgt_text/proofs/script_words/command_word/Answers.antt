@@ -1,7 +1,0 @@
-use Rattle.std.proofs.Common.{arith}
-use Rattle.dgt_text.proofs.ScriptWordLemmas.{command_has_room}
-use Rattle.dgt_text.proofs.script_words.command_word.Goals as goal
-
-pub returns-in_err-bytes : goal.returns-in_err-bytes
-returns-in_err-bytes c =
-    rw c.from_residual.ensures (λ command h. omega (arith, command_has_room c.args.word.now command h, c.in_err-bytes.ensures.lookup))

@@ -1,9 +1,0 @@
-use Rattle.std.proofs.Common.{◌≡◌, ◌+◌, ◌*◌, ◌++◌, codes, length, take}
-use Rattle.dgt_text.proofs.TextLemmas.{spaced_text}
-use Rattle.dgt_text.proofs.wording.push_ack.Given as goal
-
-abbrev pub invariant-loop-byte : goal.invariant-loop-byte
-invariant-loop-byte g l = record {
-  text : l.text ≡ l.fn.text ++ (codes "ack" ++ spaced_text (take l.byte-index l.byte-items));
-  len : length l.text ≡ length l.fn.text + (3 + 3 * l.byte-index);
-}
