@@ -1,6 +1,9 @@
 //! The words of the command line, read by `clap`.
+use crate::asking::{BadAsk, WORDS, asked_bytes};
 use crate::fault::Fault;
-use crate::help::{BOARD_NOTES, MONITOR_NOTES, PROGRAM_NOTES, SHOW_NOTES, SIMULATE_NOTES};
+use crate::help::{
+    ASK_NOTES, BOARD_NOTES, MONITOR_NOTES, PROGRAM_NOTES, SHOW_NOTES, SIMULATE_NOTES,
+};
 use clap::error::ErrorKind;
 use clap::{Arg, ArgMatches, Command, value_parser};
 use dgt_link::{MIN_DOWN, MIN_UP};
@@ -18,6 +21,10 @@ pub enum Task<'a> {
     },
     /// Show what the bytes of the input make known.
     Monitor,
+    /// Write these bytes of commands.
+    Ask {
+        bytes: Vec<u8>,
+    },
     /// Answer the commands of the input as a board with this placement.
     Board {
         placement: &'a str,
@@ -71,6 +78,19 @@ fn monitor<'a>(alloc: Global) -> Command<'a> {
         .after_help(MONITOR_NOTES)
 }
 
+fn ask<'a>(alloc: Global) -> Result<Command<'a>, AllocError> {
+    let words = Arg::new(alloc, "word")
+        .value_name("WORD")
+        .num_args(1..)
+        .required(true)
+        .allow_hyphen_values(true)
+        .help("The commands by name, in order");
+    Command::new(alloc, "ask")
+        .about("Writes the bytes of commands to a board")
+        .after_help(ASK_NOTES)
+        .arg(words)
+}
+
 fn board<'a>(alloc: Global) -> Result<Command<'a>, AllocError> {
     Command::new(alloc, "board")
         .about("Answers the commands on standard input, as a board does")
@@ -104,6 +124,7 @@ fn command<'a>(alloc: Global) -> Result<Command<'a>, AllocError> {
         .subcommand_required(true)
         .subcommand(show(alloc)?)?
         .subcommand(monitor(alloc))?
+        .subcommand(ask(alloc)?)?
         .subcommand(board(alloc)?)?
         .subcommand(simulate(alloc)?)
 }
@@ -111,7 +132,7 @@ fn command<'a>(alloc: Global) -> Result<Command<'a>, AllocError> {
 /// The task of the words, of which the first is the program's name.
 pub fn read<'a>(alloc: Global, words: &'a [String]) -> Result<Task<'a>, Fault> {
     match command(alloc)?.try_get_matches_from(words) {
-        Ok(matches) => match requested(&matches) {
+        Ok(matches) => match requested(alloc, &matches)? {
             Some(task) => Ok(task),
             None => Err(refuse(
                 alloc,
@@ -133,22 +154,40 @@ fn unmatched<'a>(error: clap::Error) -> Result<Task<'a>, Fault> {
 }
 
 // Each subcommand of `command` has its task here: one that hasn't is refused.
-fn requested<'a>(matches: &ArgMatches<'a>) -> Option<Task<'a>> {
-    match matches.subcommand()? {
-        ("show", show) => Some(Task::Show {
+fn requested<'a>(alloc: Global, matches: &ArgMatches<'a>) -> Result<Option<Task<'a>>, Fault> {
+    let Some(chosen) = matches.subcommand() else {
+        return Ok(None);
+    };
+    Ok(Some(match chosen {
+        ("show", show) => Task::Show {
             word: show.get_str("hex").unwrap_or(""),
-        }),
-        ("monitor", _) => Some(Task::Monitor),
-        ("board", board) => Some(Task::Board {
+        },
+        ("monitor", _) => Task::Monitor,
+        ("ask", ask) => Task::Ask {
+            bytes: commands(alloc, ask.get_strs("word").unwrap_or(&[]))?,
+        },
+        ("board", board) => Task::Board {
             placement: board.get_str("position").unwrap_or(START),
-        }),
-        ("simulate", simulate) => Some(Task::Simulate {
+        },
+        ("simulate", simulate) => Task::Simulate {
             placement: simulate.get_str("position").unwrap_or(START),
             up: simulate.get_one::<u16>("up").unwrap_or(LINE_BYTES),
             down: simulate.get_one::<u16>("down").unwrap_or(LINE_BYTES),
-        }),
-        _ => None,
-    }
+        },
+        _ => return Ok(None),
+    }))
+}
+
+// The bytes of the commands with these names.
+fn commands(alloc: Global, words: &[&str]) -> Result<Vec<u8>, Fault> {
+    asked_bytes(alloc, words).map_err(|bad| match bad {
+        BadAsk::Unknown(word) => match format!(in alloc; "{word} is none of the words {WORDS}") {
+            Ok(text) => refuse(alloc, ErrorKind::InvalidValue, text.as_str()),
+            Err(_) => Fault::OutOfMemory,
+        },
+        BadAsk::Unfit(detail) => refuse(alloc, ErrorKind::InvalidValue, detail.form()),
+        BadAsk::OutOfMemory => Fault::OutOfMemory,
+    })
 }
 
 /// The fault where the system gave no words as text.
