@@ -36,8 +36,9 @@ pub const PROGRAM_NOTES: &str = "\
 A DGT board is a chess board that tells over a serial line what stands on its
 squares, where a host, the program at the other end, asks it to by commands.
 'show' and 'monitor' tell in lines of text what the board's bytes mean. 'ask'
-writes commands. 'board' takes the place of a board, to try a host on. 'simulate' has a board and a host
-on a line of bytes each way, and moves the bytes as a script tells it to.
+writes commands. 'board' takes the place of a board, to try a host on.
+'simulate' has a board and a host on a line of bytes each way, and moves the
+bytes as a script tells it to.
 
 Examples:
   $ dgt show 8e00052401
