@@ -41,7 +41,7 @@ pub enum Task<'a> {
 const START: &str = "rnbqkbnr/pppppppp/8/8/8/8/PPPPPPPP/RNBQKBNR";
 
 /// The bytes that a line holds where the command line doesn't say.
-const LINE_BYTES: u16 = 1024;
+const LINE_BYTES: &str = "1024";
 
 fn position<'a>(alloc: Global) -> Arg<'a> {
     Arg::new(alloc, "position")
@@ -58,7 +58,7 @@ fn line_bytes<'a>(alloc: Global, name: &'a str, least: i64, help: &'a str) -> Ar
         .long(name)
         .value_name("N")
         .value_parser(value_parser!(u16).range(least..=65535))
-        .default_value("1024")
+        .default_value(LINE_BYTES)
         .help(help)
 }
 
@@ -153,29 +153,34 @@ fn unmatched<'a>(error: clap::Error) -> Result<Task<'a>, Fault> {
     }
 }
 
-// Each subcommand of `command` has its task here: one that hasn't is refused.
+// Each subcommand of `command` has its task here, and each option its value: what hasn't is refused.
 fn requested<'a>(alloc: Global, matches: &ArgMatches<'a>) -> Result<Option<Task<'a>>, Fault> {
-    let Some(chosen) = matches.subcommand() else {
-        return Ok(None);
-    };
-    Ok(Some(match chosen {
-        ("show", show) => Task::Show {
-            word: show.get_str("hex").unwrap_or(""),
-        },
-        ("monitor", _) => Task::Monitor,
-        ("ask", ask) => Task::Ask {
+    match matches.subcommand() {
+        Some(("ask", ask)) => Ok(Some(Task::Ask {
             bytes: commands(alloc, ask.get_strs("word").unwrap_or(&[]))?,
+        })),
+        Some((name, options)) => Ok(task_named(name, options)),
+        None => Ok(None),
+    }
+}
+
+fn task_named<'a>(name: &str, options: &ArgMatches<'a>) -> Option<Task<'a>> {
+    let task = match name {
+        "show" => Task::Show {
+            word: options.get_str("hex")?,
         },
-        ("board", board) => Task::Board {
-            placement: board.get_str("position").unwrap_or(START),
+        "monitor" => Task::Monitor,
+        "board" => Task::Board {
+            placement: options.get_str("position")?,
         },
-        ("simulate", simulate) => Task::Simulate {
-            placement: simulate.get_str("position").unwrap_or(START),
-            up: simulate.get_one::<u16>("up").unwrap_or(LINE_BYTES),
-            down: simulate.get_one::<u16>("down").unwrap_or(LINE_BYTES),
+        "simulate" => Task::Simulate {
+            placement: options.get_str("position")?,
+            up: options.get_one("up")?,
+            down: options.get_one("down")?,
         },
-        _ => return Ok(None),
-    }))
+        _ => return None,
+    };
+    Some(task)
 }
 
 // The bytes of the commands with these names.
