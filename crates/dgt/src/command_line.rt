@@ -1,6 +1,9 @@
 //! The words of the command line, read by `clap`.
+use crate::asking::{BadAsk, WORDS, asked_bytes};
 use crate::fault::Fault;
-use crate::help::{BOARD_NOTES, MONITOR_NOTES, PROGRAM_NOTES, SHOW_NOTES, SIMULATE_NOTES};
+use crate::help::{
+    ASK_NOTES, BOARD_NOTES, MONITOR_NOTES, PROGRAM_NOTES, SHOW_NOTES, SIMULATE_NOTES,
+};
 use clap::error::ErrorKind;
 use clap::{Arg, ArgMatches, Command, value_parser};
 use dgt_link::{MIN_DOWN, MIN_UP};
@@ -18,6 +21,10 @@ pub enum Task<'a> {
     },
     /// Show what the bytes of the input make known.
     Monitor,
+    /// Write these bytes of commands.
+    Ask {
+        bytes: Vec<u8>,
+    },
     /// Answer the commands of the input as a board with this placement.
     Board {
         placement: &'a str,
@@ -34,7 +41,7 @@ pub enum Task<'a> {
 const START: &str = "rnbqkbnr/pppppppp/8/8/8/8/PPPPPPPP/RNBQKBNR";
 
 /// The bytes that a line holds where the command line doesn't say.
-const LINE_BYTES: u16 = 1024;
+const LINE_BYTES: &str = "1024";
 
 fn position<'a>(alloc: Global) -> Arg<'a> {
     Arg::new(alloc, "position")
@@ -51,7 +58,7 @@ fn line_bytes<'a>(alloc: Global, name: &'a str, least: i64, help: &'a str) -> Ar
         .long(name)
         .value_name("N")
         .value_parser(value_parser!(u16).range(least..=65535))
-        .default_value("1024")
+        .default_value(LINE_BYTES)
         .help(help)
 }
 
@@ -69,6 +76,19 @@ fn monitor<'a>(alloc: Global) -> Command<'a> {
     Command::new(alloc, "monitor")
         .about("Shows the messages in the bytes of standard input, as they come")
         .after_help(MONITOR_NOTES)
+}
+
+fn ask<'a>(alloc: Global) -> Result<Command<'a>, AllocError> {
+    let words = Arg::new(alloc, "word")
+        .value_name("WORD")
+        .num_args(1..)
+        .required(true)
+        .allow_hyphen_values(true)
+        .help("The commands by name, in order");
+    Command::new(alloc, "ask")
+        .about("Writes the bytes of commands to a board")
+        .after_help(ASK_NOTES)
+        .arg(words)
 }
 
 fn board<'a>(alloc: Global) -> Result<Command<'a>, AllocError> {
@@ -104,6 +124,7 @@ fn command<'a>(alloc: Global) -> Result<Command<'a>, AllocError> {
         .subcommand_required(true)
         .subcommand(show(alloc)?)?
         .subcommand(monitor(alloc))?
+        .subcommand(ask(alloc)?)?
         .subcommand(board(alloc)?)?
         .subcommand(simulate(alloc)?)
 }
@@ -111,7 +132,7 @@ fn command<'a>(alloc: Global) -> Result<Command<'a>, AllocError> {
 /// The task of the words, of which the first is the program's name.
 pub fn read<'a>(alloc: Global, words: &'a [String]) -> Result<Task<'a>, Fault> {
     match command(alloc)?.try_get_matches_from(words) {
-        Ok(matches) => match requested(&matches) {
+        Ok(matches) => match requested(alloc, &matches)? {
             Some(task) => Ok(task),
             None => Err(refuse(
                 alloc,
@@ -132,23 +153,46 @@ fn unmatched<'a>(error: clap::Error) -> Result<Task<'a>, Fault> {
     }
 }
 
-// Each subcommand of `command` has its task here: one that hasn't is refused.
-fn requested<'a>(matches: &ArgMatches<'a>) -> Option<Task<'a>> {
-    match matches.subcommand()? {
-        ("show", show) => Some(Task::Show {
-            word: show.get_str("hex").unwrap_or(""),
-        }),
-        ("monitor", _) => Some(Task::Monitor),
-        ("board", board) => Some(Task::Board {
-            placement: board.get_str("position").unwrap_or(START),
-        }),
-        ("simulate", simulate) => Some(Task::Simulate {
-            placement: simulate.get_str("position").unwrap_or(START),
-            up: simulate.get_one::<u16>("up").unwrap_or(LINE_BYTES),
-            down: simulate.get_one::<u16>("down").unwrap_or(LINE_BYTES),
-        }),
-        _ => None,
+// Each subcommand of `command` has its task here, and each option its value: what hasn't is refused.
+fn requested<'a>(alloc: Global, matches: &ArgMatches<'a>) -> Result<Option<Task<'a>>, Fault> {
+    match matches.subcommand() {
+        Some(("ask", ask)) => Ok(Some(Task::Ask {
+            bytes: commands(alloc, ask.get_strs("word").unwrap_or(&[]))?,
+        })),
+        Some((name, options)) => Ok(task_named(name, options)),
+        None => Ok(None),
     }
+}
+
+fn task_named<'a>(name: &str, options: &ArgMatches<'a>) -> Option<Task<'a>> {
+    let task = match name {
+        "show" => Task::Show {
+            word: options.get_str("hex")?,
+        },
+        "monitor" => Task::Monitor,
+        "board" => Task::Board {
+            placement: options.get_str("position")?,
+        },
+        "simulate" => Task::Simulate {
+            placement: options.get_str("position")?,
+            up: options.get_one("up")?,
+            down: options.get_one("down")?,
+        },
+        _ => return None,
+    };
+    Some(task)
+}
+
+// The bytes of the commands with these names.
+fn commands(alloc: Global, words: &[&str]) -> Result<Vec<u8>, Fault> {
+    asked_bytes(alloc, words).map_err(|bad| match bad {
+        BadAsk::Unknown(word) => match format!(in alloc; "{word} is none of the words {WORDS}") {
+            Ok(text) => refuse(alloc, ErrorKind::InvalidValue, text.as_str()),
+            Err(_) => Fault::OutOfMemory,
+        },
+        BadAsk::Unfit(detail) => refuse(alloc, ErrorKind::InvalidValue, detail.form()),
+        BadAsk::OutOfMemory => Fault::OutOfMemory,
+    })
 }
 
 /// The fault where the system gave no words as text.

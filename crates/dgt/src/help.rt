@@ -35,18 +35,19 @@ or badpiece, badsquare or badreading and the place in the body, from 0 on.",
 pub const PROGRAM_NOTES: &str = "\
 A DGT board is a chess board that tells over a serial line what stands on its
 squares, where a host, the program at the other end, asks it to by commands.
-'show' and 'monitor' tell in lines of text what the board's bytes mean. 'board'
-takes the place of a board, to try a host on. 'simulate' has a board and a host
-on a line of bytes each way, and moves the bytes as a script tells it to.
+'show' and 'monitor' tell in lines of text what the board's bytes mean. 'ask'
+writes commands. 'board' takes the place of a board, to try a host on.
+'simulate' has a board and a host on a line of bytes each way, and moves the
+bytes as a script tells it to.
 
 Examples:
   $ dgt show 8e00052401
   00000005 field e4 P
 The five bytes 8e 00 05 24 01 are one message: a white pawn now stands on e4.
 
-  $ printf '\\x4d' | dgt board | dgt monitor
+  $ dgt ask version | dgt board | dgt monitor
   00000005 version 1.3
-The byte 4d is the command that asks for the version of the board.
+A command asks a board for its version, and the answer is shown.
 
 A failure is told on standard error, and by the exit status. That nobody reads
 standard output any more is one: 'dgt: write failed', status 1.
@@ -91,17 +92,58 @@ Example:
   $ printf '\\x8e\\x00\\x05\\x24\\x01' | dgt monitor
   00000005 field e4 P
 
-Example of a board on a serial port. 255 zeros end what another program may have
-begun to ask of it; then it is asked for each change from now on (44, which is
-the letter D) and for all squares (42, the letter B). Ctrl-C ends it.
+Example of a board on a serial port. 'dgt ask restart' ends what another program
+may have begun to ask of it, and asks for each change from now on and for all
+squares. Ctrl-C ends it.
   $ stty -F /dev/ttyUSB0 9600 raw -echo
   $ exec 3<>/dev/ttyUSB0
-  $ { head -c 255 /dev/zero; printf DB; } >&3
+  $ dgt ask restart >&3
   $ dgt monitor <&3
   00000067 dump rnbqkbnr/pppppppp/8/8/8/8/PPPPPPPP/RNBQKBNR
   00000072 field e2 .
   00000077 field e4 P"
 );
+
+/// What follows clap's own text in the help of `ask`.
+pub const ASK_NOTES: &str = "\
+Writes the bytes of these commands, in their order and at once, to standard
+output, as to a board's serial port or to 'dgt board'.
+
+The words, and what they ask for:
+  reset             from now on no change is told
+  clock             the clock's times
+  dump              the pieces on all squares
+  update            from now on each change is told, of squares and of the clock
+  updateboard       from now on each change of squares is told
+  updatenice        as update, but the clock only where it changes
+  serial            the serial number
+  longserial        the long serial number
+  trademark         the trademark
+  battery           the state of the battery
+  version           the version of the board
+  follow            updateboard and dump: all that a picture needs
+  restart           255 zeros, which end any command that is half sent, and follow
+  beep N            the clock beeps for so long, 0 to 255
+  end               the clock shows its times again
+  button            the clock's buttons are told
+  clockversion      the clock tells its version
+  display TEXT      the clock shows six digits, spaces or hyphens
+  text TEXT         the clock shows eight ASCII characters
+  setandrun HEX     the clock is set and runs: hours, minutes and seconds of
+                    both players and a control byte
+  leds HEX          these lights, 255 bytes at most
+
+TEXT and HEX are one word each; HEX is two hexadecimal digits a byte.
+
+Exit status: 0; 1 if standard output fails; 2 if the command line or a word is
+wrong, and then nothing is written; 3 if memory runs out.
+
+Examples:
+  $ dgt ask dump version | dgt board | dgt monitor
+  00000067 dump rnbqkbnr/pppppppp/8/8/8/8/PPPPPPPP/RNBQKBNR
+  00000072 version 1.3
+  $ dgt ask clockversion | dgt board | dgt monitor
+  00000010 ack 10 09 14 00 00";
 
 // What the placement of a command's option is, between two texts.
 macro_rules! with_placement {
@@ -152,12 +194,12 @@ answer; 1 if standard input or output fails, or the end has not come after
 4294967295 reads; 2 if the command line or P is wrong; 3 if memory runs out.
 
 Examples:
-  $ printf '\\x42\\x4d' | dgt board | dgt monitor
+  $ dgt ask dump version | dgt board | dgt monitor
   00000067 dump rnbqkbnr/pppppppp/8/8/8/8/PPPPPPPP/RNBQKBNR
   00000072 version 1.3
-  $ printf '\\x42' | dgt board --position 8/8/8/8/8/8/8/K6k | dgt monitor
+  $ dgt ask dump | dgt board --position 8/8/8/8/8/8/8/K6k | dgt monitor
   00000067 dump 8/8/8/8/8/8/8/K6k
-  $ printf '\\x2b\\x03\\x03\\x09\\x00' | dgt board | dgt monitor
+  $ dgt ask clockversion | dgt board | dgt monitor
   00000010 ack 10 09 14 00 00
 
 Example of a serial port, on which a host at its other end finds this board.

@@ -11,6 +11,7 @@
 //! the exit status of each.
 #![tactic(auto)]
 
+mod asking;
 mod command_line;
 mod fault;
 mod help;

@@ -42,6 +42,7 @@ fn run<I: Read + Drop, O: Write + Drop>(
         Task::Help(text) => Ok(write_help(&text, &mut output)?),
         Task::Show { word } => show(alloc, word, output),
         Task::Monitor => show_input(input, output),
+        Task::Ask { bytes } => Ok(write_bytes(bytes.as_slice(), &mut output)?),
         Task::Board { placement } => answer(placement, input, output),
         Task::Simulate {
             placement,
@@ -106,6 +107,11 @@ fn new_world(alloc: Global, position: Position, up: u16, down: u16) -> Result<Wo
     let (clock, identity) = (simulated::clock(), simulated::identity());
     let (up, down) = (usize::from(up), usize::from(down));
     World::new(alloc, position, clock, identity, up, down)
+}
+
+fn write_bytes<O: Write>(bytes: &[u8], output: &mut O) -> Result<(), RunFault> {
+    let written = output.write_all(bytes).and_then(|()| output.flush());
+    written.map_err(|_| RunFault::WriteFailed)
 }
 
 fn write_help<O: Write>(text: &clap::Error, output: &mut O) -> Result<(), RunFault> {

@@ -1,4 +1,5 @@
 //! Whole runs of the program, over words and streams in memory.
+mod asking;
 mod boards;
 mod engines;
 mod helps;
@@ -197,7 +198,7 @@ fn refuses_words(rt: HostRuntime) -> Result<(), Fail> {
         ("dgt show 8e0005240g", "dgt: bad hex\n", ""),
         (
             "dgt",
-            "error: 'dgt' requires a subcommand but one was not provided\n  [subcommands: show, monitor, board, simulate, help]\n\nUsage: dgt <COMMAND>",
+            "error: 'dgt' requires a subcommand but one was not provided\n  [subcommands: show, monitor, ask, board, simulate, help]\n\nUsage: dgt <COMMAND>",
             more,
         ),
         (

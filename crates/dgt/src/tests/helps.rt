@@ -1,6 +1,8 @@
 //! The texts of help.
 use super::*;
-use crate::help::{BOARD_NOTES, MONITOR_NOTES, PROGRAM_NOTES, SHOW_NOTES, SIMULATE_NOTES};
+use crate::help::{
+    ASK_NOTES, BOARD_NOTES, MONITOR_NOTES, PROGRAM_NOTES, SHOW_NOTES, SIMULATE_NOTES,
+};
 
 /// The help of the program, before its notes.
 const PROGRAM: &str = "\
@@ -11,6 +13,7 @@ Usage: dgt <COMMAND>
 Commands:
   show      Shows the messages in the bytes of a hexadecimal word
   monitor   Shows the messages in the bytes of standard input, as they come
+  ask       Writes the bytes of commands to a board
   board     Answers the commands on standard input, as a board does
   simulate  Plays a script with a board, a host, and the lines between them
   help      Print this message or the help of the given subcommand(s)
@@ -39,6 +42,20 @@ const MONITOR: &str = "\
 Shows the messages in the bytes of standard input, as they come
 
 Usage: dgt monitor
+
+Options:
+  -h, --help  Print help
+
+";
+
+/// The help of `ask`, before its notes.
+const ASK: &str = "\
+Writes the bytes of commands to a board
+
+Usage: dgt ask <WORD>...
+
+Arguments:
+  <WORD>...  The commands by name, in order
 
 Options:
   -h, --help  Print help
@@ -78,6 +95,7 @@ fn shows_help(rt: HostRuntime) -> Result<(), Fail> {
         ("dgt help", PROGRAM, PROGRAM_NOTES),
         ("dgt show --help", SHOW, SHOW_NOTES),
         ("dgt monitor --help", MONITOR, MONITOR_NOTES),
+        ("dgt ask --help", ASK, ASK_NOTES),
         ("dgt board --help", BOARD, BOARD_NOTES),
         ("dgt help board", BOARD, BOARD_NOTES),
         ("dgt simulate --help", SIMULATE, SIMULATE_NOTES),
