@@ -2,15 +2,16 @@
 use Rattle.std.proofs.Common.{◌≡◌, ◌≢◌, ℕ, zero, suc, ◌<◌, ◌+◌, ◌%◌, Bool, true, false, cond, refl, sym, ap, ◌∙◌, ◌⊎◌, inl, inr, List, [], ◌∷◌, length, map, arith, length-append, Option, Some, None}
 use Rattle.std.specs.Prelude.{◌==◌, IfSome, IsSomeAnd, slice_index}
 use Rattle.std.proofs.lemmas.List.{length-map, get_or-map}
-use Rattle.dgt_values.specs.Piece.{piece_code}
+use Rattle.dgt_values.specs.Board.{piece_code}
 use Rattle.dgt_values.specs.declared.pieces.Piece.{Piece}
 use Rattle.dgt_values.specs.declared.pieces.Piece.TheVariants.{Empty}
-use Rattle.dgt_message.specs.declared.bodies.BodyFault.{BodyFault}
-use Rattle.dgt_message.specs.declared.bodies.BodyFault.TheVariants.{WrongSize, BadPiece, BadSquare, BadReading}
+use Rattle.dgt_message.specs.declared.viewing.BodyFault.{BodyFault}
+use Rattle.dgt_message.specs.declared.viewing.BodyFault.TheVariants.{WrongSize, BadPiece, BadSquare, BadReading}
 use Rattle.dgt_message.specs.Content.{Content, IsMessage}
 use Rattle.dgt_message.specs.Content.Content.{dump, field, times, no_clock, ack, serial, version, carried}
-use Rattle.dgt_message.specs.Fault.{Allows, AllowsBefore, HasFault, IsFaultOf, IsFirstBad, IsRightSize, IsWrongSize}
-use Rattle.dgt_message.specs.Layout.{Layout, column_of, layout_of, times_column, total_of}
+use Rattle.dgt_message.specs.Fault.{Allows, HasFault, IsFaultOf, IsFirstBad}
+use Rattle.dgt_message.proofs.Sizes.{AllowsBefore, IsRightSize, IsWrongSize}
+use Rattle.dgt_message.specs.Layout.{Layout, column_of, layout_of, layout_total}
 use Rattle.dgt_message.specs.Layout.Column.{hours, sixty, anything}
 use Rattle.dgt_message.specs.Clock.{Times as BothTimes, AreTimes}
 use Rattle.dgt_message.specs.Reading.{fault_of}
@@ -36,7 +37,7 @@ sizes None n h k = k
 
 -- a size is right or wrong
 not_both_sizes : (layout : Layout) (body : List ℕ) → IsRightSize layout body → IsWrongSize layout body → ⊥
-not_both_sizes layout body h k = sizes (total_of layout) (length body + 3) h k
+not_both_sizes layout body h k = sizes (layout_total layout) (length body + 3) h k
 
 -- the fault of a byte of times is that of a reading
 pub times_fault : (a b : Bool) (at : ℕ) → fault_of (cond a anything (cond b hours sixty)) at ≡ BadReading at
@@ -70,7 +71,7 @@ one_fault code body f g h k =
     same_fault layout body f g (arises layout body f h) (arises layout body g k)
 
 -- each byte of written times is allowed in its place
-times_allowed : (t : BothTimes) → AreTimes t → (at : ℕ) → at < 7 → Allows (times_column at) (slice_index (times_bytes t) at)
+times_allowed : (t : BothTimes) → AreTimes t → (at : ℕ) → at < 7 → Allows (column_of Layout.times at) (slice_index (times_bytes t) at)
 times_allowed t h zero l = omega (arith, h.0)
 times_allowed t h (suc zero) l = (omega (arith, h.0), omega (arith, h.0))
 times_allowed t h (suc (suc zero)) l = (omega (arith, h.0), omega (arith, h.0))

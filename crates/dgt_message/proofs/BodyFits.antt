@@ -3,18 +3,17 @@ use Rattle.std.proofs.Common.{◌≡◌, ℕ, suc, ◌<◌, ◌+◌, ◌*◌, �
 use Rattle.std.specs.Prelude.{All, slice_index}
 use Rattle.std.proofs.lemmas.List.{length-map}
 use Rattle.std.proofs.lemmas.List.Elements.{All-from_recursion}
-use Rattle.dgt_values.specs.Piece.{piece_code}
+use Rattle.dgt_values.specs.Board.{piece_code}
 use Rattle.dgt_message.specs.declared.known.KnownCode.{KnownCode}
-use Rattle.dgt_message.specs.Ack.{ack_in}
-use Rattle.dgt_message.specs.Clock.{IsMarked, SaysNoClock, is_marked, says_no_clock}
+use Rattle.dgt_message.specs.Spelling.{ack_in, Fits, packed_decimal}
+use Rattle.dgt_message.specs.Clock.{IsMarked, SaysNoClock, is_marked, says_no_clock, IsTime}
 use Rattle.dgt_message.specs.Code.{known_number, known_with}
 use Rattle.dgt_message.specs.Content.{IsCarried}
-use Rattle.dgt_message.specs.Fault.{Allows, AllowsBefore, IsRightSize}
+use Rattle.dgt_message.specs.Fault.{Allows}
+use Rattle.dgt_message.proofs.Sizes.{AllowsBefore, IsRightSize}
 use Rattle.dgt_message.specs.Layout.{Layout, known_layout}
 use Rattle.dgt_message.specs.Layout.Column.{hours, sixty}
 use Rattle.dgt_message.specs.Reading.{piece_with_code, said_in, time_in}
-use Rattle.dgt_message.specs.Spelling.{Fits, packed_decimal}
-use Rattle.dgt_message.specs.Time.{IsTime}
 use Rattle.dgt_message.proofs.Absence.{absence_fits}
 use Rattle.dgt_message.proofs.CodeLemmas.{found_number}
 use Rattle.dgt_message.proofs.MessageIn.{piece_code-piece_with_code}

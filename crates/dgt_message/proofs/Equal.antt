@@ -10,10 +10,8 @@ use Rattle.dgt_message.specs.declared.clock.Clock.TheVariants as clock_variants
 use Rattle.dgt_message.specs.declared.message.Message.TheVariants.{Dump, Field, Times, NoClock, Ack, Serial, Trademark, Version, Battery, LongSerial, Other}
 use Rattle.dgt_message.specs.declared.other.OtherCode.{OtherCode}
 use Rattle.dgt_message.specs.Clock.{Absence}
-use Rattle.dgt_message.specs.ClockState.{clock_seen}
+use Rattle.dgt_message.specs.Content.{clock_seen, code_of, content, absence_seen, code_number, times_seen}
 use Rattle.dgt_message.specs.Code.{HasCase}
-use Rattle.dgt_message.specs.Content.{code_of, content}
-use Rattle.dgt_message.specs.Values.{absence_seen, code_number, times_seen}
 use Rattle.dgt_values.specs.contracts.bytes.SevenBitPartialEq.TheImpl as byte
 use Rattle.dgt_values.specs.contracts.pieces.PiecePartialEq.TheImpl as piece
 use Rattle.dgt_message.specs.contracts.clock.NoClockPartialEq.TheImpl as absence

@@ -1,12 +1,13 @@
 -- The first byte that its place doesn't allow, as it is computed, and the fault that it makes.
 use Rattle.std.proofs.Common.{◌≡◌, ◌≢◌, ℕ, zero, suc, ◌<◌, ◌/◌, ◌%◌, inl, inr, Bool, true, false, cond, refl, ap, List, length, arith, Option, Some, None, below_more}
 use Rattle.std.specs.Prelude.{◌==◌, nat_le, IfSome, IsSomeAnd, MatchOption, slice_index}
-use Rattle.std.specs.Option.{option_or}
+use Rattle.std.specs.Option.{option_map_or, option_or}
 use Rattle.std.proofs.lemmas.Bool.{and_cases, and_parts, eqb-false, eqb-true, leb-true, leb-false, ltb-true, ltb-false}
-use Rattle.dgt_message.specs.Fault.{Allows, AllowsBefore, HasFault, IsFirstBad, IsRightSize}
+use Rattle.dgt_message.specs.Fault.{Allows, HasFault, IsFirstBad}
+use Rattle.dgt_message.proofs.Sizes.{AllowsBefore, IsRightSize}
 use Rattle.dgt_message.specs.Layout.{Column, Layout, column_of}
 use Rattle.dgt_message.specs.Layout.Column.{square, piece, hours, sixty, anything}
-use Rattle.dgt_message.specs.Reading.{fault_of, first_bad_place, first_failure, is_allowed, is_right_size}
+use Rattle.dgt_message.specs.Reading.{fault_of, first_bad_place, first_failure, is_allowed}
 use Rattle.dgt_message.proofs.AtMostOne.{times_fault}
 
 -- a search for the first number that fails a test
@@ -75,11 +76,11 @@ place_fault Layout.times body at h = rw (times_fault (at == 6) (at % 3 == 0) at)
 place_fault _ body at h = absurd (h.bad tt)
 
 -- the test of the size tells a right one
-pub right_size : (o : Option ℕ) (n : ℕ) → is_right_size n o ≡ true → IfSome o (λ total. n ≡ total)
+pub right_size : (o : Option ℕ) (n : ℕ) → option_map_or (λ total. n == total) o true ≡ true → IfSome o (λ total. n ≡ total)
 right_size None n h = tt
 right_size (Some total) n h = eqb-true n total h
 
 -- the test of the size tells a wrong one
-pub wrong_size : (o : Option ℕ) (n : ℕ) → is_right_size n o ≡ false → IsSomeAnd o (λ total. n ≢ total)
+pub wrong_size : (o : Option ℕ) (n : ℕ) → option_map_or (λ total. n == total) o true ≡ false → IsSomeAnd o (λ total. n ≢ total)
 wrong_size None n h = cc
 wrong_size (Some total) n h = eqb-false n total h

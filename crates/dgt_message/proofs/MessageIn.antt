@@ -2,35 +2,20 @@
 use Rattle.std.proofs.Common.{◌≡◌, ℕ, zero, suc, ◌<◌, ◌≤◌, ◌+◌, ◌-◌, ◌*◌, ◌/◌, ◌%◌, false, refl, ap, List, [], ◌∷◌, ◌++◌, length, map, take, drop, arith}
 use Rattle.std.specs.Prelude.{◌||◌, slice_index}
 use Rattle.std.proofs.lemmas.Bool.{ne_eqb, false_from_ne_true}
-use Rattle.dgt_values.specs.Piece.{piece_code}
+use Rattle.dgt_values.specs.Board.{piece_code}
 use Rattle.dgt_values.specs.declared.pieces.Piece.{Piece}
 use Rattle.dgt_values.specs.declared.pieces.Piece.TheVariants.{Empty, WhitePawn, WhiteRook, WhiteKnight, WhiteBishop, WhiteKing, WhiteQueen, BlackPawn, BlackRook, BlackKnight, BlackBishop, BlackKing, BlackQueen, FirstExtra, SecondExtra, ThirdExtra}
-use Rattle.dgt_message.specs.Clock.{Times as BothTimes, AreTimes, IsAbsence, absence_of, is_mark}
+use Rattle.dgt_message.specs.Clock.{Times as BothTimes, AreTimes, IsAbsence, absence_of, is_mark, Time, IsTime}
 use Rattle.dgt_message.specs.Content.{Content, code_of, IsMessage}
 use Rattle.dgt_message.specs.Content.Content.{dump, field, times, no_clock, ack, serial, version, carried}
 use Rattle.dgt_message.specs.Layout.{Layout, clock_layout, layout_of}
-use Rattle.dgt_message.specs.Time.{Time, IsTime}
-use Rattle.dgt_message.specs.Reading.{piece_with_code, time_in, said_in, message_in}
+use Rattle.dgt_message.specs.Reading.{piece_with_code, time_in, said_in}
 use Rattle.dgt_message.specs.Spelling.{BodySpells, Fits, Spells, times_bytes, packed_decimal}
 
 -- a piece is the one with its code
 pub piece_with_code-piece_code : (piece : Piece) → piece_with_code (piece_code piece) ≡ piece
 piece_with_code-piece_code Empty = refl
-piece_with_code-piece_code WhitePawn = refl
-piece_with_code-piece_code WhiteRook = refl
-piece_with_code-piece_code WhiteKnight = refl
-piece_with_code-piece_code WhiteBishop = refl
-piece_with_code-piece_code WhiteKing = refl
-piece_with_code-piece_code WhiteQueen = refl
-piece_with_code-piece_code BlackPawn = refl
-piece_with_code-piece_code BlackRook = refl
-piece_with_code-piece_code BlackKnight = refl
-piece_with_code-piece_code BlackBishop = refl
-piece_with_code-piece_code BlackKing = refl
-piece_with_code-piece_code BlackQueen = refl
-piece_with_code-piece_code FirstExtra = refl
-piece_with_code-piece_code SecondExtra = refl
-piece_with_code-piece_code ThirdExtra = refl
+piece_with_code-piece_code _ = refl
 
 -- a code below 16 is that of its piece
 pub piece_code-piece_with_code : (n : ℕ) → n < 16 → piece_code (piece_with_code n) ≡ n
@@ -127,6 +112,10 @@ said_back (ack answer) body h s = rw (← s.2, ← s.3) refl
 said_back (serial digits) body h s = ap serial s
 said_back (version main sub) body h s = rw s refl
 said_back (carried own bytes) body h s = ap (carried own) s
+
+-- the message in the body under a code
+abbrev pub message_in : ℕ → List ℕ → Content
+message_in code body = said_in (layout_of code body) code body
 
 -- a message that fits is the one in the body
 pub message_in-fits : (said : Content) (code : ℕ) (body : List ℕ) → Fits said code body → message_in code body ≡ said

@@ -1,16 +1,19 @@
 -- The reading of a code and a body is the message that fits them, or the fault of the body.
 use Rattle.std.proofs.Common.{◌≡◌, ℕ, ◌<◌, ◌≤◌, ◌+◌, ◌-◌, ◌⊎◌, inl, inr, Bool, true, false, cond, refl, ap, List, [], ◌∷◌, length, drop, arith, Option, Some, None, Result, Ok, Err}
-use Rattle.std.specs.Prelude.{◌↔◌, All, MatchOption, MatchResult, slice_index}
+use Rattle.std.specs.Prelude.{◌==◌, ◌↔◌, All, MatchOption, MatchResult, slice_index}
 use Rattle.std.proofs.lemmas.List.{length-drop}
 use Rattle.std.proofs.lemmas.List.Elements.{All-drop}
-use Rattle.dgt_message.specs.declared.bodies.BodyFault.{BodyFault}
-use Rattle.dgt_message.specs.declared.bodies.BodyFault.TheVariants.{WrongSize}
+use Rattle.dgt_message.specs.declared.viewing.BodyFault.{BodyFault}
+use Rattle.dgt_message.specs.declared.viewing.BodyFault.TheVariants.{WrongSize}
 use Rattle.dgt_message.specs.declared.message.Message.{Message}
 use Rattle.dgt_message.specs.Code.{known_with}
 use Rattle.dgt_message.specs.Content.{Content, code_of, content, IsCarried}
-use Rattle.dgt_message.specs.Fault.{AllowsBefore, IsFaultOf, IsFirstBad, IsRightSize, Views}
-use Rattle.dgt_message.specs.Layout.{Layout, layout_of, total_of}
-use Rattle.dgt_message.specs.Reading.{content_if_any, first_bad_place, is_right_size, message_or_fault, reading}
+use Rattle.dgt_message.proofs.Sizes.{AllowsBefore, IsRightSize}
+use Rattle.dgt_message.specs.Fault.{IsFaultOf, IsFirstBad, Views}
+use Rattle.std.specs.Option.{option_map_or}
+use Rattle.std.specs.Result.{result_map_both}
+use Rattle.dgt_message.specs.Layout.{Layout, column_of, layout_of, layout_total}
+use Rattle.dgt_message.specs.Reading.{fault_of, first_bad_place, reading, said_in}
 use Rattle.dgt_message.specs.Spelling.{Fits, Spells}
 use Rattle.dgt_message.proofs.AtMostOne.{one_message, one_fault, not_both}
 use Rattle.dgt_message.proofs.BodyFits.{body_fits}
@@ -20,6 +23,11 @@ use Rattle.dgt_message.proofs.SpellingSpells.{small_code}
 -- what the result says of the code and the body is so
 abbrev Says : ℕ → List ℕ → Result Content BodyFault → Type 0
 Says code body r = MatchResult r (λ said. Fits said code body) (IsFaultOf code body)
+
+-- the fault at the first bad place, or the message where there is none
+abbrev message_or_fault : Layout → ℕ → List ℕ → Option ℕ → Result Content BodyFault
+message_or_fault layout code body found =
+    option_map_or (λ at. Err (fault_of (column_of layout at) at)) found (Ok (said_in layout code body))
 
 -- so is the fault at the first bad place, or the message where there is none
 by_place : (code : ℕ) (body : List ℕ) → code < 128 → IsCarried body → IsRightSize (layout_of code body) body → (found : Option ℕ)
@@ -31,17 +39,17 @@ by_place code body small carried size (Some at) h = place_fault (layout_of code 
 -- so is the reading
 reading_says : (code : ℕ) (body : List ℕ) → code < 128 → IsCarried body → Says code body (reading code body)
 unfolding reading
-reading_says code body small carried = go (is_right_size (length body + 3) (total_of layout)) refl
+reading_says code body small carried = go (option_map_or (λ total. length body + 3 == total) (layout_total layout) true) refl
   where
     layout : Layout
     layout = layout_of code body
 
-    go : (t : Bool) → is_right_size (length body + 3) (total_of layout) ≡ t
+    go : (t : Bool) → option_map_or (λ total. length body + 3 == total) (layout_total layout) true ≡ t
         → Says code body (cond t (message_or_fault layout code body (first_bad_place layout body)) (Err WrongSize))
     go true e =
-        let size = right_size (total_of layout) (length body + 3) e in
+        let size = right_size (layout_total layout) (length body + 3) e in
         by_place code body small carried size (first_bad_place layout body) (first_bad_place-tells layout body size)
-    go false e = wrong_size (total_of layout) (length body + 3) e
+    go false e = wrong_size (layout_total layout) (length body + 3) e
 
 -- what fits is the reading
 said_is : (code : ℕ) (body : List ℕ) (r : Result Content BodyFault) (said : Content) → Says code body r → Fits said code body → r ≡ Ok said
@@ -76,7 +84,7 @@ some_reading code body small carried = some (reading code body) (reading_says co
     some (Err why) h = inr (why, h)
 
 -- a view is the reading
-pub view_reads : (code : ℕ) (body : List ℕ) (r : Result Message BodyFault) → code < 128 → IsCarried body → Views code body r → reading code body ≡ content_if_any r
+pub view_reads : (code : ℕ) (body : List ℕ) (r : Result Message BodyFault) → code < 128 → IsCarried body → Views code body r → reading code body ≡ result_map_both content (λ why. why) r
 view_reads code body (Ok message) small carried h = said_is code body (reading code body) (content message) (reading_says code body small carried) h
 view_reads code body (Err why) small carried h = fault_is code body (reading code body) why (reading_says code body small carried) h
 

@@ -1,25 +1,30 @@
 -- What a code and a body are, computed: the message that fits them, or the fault of the body. The
 -- law `reading_is_exact` ties it to `Fits` and to `IsFaultOf`.
-use Rattle.std.specs.Prelude.{ℕ, zero, suc, ◌+◌, ◌*◌, ◌/◌, ◌%◌, ◌==◌, ◌&&◌, Bool, true, if◌then◌else◌, nat_lt, nat_le, List, [], ◌∷◌, length, map, take, get_or, slice_index, Option, Some, None, Result, Ok, Err}
-use Rattle.std.specs.Option.{option_or}
+use Rattle.std.specs.Prelude.{ℕ, zero, suc, ◌+◌, ◌*◌, ◌/◌, ◌%◌, ◌==◌, ◌&&◌, Bool, true, nat_lt}
+use Rattle.std.specs.Prelude.{nat_le, if◌then◌else◌, List, [], ◌∷◌, length, map, take}
+use Rattle.std.specs.Prelude.{slice_index, slice_index_or, Option, Some, None, Result, Ok, Err}
+use Rattle.std.specs.Option.{option_map_or, option_or}
 use Rattle.dgt_values.specs.declared.pieces.Piece.{Piece}
-use Rattle.dgt_values.specs.declared.pieces.Piece.TheVariants.{Empty, WhitePawn, WhiteRook, WhiteKnight, WhiteBishop, WhiteKing, WhiteQueen, BlackPawn, BlackRook, BlackKnight, BlackBishop, BlackKing, BlackQueen, FirstExtra, SecondExtra, ThirdExtra}
-use Rattle.dgt_message.specs.declared.bodies.BodyFault.{BodyFault}
-use Rattle.dgt_message.specs.declared.bodies.BodyFault.TheVariants.{WrongSize, BadPiece, BadSquare, BadReading}
-use Rattle.dgt_message.specs.declared.message.Message.{Message}
-use Rattle.dgt_message.specs.Ack.{ack_in}
-use Rattle.dgt_message.specs.Clock.{absence_of, times_of}
-use Rattle.dgt_message.specs.Content.{Content, content}
-use Rattle.dgt_message.specs.Content.Content.{dump, field, times, no_clock, ack, serial, version, carried}
-use Rattle.dgt_message.specs.Layout.{Column, Layout, column_of, layout_of, total_of}
+use Rattle.dgt_message.specs.declared.viewing.BodyFault.{BodyFault}
+use Rattle.dgt_message.specs.declared.viewing.BodyFault.TheVariants.{WrongSize, BadPiece}
+use Rattle.dgt_message.specs.declared.viewing.BodyFault.TheVariants.{BadSquare, BadReading}
+use Rattle.dgt_message.specs.Clock.{Time, absence_of, time_of, times_of}
+use Rattle.dgt_message.specs.Content.{Content}
+use Rattle.dgt_message.specs.Content.Content.{dump, field, times, no_clock, ack, serial, version}
+use Rattle.dgt_message.specs.Content.Content.{carried}
+use Rattle.dgt_message.specs.Layout.{Column, Layout, column_of, layout_of, layout_total}
 use Rattle.dgt_message.specs.Layout.Column.{square, piece, hours, sixty, anything}
-use Rattle.dgt_message.specs.Time.{Time, time_of}
+use Rattle.dgt_message.specs.Spelling.{ack_in}
 
 -- ---- The message in a body whose size is right and whose bytes are all allowed
 
 -- the piece with a code, for codes below 16
 abbrev pub piece_with_code : ℕ → Piece
-piece_with_code n = get_or (Empty ∷ WhitePawn ∷ WhiteRook ∷ WhiteKnight ∷ WhiteBishop ∷ WhiteKing ∷ WhiteQueen ∷ BlackPawn ∷ BlackRook ∷ BlackKnight ∷ BlackBishop ∷ BlackKing ∷ BlackQueen ∷ FirstExtra ∷ SecondExtra ∷ ThirdExtra ∷ []) n Empty
+piece_with_code n =
+    slice_index_or (Piece.Empty ∷ Piece.WhitePawn ∷ Piece.WhiteRook ∷ Piece.WhiteKnight
+    ∷ Piece.WhiteBishop ∷ Piece.WhiteKing ∷ Piece.WhiteQueen ∷ Piece.BlackPawn ∷ Piece.BlackRook
+    ∷ Piece.BlackKnight ∷ Piece.BlackBishop ∷ Piece.BlackKing ∷ Piece.BlackQueen
+    ∷ Piece.FirstExtra ∷ Piece.SecondExtra ∷ Piece.ThirdExtra ∷ []) n Piece.Empty
 
 -- the time of one player, from its three bytes
 abbrev pub time_in : ℕ → ℕ → ℕ → Time
@@ -28,7 +33,8 @@ time_in h m s = time_of (h % 16) (10 * (m / 16) + m % 16) (10 * (s / 16) + s % 1
 -- the message in a body, by its layout
 abbrev pub said_in : Layout → ℕ → List ℕ → Content
 said_in Layout.dump code body = dump (map piece_with_code body)
-said_in Layout.field code body = field (slice_index body 0) (piece_with_code (slice_index body 1))
+said_in Layout.field code body =
+    field (slice_index body 0) (piece_with_code (slice_index body 1))
 said_in Layout.times code body =
     let at : ℕ → ℕ = slice_index body in
     times (times_of (time_in (at 0) (at 1) (at 2)) (time_in (at 3) (at 4) (at 5)) (at 6))
@@ -37,9 +43,6 @@ said_in Layout.ack code body = ack (record { ack = ack_in body; status = slice_i
 said_in Layout.serial code body = serial body
 said_in Layout.version code body = version (slice_index body 0) (slice_index body 1)
 said_in Layout.carried code body = carried code body
-
-abbrev pub message_in : ℕ → List ℕ → Content
-message_in code body = said_in (layout_of code body) code body
 
 -- ---- The first byte that its place doesn't allow
 
@@ -58,15 +61,8 @@ first_failure test (suc n) = option_or (first_failure test n) (if test n then No
 
 -- the first place in a body that doesn't allow its byte
 abbrev pub first_bad_place : Layout → List ℕ → Option ℕ
-first_bad_place layout body =
-    first_failure (λ place. is_allowed (column_of layout place) (slice_index body place)) (length body)
-
--- ---- Both
-
--- whether a whole message may have this length, where its code fixes one
-abbrev pub is_right_size : ℕ → Option ℕ → Bool
-is_right_size size None = true
-is_right_size size (Some total) = size == total
+first_bad_place layout body = first_failure
+    (λ place. is_allowed (column_of layout place) (slice_index body place)) (length body)
 
 -- the fault of a byte that this column doesn't allow
 abbrev pub fault_of : Column → ℕ → BodyFault
@@ -74,22 +70,13 @@ fault_of square at = BadSquare at
 fault_of piece at = BadPiece at
 fault_of _ at = BadReading at
 
--- the fault at the first bad place, or the message where there is none
-abbrev pub message_or_fault : Layout → ℕ → List ℕ → Option ℕ → Result Content BodyFault
-message_or_fault layout code body None = Ok (said_in layout code body)
-message_or_fault layout code body (Some at) = Err (fault_of (column_of layout at) at)
+-- ---- Both
 
 -- the fault of a wrong size, or else that of the first bad place, or else the message
-abbrev pub reading_as : Layout → ℕ → List ℕ → Result Content BodyFault
-reading_as layout code body =
-    if is_right_size (length body + 3) (total_of layout)
-    then message_or_fault layout code body (first_bad_place layout body)
-    else Err WrongSize
-
 unfoldable pub reading : ℕ → List ℕ → Result Content BodyFault
-reading code body = reading_as (layout_of code body) code body
-
--- the content of a message of the program, or its fault
-abbrev pub content_if_any : Result Message BodyFault → Result Content BodyFault
-content_if_any (Ok message) = Ok (content message)
-content_if_any (Err fault) = Err fault
+reading code body =
+    let layout : Layout = layout_of code body in
+    if option_map_or (λ total. length body + 3 == total) (layout_total layout) true
+    then option_map_or (λ at. Err (fault_of (column_of layout at) at))
+    (first_bad_place layout body) (Ok (said_in layout code body))
+    else Err WrongSize
