@@ -33,8 +33,7 @@ pub data Content : Type 0 where
 abbrev pub carried_as : KnownCode → List ℕ → Content
 carried_as code body = carried (known_number code) body
 
--- ---- What a clause reads of the values of the program
-
+-- what a clause reads of the values of the program
 abbrev pub status_code : Status → ℕ
 status_code status = number status.code
 
@@ -69,8 +68,6 @@ content (Message.Trademark body) = carried_as KnownCode.Trademark (body_bytes bo
 content (Message.Battery body) = carried_as KnownCode.Battery (body_bytes body)
 content (Message.LongSerial body) = carried_as KnownCode.LongSerial (body_bytes body)
 content (Message.Other other body) = carried (code_number other) (body_bytes body)
-
--- ---- Codes, kinds and ranges
 
 -- the message that tells the clock
 abbrev pub clock_message : ClockState → Content

@@ -3,21 +3,17 @@ use Rattle.std.specs.Prelude.{◌≡◌, ◌≢◌, ℕ, ◌+◌, ◌/◌, ◌%�
 use Rattle.std.specs.Prelude.{IfSome, IsSomeAnd, Result, MatchResult}
 use Rattle.dgt_message.specs.declared.message.Message.{Message}
 use Rattle.dgt_message.specs.declared.viewing.BodyFault.{BodyFault}
-use Rattle.dgt_message.specs.declared.viewing.BodyFault.TheVariants.{WrongSize, BadPiece}
-use Rattle.dgt_message.specs.declared.viewing.BodyFault.TheVariants.{BadSquare, BadReading}
 use Rattle.dgt_message.specs.Content.{content}
 use Rattle.dgt_message.specs.Layout.{Layout, Column, column_of, layout_of, layout_total}
-use Rattle.dgt_message.specs.Layout.Column.{square, piece, hours, sixty, anything}
 use Rattle.dgt_message.specs.Spelling.{Fits}
 
--- a column allows a byte: digits are packed, with tens in the high four bits and units in the low
--- four
+-- a column allows a byte: two digits are packed, with tens in the high four bits
 abbrev pub Allows : Column → ℕ → Type 0
-Allows square byte = byte < 64
-Allows piece byte = byte < 16
-Allows hours byte = byte % 16 ≤ 9
-Allows sixty byte = (byte / 16 ≤ 5) × (byte % 16 ≤ 9)
-Allows anything byte = Unit {0}
+Allows Column.square byte = byte < 64
+Allows Column.piece byte = byte < 16
+Allows Column.hours byte = byte % 16 ≤ 9
+Allows Column.sixty byte = (byte / 16 ≤ 5) × (byte % 16 ≤ 9)
+Allows Column.anything byte = Unit {0}
 
 abbrev pub AllowsAt : Layout → List ℕ → ℕ → Type 0
 AllowsAt layout body place = Allows (column_of layout place) (slice_index body place)
@@ -31,11 +27,14 @@ pub record IsFirstBad (layout : Layout) (body : List ℕ) (at : ℕ) : Type 0 wh
 
 -- a body that is laid out so has this fault
 abbrev pub HasFault : Layout → List ℕ → BodyFault → Type 0
-HasFault layout body WrongSize =
+HasFault layout body BodyFault.WrongSize =
     IsSomeAnd (layout_total layout) (λ total. length body + 3 ≢ total)
-HasFault layout body (BadPiece at) = IsFirstBad layout body at × (column_of layout at ≡ piece)
-HasFault layout body (BadSquare at) = IsFirstBad layout body at × (column_of layout at ≡ square)
-HasFault layout body (BadReading at) = IsFirstBad layout body at × (layout ≡ Layout.times)
+HasFault layout body (BodyFault.BadPiece at) =
+    IsFirstBad layout body at × (column_of layout at ≡ Column.piece)
+HasFault layout body (BodyFault.BadSquare at) =
+    IsFirstBad layout body at × (column_of layout at ≡ Column.square)
+HasFault layout body (BodyFault.BadReading at) =
+    IsFirstBad layout body at × (layout ≡ Layout.times)
 
 -- the body has this fault under this code
 abbrev pub IsFaultOf : ℕ → List ℕ → BodyFault → Type 0

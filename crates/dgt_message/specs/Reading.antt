@@ -6,14 +6,9 @@ use Rattle.std.specs.Prelude.{slice_index, slice_index_or, Option, Some, None, R
 use Rattle.std.specs.Option.{option_map_or, option_or}
 use Rattle.dgt_values.specs.declared.pieces.Piece.{Piece}
 use Rattle.dgt_message.specs.declared.viewing.BodyFault.{BodyFault}
-use Rattle.dgt_message.specs.declared.viewing.BodyFault.TheVariants.{WrongSize, BadPiece}
-use Rattle.dgt_message.specs.declared.viewing.BodyFault.TheVariants.{BadSquare, BadReading}
 use Rattle.dgt_message.specs.Clock.{Time, absence_of, time_of, times_of}
 use Rattle.dgt_message.specs.Content.{Content}
-use Rattle.dgt_message.specs.Content.Content.{dump, field, times, no_clock, ack, serial, version}
-use Rattle.dgt_message.specs.Content.Content.{carried}
 use Rattle.dgt_message.specs.Layout.{Column, Layout, column_of, layout_of, layout_total}
-use Rattle.dgt_message.specs.Layout.Column.{square, piece, hours, sixty, anything}
 use Rattle.dgt_message.specs.Spelling.{ack_in}
 
 -- ---- The message in a body whose size is right and whose bytes are all allowed
@@ -32,27 +27,30 @@ time_in h m s = time_of (h % 16) (10 * (m / 16) + m % 16) (10 * (s / 16) + s % 1
 
 -- the message in a body, by its layout
 abbrev pub said_in : Layout → ℕ → List ℕ → Content
-said_in Layout.dump code body = dump (map piece_with_code body)
+said_in Layout.dump code body = Content.dump (map piece_with_code body)
 said_in Layout.field code body =
-    field (slice_index body 0) (piece_with_code (slice_index body 1))
+    Content.field (slice_index body 0) (piece_with_code (slice_index body 1))
 said_in Layout.times code body =
     let at : ℕ → ℕ = slice_index body in
-    times (times_of (time_in (at 0) (at 1) (at 2)) (time_in (at 3) (at 4) (at 5)) (at 6))
-said_in Layout.no_clock code body = no_clock (absence_of (take 6 body) (slice_index body 6))
-said_in Layout.ack code body = ack (record { ack = ack_in body; status = slice_index body 6 })
-said_in Layout.serial code body = serial body
-said_in Layout.version code body = version (slice_index body 0) (slice_index body 1)
-said_in Layout.carried code body = carried code body
+    Content.times (times_of (time_in (at 0) (at 1) (at 2)) (time_in (at 3) (at 4) (at 5)) (at 6))
+said_in Layout.no_clock code body =
+    Content.no_clock (absence_of (take 6 body) (slice_index body 6))
+said_in Layout.ack code body =
+    Content.ack (record { ack = ack_in body; status = slice_index body 6 })
+said_in Layout.serial code body = Content.serial body
+said_in Layout.version code body =
+    Content.version (slice_index body 0) (slice_index body 1)
+said_in Layout.carried code body = Content.carried code body
 
 -- ---- The first byte that its place doesn't allow
 
 -- whether a column allows a byte
 abbrev pub is_allowed : Column → ℕ → Bool
-is_allowed square byte = nat_lt byte 64
-is_allowed piece byte = nat_lt byte 16
-is_allowed hours byte = nat_le (byte % 16) 9
-is_allowed sixty byte = nat_le (byte / 16) 5 && nat_le (byte % 16) 9
-is_allowed anything byte = true
+is_allowed Column.square byte = nat_lt byte 64
+is_allowed Column.piece byte = nat_lt byte 16
+is_allowed Column.hours byte = nat_le (byte % 16) 9
+is_allowed Column.sixty byte = nat_le (byte / 16) 5 && nat_le (byte % 16) 9
+is_allowed Column.anything byte = true
 
 -- the least number below a limit that fails a test
 abbrev pub first_failure : (ℕ → Bool) → ℕ → Option ℕ
@@ -66,11 +64,9 @@ first_bad_place layout body = first_failure
 
 -- the fault of a byte that this column doesn't allow
 abbrev pub fault_of : Column → ℕ → BodyFault
-fault_of square at = BadSquare at
-fault_of piece at = BadPiece at
-fault_of _ at = BadReading at
-
--- ---- Both
+fault_of Column.square at = BodyFault.BadSquare at
+fault_of Column.piece at = BodyFault.BadPiece at
+fault_of _ at = BodyFault.BadReading at
 
 -- the fault of a wrong size, or else that of the first bad place, or else the message
 unfoldable pub reading : ℕ → List ℕ → Result Content BodyFault
@@ -79,4 +75,4 @@ reading code body =
     if option_map_or (λ total. length body + 3 == total) (layout_total layout) true
     then option_map_or (λ at. Err (fault_of (column_of layout at) at))
     (first_bad_place layout body) (Ok (said_in layout code body))
-    else Err WrongSize
+    else Err BodyFault.WrongSize

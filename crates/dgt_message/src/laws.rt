@@ -21,8 +21,8 @@ use crate::other::OtherCode;
 use crate::readings::{Reading, Status};
 use crate::viewing::BodyFault;
 
-/// Two values are equal, as `==` compares them, exactly where they say the same. Of a body its bytes
-/// count, and not where they lie.
+/// Two values are equal, as `==` compares them, exactly where they say the same. Of a body its
+/// bytes count, and not where they lie.
 pub fn equal_is_same()
     ensures reading { EqualIsSameRead time_seen ⟦<Reading as PartialEq>⟧.eq }
     ensures status { EqualIsSameRead status_code ⟦<Status as PartialEq>⟧.eq }
