@@ -10,12 +10,11 @@ use Rattle.dgt_message.specs.declared.viewing.BodyFault.{BodyFault}
 use Rattle.dgt_message.specs.declared.viewing.BodyFault.TheVariants.{WrongSize, BadPiece, BadSquare, BadReading}
 use Rattle.dgt_message.specs.Content.{Content, IsMessage}
 use Rattle.dgt_message.specs.Content.Content.{dump, field, times, no_clock, ack, serial, version, carried}
-use Rattle.dgt_message.specs.Fault.{Allows, HasFault, IsFaultOf, IsFirstBad}
+use Rattle.dgt_message.specs.Reading.{Allows, HasFault, IsFaultOf, IsFirstBad, fault_of}
 use Rattle.dgt_message.proofs.Sizes.{AllowsBefore, IsRightSize, IsWrongSize}
 use Rattle.dgt_message.specs.Layout.{Layout, column_of, layout_of, layout_total}
 use Rattle.dgt_message.specs.Layout.Column.{hours, sixty, anything}
 use Rattle.dgt_message.specs.Clock.{Times as BothTimes, AreTimes}
-use Rattle.dgt_message.specs.Reading.{fault_of}
 use Rattle.dgt_message.specs.Spelling.{BodySpells, Fits, times_bytes}
 use Rattle.dgt_message.proofs.MessageIn.{laid_out, said_layout, message_in-fits}
 use Rattle.dgt_message.proofs.Codes.{piece_code-below}

@@ -10,11 +10,10 @@ use Rattle.dgt_message.specs.Spelling.{ack_in, Fits, packed_decimal}
 use Rattle.dgt_message.specs.Clock.{IsMarked, SaysNoClock, is_marked, says_no_clock, IsTime}
 use Rattle.dgt_message.specs.Code.{known_number, known_with}
 use Rattle.dgt_message.specs.Content.{IsCarried}
-use Rattle.dgt_message.specs.Fault.{Allows}
+use Rattle.dgt_message.specs.Reading.{Allows, piece_with_code, said_in, time_in}
 use Rattle.dgt_message.proofs.Sizes.{AllowsBefore, IsRightSize}
 use Rattle.dgt_message.specs.Layout.{Layout, known_layout}
 use Rattle.dgt_message.specs.Layout.Column.{hours, sixty}
-use Rattle.dgt_message.specs.Reading.{piece_with_code, said_in, time_in}
 use Rattle.dgt_message.proofs.Absence.{absence_fits}
 use Rattle.dgt_message.proofs.CodeLemmas.{found_number}
 use Rattle.dgt_message.proofs.MessageIn.{piece_code-piece_with_code}

@@ -4,11 +4,10 @@ use Rattle.std.proofs.Common.{length, arith, Option, Some, None, below_more}
 use Rattle.std.specs.Prelude.{◌==◌, nat_le, IfSome, IsSomeAnd, MatchOption, slice_index}
 use Rattle.std.specs.Option.{option_map_or, option_or}
 use Rattle.std.proofs.lemmas.Bool.{and_cases, and_parts, eqb-false, eqb-true, leb-true, leb-false, ltb-true, ltb-false}
-use Rattle.dgt_message.specs.Fault.{Allows, HasFault, IsFirstBad}
+use Rattle.dgt_message.specs.Reading.{Allows, HasFault, IsFirstBad, fault_of, first_bad_place, first_failure, is_allowed}
 use Rattle.dgt_message.proofs.Sizes.{AllowsBefore, IsRightSize}
 use Rattle.dgt_message.specs.Layout.{Column, Layout, column_of}
 use Rattle.dgt_message.specs.Layout.Column.{square, piece, hours, sixty, anything}
-use Rattle.dgt_message.specs.Reading.{fault_of, first_bad_place, first_failure, is_allowed}
 use Rattle.dgt_message.proofs.AtMostOne.{times_fault}
 
 -- a search for the first number that fails a test

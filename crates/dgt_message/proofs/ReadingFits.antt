@@ -10,11 +10,10 @@ use Rattle.dgt_message.specs.declared.message.Message.{Message}
 use Rattle.dgt_message.specs.Code.{known_with}
 use Rattle.dgt_message.specs.Content.{Content, code_of, content, IsCarried}
 use Rattle.dgt_message.proofs.Sizes.{AllowsBefore, IsRightSize}
-use Rattle.dgt_message.specs.Fault.{IsFaultOf, IsFirstBad, Views}
+use Rattle.dgt_message.specs.Reading.{IsFaultOf, IsFirstBad, Views, fault_of, first_bad_place, reading, said_in}
 use Rattle.std.specs.Option.{option_map_or}
 use Rattle.std.specs.Result.{result_map_both}
 use Rattle.dgt_message.specs.Layout.{Layout, column_of, layout_of, layout_total}
-use Rattle.dgt_message.specs.Reading.{fault_of, first_bad_place, reading, said_in}
 use Rattle.dgt_message.specs.Spelling.{Fits, Spells}
 use Rattle.dgt_message.proofs.AtMostOne.{one_message, one_fault, not_both}
 use Rattle.dgt_message.proofs.BodyFits.{body_fits}

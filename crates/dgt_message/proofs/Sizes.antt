@@ -1,6 +1,6 @@
 -- The parts of a fault, by names of their own.
 use Rattle.std.specs.Prelude.{◌≡◌, ◌≢◌, ℕ, ◌+◌, ◌<◌, List, length, IfSome, IsSomeAnd}
-use Rattle.dgt_message.specs.Fault.{AllowsAt}
+use Rattle.dgt_message.specs.Reading.{AllowsAt}
 use Rattle.dgt_message.specs.Layout.{Layout, layout_total}
 
 -- a whole message with this body has the length of the layout, if it has one

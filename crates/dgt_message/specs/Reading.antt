@@ -1,17 +1,59 @@
--- What a code and a body are, computed: the message that fits them, or the fault of the body. The
--- law `reading_is_exact` ties it to `Fits` and to `IsFaultOf`.
-use Rattle.std.specs.Prelude.{ℕ, zero, suc, ◌+◌, ◌*◌, ◌/◌, ◌%◌, ◌==◌, ◌&&◌, Bool, true, nat_lt}
-use Rattle.std.specs.Prelude.{nat_le, if◌then◌else◌, List, [], ◌∷◌, length, map, take}
-use Rattle.std.specs.Prelude.{slice_index, slice_index_or, Option, Some, None, Result, Ok, Err}
+-- What a code and a body are read as: the message that fits them, or the one fault of the body,
+-- which is its size or else the first byte that its place doesn't allow. The law
+-- `reading_is_exact` ties the computed `reading` to `Fits` and to `IsFaultOf`.
+use Rattle.std.specs.Prelude.{◌≡◌, ◌≢◌, ℕ, zero, suc, ◌+◌, ◌*◌, ◌/◌, ◌%◌, ◌<◌, ◌≤◌, ◌==◌, ◌&&◌}
+use Rattle.std.specs.Prelude.{Bool, true, nat_lt, nat_le, if◌then◌else◌, List, [], ◌∷◌, length}
+use Rattle.std.specs.Prelude.{map, take, slice_index, slice_index_or, Option, Some, None, IfSome}
+use Rattle.std.specs.Prelude.{IsSomeAnd, Result, Ok, Err, MatchResult}
 use Rattle.std.specs.Option.{option_map_or, option_or}
 use Rattle.dgt_values.specs.declared.pieces.Piece.{Piece}
+use Rattle.dgt_message.specs.declared.message.Message.{Message}
 use Rattle.dgt_message.specs.declared.viewing.BodyFault.{BodyFault}
 use Rattle.dgt_message.specs.Clock.{Time, absence_of, time_of, times_of}
-use Rattle.dgt_message.specs.Content.{Content}
+use Rattle.dgt_message.specs.Content.{Content, content}
 use Rattle.dgt_message.specs.Layout.{Column, Layout, column_of, layout_of, layout_total}
-use Rattle.dgt_message.specs.Spelling.{ack_in}
+use Rattle.dgt_message.specs.Spelling.{ack_in, Fits}
 
--- ---- The message in a body whose size is right and whose bytes are all allowed
+-- a column allows a byte: two digits are packed, with tens in the high four bits
+abbrev pub Allows : Column → ℕ → Type 0
+Allows Column.square byte = byte < 64
+Allows Column.piece byte = byte < 16
+Allows Column.hours byte = byte % 16 ≤ 9
+Allows Column.sixty byte = (byte / 16 ≤ 5) × (byte % 16 ≤ 9)
+Allows Column.anything byte = Unit {0}
+
+abbrev pub AllowsAt : Layout → List ℕ → ℕ → Type 0
+AllowsAt layout body place = Allows (column_of layout place) (slice_index body place)
+
+-- a body of the right size has its first byte that isn't allowed at this place
+pub record IsFirstBad (layout : Layout) (body : List ℕ) (at : ℕ) : Type 0 where
+  pub size : IfSome (layout_total layout) (λ total. length body + 3 ≡ total)
+  pub within : at < length body
+  pub bad : ¬ (AllowsAt layout body at)
+  pub first : (place : ℕ) → place < at → AllowsAt layout body place
+
+-- a body that is laid out so has this fault
+abbrev pub HasFault : Layout → List ℕ → BodyFault → Type 0
+HasFault layout body BodyFault.WrongSize =
+    IsSomeAnd (layout_total layout) (λ total. length body + 3 ≢ total)
+HasFault layout body (BodyFault.BadPiece at) =
+    IsFirstBad layout body at × (column_of layout at ≡ Column.piece)
+HasFault layout body (BodyFault.BadSquare at) =
+    IsFirstBad layout body at × (column_of layout at ≡ Column.square)
+HasFault layout body (BodyFault.BadReading at) =
+    IsFirstBad layout body at × (layout ≡ Layout.times)
+
+-- the body has this fault under this code
+abbrev pub IsFaultOf : ℕ → List ℕ → BodyFault → Type 0
+IsFaultOf code body why = HasFault (layout_of code body) body why
+
+-- the result is what the body says, or why it says nothing
+abbrev pub Views : ℕ → List ℕ → Result Message BodyFault → Type 0
+Views code body r = MatchResult r
+    (λ message. Fits (content message) code body)
+    (IsFaultOf code body)
+
+-- ---- The same, computed
 
 -- the piece with a code, for codes below 16
 abbrev pub piece_with_code : ℕ → Piece
@@ -25,7 +67,7 @@ piece_with_code n =
 abbrev pub time_in : ℕ → ℕ → ℕ → Time
 time_in h m s = time_of (h % 16) (10 * (m / 16) + m % 16) (10 * (s / 16) + s % 16) (h / 16)
 
--- the message in a body, by its layout
+-- the message in a body whose size is right and whose bytes are all allowed, by its layout
 abbrev pub said_in : Layout → ℕ → List ℕ → Content
 said_in Layout.dump code body = Content.dump (map piece_with_code body)
 said_in Layout.field code body =
@@ -41,8 +83,6 @@ said_in Layout.serial code body = Content.serial body
 said_in Layout.version code body =
     Content.version (slice_index body 0) (slice_index body 1)
 said_in Layout.carried code body = Content.carried code body
-
--- ---- The first byte that its place doesn't allow
 
 -- whether a column allows a byte
 abbrev pub is_allowed : Column → ℕ → Bool

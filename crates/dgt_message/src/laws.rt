@@ -10,8 +10,7 @@ ghost use Rattle.dgt_message.specs.Code.{known_number, known_with};
 ghost use Rattle.dgt_message.specs.Content.{absence_seen, answer_seen, clock_seen, code_number};
 ghost use Rattle.dgt_message.specs.Content.{content, status_code, time_seen, times_seen};
 ghost use Rattle.dgt_message.specs.Content.{Content, IsCarried, IsMessage};
-ghost use Rattle.dgt_message.specs.Fault.{IsFaultOf};
-ghost use Rattle.dgt_message.specs.Reading.{reading};
+ghost use Rattle.dgt_message.specs.Reading.{reading, IsFaultOf};
 ghost use Rattle.dgt_message.specs.Spelling.{message_bytes, spelling, Fits, Spells};
 
 use crate::clock::{Clock, ClockAck, NoClock, Times};
