@@ -1,25 +1,27 @@
 -- At most one message fits a code and a body, at most one fault does, and never both.
-use Rattle.std.proofs.Common.{◌≡◌, ◌≢◌, ℕ, zero, suc, ◌<◌, ◌+◌, ◌%◌, Bool, true, false, cond, refl, sym, ap, ◌∙◌, ◌⊎◌, inl, inr, List, [], ◌∷◌, length, map, arith, length-append, Option, Some, None}
+use Rattle.std.proofs.Common.{◌≡◌, ◌≢◌, ℕ, zero, suc, ◌<◌, ◌+◌, ◌%◌, Bool, true, false, cond, refl, sym, ap, ◌∙◌, ◌⊎◌}
+use Rattle.std.proofs.Common.{inl, inr, List, [], ◌∷◌, length, map, arith, length-append, Option, Some, None}
 use Rattle.std.specs.Prelude.{◌==◌, IfSome, IsSomeAnd, slice_index}
 use Rattle.std.proofs.lemmas.List.{length-map, get_or-map}
-use Rattle.dgt_values.specs.Piece.{piece_code}
+use Rattle.dgt_values.specs.Board.{piece_code}
 use Rattle.dgt_values.specs.declared.pieces.Piece.{Piece}
 use Rattle.dgt_values.specs.declared.pieces.Piece.TheVariants.{Empty}
-use Rattle.dgt_message.specs.declared.bodies.BodyFault.{BodyFault}
-use Rattle.dgt_message.specs.declared.bodies.BodyFault.TheVariants.{WrongSize, BadPiece, BadSquare, BadReading}
+use Rattle.dgt_message.specs.declared.viewing.BodyFault.{BodyFault}
+use Rattle.dgt_message.specs.declared.viewing.BodyFault.TheVariants.{WrongSize, BadPiece, BadSquare, BadReading}
 use Rattle.dgt_message.specs.Content.{Content, IsMessage}
 use Rattle.dgt_message.specs.Content.Content.{dump, field, times, no_clock, ack, serial, version, carried}
-use Rattle.dgt_message.specs.Fault.{Allows, AllowsBefore, HasFault, IsFaultOf, IsFirstBad, IsRightSize, IsWrongSize}
-use Rattle.dgt_message.specs.Layout.{Layout, column_of, layout_of, times_column, total_of}
+use Rattle.dgt_message.specs.Reading.{Allows, HasFault, IsFaultOf, IsFirstBad, fault_of}
+use Rattle.dgt_message.proofs.Sizes.{AllowsBefore, IsRightSize, IsWrongSize}
+use Rattle.dgt_message.specs.Layout.{Layout, column_of, layout_of, layout_total}
 use Rattle.dgt_message.specs.Layout.Column.{hours, sixty, anything}
 use Rattle.dgt_message.specs.Clock.{Times as BothTimes, AreTimes}
-use Rattle.dgt_message.specs.Reading.{fault_of}
 use Rattle.dgt_message.specs.Spelling.{BodySpells, Fits, times_bytes}
 use Rattle.dgt_message.proofs.MessageIn.{laid_out, said_layout, message_in-fits}
 use Rattle.dgt_message.proofs.Codes.{piece_code-below}
 
 -- both are the message in the body
-pub one_message : (code : ℕ) (body : List ℕ) (first second : Content) → Fits first code body → Fits second code body → first ≡ second
+pub one_message : (code : ℕ) (body : List ℕ) (first second : Content) → Fits first code body → Fits second code body
+    → first ≡ second
 one_message code body first second h k = sym (message_in-fits first code body h) ∙ message_in-fits second code body k
 
 -- of two first bad places neither stands before the other
@@ -36,7 +38,7 @@ sizes None n h k = k
 
 -- a size is right or wrong
 not_both_sizes : (layout : Layout) (body : List ℕ) → IsRightSize layout body → IsWrongSize layout body → ⊥
-not_both_sizes layout body h k = sizes (total_of layout) (length body + 3) h k
+not_both_sizes layout body h k = sizes (layout_total layout) (length body + 3) h k
 
 -- the fault of a byte of times is that of a reading
 pub times_fault : (a b : Bool) (at : ℕ) → fault_of (cond a anything (cond b hours sixty)) at ≡ BadReading at
@@ -47,7 +49,8 @@ times_fault false false at = refl
 -- a fault is that of the size, or that of the first bad place
 abbrev Arises : Layout → List ℕ → BodyFault → Type 0
 Arises layout body why =
-    (IsWrongSize layout body × (why ≡ WrongSize)) ⊎ ((at : ℕ) × IsFirstBad layout body at × (why ≡ fault_of (column_of layout at) at))
+    (IsWrongSize layout body × (why ≡ WrongSize))
+    ⊎ ((at : ℕ) × IsFirstBad layout body at × (why ≡ fault_of (column_of layout at) at))
 
 arises : (layout : Layout) (body : List ℕ) (why : BodyFault) → HasFault layout body why → Arises layout body why
 arises layout body WrongSize h = inl (h, refl)
@@ -70,7 +73,8 @@ one_fault code body f g h k =
     same_fault layout body f g (arises layout body f h) (arises layout body g k)
 
 -- each byte of written times is allowed in its place
-times_allowed : (t : BothTimes) → AreTimes t → (at : ℕ) → at < 7 → Allows (times_column at) (slice_index (times_bytes t) at)
+times_allowed : (t : BothTimes) → AreTimes t → (at : ℕ) → at < 7
+    → Allows (column_of Layout.times at) (slice_index (times_bytes t) at)
 times_allowed t h zero l = omega (arith, h.0)
 times_allowed t h (suc zero) l = (omega (arith, h.0), omega (arith, h.0))
 times_allowed t h (suc (suc zero)) l = (omega (arith, h.0), omega (arith, h.0))
@@ -81,26 +85,30 @@ times_allowed t h (suc (suc (suc (suc (suc (suc zero)))))) l = tt
 times_allowed t h (suc (suc (suc (suc (suc (suc (suc k))))))) l = absurd (omega arith)
 
 -- each code of a piece is below 16
-codes_allowed : (pieces : List Piece) (at : ℕ) → at < length (map piece_code pieces) → slice_index (map piece_code pieces) at < 16
+codes_allowed : (pieces : List Piece) (at : ℕ) → at < length (map piece_code pieces)
+    → slice_index (map piece_code pieces) at < 16
 codes_allowed pieces at l =
     let within : at < length pieces = omega (arith, length-map pieces piece_code) in
     rw (get_or-map piece_code pieces at Empty 0 within) (piece_code-below _)
 
 -- the two bytes of a field are allowed in their places
-field_allowed : (s : ℕ) (p : Piece) (at : ℕ) → s < 64 → at < 2 → Allows (column_of Layout.field at) (slice_index (s ∷ piece_code p ∷ []) at)
+field_allowed : (s : ℕ) (p : Piece) (at : ℕ) → s < 64 → at < 2
+    → Allows (column_of Layout.field at) (slice_index (s ∷ piece_code p ∷ []) at)
 field_allowed s p zero h l = h
 field_allowed s p (suc zero) h l = piece_code-below p
 field_allowed s p (suc (suc k)) h l = absurd (omega arith)
 
 -- each byte of a body that says something is allowed in its place
-said_allowed : (said : Content) (body : List ℕ) → IsMessage said → BodySpells said body → AllowsBefore (said_layout said) body (length body)
+said_allowed : (said : Content) (body : List ℕ) → IsMessage said → BodySpells said body
+    → AllowsBefore (said_layout said) body (length body)
 said_allowed (dump pieces) body h s at l = rw s (codes_allowed pieces at (rw (← s) l))
 said_allowed (field where_ what) body h s at l = rw s (field_allowed where_ what at h (omega (arith, ap length s)))
 said_allowed (times readings) body h s at l = rw s (times_allowed readings h at (omega (arith, ap length s)))
 said_allowed _ body h s at l = tt
 
 -- a body that says something has the size of its layout
-said_size : (said : Content) (body : List ℕ) → IsMessage said → BodySpells said body → IsRightSize (said_layout said) body
+said_size : (said : Content) (body : List ℕ) → IsMessage said → BodySpells said body
+    → IsRightSize (said_layout said) body
 said_size (dump pieces) body h s = rw s (omega (arith, length-map pieces piece_code))
 said_size (field where_ what) body h s = rw s refl
 said_size (times readings) body h s = rw s refl
@@ -111,14 +119,17 @@ said_size (version main sub) body h s = rw s refl
 said_size (carried own bytes) body h s = tt
 
 -- so it has no fault
-faultless : (layout : Layout) (body : List ℕ) (why : BodyFault) → IsRightSize layout body → AllowsBefore layout body (length body) → Arises layout body why → ⊥
+faultless : (layout : Layout) (body : List ℕ) (why : BodyFault) → IsRightSize layout body
+    → AllowsBefore layout body (length body) → Arises layout body why → ⊥
 faultless layout body why size allowed (inl h) = not_both_sizes layout body size h.0
 faultless layout body why size allowed (inr (at, h, e)) = h.bad (allowed at h.within)
 
 -- where a message fits, the size is right and each place allows its byte
-pub not_both : (code : ℕ) (body : List ℕ) (said : Content) (fault : BodyFault) → Fits said code body → IsFaultOf code body fault → ⊥
+pub not_both : (code : ℕ) (body : List ℕ) (said : Content) (fault : BodyFault) → Fits said code body
+    → IsFaultOf code body fault → ⊥
 not_both code body said fault h k =
     let has : HasFault (said_layout said) body fault =
     rw (← laid_out said body h.is_message h.spelled, ← h.code_is) k in
-    faultless (said_layout said) body fault (said_size said body h.is_message h.spelled) (said_allowed said body h.is_message h.spelled)
+    faultless (said_layout said) body fault (said_size said body h.is_message h.spelled)
+    (said_allowed said body h.is_message h.spelled)
     (arises (said_layout said) body fault has)

@@ -1,20 +1,19 @@
 -- A body of the right size whose bytes are all allowed says the message of its layout.
-use Rattle.std.proofs.Common.{◌≡◌, ℕ, suc, ◌<◌, ◌+◌, ◌*◌, ◌/◌, ◌%◌, Bool, true, false, cond, refl, sym, ap, ◌∙◌, List, [], ◌∷◌, length, map, get_or, arith, Option, Some}
+use Rattle.std.proofs.Common.{◌≡◌, ℕ, suc, ◌<◌, ◌+◌, ◌*◌, ◌/◌, ◌%◌, Bool, true, false, cond, refl, sym, ap, ◌∙◌, List}
+use Rattle.std.proofs.Common.{[], ◌∷◌, length, map, get_or, arith, Option, Some}
 use Rattle.std.specs.Prelude.{All, slice_index}
 use Rattle.std.proofs.lemmas.List.{length-map}
 use Rattle.std.proofs.lemmas.List.Elements.{All-from_recursion}
-use Rattle.dgt_values.specs.Piece.{piece_code}
+use Rattle.dgt_values.specs.Board.{piece_code}
 use Rattle.dgt_message.specs.declared.known.KnownCode.{KnownCode}
-use Rattle.dgt_message.specs.Ack.{ack_in}
-use Rattle.dgt_message.specs.Clock.{IsMarked, SaysNoClock, is_marked, says_no_clock}
+use Rattle.dgt_message.specs.Spelling.{ack_in, Fits, packed_decimal}
+use Rattle.dgt_message.specs.Clock.{IsMarked, SaysNoClock, is_marked, says_no_clock, IsTime}
 use Rattle.dgt_message.specs.Code.{known_number, known_with}
 use Rattle.dgt_message.specs.Content.{IsCarried}
-use Rattle.dgt_message.specs.Fault.{Allows, AllowsBefore, IsRightSize}
+use Rattle.dgt_message.specs.Reading.{Allows, piece_with_code, said_in, time_in}
+use Rattle.dgt_message.proofs.Sizes.{AllowsBefore, IsRightSize}
 use Rattle.dgt_message.specs.Layout.{Layout, known_layout}
 use Rattle.dgt_message.specs.Layout.Column.{hours, sixty}
-use Rattle.dgt_message.specs.Reading.{piece_with_code, said_in, time_in}
-use Rattle.dgt_message.specs.Spelling.{Fits, packed_decimal}
-use Rattle.dgt_message.specs.Time.{IsTime}
 use Rattle.dgt_message.proofs.Absence.{absence_fits}
 use Rattle.dgt_message.proofs.CodeLemmas.{found_number}
 use Rattle.dgt_message.proofs.MessageIn.{piece_code-piece_with_code}
@@ -24,17 +23,21 @@ abbrev FitsAs : KnownCode → Layout → List ℕ → Type 0
 FitsAs code layout body = Fits (said_in layout (known_number code) body) (known_number code) body
 
 -- codes below 16 are those of their pieces
-codes_back : (body : List ℕ) → AllowsBefore Layout.dump body (length body) → body ≡ map piece_code (map piece_with_code body)
+codes_back : (body : List ℕ) → AllowsBefore Layout.dump body (length body)
+    → body ≡ map piece_code (map piece_with_code body)
 codes_back [] h = refl
 codes_back (b ∷ body) h =
     rw (piece_code-piece_with_code b (h 0 (omega arith)), ← codes_back body (λ k l. h (suc k) (omega arith))) refl
 
 -- 64 codes are a dump
-dump_fits : (body : List ℕ) → length body + 3 ≡ 67 → AllowsBefore Layout.dump body (length body) → FitsAs KnownCode.Dump Layout.dump body
-dump_fits body size h = record { is_message = omega (arith, length-map body piece_with_code); code_is = refl; spelled = codes_back body h }
+dump_fits : (body : List ℕ) → length body + 3 ≡ 67 → AllowsBefore Layout.dump body (length body)
+    → FitsAs KnownCode.Dump Layout.dump body
+dump_fits body size h =
+    record { is_message = omega (arith, length-map body piece_with_code); code_is = refl; spelled = codes_back body h }
 
 -- a square and a code are a field
-field_fits : (body : List ℕ) → length body + 3 ≡ 5 → AllowsBefore Layout.field body (length body) → FitsAs KnownCode.Field Layout.field body
+field_fits : (body : List ℕ) → length body + 3 ≡ 5 → AllowsBefore Layout.field body (length body)
+    → FitsAs KnownCode.Field Layout.field body
 field_fits (a ∷ b ∷ []) size h =
     let is : piece_code (piece_with_code b) ≡ b = piece_code-piece_with_code b (h 1 (omega arith)) in
     record { is_message = h 0 (omega arith); code_is = refl; spelled = rw is refl }
@@ -43,8 +46,10 @@ field_fits (a ∷ []) size h = absurd (omega arith)
 field_fits [] size h = absurd (omega arith)
 
 -- two bytes are a version
-version_fits : (body : List ℕ) → length body + 3 ≡ 5 → All (λ byte. byte < 128) body → FitsAs KnownCode.Version Layout.version body
-version_fits (a ∷ b ∷ []) size seven = record { is_message = (seven 0 0 (omega arith), seven 1 0 (omega arith)); code_is = refl; spelled = refl }
+version_fits : (body : List ℕ) → length body + 3 ≡ 5 → All (λ byte. byte < 128) body
+    → FitsAs KnownCode.Version Layout.version body
+version_fits (a ∷ b ∷ []) size seven =
+    record { is_message = (seven 0 0 (omega arith), seven 1 0 (omega arith)); code_is = refl; spelled = refl }
 version_fits (a ∷ b ∷ c ∷ body) size seven = absurd (omega arith)
 version_fits (a ∷ []) size seven = absurd (omega arith)
 version_fits [] size seven = absurd (omega arith)
@@ -67,7 +72,8 @@ same_seven : (a b c d e f g a' b' c' d' e' f' : ℕ) → a' ≡ a → b' ≡ b �
 same_seven a b c d e f g a' b' c' d' e' f' p q r s t u = cc
 
 -- seven allowed bytes, with no mark and with a clock, are times
-times_fits : (body : List ℕ) → length body + 3 ≡ 10 → All (λ byte. byte < 128) body → says_no_clock (slice_index body 6) ≡ false
+times_fits : (body : List ℕ) → length body + 3 ≡ 10 → All (λ byte. byte < 128) body
+    → says_no_clock (slice_index body 6) ≡ false
     → AllowsBefore Layout.times body (length body) → FitsAs KnownCode.Clock Layout.times body
 times_fits (a ∷ b ∷ c ∷ d ∷ e ∷ f ∷ g ∷ []) size seven shown h =
     let at1 : Allows sixty b = h 1 (omega arith) in
@@ -82,7 +88,8 @@ times_fits (a ∷ b ∷ c ∷ d ∷ e ∷ f ∷ g ∷ []) size seven shown h =
         λ no. absurd (let k : true ≡ false = sym no ∙ shown in cc),
       );
       code_is = refl;
-      spelled = same_seven a b c d e f g _ _ _ _ _ _ (joined a) (repacked b at1) (repacked c at2) (joined d) (repacked e at4) (repacked f at5);
+      spelled = same_seven a b c d e f g _ _ _ _ _ _ (joined a) (repacked b at1) (repacked c at2) (joined d)
+          (repacked e at4) (repacked f at5);
     }
 times_fits (a ∷ b ∷ c ∷ d ∷ e ∷ f ∷ g ∷ i ∷ body) size seven shown h = absurd (omega arith)
 times_fits _ size seven shown h = absurd (omega arith)
@@ -95,7 +102,13 @@ ack_fits body size seven marked =
     record {
       is_message = (
         refl,
-        All-from_recursion (λ byte. byte < 256) (ack_in body) (omega (arith, at 1 (omega arith)), (omega (arith, at 2 (omega arith)), (omega (arith, at 4 (omega arith)), (omega (arith, at 5 (omega arith)), tt)))),
+        All-from_recursion (λ byte. byte < 256) (ack_in body) (
+          omega (arith, at 1 (omega arith)),
+          (
+            omega (arith, at 2 (omega arith)),
+            (omega (arith, at 4 (omega arith)), (omega (arith, at 5 (omega arith)), tt)),
+          ),
+        ),
         at 6 (omega arith),
       );
       code_is = refl;
@@ -103,15 +116,18 @@ ack_fits body size seven marked =
     }
 
 -- seven bytes with no mark and with no clock are those of a board without one
-none_fits : (body : List ℕ) → length body + 3 ≡ 10 → All (λ byte. byte < 128) body → is_marked body ≡ false → SaysNoClock (slice_index body 6)
+none_fits : (body : List ℕ) → length body + 3 ≡ 10 → All (λ byte. byte < 128) body → is_marked body ≡ false
+    → SaysNoClock (slice_index body 6)
     → FitsAs KnownCode.Clock Layout.no_clock body
 none_fits (a ∷ b ∷ c ∷ d ∷ e ∷ f ∷ g ∷ []) size seven unmarked set =
-    absence_fits (a ∷ b ∷ c ∷ d ∷ e ∷ f ∷ g ∷ []) refl seven (λ is. absurd (let k : true ≡ false = sym is ∙ unmarked in cc)) set
+    absence_fits (a ∷ b ∷ c ∷ d ∷ e ∷ f ∷ g ∷ []) refl seven (λ is. absurd (let k : true ≡ false = sym is ∙ unmarked in
+    cc)) set
 none_fits (a ∷ b ∷ c ∷ d ∷ e ∷ f ∷ g ∷ i ∷ body) size seven unmarked set = absurd (omega arith)
 none_fits _ size seven unmarked set = absurd (omega arith)
 
 -- seven allowed bytes are a message of the clock, by their marks and then by their status
-clock_fits : (body : List ℕ) → All (λ byte. byte < 128) body → (m : Bool) → is_marked body ≡ m → (s : Bool) → says_no_clock (slice_index body 6) ≡ s
+clock_fits : (body : List ℕ) → All (λ byte. byte < 128) body → (m : Bool) → is_marked body ≡ m → (s : Bool)
+    → says_no_clock (slice_index body 6) ≡ s
     → let layout : Layout = cond m Layout.ack (cond s Layout.no_clock Layout.times) in
     IsRightSize layout body → AllowsBefore layout body (length body) → FitsAs KnownCode.Clock layout body
 clock_fits body seven true e s f size h = ack_fits body size seven e
@@ -119,14 +135,21 @@ clock_fits body seven false e true f size h = none_fits body size seven e f
 clock_fits body seven false e false f size h = times_fits body size seven f h
 
 -- a body of the right size whose bytes are all allowed says the message of its layout
-pub body_fits : (known : Option KnownCode) (code : ℕ) (body : List ℕ) → code < 128 → IsCarried body → known_with code ≡ known
-    → IsRightSize (known_layout known body) body → AllowsBefore (known_layout known body) body (length body) → Fits (said_in (known_layout known body) code body) code body
-body_fits (Some KnownCode.Dump) code body small carried e size h = rw (found_number code KnownCode.Dump e) (dump_fits body size h)
+pub body_fits : (known : Option KnownCode) (code : ℕ) (body : List ℕ) → code < 128 → IsCarried body
+    → known_with code ≡ known
+    → IsRightSize (known_layout known body) body → AllowsBefore (known_layout known body) body (length body)
+    → Fits (said_in (known_layout known body) code body) code body
+body_fits (Some KnownCode.Dump) code body small carried e size h =
+    rw (found_number code KnownCode.Dump e) (dump_fits body size h)
 body_fits (Some KnownCode.Clock) code body small carried e size h =
-    rw (found_number code KnownCode.Clock e) (clock_fits body carried.1 (is_marked body) refl (says_no_clock (slice_index body 6)) refl size h)
-body_fits (Some KnownCode.Field) code body small carried e size h = rw (found_number code KnownCode.Field e) (field_fits body size h)
+    rw (found_number code KnownCode.Clock e)
+    (clock_fits body carried.1 (is_marked body) refl (says_no_clock (slice_index body 6)) refl size h)
+body_fits (Some KnownCode.Field) code body small carried e size h =
+    rw (found_number code KnownCode.Field e) (field_fits body size h)
 body_fits (Some KnownCode.Serial) code body small carried e size h =
-    rw (found_number code KnownCode.Serial e) (record { is_message = (omega arith, carried.1); code_is = refl; spelled = refl })
-body_fits (Some KnownCode.Version) code body small carried e size h = rw (found_number code KnownCode.Version e) (version_fits body size carried.1)
+    rw (found_number code KnownCode.Serial e)
+    (record { is_message = (omega arith, carried.1); code_is = refl; spelled = refl })
+body_fits (Some KnownCode.Version) code body small carried e size h =
+    rw (found_number code KnownCode.Version e) (version_fits body size carried.1)
 body_fits _ code body small carried e size h =
     record { is_message = (small, ap (λ known. known_layout known body) e, carried); code_is = refl; spelled = refl }

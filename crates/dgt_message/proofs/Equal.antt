@@ -7,13 +7,12 @@ use lib.Pointwise.{pointwise}
 use Rattle.dgt_values.specs.Equality.{EqualIsSameRead}
 use Rattle.dgt_values.specs.Bytes.{number}
 use Rattle.dgt_message.specs.declared.clock.Clock.TheVariants as clock_variants
-use Rattle.dgt_message.specs.declared.message.Message.TheVariants.{Dump, Field, Times, NoClock, Ack, Serial, Trademark, Version, Battery, LongSerial, Other}
+use Rattle.dgt_message.specs.declared.message.Message.TheVariants.{Dump, Field, Times, NoClock, Ack, Serial, Trademark}
+use Rattle.dgt_message.specs.declared.message.Message.TheVariants.{Version, Battery, LongSerial, Other}
 use Rattle.dgt_message.specs.declared.other.OtherCode.{OtherCode}
 use Rattle.dgt_message.specs.Clock.{Absence}
-use Rattle.dgt_message.specs.ClockState.{clock_seen}
+use Rattle.dgt_message.specs.Content.{clock_seen, code_of, content, absence_seen, code_number, times_seen}
 use Rattle.dgt_message.specs.Code.{HasCase}
-use Rattle.dgt_message.specs.Content.{code_of, content}
-use Rattle.dgt_message.specs.Values.{absence_seen, code_number, times_seen}
 use Rattle.dgt_values.specs.contracts.bytes.SevenBitPartialEq.TheImpl as byte
 use Rattle.dgt_values.specs.contracts.pieces.PiecePartialEq.TheImpl as piece
 use Rattle.dgt_message.specs.contracts.clock.NoClockPartialEq.TheImpl as absence
@@ -31,7 +30,8 @@ equal_numbers : (m n : ℕ) → IsTrue (nat_eq m n) ↔ (m ≡ n)
 equal_numbers m n = search rules
 
 -- lists are equal exactly where the same is read of them, if that holds of their elements
-pub equal_lists : {T Read : Type 0} → (read : T → Read) (eq : T → T → Bool) → EqualIsSameRead read eq → EqualIsSameRead (map read) (pointwise eq)
+pub equal_lists : {T Read : Type 0} → (read : T → Read) (eq : T → T → Bool) → EqualIsSameRead read eq
+    → EqualIsSameRead (map read) (pointwise eq)
 equal_lists read eq same [] [] = (λ _. refl, λ _. refl)
 equal_lists read eq same [] (y ∷ ys) = (λ t. cc, λ e. cc)
 equal_lists read eq same (x ∷ xs) [] = (λ t. cc, λ e. cc)
@@ -46,8 +46,13 @@ equal_times a b = grind (arith, common_steps)
 -- boards without a clock are equal exactly where they tell the same bytes and status
 pub equal_absences : EqualIsSameRead absence_seen (absence.eq-value).it
 equal_absences a b =
-    let same = both _ _ (equal_lists number (byte.eq-value).it (search rules) a.raw b.raw) (equal_numbers a.status.code.value b.status.code.value) in
-    (λ t. let found = same.0 t in let raw = found.0 in let status = found.1 in cc, λ e. same.1 (ap raw_of e, ap status_of e))
+    let same =
+    both _ _ (equal_lists number (byte.eq-value).it (search rules) a.raw b.raw)
+    (equal_numbers a.status.code.value b.status.code.value) in (
+      λ t. let found = same.0 t in let raw = found.0 in let status = found.1 in
+          cc,
+      λ e. same.1 (ap raw_of e, ap status_of e),
+    )
   where
     raw_of : Absence → List ℕ
     raw_of seen = seen.raw

@@ -1,12 +1,13 @@
 -- The first byte that its place doesn't allow, as it is computed, and the fault that it makes.
-use Rattle.std.proofs.Common.{◌≡◌, ◌≢◌, ℕ, zero, suc, ◌<◌, ◌/◌, ◌%◌, inl, inr, Bool, true, false, cond, refl, ap, List, length, arith, Option, Some, None, below_more}
+use Rattle.std.proofs.Common.{◌≡◌, ◌≢◌, ℕ, zero, suc, ◌<◌, ◌/◌, ◌%◌, inl, inr, Bool, true, false, cond, refl, ap, List}
+use Rattle.std.proofs.Common.{length, arith, Option, Some, None, below_more}
 use Rattle.std.specs.Prelude.{◌==◌, nat_le, IfSome, IsSomeAnd, MatchOption, slice_index}
-use Rattle.std.specs.Option.{option_or}
+use Rattle.std.specs.Option.{option_map_or, option_or}
 use Rattle.std.proofs.lemmas.Bool.{and_cases, and_parts, eqb-false, eqb-true, leb-true, leb-false, ltb-true, ltb-false}
-use Rattle.dgt_message.specs.Fault.{Allows, AllowsBefore, HasFault, IsFirstBad, IsRightSize}
+use Rattle.dgt_message.specs.Reading.{Allows, HasFault, IsFirstBad, fault_of, first_bad_place, first_failure, is_allowed}
+use Rattle.dgt_message.proofs.Sizes.{AllowsBefore, IsRightSize}
 use Rattle.dgt_message.specs.Layout.{Column, Layout, column_of}
 use Rattle.dgt_message.specs.Layout.Column.{square, piece, hours, sixty, anything}
-use Rattle.dgt_message.specs.Reading.{fault_of, first_bad_place, first_failure, is_allowed, is_right_size}
 use Rattle.dgt_message.proofs.AtMostOne.{times_fault}
 
 -- a search for the first number that fails a test
@@ -19,7 +20,8 @@ searched : (test : ℕ → Bool) (n : ℕ) → Search test n (first_failure test
 searched test zero = all (λ k l. absurd (omega arith))
 searched test (suc n) = go (first_failure test n) (searched test n) (test n) refl
   where
-    go : (found : Option ℕ) → Search test n found → (t : Bool) → test n ≡ t → Search test (suc n) (option_or found (cond t None (Some n)))
+    go : (found : Option ℕ) → Search test n found → (t : Bool) → test n ≡ t
+        → Search test (suc n) (option_or found (cond t None (Some n)))
     go None (all h) true e = all (λ k l. below_more _ _ h e k (omega arith))
     go None (all h) false e = fails n (omega arith) e h
     go (Some at) (fails _ l f h) t e = fails at (omega arith) f h
@@ -60,26 +62,31 @@ search_tells layout body size (Some at) (fails _ l f h) = record {
 
 pub first_bad_place-tells : (layout : Layout) (body : List ℕ) → IsRightSize layout body
     → MatchOption (first_bad_place layout body) (AllowsBefore layout body (length body)) (IsFirstBad layout body)
-first_bad_place-tells layout body size = search_tells layout body size (first_bad_place layout body) (searched _ (length body))
+first_bad_place-tells layout body size =
+    search_tells layout body size (first_bad_place layout body) (searched _ (length body))
 
 -- the fault of a square or a piece of a field
-field_fault : (body : List ℕ) (at : ℕ) → IsFirstBad Layout.field body at → (b : Bool) → (at == 0) ≡ b → HasFault Layout.field body (fault_of (cond b square piece) at)
+field_fault : (body : List ℕ) (at : ℕ) → IsFirstBad Layout.field body at → (b : Bool) → (at == 0) ≡ b
+    → HasFault Layout.field body (fault_of (cond b square piece) at)
 field_fault body at h true e = (h, ap (λ b. cond b square piece) e)
 field_fault body at h false e = (h, ap (λ b. cond b square piece) e)
 
 -- the fault of the column at the first bad place is one of the body
-pub place_fault : (layout : Layout) (body : List ℕ) (at : ℕ) → IsFirstBad layout body at → HasFault layout body (fault_of (column_of layout at) at)
+pub place_fault : (layout : Layout) (body : List ℕ) (at : ℕ) → IsFirstBad layout body at
+    → HasFault layout body (fault_of (column_of layout at) at)
 place_fault Layout.dump body at h = (h, refl)
 place_fault Layout.field body at h = field_fault body at h (at == 0) refl
 place_fault Layout.times body at h = rw (times_fault (at == 6) (at % 3 == 0) at) (h, refl)
 place_fault _ body at h = absurd (h.bad tt)
 
 -- the test of the size tells a right one
-pub right_size : (o : Option ℕ) (n : ℕ) → is_right_size n o ≡ true → IfSome o (λ total. n ≡ total)
+pub right_size : (o : Option ℕ) (n : ℕ) → option_map_or (λ total. n == total) o true ≡ true
+    → IfSome o (λ total. n ≡ total)
 right_size None n h = tt
 right_size (Some total) n h = eqb-true n total h
 
 -- the test of the size tells a wrong one
-pub wrong_size : (o : Option ℕ) (n : ℕ) → is_right_size n o ≡ false → IsSomeAnd o (λ total. n ≢ total)
+pub wrong_size : (o : Option ℕ) (n : ℕ) → option_map_or (λ total. n == total) o true ≡ false
+    → IsSomeAnd o (λ total. n ≢ total)
 wrong_size None n h = cc
 wrong_size (Some total) n h = eqb-false n total h

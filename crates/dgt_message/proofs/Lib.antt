@@ -1,5 +1,6 @@
 pub mod CodeLemmas
 pub mod Absence
+pub mod Sizes
 pub mod Codes
 pub mod MessageIn
 pub mod AtMostOne

@@ -1,36 +1,22 @@
 -- What a code and a body say, computed: a message that fits them is this one.
-use Rattle.std.proofs.Common.{◌≡◌, ℕ, zero, suc, ◌<◌, ◌≤◌, ◌+◌, ◌-◌, ◌*◌, ◌/◌, ◌%◌, false, refl, ap, List, [], ◌∷◌, ◌++◌, length, map, take, drop, arith}
+use Rattle.std.proofs.Common.{◌≡◌, ℕ, zero, suc, ◌<◌, ◌≤◌, ◌+◌, ◌-◌, ◌*◌, ◌/◌, ◌%◌, false, refl, ap, List, [], ◌∷◌}
+use Rattle.std.proofs.Common.{◌++◌, length, map, take, drop, arith}
 use Rattle.std.specs.Prelude.{◌||◌, slice_index}
 use Rattle.std.proofs.lemmas.Bool.{ne_eqb, false_from_ne_true}
-use Rattle.dgt_values.specs.Piece.{piece_code}
+use Rattle.dgt_values.specs.Board.{piece_code}
 use Rattle.dgt_values.specs.declared.pieces.Piece.{Piece}
-use Rattle.dgt_values.specs.declared.pieces.Piece.TheVariants.{Empty, WhitePawn, WhiteRook, WhiteKnight, WhiteBishop, WhiteKing, WhiteQueen, BlackPawn, BlackRook, BlackKnight, BlackBishop, BlackKing, BlackQueen, FirstExtra, SecondExtra, ThirdExtra}
-use Rattle.dgt_message.specs.Clock.{Times as BothTimes, AreTimes, IsAbsence, absence_of, is_mark}
+use Rattle.dgt_values.specs.declared.pieces.Piece.TheVariants.{Empty}
+use Rattle.dgt_message.specs.Clock.{Times as BothTimes, AreTimes, IsAbsence, absence_of, is_mark, Time, IsTime}
 use Rattle.dgt_message.specs.Content.{Content, code_of, IsMessage}
 use Rattle.dgt_message.specs.Content.Content.{dump, field, times, no_clock, ack, serial, version, carried}
 use Rattle.dgt_message.specs.Layout.{Layout, clock_layout, layout_of}
-use Rattle.dgt_message.specs.Time.{Time, IsTime}
-use Rattle.dgt_message.specs.Reading.{piece_with_code, time_in, said_in, message_in}
+use Rattle.dgt_message.specs.Reading.{piece_with_code, time_in, said_in}
 use Rattle.dgt_message.specs.Spelling.{BodySpells, Fits, Spells, times_bytes, packed_decimal}
 
 -- a piece is the one with its code
 pub piece_with_code-piece_code : (piece : Piece) → piece_with_code (piece_code piece) ≡ piece
 piece_with_code-piece_code Empty = refl
-piece_with_code-piece_code WhitePawn = refl
-piece_with_code-piece_code WhiteRook = refl
-piece_with_code-piece_code WhiteKnight = refl
-piece_with_code-piece_code WhiteBishop = refl
-piece_with_code-piece_code WhiteKing = refl
-piece_with_code-piece_code WhiteQueen = refl
-piece_with_code-piece_code BlackPawn = refl
-piece_with_code-piece_code BlackRook = refl
-piece_with_code-piece_code BlackKnight = refl
-piece_with_code-piece_code BlackBishop = refl
-piece_with_code-piece_code BlackKing = refl
-piece_with_code-piece_code BlackQueen = refl
-piece_with_code-piece_code FirstExtra = refl
-piece_with_code-piece_code SecondExtra = refl
-piece_with_code-piece_code ThirdExtra = refl
+piece_with_code-piece_code _ = refl
 
 -- a code below 16 is that of its piece
 pub piece_code-piece_with_code : (n : ℕ) → n < 16 → piece_code (piece_with_code n) ≡ n
@@ -48,9 +34,13 @@ piece_code-piece_with_code (suc (suc (suc (suc (suc (suc (suc (suc (suc (suc zer
 piece_code-piece_with_code (suc (suc (suc (suc (suc (suc (suc (suc (suc (suc (suc zero))))))))))) h = refl
 piece_code-piece_with_code (suc (suc (suc (suc (suc (suc (suc (suc (suc (suc (suc (suc zero)))))))))))) h = refl
 piece_code-piece_with_code (suc (suc (suc (suc (suc (suc (suc (suc (suc (suc (suc (suc (suc zero))))))))))))) h = refl
-piece_code-piece_with_code (suc (suc (suc (suc (suc (suc (suc (suc (suc (suc (suc (suc (suc (suc zero)))))))))))))) h = refl
-piece_code-piece_with_code (suc (suc (suc (suc (suc (suc (suc (suc (suc (suc (suc (suc (suc (suc (suc zero))))))))))))))) h = refl
-piece_code-piece_with_code (suc (suc (suc (suc (suc (suc (suc (suc (suc (suc (suc (suc (suc (suc (suc (suc n)))))))))))))))) h = absurd (omega arith)
+piece_code-piece_with_code (suc (suc (suc (suc (suc (suc (suc (suc (suc (suc (suc (suc (suc (suc zero)))))))))))))) h =
+    refl
+piece_code-piece_with_code
+    (suc (suc (suc (suc (suc (suc (suc (suc (suc (suc (suc (suc (suc (suc (suc zero))))))))))))))) h = refl
+piece_code-piece_with_code
+    (suc (suc (suc (suc (suc (suc (suc (suc (suc (suc (suc (suc (suc (suc (suc (suc n)))))))))))))))) h =
+    absurd (omega arith)
 
 -- pieces are those with their codes
 pub map-piece_with_code : (pieces : List Piece) → map piece_with_code (map piece_code pieces) ≡ pieces
@@ -70,9 +60,15 @@ unpacked : (n : ℕ) → n ≤ 59 → 10 * (packed_decimal n / 16) + packed_deci
 unpacked n a = omega arith
 
 -- the time in the bytes of a time is this one
-same_time : (t : Time) → IsTime t → time_in (t.hours + 16 * t.flags) (packed_decimal t.minutes) (packed_decimal t.seconds) ≡ t
+same_time : (t : Time) → IsTime t
+    → time_in (t.hours + 16 * t.flags) (packed_decimal t.minutes) (packed_decimal t.seconds) ≡ t
 same_time t is =
-    rw (low_hours t.hours t.flags is.0, high_hours t.hours t.flags is.0, unpacked t.minutes is.1, unpacked t.seconds is.2) refl
+    rw (
+      low_hours t.hours t.flags is.0,
+      high_hours t.hours t.flags is.0,
+      unpacked t.minutes is.1,
+      unpacked t.seconds is.2,
+    ) refl
 
 -- hours are no mark
 unmarked_hours : (h f : ℕ) → h ≤ 9 → is_mark (h + 16 * f) ≡ false
@@ -81,10 +77,15 @@ unmarked_hours h f a = ne_eqb _ _ (λ e. omega arith)
 -- times are laid out as times
 times_laid_out : (t : BothTimes) → AreTimes t → clock_layout (times_bytes t) ≡ Layout.times
 times_laid_out t h =
-    rw (unmarked_hours t.first.hours t.first.flags h.0.0, unmarked_hours t.second.hours t.second.flags h.1.0, false_from_ne_true _ h.3) refl
+    rw (
+      unmarked_hours t.first.hours t.first.flags h.0.0,
+      unmarked_hours t.second.hours t.second.flags h.1.0,
+      false_from_ne_true _ h.3,
+    ) refl
 
 -- the bytes of a board without a clock are laid out as such
-absence_laid_out : (raw : List ℕ) (status : ℕ) → IsAbsence (absence_of raw status) → clock_layout (raw ++ status ∷ []) ≡ Layout.no_clock
+absence_laid_out : (raw : List ℕ) (status : ℕ) → IsAbsence (absence_of raw status)
+    → clock_layout (raw ++ status ∷ []) ≡ Layout.no_clock
 absence_laid_out (a ∷ b ∷ c ∷ d ∷ e ∷ f ∷ []) status h = rw (false_from_ne_true (is_mark a || is_mark d) h.2, h.4) refl
 absence_laid_out (a ∷ b ∷ c ∷ d ∷ e ∷ f ∷ g ∷ raw) status h = absurd (omega (arith, h.0))
 absence_laid_out _ status h = absurd (omega (arith, h.0))
@@ -101,7 +102,8 @@ said_layout (version main sub) = Layout.version
 said_layout (carried own body) = Layout.carried
 
 -- a body that says something is laid out as this message
-pub laid_out : (said : Content) (body : List ℕ) → IsMessage said → BodySpells said body → layout_of (code_of said) body ≡ said_layout said
+pub laid_out : (said : Content) (body : List ℕ) → IsMessage said → BodySpells said body
+    → layout_of (code_of said) body ≡ said_layout said
 laid_out (dump pieces) body h s = refl
 laid_out (field square piece) body h s = refl
 laid_out (times readings) body h s = rw s (times_laid_out readings h)
@@ -112,13 +114,15 @@ laid_out (version main sub) body h s = refl
 laid_out (carried own bytes) body h s = rw s h.1
 
 -- six bytes and a status come back
-absence_back : (raw : List ℕ) (status : ℕ) → length raw ≡ 6 → absence_of (take 6 (raw ++ status ∷ [])) (slice_index (raw ++ status ∷ []) 6) ≡ absence_of raw status
+absence_back : (raw : List ℕ) (status : ℕ) → length raw ≡ 6
+    → absence_of (take 6 (raw ++ status ∷ [])) (slice_index (raw ++ status ∷ []) 6) ≡ absence_of raw status
 absence_back (a ∷ b ∷ c ∷ d ∷ e ∷ f ∷ []) status h = refl
 absence_back (a ∷ b ∷ c ∷ d ∷ e ∷ f ∷ g ∷ raw) status h = absurd (omega arith)
 absence_back _ status h = absurd (omega arith)
 
 -- a message comes back from its body by its layout
-said_back : (said : Content) (body : List ℕ) → IsMessage said → BodySpells said body → said_in (said_layout said) (code_of said) body ≡ said
+said_back : (said : Content) (body : List ℕ) → IsMessage said → BodySpells said body
+    → said_in (said_layout said) (code_of said) body ≡ said
 said_back (dump pieces) body h s = rw s (ap dump (map-piece_with_code pieces))
 said_back (field square piece) body h s = rw s (ap (field square) (piece_with_code-piece_code piece))
 said_back (times readings) body h s = rw (s, same_time readings.first h.0, same_time readings.second h.1) refl
@@ -128,13 +132,18 @@ said_back (serial digits) body h s = ap serial s
 said_back (version main sub) body h s = rw s refl
 said_back (carried own bytes) body h s = ap (carried own) s
 
+-- the message in the body under a code
+abbrev pub message_in : ℕ → List ℕ → Content
+message_in code body = said_in (layout_of code body) code body
+
 -- a message that fits is the one in the body
 pub message_in-fits : (said : Content) (code : ℕ) (body : List ℕ) → Fits said code body → message_in code body ≡ said
 message_in-fits said code body h =
     rw (h.code_is, laid_out said body h.is_message h.spelled) (said_back said body h.is_message h.spelled)
 
 -- the whole spells what its code and its body say
-pub message_in-spells : (said : Content) (bytes : List ℕ) → Spells said bytes → message_in (slice_index bytes 0 - 128) (drop 3 bytes) ≡ said
+pub message_in-spells : (said : Content) (bytes : List ℕ) → Spells said bytes
+    → message_in (slice_index bytes 0 - 128) (drop 3 bytes) ≡ said
 message_in-spells said bytes h =
     let code : slice_index bytes 0 - 128 ≡ code_of said = omega (arith, h.header.code_is) in
     message_in-fits said _ _ (record { is_message = h.is_message; code_is = code; spelled = h.spelled })

@@ -1,16 +1,19 @@
 -- The reading of a code and a body is the message that fits them, or the fault of the body.
-use Rattle.std.proofs.Common.{◌≡◌, ℕ, ◌<◌, ◌≤◌, ◌+◌, ◌-◌, ◌⊎◌, inl, inr, Bool, true, false, cond, refl, ap, List, [], ◌∷◌, length, drop, arith, Option, Some, None, Result, Ok, Err}
-use Rattle.std.specs.Prelude.{◌↔◌, All, MatchOption, MatchResult, slice_index}
+use Rattle.std.proofs.Common.{◌≡◌, ℕ, ◌<◌, ◌≤◌, ◌+◌, ◌-◌, ◌⊎◌, inl, inr, Bool, true, false, cond, refl, ap, List, []}
+use Rattle.std.proofs.Common.{◌∷◌, length, drop, arith, Option, Some, None, Result, Ok, Err}
+use Rattle.std.specs.Prelude.{◌==◌, ◌↔◌, All, MatchOption, MatchResult, slice_index}
 use Rattle.std.proofs.lemmas.List.{length-drop}
 use Rattle.std.proofs.lemmas.List.Elements.{All-drop}
-use Rattle.dgt_message.specs.declared.bodies.BodyFault.{BodyFault}
-use Rattle.dgt_message.specs.declared.bodies.BodyFault.TheVariants.{WrongSize}
+use Rattle.dgt_message.specs.declared.viewing.BodyFault.{BodyFault}
+use Rattle.dgt_message.specs.declared.viewing.BodyFault.TheVariants.{WrongSize}
 use Rattle.dgt_message.specs.declared.message.Message.{Message}
 use Rattle.dgt_message.specs.Code.{known_with}
 use Rattle.dgt_message.specs.Content.{Content, code_of, content, IsCarried}
-use Rattle.dgt_message.specs.Fault.{AllowsBefore, IsFaultOf, IsFirstBad, IsRightSize, Views}
-use Rattle.dgt_message.specs.Layout.{Layout, layout_of, total_of}
-use Rattle.dgt_message.specs.Reading.{content_if_any, first_bad_place, is_right_size, message_or_fault, reading}
+use Rattle.dgt_message.proofs.Sizes.{AllowsBefore, IsRightSize}
+use Rattle.dgt_message.specs.Reading.{IsFaultOf, IsFirstBad, Views, fault_of, first_bad_place, reading, said_in}
+use Rattle.std.specs.Option.{option_map_or}
+use Rattle.std.specs.Result.{result_map_both}
+use Rattle.dgt_message.specs.Layout.{Layout, column_of, layout_of, layout_total}
 use Rattle.dgt_message.specs.Spelling.{Fits, Spells}
 use Rattle.dgt_message.proofs.AtMostOne.{one_message, one_fault, not_both}
 use Rattle.dgt_message.proofs.BodyFits.{body_fits}
@@ -21,8 +24,14 @@ use Rattle.dgt_message.proofs.SpellingSpells.{small_code}
 abbrev Says : ℕ → List ℕ → Result Content BodyFault → Type 0
 Says code body r = MatchResult r (λ said. Fits said code body) (IsFaultOf code body)
 
+-- the fault at the first bad place, or the message where there is none
+abbrev message_or_fault : Layout → ℕ → List ℕ → Option ℕ → Result Content BodyFault
+message_or_fault layout code body found =
+    option_map_or (λ at. Err (fault_of (column_of layout at) at)) found (Ok (said_in layout code body))
+
 -- so is the fault at the first bad place, or the message where there is none
-by_place : (code : ℕ) (body : List ℕ) → code < 128 → IsCarried body → IsRightSize (layout_of code body) body → (found : Option ℕ)
+by_place : (code : ℕ) (body : List ℕ) → code < 128 → IsCarried body → IsRightSize (layout_of code body) body
+    → (found : Option ℕ)
     → MatchOption found (AllowsBefore (layout_of code body) body (length body)) (IsFirstBad (layout_of code body) body)
     → Says code body (message_or_fault (layout_of code body) code body found)
 by_place code body small carried size None h = body_fits (known_with code) code body small carried refl size h
@@ -31,36 +40,41 @@ by_place code body small carried size (Some at) h = place_fault (layout_of code 
 -- so is the reading
 reading_says : (code : ℕ) (body : List ℕ) → code < 128 → IsCarried body → Says code body (reading code body)
 unfolding reading
-reading_says code body small carried = go (is_right_size (length body + 3) (total_of layout)) refl
+reading_says code body small carried =
+    go (option_map_or (λ total. length body + 3 == total) (layout_total layout) true) refl
   where
     layout : Layout
     layout = layout_of code body
 
-    go : (t : Bool) → is_right_size (length body + 3) (total_of layout) ≡ t
+    go : (t : Bool) → option_map_or (λ total. length body + 3 == total) (layout_total layout) true ≡ t
         → Says code body (cond t (message_or_fault layout code body (first_bad_place layout body)) (Err WrongSize))
     go true e =
-        let size = right_size (total_of layout) (length body + 3) e in
+        let size = right_size (layout_total layout) (length body + 3) e in
         by_place code body small carried size (first_bad_place layout body) (first_bad_place-tells layout body size)
-    go false e = wrong_size (total_of layout) (length body + 3) e
+    go false e = wrong_size (layout_total layout) (length body + 3) e
 
 -- what fits is the reading
-said_is : (code : ℕ) (body : List ℕ) (r : Result Content BodyFault) (said : Content) → Says code body r → Fits said code body → r ≡ Ok said
+said_is : (code : ℕ) (body : List ℕ) (r : Result Content BodyFault) (said : Content) → Says code body r
+    → Fits said code body → r ≡ Ok said
 said_is code body (Ok other_) said h fits = ap Ok (one_message code body other_ said h fits)
 said_is code body (Err why) said h fits = absurd (not_both code body said why fits h)
 
 -- the fault that there is, is the reading
-fault_is : (code : ℕ) (body : List ℕ) (r : Result Content BodyFault) (why : BodyFault) → Says code body r → IsFaultOf code body why → r ≡ Err why
+fault_is : (code : ℕ) (body : List ℕ) (r : Result Content BodyFault) (why : BodyFault) → Says code body r
+    → IsFaultOf code body why → r ≡ Err why
 fault_is code body (Ok said) why h bad = absurd (not_both code body said why h bad)
 fault_is code body (Err other_) why h bad = ap Err (one_fault code body other_ why h bad)
 
 -- the reading is a message exactly where it fits
-pub reading-Ok : (code : ℕ) (body : List ℕ) (said : Content) → code < 128 → IsCarried body → (reading code body ≡ Ok said) ↔ Fits said code body
+pub reading-Ok : (code : ℕ) (body : List ℕ) (said : Content) → code < 128 → IsCarried body
+    → (reading code body ≡ Ok said) ↔ Fits said code body
 reading-Ok code body said small carried =
     let says = reading_says code body small carried in
     (λ e. rw e at says, said_is code body (reading code body) said says)
 
 -- the reading is a fault exactly where it is one of the body
-pub reading-Err : (code : ℕ) (body : List ℕ) (why : BodyFault) → code < 128 → IsCarried body → (reading code body ≡ Err why) ↔ IsFaultOf code body why
+pub reading-Err : (code : ℕ) (body : List ℕ) (why : BodyFault) → code < 128 → IsCarried body
+    → (reading code body ≡ Err why) ↔ IsFaultOf code body why
 reading-Err code body why small carried =
     let says = reading_says code body small carried in
     (λ e. rw e at says, fault_is code body (reading code body) why says)
@@ -76,9 +90,12 @@ some_reading code body small carried = some (reading code body) (reading_says co
     some (Err why) h = inr (why, h)
 
 -- a view is the reading
-pub view_reads : (code : ℕ) (body : List ℕ) (r : Result Message BodyFault) → code < 128 → IsCarried body → Views code body r → reading code body ≡ content_if_any r
-view_reads code body (Ok message) small carried h = said_is code body (reading code body) (content message) (reading_says code body small carried) h
-view_reads code body (Err why) small carried h = fault_is code body (reading code body) why (reading_says code body small carried) h
+pub view_reads : (code : ℕ) (body : List ℕ) (r : Result Message BodyFault) → code < 128 → IsCarried body
+    → Views code body r → reading code body ≡ result_map_both content (λ why. why) r
+view_reads code body (Ok message) small carried h =
+    said_is code body (reading code body) (content message) (reading_says code body small carried) h
+view_reads code body (Err why) small carried h =
+    fault_is code body (reading code body) why (reading_says code body small carried) h
 
 -- ---- Of whole spellings
 
@@ -88,9 +105,11 @@ third_on [] h = h
 third_on (a ∷ bytes) h = All-drop (λ byte. byte < 128) 2 bytes h
 
 -- a message is the reading of its spellings
-pub spelled_is_read : (said : Content) (bytes : List ℕ) → Spells said bytes → reading (slice_index bytes 0 - 128) (drop 3 bytes) ≡ Ok said
+pub spelled_is_read : (said : Content) (bytes : List ℕ) → Spells said bytes
+    → reading (slice_index bytes 0 - 128) (drop 3 bytes) ≡ Ok said
 spelled_is_read said bytes h =
     let code : slice_index bytes 0 - 128 ≡ code_of said = omega (arith, h.header.code_is) in
     let short : length (drop 3 bytes) ≤ 16380 = omega (arith, length-drop 3 bytes, h.header.short_enough) in
-    rw code ((reading-Ok (code_of said) (drop 3 bytes) said (small_code said h.is_message) (short, third_on bytes h.header.seven_bit)).1
+    rw code ((reading-Ok (code_of said) (drop 3 bytes) said (small_code said h.is_message)
+    (short, third_on bytes h.header.seven_bit)).1
     (record { is_message = h.is_message; code_is = refl; spelled = h.spelled }))

@@ -1,7 +1,6 @@
 -- How the body under a code is laid out.
 use Rattle.std.specs.Prelude.{ℕ, ◌==◌, ◌%◌, if◌then◌else◌, List, slice_index, Option, Some, None}
 use Rattle.dgt_message.specs.declared.known.KnownCode.{KnownCode}
-use Rattle.dgt_message.specs.declared.known.KnownCode.TheVariants.{Dump, Clock, Field, Serial, Version}
 use Rattle.dgt_message.specs.Clock.{is_marked, says_no_clock}
 use Rattle.dgt_message.specs.Code.{known_with}
 
@@ -17,30 +16,31 @@ pub data Layout : Type 0 where
 
 -- in a body of the clock the marks come before the status
 abbrev pub clock_layout : List ℕ → Layout
-clock_layout body = if is_marked body then ack else if says_no_clock (slice_index body 6) then no_clock else times
+clock_layout body =
+    if is_marked body then ack else if says_no_clock (slice_index body 6) then no_clock else times
 
 -- by the code, if it has a case; every other body is carried unread
 abbrev pub known_layout : Option KnownCode → List ℕ → Layout
-known_layout (Some Dump) body = dump
-known_layout (Some Clock) body = clock_layout body
-known_layout (Some Field) body = field
-known_layout (Some Serial) body = serial
-known_layout (Some Version) body = version
+known_layout (Some KnownCode.Dump) body = dump
+known_layout (Some KnownCode.Clock) body = clock_layout body
+known_layout (Some KnownCode.Field) body = field
+known_layout (Some KnownCode.Serial) body = serial
+known_layout (Some KnownCode.Version) body = version
 known_layout _ body = carried
 
 abbrev pub layout_of : ℕ → List ℕ → Layout
 layout_of code body = known_layout (known_with code) body
 
 -- the length of a whole message, where it is fixed
-abbrev pub total_of : Layout → Option ℕ
-total_of dump = Some 67
-total_of field = Some 5
-total_of times = Some 10
-total_of no_clock = Some 10
-total_of ack = Some 10
-total_of serial = Some 8
-total_of version = Some 5
-total_of carried = None
+abbrev pub layout_total : Layout → Option ℕ
+layout_total dump = Some 67
+layout_total field = Some 5
+layout_total times = Some 10
+layout_total no_clock = Some 10
+layout_total ack = Some 10
+layout_total serial = Some 8
+layout_total version = Some 5
+layout_total carried = None
 
 -- what a place in a body holds; sixty is minutes or seconds
 pub data Column : Type 0 where
@@ -50,14 +50,10 @@ pub data Column : Type 0 where
   sixty : Column
   anything : Column
 
--- hours, minutes and seconds twice, and the status
-abbrev pub times_column : ℕ → Column
-times_column place =
-    if place == 6 then anything else if place % 3 == 0 then hours else sixty
-
--- the column of a place: pieces in a dump, a square and a piece in a field, and digits in times
+-- the column of a place: pieces in a dump, a square and a piece in a field, and in times hours,
+-- minutes and seconds twice, and the status
 abbrev pub column_of : Layout → ℕ → Column
 column_of dump place = piece
 column_of field place = if place == 0 then square else piece
-column_of times place = times_column place
+column_of times place = if place == 6 then anything else if place % 3 == 0 then hours else sixty
 column_of _ place = anything

@@ -1,8 +1,7 @@
 //! What messages answer.
 
 ghost use Rattle.std.specs.Prelude.{◌≡◌};
-ghost use Rattle.dgt_message.specs.Kind.{kind_of};
-ghost use Rattle.dgt_message.specs.Content.{content};
+ghost use Rattle.dgt_message.specs.Content.{content, kind_of};
 
 use crate::message::Message;
 use dgt_values::Kind;

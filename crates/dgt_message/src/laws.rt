@@ -1,27 +1,27 @@
 //! What holds of the messages and their spellings as such. Nothing here runs: each function stands
 //! for the fact that its contract states.
 
-ghost use Rattle.std.specs.Prelude.{◌≡◌, ◌<◌, ◌-◌, ◌++◌, ◌↔◌, ◌⊎◌, ℕ, List, [], drop, slice_index, Some, Ok, Err};
+ghost use Rattle.std.specs.Prelude.{◌≡◌, ◌<◌, ◌-◌, ◌++◌, ◌↔◌, ◌⊎◌, ℕ, List, [], drop};
+ghost use Rattle.std.specs.Prelude.{slice_index, Some, Ok, Err};
 ghost use Rattle.dgt_values.specs.Equality.{EqualIsSame, EqualIsSameRead};
-ghost use Rattle.dgt_message.specs.declared.bodies.BodyFault.{BodyFault};
 ghost use Rattle.dgt_message.specs.declared.known.KnownCode.{KnownCode};
-ghost use Rattle.dgt_message.specs.ClockState.{clock_seen};
+ghost use Rattle.dgt_message.specs.declared.viewing.BodyFault.{BodyFault};
 ghost use Rattle.dgt_message.specs.Code.{known_number, known_with};
-ghost use Rattle.dgt_message.specs.Content.{content, Content, IsCarried, IsMessage};
-ghost use Rattle.dgt_message.specs.Fault.{IsFaultOf};
-ghost use Rattle.dgt_message.specs.Reading.{reading};
-ghost use Rattle.dgt_message.specs.Spelling.{Fits, Spells, message_bytes, spelling};
-ghost use Rattle.dgt_message.specs.Values.{absence_seen, answer_seen, code_number, status_code, time_seen, times_seen};
+ghost use Rattle.dgt_message.specs.Content.{absence_seen, answer_seen, clock_seen, code_number};
+ghost use Rattle.dgt_message.specs.Content.{content, status_code, time_seen, times_seen};
+ghost use Rattle.dgt_message.specs.Content.{Content, IsCarried, IsMessage};
+ghost use Rattle.dgt_message.specs.Reading.{reading, IsFaultOf};
+ghost use Rattle.dgt_message.specs.Spelling.{message_bytes, spelling, Fits, Spells};
 
-use crate::bodies::BodyFault;
 use crate::clock::{Clock, ClockAck, NoClock, Times};
 use crate::known::KnownCode;
 use crate::message::Message;
 use crate::other::OtherCode;
 use crate::readings::{Reading, Status};
+use crate::viewing::BodyFault;
 
-/// Two values are equal, as `==` compares them, exactly where they say the same. Of a body its bytes
-/// count, and not where they lie.
+/// Two values are equal, as `==` compares them, exactly where they say the same. Of a body its
+/// bytes count, and not where they lie.
 pub fn equal_is_same()
     ensures reading { EqualIsSameRead time_seen ⟦<Reading as PartialEq>⟧.eq }
     ensures status { EqualIsSameRead status_code ⟦<Status as PartialEq>⟧.eq }

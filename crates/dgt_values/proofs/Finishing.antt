@@ -28,21 +28,7 @@ letter_piece b =
 -- the letter of a piece is its own alone
 pub letter_piece-letter : (piece : Piece) → letter_piece (piece_letter piece) ≡ piece
 letter_piece-letter Empty = refl
-letter_piece-letter WhitePawn = refl
-letter_piece-letter WhiteRook = refl
-letter_piece-letter WhiteKnight = refl
-letter_piece-letter WhiteBishop = refl
-letter_piece-letter WhiteKing = refl
-letter_piece-letter WhiteQueen = refl
-letter_piece-letter BlackPawn = refl
-letter_piece-letter BlackRook = refl
-letter_piece-letter BlackKnight = refl
-letter_piece-letter BlackBishop = refl
-letter_piece-letter BlackKing = refl
-letter_piece-letter BlackQueen = refl
-letter_piece-letter FirstExtra = refl
-letter_piece-letter SecondExtra = refl
-letter_piece-letter ThirdExtra = refl
+letter_piece-letter _ = refl
 
 -- no two pieces have one letter
 pub letter_one : (a b : Piece) → piece_letter a ≡ piece_letter b → a ≡ b
@@ -51,21 +37,7 @@ letter_one a b e = sym (letter_piece-letter a) ∙ ap letter_piece e ∙ letter_
 -- letters stand above the slash and the digits
 pub letter_above : (piece : Piece) → piece ≢ Empty → 57 < piece_letter piece
 letter_above Empty h = absurd (h refl)
-letter_above WhitePawn h = omega arith
-letter_above WhiteRook h = omega arith
-letter_above WhiteKnight h = omega arith
-letter_above WhiteBishop h = omega arith
-letter_above WhiteKing h = omega arith
-letter_above WhiteQueen h = omega arith
-letter_above BlackPawn h = omega arith
-letter_above BlackRook h = omega arith
-letter_above BlackKnight h = omega arith
-letter_above BlackBishop h = omega arith
-letter_above BlackKing h = omega arith
-letter_above BlackQueen h = omega arith
-letter_above FirstExtra h = omega arith
-letter_above SecondExtra h = omega arith
-letter_above ThirdExtra h = omega arith
+letter_above _ h = omega arith
 
 -- a byte that stands for squares is no slash
 pub above_slash : (byte : ℕ) (squares : List Piece) → MeansSquares byte squares → 47 < byte

@@ -3,10 +3,7 @@ use Rattle.std.proofs.Common.{◌≡◌, ℕ, suc, ◌+◌, ◌<◌, refl, List,
 use Rattle.std.proofs.Common.{add-one, drop-cons}
 use Rattle.std.specs.Prelude.{◌≢◌}
 use Rattle.dgt_values.specs.declared.pieces.Piece.{Piece}
-use Rattle.dgt_values.specs.declared.pieces.Piece.TheVariants.{Empty, WhitePawn, WhiteRook, WhiteKnight, WhiteBishop}
-use Rattle.dgt_values.specs.declared.pieces.Piece.TheVariants.{WhiteKing, WhiteQueen, BlackPawn, BlackRook, BlackKnight}
-use Rattle.dgt_values.specs.declared.pieces.Piece.TheVariants.{BlackBishop, BlackKing, BlackQueen, FirstExtra}
-use Rattle.dgt_values.specs.declared.pieces.Piece.TheVariants.{SecondExtra, ThirdExtra}
+use Rattle.dgt_values.specs.declared.pieces.Piece.TheVariants.{Empty}
 use Rattle.dgt_values.specs.Board.{piece_letter}
 use Rattle.dgt_values.specs.Placement.{rank_text_after, run_text}
 
@@ -14,21 +11,7 @@ use Rattle.dgt_values.specs.Placement.{rank_text_after, run_text}
 pub text_after_piece : (piece : Piece) (empty : ℕ) (pieces : List Piece) → piece ≢ Empty
     → rank_text_after empty (piece ∷ pieces) ≡ run_text empty ++ piece_letter piece ∷ rank_text_after 0 pieces
 text_after_piece Empty empty pieces h = absurd (h refl)
-text_after_piece WhitePawn empty pieces h = refl
-text_after_piece WhiteRook empty pieces h = refl
-text_after_piece WhiteKnight empty pieces h = refl
-text_after_piece WhiteBishop empty pieces h = refl
-text_after_piece WhiteKing empty pieces h = refl
-text_after_piece WhiteQueen empty pieces h = refl
-text_after_piece BlackPawn empty pieces h = refl
-text_after_piece BlackRook empty pieces h = refl
-text_after_piece BlackKnight empty pieces h = refl
-text_after_piece BlackBishop empty pieces h = refl
-text_after_piece BlackKing empty pieces h = refl
-text_after_piece BlackQueen empty pieces h = refl
-text_after_piece FirstExtra empty pieces h = refl
-text_after_piece SecondExtra empty pieces h = refl
-text_after_piece ThirdExtra empty pieces h = refl
+text_after_piece _ empty pieces h = refl
 
 -- an empty square makes the run longer
 pub one_more_empty : (rank : List Piece) (i empty : ℕ) → i < length rank → get_or rank i Empty ≡ Empty

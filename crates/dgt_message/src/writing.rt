@@ -1,0 +1,211 @@
+//! Messages written as bytes.
+
+ghost use Rattle.std.specs.Prelude.{◌≡◌, ◌≤◌, ◌<◌, ◌++◌, [], ◌∷◌, length, map};
+ghost use Rattle.dgt_values.specs.declared.bodies.TheConstants.{MAX_BODY};
+ghost use Rattle.dgt_values.specs.Board.{piece_code, pieces_of, square_number};
+ghost use Rattle.dgt_values.specs.Bytes.{number, AreSevenBit, WritesFront};
+ghost use Rattle.dgt_message.specs.Clock.{AreTimes, IsAbsence, IsAck, IsTime};
+ghost use Rattle.dgt_message.specs.Code.{known_number};
+ghost use Rattle.dgt_message.specs.Content.{absence_seen, answer_seen, content, time_seen};
+ghost use Rattle.dgt_message.specs.Content.{times_seen, IsMessage};
+ghost use Rattle.dgt_message.specs.Content.Content.{field};
+ghost use Rattle.dgt_message.specs.Spelling.{ack_spelling, body_spelling, mark_with};
+ghost use Rattle.dgt_message.specs.Spelling.{message_bytes, packed_decimal, spelling, time_bytes};
+ghost use Rattle.dgt_message.specs.Spelling.{times_bytes, Spells};
+
+use crate::clock::{ACK_MARK, ClockAck, NoClock, Times};
+use crate::known::KnownCode;
+use crate::message::Message;
+use crate::readings::Reading;
+use dgt_values::{NoRoom, Piece, Position, SevenBit, Square};
+
+/// How many bytes the message takes, its header of three bytes included: 3 to 16383.
+pub fn length(message: &Message<'_>) -> usize
+    ensures value { result ≡ length (spelling (content message.now)) }
+    ensures in_range { (3 ≤ result) × (result < 16384) }
+{
+    body_length(message) + 3
+}
+
+/// Writes the message to the front of `out`, and answers how many bytes it takes; the bytes past
+/// them stay as they are. `NoRoom` comes exactly where `out` is shorter than the message; it tells
+/// the message's length, and `out` stays as it is.
+///
+/// An acknowledgement has several spellings. The one that is written has the mark in byte 3 and in
+/// byte 6 of the whole, and D6 of both clear.
+pub fn encode(message: &Message<'_>, out: &mut [u8]) -> Result<usize, NoRoom>
+    ensures written { WritesFront (spelling (content message.now)) out.old out.new result }
+    ensures spells { Spells (content message.now) (spelling (content message.now)) }
+    ensures in_range { IsMessage (content message.now) }
+{
+    match message {
+        Message::Dump(position) => write_known(KnownCode::Dump, &piece_codes(position), out),
+        Message::Field { square, piece } => encode_field(*square, *piece, out),
+        Message::Times(times) => write_known(KnownCode::Clock, &times_bytes(*times), out),
+        Message::NoClock(absence) => write_known(KnownCode::Clock, &absence_bytes(*absence), out),
+        Message::Ack(answer) => write_known(KnownCode::Clock, &ack_bytes(*answer), out),
+        Message::Serial(number) => write_known(KnownCode::Serial, &serial_bytes(number), out),
+        Message::Trademark(body) => write_known(KnownCode::Trademark, body.bytes(), out),
+        Message::Version { main, sub } => {
+            write_known(KnownCode::Version, &[main.get(), sub.get()], out)
+        }
+        Message::Battery(body) => write_known(KnownCode::Battery, body.bytes(), out),
+        Message::LongSerial(body) => write_known(KnownCode::LongSerial, body.bytes(), out),
+        Message::Other { code, body } => write_whole(code.get().get(), body.bytes(), out),
+    }
+}
+
+/// Writes what `encode` writes of [`Message::Field`]. No message is made of it: to copy one takes
+/// longer than to write these five bytes.
+pub fn encode_field(square: Square, piece: Piece, out: &mut [u8]) -> Result<usize, NoRoom>
+    ensures written { WritesFront
+        (spelling (field (square_number square) piece)) out.old out.new result }
+    ensures spells { Spells
+        (field (square_number square) piece) (spelling (field (square_number square) piece)) }
+{
+    if out.len() < 5 {
+        return Err(NoRoom { need: 5 });
+    }
+    out[0] = 128 + KnownCode::Field.number();
+    out[1] = 0;
+    out[2] = 5;
+    out[3] = square.index();
+    out[4] = piece.code();
+    Ok(5)
+}
+
+fn body_length(message: &Message<'_>) -> usize
+    ensures value { result ≡ length (body_spelling (content message.now)) }
+    ensures fits { result ≤ MAX_BODY }
+{
+    match message {
+        Message::Dump(position) => position.pieces().len(),
+        Message::Field { .. } | Message::Version { .. } => 2,
+        Message::Times(_) | Message::Ack(_) => 7,
+        Message::NoClock(absence) => absence.raw().len() + 1,
+        Message::Serial(number) => serial_bytes(number).len(),
+        Message::Trademark(body)
+        | Message::Battery(body)
+        | Message::LongSerial(body)
+        | Message::Other { body, .. } => body.bytes().len(),
+    }
+}
+
+fn write_known(code: KnownCode, body: &[u8], out: &mut [u8]) -> Result<usize, NoRoom>
+    requires { length body.now ≤ MAX_BODY }
+    ensures { WritesFront (message_bytes (known_number code) body.now) out.old out.new result }
+{
+    write_whole(code.number(), body, out)
+}
+
+fn write_whole(code: u8, body: &[u8], out: &mut [u8]) -> Result<usize, NoRoom>
+    requires code { code < 128 }
+    requires fits { length body.now ≤ MAX_BODY }
+    ensures { WritesFront (message_bytes code body.now) out.old out.new result }
+{
+    let need = body.len() + 3;
+    if out.len() < need {
+        return Err(NoRoom { need });
+    }
+    out[0] = 128 + code;
+    out[1] = (need / 128) as u8;
+    out[2] = (need % 128) as u8;
+    out[3..need].copy_from_slice(body);
+    Ok(need)
+}
+
+fn piece_codes(position: &Position) -> [u8; 64]
+    ensures codes { result ≡ map piece_code (pieces_of position.now) }
+    ensures len { length (pieces_of position.now) ≡ 64 }
+{
+    let pieces = position.pieces();
+    let mut codes = [0; 64];
+    for (index, piece) in pieces.iter().enumerate() {
+        codes[index] = piece.code();
+    }
+    codes
+}
+
+fn serial_bytes(serial: &[SevenBit; 5]) -> [u8; 5]
+    ensures bytes { result ≡ map number serial.now }
+    ensures len { length serial.now ≡ 5 }
+    ensures seven_bit { AreSevenBit (map number serial.now) }
+{
+    let [a, b, c, d, e] = serial;
+    [a.get(), b.get(), c.get(), d.get(), e.get()]
+}
+
+fn times_bytes(times: Times) -> [u8; 7]
+    ensures bytes { result ≡ times_bytes (times_seen times) }
+    ensures in_range { AreTimes (times_seen times) }
+{
+    let [first_hours, first_minutes, first_seconds] = time_bytes(times.first());
+    let [second_hours, second_minutes, second_seconds] = time_bytes(times.second());
+    [
+        first_hours,
+        first_minutes,
+        first_seconds,
+        second_hours,
+        second_minutes,
+        second_seconds,
+        times.status().code().get(),
+    ]
+}
+
+fn time_bytes(reading: Reading) -> [u8; 3]
+    ensures bytes { result ≡ time_bytes (time_seen reading) }
+    ensures in_range { IsTime (time_seen reading) }
+{
+    [
+        reading.hours() + 16 * reading.flags(),
+        pack(reading.minutes()),
+        pack(reading.seconds()),
+    ]
+}
+
+// Tens in the high four bits, and units in the low four.
+fn pack(n: u8) -> u8
+    requires { n < 60 }
+    ensures { result ≡ packed_decimal n }
+{
+    16 * (n / 10) + n % 10
+}
+
+fn absence_bytes(absence: NoClock) -> [u8; 7]
+    ensures bytes { result ≡ (absence_seen absence).raw ++ (absence_seen absence).status ∷ [] }
+    ensures in_range { IsAbsence (absence_seen absence) }
+{
+    let [a, b, c, d, e, f] = absence.raw();
+    [
+        a.get(),
+        b.get(),
+        c.get(),
+        d.get(),
+        e.get(),
+        f.get(),
+        absence.status().code().get(),
+    ]
+}
+
+fn ack_bytes(answer: ClockAck) -> [u8; 7]
+    ensures bytes { result ≡ ack_spelling (answer_seen answer) }
+    ensures in_range { IsAck (answer_seen answer) }
+{
+    let [a, b, c, d] = answer.ack;
+    [
+        mark_with(c, d),
+        a & 0x7f,
+        b & 0x7f,
+        mark_with(a, b),
+        c & 0x7f,
+        d & 0x7f,
+        answer.status.get(),
+    ]
+}
+
+// The mark of an acknowledgement, with the top bits of two bytes as D4 and D5.
+fn mark_with(first: u8, second: u8) -> u8
+    ensures { result ≡ mark_with first second }
+{
+    ACK_MARK + (first >> 7) * 0x10 + (second >> 7) * 0x20
+}
