@@ -6,7 +6,7 @@ use Rattle.dgt_message.specs.Content.{Content, IsMessage}
 use Rattle.dgt_message.specs.Spelling.{spelling}
 use Rattle.dgt_decode.specs.Grammar.{Event, Message, Placed, at_place, events_behind, cut_of, events, open_message}
 use Rattle.dgt_decode.specs.Feeding.{FirstEvent, at_place_if_any}
-use Rattle.dgt_decode.specs.Laws.{Call, AreCalls, used_part, used_bytes, events_in_pieces}
+use Rattle.dgt_decode.specs.Laws.{Call, AreCalls, used_bytes, events_in_pieces}
 use Rattle.dgt_decode.proofs.More.{events-append}
 use Rattle.dgt_decode.proofs.Open.{open-append, length-open}
 use Rattle.dgt_decode.proofs.Loops.{events_behind-at_place_if_any}
@@ -25,30 +25,39 @@ first_told held piece used (Some event) h = h.1
 
 -- and behind bytes of which these are held
 call_told : (s : List ℕ) (call : Call) → FirstEvent (open_message s) call.piece call.used call.event
-    → events (s ++ used_part call) ≡ events s ++ at_place_if_any (length s + call.used) call.event
+    → events (s ++ take call.used call.piece) ≡ events s ++ at_place_if_any (length s + call.used) call.event
 call_told s call first =
     let o = open_message s in
     let place : length s - length o + (length o + call.used) ≡ length s + call.used = omega (arith, length-open s) in
-    events-append s (used_part call)
-    ∙ ap (λ (xs : List Placed). events s ++ events_behind (length s - length o) xs) (first_told o call.piece call.used call.event first)
-    ∙ ap (λ (xs : List Placed). events s ++ xs) (events_behind-at_place_if_any (length s - length o) (length o + call.used) (length s + call.used) call.event place)
+    events-append s (take call.used call.piece)
+    ∙ ap (λ (xs : List Placed). events s ++ events_behind (length s - length o) xs)
+    (first_told o call.piece call.used call.event first)
+    ∙ ap (λ (xs : List Placed). events s ++ xs)
+    (events_behind-at_place_if_any (length s - length o) (length o + call.used)
+    (length s + call.used) call.event place)
 
 -- by induction: each call goes on where the one before it stopped
-pub in_any_pieces : (s : List ℕ) (calls : List Call) → AreCalls (open_message s) calls → events (s ++ used_bytes calls) ≡ events s ++ events_in_pieces (length s) calls
+pub in_any_pieces : (s : List ℕ) (calls : List Call) → AreCalls (open_message s) calls
+    → events (s ++ used_bytes calls) ≡ events s ++ events_in_pieces (length s) calls
 in_any_pieces s [] are = rw (append-nil s) (sym (append-nil (events s)))
 in_any_pieces s (call ∷ calls) are =
     let within = first_within (open_message s) call.piece call.used call.event are.0 in
-    let count : length (s ++ used_part call) ≡ length s + call.used = omega (arith, length-append s (used_part call), length-take call.used call.piece) in
-    let held = open-append s (used_part call) in
-    let later : AreCalls (open_message (s ++ used_part call)) calls = subst (λ (x : List ℕ). AreCalls x calls) (sym held) are.1 in
-    ap (λ (x : List ℕ). events x) (sym (append_assoc s (used_part call) (used_bytes calls)))
-    ∙ in_any_pieces (s ++ used_part call) calls later
-    ∙ rw (count, call_told s call are.0) (append_assoc (events s) (at_place_if_any (length s + call.used) call.event) (events_in_pieces (length s + call.used) calls))
+    let count : length (s ++ take call.used call.piece) ≡ length s + call.used =
+    omega (arith, length-append s (take call.used call.piece), length-take call.used call.piece) in
+    let held = open-append s (take call.used call.piece) in
+    let later : AreCalls (open_message (s ++ take call.used call.piece)) calls =
+    subst (λ (x : List ℕ). AreCalls x calls) (sym held) are.1 in
+    ap (λ (x : List ℕ). events x) (sym (append_assoc s (take call.used call.piece) (used_bytes calls)))
+    ∙ in_any_pieces (s ++ take call.used call.piece) calls later
+    ∙ rw (count, call_told s call are.0)
+    (append_assoc (events s) (at_place_if_any (length s + call.used) call.event)
+    (events_in_pieces (length s + call.used) calls))
 
 -- what is told in pieces is told of the whole
 pub spelling_in_pieces : AreRead → AreSpelled → (s : List ℕ) (said : Content) (calls : List Call)
     → IsMessage said → AreCalls (open_message s) calls → used_bytes calls ≡ spelling said
-    → events_in_pieces (length s) calls ≡ events_behind (length s) (cut_of (open_message s)) ++ at_place (length s + length (spelling said)) (Message said) ∷ []
+    → events_in_pieces (length s) calls ≡ events_behind (length s) (cut_of (open_message s)) ++ at_place
+    (length s + length (spelling said)) (Message said) ∷ []
 spelling_in_pieces reads spelled s said calls is are same =
     let cut = events_behind (length s) (cut_of (open_message s)) in
     let told = cut ++ at_place (length s + length (spelling said)) (Message said) ∷ [] in

@@ -23,7 +23,8 @@ pub record IsBeginning (total : ℕ) (rest : List ℕ) (used : ℕ) : Type 0 whe
 
 -- these are those before the next set top bit behind the header
 pub beginning : (total run : ℕ) (rest : List ℕ) → Begins total rest
-    → run ≡ position_or_len has_top_bit (take (min (length rest) total - 3) (drop 3 rest)) → IsBeginning total rest (3 + run)
+    → run ≡ position_or_len has_top_bit (take (min (length rest) total - 3) (drop 3 rest))
+    → IsBeginning total rest (3 + run)
 beginning total run [] begins is = absurd (omega (arith, begins.enough))
 beginning total run (b ∷ []) begins is = absurd (omega (arith, begins.enough))
 beginning total run (b ∷ h ∷ []) begins is = absurd (omega (arith, begins.enough))
@@ -43,12 +44,14 @@ beginning total run (b ∷ h ∷ l ∷ more) begins is =
     }
 
 -- before the last of them there is no event
-early : (b h l n total : ℕ) (more : List ℕ) → Gives (b ∷ h ∷ []) [] (b ∷ h ∷ []) → l < 128 → IsSevenBit (take n more) → n ≤ length more → 3 + n ≤ total
+early : (b h l n total : ℕ) (more : List ℕ) → Gives (b ∷ h ∷ []) [] (b ∷ h ∷ []) → l < 128 → IsSevenBit (take n more)
+    → n ≤ length more → 3 + n ≤ total
     → total ≡ announced_total (b ∷ h ∷ l ∷ more) → events (take (suc (suc n)) (b ∷ h ∷ l ∷ more)) ≡ []
 early b h l zero total more two low seven within fits is = two.told
 early b h l (suc n) total [] two low seven within fits is = absurd (omega (arith, within))
 early b h l (suc n) total (x ∷ more) two low seven within fits is =
-    (next-waits (b ∷ h ∷ []) (l ∷ take n (x ∷ more)) two.leaves (omega arith) (low, shorter) (omega (arith, is, fits, length-take n (x ∷ more)))).told
+    (next-waits (b ∷ h ∷ []) (l ∷ take n (x ∷ more)) two.leaves (omega arith) (low, shorter)
+    (omega (arith, is, fits, length-take n (x ∷ more)))).told
   where
     fewer : take n (take (suc n) (x ∷ more)) ≡ take n (x ∷ more)
     fewer = take-take n (suc n) (x ∷ more) (omega arith)
@@ -57,8 +60,10 @@ early b h l (suc n) total (x ∷ more) two low seven within fits is =
     shorter = rw (← fewer) (seven-take n (take (suc n) (x ∷ more)) seven)
 
 -- A message that begins is whole where none of it is missing then, and tells nothing otherwise.
-pub frames-beginning : (kept rest : List ℕ) (total used : ℕ) → open_message kept ≡ [] → Begins total rest → IsBeginning total rest used
-    → FramesFront kept rest used (take used rest) (after (total - used)).1 × IsKept (after (total - used)).0 (take used rest)
+pub frames-beginning : (kept rest : List ℕ) (total used : ℕ) → open_message kept ≡ [] → Begins total rest
+    → IsBeginning total rest used
+    → FramesFront kept rest used (take used rest) (after (total - used)).1
+    × IsKept (after (total - used)).0 (take used rest)
 frames-beginning kept [] total used none begins run = absurd (omega (arith, begins.enough))
 frames-beginning kept (b ∷ []) total used none begins run = absurd (omega (arith, begins.enough))
 frames-beginning kept (b ∷ h ∷ []) total used none begins run = absurd (omega (arith, begins.enough))
@@ -71,22 +76,28 @@ frames-beginning kept (b ∷ h ∷ l ∷ more) total (suc (suc (suc n))) none be
     let count : length body ≡ n = omega (arith, length-take n more, run.within) in
     let is_n : used - 3 ≡ n = omega arith in
     let seven : IsSevenBit body = rw is_n at run.seven in
-    let two = next-short (b ∷ []) (h ∷ []) (first-begins b begins.first).leaves (omega arith) (begins.header.0, tt) (omega arith) in
+    let two = next-short (b ∷ []) (h ∷ []) (first-begins b begins.first).leaves (omega arith) (begins.header.0, tt)
+    (omega arith) in
     let left = total - used in
-    let all : announced_total (b ∷ h ∷ l ∷ body) ≡ length (b ∷ h ∷ l ∷ body) + left = omega (arith, begins.is, count, run.fits) in
-    let t = tells-after (b ∷ h ∷ []) (l ∷ body) left two.leaves (omega arith) (omega arith) (begins.header.1.0, seven) all in
+    let all : announced_total (b ∷ h ∷ l ∷ body) ≡ length (b ∷ h ∷ l ∷ body) + left =
+    omega (arith, begins.is, count, run.fits) in
+    let t = tells-after (b ∷ h ∷ []) (l ∷ body) left two.leaves (omega arith) (omega arith)
+    (begins.header.1.0, seven) all in
     let long : 2 + length (l ∷ body) ≡ 0 + length (b ∷ h ∷ l ∷ body) = omega arith in
     let less : length (b ∷ h ∷ l ∷ body) - 1 ≡ suc (suc n) = omega (arith, count) in
     let front : take (length (b ∷ h ∷ l ∷ body) - 1) (b ∷ h ∷ l ∷ body) ≡ take (suc (suc n)) (b ∷ h ∷ l ∷ more) =
     ap (λ m. take m (b ∷ h ∷ l ∷ body)) less ∙ take-take (suc (suc n)) used (b ∷ h ∷ l ∷ more) (omega arith) in
     let quiet : events (take (length (b ∷ h ∷ l ∷ body) - 1) (b ∷ h ∷ l ∷ body)) ≡ [] =
-    ap (λ x. events x) front ∙ early b h l n total more two begins.header.1.0 seven (omega (arith, run.within)) (omega (arith, run.fits)) begins.is in (
+    ap (λ x. events x) front ∙ early b h l n total more two begins.header.1.0 seven (omega (arith, run.within))
+    (omega (arith, run.fits)) begins.is in (
       record {
         some = omega arith;
         within = run.within;
         frames = record {
           first = rw none (first_of_run [] (b ∷ h ∷ l ∷ body) _ (omega arith) quiet
-              (t.0.told ∙ ap (λ (n : ℕ). at_place_if_any n (option_map (event_found_in (b ∷ h ∷ l ∷ body)) (after left).1)) long));
+              (t.0.told ∙
+              ap (λ (n : ℕ). at_place_if_any n (option_map (event_found_in (b ∷ h ∷ l ∷ body)) (after left).1))
+              long));
           held = rw none refl;
           whole = t.0.message;
           came = λ e. rw none refl;
@@ -96,7 +107,8 @@ frames-beginning kept (b ∷ h ∷ l ∷ more) total (suc (suc (suc n))) none be
     )
 
 -- A message that has come whole is told at once.
-pub frames-whole : (kept rest : List ℕ) (total : ℕ) → open_message kept ≡ [] → total ≤ length rest → IsWholeMessage (take total rest)
+pub frames-whole : (kept rest : List ℕ) (total : ℕ) → open_message kept ≡ [] → total ≤ length rest
+    → IsWholeMessage (take total rest)
     → FramesFront kept rest total (take total rest) (Some found.Message)
 frames-whole kept rest zero none within whole = absurd (omega (arith, whole.long))
 frames-whole kept rest (suc zero) none within whole = absurd (omega (arith, whole.long, length-take 1 rest))
@@ -108,9 +120,22 @@ frames-whole kept (b ∷ h ∷ l ∷ more) (suc (suc (suc n))) none within whole
     let total = suc (suc (suc n)) in
     let rest = b ∷ h ∷ l ∷ more in
     let is : total ≡ announced_total rest = omega (arith, whole.whole, length-take total rest, within) in
-    let begins : Begins total rest = record { first = whole.first; header = (whole.later.0, (whole.later.1.0, tt)); enough = omega arith; is = is; large = omega arith } in
+    let begins : Begins total rest =
+    record {
+      first = whole.first;
+      header = (whole.later.0, (whole.later.1.0, tt));
+      enough = omega arith;
+      is = is;
+      large = omega arith;
+    } in
     let behind : total - 3 ≡ n = omega arith in
     let all : IsBeginning total rest total =
-    record { header = omega arith; within = within; fits = omega arith; short = omega (arith, is, whole.later.0, whole.later.1.0); seven = rw behind whole.later.1.1 } in
+    record {
+      header = omega arith;
+      within = within;
+      fits = omega arith;
+      short = omega (arith, is, whole.later.0, whole.later.1.0);
+      seven = rw behind whole.later.1.1;
+    } in
     let none_left : total - total ≡ 0 = omega arith in
     rw none_left at (frames-beginning kept rest total total none begins all).0

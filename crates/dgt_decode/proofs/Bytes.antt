@@ -1,5 +1,5 @@
 -- What is held between two pieces.
-use Rattle.std.proofs.Common.{◌≡◌, ℕ, zero, suc, ◌<◌, ◌≤◌, Bool, true, false, cond, List, [], ◌∷◌, ◌++◌, length, get_or, Some, None, refl, sym, subst, arith}
+use Rattle.std.proofs.Common.{◌≡◌, ℕ, zero, suc, ◌<◌, ◌≤◌, Bool, true, false, cond, List, [], ◌∷◌, ◌++◌, length, get_or, None, refl, subst, arith}
 use Rattle.std.proofs.lemmas.List.{append-nil, get_or_append_left}
 use Rattle.std.proofs.lemmas.Bool.{leb-true}
 use Rattle.dgt_decode.specs.Grammar.{IsSevenBit, events, has_top_bit, lead, segments, announced_total, verdict, open_message}
@@ -35,7 +35,8 @@ IsAlone-parts b bytes alone = go (has_top_bit b) refl alone.no_lead alone.one
   where
     go : (t : Bool) → has_top_bit b ≡ t → cond t [] (b ∷ lead bytes) ≡ []
         → cond t ((b ∷ lead bytes) ∷ segments bytes) (segments bytes) ≡ (b ∷ bytes) ∷ [] → (128 ≤ b) × IsSevenBit bytes
-    go true e f g = let same : lead bytes ≡ bytes = cc in (leb-true 128 b e, subst (λ (x : List ℕ). IsSevenBit x) same (IsSevenBit-lead bytes))
+    go true e f g = let same : lead bytes ≡ bytes = cc in
+        (leb-true 128 b e, subst (λ (x : List ℕ). IsSevenBit x) same (IsSevenBit-lead bytes))
     go false e f g = absurd cc
 
 -- what is held begins with a set top bit

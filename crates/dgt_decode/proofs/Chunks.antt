@@ -9,26 +9,33 @@ use Rattle.std.specs.Simd.Lanes.{chunk, mask_l, top, zip2}
 
 -- the mask of a comparison whose left side is a splat
 pub splat_mask : (test : ℕ → ℕ → Bool) (y n : ℕ) (lanes : List ℕ) → length lanes ≡ n → n ≤ 64
-    → mask_l (map (top 7) (zip2 (λ a b. cond (test a b) 255 0) (replicate n y) lanes)) % 2 ^ 64 ≡ mask_l (map (test y) lanes)
+    → mask_l (map (top 7) (zip2 (λ a b. cond (test a b) 255 0) (replicate n y) lanes)) % 2 ^ 64 ≡ mask_l
+    (map (test y) lanes)
 splat_mask test y n lanes long few =
-    ap (λ bits. mask_l bits % 2 ^ 64) (tops_compared w8 test (replicate n y) lanes ∙ zip2_splat_left test y n lanes long)
+    ap (λ bits. mask_l bits % 2 ^ 64)
+    (tops_compared w8 test (replicate n y) lanes ∙ zip2_splat_left test y n lanes long)
     ∙ mask_l-mod (map (test y) lanes) 64 (omega (arith, length-map lanes (test y)))
 
 -- the next n places from one on
 module _ (test : ℕ → Bool) (xs : List ℕ) (at n : ℕ) (room : at + n ≤ length xs) where
   -- the search among them, and then behind them
-  joined : position_or_len test (drop at xs) ≡ cond (eqb (position_or_len test (chunk at n xs)) (length (chunk at n xs))) (length (chunk at n xs) + position_or_len test (drop (at + n) xs)) (position_or_len test (chunk at n xs))
-  joined = ap (position_or_len test) (chunk-drop at n xs) ∙ prefix_len-append (λ x. not (test x)) (chunk at n xs) (drop (at + n) xs)
+  joined : position_or_len test
+      (drop at xs) ≡ cond (eqb (position_or_len test (chunk at n xs)) (length (chunk at n xs)))
+      (length (chunk at n xs) + position_or_len test (drop (at + n) xs)) (position_or_len test (chunk at n xs))
+  joined = ap (position_or_len test) (chunk-drop at n xs) ∙ prefix_len-append (λ x. not (test x)) (chunk at n xs)
+      (drop (at + n) xs)
 
   -- the first is among the next n
-  pub first_within : position_or_len test (chunk at n xs) < n → position_or_len test (drop at xs) ≡ position_or_len test (chunk at n xs)
+  pub first_within : position_or_len test (chunk at n xs) < n
+      → position_or_len test (drop at xs) ≡ position_or_len test (chunk at n xs)
   first_within short =
       let c = chunk at n xs in
       joined ∙ ap (λ b. cond b (length c + position_or_len test (drop (at + n) xs)) (position_or_len test c))
       (ne_eqb _ _ (λ (e : position_or_len test c ≡ length c). omega (arith, length-chunk at n xs room)))
 
   -- the first is past the next n
-  pub first_past : position_or_len test (chunk at n xs) ≡ n → position_or_len test (drop at xs) ≡ n + position_or_len test (drop (at + n) xs)
+  pub first_past : position_or_len test (chunk at n xs) ≡ n
+      → position_or_len test (drop at xs) ≡ n + position_or_len test (drop (at + n) xs)
   first_past whole =
       let c = chunk at n xs in
       joined ∙ ap (λ b. cond b (length c + position_or_len test (drop (at + n) xs)) (position_or_len test c))

@@ -14,7 +14,8 @@ segments_with p (segment ∷ []) = (segment ++ lead p) ∷ segments p
 segments_with p (segment ∷ next ∷ others) = segment ∷ segments_with p (next ∷ others)
 
 -- a byte of the lead stays in front
-lead_with-cons : (p : List ℕ) (b : ℕ) (front : List ℕ) (gs : List (List ℕ)) → lead_with p (b ∷ front) gs ≡ b ∷ lead_with p front gs
+lead_with-cons : (p : List ℕ) (b : ℕ) (front : List ℕ) (gs : List (List ℕ))
+    → lead_with p (b ∷ front) gs ≡ b ∷ lead_with p front gs
 lead_with-cons p b front [] = refl
 lead_with-cons p b front (g ∷ gs) = refl
 
@@ -23,12 +24,14 @@ pub lead-append : (s p : List ℕ) → lead (s ++ p) ≡ lead_with p (lead s) (s
 lead-append [] p = refl
 lead-append (b ∷ s) p = go (has_top_bit b) (lead-append s p)
   where
-    go : (t : Bool) → lead (s ++ p) ≡ lead_with p (lead s) (segments s) → cond t [] (b ∷ lead (s ++ p)) ≡ lead_with p (cond t [] (b ∷ lead s)) (cond t ((b ∷ lead s) ∷ segments s) (segments s))
+    go : (t : Bool) → lead (s ++ p) ≡ lead_with p (lead s) (segments s) → cond t [] (b ∷ lead (s ++ p)) ≡ lead_with p
+        (cond t [] (b ∷ lead s)) (cond t ((b ∷ lead s) ∷ segments s) (segments s))
     go true _ = refl
     go false before = ap (λ (x : List ℕ). b ∷ x) before ∙ sym (lead_with-cons p b (lead s) (segments s))
 
 -- the first segment may be the one that goes on
-segments_with-first : (p : List ℕ) (b : ℕ) (front : List ℕ) (gs : List (List ℕ)) → (b ∷ lead_with p front gs) ∷ segments_with p gs ≡ segments_with p ((b ∷ front) ∷ gs)
+segments_with-first : (p : List ℕ) (b : ℕ) (front : List ℕ) (gs : List (List ℕ))
+    → (b ∷ lead_with p front gs) ∷ segments_with p gs ≡ segments_with p ((b ∷ front) ∷ gs)
 segments_with-first p b front [] = refl
 segments_with-first p b front (g ∷ gs) = refl
 
@@ -37,6 +40,8 @@ pub segments-append : (s p : List ℕ) → segments (s ++ p) ≡ segments_with p
 segments-append [] p = refl
 segments-append (b ∷ s) p = go (has_top_bit b) (segments-append s p)
   where
-    go : (t : Bool) → segments (s ++ p) ≡ segments_with p (segments s) → cond t ((b ∷ lead (s ++ p)) ∷ segments (s ++ p)) (segments (s ++ p)) ≡ segments_with p (cond t ((b ∷ lead s) ∷ segments s) (segments s))
+    go : (t : Bool) → segments (s ++ p) ≡ segments_with p (segments s)
+        → cond t ((b ∷ lead (s ++ p)) ∷ segments (s ++ p)) (segments (s ++ p)) ≡ segments_with p
+        (cond t ((b ∷ lead s) ∷ segments s) (segments s))
     go true before = rw (lead-append s p, before) (segments_with-first p b (lead s) (segments s))
     go false before = before

@@ -25,13 +25,15 @@ lead_split bytes i seven =
     ∙ rw (lead-seven (take i bytes) seven, segments-seven (take i bytes) seven) refl
 
 -- the lead ends where the first byte with a set top bit stands
-pub lead_here : (bytes : List ℕ) (i : ℕ) → i < length bytes → 128 ≤ get_or bytes i 0 → IsSevenBit (take i bytes) → take i bytes ≡ lead bytes
+pub lead_here : (bytes : List ℕ) (i : ℕ) → i < length bytes → 128 ≤ get_or bytes i 0 → IsSevenBit (take i bytes)
+    → take i bytes ≡ lead bytes
 lead_here bytes i within top seven =
     let next : lead (drop i bytes) ≡ [] = rw (drop-cons bytes i 0 within, le-leb 128 (get_or bytes i 0) top) refl in
     sym (lead_split bytes i seven ∙ rw next (append-nil (take i bytes)))
 
 -- with no such byte it is the whole
-pub lead_all : (bytes : List ℕ) (i : ℕ) → i ≡ length bytes → IsSevenBit (take i bytes) → take (length bytes) bytes ≡ lead bytes
+pub lead_all : (bytes : List ℕ) (i : ℕ) → i ≡ length bytes → IsSevenBit (take i bytes)
+    → take (length bytes) bytes ≡ lead bytes
 lead_all bytes i end seven =
     let all : IsSevenBit (take (length bytes) bytes) = subst (λ (n : ℕ). IsSevenBit (take n bytes)) end seven in
     sym (lead_split bytes (length bytes) all ∙ rw (drop-length bytes) (append-nil (take (length bytes) bytes)))
@@ -40,7 +42,8 @@ lead_all bytes i end seven =
 pub lead_stops : (bytes : List ℕ) (i : ℕ) → take i bytes ≡ lead bytes → lead (drop i bytes) ≡ []
 lead_stops bytes i is =
     let seven : IsSevenBit (take i bytes) = subst (λ (x : List ℕ). IsSevenBit x) (sym is) (IsSevenBit-lead bytes) in
-    append_cancel_left (take i bytes) (lead (drop i bytes)) [] (sym (lead_split bytes i seven) ∙ sym is ∙ sym (append-nil (take i bytes)))
+    append_cancel_left (take i bytes) (lead (drop i bytes)) []
+    (sym (lead_split bytes i seven) ∙ sym is ∙ sym (append-nil (take i bytes)))
 
 -- the segments stand behind the lead
 segments_behind : (bytes : List ℕ) (i : ℕ) → take i bytes ≡ lead bytes → segments bytes ≡ segments (drop i bytes)
@@ -53,7 +56,8 @@ segments_behind bytes i is =
 -- ---- The verdict of a segment whose total is t
 
 -- a total below 3 is told at the third byte
-pub bad_here : (g : List ℕ) (t : ℕ) → t ≡ announced_total g → 3 ≤ length g → t < 3 → Some (at_place 3 BadLength) ≡ verdict g
+pub bad_here : (g : List ℕ) (t : ℕ) → t ≡ announced_total g → 3 ≤ length g → t < 3
+    → Some (at_place 3 BadLength) ≡ verdict g
 bad_here g t is long small = sym (verdict-bad g long (omega (arith, is)))
 
 -- a segment shorter than its total tells nothing
@@ -61,18 +65,29 @@ pub waits_here : (g : List ℕ) (t : ℕ) → t ≡ announced_total g → length
 waits_here g t is less = sym (verdict-waits g (omega (arith, is)))
 
 -- a whole message is told at its total
-pub whole_here : (g : List ℕ) (t : ℕ) (event : Event) → t ≡ announced_total g → 3 ≤ t → t ≤ length g → event ≡ message_event (take t g) → Some (at_place t event) ≡ verdict g
-whole_here g t event is large enough tells = rw (tells, is) (sym (verdict-whole g (omega (arith, is)) (omega (arith, is))))
+pub whole_here : (g : List ℕ) (t : ℕ) (event : Event) → t ≡ announced_total g → 3 ≤ t → t ≤ length g
+    → event ≡ message_event (take t g) → Some (at_place t event) ≡ verdict g
+whole_here g t event is large enough tells =
+    rw (tells, is) (sym (verdict-whole g (omega (arith, is)) (omega (arith, is))))
 
 -- ---- Strays
 
 -- one more Stray
 pub strays_more : (before i : ℕ) (bytes : List ℕ) → i < length bytes
-    → events_behind before (strays (take i bytes)) ++ at_place (before + i + 1) (Stray (get_or bytes i 0)) ∷ [] ≡ events_behind before (strays (take (i + 1) bytes))
+    → events_behind before (strays (take i bytes)) ++ at_place (before + i + 1) (Stray (get_or bytes i 0)) ∷ []
+    ≡ events_behind before (strays (take (i + 1) bytes))
 strays_more before i bytes within =
     let count : length (take i bytes) ≡ i = omega (arith, length-take i bytes) in
     let place : before + (i + 1) ≡ before + i + 1 = omega arith in
-    sym (rw (take_more bytes i 0 within, strays-append (take i bytes) (get_or bytes i 0 ∷ []), count, events_behind-append before (strays (take i bytes)) (at_place (i + 1) (Stray (get_or bytes i 0)) ∷ []), place) refl)
+    sym (rw (
+      take_more bytes i 0 within,
+      strays-append (take i bytes)
+          (get_or bytes i 0 ∷ []),
+      count,
+      events_behind-append before (strays (take i bytes))
+          (at_place (i + 1) (Stray (get_or bytes i 0)) ∷ []),
+      place,
+    ) refl)
 
 -- one more Stray is told
 pub told_stray : (old told new : List (ℕ × CodeEvent)) (before i : ℕ) (bytes : List ℕ) → i < length bytes
@@ -96,16 +111,29 @@ cut_after-nothing true = refl
 cut_after-nothing false = refl
 
 -- the verdict and the strays behind it are told
-pub told_verdict : (old mid new : List (ℕ × CodeEvent)) (before place : ℕ) (event : CodeEvent) (g rest : List ℕ) (is_last : Bool)
+pub told_verdict : (old mid new : List (ℕ × CodeEvent)) (before place : ℕ) (event : CodeEvent) (g rest : List ℕ)
+    (is_last : Bool)
     → Some (at_place place (event_content event)) ≡ verdict g
     → mid ≡ old ++ (before + place, event) ∷ []
     → rest ≡ drop place g
     → map placed_content new ≡ map placed_content mid ++ events_behind (before + place) (strays rest)
-    → map placed_content new ≡ map placed_content old ++ events_behind before (segment_events (verdict g) g ++ events_behind (length g) (cut_after is_last (unfinished_part (verdict g) g)))
+    → map placed_content new ≡ map placed_content old ++ events_behind before
+    (segment_events (verdict g) g ++ events_behind (length g) (cut_after is_last (unfinished_part (verdict g) g)))
 told_verdict old mid new before place event g rest is_last is pushed same told =
     let one : List (ℕ × CodeEvent) = (before + place, event) ∷ [] in
-    rw (told, pushed, map-append placed_content old one, same, ← is, cut_after-nothing is_last, append-nil (events_behind place (strays (drop place g))), events_behind-events_behind before place (strays (drop place g)))
-    (append_assoc (map placed_content old) (map placed_content one) (events_behind (before + place) (strays (drop place g))))
+    rw (
+      told,
+      pushed,
+      map-append placed_content old one,
+      same,
+      ← is,
+      cut_after-nothing is_last,
+      append-nil
+          (events_behind place (strays (drop place g))),
+      events_behind-events_behind before place (strays (drop place g)),
+    )
+    (append_assoc (map placed_content old) (map placed_content one)
+    (events_behind (before + place) (strays (drop place g))))
 
 -- ---- The whole list
 
@@ -124,7 +152,8 @@ told_lead bytes start told within is so_far =
     record {
       within = within;
       no_lead = lead_stops bytes start is;
-      so_far = rw (so_far, events_behind-zero (strays (take start bytes)), is, count, ← segments_behind bytes start is) refl;
+      so_far = rw (so_far, events_behind-zero (strays (take start bytes)), is, count, ← segments_behind bytes start is)
+          refl;
     }
 
 -- bytes without a lead begin with a set top bit
@@ -136,7 +165,8 @@ top_first b rest = go (has_top_bit b) refl
     go false e none = absurd cc
 
 -- the byte at a place, and the bytes behind it
-from_here : (bytes : List ℕ) (start : ℕ) → start < length bytes → drop start bytes ≡ get_or bytes start 0 ∷ drop (start + 1) bytes
+from_here : (bytes : List ℕ) (start : ℕ) → start < length bytes → drop start bytes ≡ get_or bytes start 0 ∷ drop
+    (start + 1) bytes
 from_here bytes start more = rw (add-one, drop-cons bytes start 0 more) refl
 
 -- the Cut is made where another segment follows
@@ -146,7 +176,8 @@ cut_here bytes end u within none = elim (cases_lt end (length bytes)) [
   | inl more ↦
       let at = from_here bytes end more in
       let top = top_first (get_or bytes end 0) (drop (end + 1) bytes) (rw at at none) in
-      let not_last : nat_eq end (length bytes) ≡ false = ne_eqb end (length bytes) (λ (same : end ≡ length bytes). absurd (omega (arith, same))) in
+      let not_last : nat_eq end (length bytes) ≡ false =
+      ne_eqb end (length bytes) (λ (same : end ≡ length bytes). absurd (omega (arith, same))) in
       rw (at, le-leb 128 (get_or bytes end 0) top, not_last) refl
   | inr past ↦
       let all : end ≡ length bytes = omega arith in
@@ -162,7 +193,8 @@ pub record IsNext (bytes : List ℕ) (start count : ℕ) (segment : List ℕ) : 
   pub stops : take count (drop (start + 1) bytes) ≡ lead (drop (start + 1) bytes)
 
 -- the next segment ends where the lead of what stands behind its first byte does
-pub next_segment : (bytes : List ℕ) (start count : ℕ) (told : List Placed) → HasTold bytes start told → start < length bytes
+pub next_segment : (bytes : List ℕ) (start count : ℕ) (told : List Placed) → HasTold bytes start told
+    → start < length bytes
     → take count (drop (start + 1) bytes) ≡ lead (drop (start + 1) bytes)
     → count ≤ length (drop (start + 1) bytes)
     → IsNext bytes start count (take (start + 1 + count - start) (drop start bytes))
@@ -181,35 +213,44 @@ next_segment bytes start count told h more is within =
     }
 
 -- it is a segment
-pub IsSegment-next : (bytes : List ℕ) (start count : ℕ) (segment : List ℕ) → IsNext bytes start count segment → IsSegment segment
+pub IsSegment-next : (bytes : List ℕ) (start count : ℕ) (segment : List ℕ) → IsNext bytes start count segment
+    → IsSegment segment
 IsSegment-next bytes start count segment n = rw n.is (n.top, IsSevenBit-lead (drop (start + 1) bytes))
 
 -- places of the next events are counted from the start of the whole
 regrouped : (told a c e : List Placed) (start n end : ℕ) → start + n ≡ end
-    → (told ++ events_behind start (a ++ events_behind n c)) ++ events_behind end e ≡ told ++ events_behind start (a ++ events_behind n (c ++ e))
+    → (told ++ events_behind start (a ++ events_behind n c)) ++ events_behind end e ≡ told ++ events_behind start
+    (a ++ events_behind n (c ++ e))
 regrouped told a c e start n end same =
     rw (← same) (simp (events_behind-append, events_behind-events_behind, append_assoc))
 
 -- the events of the next segment are told
-pub told_segment : (bytes : List ℕ) (start count end : ℕ) (told new : List Placed) (segment : List ℕ) → HasTold bytes start told → start < length bytes
+pub told_segment : (bytes : List ℕ) (start count end : ℕ) (told new : List Placed) (segment : List ℕ)
+    → HasTold bytes start told → start < length bytes
     → IsNext bytes start count segment → end ≡ start + 1 + count → end ≤ length bytes
-    → new ≡ told ++ events_behind start (segment_events (verdict segment) segment ++ events_behind (length segment) (cut_after (nat_eq end (length bytes)) (unfinished_part (verdict segment) segment)))
+    → new ≡ told ++ events_behind start
+    (segment_events (verdict segment) segment ++ events_behind (length segment)
+    (cut_after (nat_eq end (length bytes)) (unfinished_part (verdict segment) segment)))
     → HasTold bytes end new
 told_segment bytes start count end told new segment h more n e within pushed =
     let b = get_or bytes start 0 in
     let rest = drop (start + 1) bytes in
     let g = b ∷ lead rest in
     let u = unfinished_part (verdict g) g in
-    let behind : drop count rest ≡ drop end bytes = drop-drop count (start + 1) bytes ∙ ap (λ (k : ℕ). drop k bytes) (sym e) in
+    let behind : drop count rest ≡ drop end bytes = drop-drop count (start + 1) bytes ∙ ap (λ (k : ℕ). drop k bytes)
+    (sym e) in
     let none : lead (drop end bytes) ≡ [] = rw behind at (lead_stops rest count n.stops) in
-    let others : segments rest ≡ segments (drop end bytes) = segments_behind rest count n.stops ∙ ap (λ (x : List ℕ). segments x) behind in
-    let here : segments (drop start bytes) ≡ g ∷ segments (drop end bytes) = rw (from_here bytes start more, le-leb 128 b n.top, others) refl in
+    let others : segments rest ≡ segments (drop end bytes) =
+    segments_behind rest count n.stops ∙ ap (λ (x : List ℕ). segments x) behind in
+    let here : segments (drop start bytes) ≡ g ∷ segments (drop end bytes) =
+    rw (from_here bytes start more, le-leb 128 b n.top, others) refl in
     let place : start + length g ≡ end = omega (arith, n.size, ap length n.is, e) in
     record {
       within = within;
       no_lead = none;
       so_far =
           rw (pushed, n.is, ← cut_here bytes end u within none)
-          (regrouped told (segment_events (verdict g) g) (cut_before (segments (drop end bytes)) u) (segments_events (segments (drop end bytes))) start (length g) end place
+          (regrouped told (segment_events (verdict g) g) (cut_before (segments (drop end bytes)) u)
+          (segments_events (segments (drop end bytes))) start (length g) end place
           ∙ sym (ap (λ (gs : List (List ℕ)). told ++ events_behind start (segments_events gs)) here) ∙ h.so_far);
     }

@@ -24,7 +24,8 @@ pub are_segments : (s : List ℕ) → AllByRecursion IsSegment (segments s)
 are_segments [] = tt
 are_segments (b ∷ s) = go (has_top_bit b) refl (are_segments s)
   where
-    go : (t : Bool) → has_top_bit b ≡ t → AllByRecursion IsSegment (segments s) → AllByRecursion IsSegment (cond t ((b ∷ lead s) ∷ segments s) (segments s))
+    go : (t : Bool) → has_top_bit b ≡ t → AllByRecursion IsSegment (segments s)
+        → AllByRecursion IsSegment (cond t ((b ∷ lead s) ∷ segments s) (segments s))
     go true e h = ((leb-true 128 b e, IsSevenBit-lead s), h)
     go false e h = h
 
@@ -48,12 +49,15 @@ segments-parts (g ∷ parts) h =
     rw (segments-append g (concat parts), alone.one, lead-parts parts h.1, append-nil g, segments-parts parts h.1) refl
 
 -- a seven-bit front is the lead
-lead-divided : (front : List ℕ) (parts : List (List ℕ)) → IsSevenBit front → AllByRecursion IsSegment parts → lead (front ++ concat parts) ≡ front
+lead-divided : (front : List ℕ) (parts : List (List ℕ)) → IsSevenBit front → AllByRecursion IsSegment parts
+    → lead (front ++ concat parts) ≡ front
 lead-divided front parts seven h =
-    rw (lead-append front (concat parts), lead-seven front seven, segments-seven front seven, lead-parts parts h) (append-nil front)
+    rw (lead-append front (concat parts), lead-seven front seven, segments-seven front seven, lead-parts parts h)
+    (append-nil front)
 
 -- and the segments behind it are the segments
-segments-divided : (front : List ℕ) (parts : List (List ℕ)) → IsSevenBit front → AllByRecursion IsSegment parts → segments (front ++ concat parts) ≡ parts
+segments-divided : (front : List ℕ) (parts : List (List ℕ)) → IsSevenBit front → AllByRecursion IsSegment parts
+    → segments (front ++ concat parts) ≡ parts
 segments-divided front parts seven h =
     rw (segments-append front (concat parts), segments-seven front seven) (segments-parts parts h)
 
@@ -62,7 +66,8 @@ pub cut_divides : (s : List ℕ) → CutsInto (lead s) (segments s) s
 cut_divides s = record { front_is = IsSevenBit-lead s; parts_are = are_segments s; in_a_row = sym (whole s) }
 
 -- and the only one
-pub one_cut : (s front : List ℕ) (parts : List (List ℕ)) → CutsInto front parts s → (front ≡ lead s) × (parts ≡ segments s)
+pub one_cut : (s front : List ℕ) (parts : List (List ℕ)) → CutsInto front parts s → (front ≡ lead s)
+    × (parts ≡ segments s)
 one_cut s front parts d = (
   sym (lead-divided front parts d.front_is d.parts_are) ∙ ap (λ (x : List ℕ). lead x) d.in_a_row,
   sym (segments-divided front parts d.front_is d.parts_are) ∙ ap (λ (x : List ℕ). segments x) d.in_a_row,
@@ -91,14 +96,16 @@ nil_by None g e = refl
 nil_by (Some x) g e = absurd cc
 
 -- segments without an event are one unfinished segment at most
-quiet_parts : (parts : List (List ℕ)) → AllByRecursion IsSegment parts → segments_events parts ≡ [] → open_segment parts ≡ concat parts
+quiet_parts : (parts : List (List ℕ)) → AllByRecursion IsSegment parts → segments_events parts ≡ []
+    → open_segment parts ≡ concat parts
 quiet_parts [] h e = refl
 quiet_parts (g ∷ []) h e =
     let none : verdict g ≡ None = nil_by (verdict g) g (nil_left (segment_events (verdict g) g) _ e) in
     rw none (sym (append-nil g))
 quiet_parts ([] ∷ k ∷ parts) h e = absurd h.0
 quiet_parts ((b ∷ g) ∷ k ∷ parts) h e =
-    let none : verdict (b ∷ g) ≡ None = nil_by (verdict (b ∷ g)) (b ∷ g) (nil_left (segment_events (verdict (b ∷ g)) (b ∷ g)) _ e) in
+    let none : verdict (b ∷ g) ≡ None =
+    nil_by (verdict (b ∷ g)) (b ∷ g) (nil_left (segment_events (verdict (b ∷ g)) (b ∷ g)) _ e) in
     let behind = nil_right (segment_events (verdict (b ∷ g)) (b ∷ g)) _ e in
     let cut : cut_of (unfinished_part (verdict (b ∷ g)) (b ∷ g)) ≡ [] = nil_left _ _ (nil_raised _ _ behind) in
     absurd (let some = rw none at cut in cc)
@@ -108,6 +115,7 @@ pub quiet_held : (s : List ℕ) → events s ≡ [] → open_message s ≡ s
 unfolding events open_message
 quiet_held s e =
     let no_lead : lead s ≡ [] = nil_strays (lead s) (nil_left (strays (lead s)) _ e) in
-    let no_events : segments_events (segments s) ≡ [] = nil_raised (length (lead s)) (segments_events (segments s)) (nil_right (strays (lead s)) _ e) in
+    let no_events : segments_events (segments s) ≡ [] = nil_raised (length (lead s)) (segments_events (segments s))
+    (nil_right (strays (lead s)) _ e) in
     let all : concat (segments s) ≡ s = sym (whole s ∙ rw no_lead refl) in
     quiet_parts (segments s) (are_segments s) no_events ∙ all

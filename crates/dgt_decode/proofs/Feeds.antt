@@ -23,7 +23,8 @@ take-take-drop k n piece h =
     ap (λ (m : ℕ). take m piece) (sym whole) ∙ take-add k (n - k) piece
 
 -- and at each shorter front
-pub quiet-shorter : (held piece : List ℕ) (k n : ℕ) → k ≤ n → events (held ++ take n piece) ≡ [] → events (held ++ take k piece) ≡ []
+pub quiet-shorter : (held piece : List ℕ) (k n : ℕ) → k ≤ n → events (held ++ take n piece) ≡ []
+    → events (held ++ take k piece) ≡ []
 quiet-shorter held piece k n h e =
     quiet-front (held ++ take k piece) (take (n - k) (drop k piece))
     (rw (append_assoc held (take k piece) (take (n - k) (drop k piece)), ← take-take-drop k n piece h) e)
@@ -36,13 +37,15 @@ quiet-piece held piece k e =
 
 -- The byte behind bytes without an event makes one.
 pub FirstEvent-some : (held piece : List ℕ) (before used : ℕ) (event : Event) → used ≡ before + 1 → used ≤ length piece
-    → events (held ++ take before piece) ≡ [] → events (held ++ take used piece) ≡ at_place (length held + used) event ∷ []
+    → events (held ++ take before piece) ≡ [] → events (held ++ take used piece) ≡ at_place
+    (length held + used) event ∷ []
     → FirstEvent held piece used (Some event)
 FirstEvent-some held piece before used event next within quiet now =
     (within, now, λ k h. let below : k ≤ before = omega arith in quiet-shorter held piece k before below quiet)
 
 -- A run of which only the last byte may make an event has this first event, if any.
-pub first_of_run : (held run : List ℕ) (event : Option Event) → 0 < length run → events (held ++ take (length run - 1) run) ≡ []
+pub first_of_run : (held run : List ℕ) (event : Option Event) → 0 < length run
+    → events (held ++ take (length run - 1) run) ≡ []
     → events (held ++ run) ≡ at_place_if_any (length held + length run) event → FirstEvent held run (length run) event
 first_of_run held run None some quiet told = (refl, told)
 first_of_run held run (Some event) some quiet told =
@@ -50,17 +53,20 @@ first_of_run held run (Some event) some quiet told =
     (rw (take-length run) told)
 
 -- one event at one place is one event
-same_event : (es : List Placed) (x y : Event) (m n : ℕ) → es ≡ at_place m x ∷ [] → es ≡ at_place n y ∷ [] → (let o : Option Event = Some x in o) ≡ Some y
+same_event : (es : List Placed) (x y : Event) (m n : ℕ) → es ≡ at_place m x ∷ [] → es ≡ at_place n y ∷ []
+    → (let o : Option Event = Some x in o) ≡ Some y
 same_event es x y m n e f = let both : at_place m x ≡ at_place n y = cc in ap (λ (z : Placed). Some z.event) both
 
 -- a piece has one answer
-pub one_first_event : (held piece : List ℕ) (j k : ℕ) (x y : Option Event) → FirstEvent held piece j x → FirstEvent held piece k y → (j ≡ k) × (x ≡ y)
+pub one_first_event : (held piece : List ℕ) (j k : ℕ) (x y : Option Event) → FirstEvent held piece j x
+    → FirstEvent held piece k y → (j ≡ k) × (x ≡ y)
 one_first_event held piece j k None None a b = (a.0 ∙ sym b.0, refl)
 one_first_event held piece j k None (Some y) a b = absurd (let q = quiet-piece held piece k a.1 in let n = b.1 in cc)
 one_first_event held piece j k (Some x) None a b = absurd (let q = quiet-piece held piece j b.1 in let n = a.1 in cc)
 one_first_event held piece j k (Some x) (Some y) a b =
     elim (cases_order j k) [
-      | inl same ↦ (same, same_event (events (held ++ take j piece)) x y (length held + j) (length held + k) a.1 (rw same b.1))
+      | inl same ↦
+          (same, same_event (events (held ++ take j piece)) x y (length held + j) (length held + k) a.1 (rw same b.1))
       | inr apart ↦ absurd (elim apart [
         | inl lt ↦ (let q = b.2 j lt in let n = a.1 in cc)
         | inr gt ↦ (let q = a.2 k gt in let n = b.1 in cc)

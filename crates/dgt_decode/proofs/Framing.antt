@@ -21,14 +21,16 @@ use Rattle.dgt_decode.proofs.Bytes.{IsAlone-parts, nothing_held, quiet_open, hel
 -- ---- What is open
 
 -- between messages nothing is open
-pub closed : (state : FramerState) (kept : List ℕ) → IsKept state kept → (state ≡ Hunting) ⊎ (state ≡ Whole) → open_message kept ≡ []
+pub closed : (state : FramerState) (kept : List ℕ) → IsKept state kept → (state ≡ Hunting) ⊎ (state ≡ Whole)
+    → open_message kept ≡ []
 closed state kept is here = elim here [
   | inl e ↦ (let none : IsKept Hunting kept = subst (λ s. IsKept s kept) e is in rw none nothing_held)
   | inr e ↦ whole_open kept (subst (λ s. IsKept s kept) e is)
 ]
 
 -- within a message all that is kept is open
-pub opened : (state : FramerState) (kept : List ℕ) → IsKept state kept → (state ≡ Head) ⊎ ((left : ℕ) × (state ≡ Body left)) → open_message kept ≡ kept
+pub opened : (state : FramerState) (kept : List ℕ) → IsKept state kept → (state ≡ Head)
+    ⊎ ((left : ℕ) × (state ≡ Body left)) → open_message kept ≡ kept
 opened state kept is here = elim here [
   | inl e ↦ (let head : IsKept Head kept = subst (λ s. IsKept s kept) e is in head.0)
   | inr (left, e) ↦ (let body : IsKept (Body left) kept = subst (λ s. IsKept s kept) e is in body.0)
@@ -41,22 +43,26 @@ pub kept-first : (b : ℕ) → 128 ≤ b → IsKept Head (b ∷ [])
 kept-first b top = ((first-begins b top).leaves, omega arith, omega arith)
 
 -- it tells nothing where nothing was open
-pub frames-first : (kept : List ℕ) (b : ℕ) → length (open_message kept) ≡ 0 → 128 ≤ b → Frames kept (b ∷ []) (b ∷ []) None
+pub frames-first : (kept : List ℕ) (b : ℕ) → length (open_message kept) ≡ 0 → 128 ≤ b
+    → Frames kept (b ∷ []) (b ∷ []) None
 frames-first kept b none top =
     let nothing : open_message kept ≡ [] = nil_from_length (open_message kept) none in
     record {
-      first = first_of_run (open_message kept) (b ∷ []) None (omega arith) (quiet_open kept) (rw nothing (first-begins b top).told);
+      first = first_of_run (open_message kept) (b ∷ []) None (omega arith) (quiet_open kept)
+          (rw nothing (first-begins b top).told);
       held = rw nothing refl;
       whole = λ e. absurd cc;
       came = λ e. absurd cc;
     }
 
 -- it tells a Cut where a message was open
-pub frames-cut : (kept : List ℕ) (b : ℕ) → 0 < length (open_message kept) → 128 ≤ b → Frames kept (b ∷ []) (b ∷ []) (Some (found.Cut (length (open_message kept))))
+pub frames-cut : (kept : List ℕ) (b : ℕ) → 0 < length (open_message kept) → 128 ≤ b
+    → Frames kept (b ∷ []) (b ∷ []) (Some (found.Cut (length (open_message kept))))
 frames-cut kept b some top =
     let g = next-begins (open_message kept) b (IsHeld-open kept) some top in
     record {
-      first = first_of_run (open_message kept) (b ∷ []) (Some (Cut (length (open_message kept)))) (omega arith) (quiet_open kept) g.told;
+      first = first_of_run (open_message kept) (b ∷ []) (Some (Cut (length (open_message kept)))) (omega arith)
+          (quiet_open kept) g.told;
       held = (first-begins b top).leaves ∙ sym g.leaves;
       whole = λ e. absurd cc;
       came = λ e. absurd cc;
@@ -65,11 +71,13 @@ frames-cut kept b some top =
 -- ---- A byte outside a message
 
 -- a seven-bit byte is stray where nothing was open
-pub frames-stray : (kept : List ℕ) (b : ℕ) → open_message kept ≡ [] → b < 128 → Frames kept (b ∷ []) [] (Some (found.Stray b))
+pub frames-stray : (kept : List ℕ) (b : ℕ) → open_message kept ≡ [] → b < 128
+    → Frames kept (b ∷ []) [] (Some (found.Stray b))
 frames-stray kept b none seven =
     let g = first-stray b seven in
     record {
-      first = first_of_run (open_message kept) (b ∷ []) (Some (Stray b)) (omega arith) (quiet_open kept) (rw none g.told);
+      first = first_of_run (open_message kept) (b ∷ []) (Some (Stray b)) (omega arith) (quiet_open kept)
+          (rw none g.told);
       held = rw none (nothing_held ∙ sym g.leaves);
       whole = λ e. absurd cc;
       came = λ e. absurd cc;
@@ -93,14 +101,16 @@ frames-short kept b h one seven =
     )
 
 -- the third byte ends the total
-pub head_total : (kept : List ℕ) (b : ℕ) → length kept ≡ 2 → announced_total (kept ++ b ∷ []) ≡ 128 * slice_index kept 1 + b
+pub head_total : (kept : List ℕ) (b : ℕ) → length kept ≡ 2
+    → announced_total (kept ++ b ∷ []) ≡ 128 * slice_index kept 1 + b
 head_total (x ∷ y ∷ []) b two = refl
 head_total (x ∷ y ∷ z ∷ kept) b two = absurd (omega arith)
 head_total (x ∷ []) b two = absurd (omega arith)
 head_total [] b two = absurd (omega arith)
 
 -- a total below 3 is told as such
-pub frames-bad : (kept : List ℕ) (b : ℕ) → IsHeld kept → length kept ≡ 2 → b < 128 → 128 * slice_index kept 1 + b < 3 → Frames kept (b ∷ []) [] (Some found.BadLength)
+pub frames-bad : (kept : List ℕ) (b : ℕ) → IsHeld kept → length kept ≡ 2 → b < 128 → 128 * slice_index kept 1 + b < 3
+    → Frames kept (b ∷ []) [] (Some found.BadLength)
 frames-bad kept b h two seven small =
     let long : length (kept ++ b ∷ []) ≡ 3 = omega (arith, length-append kept (b ∷ [])) in
     let g = next-bad kept (b ∷ []) h (omega arith) (seven, tt) long (omega (arith, head_total kept b two)) in
@@ -126,11 +136,13 @@ later_seven (b ∷ bytes) alone = (IsAlone-parts b bytes alone).1
 
 -- what seven-bit bytes of a message make known
 pub record Tells (kept run : List ℕ) (what : Option Found) : Type 0 where
-  pub told : events (kept ++ run) ≡ at_place_if_any (length kept + length run) (option_map (event_found_in (kept ++ run)) what)
+  pub told : events (kept ++ run) ≡ at_place_if_any (length kept + length run)
+      (option_map (event_found_in (kept ++ run)) what)
   pub message : what ≡ Some found.Message → IsWholeMessage (kept ++ run)
 
 -- they end it where none is left, and tell nothing otherwise
-pub tells-after : (kept run : List ℕ) (left : ℕ) → IsHeld kept → 2 ≤ length kept → 0 < length run → IsSevenBit run → announced_total (kept ++ run) ≡ length (kept ++ run) + left
+pub tells-after : (kept run : List ℕ) (left : ℕ) → IsHeld kept → 2 ≤ length kept → 0 < length run → IsSevenBit run
+    → announced_total (kept ++ run) ≡ length (kept ++ run) + left
     → Tells kept run (after left).1 × IsKept (after left).0 (kept ++ run)
 tells-after kept run zero h two more seven all =
     let some : 0 < length kept = omega arith in
@@ -139,7 +151,14 @@ tells-after kept run zero h two more seven all =
     let same : announced_total (kept ++ run) ≡ length (kept ++ run) = omega (arith, all) in
     let g = next-whole kept run h some seven long same in
     let alone = IsAlone-more kept run (alone_held kept h some).0 seven in
-    let whole : IsWholeMessage (kept ++ run) = record { first = held_begins_more kept run h some; later = later_seven (kept ++ run) alone; long = long; whole = same } in (
+    let whole :
+    IsWholeMessage
+    (kept ++ run) = record {
+      first = held_begins_more kept run h some;
+      later = later_seven (kept ++ run) alone;
+      long = long;
+      whole = same;
+    } in (
       record {
         told = g.told ∙ ap (λ (n : ℕ). at_place n (message_event (kept ++ run)) ∷ []) count;
         message = λ e. whole;
@@ -159,7 +178,8 @@ tells-after kept run (suc left) h two more seven all =
     )
 
 -- so does one byte
-pub frames-after : (kept : List ℕ) (b left : ℕ) → IsHeld kept → 2 ≤ length kept → b < 128 → announced_total (kept ++ b ∷ []) ≡ length (kept ++ b ∷ []) + left
+pub frames-after : (kept : List ℕ) (b left : ℕ) → IsHeld kept → 2 ≤ length kept → b < 128
+    → announced_total (kept ++ b ∷ []) ≡ length (kept ++ b ∷ []) + left
     → Frames kept (b ∷ []) (kept ++ b ∷ []) (after left).1 × IsKept (after left).0 (kept ++ b ∷ [])
 frames-after kept b left h two seven all =
     let t = tells-after kept (b ∷ []) left h two (omega arith) (seven, tt) all in (
@@ -177,15 +197,18 @@ pub frames-body : (kept : List ℕ) (b left : ℕ) → IsKept (Body left) kept �
     → Frames kept (b ∷ []) (kept ++ b ∷ []) (after (left - 1)).1 × IsKept (after (left - 1)).0 (kept ++ b ∷ [])
 frames-body kept b left is seven =
     let count : length (kept ++ b ∷ []) ≡ length kept + 1 = length-append kept (b ∷ []) in
-    frames-after kept b (left - 1) is.0 (omega (arith, is.1)) seven (omega (arith, announced_total-append kept (b ∷ []) is.1, is.2, is.3))
+    frames-after kept b (left - 1) is.0 (omega (arith, is.1)) seven
+    (omega (arith, announced_total-append kept (b ∷ []) is.1, is.2, is.3))
 
 -- and so does the third byte, with no body to come
-pub frames-head : (kept : List ℕ) (b total : ℕ) → IsHeld kept → length kept ≡ 2 → b < 128 → total ≡ 128 * slice_index kept 1 + b → 3 ≤ total
+pub frames-head : (kept : List ℕ) (b total : ℕ) → IsHeld kept → length kept ≡ 2 → b < 128
+    → total ≡ 128 * slice_index kept 1 + b → 3 ≤ total
     → Frames kept (b ∷ []) (kept ++ b ∷ []) (after (total - 3)).1 × IsKept (after (total - 3)).0 (kept ++ b ∷ [])
 frames-head kept b total h two seven is large =
     let count : length (kept ++ b ∷ []) ≡ length kept + 1 = length-append kept (b ∷ []) in
     frames-after kept b (total - 3) h (omega arith) seven (omega (arith, head_total kept b two, is))
 
 -- a message that isn't whole leaves room
-pub kept_room : (state : FramerState) (kept : List ℕ) → IsKept state kept → (state ≡ Head) ⊎ ((left : ℕ) × (state ≡ Body left)) → length kept < 16383
+pub kept_room : (state : FramerState) (kept : List ℕ) → IsKept state kept → (state ≡ Head)
+    ⊎ ((left : ℕ) × (state ≡ Body left)) → length kept < 16383
 kept_room state kept is here = held_room kept (opened state kept is here)

@@ -15,17 +15,22 @@ use Rattle.dgt_decode.proofs.Feeds.{FirstEvent-some, first_of_run}
 use Rattle.dgt_decode.proofs.Division.{quiet_held}
 
 -- an event behind bytes stands at the sum of the places
-pub events_behind-at_place_if_any : (n m k : ℕ) (event : Option Event) → n + m ≡ k → events_behind n (at_place_if_any m event) ≡ at_place_if_any k event
+pub events_behind-at_place_if_any : (n m k : ℕ) (event : Option Event) → n + m ≡ k
+    → events_behind n (at_place_if_any m event) ≡ at_place_if_any k event
 events_behind-at_place_if_any n m k None e = refl
 events_behind-at_place_if_any n m k (Some event) e = ap (λ (p : ℕ). at_place p event ∷ []) e
 
 -- The event of p behind s, which has none, is that of p behind what s leaves open.
 pub events-more : (s p : List ℕ) (n : ℕ) (event : Option Event) → events s ≡ []
-    → events (open_message s ++ p) ≡ at_place_if_any (length (open_message s) + n) event → events (s ++ p) ≡ at_place_if_any (length s + n) event
+    → events (open_message s ++ p) ≡ at_place_if_any (length (open_message s) + n) event
+    → events (s ++ p) ≡ at_place_if_any (length s + n) event
 events-more s p n event quiet now =
-    let place : length s - length (open_message s) + (length (open_message s) + n) ≡ length s + n = omega (arith, length-open s) in
+    let place : length s - length (open_message s) + (length (open_message s) + n) ≡ length s + n =
+    omega (arith, length-open s) in
     events-append s p
-    ∙ rw (quiet, now) (events_behind-at_place_if_any (length s - length (open_message s)) (length (open_message s) + n) (length s + n) event place)
+    ∙ rw (quiet, now)
+    (events_behind-at_place_if_any (length s - length (open_message s)) (length (open_message s) + n)
+    (length s + n) event place)
 
 -- Such a reader has taken i bytes of the piece without an event, and holds this.
 pub record HasTaken (held piece : List ℕ) (i : ℕ) (now : List ℕ) : Type 0 where
@@ -53,8 +58,10 @@ run_holds held piece i j now run r t =
     rw (t.holds, r, ← append_assoc held (take i piece) run) (sym (open-append (held ++ take i piece) run))
 
 -- a run tells what the bytes to its end tell
-pub run_told : (held piece : List ℕ) (i j n : ℕ) (now run : List ℕ) (event : Option Event) → IsRun piece i run j → HasTaken held piece i now
-    → events (now ++ run) ≡ at_place_if_any (length now + n) event → events (held ++ take j piece) ≡ at_place_if_any (length (held ++ take i piece) + n) event
+pub run_told : (held piece : List ℕ) (i j n : ℕ) (now run : List ℕ) (event : Option Event) → IsRun piece i run j
+    → HasTaken held piece i now
+    → events (now ++ run) ≡ at_place_if_any (length now + n) event → events (held ++ take j piece) ≡ at_place_if_any
+    (length (held ++ take i piece) + n) event
 run_told held piece i j n now run event r t told =
     rw (r, ← append_assoc held (take i piece) run)
     (events-more (held ++ take i piece) run n event t.quiet (rw (← t.holds) told))
@@ -69,14 +76,16 @@ run_quiet held piece i j now run r t told =
     }
 
 -- what is held and a run are what was held and the bytes to its end
-pub run_came : (held piece : List ℕ) (i j : ℕ) (now run : List ℕ) → IsRun piece i run j → HasTaken held piece i now → now ++ run ≡ held ++ take j piece
+pub run_came : (held piece : List ℕ) (i j : ℕ) (now run : List ℕ) → IsRun piece i run j → HasTaken held piece i now
+    → now ++ run ≡ held ++ take j piece
 run_came held piece i j now run r t =
     rw (t.holds, quiet_held (held ++ take i piece) t.quiet, r) (append_assoc held (take i piece) run)
 
 -- ---- A step of a loop
 
 -- one byte is a step
-pub one_byte : (kept piece : List ℕ) (i : ℕ) (new : List ℕ) (what : Option Found) → i < length piece → Frames kept (get_or piece i 0 ∷ []) new what
+pub one_byte : (kept piece : List ℕ) (i : ℕ) (new : List ℕ) (what : Option Found) → i < length piece
+    → Frames kept (get_or piece i 0 ∷ []) new what
     → FramesFront kept (drop i piece) 1 new what
 one_byte kept piece i new what within byte =
     let front : take 1 (drop i piece) ≡ get_or piece i 0 ∷ [] = rw (drop-cons piece i 0 within) refl in
@@ -87,7 +96,8 @@ one_byte kept piece i new what within byte =
     }
 
 -- the first bytes of a front are those of the whole
-pub front_of_front : (kept rest : List ℕ) (n used : ℕ) (new : List ℕ) (what : Option Found) → FramesFront kept (take n rest) used new what → FramesFront kept rest used new what
+pub front_of_front : (kept rest : List ℕ) (n used : ℕ) (new : List ℕ) (what : Option Found)
+    → FramesFront kept (take n rest) used new what → FramesFront kept rest used new what
 front_of_front kept rest n used new what f =
     let up_to = length-take n rest in
     let same : take used (take n rest) ≡ take used rest = take-take used n rest (omega (arith, f.within, up_to)) in
@@ -98,7 +108,9 @@ front_of_front kept rest n used new what f =
     }
 
 -- A framer that kept these bytes has taken the first ones of a piece without an event, and takes some more.
-module _ (kept piece : List ℕ) (at used : ℕ) (now new : List ℕ) (what : Option Found) (taken : HasTaken (open_message kept) piece at (open_message now)) (step : FramesFront now (drop at piece) used new what) where
+module _ (kept piece : List ℕ) (at used : ℕ) (now new : List ℕ) (what : Option Found)
+    (taken : HasTaken (open_message kept) piece at (open_message now))
+    (step : FramesFront now (drop at piece) used new what) where
   next : (n : ℕ) → IsRun piece at (take n (drop at piece)) (at + n)
   next n = take-add at n piece
 
@@ -108,57 +120,79 @@ module _ (kept piece : List ℕ) (at used : ℕ) (now new : List ℕ) (what : Op
 
   -- what it holds then
   pub step_held : open_message new ≡ open_message (open_message kept ++ take (at + used) piece)
-  step_held = step.frames.held ∙ run_holds (open_message kept) piece at (at + used) (open_message now) (take used (drop at piece)) (next used) taken
+  step_held = step.frames.held ∙ run_holds (open_message kept) piece at (at + used) (open_message now)
+      (take used (drop at piece)) (next used) taken
 
   -- which bytes came
   pub step_came : what ≡ Some found.Message → new ≡ open_message kept ++ take (at + used) piece
-  step_came e = step.frames.came e ∙ run_came (open_message kept) piece at (at + used) (open_message now) (take used (drop at piece)) (next used) taken
+  step_came e = step.frames.came e ∙ run_came (open_message kept) piece at (at + used) (open_message now)
+      (take used (drop at piece)) (next used) taken
 
   -- the step that makes the first event ends the call
-  event_first : (event : Event) → at ≤ length piece → FirstEvent (open_message now) (take used (drop at piece)) (length (take used (drop at piece))) (Some event)
+  event_first : (event : Event) → at ≤ length piece → FirstEvent (open_message now) (take used (drop at piece))
+      (length (take used (drop at piece))) (Some event)
       → FirstEvent (open_message kept) piece (at + used) (Some event)
   event_first event within first =
       let run = take used (drop at piece) in
       let held = open_message kept in
       let count : length run ≡ used = length-take-le used (drop at piece) step.within in
-      let place : length (held ++ take at piece) + used ≡ length held + (at + used) = omega (arith, length-append held (take at piece), length-take at piece, within) in
+      let place : length (held ++ take at piece) + used ≡ length held + (at + used) =
+      omega (arith, length-append held (take at piece), length-take at piece, within) in
       let last : at + used ≡ at + (used - 1) + 1 = omega (arith, step.some) in
-      let early : take (used - 1) run ≡ take (used - 1) (drop at piece) = take-take (used - 1) used (drop at piece) (omega arith) in
-      let quiet : events (open_message now ++ take (used - 1) (drop at piece)) ≡ [] = rw early at (first.2 (used - 1) (omega (arith, count, step.some))) in
+      let early : take (used - 1) run ≡ take (used - 1) (drop at piece) =
+      take-take (used - 1) used (drop at piece) (omega arith) in
+      let quiet : events (open_message now ++ take (used - 1) (drop at piece)) ≡ [] =
+      rw early at (first.2 (used - 1) (omega (arith, count, step.some))) in
       let told : events (open_message now ++ run) ≡ at_place (length (open_message now) + used) event ∷ [] =
-      ap (λ x. events (open_message now ++ x)) (sym (take-length run)) ∙ first.1 ∙ ap (λ n. at_place (length (open_message now) + n) event ∷ []) count in
+      ap (λ x. events (open_message now ++ x))
+      (sym (take-length run)) ∙ first.1 ∙ ap (λ n. at_place (length (open_message now) + n) event ∷ []) count in
       FirstEvent-some held piece (at + (used - 1)) (at + used) event last (step_within within)
-      (run_told held piece at (at + (used - 1)) 0 (open_message now) (take (used - 1) (drop at piece)) None (next (used - 1)) taken quiet)
-      (run_told held piece at (at + used) used (open_message now) run (Some event) (next used) taken told ∙ ap (λ (n : ℕ). at_place n event ∷ []) place)
+      (run_told held piece at (at + (used - 1)) 0 (open_message now) (take (used - 1) (drop at piece)) None
+      (next (used - 1)) taken quiet)
+      (run_told held piece at (at + used) used (open_message now) run (Some event)
+      (next used) taken told ∙ ap (λ (n : ℕ). at_place n event ∷ []) place)
 
 -- with something found
-pub found_first : (kept piece : List ℕ) (at used : ℕ) (now new : List ℕ) (what : Option Found) → HasTaken (open_message kept) piece at (open_message now) → FramesFront now (drop at piece) used new what
-    → at ≤ length piece → is_some what ≡ true → FirstEvent (open_message kept) piece (at + used) (option_map (event_found_in new) what)
+pub found_first : (kept piece : List ℕ) (at used : ℕ) (now new : List ℕ) (what : Option Found)
+    → HasTaken (open_message kept) piece at (open_message now) → FramesFront now (drop at piece) used new what
+    → at ≤ length piece → is_some what ≡ true → FirstEvent (open_message kept) piece (at + used)
+    (option_map (event_found_in new) what)
 found_first kept piece at used now new None taken step within some = absurd cc
 found_first kept piece at used now new (Some it) taken step within some =
     event_first kept piece at used now new (Some it) taken step (event_found_in new it) within step.frames.first
 
 -- with nothing found
-pub found_none : (kept piece : List ℕ) (at used : ℕ) (now new : List ℕ) (what : Option Found) → HasTaken (open_message kept) piece at (open_message now) → FramesFront now (drop at piece) used new what
+pub found_none : (kept piece : List ℕ) (at used : ℕ) (now new : List ℕ) (what : Option Found)
+    → HasTaken (open_message kept) piece at (open_message now) → FramesFront now (drop at piece) used new what
     → is_some what ≡ false → HasTaken (open_message kept) piece (at + used) (open_message new)
 found_none kept piece at used now new None taken step none =
-    rw step.frames.held (run_quiet (open_message kept) piece at (at + used) (open_message now) (take used (drop at piece)) (take-add at used piece) taken step.frames.first.1)
+    rw step.frames.held
+    (run_quiet (open_message kept) piece at (at + used) (open_message now) (take used (drop at piece))
+    (take-add at used piece) taken step.frames.first.1)
 found_none kept piece at used now new (Some it) taken step none = absurd cc
 
 -- ---- What a loop over bytes has framed
 
 -- nothing so far
-pub frames_none : (kept bytes now : List ℕ) (n : ℕ) → 0 < n → n ≤ length bytes → HasTaken (open_message kept) bytes n (open_message now) → FramesFront kept bytes n now None
+pub frames_none : (kept bytes now : List ℕ) (n : ℕ) → 0 < n → n ≤ length bytes
+    → HasTaken (open_message kept) bytes n (open_message now) → FramesFront kept bytes n now None
 frames_none kept bytes now n some within taken =
     record {
       some = some;
       within = within;
-      frames = record { first = (refl, taken.quiet); held = taken.holds; whole = λ e. absurd cc; came = λ e. absurd cc };
+      frames = record {
+        first = (refl, taken.quiet);
+        held = taken.holds;
+        whole = λ e. absurd cc;
+        came = λ e. absurd cc;
+      };
     }
 
 -- something at its last byte
-pub frames_found : (kept bytes : List ℕ) (n : ℕ) (new : List ℕ) (it : Found) → FirstEvent (open_message kept) bytes n (Some (event_found_in new it)) → 0 < n
-    → open_message new ≡ open_message (open_message kept ++ take n bytes) → (it ≡ found.Message → IsWholeMessage new) → (it ≡ found.Message → new ≡ open_message kept ++ take n bytes)
+pub frames_found : (kept bytes : List ℕ) (n : ℕ) (new : List ℕ) (it : Found) → FirstEvent (open_message kept) bytes n
+    (Some (event_found_in new it)) → 0 < n
+    → open_message new ≡ open_message (open_message kept ++ take n bytes) → (it ≡ found.Message → IsWholeMessage new)
+    → (it ≡ found.Message → new ≡ open_message kept ++ take n bytes)
     → FramesFront kept bytes n new (Some it)
 frames_found kept bytes n new it first some held whole came =
     let run = take n bytes in

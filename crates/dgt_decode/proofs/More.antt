@@ -49,7 +49,8 @@ pub AreAlone-segments : (bytes : List ℕ) → AreAlone (segments bytes)
 AreAlone-segments [] = tt
 AreAlone-segments (b ∷ bytes) = go (has_top_bit b) refl (AreAlone-segments bytes)
   where
-    go : (t : Bool) → has_top_bit b ≡ t → AreAlone (segments bytes) → AreAlone (cond t ((b ∷ lead bytes) ∷ segments bytes) (segments bytes))
+    go : (t : Bool) → has_top_bit b ≡ t → AreAlone (segments bytes)
+        → AreAlone (cond t ((b ∷ lead bytes) ∷ segments bytes) (segments bytes))
     go true e h = (IsAlone-from b (lead bytes) (leb-true 128 b e) (IsSevenBit-lead bytes), h)
     go false e h = h
 
@@ -100,14 +101,23 @@ cut_before-nothing [] = refl
 cut_before-nothing (g ∷ gs) = refl
 
 -- a segment with more bytes behind still follows
-cut_before-with : (p : List ℕ) (g : List ℕ) (gs : List (List ℕ)) (u : List ℕ) → cut_before (segments_with p (g ∷ gs)) u ≡ cut_of u
+cut_before-with : (p : List ℕ) (g : List ℕ) (gs : List (List ℕ)) (u : List ℕ)
+    → cut_before (segments_with p (g ∷ gs)) u ≡ cut_of u
 cut_before-with p g [] u = refl
 cut_before-with p g (h ∷ gs) u = refl
 
 -- places behind a message, and behind its segment
-regroup : (place d n l : ℕ) (a b e : List Placed) → place + d ≡ n → events_behind place (a ++ events_behind d b) ++ events_behind (n + l) e ≡ events_behind place a ++ events_behind n (b ++ events_behind l e)
+regroup : (place d n l : ℕ) (a b e : List Placed) → place + d ≡ n
+    → events_behind place (a ++ events_behind d b) ++ events_behind (n + l) e ≡ events_behind place a ++ events_behind
+    n (b ++ events_behind l e)
 regroup place d n l a b e same =
-    rw (events_behind-append place a (events_behind d b), events_behind-events_behind place d b, same, events_behind-append n b (events_behind l e), events_behind-events_behind n l e)
+    rw (
+      events_behind-append place a (events_behind d b),
+      events_behind-events_behind place d b,
+      same,
+      events_behind-append n b (events_behind l e),
+      events_behind-events_behind n l e,
+    )
     (append_assoc (events_behind place a) (events_behind n b) (events_behind (n + l) e))
 
 -- more bytes behind a last segment that is finished
@@ -118,8 +128,20 @@ last-finished g p x e =
     let stays = verdict-append g (lead p) x e in
     let within = stays.1 in
     let behind : x.place + length (drop x.place g) ≡ length g = omega (arith, length-drop x.place g) in
-    rw (stays.0, e, cut_before-nothing (segments p), drop-append-le x.place g (lead p) within, strays-append (drop x.place g) (lead p), length-append g (lead p), append-nil (events_behind x.place (strays (drop x.place g))))
-    (ap (λ (zs : List Placed). x ∷ zs) (regroup x.place (length (drop x.place g)) (length g) (length (lead p)) (strays (drop x.place g)) (strays (lead p)) (segments_events (segments p)) behind))
+    rw (
+      stays.0,
+      e,
+      cut_before-nothing (segments p),
+      drop-append-le x.place g (lead p) within,
+      strays-append
+          (drop x.place g) (lead p),
+      length-append g (lead p),
+      append-nil
+          (events_behind x.place (strays (drop x.place g))),
+    )
+    (ap (λ (zs : List Placed). x ∷ zs)
+    (regroup x.place (length (drop x.place g)) (length g) (length (lead p)) (strays (drop x.place g))
+    (strays (lead p)) (segments_events (segments p)) behind))
 
 -- more bytes behind a last segment that is open
 last-open : (g p : List ℕ) → IsAlone g → verdict g ≡ None
@@ -130,11 +152,13 @@ last-open g p alone e =
 
 -- more bytes behind segments
 pub segments_events-with : (p g : List ℕ) (gs : List (List ℕ)) → AreAlone (g ∷ gs)
-    → segments_events (segments_with p (g ∷ gs)) ≡ segments_events (g ∷ gs) ++ events_behind (settled_of (g ∷ gs)) (events (open_segment (g ∷ gs) ++ p))
+    → segments_events (segments_with p (g ∷ gs)) ≡ segments_events (g ∷ gs) ++ events_behind (settled_of (g ∷ gs))
+    (events (open_segment (g ∷ gs) ++ p))
 segments_events-with p g [] alone = go (verdict g) refl
   where
     go : (v : Option Placed) → verdict g ≡ v
-        → segments_events ((g ++ lead p) ∷ segments p) ≡ segments_events (g ∷ []) ++ events_behind (settled_by v g) (events (unfinished_part v g ++ p))
+        → segments_events ((g ++ lead p) ∷ segments p) ≡ segments_events (g ∷ []) ++ events_behind (settled_by v g)
+        (events (unfinished_part v g ++ p))
     go None e = last-open g p alone.0 e
     go (Some x) e = last-finished g p x e
 segments_events-with p g (h ∷ gs) alone =
@@ -152,11 +176,28 @@ events_by_cut-with : (p front : List ℕ) (gs : List (List ℕ)) → AreAlone gs
 unfolding events
 events_by_cut-with p front [] alone =
     let same : length front + 0 ≡ length front = omega arith in
-    rw (strays-append front (lead p), length-append front (lead p), same, events_behind-append (length front) (strays (lead p)) (events_behind (length (lead p)) (segments_events (segments p))), events_behind-events_behind (length front) (length (lead p)) (segments_events (segments p)), append-nil (strays front))
-    (append_assoc (strays front) (events_behind (length front) (strays (lead p))) (events_behind (length front + length (lead p)) (segments_events (segments p))))
+    rw (
+      strays-append front (lead p),
+      length-append front (lead p),
+      same,
+      events_behind-append (length front)
+          (strays (lead p)) (events_behind (length (lead p)) (segments_events (segments p))),
+      events_behind-events_behind
+          (length front) (length (lead p)) (segments_events (segments p)),
+      append-nil (strays front),
+    )
+    (append_assoc (strays front) (events_behind (length front) (strays (lead p)))
+    (events_behind (length front + length (lead p)) (segments_events (segments p))))
 events_by_cut-with p front (g ∷ gs) alone =
-    rw (segments_events-with p g gs alone, events_behind-append (length front) (segments_events (g ∷ gs)) (events_behind (settled_of (g ∷ gs)) (events (open_segment (g ∷ gs) ++ p))), events_behind-events_behind (length front) (settled_of (g ∷ gs)) (events (open_segment (g ∷ gs) ++ p)))
-    (sym (append_assoc (strays front) (events_behind (length front) (segments_events (g ∷ gs))) (events_behind (length front + settled_of (g ∷ gs)) (events (open_segment (g ∷ gs) ++ p)))))
+    rw (
+      segments_events-with p g gs alone,
+      events_behind-append (length front) (segments_events (g ∷ gs))
+          (events_behind (settled_of (g ∷ gs)) (events (open_segment (g ∷ gs) ++ p))),
+      events_behind-events_behind
+          (length front) (settled_of (g ∷ gs)) (events (open_segment (g ∷ gs) ++ p)),
+    )
+    (sym (append_assoc (strays front) (events_behind (length front) (segments_events (g ∷ gs)))
+    (events_behind (length front + settled_of (g ∷ gs)) (events (open_segment (g ∷ gs) ++ p)))))
 
 -- how many bytes stand before the open message
 pub settled : (s : List ℕ) → length s - length (open_message s) ≡ length (lead s) + settled_of (segments s)
@@ -164,10 +205,13 @@ unfolding open_message
 settled s = omega (arith, settled-open (segments s), length-cut s)
 
 -- more bytes behind a list, with the place by its cut
-events-append_by_cut : (s p : List ℕ) → events (s ++ p) ≡ events s ++ events_behind (length (lead s) + settled_of (segments s)) (events (open_message s ++ p))
+events-append_by_cut : (s p : List ℕ) → events (s ++ p) ≡ events s ++ events_behind
+    (length (lead s) + settled_of (segments s)) (events (open_message s ++ p))
 unfolding events open_message
-events-append_by_cut s p = rw (lead-append s p, segments-append s p) (events_by_cut-with p (lead s) (segments s) (AreAlone-segments s))
+events-append_by_cut s p =
+    rw (lead-append s p, segments-append s p) (events_by_cut-with p (lead s) (segments s) (AreAlone-segments s))
 
 -- Later bytes change no event, and need only what is open.
-pub events-append : (s p : List ℕ) → events (s ++ p) ≡ events s ++ events_behind (length s - length (open_message s)) (events (open_message s ++ p))
+pub events-append : (s p : List ℕ) → events (s ++ p) ≡ events s ++ events_behind (length s - length (open_message s))
+    (events (open_message s ++ p))
 events-append s p = rw (settled s) (events-append_by_cut s p)

@@ -22,22 +22,26 @@ open-alone g alone = rw alone.one refl
 -- ---- The open message
 
 -- a first segment is not open where others follow
-open_segment-first : (g : List ℕ) (p h : List ℕ) (gs : List (List ℕ)) → open_segment (g ∷ segments_with p (h ∷ gs)) ≡ open_segment (segments_with p (h ∷ gs))
+open_segment-first : (g : List ℕ) (p h : List ℕ) (gs : List (List ℕ))
+    → open_segment (g ∷ segments_with p (h ∷ gs)) ≡ open_segment (segments_with p (h ∷ gs))
 open_segment-first g p h [] = refl
 open_segment-first g p h (k ∷ gs) = refl
 
 -- nor where it is finished
-open_segment-finished : (g : List ℕ) (x : Placed) (gs : List (List ℕ)) → verdict g ≡ Some x → open_segment (g ∷ gs) ≡ open_segment gs
+open_segment-finished : (g : List ℕ) (x : Placed) (gs : List (List ℕ)) → verdict g ≡ Some x
+    → open_segment (g ∷ gs) ≡ open_segment gs
 open_segment-finished g x [] e = rw e refl
 open_segment-finished g x (h ∷ gs) e = refl
 
 -- what is open with more bytes behind
-open_segment-with : (p : List ℕ) (gs : List (List ℕ)) → AreAlone gs → open_segment (segments_with p gs) ≡ open_message (open_segment gs ++ p)
+open_segment-with : (p : List ℕ) (gs : List (List ℕ)) → AreAlone gs → open_segment (segments_with p gs) ≡ open_message
+    (open_segment gs ++ p)
 unfolding open_message
 open_segment-with p [] alone = refl
 open_segment-with p (g ∷ []) alone = go (verdict g) refl
   where
-    go : (v : Option Placed) → verdict g ≡ v → open_segment ((g ++ lead p) ∷ segments p) ≡ open_message (unfinished_part v g ++ p)
+    go : (v : Option Placed) → verdict g ≡ v → open_segment ((g ++ lead p) ∷ segments p) ≡ open_message
+        (unfinished_part v g ++ p)
     go None e = rw (segments-append g p, alone.0.one) refl
     go (Some x) e = open_segment-finished (g ++ lead p) x (segments p) (verdict-append g (lead p) x e).0
 open_segment-with p (g ∷ h ∷ gs) alone = open_segment-first g p h gs ∙ open_segment-with p (h ∷ gs) alone.1

@@ -3,12 +3,15 @@ use Rattle.std.proofs.Common.{◌≡◌, ℕ, suc, ◌+◌, List, [], ◌∷◌,
 use Rattle.dgt_decode.specs.Grammar.{Placed, at_place, events_behind, strays}
 
 -- events in two parts behind bytes
-pub events_behind-append : (n : ℕ) (xs ys : List Placed) → events_behind n (xs ++ ys) ≡ events_behind n xs ++ events_behind n ys
+pub events_behind-append : (n : ℕ) (xs ys : List Placed)
+    → events_behind n (xs ++ ys) ≡ events_behind n xs ++ events_behind n ys
 events_behind-append n [] ys = refl
-events_behind-append n (x ∷ xs) ys = ap (λ (zs : List Placed). at_place (n + x.place) x.event ∷ zs) (events_behind-append n xs ys)
+events_behind-append n (x ∷ xs) ys = ap (λ (zs : List Placed). at_place (n + x.place) x.event ∷ zs)
+    (events_behind-append n xs ys)
 
 -- bytes before bytes
-pub events_behind-events_behind : (m n : ℕ) (xs : List Placed) → events_behind m (events_behind n xs) ≡ events_behind (m + n) xs
+pub events_behind-events_behind : (m n : ℕ) (xs : List Placed) → events_behind m (events_behind n xs) ≡ events_behind
+    (m + n) xs
 events_behind-events_behind m n [] = refl
 events_behind-events_behind m n (x ∷ xs) =
     let same : m + (n + x.place) ≡ (m + n) + x.place = omega arith in

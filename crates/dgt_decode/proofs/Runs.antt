@@ -1,16 +1,11 @@
 -- A run of a message's body.
-use Rattle.std.proofs.Common.{option_map, ◌≡◌, ℕ, zero, suc, ◌+◌, ◌-◌, ◌<◌, ◌≤◌, Bool, true, false, cond, not, List, [], ◌∷◌, ◌++◌, length, take, drop, get_or, Option, Some, None, refl, ap, ◌∙◌, arith}
+use Rattle.std.proofs.Common.{◌≡◌, ℕ, zero, suc, ◌+◌, ◌-◌, ◌<◌, ◌≤◌, Bool, true, false, cond, not, List, [], ◌∷◌, ◌++◌, length, take, get_or, refl, arith}
 use Rattle.std.specs.List.{position_or_len}
-use Rattle.std.specs.Prelude.{is_some}
 use Rattle.std.proofs.lemmas.Bool.{leb-false, lt-leb}
-use Rattle.std.proofs.lemmas.List.{length-append, length-take, length-drop, take-take}
+use Rattle.std.proofs.lemmas.List.{length-append, length-take, take-take}
 use Rattle.std.proofs.lemmas.List.Sums.{prefix_len-le-length}
-use Rattle.std.proofs.Math.Seq.{take-add, take-length}
-use Rattle.dgt_decode.specs.declared.event.Found.{Found}
-use Rattle.dgt_decode.specs.declared.event.Found.TheVariants as found
 use Rattle.dgt_decode.specs.declared.framer.FramerState.TheVariants.{Body}
-use Rattle.dgt_decode.specs.Grammar.{IsSevenBit, Event, has_top_bit, at_place, events, open_message, announced_total}
-use Rattle.dgt_decode.specs.Feeding.{FirstEvent, IsWholeMessage, at_place_if_any, event_found_in}
+use Rattle.dgt_decode.specs.Grammar.{IsSevenBit, has_top_bit, announced_total}
 use Rattle.dgt_decode.specs.Taking.{FramesFront, IsKept}
 use Rattle.dgt_decode.proofs.Verdicts.{announced_total-append}
 use Rattle.dgt_decode.proofs.Steps.{next-waits}
@@ -27,7 +22,8 @@ seven-before (b ∷ bytes) = go (has_top_bit b) refl (seven-before bytes)
     go : (t : Bool) → has_top_bit b ≡ t → IsSevenBit (take (position_or_len has_top_bit bytes) bytes)
         → IsSevenBit (take (cond (not t) (1 + position_or_len has_top_bit bytes) 0) (b ∷ bytes))
     go true e more = tt
-    go false e more = let one_more : 1 + position_or_len has_top_bit bytes ≡ suc (position_or_len has_top_bit bytes) = omega arith in rw one_more (leb-false 128 b e, more)
+    go false e more = let one_more : 1 + position_or_len has_top_bit bytes ≡ suc
+        (position_or_len has_top_bit bytes) = omega arith in rw one_more (leb-false 128 b e, more)
 
 -- there are some where the first byte is
 some-before : (bytes : List ℕ) → 0 < length bytes → get_or bytes 0 0 < 128 → 0 < position_or_len has_top_bit bytes
@@ -50,7 +46,8 @@ body_run (suc more) used (b ∷ rest) room some seven is =
     let wanted = take (suc more) (b ∷ rest) in
     let up_to : used ≤ length wanted = omega (arith, is, prefix_len-le-length (λ x. not (has_top_bit x)) wanted) in
     let long = length-take (suc more) (b ∷ rest) in
-    let front : take used wanted ≡ take used (b ∷ rest) = take-take used (suc more) (b ∷ rest) (omega (arith, up_to, long)) in
+    let front : take used wanted ≡ take used (b ∷ rest) =
+    take-take used (suc more) (b ∷ rest) (omega (arith, up_to, long)) in
     record {
       some = omega (arith, is, some-before wanted (omega arith) seven);
       within = omega (arith, up_to, long);
@@ -66,18 +63,30 @@ seven-take (suc n) (b ∷ bytes) seven = (seven.0, seven-take n bytes seven.1)
 
 -- A run of the body ends the message where none of it is missing then, and tells nothing otherwise.
 pub frames-body_run : (kept rest : List ℕ) (left used : ℕ) → IsKept (Body left) kept → IsBodyRun left rest used
-    → FramesFront kept rest used (kept ++ take used rest) (after (left - used)).1 × IsKept (after (left - used)).0 (kept ++ take used rest)
+    → FramesFront kept rest used (kept ++ take used rest) (after (left - used)).1
+    × IsKept (after (left - used)).0 (kept ++ take used rest)
 frames-body_run kept rest left used is run =
     let bytes = take used rest in
     let count : length bytes ≡ used = omega (arith, length-take used rest, run.within) in
     let sum : length (kept ++ bytes) ≡ length kept + length bytes = length-append kept bytes in
-    let all : announced_total (kept ++ bytes) ≡ length (kept ++ bytes) + (left - used) = omega (arith, announced_total-append kept bytes is.1, is.2, is.3, run.fits) in
+    let all : announced_total (kept ++ bytes) ≡ length (kept ++ bytes) + (left - used) =
+    omega (arith, announced_total-append kept bytes is.1, is.2, is.3, run.fits) in
     let t = tells-after kept bytes (left - used) is.0 (omega (arith, is.1)) (omega (arith, run.some)) run.seven all in
     let early = take (used - 1) rest in
     let front : take (used - 1) bytes ≡ early = take-take (used - 1) used rest (omega arith) in
     let early_seven : IsSevenBit early = rw (← front) (seven-take (used - 1) bytes run.seven) in
     let early_sum : length (kept ++ early) ≡ length kept + length early = length-append kept early in
-    let waiting : length (kept ++ early) < announced_total (kept ++ early) = omega (arith, announced_total-append kept early is.1, length-take (used - 1) rest, is.3, run.fits, run.some, run.within) in (
+    let waiting : length (kept ++ early) < announced_total
+    (kept ++ early)
+    = omega (
+      arith,
+      announced_total-append kept early is.1,
+      length-take (used - 1) rest,
+      is.3,
+      run.fits,
+      run.some,
+      run.within,
+    ) in (
       record {
         some = run.some;
         within = run.within;

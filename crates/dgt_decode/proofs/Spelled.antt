@@ -21,7 +21,8 @@ use Rattle.dgt_decode.proofs.Wholes.{IsAlone-whole, verdict-of_whole, whole_open
 
 -- the bytes of a message are read as this message
 abbrev pub AreRead : Type 0
-AreRead = (said : Content) (bytes : List ℕ) → Spells said bytes → reading (slice_index bytes 0 - 128) (drop 3 bytes) ≡ Ok said
+AreRead = (said : Content) (bytes : List ℕ) → Spells said bytes
+    → reading (slice_index bytes 0 - 128) (drop 3 bytes) ≡ Ok said
 
 -- what is written of a message spells it
 abbrev pub AreSpelled : Type 0
@@ -81,7 +82,14 @@ segments-sent (m ∷ ms) h =
 segments_events-spellings : (ms : List Sent) → AllByRecursion IsRead ms → segments_events (spellings ms) ≡ arrivals ms
 segments_events-spellings [] h = refl
 segments_events-spellings (m ∷ ms) h =
-    rw (verdict-of_whole m.bytes h.0.whole, drop-length m.bytes, cut_before-nothing (spellings ms), segments_events-spellings ms h.1, h.0.tells) refl
+    rw (
+      verdict-of_whole m.bytes h.0.whole,
+      drop-length m.bytes,
+      cut_before-nothing
+          (spellings ms),
+      segments_events-spellings ms h.1,
+      h.0.tells,
+    ) refl
 
 -- ---- Behind any bytes
 
@@ -92,7 +100,13 @@ unfolding events
 behind_open o nothing m ms h =
     rw (lead-sent (m ∷ ms) h, segments-sent (m ∷ ms) h, segments_events-spellings (m ∷ ms) h) refl
 behind_open o (waiting g alone e) m ms h =
-    rw (lead-before g (sent_bytes (m ∷ ms)) alone, segments-before g (sent_bytes (m ∷ ms)) alone (lead-sent (m ∷ ms) h), segments-sent (m ∷ ms) h, events_behind-zero)
+    rw (
+      lead-before g (sent_bytes (m ∷ ms)) alone,
+      segments-before g (sent_bytes (m ∷ ms)) alone
+          (lead-sent (m ∷ ms) h),
+      segments-sent (m ∷ ms) h,
+      events_behind-zero,
+    )
     (rw (e, segments_events-spellings (m ∷ ms) h) refl)
 
 -- behind any bytes
@@ -105,8 +119,11 @@ events-sent s m more h =
     let a = cut_of o in
     let b = arrivals (m ∷ more) in
     events-append s (sent_bytes (m ∷ more))
-    ∙ ap (λ (zs : List Placed). events s ++ events_behind (length s - length o) zs) (behind_open o (IsOpen-open s) m more h)
-    ∙ ap (λ (zs : List Placed). events s ++ zs) (events_behind-events_behind (length s - length o) (length o) (a ++ b) ∙ ap (λ (n : ℕ). events_behind n (a ++ b)) here ∙ events_behind-append (length s) a b)
+    ∙ ap (λ (zs : List Placed). events s ++ events_behind (length s - length o) zs)
+    (behind_open o (IsOpen-open s) m more h)
+    ∙ ap (λ (zs : List Placed). events s ++ zs)
+    (events_behind-events_behind (length s - length o) (length o)
+    (a ++ b) ∙ ap (λ (n : ℕ). events_behind n (a ++ b)) here ∙ events_behind-append (length s) a b)
     ∙ sym (append_assoc (events s) (events_behind (length s) a) (events_behind (length s) b))
 
 -- a whole message behind what is open leaves nothing open
@@ -118,7 +135,8 @@ behind_whole o w (waiting g before e) whole =
     rw (segments-before g w before alone.no_lead, alone.one, verdict-of_whole w whole) refl
 
 -- they leave nothing open
-open-sent : (s : List ℕ) (m : Sent) (more : List Sent) → AllByRecursion IsRead (m ∷ more) → open_message (s ++ sent_bytes (m ∷ more)) ≡ []
+open-sent : (s : List ℕ) (m : Sent) (more : List Sent) → AllByRecursion IsRead (m ∷ more)
+    → open_message (s ++ sent_bytes (m ∷ more)) ≡ []
 open-sent s m [] h =
     ap (λ (x : List ℕ). open_message (s ++ x)) (append-nil m.bytes)
     ∙ open-append s m.bytes
@@ -130,7 +148,8 @@ open-sent s m (k ∷ more) h =
 -- ---- The laws
 
 -- both of messages that are spelled
-pub recovery : AreRead → (s : List ℕ) (m : Sent) (more : List Sent) → AllByRecursion (λ m. Spells m.said m.bytes) (m ∷ more) →
+pub recovery : AreRead → (s : List ℕ) (m : Sent) (more : List Sent) → AllByRecursion (λ m. Spells m.said m.bytes)
+    (m ∷ more) →
     (events (s ++ sent_bytes (m ∷ more))
     ≡ events s ++ events_behind (length s) (cut_of (open_message s)) ++ events_behind (length s) (arrivals (m ∷ more)))
     × (open_message (s ++ sent_bytes (m ∷ more)) ≡ [])

@@ -66,20 +66,23 @@ next-begins held b h some top =
     let a = alone_held held h some in
     let alone = a.0 in
     let lead-is : lead (held ++ b ∷ []) ≡ [] = rw (lead-append held (b ∷ []), alone.no_lead, alone.one) refl in
-    let segments-is : segments (held ++ b ∷ []) ≡ held ∷ (b ∷ []) ∷ [] = rw (segments-append held (b ∷ []), alone.one, le-leb 128 b top) (rw (append-nil held) refl) in
+    let segments-is : segments (held ++ b ∷ []) ≡ held ∷ (b ∷ []) ∷ [] =
+    rw (segments-append held (b ∷ []), alone.one, le-leb 128 b top) (rw (append-nil held) refl) in
     let new-is : verdict (b ∷ []) ≡ None = verdict-short (b ∷ []) (omega arith) in
     record {
       told = rw (lead-is, segments-is, events_behind-zero, a.1, new-is) (cut held some);
       leaves = rw (segments-is, new-is) refl;
     }
   where
-    cut : (held : List ℕ) → 0 < length held → events_behind (length held) (cut_of held ++ []) ≡ at_place (length held + 1) (Cut (length held)) ∷ []
+    cut : (held : List ℕ) → 0 < length held → events_behind (length held) (cut_of held ++ []) ≡ at_place
+        (length held + 1) (Cut (length held)) ∷ []
     cut [] some = absurd (omega arith)
     cut (x ∷ held) some = refl
 
 -- seven-bit bytes go on with it
 pub next-seven : (held run : List ℕ) → IsHeld held → 0 < length held → IsSevenBit run
-    → Gives (held ++ run) (segment_events (verdict (held ++ run)) (held ++ run)) (unfinished_part (verdict (held ++ run)) (held ++ run))
+    → Gives (held ++ run) (segment_events (verdict (held ++ run)) (held ++ run))
+    (unfinished_part (verdict (held ++ run)) (held ++ run))
 next-seven held run h some seven =
     let alone = IsAlone-more held run (alone_held held h some).0 seven in
     record { told = events-alone (held ++ run) alone; leaves = open-alone (held ++ run) alone }
@@ -93,7 +96,8 @@ next-short held run h some seven few =
     record { told = gives.told ∙ rw e refl; leaves = gives.leaves ∙ rw e refl }
 
 -- so long as it is shorter than its total
-pub next-waits : (held run : List ℕ) → IsHeld held → 0 < length held → IsSevenBit run → length (held ++ run) < announced_total (held ++ run)
+pub next-waits : (held run : List ℕ) → IsHeld held → 0 < length held → IsSevenBit run
+    → length (held ++ run) < announced_total (held ++ run)
     → Gives (held ++ run) [] (held ++ run)
 next-waits held run h some seven less =
     let gives = next-seven held run h some seven in
@@ -101,7 +105,8 @@ next-waits held run h some seven less =
     record { told = gives.told ∙ rw e refl; leaves = gives.leaves ∙ rw e refl }
 
 -- where the header says too little
-pub next-bad : (held run : List ℕ) → IsHeld held → 0 < length held → IsSevenBit run → length (held ++ run) ≡ 3 → announced_total (held ++ run) < 3
+pub next-bad : (held run : List ℕ) → IsHeld held → 0 < length held → IsSevenBit run → length (held ++ run) ≡ 3
+    → announced_total (held ++ run) < 3
     → Gives (held ++ run) (at_place 3 BadLength ∷ []) []
 next-bad held run h some seven three small =
     let gives = next-seven held run h some seven in
@@ -111,7 +116,8 @@ next-bad held run h some seven three small =
     record { told = gives.told ∙ rw (e, none) refl; leaves = gives.leaves ∙ rw e refl }
 
 -- where the total is reached
-pub next-whole : (held run : List ℕ) → IsHeld held → 0 < length held → IsSevenBit run → 3 ≤ length (held ++ run) → announced_total (held ++ run) ≡ length (held ++ run)
+pub next-whole : (held run : List ℕ) → IsHeld held → 0 < length held → IsSevenBit run → 3 ≤ length (held ++ run)
+    → announced_total (held ++ run) ≡ length (held ++ run)
     → Gives (held ++ run) (at_place (length (held ++ run)) (message_event (held ++ run)) ∷ []) []
 next-whole held run h some seven long same =
     let gives = next-seven held run h some seven in
@@ -119,13 +125,15 @@ next-whole held run h some seven long same =
     let large : 3 ≤ announced_total g = omega arith in
     let enough : announced_total g ≤ length g = omega arith in
     let is : whole_event g ≡ at_place (length g) (message_event g) = rw (same, take-length g) refl in
-    let e : verdict g ≡ Some (at_place (length g) (message_event g)) = verdict-whole g large enough ∙ ap (λ (x : Placed). Some x) is in
+    let e : verdict g ≡ Some (at_place (length g) (message_event g)) =
+    verdict-whole g large enough ∙ ap (λ (x : Placed). Some x) is in
     record { told = gives.told ∙ rw (e, drop-length g) refl; leaves = gives.leaves ∙ rw e refl }
 
 -- ---- No byte makes two events
 
 -- a verdict that a byte brings stands at that byte
-pub verdict-new : (h : List ℕ) (b : ℕ) (x : Placed) → verdict h ≡ None → verdict (h ++ b ∷ []) ≡ Some x → x.place ≡ length (h ++ b ∷ [])
+pub verdict-new : (h : List ℕ) (b : ℕ) (x : Placed) → verdict h ≡ None → verdict (h ++ b ∷ []) ≡ Some x
+    → x.place ≡ length (h ++ b ∷ [])
 verdict-new h b x e new = go (stage_of h) (stage_of (h ++ b ∷ []))
   where
     g : List ℕ
@@ -135,7 +143,8 @@ verdict-new h b x e new = go (stage_of h) (stage_of (h ++ b ∷ []))
     one_more = length-append h (b ∷ [])
 
     place_is : (y : Placed) → verdict (h ++ b ∷ []) ≡ Some y → y.place ≡ x.place
-    place_is y f = let s : (let o : Option Placed = Some y in o) ≡ Some x = sym f ∙ new in let same : y ≡ x = cc in ap (λ (z : Placed). z.place) same
+    place_is y f = let s : (let o : Option Placed = Some y in o) ≡ Some x = sym f ∙ new in let same : y ≡ x = cc in
+        ap (λ (z : Placed). z.place) same
 
     go : Stage h → Stage (h ++ b ∷ []) → x.place ≡ length (h ++ b ∷ [])
     go (short few) (bad long small) = omega (arith, one_more, place_is _ (verdict-bad (h ++ b ∷ []) long small))
@@ -150,13 +159,21 @@ verdict-new h b x e new = go (stage_of h) (stage_of (h ++ b ∷ []))
     ]
     go (waits less) (whole large enough) = elim (cases_lt (length h) 3) [
       | inl few ↦ omega (arith, one_more, place_is _ (verdict-whole (h ++ b ∷ []) large enough))
-      | inr many ↦ omega (arith, one_more, place_is _ (verdict-whole (h ++ b ∷ []) large enough), announced_total-append h (b ∷ []) many)
+      | inr many ↦
+          omega (
+            arith,
+            one_more,
+            place_is _ (verdict-whole (h ++ b ∷ []) large enough),
+            announced_total-append h
+                (b ∷ []) many,
+          )
     ]
     go (bad long small) s = let no = verdict-bad h long small in absurd cc
     go (whole large enough) s = let no = verdict-whole h large enough in absurd cc
 
 -- the byte that brings a verdict has no Stray behind it
-segment_events-new : (h : List ℕ) (b : ℕ) → verdict h ≡ None → (v : Option Placed) → verdict (h ++ b ∷ []) ≡ v → length (segment_events v (h ++ b ∷ [])) ≤ 1
+segment_events-new : (h : List ℕ) (b : ℕ) → verdict h ≡ None → (v : Option Placed) → verdict (h ++ b ∷ []) ≡ v
+    → length (segment_events v (h ++ b ∷ [])) ≤ 1
 segment_events-new h b e None f = omega arith
 segment_events-new h b e (Some x) f = rw (verdict-new h b x e f, drop-length (h ++ b ∷ [])) (omega arith)
 
@@ -171,7 +188,8 @@ one_event_held held b h (waiting [] alone e) = absurd (let no = alone.one in cc)
 one_event_held held b h (waiting (x ∷ g) alone e) =
     let some : 0 < length (x ∷ g) = omega arith in
     elim (cases_lt b 128) [
-      | inl seven ↦ rw (next-seven (x ∷ g) (b ∷ []) h some (seven, tt)).told (segment_events-new (x ∷ g) b e (verdict ((x ∷ g) ++ b ∷ [])) refl)
+      | inl seven ↦ rw (next-seven (x ∷ g) (b ∷ []) h some (seven, tt)).told
+          (segment_events-new (x ∷ g) b e (verdict ((x ∷ g) ++ b ∷ [])) refl)
       | inr top ↦ rw (next-begins (x ∷ g) b h some top).told (omega arith)
     ]
 

@@ -26,11 +26,13 @@ verdict-waits g h =
       | inl short ↦ verdict-short g short
       | inr long ↦
           let large : 3 ≤ announced_total g = omega arith in
-          rw (le-ltb (length g) 3 long, le-ltb (announced_total g) 3 large, lt-ltb (length g) (announced_total g) h) refl
+          rw (le-ltb (length g) 3 long, le-ltb (announced_total g) 3 large, lt-ltb (length g) (announced_total g) h)
+          refl
     ]
 
 -- as many bytes as the total
-pub verdict-whole : (g : List ℕ) → 3 ≤ announced_total g → announced_total g ≤ length g → verdict g ≡ Some (whole_event g)
+pub verdict-whole : (g : List ℕ) → 3 ≤ announced_total g → announced_total g ≤ length g
+    → verdict g ≡ Some (whole_event g)
 unfolding verdict
 verdict-whole g large h =
     let long : 3 ≤ length g = omega arith in
@@ -65,7 +67,8 @@ announced_total-append g p long =
     rw (get_or_append_left g p 0 1 one, get_or_append_left g p 0 2 two) refl
 
 -- A verdict stands whatever follows, and its place is within the segment.
-pub verdict-append : (g p : List ℕ) (x : Placed) → verdict g ≡ Some x → (verdict (g ++ p) ≡ Some x) × (x.place ≤ length g)
+pub verdict-append : (g p : List ℕ) (x : Placed) → verdict g ≡ Some x → (verdict (g ++ p) ≡ Some x)
+    × (x.place ≤ length g)
 verdict-append g p x e = go (stage_of g)
   where
     some_is : (a b : Placed) → (let o : Option Placed = Some a in o) ≡ Some b → a ≡ b
@@ -78,13 +81,19 @@ verdict-append g p x e = go (stage_of g)
         let is : at_place 3 BadLength ≡ x = some_is _ _ (sym (verdict-bad g long small) ∙ e) in
         let longer : 3 ≤ length (g ++ p) = omega (arith, length-append g p) in
         let same = announced_total-append g p long in
-        let smaller : announced_total (g ++ p) < 3 = omega (arith, same) in
-        (verdict-bad (g ++ p) longer smaller ∙ ap (λ (y : Placed). Some y) is, omega (arith, ap (λ (y : Placed). y.place) is))
+        let smaller : announced_total (g ++ p) < 3 = omega (arith, same) in (
+          verdict-bad (g ++ p) longer smaller ∙ ap (λ (y : Placed). Some y) is,
+          omega (arith, ap (λ (y : Placed). y.place) is),
+        )
     go (whole large enough) =
         let is : whole_event g ≡ x = some_is _ _ (sym (verdict-whole g large enough) ∙ e) in
         let long : 3 ≤ length g = omega arith in
         let same = announced_total-append g p long in
         let larger : 3 ≤ announced_total (g ++ p) = omega (arith, same) in
         let within : announced_total (g ++ p) ≤ length (g ++ p) = omega (arith, same, length-append g p) in
-        let event_same : whole_event (g ++ p) ≡ whole_event g = rw (same, take-append-le (announced_total g) g p enough) refl in
-        (verdict-whole (g ++ p) larger within ∙ ap (λ (y : Placed). Some y) (event_same ∙ is), omega (arith, ap (λ (y : Placed). y.place) is))
+        let event_same : whole_event (g ++ p) ≡ whole_event g =
+        rw (same, take-append-le (announced_total g) g p enough) refl in (
+          verdict-whole (g ++ p) larger within ∙ ap (λ (y : Placed). Some y)
+              (event_same ∙ is),
+          omega (arith, ap (λ (y : Placed). y.place) is),
+        )

@@ -9,7 +9,8 @@ use Rattle.dgt_decode.proofs.More.{IsAlone, IsAlone-from}
 use Rattle.dgt_decode.proofs.Open.{open-alone}
 
 -- a first byte with its top bit set, and later ones without
-IsAlone-begin : (bytes : List ℕ) → 3 ≤ length bytes → 128 ≤ slice_index bytes 0 → IsSevenBit (drop 1 bytes) → IsAlone bytes
+IsAlone-begin : (bytes : List ℕ) → 3 ≤ length bytes → 128 ≤ slice_index bytes 0 → IsSevenBit (drop 1 bytes)
+    → IsAlone bytes
 IsAlone-begin [] long top seven = absurd (omega arith)
 IsAlone-begin (b ∷ bytes) long top seven = IsAlone-from b bytes top seven
 

@@ -78,19 +78,16 @@ pub record Call : Type 0 where
   pub used : ℕ
   pub event : Option Event
 
-abbrev pub used_part : Call → List ℕ
-used_part call = take call.used call.piece
-
 -- the bytes that these calls used, in a row
 abbrev pub used_bytes : List Call → List ℕ
-used_bytes calls = flat_map used_part calls
+used_bytes calls = flat_map (λ call. take call.used call.piece) calls
 
 -- These are calls, one after another, of a reader that at first holds this.
 abbrev pub AreCalls : List ℕ → List Call → Type 0
 AreCalls held [] = Unit {0}
 AreCalls held (call ∷ calls) =
     FirstEvent held call.piece call.used call.event
-    × AreCalls (open_message (held ++ used_part call)) calls
+    × AreCalls (open_message (held ++ take call.used call.piece)) calls
 
 -- the events that these calls tell of a reader that has read n bytes before
 abbrev pub events_in_pieces : ℕ → List Call → List Placed

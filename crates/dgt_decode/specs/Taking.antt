@@ -17,8 +17,8 @@ IsKept (Body left) kept =
     × (announced_total kept ≡ length kept + left)
 IsKept Whole kept = IsWholeMessage kept
 
--- A framer that kept these bytes has taken a run of bytes, of which only the last may make an event.
--- It holds what is open then, and keeps a message that the run made known.
+-- A framer that kept these bytes has taken a run of bytes, of which only the last may make an
+-- event. It holds what is open then, and keeps a message that the run made known.
 pub record Frames (kept run new : List ℕ) (what : Option Found) : Type 0 where
   pub first : FirstEvent (open_message kept) run (length run) (option_map (event_found_in new) what)
   pub held : open_message new ≡ open_message (open_message kept ++ run)
@@ -26,7 +26,8 @@ pub record Frames (kept run new : List ℕ) (what : Option Found) : Type 0 where
   pub came : what ≡ Some found.Message → new ≡ open_message kept ++ run
 
 -- The first of the bytes that are left of a piece, at least one, are such a run.
-pub record FramesFront (kept rest : List ℕ) (used : ℕ) (new : List ℕ) (what : Option Found) : Type 0 where
+pub record FramesFront (kept rest : List ℕ) (used : ℕ) (new : List ℕ) (what : Option Found)
+    : Type 0 where
   pub some : 0 < used
   pub within : used ≤ length rest
   pub frames : Frames kept (take used rest) new what

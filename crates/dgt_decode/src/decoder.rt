@@ -26,8 +26,8 @@ pub struct Fed<'a> {
     pub event: Option<Event<'a>>,
 }
 
-/// Reads what a board sends, in pieces of any length. Contracts see it as the bytes that have come of
-/// an unfinished message.
+/// Reads what a board sends, in pieces of any length. Contracts see it as the bytes that have come
+/// of an unfinished message.
 ///
 /// The bytes are kept in the decoder itself, at most [`MAX_TOTAL`] of them. No call takes memory.
 #[derive(Drop)]

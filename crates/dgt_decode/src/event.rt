@@ -5,9 +5,9 @@ use dgt_values::SevenBit;
 
 /// What a byte makes known. A message lends its body from whoever read it.
 ///
-/// That a message's first byte has its top bit set and the others haven't, and that its second and third
-/// byte say its length, is in the DGT Electronic Board Protocol Description. How faulty bytes are told is
-/// this project's own choice.
+/// That a message's first byte has its top bit set and the others haven't, and that its second and
+/// third byte say its length, is in the DGT Electronic Board Protocol Description. How faulty bytes
+/// are told is this project's own choice.
 #[derive(Clone, Copy, Debug, PartialEq, Eq)]
 pub enum Event<'a> {
     /// A whole message. The byte is its last.
@@ -15,11 +15,11 @@ pub enum Event<'a> {
     /// All bytes of a message with this code, whose body says nothing, for this reason. The byte is
     /// its last.
     Refused { code: SevenBit, fault: BodyFault },
-    /// The byte begins a message, and so cuts off the one before it, of which `have` bytes had come: at
-    /// least one, and fewer than [`MAX_TOTAL`](crate::MAX_TOTAL).
+    /// The byte begins a message, and so cuts off the one before it, of which `have` bytes had
+    /// come: at least one, and fewer than [`MAX_TOTAL`](crate::MAX_TOTAL).
     Cut { have: usize },
-    /// The byte is the third of a message, and makes its length less than 3, that of the header alone. The
-    /// message is over.
+    /// The byte is the third of a message, and makes its length less than 3, that of the header
+    /// alone. The message is over.
     BadLength,
     /// The byte, below 128, is in no message.
     Stray(u8),

@@ -41,13 +41,13 @@ pub struct Advanced {
     pub found: Option<Found>,
 }
 
-/// Reads what a board sends, in two steps: `advance` takes bytes, and `event` lends what they made known.
-/// A caller that keeps a state of its own beside the framer can alter it in between; for any other caller
-/// there is `Decoder`.
+/// Reads what a board sends, in two steps: `advance` takes bytes, and `event` lends what they made
+/// known. A caller that keeps a state of its own beside the framer can alter it in between; for any
+/// other caller there is `Decoder`.
 ///
-/// Contracts see it as the bytes that it keeps: those that have come of an unfinished message, or all of
-/// the message that has just become whole. The bytes are kept in the framer itself, at most `MAX_TOTAL`
-/// of them. No call takes memory.
+/// Contracts see it as the bytes that it keeps: those that have come of an unfinished message, or
+/// all of the message that has just become whole. The bytes are kept in the framer itself, at most
+/// `MAX_TOTAL` of them. No call takes memory.
 #[derive(Drop)]
 pub struct Framer {
     state: FramerState,
@@ -114,7 +114,8 @@ impl Framer {
         }
     }
 
-    /// The bytes that are kept: those of an unfinished message, or of the one that has just become whole.
+    /// The bytes that are kept: those of an unfinished message, or of the one that has just become
+    /// whole.
     pub fn bytes(&self) -> &[u8]
         ensures { result.now ≡ self.now }
     {
@@ -129,7 +130,8 @@ impl Framer {
         self.state = FramerState::Hunting;
     }
 
-    /// Uses bytes of the piece up to and including the first that makes something known, or all of it.
+    /// Uses bytes of the piece up to and including the first that makes something known, or all of
+    /// it.
     pub fn advance(&mut self, piece: &[u8]) -> Advanced
         ensures within { result.used ≤ length piece.now }
         ensures first { FirstEvent (open_message self.old) piece.now result.used
@@ -155,8 +157,8 @@ impl Framer {
         Advanced { used, found: None }
     }
 
-    /// The event of what was found. A message that was found is still kept here: `advance` says so, and no
-    /// byte may come in between.
+    /// The event of what was found. A message that was found is still kept here: `advance` says so,
+    /// and no byte may come in between.
     pub fn event(&self, found: Found) -> Event<'_>
         requires { found ≡ Found.Message → IsWholeMessage self.now }
         ensures { event_content result ≡ event_found_in self.now found }
@@ -194,8 +196,8 @@ impl Framer {
         matches!(self.state, FramerState::Hunting | FramerState::Whole)
     }
 
-    // Takes the run at the front where a message begins, or where many bytes of one are missing, and
-    // else a few bytes one by one.
+    // Takes the run at the front where a message begins, or where many bytes of one are missing,
+    // and else a few bytes one by one.
     fn take_run(&mut self, rest: &[u8]) -> Advanced
         requires { 0 < length rest.now }
         ensures { FramesFront self.old rest.now result.used self.new result.found }
@@ -230,7 +232,8 @@ impl Framer {
         Advanced { used, found }
     }
 
-    // Uses bytes one by one, up to and including the first that makes something known, or all of them.
+    // Uses bytes one by one, up to and including the first that makes something known, or all of
+    // them.
     fn take_bytes(&mut self, bytes: &[u8]) -> Advanced
         requires { 0 < length bytes.now }
         ensures { FramesFront self.old bytes.now result.used self.new result.found }

@@ -1,5 +1,5 @@
-//! Laws of the bytes that a board sends, over lists of bytes as such. Nothing here runs: each function
-//! stands for the fact that its contract states.
+//! Laws of the bytes that a board sends, over lists of bytes as such. Nothing here runs: each
+//! function stands for the fact that its contract states.
 
 ghost use Rattle.std.specs.Prelude.{◌≡◌, ◌<◌, ◌≤◌, ◌+◌, ℕ, List, [], ◌∷◌, ◌++◌, length, Option};
 ghost use Rattle.std.specs.List.{AllByRecursion};
@@ -20,8 +20,8 @@ pub fn limits()
     ensures { MAX_TOTAL ≡ 16383 }
 {}
 
-/// Two values are equal, as `==` compares them, exactly where they are the same. Of an event what it
-/// tells counts, and not where its bytes lie.
+/// Two values are equal, as `==` compares them, exactly where they are the same. Of an event what
+/// it tells counts, and not where its bytes lie.
 pub fn equal_is_same()
     ensures unfinished { EqualIsSame ⟦<Unfinished as PartialEq>⟧.eq }
     ensures found { EqualIsSame ⟦<Found as PartialEq>⟧.eq }
@@ -32,16 +32,16 @@ pub fn equal_is_same()
     messages::equal_is_same();
 }
 
-/// Cut before each byte with a set top bit, a list is a seven-bit lead and segments, and no other way of
-/// dividing it makes such parts.
+/// Cut before each byte with a set top bit, a list is a seven-bit lead and segments, and no other
+/// way of dividing it makes such parts.
 pub fn one_cut()
     ensures cuts { (s : List ℕ) → CutsInto (lead s) (segments s) s }
     ensures once { (s front : List ℕ) (parts : List (List ℕ)) →
         CutsInto front parts s → (front ≡ lead s) × (parts ≡ segments s) }
 {}
 
-/// The events of a whole are those of its front, and then those of what the front leaves open and the
-/// rest. So later bytes change no event.
+/// The events of a whole are those of its front, and then those of what the front leaves open and
+/// the rest. So later bytes change no event.
 pub fn events_append()
     ensures { EventsAppend }
 {}
@@ -56,8 +56,8 @@ pub fn open_is_part()
     ensures { OpenIsPart }
 {}
 
-/// Places add up: events behind no bytes stay where they are, behind bytes behind bytes they stand behind
-/// all of these, and each of them is placed by itself.
+/// Places add up: events behind no bytes stay where they are, behind bytes behind bytes they stand
+/// behind all of these, and each of them is placed by itself.
 pub fn places_add()
     ensures { PlacesAdd }
 {}
@@ -77,9 +77,9 @@ pub fn open_is_short()
     ensures { (s : List ℕ) → length (open_message s) < MAX_TOTAL }
 {}
 
-/// Whatever bytes came before, messages that are spelled one after another are read whole, each at its
-/// last byte, and nothing stays open. All that the first of them may do to what came before is to cut
-/// it off.
+/// Whatever bytes came before, messages that are spelled one after another are read whole, each at
+/// its last byte, and nothing stays open. All that the first of them may do to what came before is
+/// to cut it off.
 pub fn recovery()
     ensures { (s : List ℕ) (m : Sent) (more : List Sent) →
         AllByRecursion (λ m. Spells m.said m.bytes) (m ∷ more) →
@@ -105,15 +105,15 @@ pub fn one_first_event()
         FirstEvent held piece j x → FirstEvent held piece k y → (j ≡ k) × (x ≡ y) }
 {}
 
-/// However bytes are cut into pieces, of one byte or of none, the events told are those of the bytes
-/// in a row.
+/// However bytes are cut into pieces, of one byte or of none, the events told are those of the
+/// bytes in a row.
 pub fn in_any_pieces()
     ensures { (s : List ℕ) (calls : List Call) → AreCalls (open_message s) calls →
         events (s ++ used_bytes calls) ≡ events s ++ events_in_pieces (length s) calls }
 {}
 
-/// What is written of a message is read as this message, at its last byte, in any pieces and whatever
-/// came before it.
+/// What is written of a message is read as this message, at its last byte, in any pieces and
+/// whatever came before it.
 pub fn spelling_in_pieces()
     ensures { (s : List ℕ) (said : Content) (calls : List Call) →
         IsMessage said → AreCalls (open_message s) calls → used_bytes calls ≡ spelling said →

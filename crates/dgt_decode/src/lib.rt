@@ -2,16 +2,17 @@
 //!
 //! ```text
 //! let mut decoder = Decoder::new();
-//! let fed = decoder.feed(piece);     // uses bytes up to and including the first that makes an event
+//! let fed = decoder.feed(piece);   // uses bytes up to and including the first with an event
 //! ```
 //!
-//! A caller feeds what `fed.used` leaves of a piece until the piece is used up, and may do anything with
-//! `fed.event` before it does: the event lends its body from the decoder until the next call. However the
-//! bytes are cut into pieces, the events are those of the bytes in a row (`laws::in_any_pieces`), and after
-//! any bytes messages are read whole again (`laws::recovery`).
+//! A caller feeds what `fed.used` leaves of a piece until the piece is used up, and may do anything
+//! with `fed.event` before it does: the event lends its body from the decoder until the next call.
+//! However the bytes are cut into pieces, the events are those of the bytes in a row
+//! (`laws::in_any_pieces`), and after any bytes messages are read whole again (`laws::recovery`).
 //!
-//! Messages, codes and lengths are those of the DGT Electronic Board Protocol Description (the header
-//! `dgtbrd`). How faulty bytes are told and where reading goes on after them is this project's own choice.
+//! Messages, codes and lengths are those of the DGT Electronic Board Protocol Description (the
+//! header `dgtbrd`). How faulty bytes are told and where reading goes on after them is this
+//! project's own choice.
 #![tactic(auto)]
 
 mod decoder;

@@ -1,5 +1,5 @@
-//! All events of a list of bytes, in a plain and slow way: the list is cut before each byte with a set
-//! top bit, and each part is judged whole.
+//! All events of a list of bytes, in a plain and slow way: the list is cut before each byte with a
+//! set top bit, and each part is judged whole.
 
 ghost use Rattle.std.specs.Prelude.{◌≡◌, ◌≤◌, ◌<◌, ◌+◌, ◌^◌, [], ◌++◌, length, map, take, if◌then◌else◌, IfOk, IfSome, OnOk, option_map};
 ghost use Rattle.dgt_decode.specs.Grammar.{cut_of, events, events_behind, lead, segment_events, strays, unfinished_part, verdict};

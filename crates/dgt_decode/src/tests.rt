@@ -262,7 +262,8 @@ fn plain_lines(alloc: Global, bytes: &[u8]) -> Result<Vec<String>, AllocError> {
     Ok(lines)
 }
 
-/// Feeds the decoder the bytes from one place to another, and gives what is left of the events told then.
+/// Feeds the decoder the bytes from one place to another, and gives what is left of the events told
+/// then.
 fn feed_as_told<'a, 'b>(
     rt: &impl Abort,
     decoder: &mut Decoder,

@@ -19,7 +19,8 @@ pub returns-else-tops-eq0 : goal.returns-else-tops-eq0
 returns-else-tops-eq0 c =
     let lanes = c.args.lanes in
     let some : 0 < mask_l (map has_top_bit lanes) = omega arith in
-    let found = ap (count_trailing_zeros 64) c.top_bits-tops.ensures ∙ trailing_mask_l has_top_bit 64 lanes (omega (arith, c.fits-lanes.0)) some in
+    let found = ap (count_trailing_zeros 64) c.top_bits-tops.ensures ∙ trailing_mask_l has_top_bit 64 lanes
+    (omega (arith, c.fits-lanes.0)) some in
     record {
       value = found;
       within = omega (arith, found, prefix_len-le-length (λ x. not (has_top_bit x)) lanes, c.fits-lanes.0);

@@ -7,11 +7,14 @@ pub returns-then-segment-lt-HEADER-clause-value : goal.returns-then-segment-lt-H
 returns-then-segment-lt-HEADER-clause-value c = sym (verdict-short c.args.segment.now (omega arith))
 
 pub returns-then-total-lt-HEADER-clause-value : goal.returns-then-total-lt-HEADER-clause-value
-returns-then-total-lt-HEADER-clause-value c = bad_here c.args.segment.now _ (rw (c.from.ensures, c.from-2.ensures) refl) (omega arith) c.if-total-lt-HEADER.true
+returns-then-total-lt-HEADER-clause-value c =
+    bad_here c.args.segment.now _ (rw (c.from.ensures, c.from-2.ensures) refl) (omega arith) c.if-total-lt-HEADER.true
 
 pub returns-then-segment-total-clause-value : goal.returns-then-segment-total-clause-value
-returns-then-segment-total-clause-value c = waits_here c.args.segment.now _ (rw (c.from.ensures, c.from-2.ensures) refl) c.if-segment-total.true
+returns-then-segment-total-clause-value c =
+    waits_here c.args.segment.now _ (rw (c.from.ensures, c.from-2.ensures) refl) c.if-segment-total.true
 
 pub returns-clause-value : goal.returns-clause-value
 returns-clause-value c =
-    whole_here c.args.segment.now _ _ (rw (c.from.ensures, c.from-2.ensures) refl) c.if-total-lt-HEADER.false c.if-segment-total.false c.whole_message.ensures
+    whole_here c.args.segment.now _ _ (rw (c.from.ensures, c.from-2.ensures) refl) c.if-total-lt-HEADER.false
+    c.if-segment-total.false c.whole_message.ensures

@@ -10,5 +10,6 @@ pub returns : goal.returns
 returns c =
     rw (c.push.ensures, c.clear.ensures) (elim c.if-have-eq0.branch [
       | then-have-eq0 w ↦ rw w.result-is (frames-first c.args.self.now c.args.byte (omega arith) c.requires)
-      | else-have-eq0 w ↦ rw (w.result-is, c.open_len-have.ensures) (frames-cut c.args.self.now c.args.byte (omega arith) c.requires)
+      | else-have-eq0 w ↦ rw (w.result-is, c.open_len-have.ensures)
+          (frames-cut c.args.self.now c.args.byte (omega arith) c.requires)
     ])

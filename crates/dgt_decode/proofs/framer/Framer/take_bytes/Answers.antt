@@ -14,17 +14,21 @@ returns-in-Some c =
     let i = c.loop-index.index in
     let step = one_byte c.loop-index.self bytes i c.take_byte.new.self _ c.loop-index-test.true c.in-Some.ensures in
     frames_found kept bytes (i + 1) c.take_byte.new.self c.in-Some.found
-    (found_first kept bytes i 1 c.loop-index.self c.take_byte.new.self _ c.loop-index.invariant step (omega arith) refl) (omega arith)
+    (found_first kept bytes i 1 c.loop-index.self c.take_byte.new.self _ c.loop-index.invariant step
+    (omega arith) refl) (omega arith)
     (step_held kept bytes i 1 c.loop-index.self c.take_byte.new.self _ c.loop-index.invariant step)
     (λ e. c.in-Some.ensures.whole cc)
     (λ e. step_came kept bytes i 1 c.loop-index.self c.take_byte.new.self _ c.loop-index.invariant step cc)
 
 pub loop-index-preserved : goal.loop-index-preserved
 loop-index-preserved c =
-    found_none c.args.self.now c.args.bytes.now c.loop-index.index 1 c.loop-index.self c.take_byte.new.self _ c.loop-index.invariant
-    (one_byte c.loop-index.self c.args.bytes.now c.loop-index.index c.take_byte.new.self _ c.loop-index-test.true c.in_default.ensures) refl
+    found_none c.args.self.now c.args.bytes.now c.loop-index.index 1 c.loop-index.self c.take_byte.new.self _
+    c.loop-index.invariant
+    (one_byte c.loop-index.self c.args.bytes.now c.loop-index.index c.take_byte.new.self _ c.loop-index-test.true
+    c.in_default.ensures) refl
 
 pub returns : goal.returns
 returns c =
     let all : c.loop-index.index ≡ length c.args.bytes.now = omega arith in
-    frames_none c.args.self.now c.args.bytes.now c.loop-index.self _ c.requires (omega arith) (rw all at c.loop-index.invariant)
+    frames_none c.args.self.now c.args.bytes.now c.loop-index.self _ c.requires (omega arith)
+    (rw all at c.loop-index.invariant)

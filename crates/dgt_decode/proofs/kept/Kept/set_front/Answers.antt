@@ -13,7 +13,12 @@ pub returns : goal.returns
 returns c = elim c.if-len-le-FEW.branch [
   | then-len-le-FEW+then-bytes-ge-FEW w ↦
       (let all : length (take 8 c.args.bytes.now) ≡ 8 = length-take-le 8 c.args.bytes.now w.if-bytes-ge-FEW.true in
-      rw (w.self-inside-is, put_chunk_is 0 c.self.inside.bytes (take 8 c.args.bytes.now) (omega (arith, all, c.self.told)))
+      rw (
+        w.self-inside-is,
+        put_chunk_is 0 c.self.inside.bytes (take 8 c.args.bytes.now)
+            (omega (arith, all, c.self.told)),
+      )
       (front c.args.len 8 c.args.bytes.now _ w.if-len-le-FEW.true w.if-bytes-ge-FEW.true))
-  | else-len-le-FEW w ↦ rw (w.self-inside-is, w.copy_from_slice.ensures.after) (front c.args.len c.args.len c.args.bytes.now _ (omega arith) c.requires.within)
+  | else-len-le-FEW w ↦ rw (w.self-inside-is, w.copy_from_slice.ensures.after)
+      (front c.args.len c.args.len c.args.bytes.now _ (omega arith) c.requires.within)
 ]
