@@ -52,7 +52,7 @@ is_bare _ = true
 spelled_by_code : (each : Command) → is_bare each ≡ true → HasForm (Read (command_content each)) (command_code (command_content each) ∷ [])
 spelled_by_code (command.ClockMessage message) h = cc
 spelled_by_code (command.Leds leds) h = cc
-spelled_by_code _ h = (tt, refl)
+spelled_by_code _ h = refl
 
 -- the command that is found is spelled by the byte
 pub bare_form : (byte : ℕ) (each : Command) → bare_command byte ≡ Some each → HasForm (Read (command_content each)) (byte ∷ [])

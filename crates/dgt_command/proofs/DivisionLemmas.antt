@@ -102,7 +102,7 @@ clock_zeros (size ∷ rest) byte h = elim (cases_lt size 3) [
 
 -- zeros complete an LED frame
 led_zeros : (rest : List ℕ) → slice_index rest 0 < 256 → length rest + 1 < word_length (0x60 ∷ rest) → Completed (0x60 ∷ rest)
-led_zeros [] byte h = record { event = Read (Leds []); count = 0; few = omega arith; noise = tt; form = (tt, refl) }
+led_zeros [] byte h = record { event = Read (Leds []); count = 0; few = omega arith; noise = tt; form = refl }
 led_zeros (size ∷ rest) byte h =
     let n : ℕ = size - 1 - length rest in
     let long : length (rest ++ 0 ∷ zeros n) ≡ size = omega (arith, length-append rest (0 ∷ zeros n), length_zeros n) in
@@ -111,7 +111,7 @@ led_zeros (size ∷ rest) byte h =
       count = n;
       few = omega arith;
       noise = tt;
-      form = (tt, ap (λ (k : ℕ). 0x60 ∷ k ∷ (rest ++ 0 ∷ zeros n)) (sym long));
+      form = ap (λ (k : ℕ). 0x60 ∷ k ∷ (rest ++ 0 ∷ zeros n)) (sym long);
     }
 
 -- what is shorter than its word becomes one by zeros
@@ -217,7 +217,7 @@ no_word_begins_another e f w v more h k is =
 read_back : (cs : List CommandContent) → AllByRecursion (λ c. SpellsCommand c (command_spelling c)) cs → Divides (flat_map command_spelling cs) (map Read cs) []
 read_back [] h = (refl, nothing_is_partial)
 read_back (c ∷ cs) h =
-    (command_spelling c, flat_map command_spelling cs, record { form = (h.0.is_command, refl); are_bytes = h.0.are_bytes }, refl, read_back cs h.1)
+    (command_spelling c, flat_map command_spelling cs, record { form = refl; are_bytes = h.0.are_bytes }, refl, read_back cs h.1)
 
 -- bytes that follow others are divided from their rest on
 pub Divides-append : DivisionsAppend

@@ -1,5 +1,5 @@
 -- What the derived `==` says of commands and of events. Different commands are told apart by their codes, and events by a number a case.
-use Rattle.std.proofs.Common.{◌≡◌, ℕ, nat_eq, refl, ap, List, [], false}
+use Rattle.std.proofs.Common.{◌≡◌, ℕ, refl, ap, List, []}
 use Rattle.std.specs.Prelude.{◌↔◌, IsTrue, Option, Some, None, IfSome}
 use Rattle.std.specs.Option.{option_eq, option_map}
 use Rattle.dgt_command.specs.declared.command.Command.TheVariants as command
@@ -13,30 +13,16 @@ use Rattle.dgt_command.specs.Equality.{CommandHasArrays, EqualIsSameReadOf, Even
 use Rattle.dgt_command.specs.contracts.command.CommandPartialEq.TheImpl as derived_command
 use Rattle.dgt_command.specs.contracts.command.CommandEventPartialEq.TheImpl as derived_event
 use Rattle.dgt_command.specs.contracts.decoder.CommandFedPartialEq.TheImpl as derived_fed
-use Rattle.dgt_command.proofs.Equal.{both, equal_numbers, equal_bytes, equal_clocks}
-
--- no test that is false is true
-never : IsTrue false → ⊥
-never t = cc
-
--- numbers that are not equal are not the same
-apart : (m n : ℕ) → nat_eq m n ≡ false → m ≡ n → ⊥
-apart m n differ e =
-    let same : IsTrue (nat_eq m n) = (equal_numbers m n).1 e in
-    cc
+use Rattle.dgt_command.proofs.Equal.{both, differ, equal_numbers, equal_bytes, equal_clocks}
 
 -- the clock message of a command, and its LED bytes
 abbrev message_of : CommandContent → ClockContent
 message_of (content.ClockMessage message) = message
-message_of _ = content.End
+message_of _ = record { id = 0; payload = [] }
 
 abbrev leds_of : CommandContent → List ℕ
 leds_of (content.Leds leds) = leds
 leds_of _ = []
-
--- commands of different codes are neither equal nor the same
-differ : (a b : CommandContent) → nat_eq (command_code a) (command_code b) ≡ false → IsTrue false ↔ (a ≡ b)
-differ a b codes = (λ t. absurd (never t), λ e. absurd (apart (command_code a) (command_code b) codes (ap command_code e)))
 
 -- two commands are equal exactly where they say the same
 pub equal_commands : EqualIsSameReadOf CommandHasArrays command_content (derived_command.eq-value).it
@@ -57,7 +43,7 @@ equal_commands (command.ClockMessage a) (command.ClockMessage b) h k =
 equal_commands (command.Leds a) (command.Leds b) h k =
     let same = equal_bytes a.bytes.now b.bytes.now in
     (λ t. ap (λ (leds : List ℕ). content.Leds leds) (same.0 t), λ e. same.1 (ap leds_of e))
-equal_commands a b h k = differ (command_content a) (command_content b) refl
+equal_commands a b h k = differ command_code (command_content a) (command_content b) refl
 
 -- the number of an event's case
 abbrev event_case_of : EventContent → ℕ
@@ -76,10 +62,6 @@ abbrev byte_of : EventContent → ℕ
 byte_of (content.Stray byte) = byte
 byte_of _ = 0
 
--- events of different cases are neither equal nor the same
-differ_events : (a b : EventContent) → nat_eq (event_case_of a) (event_case_of b) ≡ false → IsTrue false ↔ (a ≡ b)
-differ_events a b cases = (λ t. absurd (never t), λ e. absurd (apart (event_case_of a) (event_case_of b) cases (ap event_case_of e)))
-
 -- two events are equal exactly where they tell the same
 pub equal_events : EqualIsSameReadOf EventHasArrays command_event_content (derived_event.eq-value).it
 equal_events (event.Command a) (event.Command b) h k =
@@ -91,7 +73,7 @@ equal_events event.BadEnd event.BadEnd h k = (λ _. refl, λ _. refl)
 equal_events (event.Stray a) (event.Stray b) h k =
     let same = equal_numbers a b in
     (λ t. ap (λ (byte : ℕ). content.Stray byte) (same.0 t), λ e. same.1 (ap byte_of e))
-equal_events a b h k = differ_events (command_event_content a) (command_event_content b) refl
+equal_events a b h k = differ event_case_of (command_event_content a) (command_event_content b) refl
 
 -- the event that is there
 abbrev there : Option EventContent → EventContent
@@ -109,8 +91,8 @@ equal_found (Some a) (Some b) h k =
     let same = equal_events a b h k in
     (λ t. ap (λ (told : EventContent). Some told) (same.0 t), λ e. same.1 (ap there e))
 equal_found None None h k = (λ _. refl, λ _. refl)
-equal_found (Some a) None h k = (λ t. absurd (never t), λ e. absurd (apart 1 0 refl (ap how_many e)))
-equal_found None (Some b) h k = (λ t. absurd (never t), λ e. absurd (apart 0 1 refl (ap how_many e)))
+equal_found (Some a) None h k = differ how_many (Some (command_event_content a)) None refl
+equal_found None (Some b) h k = differ how_many None (Some (command_event_content b)) refl
 
 -- two answers are equal exactly where they use and tell the same
 pub equal_fed : EqualIsSameReadOf FedHasArrays fed_seen (derived_fed.eq-value).it

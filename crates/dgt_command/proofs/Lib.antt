@@ -1,9 +1,10 @@
 pub mod CodeLemmas
+pub mod ListLemmas
 pub mod ClockLemmas
 pub mod TellingLemmas
 pub mod WordLemmas
+pub mod ViewLemmas
 pub mod DivisionLemmas
-pub mod ContentLemmas
 pub mod ReaderLemmas
 pub mod Equal
 pub mod EqualCommands

@@ -4,22 +4,24 @@ use Rattle.std.proofs.lemmas.Bool.{cases_eq, cases_lt, le-ltb, lt-ltb, ne_eqb, e
 use Rattle.std.proofs.lemmas.List.{append_cancel_left, take_at, get_or_push, length-take-le, take-append-drop}
 use Rattle.std.specs.Prelude.{◌==◌, slice_index, if◌then◌else◌}
 use Rattle.dgt_command.specs.declared.command.Command.{Command}
-use Rattle.dgt_command.specs.Content.{command_content, ClockContent, End, CommandContent, ClockMessage, Leds}
+use Rattle.dgt_command.specs.Content.{command_content, ClockContent, CommandContent, ClockMessage, Leds}
 use Rattle.dgt_command.specs.Content.{EventContent, Read, BadSize, BadStart, BadEnd, Stray}
-use Rattle.dgt_command.specs.Spelling.{bare_command, clock_in, clock_id, payload, IsCommand, behind_code}
-use Rattle.dgt_command.specs.Spelling.{command_spelling}
+use Rattle.dgt_command.specs.Spelling.{bare_command, behind_code, command_spelling}
 use Rattle.dgt_command.specs.Lengths.{word_length}
 use Rattle.dgt_command.specs.Words.{BeginsNoCommand, HasForm}
-use Rattle.dgt_command.proofs.ClockLemmas.{clock_in_lem, clock_case}
 use Rattle.dgt_command.proofs.CodeLemmas.{bare_form, no_command}
 
 -- the length of a clock message of a size that is no fault
 abbrev pub body_length : ℕ → List ℕ → ℕ
 body_length size rest = if slice_index rest 0 == 3 then size + 2 else 3
 
+-- some clock message
+nothing : ClockContent
+nothing = record { id = 0; payload = [] }
+
 -- a byte that begins no command begins no clock message and no LED frame
 not_clock : (b : ℕ) → BeginsNoCommand b → (b == 0x2b) ≡ false
-not_clock b h = ne_eqb b 0x2b (λ e. h (ClockMessage End) (behind_code (ClockMessage End)) (ap (λ (x : ℕ). x ∷ behind_code (ClockMessage End)) (sym e)))
+not_clock b h = ne_eqb b 0x2b (λ e. h (ClockMessage nothing) (behind_code (ClockMessage nothing)) (ap (λ (x : ℕ). x ∷ behind_code (ClockMessage nothing)) (sym e)))
 
 -- nor an LED frame
 not_leds : (b : ℕ) → BeginsNoCommand b → (b == 0x60) ≡ false
@@ -27,13 +29,13 @@ not_leds b h = ne_eqb b 0x60 (λ e. h (Leds []) (behind_code (Leds [])) (ap (λ 
 
 -- the word that a list begins with has this length
 spelling_length : (c : CommandContent) (x : List ℕ) → word_length (command_spelling c ++ x) ≡ length (command_spelling c)
-spelling_length (ClockMessage message) x = rw (le-ltb (length (payload message) + 3) 3 (omega arith)) (omega (arith, length-append (payload message) (0 ∷ [])))
+spelling_length (ClockMessage message) x = rw (le-ltb (length message.payload + 3) 3 (omega arith)) (omega (arith, length-append message.payload (0 ∷ [])))
 spelling_length (Leds leds) x = omega arith
 spelling_length _ x = refl
 
 -- a word with anything behind it tells its own length
 pub form_length : (e : EventContent) (w x : List ℕ) → HasForm e w → word_length (w ++ x) ≡ length w
-form_length (Read c) w x h = subst (λ (v : List ℕ). word_length (v ++ x) ≡ length v) (sym h.1) (spelling_length c x)
+form_length (Read c) w x h = subst (λ (v : List ℕ). word_length (v ++ x) ≡ length v) (sym h) (spelling_length c x)
 form_length BadSize w x (size, small, is) = subst (λ (v : List ℕ). word_length (v ++ x) ≡ length v) (sym is) (rw (lt-ltb size 3 small) refl)
 form_length BadStart w x (size, third, large, other, is) = subst (λ (v : List ℕ). word_length (v ++ x) ≡ length v) (sym is) (rw (le-ltb size 3 large, ne_eqb third 3 other) refl)
 form_length BadEnd w x (size, inner, last, long, other, some, is) = subst (λ (v : List ℕ). word_length (v ++ x) ≡ length v) (sym is) (rw (le-ltb size 3 (omega arith)) (omega (arith, length-append inner (last ∷ []))))
@@ -47,12 +49,13 @@ event_of_byte None b = Stray b
 -- a byte that begins no command is stray
 stray_byte : (found : Option Command) (b : ℕ) → bare_command b ≡ found → BeginsNoCommand b → event_of_byte found b ≡ Stray b
 stray_byte None b e none = refl
-stray_byte (Some each) b e none = absurd (none (command_content each) [] (sym (bare_form b each e).1))
+stray_byte (Some each) b e none = absurd (none (command_content each) [] (sym (bare_form b each e)))
 
 -- the event of a clock message of this id, by what follows it
 abbrev pub end_event : ℕ → List ℕ → EventContent
 end_event id more =
-    if get_or more (length more - 1) 0 == 0 then Read (ClockMessage (clock_in id (take (length more - 1) more))) else BadEnd
+    if get_or more (length more - 1) 0 == 0 then Read (ClockMessage (record { id = id; payload = take (length more - 1) more }))
+    else BadEnd
 
 -- the same, behind the first byte of a clock message
 abbrev pub clock_event : List ℕ → EventContent
@@ -67,15 +70,15 @@ event_of (b ∷ rest) =
     if b == 0x2b then clock_event rest else if b == 0x60 then Read (Leds (drop 1 rest)) else event_of_byte (bare_command b) b
 
 -- all but the last byte
-front : (p : List ℕ) (x : ℕ) → take (length (p ++ x ∷ []) - 1) (p ++ x ∷ []) ≡ p
+pub front : (p : List ℕ) (x : ℕ) → take (length (p ++ x ∷ []) - 1) (p ++ x ∷ []) ≡ p
 front p x = take_at p (x ∷ []) (length (p ++ x ∷ []) - 1) (omega (arith, length-append p (x ∷ [])))
 
 -- the last byte
-last_of : (p : List ℕ) (x : ℕ) → get_or (p ++ x ∷ []) (length (p ++ x ∷ []) - 1) 0 ≡ x
+pub last_of : (p : List ℕ) (x : ℕ) → get_or (p ++ x ∷ []) (length (p ++ x ∷ []) - 1) 0 ≡ x
 last_of p x = get_or_push p x 0 (length (p ++ x ∷ []) - 1) (omega (arith, length-append p (x ∷ [])))
 
 -- a clock message that ends with zero is read
-end_read : (id : ℕ) (p : List ℕ) → end_event id (p ++ 0 ∷ []) ≡ Read (ClockMessage (clock_in id p))
+end_read : (id : ℕ) (p : List ℕ) → end_event id (p ++ 0 ∷ []) ≡ Read (ClockMessage (record { id = id; payload = p }))
 end_read id p = rw (last_of p 0, front p 0) refl
 
 -- one that ends with another byte is a fault
@@ -83,10 +86,9 @@ end_bad : (id : ℕ) (p : List ℕ) (x : ℕ) → x ≢ 0 → end_event id (p ++
 end_bad id p x h = rw (last_of p x, ne_eqb x 0 h) refl
 
 -- the event of a spelling is its command
-event_of_spelling : (c : CommandContent) → IsCommand c → event_of (command_spelling c) ≡ Read c
-event_of_spelling (ClockMessage message) h =
-    end_read (clock_id message) (payload message) ∙ ap (λ m. Read (ClockMessage m)) (clock_in_lem message h)
-event_of_spelling _ h = refl
+event_of_spelling : (c : CommandContent) → event_of (command_spelling c) ≡ Read c
+event_of_spelling (ClockMessage message) = end_read message.id message.payload
+event_of_spelling _ = refl
 
 -- a clock message with a wrong last byte is a fault
 end_bad_long : (inner : List ℕ) (x : ℕ) (size : ℕ) → 0 < length inner → x ≢ 0 → clock_event (size ∷ 3 ∷ (inner ++ x ∷ [])) ≡ BadEnd
@@ -95,7 +97,7 @@ end_bad_long (id ∷ p) x size some h = end_bad id p x h
 
 -- a word tells its event
 pub form_event : (e : EventContent) (w : List ℕ) → HasForm e w → event_of w ≡ e
-form_event (Read c) w h = ap event_of h.1 ∙ event_of_spelling c h.0
+form_event (Read c) w h = ap event_of h ∙ event_of_spelling c
 form_event BadSize w (size, small, is) = ap event_of is
 form_event BadStart w (size, third, large, other, is) = ap event_of is
 form_event BadEnd w (size, inner, final, long, other, some, is) = ap event_of is ∙ end_bad_long inner final size (omega arith) other
@@ -132,15 +134,11 @@ word_of_byte None b e not_clock not_leds = (Stray b, (no_command b e not_clock n
 pub byte_word : (b : ℕ) → b ≢ 0x2b → b ≢ 0x60 → (e : EventContent) × HasForm e (b ∷ [])
 byte_word b c l = word_of_byte (bare_command b) b refl c l
 
--- the spelling of a clock message, by its id and payload
-clock_spelling : (c : ClockContent) (id : ℕ) (p : List ℕ) (size : ℕ) → clock_id c ≡ id → payload c ≡ p → length p + 3 ≡ size → 0x2b ∷ size ∷ 3 ∷ id ∷ (p ++ 0 ∷ []) ≡ command_spelling (ClockMessage c)
-clock_spelling c id p size e f g = rw (← g, ← f, ← e) refl
-
 -- a clock message of this id and payload
-pub clock_word : (id : ℕ) (p : List ℕ) (size : ℕ) → length p + 3 ≡ size → (c : ClockContent) × HasForm (Read (ClockMessage c)) (0x2b ∷ size ∷ 3 ∷ id ∷ (p ++ 0 ∷ []))
+pub clock_word : (id : ℕ) (p : List ℕ) (size : ℕ) → length p + 3 ≡ size
+    → (c : ClockContent) × HasForm (Read (ClockMessage c)) (0x2b ∷ size ∷ 3 ∷ id ∷ (p ++ 0 ∷ []))
 clock_word id p size h =
-    let found = clock_case id p in
-    (found.command, (found.is_command, clock_spelling found.command id p size found.same_id found.same_payload h))
+    (record { id = id; payload = p }, ap (λ (n : ℕ). 0x2b ∷ n ∷ 3 ∷ id ∷ (p ++ 0 ∷ [])) (sym h))
 
 -- a clock message that is long enough, right or not
 full_word : (id : ℕ) (p : List ℕ) (x size : ℕ) → length p + 3 ≡ size → (e : EventContent) × HasForm e (0x2b ∷ size ∷ 3 ∷ id ∷ (p ++ x ∷ []))
@@ -158,7 +156,7 @@ pub record Ends (ys : List ℕ) : Type 0 where
   pub is : ys ≡ id ∷ (between ++ final ∷ [])
 
 -- a list of at least one, by its last
-final_of : (x : ℕ) (ys : List ℕ) → (front : List ℕ) × (final : ℕ) × (x ∷ ys ≡ front ++ final ∷ [])
+pub final_of : (x : ℕ) (ys : List ℕ) → (front : List ℕ) × (final : ℕ) × (x ∷ ys ≡ front ++ final ∷ [])
 final_of x [] = ([], x, refl)
 final_of x (y ∷ ys) = let more = final_of y ys in (x ∷ more.0, more.1, ap (λ zs. x ∷ zs) more.2)
 
@@ -221,7 +219,7 @@ led_begins (size ∷ rest) h =
       event = Read (Leds (take size rest));
       word = 0x60 ∷ size ∷ take size rest;
       after = drop size rest;
-      form = (tt, ap (λ (n : ℕ). 0x60 ∷ n ∷ take size rest) (sym long));
+      form = ap (λ (n : ℕ). 0x60 ∷ n ∷ take size rest) (sym long);
       is = ap (λ zs. 0x60 ∷ size ∷ zs) (sym (take-append-drop size rest));
     }
 

@@ -1,5 +1,5 @@
 -- Commands and what a reader of their bytes tells, without where they lie in memory.
-use Rattle.std.specs.Prelude.{ℕ, List, slice_index as nth, Option, Some, None}
+use Rattle.std.specs.Prelude.{ℕ, List, [], ◌∷◌, slice_index as nth, Option, Some, None}
 use Rattle.dgt_values.specs.declared.kinds.Kind.{Kind}
 use Rattle.dgt_command.specs.declared.carried.LedBytes.{LedBytes}
 use Rattle.dgt_command.specs.declared.carried.Payload.{Payload}
@@ -10,20 +10,13 @@ use Rattle.dgt_command.specs.declared.command.Command.{Command}
 use Rattle.dgt_command.specs.declared.command.Command.TheVariants as command
 use Rattle.dgt_command.specs.declared.command.CommandEvent.{CommandEvent}
 use Rattle.dgt_command.specs.declared.command.CommandEvent.TheVariants as event
+use Rattle.dgt_command.specs.declared.ids.KnownId.{KnownId}
+use Rattle.dgt_command.specs.Ids.{id_number}
 
--- What a clock message asks for. A display has its places A to F, from left to right, its dots and
--- its beep; a clock is set to hours, minutes and seconds of the left and of the right, and a
--- control byte. A text has its eight letters, from left to right, and its beep.
-pub data ClockContent : Type 0 where
-  Display : (a b c d e f dots beep : ℕ) → ClockContent
-  Icons : List ℕ → ClockContent
-  End Button ClockVersion : ClockContent
-  SetAndRun :
-      (left_hours left_minutes left_seconds right_hours right_minutes right_seconds control : ℕ)
-      → ClockContent
-  Beep : ℕ → ClockContent
-  Text : (a b c d e f g h beep : ℕ) → ClockContent
-  Raw : (id : ℕ) (payload : List ℕ) → ClockContent
+-- A clock message by its id and what it carries, which tell its case.
+pub record ClockContent : Type 0 where
+  pub id : ℕ
+  pub payload : List ℕ
 
 pub data CommandContent : Type 0 where
   Reset Clock Dump Update UpdateBoard UpdateNice : CommandContent
@@ -48,19 +41,29 @@ raw_id raw = raw.id
 abbrev pub raw_payload : RawClock → List ℕ
 raw_payload raw = payload_bytes raw.payload
 
+abbrev pub known_clock : KnownId → List ℕ → ClockContent
+known_clock known payload = record { id = id_number known; payload = payload }
+
+-- the places of a display, counted from left to right, are sent C, B, A, F, E, D
+abbrev pub display_content : (ℕ → ℕ) → ℕ → ℕ → ClockContent
+display_content place dots beep =
+    known_clock KnownId.Display
+    (place 2 ∷ place 1 ∷ place 0 ∷ place 5 ∷ place 4 ∷ place 3 ∷ dots ∷ beep ∷ [])
+
 abbrev pub clock_content : ClockCommand → ClockContent
-clock_content (clock.Display p dots beep) =
-    Display (nth p 0) (nth p 1) (nth p 2) (nth p 3) (nth p 4) (nth p 5) dots beep
-clock_content (clock.Icons payload) = Icons (payload_bytes payload)
-clock_content clock.End = End
-clock_content clock.Button = Button
-clock_content clock.Version = ClockVersion
+clock_content (clock.Display places dots beep) = display_content (λ i. nth places i) dots beep
+clock_content (clock.Icons icons) = known_clock KnownId.Icons (payload_bytes icons)
+clock_content clock.End = known_clock KnownId.End []
+clock_content clock.Button = known_clock KnownId.Button []
+clock_content clock.Version = known_clock KnownId.Version []
 clock_content (clock.SetAndRun l r control) =
-    SetAndRun (nth l 0) (nth l 1) (nth l 2) (nth r 0) (nth r 1) (nth r 2) control
-clock_content (clock.Beep duration) = Beep duration
+    known_clock KnownId.SetAndRun
+    (nth l 0 ∷ nth l 1 ∷ nth l 2 ∷ nth r 0 ∷ nth r 1 ∷ nth r 2 ∷ control ∷ [])
+clock_content (clock.Beep duration) = known_clock KnownId.Beep (duration ∷ [])
 clock_content (clock.Text l beep) =
-    Text (nth l 0) (nth l 1) (nth l 2) (nth l 3) (nth l 4) (nth l 5) (nth l 6) (nth l 7) beep
-clock_content (clock.Raw raw) = Raw (raw_id raw) (raw_payload raw)
+    known_clock KnownId.Text
+    (nth l 0 ∷ nth l 1 ∷ nth l 2 ∷ nth l 3 ∷ nth l 4 ∷ nth l 5 ∷ nth l 6 ∷ nth l 7 ∷ beep ∷ [])
+clock_content (clock.Raw raw) = record { id = raw_id raw; payload = raw_payload raw }
 
 abbrev pub command_content : Command → CommandContent
 command_content command.Reset = Reset

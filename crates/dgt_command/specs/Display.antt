@@ -1,14 +1,13 @@
 -- What the clock shows of six characters.
 use Rattle.std.specs.Prelude.{◌≡◌, ℕ, ◌<◌, List, slice_index as nth}
 use Rattle.dgt_values.specs.Segment.{IsShownBy}
-use Rattle.dgt_command.specs.Content.{ClockContent, Display}
+use Rattle.dgt_command.specs.Content.{ClockContent, display_content}
 
 -- a display whose places show the six characters, from left to right
 abbrev pub Shows : List ℕ → ℕ → ℕ → ClockContent → Type 0
-Shows text dots beep command =
+Shows text dots beep message =
     (place : ℕ → ℕ) × ((i : ℕ) → i < 6 → IsShownBy (nth text i) (place i))
-    × (command
-       ≡ Display (place 0) (place 1) (place 2) (place 3) (place 4) (place 5) dots beep)
+    × (message ≡ display_content place dots beep)
 
 -- one of the six characters has no segments
 abbrev pub HasNoSegments : List ℕ → Type 0

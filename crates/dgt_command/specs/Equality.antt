@@ -13,7 +13,7 @@ use Rattle.dgt_command.specs.Content.{EventContent, command_event_content}
 
 -- two values that are as they should be are equal exactly where a clause reads the same of them
 abbrev pub EqualIsSameReadOf :
-  {T Read : Type 0} → (T → Type 0) → (T → Read) → (T → T → Bool) → Type 0
+    {T Read : Type 0} → (T → Type 0) → (T → Read) → (T → T → Bool) → Type 0
 EqualIsSameReadOf Holds read eq =
     (a b : _) → Holds a → Holds b → IsTrue (eq a b) ↔ (read a ≡ read b)
 

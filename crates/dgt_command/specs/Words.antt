@@ -3,7 +3,7 @@ use Rattle.std.specs.Prelude.{◌≡◌, ◌≢◌, ℕ, ◌+◌, ◌<◌, ◌�
 use Rattle.std.specs.List.{AllByRecursion}
 use Rattle.dgt_command.specs.Content.{CommandContent, ClockMessage, Leds, EventContent, Read}
 use Rattle.dgt_command.specs.Content.{BadSize, BadStart, BadEnd, Stray}
-use Rattle.dgt_command.specs.Spelling.{AreBytes, command_spelling, IsCommand}
+use Rattle.dgt_command.specs.Spelling.{AreBytes, command_spelling}
 
 abbrev pub BeginsNoCommand : ℕ → Type 0
 BeginsNoCommand byte =
@@ -12,7 +12,7 @@ BeginsNoCommand byte =
 -- Each event has its words: a command its spelling, a fault what is read until it shows, and a
 -- stray byte itself.
 abbrev pub HasForm : EventContent → List ℕ → Type 0
-HasForm (Read command) word = IsCommand command × (word ≡ command_spelling command)
+HasForm (Read command) word = word ≡ command_spelling command
 HasForm BadSize word = (size : ℕ) × (size < 3) × (word ≡ 0x2b ∷ size ∷ [])
 HasForm BadStart word =
     (size : ℕ) × (start : ℕ) × (3 ≤ size) × (start ≢ 0x03) × (word ≡ 0x2b ∷ size ∷ start ∷ [])

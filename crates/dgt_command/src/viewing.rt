@@ -1,9 +1,8 @@
 //! Commands read from their bytes.
 
 ghost use Rattle.std.specs.Prelude.{◌≡◌, ◌+◌, ◌<◌, ◌≤◌, ◌∷◌, ◌++◌, [], length, IfNone, IfSome};
-ghost use Rattle.dgt_command.specs.Content.{clock_content, command_content, CommandContent};
-ghost use Rattle.dgt_command.specs.Content.{payload_bytes};
-ghost use Rattle.dgt_command.specs.Spelling.{clock_id, payload, SpellsCommand};
+ghost use Rattle.dgt_command.specs.Content.{CommandContent, clock_content, command_content, payload_bytes};
+ghost use Rattle.dgt_command.specs.Spelling.{SpellsCommand};
 
 use crate::carried::{LedBytes, Payload};
 use crate::clock::{ClockCommand, RawClock};
@@ -33,8 +32,8 @@ pub fn view_command(bytes: &[u8]) -> Option<Command<'_>>
 
 // The clock message of this id that carries these bytes.
 fn clock_command(id: u8, carried: Payload<'_>) -> ClockCommand<'_>
-    ensures id { clock_id (clock_content result) ≡ id }
-    ensures carried { payload (clock_content result) ≡ payload_bytes carried.entry }
+    ensures id { (clock_content result).id ≡ id }
+    ensures carried { (clock_content result).payload ≡ payload_bytes carried.entry }
 {
     if let Ok(raw) = RawClock::new(id, carried) {
         return ClockCommand::Raw(raw);

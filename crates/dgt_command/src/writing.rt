@@ -3,7 +3,7 @@
 ghost use Rattle.std.specs.Prelude.{◌≡◌, ◌+◌, ◌<◌, ◌≤◌, [], ◌∷◌, ◌++◌, length, OnOk};
 ghost use Rattle.dgt_values.specs.Room.{WritesFront};
 ghost use Rattle.dgt_command.specs.Content.{clock_content, command_content};
-ghost use Rattle.dgt_command.specs.Spelling.{clock_id, payload, command_spelling, SpellsCommand};
+ghost use Rattle.dgt_command.specs.Spelling.{clock_id, command_spelling, SpellsCommand};
 
 use crate::clock::ClockCommand;
 use crate::codes::command_code;
@@ -57,8 +57,8 @@ fn write(command: &Command, out: &mut [u8])
 
 // Fills the slice with what follows the code of a clock message.
 fn write_clock(message: &ClockCommand, out: &mut [u8])
-    requires { length out.old ≡ length (payload (clock_content message.now)) + 4 }
-    ensures { out.new ≡ (length (payload (clock_content message.now)) + 3) ∷ 0x03 ∷ clock_id (clock_content message.now) ∷ (payload (clock_content message.now) ++ 0x00 ∷ []) }
+    requires { length out.old ≡ length (clock_content message.now).payload + 4 }
+    ensures { out.new ≡ (length (clock_content message.now).payload + 3) ∷ 0x03 ∷ (clock_content message.now).id ∷ ((clock_content message.now).payload ++ 0x00 ∷ []) }
 {
     let size = payload_length(message);
     let (head, tail) = out.split_at_mut(3);
@@ -87,7 +87,7 @@ pub fn clock_id(message: &ClockCommand) -> u8
 
 // How many bytes a clock message carries.
 fn payload_length(message: &ClockCommand) -> usize
-    ensures exact { result ≡ length (payload (clock_content message.now)) }
+    ensures exact { result ≡ length (clock_content message.now).payload }
     ensures short { result ≤ 252 }
 {
     match message {
@@ -103,8 +103,8 @@ fn payload_length(message: &ClockCommand) -> usize
 
 // Fills the slice with what a clock message carries.
 fn write_payload(message: &ClockCommand, out: &mut [u8])
-    requires { length out.old ≡ length (payload (clock_content message.now)) }
-    ensures { out.new ≡ payload (clock_content message.now) }
+    requires { length out.old ≡ length (clock_content message.now).payload }
+    ensures { out.new ≡ (clock_content message.now).payload }
 {
     match message {
         ClockCommand::Display { places, dots, beep } => {

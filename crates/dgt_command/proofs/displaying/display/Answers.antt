@@ -20,12 +20,12 @@ shows_six text places a b c d e f (suc (suc (suc (suc (suc (suc i)))))) h = absu
 pub returns-clause-ok : goal.returns-clause-ok
 returns-clause-ok c =
     let places : List ℕ =
-        c.in_ok-segment.field-0 ∷ c.in_ok-segment-2.field-0 ∷ c.in_ok-segment-3.field-0
-        ∷ c.in_ok-segment-4.field-0 ∷ c.in_ok-segment-5.field-0 ∷ c.in_ok-segment-6.field-0 ∷ [] in (
+    c.in_ok-segment.field-0 ∷ c.in_ok-segment-2.field-0 ∷ c.in_ok-segment-3.field-0
+    ∷ c.in_ok-segment-4.field-0 ∷ c.in_ok-segment-5.field-0 ∷ c.in_ok-segment-6.field-0 ∷ [] in (
       λ i. slice_index places i,
       shows_six c.args.text places
-      (rw c.in_ok-segment.was at c.segment.ensures) (rw c.in_ok-segment-2.was at c.segment-2.ensures)
-      (rw c.in_ok-segment-3.was at c.segment-3.ensures) (rw c.in_ok-segment-4.was at c.segment-4.ensures)
-      (rw c.in_ok-segment-5.was at c.segment-5.ensures) (rw c.in_ok-segment-6.was at c.segment-6.ensures),
+          (rw c.in_ok-segment.was at c.segment.ensures) (rw c.in_ok-segment-2.was at c.segment-2.ensures)
+          (rw c.in_ok-segment-3.was at c.segment-3.ensures) (rw c.in_ok-segment-4.was at c.segment-4.ensures)
+          (rw c.in_ok-segment-5.was at c.segment-5.ensures) (rw c.in_ok-segment-6.was at c.segment-6.ensures),
       refl,
     )

@@ -1,6 +1,5 @@
 use Rattle.std.proofs.Common.{arith, drop, subst, refl}
 use Rattle.dgt_command.specs.Spelling.{AreBytes}
-use Rattle.dgt_command.proofs.ContentLemmas.{is_command}
 use Rattle.dgt_command.proofs.DivisionLemmas.{bytes_left}
 use Rattle.dgt_command.proofs.writing.encode.Goals as goal
 
@@ -8,4 +7,4 @@ pub returns-clause-spells : goal.returns-clause-spells
 returns-clause-spells c =
     let kept = drop c.length-need.result c.args.out.now in
     let written : AreBytes c.write.new.out = bytes_left c.write.new.out kept (λ i. omega (arith, c.type_inv.out i)) in
-    record { is_command = is_command c.args.command.now; are_bytes = subst AreBytes c.write.ensures written; spelled = refl }
+    record { are_bytes = subst AreBytes c.write.ensures written; spelled = refl }

@@ -1,0 +1,70 @@
+-- What a whole command looks like, byte by byte.
+use Rattle.std.proofs.Common.{◌≡◌, ℕ, suc, ◌+◌, ◌-◌, ◌<◌, ◌≤◌, List, [], ◌∷◌, ◌++◌, length, get_or, take, drop, refl, sym, ap, subst, ◌∙◌, ◌⊎◌, inl, inr, arith, length-append}
+use Rattle.dgt_command.specs.Content.{ClockContent, CommandContent, ClockMessage, Leds}
+use Rattle.dgt_command.specs.Spelling.{command_spelling}
+use Rattle.dgt_command.proofs.WordLemmas.{final_of, front, last_of}
+
+-- a list of at least one, by its last
+by_last : (xs : List ℕ) → 0 < length xs → xs ≡ take (length xs - 1) xs ++ get_or xs (length xs - 1) 0 ∷ []
+by_last [] h = absurd (omega arith)
+by_last (x ∷ xs) h =
+    let found = final_of x xs in
+    subst (λ (ys : List ℕ). ys ≡ take (length ys - 1) ys ++ get_or ys (length ys - 1) 0 ∷ []) (sym found.2)
+    (rw (front found.0 found.1, last_of found.0 found.1) refl)
+
+-- bytes that are framed as a clock message spell it
+pub clock_view : (bytes : List ℕ) (message : ClockContent)
+    → 5 ≤ length bytes → get_or bytes 0 0 ≡ 0x2b → get_or bytes 2 0 ≡ 0x03 → get_or bytes (length bytes - 1) 0 ≡ 0x00
+    → message.id ≡ get_or bytes 3 0 → message.payload ≡ take (length bytes - 1 - 4) (drop 4 bytes)
+    → length (take (length bytes - 1 - 4) (drop 4 bytes)) + 3 ≡ get_or bytes 1 0
+    → bytes ≡ command_spelling (ClockMessage message)
+clock_view (b ∷ s ∷ t ∷ i ∷ rest) message long first third last id carried size =
+    let m : length (b ∷ s ∷ t ∷ i ∷ rest) - 1 - 4 ≡ length rest - 1 = omega arith in
+    let n : length (b ∷ s ∷ t ∷ i ∷ rest) - 1 ≡ suc (suc (suc (suc (length rest - 1)))) = omega (arith, long) in
+    let end : get_or rest (length rest - 1) 0 ≡ 0x00 = rw n at last in
+    let inner : message.payload ≡ take (length rest - 1) rest = rw m at carried in
+    let so_many : length (take (length rest - 1) rest) + 3 ≡ s = rw m at size in
+    let whole : rest ≡ take (length rest - 1) rest ++ 0x00 ∷ [] =
+    by_last rest (omega (arith, long)) ∙ ap (λ (x : ℕ). take (length rest - 1) rest ++ x ∷ []) end in
+    rw (first, third, ← so_many, id, inner)
+    (ap (λ (r : List ℕ). 0x2b ∷ (length (take (length rest - 1) rest) + 3) ∷ 0x03 ∷ i ∷ r) whole)
+clock_view [] message long first third last id carried size = absurd (omega arith)
+clock_view (b ∷ []) message long first third last id carried size = absurd (omega arith)
+clock_view (b ∷ s ∷ []) message long first third last id carried size = absurd (omega arith)
+clock_view (b ∷ s ∷ t ∷ []) message long first third last id carried size = absurd (omega arith)
+
+-- what the bytes of a clock message look like
+pub record IsClockForm (bytes : List ℕ) : Type 0 where
+  pub long : 5 ≤ length bytes
+  pub first : get_or bytes 0 0 ≡ 0x2b
+  pub third : get_or bytes 2 0 ≡ 0x03
+  pub last : get_or bytes (length bytes - 1) 0 ≡ 0x00
+  pub size : length (take (length bytes - 1 - 4) (drop 4 bytes)) + 3 ≡ get_or bytes 1 0
+
+-- and those of an LED frame
+pub record IsLedForm (bytes : List ℕ) : Type 0 where
+  pub long : 2 ≤ length bytes
+  pub first : get_or bytes 0 0 ≡ 0x60
+  pub size : length (drop 2 bytes) ≡ get_or bytes 1 0
+
+-- a command is one byte, a clock message or an LED frame
+pub forms : (command : CommandContent) (bytes : List ℕ) → bytes ≡ command_spelling command
+    → (length bytes ≡ 1) ⊎ IsClockForm bytes ⊎ IsLedForm bytes
+forms (ClockMessage message) bytes is = inr (inl (subst IsClockForm (sym is) (clock_form message.id message.payload)))
+  where
+    clock_form : (id : ℕ) (p : List ℕ) → IsClockForm (0x2b ∷ (length p + 3) ∷ 0x03 ∷ id ∷ (p ++ 0x00 ∷ []))
+    clock_form id p =
+        let rest : List ℕ = p ++ 0x00 ∷ [] in
+        let m : length (0x2b ∷ (length p + 3) ∷ 0x03 ∷ id ∷ rest) - 1 - 4 ≡ length rest - 1 = omega arith in
+        let n : length (0x2b ∷ (length p + 3) ∷ 0x03 ∷ id ∷ rest) - 1 ≡ suc (suc (suc (suc (length rest - 1)))) =
+        omega (arith, length-append p (0x00 ∷ [])) in
+        record {
+          long = omega (arith, length-append p (0x00 ∷ []));
+          first = refl;
+          third = refl;
+          last = rw n (last_of p 0x00);
+          size = rw (m, front p 0x00) refl;
+        }
+forms (Leds leds) bytes is =
+    inr (inr (subst IsLedForm (sym is) (record { long = omega arith; first = refl; size = refl })))
+forms _ bytes is = inl (ap length is)
