@@ -7,8 +7,7 @@ use Rattle.dgt_message.specs.Content.{Content}
 use Rattle.dgt_command.specs.Content.{ClockContent, CommandContent, EventContent}
 use Rattle.dgt_board.specs.declared.modes.Mode.{Mode}
 use Rattle.dgt_board.specs.declared.replies.Reply.{Reply}
-use Rattle.dgt_board.specs.Identity.{IdentityContent}
-use Rattle.dgt_board.specs.State.{BoardState, acknowledgements, effect, effects, is_told}
+use Rattle.dgt_board.specs.State.{BoardState, IdentityContent, acknowledgements, effect, effects, is_told}
 use Rattle.dgt_board.specs.Sending.{after_sending, backlog, clock_news, differs, every_square, next_message}
 use Rattle.dgt_board.proofs.SendingLemmas.{few_news, left-at_most, left_by, left_is, next_lowers}
 

@@ -1,5 +1,4 @@
 -- Cited by public contracts, in the order to read.
-pub mod Identity
 pub mod State
 pub mod Sending
 pub mod View

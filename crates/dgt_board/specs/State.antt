@@ -1,5 +1,5 @@
 -- What a board keeps, and what is done to it.
-use Rattle.std.specs.Prelude.{ℕ, List, [], ◌∷◌, ◌++◌, Option, Some, None, Bool, true, false, ◌&&◌, not, ◌==◌, if◌then◌else◌, map, option_to_list, slice_set, unwrap_or}
+use Rattle.std.specs.Prelude.{ℕ, ◌<◌, ◌≤◌, List, [], ◌∷◌, ◌++◌, length, map, All, Option, Some, None, option_to_list, unwrap_or, Bool, true, false, ◌&&◌, not, ◌==◌, if◌then◌else◌, slice_set}
 use Rattle.std.specs.Option.{option_map_or}
 use Rattle.dgt_values.specs.declared.pieces.Piece.{Piece}
 use Rattle.dgt_message.specs.ClockState.{ClockState, clock_eq}
@@ -10,7 +10,21 @@ use Rattle.dgt_command.specs.Kind.{kind_of_command}
 use Rattle.dgt_command.specs.Words.{clock_id}
 use Rattle.dgt_board.specs.declared.modes.Mode.{Mode}
 use Rattle.dgt_board.specs.declared.replies.Reply.{Reply}
-use Rattle.dgt_board.specs.Identity.{IdentityContent}
+
+-- what a board tells of itself when it is asked
+pub record IdentityContent : Type 0 where
+  pub serial : List ℕ
+  pub trademark : List ℕ
+  pub main : ℕ
+  pub sub : ℕ
+  pub battery : List ℕ
+  pub clock_version : ℕ
+  pub long_serial : List ℕ
+
+-- the bytes of a body that a board keeps
+pub record IsKeptBody (body : List ℕ) : Type 0 where
+  pub short : length body ≤ 64
+  pub seven_bit : All (λ byte. byte < 128) body
 
 pub record BoardState : Type 0 where
   pub squares : List Piece  -- from a8 to h1

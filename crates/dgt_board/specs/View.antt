@@ -7,8 +7,7 @@ use Rattle.dgt_message.specs.Spelling.{Spells, spelling}
 use Rattle.dgt_command.specs.Content.{EventContent}
 use Rattle.dgt_command.specs.Words.{Divides, IsPartial}
 use Rattle.dgt_board.specs.declared.sending.Polled.{Polled}
-use Rattle.dgt_board.specs.Identity.{IdentityContent}
-use Rattle.dgt_board.specs.State.{BoardState, after_line_lost, effect, effects, new_board}
+use Rattle.dgt_board.specs.State.{BoardState, IdentityContent, after_line_lost, effect, effects, new_board}
 use Rattle.dgt_board.specs.Sending.{after_sending}
 
 pub record BoardView : Type 0 where

@@ -3,7 +3,7 @@
 ghost use Rattle.std.specs.Prelude.{◌≡◌, ◌<◌, ◌≤◌, ◌⊎◌, ◌↔◌, length, map, All, IfOk, IsErr, MatchResult};
 ghost use Rattle.dgt_values.specs.Body.{body_bytes};
 ghost use Rattle.dgt_values.specs.Bytes.{number};
-ghost use Rattle.dgt_board.specs.Identity.{IsKeptBody};
+ghost use Rattle.dgt_board.specs.State.{IsKeptBody};
 
 use arrayvec::ArrayVec;
 use dgt_values::{Body, SevenBit};
@@ -35,7 +35,7 @@ pub struct Identity {
 impl Model for Identity {
     ghost use Rattle.std.specs.Prelude.{map};
     ghost use Rattle.dgt_values.specs.Bytes.{number};
-    ghost use Rattle.dgt_board.specs.Identity.{IdentityContent, IsKeptBody};
+    ghost use Rattle.dgt_board.specs.State.{IdentityContent, IsKeptBody};
 
     ghost Value = { IdentityContent };
 

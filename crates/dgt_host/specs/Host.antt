@@ -1,5 +1,5 @@
--- What contracts see of a host, and what messages and bytes make of it.
-use Rattle.std.specs.Prelude.{◌≡◌, ◌≢◌, ℕ, List, [], ◌∷◌, ◌++◌, Option, Some, None, Bool, option_map, if◌then◌else◌, slice_get, slice_set}
+-- What contracts see of a host, what it makes of the bytes that it hears, and what it sends.
+use Rattle.std.specs.Prelude.{◌≡◌, ◌≢◌, ℕ, ◌<◌, ◌≤◌, nat_le, List, [], ◌∷◌, ◌++◌, length, drop, replicate, Option, Some, None, is_some, option_map, option_to_list, Result, Ok, Err, Bool, false, ◌&&◌, IsTrue, if◌then◌else◌, slice_get, slice_set}
 use Rattle.dgt_values.specs.contracts.kinds.KindPartialEq.TheImpl as kinds
 use Rattle.dgt_values.specs.declared.kinds.Kind.{Kind}
 use Rattle.dgt_values.specs.declared.pieces.Piece.{Piece}
@@ -10,7 +10,11 @@ use Rattle.dgt_message.specs.Content.{Content}
 use Rattle.dgt_message.specs.Content.Content.{dump, field, times, no_clock}
 use Rattle.dgt_message.specs.ClockState.{ClockState, clock_seen}
 use Rattle.dgt_message.specs.Kind.{kind_of}
+use Rattle.dgt_command.specs.Content.CommandContent.{Dump, UpdateBoard}
+use Rattle.dgt_command.specs.Words.{spelling}
 use Rattle.dgt_decode.specs.Grammar.{Event, Message, Placed, events, open_message}
+use Rattle.dgt_host.specs.declared.sending.SendFault.{SendFault}
+use Rattle.dgt_host.specs.declared.sending.SendFault.TheVariants.{TooMany, NoRoom}
 
 pub record HostView : Type 0 where
   pub picture : Option (List Piece)  -- the pieces of the board, once they are known
@@ -30,6 +34,8 @@ host_seen picture clock awaited unread =
 -- a host just made
 abbrev pub new_host : HostView
 new_host = record { picture = None; clock = None; awaited = []; unread = [] }
+
+-- ---- what it hears
 
 -- the picture after a message: a dump sets it, a field sets one square of a picture that is known
 abbrev pub picture_after : Option (List Piece) → Content → Option (List Piece)
@@ -97,3 +103,39 @@ abbrev pub HeardInPieces : Type 0
 HeardInPieces =
     (host : HostView) (bytes more : List ℕ) →
     host_after (host_after host bytes) more ≡ host_after host (bytes ++ more)
+
+-- ---- what it sends
+
+-- a reply of this kind is to be awaited, and as many are awaited as can be
+abbrev pub awaits_too_many : HostView → Option Kind → Bool
+awaits_too_many host kind = is_some kind && nat_le 16 (length host.awaited)
+
+-- the host that awaits one more reply, where there is a kind
+abbrev pub host_awaiting : HostView → Option Kind → HostView
+host_awaiting host kind = record host { awaited = host.awaited ++ option_to_list kind }
+
+-- what a host sends to follow the board: its changes are to be told, and first the whole of it
+abbrev pub follow_bytes : List ℕ
+follow_bytes = spelling UpdateBoard ++ spelling Dump
+
+-- what a host sends to begin anew: zeros, with which any part of a command ends, and then the same
+abbrev pub restart_bytes : List ℕ
+restart_bytes = replicate 255 0 ++ follow_bytes
+
+-- bytes that a host sends, and the kind of the reply that it then awaits
+pub record Request : Type 0 where
+  pub kind : Option Kind
+  pub bytes : List ℕ
+
+-- The bytes stand at the front of the slice, the rest of which is as it was, and the kind is
+-- awaited last; or one more can't be awaited, or else the slice is too short for them, and nothing
+-- changes.
+abbrev pub Sends : Request → HostView → HostView → List ℕ → List ℕ → Result ℕ SendFault → Type 0
+Sends x before after old new (Ok written) =
+    (awaits_too_many before x.kind ≡ false) × (written ≡ length x.bytes) × (written ≤ length old)
+    × (new ≡ x.bytes ++ drop written old) × (after ≡ host_awaiting before x.kind)
+Sends x before after old new (Err TooMany) =
+    IsTrue (awaits_too_many before x.kind) × (new ≡ old) × (after ≡ before)
+Sends x before after old new (Err (NoRoom need)) =
+    (awaits_too_many before x.kind ≡ false) × (need ≡ length x.bytes) × (length old < need)
+    × (new ≡ old) × (after ≡ before)

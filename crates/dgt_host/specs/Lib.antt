@@ -1,3 +1,2 @@
--- Cited by public contracts, in the order to read.
+-- Cited by public contracts.
 pub mod Host
-pub mod Sending

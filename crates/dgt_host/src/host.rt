@@ -10,8 +10,7 @@ ghost use Rattle.dgt_command.specs.Kind.{kind_of_command};
 ghost use Rattle.dgt_command.specs.Words.{spelling, Spells};
 ghost use Rattle.dgt_decode.specs.Grammar.{open_message};
 ghost use Rattle.dgt_decode.specs.Feeding.{FirstEvent, event_content_if_any};
-ghost use Rattle.dgt_host.specs.Host.{IsUnasked, host_after, new_host};
-ghost use Rattle.dgt_host.specs.Sending.{Sends, awaits_too_many, follow_bytes, restart_bytes};
+ghost use Rattle.dgt_host.specs.Host.{IsUnasked, Sends, awaits_too_many, follow_bytes, host_after, new_host, restart_bytes};
 
 use crate::hearing::{Heard, hear_event};
 use crate::sending::SendFault;
