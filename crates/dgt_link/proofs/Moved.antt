@@ -17,7 +17,7 @@ use Rattle.dgt_board.specs.View.{BoardView, HasTaken, after_bytes}
 use Rattle.dgt_host.specs.Host.{HostView, host_after}
 use Rattle.dgt_host.specs.Laws.{HeardInPieces}
 use Rattle.dgt_link.specs.declared.acts.Outcome.{Outcome}
-use Rattle.dgt_link.specs.View.{LineContents, line_holding, overflows, with_bytes, without_first}
+use Rattle.dgt_link.specs.View.{LineContents, WorldView, line_holding, overflows, with_bytes, without_first}
 use Rattle.dgt_link.specs.Step.{Delivers, StaysOpen, is_full, sending_outcome}
 
 left_on : (line now left : LineContents) (i n : ℕ) → now ≡ without_first line i → left ≡ without_first now n → left ≡ without_first line (i + n)
@@ -180,16 +180,20 @@ some_moved before now line left moved taking room full = go taking.taken
     go (inl (none, same)) = absurd (omega (arith, room, rw same at full))
     go (inr taken) = taken.0
 
-pub taking_ends : (count moved : ℕ) (before now : BoardView) (line left : LineContents) → IsTaking before line moved now left → 0 < moved → moved ≤ count → ((moved ≡ count) ⊎ ((moved ≡ length line.bytes) ⊎ IsTrue (is_full now.state))) → Delivers count before line now left
-taking_ends count moved before now line left taking some most ended =
+pub taking_ends : (world : WorldView) (count moved : ℕ) (before now : BoardView) (line left : LineContents)
+    → IsTaking before line moved now left → 0 < moved → moved ≤ count
+    → ((moved ≡ count) ⊎ ((moved ≡ length line.bytes) ⊎ IsTrue (is_full now.state)))
+    → Delivers count (record world { board = before; down = line }) (record world { board = now; down = left })
+taking_ends world count moved before now line left taking some most ended =
     record {
       moved = moved;
       some = some;
       within = (most, taking.within);
+      board = now;
       taken = some_taken before now line.bytes moved some taking.taken;
-      left_is = taking.left_is;
       earlier = taking.earlier;
       ended = ended;
+      leaves = rw taking.left_is refl;
     }
 
 -- ---- the host hears

@@ -11,7 +11,7 @@ use Rattle.dgt_board.specs.Effect.{effects}
 use Rattle.dgt_board.specs.View.{BoardView, HasTaken}
 use Rattle.dgt_link.specs.Act.{ActContent}
 use Rattle.dgt_link.specs.declared.acts.Outcome.{Outcome}
-use Rattle.dgt_link.specs.View.{LineContents, without_first, WorldView}
+use Rattle.dgt_link.specs.View.{WorldView}
 use Rattle.dgt_link.specs.Machine.{MachineState}
 use Rattle.dgt_link.specs.Stands.{StandsFor}
 use Rattle.dgt_link.specs.Step.{Delivers, is_full, Becomes, Runs, Step}
@@ -29,27 +29,30 @@ order a b =
 -- a board has taken bytes in one way
 module _ (one_taking : (before after other : BoardView) (bytes : List ℕ) → HasTaken before bytes after → HasTaken before bytes other → after ≡ other) where
   -- a board that is full after some bytes took no more of them
-  no_further : (count : ℕ) (before one other : BoardView) (line left rest : LineContents) (first : Delivers count before line one left) (second : Delivers count before line other rest) → first.moved < second.moved → ⊥
-  no_further count before one other line left rest first second less = go first.ended
+  no_further : (count : ℕ) (world one other : WorldView) (first : Delivers count world one) (second : Delivers count world other)
+      → first.moved < second.moved → ⊥
+  no_further count world one other first second less = go first.ended
     where
-      go : (first.moved ≡ count) ⊎ ((first.moved ≡ length line.bytes) ⊎ IsTrue (is_full one.state)) → ⊥
+      go : (first.moved ≡ count) ⊎ ((first.moved ≡ length world.down.bytes) ⊎ IsTrue (is_full first.board.state)) → ⊥
       go (inl all) = omega (arith, all, less, second.within.0)
       go (inr (inl all)) = omega (arith, all, less, second.within.1)
       go (inr (inr full)) =
           let stop = second.earlier first.moved first.some less in
-          let same : one ≡ stop.0 = one_taking before one stop.0 (take first.moved line.bytes) first.taken stop.1 in
+          let same : first.board ≡ stop.0
+          = one_taking world.board first.board stop.0 (take first.moved world.down.bytes) first.taken stop.1 in
           false≢true (sym stop.2 ∙ ap (λ (board : BoardView). is_full board.state) (sym same) ∙ full)
 
-  one_delivery : (count : ℕ) (before one other : BoardView) (line left rest : LineContents) → Delivers count before line one left → Delivers count before line other rest → (one ≡ other) × (left ≡ rest)
-  one_delivery count before one other line left rest first second = go (order first.moved second.moved)
+  one_delivery : (count : ℕ) (world one other : WorldView) → Delivers count world one → Delivers count world other → one ≡ other
+  one_delivery count world one other first second = go (order first.moved second.moved)
     where
-      go : (first.moved < second.moved) ⊎ ((second.moved < first.moved) ⊎ (first.moved ≡ second.moved)) → (one ≡ other) × (left ≡ rest)
-      go (inl less) = absurd (no_further count before one other line left rest first second less)
-      go (inr (inl less)) = absurd (no_further count before other one line rest left second first less)
-      go (inr (inr same)) = (
-        one_taking before one other (take second.moved line.bytes) (rw same at first.taken) second.taken,
-        first.left_is ∙ ap (without_first line) same ∙ sym second.left_is,
-      )
+      go : (first.moved < second.moved) ⊎ ((second.moved < first.moved) ⊎ (first.moved ≡ second.moved)) → one ≡ other
+      go (inl less) = absurd (no_further count world one other first second less)
+      go (inr (inl less)) = absurd (no_further count world other one second first less)
+      go (inr (inr same)) =
+          let board : first.board ≡ second.board
+          = one_taking world.board first.board second.board (take second.moved world.down.bytes) (rw same at first.taken)
+          second.taken in
+          first.leaves ∙ rw (board, same) (sym second.leaves)
 
   becomes_once : (act : ActContent) (world one other : WorldView) → Becomes act world one → Becomes act world other → one ≡ other
   becomes_once (ActContent.Change square piece) world one other e f = e ∙ sym f
@@ -58,9 +61,7 @@ module _ (one_taking : (before after other : BoardView) (bytes : List ℕ) → H
   becomes_once ActContent.BoardSend world one other (message, is_next, spells, e) (said, is_also, holds, f) =
       let same : message ≡ said = some_same message said (sym is_next ∙ is_also) in
       rw (e, f, same) refl
-  becomes_once (ActContent.ToBoard count) world one other (board, line, delivers, e) (also, rest, again, f) =
-      let same = one_delivery count world.board board also world.down line rest delivers again in
-      rw (e, f, same.0, same.1) refl
+  becomes_once (ActContent.ToBoard count) world one other first second = one_delivery count world one other first second
   becomes_once (ActContent.ToHost count) world one other e f = e ∙ sym f
   becomes_once ActContent.Break world one other e f = e ∙ sym f
   becomes_once ActContent.HostBreak world one other e f = e ∙ sym f

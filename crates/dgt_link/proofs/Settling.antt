@@ -77,9 +77,9 @@ effects_keep board (event ∷ events) =
 
 becomes_kept : (act : ActContent) (world after : WorldView) → IsSettling act → Becomes act world after → Kept world after
 becomes_kept ActContent.BoardSend world after is (message, is_next, spells, same) = rw same (record { squares = refl; clock = refl })
-becomes_kept (ActContent.ToBoard count) world after is (board, line, delivers, same) =
+becomes_kept (ActContent.ToBoard count) world after is delivers =
     let kept = effects_keep world.board.state delivers.taken.events in
-    rw (same, delivers.taken.state) (record { squares = kept.0; clock = kept.1 })
+    rw (delivers.leaves, delivers.taken.state) (record { squares = kept.0; clock = kept.1 })
 becomes_kept (ActContent.ToHost count) world after is same = rw same (record { squares = refl; clock = refl })
 becomes_kept (ActContent.Change square piece) world after none same = absurd none
 becomes_kept (ActContent.ClockRead clock) world after none same = absurd none
@@ -180,15 +180,15 @@ module _ (falls : (board : BoardState) (message : Content) → length board.told
 
 module _ (short : WordsAreShort) (within : NoWordBeginsAnother) (rises : (board : BoardState) (events : List EventContent) → backlog (effects board events) ≤ backlog board + length events) where
   pub take_works : (world after : WorldView) (count : ℕ) → IsPartial world.board.partial → Becomes (ActContent.ToBoard count) world after → work_left after < work_left world
-  take_works world after count partial (board, line, delivers, same) =
+  take_works world after count partial delivers =
       let taken = delivers.taken in
-      let few = few_taken short within world.board.partial (take delivers.moved world.down.bytes) board.partial taken.events partial taken.divided in
+      let few = few_taken short within world.board.partial (take delivers.moved world.down.bytes) delivers.board.partial taken.events partial taken.divided in
       let size : length (take delivers.moved world.down.bytes) ≡ delivers.moved = length-take-le delivers.moved world.down.bytes delivers.within.1 in
       let more = rises world.board.state taken.events in
-      let left : length line.bytes + delivers.moved ≡ length world.down.bytes = rw (delivers.left_is, length-drop delivers.moved world.down.bytes) (omega (arith, delivers.within.1)) in
+      let left : length (drop delivers.moved world.down.bytes) + delivers.moved ≡ length world.down.bytes = rw (length-drop delivers.moved world.down.bytes) (omega (arith, delivers.within.1)) in
       let some = delivers.some in
-      let state : backlog board.state ≡ backlog (effects world.board.state taken.events) = ap backlog taken.state in
-      rw same (omega (arith, few, size, more, left, some, state))
+      let state : backlog delivers.board.state ≡ backlog (effects world.board.state taken.events) = ap backlog taken.state in
+      rw delivers.leaves (omega (arith, few, size, more, left, some, state))
 
 no_more : (bytes : List ℕ) → length (drop (length bytes) bytes) ≡ 0
 no_more bytes = ap length (drop_all (length bytes) bytes (omega arith))
@@ -364,18 +364,18 @@ module _ (falls : (board : BoardState) (message : Content) → length board.told
 
 module _ (short : WordsAreShort) (within : NoWordBeginsAnother) (rises : (board : BoardState) (events : List EventContent) → backlog (effects board events) ≤ backlog board + length events) where
   take_steps : (world after : WorldView) (count : ℕ) → IsPartial world.board.partial → Becomes (ActContent.ToBoard count) world after → steps_left after < steps_left world
-  take_steps world after count partial (board, line, delivers, same) =
+  take_steps world after count partial delivers =
       let taken = delivers.taken in
-      let few = few_taken short within world.board.partial (take delivers.moved world.down.bytes) board.partial taken.events partial taken.divided in
+      let few = few_taken short within world.board.partial (take delivers.moved world.down.bytes) delivers.board.partial taken.events partial taken.divided in
       let size : length (take delivers.moved world.down.bytes) ≡ delivers.moved = length-take-le delivers.moved world.down.bytes delivers.within.1 in
       let more = rises world.board.state taken.events in
-      let left : length line.bytes + delivers.moved ≡ length world.down.bytes = rw (delivers.left_is, length-drop delivers.moved world.down.bytes) (omega (arith, delivers.within.1)) in
+      let left : length (drop delivers.moved world.down.bytes) + delivers.moved ≡ length world.down.bytes = rw (length-drop delivers.moved world.down.bytes) (omega (arith, delivers.within.1)) in
       let some = delivers.some in
-      let state : backlog board.state ≡ backlog (effects world.board.state taken.events) = ap backlog taken.state in
-      let raised : backlog board.state ≤ backlog world.board.state + delivers.moved = omega (arith, few, size, more, state) in
+      let state : backlog delivers.board.state ≡ backlog (effects world.board.state taken.events) = ap backlog taken.state in
+      let raised : backlog delivers.board.state ≤ backlog world.board.state + delivers.moved = omega (arith, few, size, more, state) in
       let weighed = mul-le-mul_left (world.up.capacity + 1) raised in
       let bytes = ap (λ (n : ℕ). (world.up.capacity + 2) * n) left in
-      rw same (omega (arith, some, weighed, bytes))
+      rw delivers.leaves (omega (arith, some, weighed, bytes))
 
 module _ (keeps : (act : ActContent) (world after : WorldView) (answer : Outcome) → IsWorld world → Step act world answer after → IsWorld after)
     (falls : (board : BoardState) (message : Content) → length board.told_squares ≡ 64 → next_message board ≡ Some message → backlog (after_sending board message) < backlog board)

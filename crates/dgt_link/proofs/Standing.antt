@@ -17,6 +17,7 @@ use Rattle.dgt_board.specs.Identity.{IdentityContent}
 use Rattle.dgt_board.specs.State.{BoardState, after_change, after_hand_clock, after_line_lost}
 use Rattle.dgt_board.specs.Effect.{effect, effects}
 use Rattle.dgt_board.specs.Sending.{after_sending, next_message}
+use Rattle.dgt_board.specs.View.{BoardView}
 use Rattle.dgt_host.specs.Host.{HostView, host_after_message}
 use Rattle.dgt_host.specs.Sending.{follow_bytes}
 use Rattle.dgt_link.specs.Act.{ActContent}
@@ -194,15 +195,16 @@ module _ (laws : Grammars) where
       )
 
   take_reaches : (world : WorldView) (count : ℕ) (after : WorldView) (x : MachineState) → StandsFor world x → Becomes (ActContent.ToBoard count) world after → StandsAfterStep (ActContent.ToBoard count) Outcome.Done x after
-  take_reaches world count after x stands (board, line, delivers, same) =
+  take_reaches world count after x stands delivers =
       let taken = delivers.taken in
+      let board : BoardView = delivers.board in
       let front = divides_front laws.no_word_begins_another (world.board.partial ++ take delivers.moved world.down.bytes) (drop delivers.moved world.down.bytes) taken.events x.down board.partial [] taken.divided
       (rw (front_of world.board.partial world.down.bytes delivers.moved) at stands.down) in
       let moves : List Move = replicate (length taken.events) Move.Take in
       let led : after_moves x moves ≡ taken_state x taken.events front.0 = takes taken.events front.0 x front.1 in (
         moves,
         (length taken.events, refl),
-        rw (same, led)
+        rw (delivers.leaves, led)
             (record {
               sound = rw led at (moves_sound x moves stands.sound);
               board = taken.state ∙ ap (λ (state : BoardState). effects state taken.events) stands.board;
@@ -210,7 +212,7 @@ module _ (laws : Grammars) where
               clock = stands.clock;
               awaited = stands.awaited;
               up = stands.up;
-              down = rw delivers.left_is front.2;
+              down = front.2;
               partial = divides_end (world.board.partial ++ take delivers.moved world.down.bytes) taken.events board.partial taken.divided;
             }),
       )
@@ -313,7 +315,7 @@ becomes_rooms (ActContent.Change square piece) world after same = rw same (recor
 becomes_rooms (ActContent.ClockRead clock) world after same = rw same (record { up = refl; down = refl })
 becomes_rooms (ActContent.Host command) world after (spells, same) = rw same (record { up = refl; down = refl })
 becomes_rooms ActContent.BoardSend world after (message, is_next, spells, same) = rw same (record { up = refl; down = refl })
-becomes_rooms (ActContent.ToBoard count) world after (board, line, delivers, same) = rw (same, delivers.left_is) (record { up = refl; down = refl })
+becomes_rooms (ActContent.ToBoard count) world after delivers = rw delivers.leaves (record { up = refl; down = refl })
 becomes_rooms (ActContent.ToHost count) world after same = rw same (record { up = refl; down = refl })
 becomes_rooms ActContent.Break world after same = rw same (record { up = refl; down = refl })
 becomes_rooms ActContent.HostBreak world after same = rw same (record { up = refl; down = refl })

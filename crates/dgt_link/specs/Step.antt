@@ -4,17 +4,17 @@ use Rattle.std.specs.Prelude.{Option, Some, None, Bool, false, ◌||◌, if◌th
 use Rattle.dgt_values.specs.declared.kinds.Kind.{Kind}
 use Rattle.dgt_message.specs.Content.{Content}
 use Rattle.dgt_message.specs.Spelling.{Spells, spelling}
-use Rattle.dgt_command.specs.Content.{CommandContent}
 use Rattle.dgt_command.specs.Kind.{kind_of_command}
 use Rattle.dgt_command.specs.Words.{Spells as SpellsCommand, spelling as command_spelling}
 use Rattle.dgt_board.specs.State.{BoardState, after_change, after_hand_clock}
 use Rattle.dgt_board.specs.Sending.{after_sending, next_message}
 use Rattle.dgt_board.specs.View.{BoardView, HasTaken, view_after_line_lost}
-use Rattle.dgt_host.specs.Host.{HostView, host_after, new_host}
+use Rattle.dgt_host.specs.Host.{host_after, new_host}
 use Rattle.dgt_host.specs.Sending.{awaits_too_many, host_awaiting, restart_bytes}
 use Rattle.dgt_link.specs.declared.acts.Outcome.{Outcome}
 use Rattle.dgt_link.specs.Act.{ActContent}
-use Rattle.dgt_link.specs.View.{LineContents, WorldView, line_holding, overflows, with_bytes, without_first}
+use Rattle.dgt_link.specs.View.{LineContents, WorldView, line_holding, overflows}
+use Rattle.dgt_link.specs.View.{with_bytes, without_first}
 
 -- ---- what comes of an act
 
@@ -26,36 +26,24 @@ is_full board = nat_le 8 (length board.owed)
 abbrev pub moves_nothing : ℕ → LineContents → Bool
 moves_nothing count line = (count == 0) || (length line.bytes == 0)
 
--- of the host that sends a command into the line
-abbrev pub asking_outcome : CommandContent → HostView → LineContents → Outcome
-asking_outcome command host line =
-    if awaits_too_many host (kind_of_command command) then Outcome.TooMany
-    else if overflows line (command_spelling command) then Outcome.NoRoom
-    else Outcome.Done
-
 -- of the board that sends this message, if there is one, into the line
 abbrev pub sending_outcome : Option Content → LineContents → Outcome
 sending_outcome None line = Outcome.Nothing
 sending_outcome (Some message) line =
     if overflows line (spelling message) then Outcome.NoRoom else Outcome.Done
 
--- of the board that takes at most so many bytes of the line
-abbrev pub taking_outcome : ℕ → BoardView → LineContents → Outcome
-taking_outcome count board line =
-    if moves_nothing count line then Outcome.Nothing
-    else if is_full board.state then Outcome.Busy
-    else Outcome.Done
-
--- of the host that hears at most so many bytes of the line
-abbrev pub hearing_outcome : ℕ → LineContents → Outcome
-hearing_outcome count line =
-    if moves_nothing count line then Outcome.Nothing else Outcome.Done
-
 abbrev pub outcome : ActContent → WorldView → Outcome
-outcome (ActContent.Host command) world = asking_outcome command world.host world.down
+outcome (ActContent.Host command) world =
+    if awaits_too_many world.host (kind_of_command command) then Outcome.TooMany
+    else if overflows world.down (command_spelling command) then Outcome.NoRoom
+    else Outcome.Done
 outcome ActContent.BoardSend world = sending_outcome (next_message world.board.state) world.up
-outcome (ActContent.ToBoard count) world = taking_outcome count world.board world.down
-outcome (ActContent.ToHost count) world = hearing_outcome count world.up
+outcome (ActContent.ToBoard count) world =
+    if moves_nothing count world.down then Outcome.Nothing
+    else if is_full world.board.state then Outcome.Busy
+    else Outcome.Done
+outcome (ActContent.ToHost count) world =
+    if moves_nothing count world.up then Outcome.Nothing else Outcome.Done
 outcome _ world = Outcome.Done
 
 -- ---- what an act leaves
@@ -68,15 +56,15 @@ StaysOpen board bytes moved =
     × (is_full between.state ≡ false)
 
 -- the board takes the line's bytes one by one, until so many are taken, none is left or it is full
-pub record Delivers (count : ℕ) (before : BoardView) (line : LineContents) (after : BoardView)
-    (left : LineContents) : Type 0 where
+pub record Delivers (count : ℕ) (world after : WorldView) : Type 0 where
   pub moved : ℕ
   pub some : 0 < moved
-  pub within : (moved ≤ count) × (moved ≤ length line.bytes)
-  pub taken : HasTaken before (take moved line.bytes) after
-  pub left_is : left ≡ without_first line moved
-  pub earlier : StaysOpen before line.bytes moved
-  pub ended : (moved ≡ count) ⊎ ((moved ≡ length line.bytes) ⊎ IsTrue (is_full after.state))
+  pub within : (moved ≤ count) × (moved ≤ length world.down.bytes)
+  pub board : BoardView
+  pub taken : HasTaken world.board (take moved world.down.bytes) board
+  pub earlier : StaysOpen world.board world.down.bytes moved
+  pub ended : (moved ≡ count) ⊎ ((moved ≡ length world.down.bytes) ⊎ IsTrue (is_full board.state))
+  pub leaves : after ≡ record world { board = board; down = without_first world.down moved }
 
 -- the world with this state of its board
 abbrev pub with_state : WorldView → BoardState → WorldView
@@ -100,9 +88,7 @@ Becomes ActContent.BoardSend world after =
     × (after ≡ record (with_state world (after_sending world.board.state message)) {
       up = with_bytes world.up (spelling message);
     })
-Becomes (ActContent.ToBoard count) world after =
-    (board : BoardView) × (line : LineContents) × Delivers count world.board world.down board line
-    × (after ≡ record world { board = board; down = line })
+Becomes (ActContent.ToBoard count) world after = Delivers count world after
 Becomes (ActContent.ToHost count) world after =
     after ≡ record world {
       host = host_after world.host (take count world.up.bytes);

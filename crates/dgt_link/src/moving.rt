@@ -1,19 +1,15 @@
-//! Bytes go into the lines and out of them.
+//! Bytes go into the lines and out of them. Each function does the step of an act, of whatever world has this end
+//! and this line.
 
 ghost use Rattle.std.specs.Prelude.{◌≡◌, ◌+◌, ◌<◌, ◌≤◌, [], Some, length, take};
 ghost use Rattle.dgt_values.specs.declared.kinds.Kind.{Kind};
-ghost use Rattle.dgt_message.specs.Content.{Content};
-ghost use Rattle.dgt_message.specs.Spelling.{Spells, spelling};
 ghost use Rattle.dgt_command.specs.Content.{command_content};
-ghost use Rattle.dgt_command.specs.Kind.{kind_of_command};
-ghost use Rattle.dgt_command.specs.Words.{Spells as SpellsCommand, spelling as command_spelling};
-ghost use Rattle.dgt_board.specs.Sending.{after_sending, next_message};
 ghost use Rattle.dgt_board.specs.View.{HasTaken};
 ghost use Rattle.dgt_host.specs.Host.{host_after, new_host};
 ghost use Rattle.dgt_host.specs.Sending.{host_awaiting, restart_bytes};
-ghost use Rattle.dgt_link.specs.View.{line_holding, with_bytes, without_first};
-ghost use Rattle.dgt_link.specs.Step.{Delivers, IfDone, StaysOpen};
-ghost use Rattle.dgt_link.specs.Step.{asking_outcome, hearing_outcome, sending_outcome, taking_outcome};
+ghost use Rattle.dgt_link.specs.Act.{ActContent};
+ghost use Rattle.dgt_link.specs.Step.{StaysOpen, Step};
+ghost use Rattle.dgt_link.specs.View.{WorldView, line_holding, without_first};
 
 use crate::acts::Outcome;
 use crate::line::Line;
@@ -29,12 +25,9 @@ pub const MAX_SENT: usize = 67;
 
 /// The host sends a command into the line.
 pub fn ask(host: &mut Host, line: &mut Line, command: &Command<'_>) -> Outcome
-    ensures outcome { result ≡ asking_outcome (command_content command.now) host.old line.old }
-    ensures leaves { let said = command_content command.now in IfDone result
-        (SpellsCommand said (command_spelling said)
-        × (host.new ≡ host_awaiting host.old (kind_of_command said))
-        × (line.new ≡ with_bytes line.old (command_spelling said)))
-        ((host.new ≡ host.old) × (line.new ≡ line.old)) }
+    ensures { (world : WorldView) → Step (ActContent.Host (command_content command.now))
+        (record world { host = host.old; down = line.old }) result
+        (record world { host = host.new; down = line.new }) }
 {
     let mut bytes = [0; MAX_WORD];
     let room = bytes.len().min(line.room());
@@ -65,13 +58,9 @@ pub fn restart(host: &mut Host, up: &mut Line, down: &mut Line)
 
 /// The board sends its next message into the line.
 pub fn send_next(board: &mut Board, line: &mut Line) -> Outcome
-    ensures outcome { result ≡ sending_outcome (next_message board.old.state) line.old }
-    ensures leaves { IfDone result
-        ((message : Content) × (next_message board.old.state ≡ Some message)
-        × Spells message (spelling message)
-        × (board.new ≡ record board.old { state = after_sending board.old.state message })
-        × (line.new ≡ with_bytes line.old (spelling message)))
-        ((board.new ≡ board.old) × (line.new ≡ line.old)) }
+    ensures sends { (world : WorldView) → Step ActContent.BoardSend
+        (record world { board = board.old; up = line.old }) result
+        (record world { board = board.new; up = line.new }) }
     ensures room { result ≡ Outcome.NoRoom → line.old.capacity < length line.old.bytes + MAX_SENT }
 {
     let mut bytes = [0; MAX_SENT];
@@ -125,9 +114,9 @@ fn hear_front(host: &mut Host, line: &mut Line, most: usize) -> usize
 /// The board takes bytes of the line, one by one, until so many are taken, none is left or it owes
 /// as many replies as it can.
 pub fn to_board(board: &mut Board, line: &mut Line, count: usize) -> Outcome
-    ensures outcome { result ≡ taking_outcome count board.old line.old }
-    ensures leaves { IfDone result (Delivers count board.old line.old board.new line.new)
-        ((board.new ≡ board.old) × (line.new ≡ line.old)) }
+    ensures { (world : WorldView) → Step (ActContent.ToBoard count)
+        (record world { board = board.old; down = line.old }) result
+        (record world { board = board.new; down = line.new }) }
 {
     dgt_board::laws::takings_append();
     if count == 0 || line.is_empty() {
@@ -146,11 +135,9 @@ pub fn to_board(board: &mut Board, line: &mut Line, count: usize) -> Outcome
 
 /// The host hears bytes of the line, one by one, until so many are heard or none is left.
 pub fn to_host(host: &mut Host, line: &mut Line, count: usize) -> Outcome
-    ensures outcome { result ≡ hearing_outcome count line.old }
-    ensures leaves { IfDone result
-        ((host.new ≡ host_after host.old (take count line.old.bytes))
-        × (line.new ≡ without_first line.old count))
-        ((host.new ≡ host.old) × (line.new ≡ line.old)) }
+    ensures { (world : WorldView) → Step (ActContent.ToHost count)
+        (record world { host = host.old; up = line.old }) result
+        (record world { host = host.new; up = line.new }) }
 {
     dgt_host::laws::heard_in_pieces();
     if count == 0 || line.is_empty() {

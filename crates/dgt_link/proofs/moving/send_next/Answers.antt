@@ -1,10 +1,12 @@
 use Rattle.std.proofs.Common.{rules}
 use Rattle.dgt_board.specs.Sending.{next_message}
+use Rattle.dgt_link.proofs.Exactly.{next_step}
 use Rattle.dgt_link.proofs.Moved.{polled_is_sent}
 use Rattle.dgt_link.proofs.moving.send_next.Goals as goal
 
-pub returns-in-Wrote-clause-outcome : goal.returns-in-Wrote-clause-outcome
-returns-in-Wrote-clause-outcome c = (polled_is_sent c.in-Wrote.count c.room.result (next_message c.args.board.now.state) c.args.board.now c.poll.new.self c.args.line.now c.push.new.self _ c.poll.new.out _ c.in-Wrote.ensures.polls (search rules) c.room.ensures c.push.ensures).0
-
-pub returns-in-Wrote-clause-leaves : goal.returns-in-Wrote-clause-leaves
-returns-in-Wrote-clause-leaves c = (polled_is_sent c.in-Wrote.count c.room.result (next_message c.args.board.now.state) c.args.board.now c.poll.new.self c.args.line.now c.push.new.self _ c.poll.new.out _ c.in-Wrote.ensures.polls (search rules) c.room.ensures c.push.ensures).1
+pub returns-in-Wrote-clause-sends : goal.returns-in-Wrote-clause-sends
+returns-in-Wrote-clause-sends c =
+    let sent = polled_is_sent c.in-Wrote.count c.room.result (next_message c.args.board.now.state) c.args.board.now
+    c.poll.new.self c.args.line.now c.push.new.self _ c.poll.new.out _ c.in-Wrote.ensures.polls (search rules)
+    c.room.ensures c.push.ensures in
+    λ world. next_step _ c.args.line.now c.push.new.self world c.args.board.now c.poll.new.self sent.0 sent.1

@@ -14,7 +14,8 @@ loop-moved-preserved c =
 pub returns-else-owed_len-lt-MAX_OWED : goal.returns-else-owed_len-lt-MAX_OWED
 returns-else-owed_len-lt-MAX_OWED c =
     let some = some_moved _ _ c.args.line.now c.loop-moved.line c.loop-moved.moved c.loop-moved.invariant.taking (omega arith) (omega arith) in
+    λ world.
     record {
-      outcome = search rules;
-      leaves = taking_ends c.args.count c.loop-moved.moved _ _ c.args.line.now c.loop-moved.line c.loop-moved.invariant.taking some (omega arith) (inr (inr (search rules)));
+      answers = search rules;
+      leaves = taking_ends world c.args.count c.loop-moved.moved _ _ c.args.line.now c.loop-moved.line c.loop-moved.invariant.taking some (omega arith) (inr (inr (search rules)));
     }
