@@ -1,9 +1,8 @@
 //! What the board of the program tells of itself, and of its clock.
 ghost use Rattle.std.specs.Prelude.{◌≡◌, ◌<◌, [], ◌∷◌, codes};
 ghost use Rattle.dgt_values.specs.Bytes.{number};
-ghost use Rattle.dgt_message.specs.Clock.{times_of};
-ghost use Rattle.dgt_message.specs.ClockState.{ClockState, clock_seen};
-ghost use Rattle.dgt_message.specs.Time.{time_of};
+ghost use Rattle.dgt_message.specs.Clock.{times_of, ClockState, time_of};
+ghost use Rattle.dgt_message.specs.Content.{clock_seen};
 
 use dgt_board::Identity;
 use dgt_message::{Clock, Reading, Status, Times};

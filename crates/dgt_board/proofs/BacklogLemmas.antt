@@ -2,8 +2,8 @@
 use Rattle.std.proofs.Common.{arith, ◌≡◌, refl, ℕ, ◌+◌, ◌<◌, ◌≤◌, List, [], ◌∷◌, ◌++◌, Some, Bool, true, false, cond, not, length, length-append}
 use Rattle.std.specs.Prelude.{filter}
 use Rattle.dgt_values.specs.declared.kinds.Kind.{Kind}
-use Rattle.dgt_message.specs.ClockState.{ClockState, clock_message}
-use Rattle.dgt_message.specs.Content.{Content}
+use Rattle.dgt_message.specs.Clock.{ClockState}
+use Rattle.dgt_message.specs.Content.{clock_message, Content}
 use Rattle.dgt_command.specs.Content.{ClockContent, CommandContent, EventContent}
 use Rattle.dgt_board.specs.declared.modes.Mode.{Mode}
 use Rattle.dgt_board.specs.declared.replies.Reply.{Reply}

@@ -5,7 +5,8 @@ use lib.Pointwise.{pointwise}
 use Rattle.dgt_values.specs.Bytes.{number}
 use Rattle.dgt_message.specs.declared.clock.Clock.{Clock}
 use Rattle.dgt_message.specs.declared.clock.Clock.TheVariants as clock
-use Rattle.dgt_message.specs.ClockState.{clock_seen, clock_eq}
+use Rattle.dgt_message.specs.Content.{clock_seen}
+use Rattle.dgt_message.specs.Clock.{clock_eq}
 use Rattle.dgt_board.specs.State.{is_told}
 use Rattle.std.specs.Option.{option_eq}
 use Rattle.dgt_message.specs.contracts.clock.ClockPartialEq.TheImpl as derived

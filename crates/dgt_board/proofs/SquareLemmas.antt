@@ -8,8 +8,7 @@ use Rattle.std.specs.Int.{bit_at, trailing_zeros, w64}
 use Rattle.std.specs.Prelude.{◌≢◌, filter, length, slice_get}
 use Rattle.std.specs.List.{range_with_len}
 use Rattle.dgt_values.specs.declared.pieces.Piece.{Piece}
-use Rattle.dgt_values.specs.Piece.{piece_code}
-use Rattle.dgt_values.specs.Position.{DifferingSquares}
+use Rattle.dgt_values.specs.Board.{piece_code, DifferingSquares}
 use Rattle.dgt_message.specs.Reading.{piece_with_code}
 use Rattle.dgt_board.specs.State.{BoardState}
 use Rattle.dgt_board.specs.Sending.{differs, every_square, piece_on}

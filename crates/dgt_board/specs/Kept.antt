@@ -1,9 +1,7 @@
 -- What contracts see of the state that a board keeps, and what is due of it.
 use Rattle.std.specs.Prelude.{option_map}
-use Rattle.dgt_values.specs.Pieces.{pieces_of}
-use Rattle.dgt_values.specs.Square.{square_number}
-use Rattle.dgt_message.specs.ClockState.{clock_message, clock_seen}
-use Rattle.dgt_message.specs.Content.{Content}
+use Rattle.dgt_values.specs.Board.{pieces_of, square_number}
+use Rattle.dgt_message.specs.Content.{clock_message, clock_seen, Content}
 use Rattle.dgt_board.specs.declared.sending.Due.{Due}
 use Rattle.dgt_board.specs.declared.state.State.{State}
 use Rattle.dgt_board.specs.State.{BoardState}

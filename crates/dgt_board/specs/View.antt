@@ -1,7 +1,7 @@
 -- What contracts see of a board, and what `take` and `poll` make of it.
 use Rattle.std.specs.Prelude.{◌≡◌, ℕ, ◌<◌, ◌≤◌, List, [], ◌++◌, length, drop, Option, Some, None}
 use Rattle.dgt_values.specs.declared.pieces.Piece.{Piece}
-use Rattle.dgt_message.specs.ClockState.{ClockState}
+use Rattle.dgt_message.specs.Clock.{ClockState}
 use Rattle.dgt_message.specs.Content.{Content}
 use Rattle.dgt_message.specs.Spelling.{Spells, spelling}
 use Rattle.dgt_command.specs.Content.{EventContent}

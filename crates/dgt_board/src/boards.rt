@@ -3,11 +3,10 @@
 ghost use Rattle.std.specs.Prelude.{◌≡◌, ◌↔◌, ◌≤◌, ◌<◌, ◌+◌, ◌++◌, ℕ, IsTrue, IsSome, IsErr, IfOk, IfSome, IfNone, MatchResult, length, option_map, take};
 ghost use Rattle.std.specs.Borrow.{sem};
 ghost use Rattle.std.specs.Io.BufRead.{Rests};
-ghost use Rattle.dgt_values.specs.Pieces.{pieces_of};
-ghost use Rattle.dgt_values.specs.Square.{square_number};
-ghost use Rattle.dgt_message.specs.ClockState.{clock_seen};
+ghost use Rattle.dgt_values.specs.Board.{pieces_of, square_number};
+ghost use Rattle.dgt_message.specs.Content.{clock_seen};
 ghost use Rattle.dgt_message.specs.Spelling.{spelling};
-ghost use Rattle.dgt_command.specs.Content.{event_content};
+ghost use Rattle.dgt_command.specs.Content.{command_event_content};
 ghost use Rattle.dgt_command.specs.Words.{IsPartial, IsWord};
 ghost use Rattle.dgt_board.specs.State.{after_change, after_hand_clock};
 ghost use Rattle.dgt_board.specs.Sending.{left_to_send, next_message};
@@ -114,14 +113,14 @@ impl Board {
     pub fn take(&mut self, piece: &[u8]) -> Result<Taken<'_>, Busy>
         ensures* after_borrow { sem 𝓛 (Rests the_row self.entry (λ new. MatchResult result
             (λ taken. let bytes = take taken.used piece.now in
-            (new ≡ after_bytes self.old bytes (option_map event_content taken.event))
+            (new ≡ after_bytes self.old bytes (option_map command_event_content taken.event))
             × HasTaken self.old bytes new)
             (λ _. new ≡ self.old))) }
         ensures busy { IsErr result ↔ (length self.old.state.owed ≡ MAX_OWED) }
         ensures within { IfOk result (λ taken. taken.used ≤ length piece.now) }
         ensures progress { IfOk result (λ taken. 0 < length piece.now → 0 < taken.used) }
         ensures event { IfOk result (λ taken. IfSome taken.event (λ event.
-            IsWord (event_content event) (self.old.partial ++ take taken.used piece.now))) }
+            IsWord (command_event_content event) (self.old.partial ++ take taken.used piece.now))) }
         ensures none { IfOk result (λ taken. IfNone taken.event (
             (taken.used ≡ length piece.now) × IsPartial (self.old.partial ++ piece.now))) }
     {

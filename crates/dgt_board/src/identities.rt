@@ -1,8 +1,7 @@
 //! What a board tells of itself.
 
 ghost use Rattle.std.specs.Prelude.{◌≡◌, ◌<◌, ◌≤◌, ◌⊎◌, ◌↔◌, length, map, All, IfOk, IsErr, MatchResult};
-ghost use Rattle.dgt_values.specs.Body.{body_bytes};
-ghost use Rattle.dgt_values.specs.Bytes.{number};
+ghost use Rattle.dgt_values.specs.Bytes.{body_bytes, number};
 ghost use Rattle.dgt_board.specs.State.{IsKeptBody};
 
 use arrayvec::ArrayVec;

@@ -2,10 +2,10 @@
 //! Nothing here runs: each function stands for the fact that its contract states.
 
 ghost use Rattle.std.specs.Prelude.{◌≡◌, ◌↔◌, ◌≤◌, ◌<◌, ◌+◌, ◌++◌, ℕ, List, [], Option, Some, None, IfSome, length, option_map};
-ghost use Rattle.dgt_values.specs.Equality.{EqualIsSame};
+ghost use Rattle.dgt_values.specs.Equality.{EqualIsSame, EqualIsSameReadOf};
 ghost use Rattle.dgt_message.specs.Content.{Content};
-ghost use Rattle.dgt_command.specs.Content.{EventContent, event_content};
-ghost use Rattle.dgt_command.specs.Equality.{EqualIsSameReadOf, EventHasArrays};
+ghost use Rattle.dgt_command.specs.Content.{EventContent, command_event_content};
+ghost use Rattle.dgt_command.specs.Equality.{EventHasArrays};
 ghost use Rattle.dgt_board.specs.declared.boards.Taken.{Taken};
 ghost use Rattle.dgt_board.specs.State.{BoardState, effects};
 ghost use Rattle.dgt_board.specs.Sending.{after_sending, backlog, left_to_send, next_message};
@@ -29,7 +29,7 @@ pub fn equal_is_same()
     ensures too_long { EqualIsSame ⟦<TooLong as PartialEq>⟧.eq }
     ensures taken { EqualIsSameReadOf {T = Taken} {Read = ℕ × Option EventContent}
         (λ taken. IfSome taken.event EventHasArrays)
-        (λ taken. (taken.used, option_map event_content taken.event))
+        (λ taken. (taken.used, option_map command_event_content taken.event))
         ⟦<Taken<'static> as PartialEq>⟧.eq }
 {
     dgt_command::laws::equal_is_same();

@@ -1,12 +1,10 @@
 //! What a board sends, and in which order.
 
 ghost use Rattle.std.specs.Prelude.{◌≡◌, ◌↔◌, ◌≤◌, ◌<◌, ℕ, List, IfSome, Some, [], ◌∷◌, false, drop, filter, length, option_map, slice_get};
-ghost use Rattle.dgt_values.specs.Bytes.{number};
-ghost use Rattle.dgt_values.specs.Square.{square_number};
-ghost use Rattle.dgt_message.specs.ClockState.{clock_message};
-ghost use Rattle.dgt_message.specs.Content.{Content, content};
+ghost use Rattle.dgt_values.specs.Bytes.{number, WritesFront};
+ghost use Rattle.dgt_values.specs.Board.{square_number};
+ghost use Rattle.dgt_message.specs.Content.{clock_message, Content, content};
 ghost use Rattle.dgt_message.specs.Spelling.{Spells, spelling};
-ghost use Rattle.dgt_values.specs.Room.{WritesFront};
 ghost use Rattle.dgt_board.specs.Sending.{after_sending, after_telling, differs, every_square, left_to_send, next_message, reply_message, untold_squares};
 ghost use Rattle.dgt_board.specs.View.{Polls};
 ghost use Rattle.dgt_board.specs.Kept.{due_message};

@@ -1,11 +1,10 @@
 //! What a board keeps, and what is done to it.
 
 ghost use Rattle.std.specs.Prelude.{◌≡◌, ◌<◌, ◌++◌, ◌&&◌, not, length};
-ghost use Rattle.dgt_values.specs.Pieces.{pieces_of};
-ghost use Rattle.dgt_values.specs.Square.{square_number};
-ghost use Rattle.dgt_message.specs.ClockState.{clock_seen};
-ghost use Rattle.dgt_command.specs.Content.{clock_content, command_content, event_content};
-ghost use Rattle.dgt_command.specs.Words.{clock_id};
+ghost use Rattle.dgt_values.specs.Board.{pieces_of, square_number};
+ghost use Rattle.dgt_message.specs.Content.{clock_seen};
+ghost use Rattle.dgt_command.specs.Content.{clock_content, command_content, command_event_content};
+ghost use Rattle.dgt_command.specs.Spelling.{clock_id};
 ghost use Rattle.dgt_board.specs.State.{acknowledgements, after_change, after_command, after_hand_clock, after_line_lost, effect, follows_clock, is_told, new_board};
 
 use crate::identities::Identity;
@@ -96,7 +95,7 @@ impl State {
     /// The effect of what was read: a fault changes nothing.
     pub fn obey(&mut self, event: &CommandEvent<'_>)
         requires { length self.old.owed.items < MAX_OWED }
-        ensures { state_of self.new ≡ effect (state_of self.old) (event_content event.now) }
+        ensures { state_of self.new ≡ effect (state_of self.old) (command_event_content event.now) }
     {
         if let CommandEvent::Command(command) = event {
             self.obey_command(command);

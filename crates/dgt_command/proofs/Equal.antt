@@ -7,7 +7,8 @@ use Rattle.dgt_command.specs.declared.clock.ClockCommand.TheVariants as clock
 use Rattle.dgt_command.specs.declared.clock.RawClock.{RawClock}
 use Rattle.dgt_command.specs.declared.ids.KnownId.{KnownId}
 use Rattle.dgt_command.specs.Content.{ClockContent, clock_content, known_clock}
-use Rattle.dgt_command.specs.Equality.{EqualIsSameReadOf, HasArrays}
+use Rattle.dgt_values.specs.Equality.{EqualIsSameReadOf}
+use Rattle.dgt_command.specs.Equality.{HasArrays}
 use Rattle.dgt_command.specs.Ids.{has_own_case}
 use Rattle.dgt_command.specs.contracts.clock.ClockCommandPartialEq.TheImpl as derived_clock
 use Rattle.dgt_command.proofs.ListLemmas.{three, six, eight}

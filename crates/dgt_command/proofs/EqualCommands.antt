@@ -7,9 +7,9 @@ use Rattle.dgt_command.specs.declared.command.CommandEvent.{CommandEvent}
 use Rattle.dgt_command.specs.declared.command.CommandEvent.TheVariants as event
 use Rattle.dgt_command.specs.Spelling.{command_code}
 use Rattle.dgt_command.specs.Content as content
-use Rattle.dgt_command.specs.Content.{ClockContent, CommandContent, EventContent, command_content}
-use Rattle.dgt_command.specs.Content.{command_event_content}
-use Rattle.dgt_command.specs.Equality.{CommandHasArrays, EqualIsSameReadOf, EventHasArrays, FedHasArrays, fed_seen}
+use Rattle.dgt_command.specs.Content.{ClockContent, CommandContent, EventContent, command_content, command_event_content}
+use Rattle.dgt_command.specs.Equality.{CommandHasArrays, EventHasArrays, FedHasArrays, fed_seen}
+use Rattle.dgt_values.specs.Equality.{EqualIsSameReadOf}
 use Rattle.dgt_command.specs.contracts.command.CommandPartialEq.TheImpl as derived_command
 use Rattle.dgt_command.specs.contracts.command.CommandEventPartialEq.TheImpl as derived_event
 use Rattle.dgt_command.specs.contracts.decoder.CommandFedPartialEq.TheImpl as derived_fed

@@ -4,8 +4,7 @@ use Rattle.std.proofs.lemmas.Bool.{cases_eq, cases_lt, le-ltb, lt-ltb, ne_eqb, e
 use Rattle.std.proofs.lemmas.List.{append_cancel_left, take_at, get_or_push, length-take-le, take-append-drop}
 use Rattle.std.specs.Prelude.{◌==◌, slice_index, if◌then◌else◌}
 use Rattle.dgt_command.specs.declared.command.Command.{Command}
-use Rattle.dgt_command.specs.Content.{command_content, ClockContent, CommandContent, ClockMessage, Leds}
-use Rattle.dgt_command.specs.Content.{EventContent, Read, BadSize, BadStart, BadEnd, Stray}
+use Rattle.dgt_command.specs.Content.{command_content, ClockContent, CommandContent, ClockMessage, Leds, EventContent, Read, BadSize, BadStart, BadEnd, Stray}
 use Rattle.dgt_command.specs.Spelling.{bare_command, behind_code, command_spelling}
 use Rattle.dgt_command.specs.Lengths.{word_length}
 use Rattle.dgt_command.specs.Words.{BeginsNoCommand, HasForm}

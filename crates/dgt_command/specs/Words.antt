@@ -1,8 +1,7 @@
 -- The words of the line from the host to the board, and how a list of bytes divides into them.
 use Rattle.std.specs.Prelude.{◌≡◌, ◌≢◌, ℕ, ◌+◌, ◌<◌, ◌≤◌, List, [], ◌∷◌, ◌++◌, length}
 use Rattle.std.specs.List.{AllByRecursion}
-use Rattle.dgt_command.specs.Content.{CommandContent, ClockMessage, Leds, EventContent, Read}
-use Rattle.dgt_command.specs.Content.{BadSize, BadStart, BadEnd, Stray}
+use Rattle.dgt_command.specs.Content.{CommandContent, ClockMessage, Leds, EventContent, Read, BadSize, BadStart, BadEnd, Stray}
 use Rattle.dgt_command.specs.Spelling.{AreBytes, command_spelling}
 
 abbrev pub BeginsNoCommand : ℕ → Type 0

@@ -1,17 +1,12 @@
 //! What holds of commands, of the words on the line and of how bytes divide into them, whoever reads or writes them.
 
 ghost use Rattle.std.specs.Prelude.{◌≡◌, ◌↔◌, ◌++◌, ℕ, List, [], Some};
-ghost use Rattle.dgt_values.specs.Equality.{EqualIsSame, EqualIsSameRead};
+ghost use Rattle.dgt_values.specs.Equality.{EqualIsSame, EqualIsSameRead, EqualIsSameReadOf};
 ghost use Rattle.dgt_command.specs.declared.ids.KnownId.{KnownId};
-ghost use Rattle.dgt_command.specs.Content.{led_bytes, payload_bytes, raw_id, raw_payload, EventContent, clock_content};
-ghost use Rattle.dgt_command.specs.Content.{command_content, command_event_content};
-ghost use Rattle.dgt_command.specs.Equality.{CommandHasArrays, EqualIsSameReadOf, EventHasArrays};
-ghost use Rattle.dgt_command.specs.Equality.{FedHasArrays, HasArrays, fed_seen};
+ghost use Rattle.dgt_command.specs.Content.{led_bytes, payload_bytes, raw_id, raw_payload, EventContent, clock_content, command_content, command_event_content};
+ghost use Rattle.dgt_command.specs.Equality.{CommandHasArrays, EventHasArrays, FedHasArrays, HasArrays, fed_seen};
 ghost use Rattle.dgt_command.specs.Ids.{id_number, id_with};
-ghost use Rattle.dgt_command.specs.Laws.{CommandsAreReadBack, DivisionsAppend, EachDividesOnce};
-ghost use Rattle.dgt_command.specs.Laws.{FrontsDivideFirst, NoWordBeginsAnother};
-ghost use Rattle.dgt_command.specs.Laws.{SpellingsTellCommands, WordsAreShort};
-ghost use Rattle.dgt_command.specs.Laws.{ZerosSettleTheReader};
+ghost use Rattle.dgt_command.specs.Laws.{CommandsAreReadBack, DivisionsAppend, EachDividesOnce, FrontsDivideFirst, NoWordBeginsAnother, SpellingsTellCommands, WordsAreShort, ZerosSettleTheReader};
 ghost use Rattle.dgt_command.specs.Spelling.{AreBytes};
 ghost use Rattle.dgt_command.specs.Words.{IsPartial, IsWord};
 

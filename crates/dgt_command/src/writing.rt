@@ -1,7 +1,7 @@
 //! Commands written as bytes.
 
 ghost use Rattle.std.specs.Prelude.{◌≡◌, ◌+◌, ◌<◌, ◌≤◌, [], ◌∷◌, ◌++◌, length, OnOk};
-ghost use Rattle.dgt_values.specs.Room.{WritesFront};
+ghost use Rattle.dgt_values.specs.Bytes.{WritesFront};
 ghost use Rattle.dgt_command.specs.Content.{clock_content, command_content};
 ghost use Rattle.dgt_command.specs.Spelling.{clock_id, command_spelling, SpellsCommand};
 

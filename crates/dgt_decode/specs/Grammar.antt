@@ -4,7 +4,7 @@
 -- segment behind its message are stray.
 use Rattle.std.specs.Prelude.{ℕ, ◌+◌, ◌-◌, ◌<◌, Bool, List, [], ◌∷◌, ◌++◌, length, take, drop, Option, Some, None, Result, Ok, Err, nat_lt, nat_le, slice_index, if◌then◌else◌}
 use Rattle.std.specs.List.{AllByRecursion}
-use Rattle.dgt_message.specs.declared.bodies.BodyFault.{BodyFault}
+use Rattle.dgt_message.specs.declared.viewing.BodyFault.{BodyFault}
 use Rattle.dgt_message.specs.Content.{Content}
 use Rattle.dgt_message.specs.Reading.{reading}
 use Rattle.dgt_message.specs.Spelling.{total}

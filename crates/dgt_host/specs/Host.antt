@@ -4,14 +4,13 @@ use Rattle.dgt_values.specs.contracts.kinds.KindPartialEq.TheImpl as kinds
 use Rattle.dgt_values.specs.declared.kinds.Kind.{Kind}
 use Rattle.dgt_values.specs.declared.pieces.Piece.{Piece}
 use Rattle.dgt_values.specs.declared.positions.Position.{Position}
-use Rattle.dgt_values.specs.Pieces.{pieces_of}
+use Rattle.dgt_values.specs.Board.{pieces_of}
 use Rattle.dgt_message.specs.declared.clock.Clock.{Clock}
-use Rattle.dgt_message.specs.Content.{Content}
+use Rattle.dgt_message.specs.Content.{Content, clock_seen, kind_of}
 use Rattle.dgt_message.specs.Content.Content.{dump, field, times, no_clock}
-use Rattle.dgt_message.specs.ClockState.{ClockState, clock_seen}
-use Rattle.dgt_message.specs.Kind.{kind_of}
+use Rattle.dgt_message.specs.Clock.{ClockState}
 use Rattle.dgt_command.specs.Content.CommandContent.{Dump, UpdateBoard}
-use Rattle.dgt_command.specs.Words.{spelling}
+use Rattle.dgt_command.specs.Spelling.{command_spelling}
 use Rattle.dgt_decode.specs.Grammar.{Event, Message, Placed, events, open_message}
 use Rattle.dgt_host.specs.declared.sending.SendFault.{SendFault}
 use Rattle.dgt_host.specs.declared.sending.SendFault.TheVariants.{TooMany, NoRoom}
@@ -116,7 +115,7 @@ host_awaiting host kind = record host { awaited = host.awaited ++ option_to_list
 
 -- what a host sends to follow the board: its changes are to be told, and first the whole of it
 abbrev pub follow_bytes : List ℕ
-follow_bytes = spelling UpdateBoard ++ spelling Dump
+follow_bytes = command_spelling UpdateBoard ++ command_spelling Dump
 
 -- what a host sends to begin anew: zeros, with which any part of a command ends, and then the same
 abbrev pub restart_bytes : List ℕ

@@ -1,10 +1,8 @@
 //! What a host makes of the messages that it hears.
 
 ghost use Rattle.std.specs.Prelude.{◌≡◌, ◌↔◌, ℕ, List, IsTrue, Some, option_map};
-ghost use Rattle.dgt_values.specs.Pieces.{pieces_of};
-ghost use Rattle.dgt_message.specs.ClockState.{clock_seen};
-ghost use Rattle.dgt_message.specs.Content.{content};
-ghost use Rattle.dgt_message.specs.Kind.{kind_of};
+ghost use Rattle.dgt_values.specs.Board.{pieces_of};
+ghost use Rattle.dgt_message.specs.Content.{clock_seen, content, kind_of};
 ghost use Rattle.dgt_decode.specs.Feeding.{event_content};
 ghost use Rattle.dgt_host.specs.Host.{IsUnasked, awaited_after, clock_after, host_after_event, host_seen, is_same_kind, picture_after};
 

@@ -3,11 +3,10 @@
 ghost use Rattle.std.specs.Prelude.{◌≡◌, ◌<◌, ◌≤◌, ◌↔◌, ◌∷◌, [], ◌++◌, IsTrue, length, replicate, take, option_map, OnOk, Some};
 ghost use Rattle.std.specs.Borrow.{sem};
 ghost use Rattle.std.specs.Io.BufRead.{Rests};
-ghost use Rattle.dgt_values.specs.Pieces.{pieces_of};
-ghost use Rattle.dgt_message.specs.ClockState.{clock_seen};
-ghost use Rattle.dgt_command.specs.Content.{command_content};
-ghost use Rattle.dgt_command.specs.Kind.{kind_of_command};
-ghost use Rattle.dgt_command.specs.Words.{spelling, Spells};
+ghost use Rattle.dgt_values.specs.Board.{pieces_of};
+ghost use Rattle.dgt_message.specs.Content.{clock_seen};
+ghost use Rattle.dgt_command.specs.Content.{command_content, kind_of_command};
+ghost use Rattle.dgt_command.specs.Spelling.{command_spelling, SpellsCommand};
 ghost use Rattle.dgt_decode.specs.Grammar.{open_message};
 ghost use Rattle.dgt_decode.specs.Feeding.{FirstEvent, event_content_if_any};
 ghost use Rattle.dgt_host.specs.Host.{IsUnasked, Sends, awaits_too_many, follow_bytes, host_after, new_host, restart_bytes};
@@ -72,11 +71,11 @@ impl Host {
     /// slice is shorter than the command.
     pub fn send(&mut self, command: &Command<'_>, out: &mut [u8]) -> Result<usize, SendFault>
         ensures sends { let said = command_content command.now in
-            Sends (record { kind = kind_of_command said; bytes = spelling said })
+            Sends (record { kind = kind_of_command said; bytes = command_spelling said })
             self.old self.new out.old out.new result }
         ensures spells { let said = command_content command.now in
-            OnOk result (Spells said (spelling said)) }
-        ensures limit { length (spelling (command_content command.now)) ≤ 257 }
+            OnOk result (SpellsCommand said (command_spelling said)) }
+        ensures limit { length (command_spelling (command_content command.now)) ≤ 257 }
     {
         let kind = kind_of_command(command);
         if self.awaits_too_many(kind) {

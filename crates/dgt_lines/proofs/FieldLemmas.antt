@@ -1,8 +1,7 @@
 -- What a message of five bytes says of one square.
 use Rattle.std.proofs.Common.{◌≡◌, ℕ, ◌<◌, List, [], ◌∷◌, Ok, ap, arith, drop, length, refl, slice_index}
 use Rattle.std.proofs.lemmas.List.Elements.{All-from_recursion}
-use Rattle.dgt_values.specs.Piece.{piece_code}
-use Rattle.dgt_values.specs.Square.{square_number}
+use Rattle.dgt_values.specs.Board.{piece_code, square_number}
 use Rattle.dgt_values.specs.declared.pieces.Piece.{Piece}
 use Rattle.dgt_values.specs.declared.squares.Square.{Square}
 use Rattle.dgt_message.specs.Content.Content.{field}

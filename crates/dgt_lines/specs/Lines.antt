@@ -2,16 +2,15 @@
 use Rattle.std.specs.Prelude.{ℕ, ◌-◌, Option, Some, List, [], ◌∷◌, ◌++◌, length, replicate, map, codes, decimal}
 use Rattle.std.specs.List.{join_with_byte, flat_map}
 use Rattle.hex.specs.Hex.{encode_lower}
-use Rattle.dgt_values.specs.Piece.{piece_letter}
+use Rattle.dgt_values.specs.Board.{piece_letter, square_name}
 use Rattle.dgt_values.specs.Placement.{placement_text}
-use Rattle.dgt_values.specs.Square.{square_name}
-use Rattle.dgt_message.specs.declared.bodies.BodyFault.{BodyFault}
-use Rattle.dgt_message.specs.declared.bodies.BodyFault.TheVariants.{WrongSize, BadPiece, BadSquare, BadReading}
+use Rattle.dgt_message.specs.declared.viewing.BodyFault.{BodyFault}
+use Rattle.dgt_message.specs.declared.viewing.BodyFault.TheVariants.{WrongSize, BadPiece, BadSquare, BadReading}
 use Rattle.dgt_message.specs.declared.known.KnownCode.{KnownCode}
 use Rattle.dgt_message.specs.Code.{known_with}
 use Rattle.dgt_message.specs.Content.{Content}
 use Rattle.dgt_message.specs.Content.Content.{dump, field, times, no_clock, ack, serial, version, carried}
-use Rattle.dgt_message.specs.Time.{Time}
+use Rattle.dgt_message.specs.Clock.{Time}
 use Rattle.dgt_decode.specs.Grammar.{Event, Message, Refused, Cut, BadLength, Stray, Placed, events, events_behind, open_message}
 
 -- ---- Numbers and bytes

@@ -1,7 +1,7 @@
 -- Texts that end with the bytes that a message carries.
 use Rattle.std.specs.Prelude.{ℕ, List, ◌++◌, Option, Some, None}
 use Rattle.dgt_values.specs.declared.bodies.Body.{Body}
-use Rattle.dgt_values.specs.Body.{body_bytes}
+use Rattle.dgt_values.specs.Bytes.{body_bytes}
 use Rattle.dgt_lines.specs.Lines.{bytes_text}
 
 -- a text, and then the bytes that are carried, where there are some

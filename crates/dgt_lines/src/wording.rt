@@ -2,10 +2,8 @@
 
 ghost use Rattle.std.specs.Prelude.{◌≡◌, ◌+◌, ◌<◌, ◌≤◌, [], ◌++◌, ◌∷◌, length, decimal, map};
 ghost use Rattle.dgt_values.specs.Bytes.{number};
-ghost use Rattle.dgt_values.specs.Square.{square_number};
-ghost use Rattle.dgt_message.specs.ClockState.{clock_message, clock_seen};
-ghost use Rattle.dgt_message.specs.Content.{content};
-ghost use Rattle.dgt_message.specs.Values.{absence_seen, answer_seen, time_seen, times_seen};
+ghost use Rattle.dgt_values.specs.Board.{square_number};
+ghost use Rattle.dgt_message.specs.Content.{clock_message, clock_seen, content, absence_seen, answer_seen, time_seen, times_seen};
 ghost use Rattle.dgt_message.specs.Content.Content.{field, times, no_clock, ack, serial};
 ghost use Rattle.dgt_decode.specs.Grammar.{Refused};
 ghost use Rattle.dgt_decode.specs.Feeding.{event_content};

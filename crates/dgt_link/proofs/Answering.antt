@@ -4,10 +4,9 @@ use Rattle.std.proofs.lemmas.List.Elements.{All-head, All-nil, All-tail, filter_
 use Rattle.std.specs.Prelude.{filter_map, slice_get}
 use Rattle.std.specs.List.{cons_option}
 use Rattle.dgt_values.specs.declared.kinds.Kind.{Kind}
-use Rattle.dgt_message.specs.Content.{Content}
-use Rattle.dgt_message.specs.Kind.{kind_of}
+use Rattle.dgt_message.specs.Content.{Content, kind_of}
 use Rattle.dgt_decode.specs.Grammar.{Event}
-use Rattle.dgt_host.specs.Hearing.{IsUnasked}
+use Rattle.dgt_host.specs.Host.{IsUnasked}
 use Rattle.dgt_link.specs.Machine.{MachineState}
 use Rattle.dgt_link.specs.Sound.{IsExact, kind_of_event, kind_of_reply}
 

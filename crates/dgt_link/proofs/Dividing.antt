@@ -2,9 +2,10 @@
 use Rattle.std.proofs.Common.{◌≡◌, refl, sym, ap, ◌∙◌, ◌⊎◌, inl, inr, ℕ, List, [], ◌∷◌, ◌++◌, append_assoc, map, rules}
 use Rattle.std.proofs.lemmas.List.{append-nil}
 use Rattle.dgt_command.specs.Content.{CommandContent, EventContent}
-use Rattle.dgt_command.specs.Words.{Divides, IsPartial, IsWord, Spells, spelling}
+use Rattle.dgt_command.specs.Words.{Divides, IsPartial, IsWord}
+use Rattle.dgt_command.specs.Spelling.{SpellsCommand, command_spelling}
 use Rattle.dgt_command.specs.Laws.{DivisionsAppend, NoWordBeginsAnother}
-use Rattle.dgt_host.specs.Sending.{follow_bytes}
+use Rattle.dgt_host.specs.Host.{follow_bytes}
 use Rattle.dgt_link.specs.Machine.{commands_anew}
 use Rattle.dgt_link.proofs.Lists.{IsShorter, Reaches, fronts, not_empty}
 
@@ -22,10 +23,10 @@ cons_same : (event other : EventContent) (events all : List EventContent) → ev
 cons_same event other events all same rest = rw (same, rest) refl
 
 -- one more command behind bytes with no rest
-pub divides_command : DivisionsAppend → (bytes : List ℕ) (events : List EventContent) (command : CommandContent) → Divides bytes events [] → Spells command (spelling command) → Divides (bytes ++ spelling command) (events ++ EventContent.Read command ∷ []) []
+pub divides_command : DivisionsAppend → (bytes : List ℕ) (events : List EventContent) (command : CommandContent) → Divides bytes events [] → SpellsCommand command (command_spelling command) → Divides (bytes ++ command_spelling command) (events ++ EventContent.Read command ∷ []) []
 divides_command append bytes events command divides spells =
-    append bytes (spelling command) events (EventContent.Read command ∷ []) [] [] divides
-    (spelling command, [], record { form = (spells.is_command, refl); are_bytes = spells.are_bytes }, sym (append-nil (spelling command)), (refl, nothing_is_partial))
+    append bytes (command_spelling command) events (EventContent.Read command ∷ []) [] [] divides
+    (command_spelling command, [], record { form = (spells.is_command, refl); are_bytes = spells.are_bytes }, sym (append-nil (command_spelling command)), (refl, nothing_is_partial))
 
 -- what a host asks with that begins anew is what it asks for
 pub anew_divides : Divides follow_bytes (map EventContent.Read commands_anew) []

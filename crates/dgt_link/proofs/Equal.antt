@@ -1,10 +1,10 @@
 -- What the derived `==` says of acts.
 use Rattle.std.proofs.Common.{refl, rules}
-use Rattle.dgt_values.specs.Equality.{EqualIsSameRead}
-use Rattle.dgt_message.specs.ClockState.{clock_seen}
+use Rattle.dgt_values.specs.Equality.{EqualIsSameRead, EqualIsSameReadOf}
+use Rattle.dgt_message.specs.Content.{clock_seen}
 use Rattle.dgt_message.specs.contracts.clock.ClockPartialEq.TheImpl as derived_clock
 use Rattle.dgt_command.specs.Content.{command_content}
-use Rattle.dgt_command.specs.Equality.{CommandHasArrays, EqualIsSameReadOf}
+use Rattle.dgt_command.specs.Equality.{CommandHasArrays}
 use Rattle.dgt_command.specs.contracts.command.CommandPartialEq.TheImpl as derived_command
 use Rattle.dgt_link.specs.Act.{ActHasArrays, act_content}
 use Rattle.dgt_link.specs.declared.acts.Act.TheVariants as act

@@ -2,13 +2,11 @@
 use Rattle.std.proofs.Common.{◌≡◌, refl, ℕ, Some, Option, take, cond}
 use Rattle.dgt_message.specs.Content.{Content}
 use Rattle.dgt_message.specs.Spelling.{Spells, spelling}
-use Rattle.dgt_command.specs.Content.{CommandContent}
-use Rattle.dgt_command.specs.Kind.{kind_of_command}
-use Rattle.dgt_command.specs.Words.{Spells as SpellsCommand, spelling as command_spelling}
+use Rattle.dgt_command.specs.Content.{CommandContent, kind_of_command}
+use Rattle.dgt_command.specs.Spelling.{SpellsCommand as SpellsCommand, command_spelling as command_spelling}
 use Rattle.dgt_board.specs.Sending.{after_sending, next_message}
 use Rattle.dgt_board.specs.View.{BoardView}
-use Rattle.dgt_host.specs.Host.{HostView, host_after}
-use Rattle.dgt_host.specs.Sending.{awaits_too_many, host_awaiting}
+use Rattle.dgt_host.specs.Host.{HostView, host_after, awaits_too_many, host_awaiting}
 use Rattle.dgt_link.specs.Act.{ActContent}
 use Rattle.dgt_link.specs.declared.acts.Outcome.{Outcome}
 use Rattle.dgt_link.specs.Step.{IfDone, Step, moves_nothing, sending_outcome}

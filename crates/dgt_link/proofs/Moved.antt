@@ -10,12 +10,10 @@ use Rattle.dgt_message.specs.Spelling.{Spells, spelling}
 use Rattle.dgt_command.specs.Content.{EventContent}
 use Rattle.dgt_command.specs.Words.{IsPartial, IsWord}
 use Rattle.dgt_board.specs.declared.sending.Polled.{Polled}
-use Rattle.dgt_board.specs.Polls.{Polls}
+use Rattle.dgt_board.specs.View.{Polls, BoardView, HasTaken, after_bytes}
 use Rattle.dgt_board.specs.State.{BoardState}
 use Rattle.dgt_board.specs.Sending.{after_sending}
-use Rattle.dgt_board.specs.View.{BoardView, HasTaken, after_bytes}
-use Rattle.dgt_host.specs.Host.{HostView, host_after}
-use Rattle.dgt_host.specs.Laws.{HeardInPieces}
+use Rattle.dgt_host.specs.Host.{HostView, host_after, HeardInPieces}
 use Rattle.dgt_link.specs.declared.acts.Outcome.{Outcome}
 use Rattle.dgt_link.specs.View.{LineContents, WorldView, line_holding, overflows, with_bytes, without_first}
 use Rattle.dgt_link.specs.Step.{Delivers, StaysOpen, is_full, sending_outcome}

@@ -7,7 +7,7 @@ use Rattle.std.proofs.lemmas.Bool.Decides.{leb_tells}
 use Rattle.dgt_message.specs.Content.{Content, IsMessage}
 use Rattle.dgt_message.specs.Spelling.{Spells, spelling}
 use Rattle.dgt_command.specs.Laws.{EachDividesOnce}
-use Rattle.dgt_board.specs.Effect.{effects}
+use Rattle.dgt_board.specs.State.{effects}
 use Rattle.dgt_board.specs.View.{BoardView, HasTaken}
 use Rattle.dgt_link.specs.Act.{ActContent}
 use Rattle.dgt_link.specs.declared.acts.Outcome.{Outcome}

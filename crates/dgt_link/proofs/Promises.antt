@@ -6,15 +6,13 @@ use Rattle.std.specs.Prelude.{IsSome, Contains, filter_map, map, unwrap_or}
 use Rattle.std.specs.List.{cons_option}
 use Rattle.dgt_values.specs.declared.kinds.Kind.{Kind}
 use Rattle.dgt_values.specs.declared.pieces.Piece.{Piece}
-use Rattle.dgt_message.specs.Content.{Content}
-use Rattle.dgt_message.specs.ClockState.{clock_message}
+use Rattle.dgt_message.specs.Content.{Content, clock_message}
 use Rattle.dgt_command.specs.Content.{CommandContent, EventContent}
 use Rattle.dgt_board.specs.declared.modes.Mode.{Mode}
 use Rattle.dgt_board.specs.declared.replies.Reply.{Reply}
-use Rattle.dgt_board.specs.State.{BoardState, updates}
-use Rattle.dgt_board.specs.Effect.{command_mode, effect, replies_to, effects}
+use Rattle.dgt_board.specs.State.{BoardState, updates, command_mode, effect, replies_to, effects}
 use Rattle.dgt_board.specs.Sending.{differs, field_of, reply_message}
-use Rattle.dgt_host.specs.Hearing.{picture_after, picture_after_all}
+use Rattle.dgt_host.specs.Host.{picture_after, picture_after_all}
 use Rattle.dgt_command.specs.Words.{IsNoise, IsNoiseList}
 use Rattle.dgt_link.specs.Machine.{IsHostBreak, Move, MachineState, commands_anew, after_move, after_told, after_take, after_reply, after_hear}
 use Rattle.dgt_link.specs.Sound.{coming_picture}

@@ -6,9 +6,9 @@ use Rattle.std.proofs.lemmas.List.FromFn.{get_or-range_with_len}
 use Rattle.std.specs.Prelude.{◌==◌, not, IsTrue, IsSome, is_some, filter, map}
 use Rattle.dgt_values.specs.declared.kinds.Kind.{Kind}
 use Rattle.dgt_values.specs.declared.pieces.Piece.{Piece}
-use Rattle.dgt_values.specs.Piece.{piece_code}
-use Rattle.dgt_message.specs.Content.{Content}
-use Rattle.dgt_message.specs.ClockState.{ClockState, clock_message}
+use Rattle.dgt_values.specs.Board.{piece_code}
+use Rattle.dgt_message.specs.Content.{Content, clock_message}
+use Rattle.dgt_message.specs.Clock.{ClockState}
 use Rattle.dgt_message.specs.Reading.{piece_with_code}
 use Rattle.dgt_command.specs.Content.{CommandContent, EventContent}
 use Rattle.dgt_board.specs.declared.replies.Reply.{Reply}

@@ -1,13 +1,12 @@
 -- What is so of a world by the state that it stands for.
 use Rattle.std.proofs.Common.{◌≡◌, refl, ◌∙◌, List, [], ◌∷◌, ◌++◌, Some, None, All, IsTrue}
 use Rattle.dgt_values.specs.declared.kinds.Kind.{Kind}
-use Rattle.dgt_message.specs.Content.{Content}
-use Rattle.dgt_message.specs.Kind.{kind_of}
+use Rattle.dgt_message.specs.Content.{Content, kind_of}
 use Rattle.dgt_command.specs.Laws.{EachDividesOnce}
 use Rattle.dgt_board.specs.State.{follows_clock, updates}
 use Rattle.dgt_board.specs.Sending.{first_message, pending_messages}
 use Rattle.dgt_decode.specs.Grammar.{Event}
-use Rattle.dgt_host.specs.Hearing.{IsUnasked, picture_after_all}
+use Rattle.dgt_host.specs.Host.{IsUnasked, picture_after_all}
 use Rattle.dgt_link.specs.Machine.{MachineState}
 use Rattle.dgt_link.specs.Promise.{IsPromised, IsQuiet}
 use Rattle.dgt_link.specs.Sound.{IsExact, IsUnknownOr}

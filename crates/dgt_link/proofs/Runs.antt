@@ -4,7 +4,7 @@ use Rattle.std.specs.Prelude.{flat_map, unwrap_or}
 use Rattle.std.specs.List.{AllByRecursion}
 use Rattle.dgt_command.specs.Content.{CommandContent}
 use Rattle.dgt_board.specs.declared.modes.Mode.{Mode}
-use Rattle.dgt_board.specs.Effect.{command_mode}
+use Rattle.dgt_board.specs.State.{command_mode}
 use Rattle.dgt_link.specs.Machine.{IsHostBreak, MachineState, Move, after_move, after_moves}
 use Rattle.dgt_link.specs.Sound.{IsSound, IsExact}
 use Rattle.dgt_link.specs.Promise.{IsAsked, IsPromised, IsQuiet, coming_mode, commands_after, mode_after, requests}

@@ -2,8 +2,7 @@
 use Rattle.std.proofs.Common.{◌≡◌, refl, sym, ap, ◌∙◌, ◌⊎◌, inl, inr, ℕ, List, [], ◌∷◌, ◌++◌, Some, Bool, true, false, ◌&&◌, cond, map, drop}
 use Rattle.std.proofs.lemmas.Bool.{cond-true, and_from}
 use Rattle.std.specs.Prelude.{filter}
-use Rattle.dgt_message.specs.Content.{Content}
-use Rattle.dgt_message.specs.ClockState.{clock_message}
+use Rattle.dgt_message.specs.Content.{Content, clock_message}
 use Rattle.dgt_board.specs.declared.replies.Reply.{Reply}
 use Rattle.dgt_board.specs.State.{BoardState, updates}
 use Rattle.dgt_board.specs.Sending.{after_sending, after_telling, clock_news, differs, every_square, field_of, first_message, first_reply, next_message, reply_message, untold_squares}

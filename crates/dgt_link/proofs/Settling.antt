@@ -6,7 +6,7 @@ use Rattle.std.proofs.Math.Nat.{mul-le-mul_left}
 use Rattle.std.specs.Prelude.{◌↔◌, ◌||◌, Contains, IsTrue, IsSome, nat_lt}
 use Rattle.std.specs.List.{AllByRecursion, flat_map}
 use Rattle.dgt_values.specs.declared.pieces.Piece.{Piece}
-use Rattle.dgt_message.specs.ClockState.{ClockState}
+use Rattle.dgt_message.specs.Clock.{ClockState}
 use Rattle.dgt_message.specs.Content.{Content}
 use Rattle.dgt_message.specs.Spelling.{spelling}
 use Rattle.dgt_command.specs.Content.{EventContent}
@@ -14,10 +14,8 @@ use Rattle.dgt_command.specs.Words.{Divides, IsPartial}
 use Rattle.dgt_command.specs.Laws.{EachDividesOnce, NoWordBeginsAnother, WordsAreShort}
 use Rattle.dgt_decode.specs.Grammar.{open_message}
 use Rattle.dgt_board.specs.declared.modes.Mode.{Mode}
-use Rattle.dgt_board.specs.Backlog.{backlog}
-use Rattle.dgt_board.specs.Effect.{effect, effects}
-use Rattle.dgt_board.specs.State.{BoardState, follows_clock, updates}
-use Rattle.dgt_board.specs.Sending.{after_sending, next_message}
+use Rattle.dgt_board.specs.Sending.{backlog, after_sending, next_message}
+use Rattle.dgt_board.specs.State.{effect, effects, BoardState, follows_clock, updates}
 use Rattle.dgt_link.specs.Act.{ActContent}
 use Rattle.dgt_link.specs.Stands.{StandsAfterStep, AreSpelled, IsExactWorld, IsWorld, StandsFor}
 use Rattle.dgt_link.specs.Promise.{mode_after, act_requests, IsPromised, PictureIsComing, coming_mode}

@@ -7,19 +7,15 @@ use Rattle.std.specs.Prelude.{Contains, map}
 use Rattle.dgt_values.specs.declared.pieces.Piece.{Piece}
 use Rattle.dgt_values.specs.declared.kinds.Kind.{Kind}
 use Rattle.dgt_message.specs.Content.{Content, IsMessage}
-use Rattle.dgt_message.specs.ClockState.{ClockState}
+use Rattle.dgt_message.specs.Clock.{ClockState}
 use Rattle.dgt_message.specs.Spelling.{Spells, spelling}
-use Rattle.dgt_command.specs.Content.{CommandContent, EventContent}
-use Rattle.dgt_command.specs.Words.{spelling as command_spelling}
+use Rattle.dgt_command.specs.Content.{CommandContent, EventContent, kind_of_command}
+use Rattle.dgt_command.specs.Spelling.{command_spelling as command_spelling}
 use Rattle.dgt_command.specs.Laws.{DivisionsAppend, NoWordBeginsAnother, ZerosSettleTheReader}
-use Rattle.dgt_command.specs.Kind.{kind_of_command}
-use Rattle.dgt_board.specs.Identity.{IdentityContent}
-use Rattle.dgt_board.specs.State.{BoardState, after_change, after_hand_clock, after_line_lost}
-use Rattle.dgt_board.specs.Effect.{effect, effects}
+use Rattle.dgt_board.specs.State.{IdentityContent, BoardState, after_change, after_hand_clock, after_line_lost, effect, effects}
 use Rattle.dgt_board.specs.Sending.{after_sending, next_message}
 use Rattle.dgt_board.specs.View.{BoardView}
-use Rattle.dgt_host.specs.Host.{HostView, host_after_message}
-use Rattle.dgt_host.specs.Sending.{follow_bytes}
+use Rattle.dgt_host.specs.Host.{HostView, host_after_message, follow_bytes}
 use Rattle.dgt_link.specs.Act.{ActContent}
 use Rattle.dgt_link.specs.declared.acts.Outcome.{Outcome}
 use Rattle.dgt_link.specs.Machine.{Move, MachineState, commands_anew, after_hear, after_move, after_moves, after_take, new_state}

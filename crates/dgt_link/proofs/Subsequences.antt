@@ -5,7 +5,7 @@ use Rattle.std.proofs.lemmas.Bool.{cond_both, cond-true, false≢true}
 use Rattle.std.specs.List.{cons_option}
 use Rattle.std.specs.Option.{option_to_list}
 use Rattle.dgt_values.specs.declared.kinds.Kind.{Kind}
-use Rattle.dgt_host.specs.Hearing.{awaited_after, is_same_kind}
+use Rattle.dgt_host.specs.Host.{awaited_after, is_same_kind}
 use Rattle.dgt_link.specs.Sound.{IsSubsequence}
 
 -- the second list may have more in front

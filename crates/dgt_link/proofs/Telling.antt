@@ -6,15 +6,13 @@ use Rattle.std.specs.Prelude.{◌&&◌, ◌==◌, IsTrue, bytes_eq, not}
 use Rattle.std.proofs.lemmas.List.{length-set}
 use Rattle.dgt_values.specs.declared.kinds.Kind.{Kind}
 use Rattle.dgt_values.specs.declared.pieces.Piece.{Piece}
-use Rattle.dgt_message.specs.Time.{Time, time_of}
-use Rattle.dgt_message.specs.Content.{Content}
-use Rattle.dgt_message.specs.ClockState.{ClockState, clock_eq, clock_message, time_eq}
-use Rattle.dgt_message.specs.Kind.{kind_of}
+use Rattle.dgt_message.specs.Clock.{Time, time_of, ClockState, clock_eq, time_eq}
+use Rattle.dgt_message.specs.Content.{Content, clock_message, kind_of}
 use Rattle.dgt_board.specs.declared.modes.Mode.{Mode}
 use Rattle.dgt_board.specs.declared.replies.Reply.{Reply}
 use Rattle.dgt_board.specs.State.{BoardState, is_told, owed_when_handed, follows_clock}
 use Rattle.dgt_board.specs.Sending.{field_of, reply_message, told_squares_after, told_clock_after, times_owed_after}
-use Rattle.dgt_host.specs.Hearing.{clock_after, clock_after_all, picture_after, picture_after_all}
+use Rattle.dgt_host.specs.Host.{clock_after, clock_after_all, picture_after, picture_after_all}
 use Rattle.dgt_link.specs.Sound.{IsUnknownOr, kind_of_reply}
 
 pub picture_after_all-append : (picture : Option (List Piece)) (up : List Content) (message : Content) → picture_after_all picture (up ++ message ∷ []) ≡ picture_after (picture_after_all picture up) message

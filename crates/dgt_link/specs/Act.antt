@@ -1,8 +1,9 @@
 -- What is done to a world, without where it lies in memory.
 use Rattle.std.specs.Prelude.{ℕ}
 use Rattle.dgt_values.specs.declared.pieces.Piece.{Piece}
-use Rattle.dgt_values.specs.Square.{square_number}
-use Rattle.dgt_message.specs.ClockState.{ClockState, clock_seen}
+use Rattle.dgt_values.specs.Board.{square_number}
+use Rattle.dgt_message.specs.Clock.{ClockState}
+use Rattle.dgt_message.specs.Content.{clock_seen}
 use Rattle.dgt_command.specs.Content.{CommandContent, command_content}
 use Rattle.dgt_command.specs.Equality.{CommandHasArrays}
 use Rattle.dgt_link.specs.declared.acts.Act.{Act}

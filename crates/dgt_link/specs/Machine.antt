@@ -4,19 +4,14 @@ use Rattle.std.specs.Prelude.{ℕ, List, [], ◌∷◌, ◌++◌, Option, None, 
 use Rattle.std.specs.Prelude.{map, option_to_list}
 use Rattle.dgt_values.specs.declared.pieces.Piece.{Piece}
 use Rattle.dgt_values.specs.declared.kinds.Kind.{Kind}
-use Rattle.dgt_message.specs.Content.{Content}
-use Rattle.dgt_message.specs.ClockState.{ClockState, clock_message}
-use Rattle.dgt_message.specs.Kind.{kind_of}
-use Rattle.dgt_command.specs.Content.{CommandContent, EventContent}
-use Rattle.dgt_command.specs.Kind.{kind_of_command}
+use Rattle.dgt_message.specs.Content.{Content, clock_message, kind_of}
+use Rattle.dgt_message.specs.Clock.{ClockState}
+use Rattle.dgt_command.specs.Content.{CommandContent, EventContent, kind_of_command}
 use Rattle.dgt_command.specs.Words.{IsNoiseList}
 use Rattle.dgt_board.specs.declared.replies.Reply.{Reply as OwedReply}
-use Rattle.dgt_board.specs.Identity.{IdentityContent}
-use Rattle.dgt_board.specs.State.{BoardState, new_board, after_change, after_hand_clock}
-use Rattle.dgt_board.specs.State.{after_line_lost, updates}
-use Rattle.dgt_board.specs.Effect.{effect}
+use Rattle.dgt_board.specs.State.{IdentityContent, BoardState, new_board, after_change, after_hand_clock, after_line_lost, updates, effect}
 use Rattle.dgt_board.specs.Sending.{after_telling, differs, field_of, reply_message}
-use Rattle.dgt_host.specs.Hearing.{awaited_after, clock_after, picture_after}
+use Rattle.dgt_host.specs.Host.{awaited_after, clock_after, picture_after}
 
 pub record MachineState : Type 0 where
   pub board : BoardState

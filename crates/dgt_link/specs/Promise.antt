@@ -6,8 +6,7 @@ use Rattle.dgt_command.specs.Content.{CommandContent, EventContent}
 use Rattle.dgt_command.specs.Words.{IsNoiseList}
 use Rattle.dgt_board.specs.declared.modes.Mode.{Mode}
 use Rattle.dgt_board.specs.declared.replies.Reply.{Reply}
-use Rattle.dgt_board.specs.State.{updates}
-use Rattle.dgt_board.specs.Effect.{command_mode}
+use Rattle.dgt_board.specs.State.{updates, command_mode}
 use Rattle.dgt_board.specs.Sending.{pending_messages}
 use Rattle.dgt_link.specs.declared.acts.Outcome.{Outcome}
 use Rattle.dgt_link.specs.Act.{ActContent}

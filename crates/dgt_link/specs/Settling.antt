@@ -1,7 +1,7 @@
 -- How a world comes to rest: what is under way is delivered, and the board sends what it owes.
 use Rattle.std.specs.Prelude.{◌≡◌, ℕ, ◌+◌, ◌*◌, ◌≤◌, List, length, replicate}
 use Rattle.std.specs.List.{AllByRecursion}
-use Rattle.dgt_board.specs.Backlog.{backlog}
+use Rattle.dgt_board.specs.Sending.{backlog}
 use Rattle.dgt_link.specs.declared.acts.Outcome.{Outcome}
 use Rattle.dgt_link.specs.Act.{ActContent}
 use Rattle.dgt_link.specs.Machine.{IsSending, MachineState, Move, after_moves}

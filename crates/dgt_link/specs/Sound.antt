@@ -3,13 +3,12 @@ use Rattle.std.specs.Prelude.{◌≡◌, ◌⊎◌, List, [], ◌∷◌, ◌++�
 use Rattle.std.specs.Prelude.{filter_map}
 use Rattle.dgt_values.specs.declared.pieces.Piece.{Piece}
 use Rattle.dgt_values.specs.declared.kinds.Kind.{Kind}
-use Rattle.dgt_message.specs.ClockState.{ClockState}
-use Rattle.dgt_message.specs.Kind.{kind_of}
-use Rattle.dgt_command.specs.Content.{EventContent}
-use Rattle.dgt_command.specs.Kind.{kind_of_command}
+use Rattle.dgt_message.specs.Clock.{ClockState}
+use Rattle.dgt_message.specs.Content.{kind_of}
+use Rattle.dgt_command.specs.Content.{EventContent, kind_of_command}
 use Rattle.dgt_board.specs.declared.replies.Reply.{Reply}
 use Rattle.dgt_board.specs.State.{follows_clock}
-use Rattle.dgt_host.specs.Hearing.{clock_after_all, picture_after_all}
+use Rattle.dgt_host.specs.Host.{clock_after_all, picture_after_all}
 use Rattle.dgt_link.specs.Machine.{MachineState}
 
 -- ---- what comes to the host

@@ -4,17 +4,15 @@ use Rattle.std.specs.Prelude.{Option, Some, None, Bool, false, ◌||◌, if◌th
 use Rattle.dgt_values.specs.declared.kinds.Kind.{Kind}
 use Rattle.dgt_message.specs.Content.{Content}
 use Rattle.dgt_message.specs.Spelling.{Spells, spelling}
-use Rattle.dgt_command.specs.Kind.{kind_of_command}
-use Rattle.dgt_command.specs.Words.{Spells as SpellsCommand, spelling as command_spelling}
+use Rattle.dgt_command.specs.Content.{kind_of_command}
+use Rattle.dgt_command.specs.Spelling.{SpellsCommand as SpellsCommand, command_spelling as command_spelling}
 use Rattle.dgt_board.specs.State.{BoardState, after_change, after_hand_clock}
 use Rattle.dgt_board.specs.Sending.{after_sending, next_message}
 use Rattle.dgt_board.specs.View.{BoardView, HasTaken, view_after_line_lost}
-use Rattle.dgt_host.specs.Host.{host_after, new_host}
-use Rattle.dgt_host.specs.Sending.{awaits_too_many, host_awaiting, restart_bytes}
+use Rattle.dgt_host.specs.Host.{host_after, new_host, awaits_too_many, host_awaiting, restart_bytes}
 use Rattle.dgt_link.specs.declared.acts.Outcome.{Outcome}
 use Rattle.dgt_link.specs.Act.{ActContent}
-use Rattle.dgt_link.specs.View.{LineContents, WorldView, line_holding, overflows}
-use Rattle.dgt_link.specs.View.{with_bytes, without_first}
+use Rattle.dgt_link.specs.View.{LineContents, WorldView, line_holding, overflows, with_bytes, without_first}
 
 -- ---- what comes of an act
 

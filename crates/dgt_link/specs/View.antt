@@ -1,8 +1,8 @@
 -- A world as contracts see it: a board, a host, and the two lines of bytes between them.
 use Rattle.std.specs.Prelude.{◌≡◌, ℕ, ◌+◌, List, [], ◌++◌, Bool, None, drop, length, nat_lt}
 use Rattle.dgt_values.specs.declared.pieces.Piece.{Piece}
-use Rattle.dgt_message.specs.ClockState.{ClockState}
-use Rattle.dgt_board.specs.Identity.{IdentityContent}
+use Rattle.dgt_message.specs.Clock.{ClockState}
+use Rattle.dgt_board.specs.State.{IdentityContent}
 use Rattle.dgt_board.specs.Sending.{next_message}
 use Rattle.dgt_board.specs.View.{BoardView, new_view}
 use Rattle.dgt_host.specs.Host.{HostView, new_host}

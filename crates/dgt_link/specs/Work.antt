@@ -1,6 +1,6 @@
 -- How much is left to do until a world is quiet, where each delivery is of all that is in the line.
 use Rattle.std.specs.Prelude.{ℕ, ◌+◌, ◌*◌, ◌==◌, if◌then◌else◌, length}
-use Rattle.dgt_board.specs.Backlog.{backlog}
+use Rattle.dgt_board.specs.Sending.{backlog}
 use Rattle.dgt_link.specs.View.{WorldView}
 
 -- at least as many deliveries and sendings: one for an up line that has bytes

@@ -5,8 +5,7 @@ ghost use Rattle.std.specs.Prelude.{◌≡◌, ◌+◌, ◌<◌, ◌≤◌, [], 
 ghost use Rattle.dgt_values.specs.declared.kinds.Kind.{Kind};
 ghost use Rattle.dgt_command.specs.Content.{command_content};
 ghost use Rattle.dgt_board.specs.View.{HasTaken};
-ghost use Rattle.dgt_host.specs.Host.{host_after, new_host};
-ghost use Rattle.dgt_host.specs.Sending.{host_awaiting, restart_bytes};
+ghost use Rattle.dgt_host.specs.Host.{host_after, new_host, host_awaiting, restart_bytes};
 ghost use Rattle.dgt_link.specs.Act.{ActContent};
 ghost use Rattle.dgt_link.specs.Step.{StaysOpen, Step};
 ghost use Rattle.dgt_link.specs.View.{WorldView, line_holding, without_first};

@@ -1,16 +1,13 @@
 //! The world: a board, a host, and the two lines between them.
 
 ghost use Rattle.std.specs.Prelude.{◌≡◌, ◌≢◌, ◌↔◌, ◌⊎◌, ◌<◌, ◌≤◌, ◌+◌, ◌*◌, ◌^◌, false, List, [], ◌∷◌, ◌++◌, All, Contains, Some, None, IsTrue, IsSome, IfOk, IsErr, IsErrOf, map, length};
-ghost use Rattle.dgt_values.specs.Pieces.{pieces_of};
+ghost use Rattle.dgt_values.specs.Board.{pieces_of};
 ghost use Rattle.dgt_values.specs.declared.kinds.Kind.{Kind};
-ghost use Rattle.dgt_message.specs.Content.{Content};
-ghost use Rattle.dgt_message.specs.ClockState.{clock_seen};
-ghost use Rattle.dgt_message.specs.Kind.{kind_of};
+ghost use Rattle.dgt_message.specs.Content.{Content, clock_seen, kind_of};
 ghost use Rattle.dgt_command.specs.Content.{CommandContent};
-ghost use Rattle.dgt_board.specs.Backlog.{backlog};
-ghost use Rattle.dgt_board.specs.Sending.{next_message};
+ghost use Rattle.dgt_board.specs.Sending.{backlog, next_message};
 ghost use Rattle.dgt_board.specs.State.{follows_clock, updates};
-ghost use Rattle.dgt_host.specs.Hearing.{picture_after_all};
+ghost use Rattle.dgt_host.specs.Host.{picture_after_all};
 ghost use Rattle.dgt_link.specs.Act.{ActContent, act_content};
 ghost use Rattle.dgt_link.specs.Stands.{StandsAfterRun, StandsAfterStep, IsExactWorld, StandsFor};
 ghost use Rattle.dgt_link.specs.Promise.{IsAskedBy, IsPromised, IsRestarted, PictureIsComing, act_requests, coming_mode, mode_after};

@@ -14,8 +14,7 @@ use Rattle.dgt_message.specs.declared.message.Message.{Message}
 use Rattle.dgt_message.specs.declared.other.OtherCode.{OtherCode}
 use Rattle.dgt_message.specs.declared.readings.Reading.{Reading}
 use Rattle.dgt_message.specs.declared.readings.Status.{Status}
-use Rattle.dgt_message.specs.Clock.{Time, Times as BothTimes, Absence, Answer, ClockState}
-use Rattle.dgt_message.specs.Clock.{absence_of, time_of, times_of, AreTimes, IsAbsence, IsAck}
+use Rattle.dgt_message.specs.Clock.{Time, Times as BothTimes, Absence, Answer, ClockState, absence_of, time_of, times_of, AreTimes, IsAbsence, IsAck}
 use Rattle.dgt_message.specs.Code.{known_number, known_with}
 use Rattle.dgt_message.specs.Layout.{Layout, layout_of}
 

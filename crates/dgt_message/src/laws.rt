@@ -7,9 +7,7 @@ ghost use Rattle.dgt_values.specs.Equality.{EqualIsSame, EqualIsSameRead};
 ghost use Rattle.dgt_message.specs.declared.known.KnownCode.{KnownCode};
 ghost use Rattle.dgt_message.specs.declared.viewing.BodyFault.{BodyFault};
 ghost use Rattle.dgt_message.specs.Code.{known_number, known_with};
-ghost use Rattle.dgt_message.specs.Content.{absence_seen, answer_seen, clock_seen, code_number};
-ghost use Rattle.dgt_message.specs.Content.{content, status_code, time_seen, times_seen};
-ghost use Rattle.dgt_message.specs.Content.{Content, IsCarried, IsMessage};
+ghost use Rattle.dgt_message.specs.Content.{absence_seen, answer_seen, clock_seen, code_number, content, status_code, time_seen, times_seen, Content, IsCarried, IsMessage};
 ghost use Rattle.dgt_message.specs.Reading.{reading, IsFaultOf};
 ghost use Rattle.dgt_message.specs.Spelling.{message_bytes, spelling, Fits, Spells};
 

@@ -6,12 +6,9 @@ ghost use Rattle.dgt_values.specs.Board.{piece_code, pieces_of, square_number};
 ghost use Rattle.dgt_values.specs.Bytes.{number, AreSevenBit, WritesFront};
 ghost use Rattle.dgt_message.specs.Clock.{AreTimes, IsAbsence, IsAck, IsTime};
 ghost use Rattle.dgt_message.specs.Code.{known_number};
-ghost use Rattle.dgt_message.specs.Content.{absence_seen, answer_seen, content, time_seen};
-ghost use Rattle.dgt_message.specs.Content.{times_seen, IsMessage};
+ghost use Rattle.dgt_message.specs.Content.{absence_seen, answer_seen, content, time_seen, times_seen, IsMessage};
 ghost use Rattle.dgt_message.specs.Content.Content.{field};
-ghost use Rattle.dgt_message.specs.Spelling.{ack_spelling, body_spelling, mark_with};
-ghost use Rattle.dgt_message.specs.Spelling.{message_bytes, packed_decimal, spelling, time_bytes};
-ghost use Rattle.dgt_message.specs.Spelling.{times_bytes, Spells};
+ghost use Rattle.dgt_message.specs.Spelling.{ack_spelling, body_spelling, mark_with, message_bytes, packed_decimal, spelling, time_bytes, times_bytes, Spells};
 
 use crate::clock::{ACK_MARK, ClockAck, NoClock, Times};
 use crate::known::KnownCode;

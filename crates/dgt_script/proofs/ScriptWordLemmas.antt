@@ -12,26 +12,24 @@ use Rattle.std.specs.Str.{IsUtf8}
 use Rattle.std.specs.Str.Parse.{AllDigits, ParsesUnsigned, digits_value}
 use Rattle.hex.specs.Hex.{decode_sized}
 use Rattle.hex.proofs.HexLemmas.{decode_of-ok, decode_of-same, decode_sized-ok, decode_sized-twice}
-use Rattle.dgt_values.specs.declared.bodies.BodyError.{BodyError}
-use Rattle.dgt_values.specs.declared.bodies.BodyError.TheVariants.{TooMuch, NotSevenBit}
+use Rattle.dgt_values.specs.declared.refusals.BodyError.{BodyError}
+use Rattle.dgt_values.specs.declared.refusals.BodyError.TheVariants.{TooMuch, NotSevenBit}
 use Rattle.dgt_values.specs.declared.pieces.Piece.{Piece}
 use Rattle.dgt_values.specs.declared.pieces.Piece.TheVariants.{Empty, WhitePawn, WhiteRook, WhiteKnight, WhiteBishop, WhiteKing, WhiteQueen, BlackPawn, BlackRook, BlackKnight, BlackBishop, BlackKing, BlackQueen, FirstExtra, SecondExtra, ThirdExtra}
-use Rattle.dgt_values.specs.Body.{Refuses}
-use Rattle.dgt_values.specs.Piece.{piece_letter}
-use Rattle.dgt_values.specs.Square.{square_name}
-use Rattle.dgt_message.specs.declared.bodies.BodyFault.{BodyFault}
+use Rattle.dgt_values.specs.Bytes.{Refuses}
+use Rattle.dgt_values.specs.Board.{piece_letter, square_name}
+use Rattle.dgt_message.specs.declared.viewing.BodyFault.{BodyFault}
 use Rattle.dgt_message.specs.declared.clock.Clock.{Clock}
 use Rattle.dgt_message.specs.declared.known.KnownCode.{KnownCode}
-use Rattle.dgt_message.specs.Clock.{AreTimes, Times as BothTimes}
-use Rattle.dgt_message.specs.ClockState.{ClockState, clock_message, clock_seen}
+use Rattle.dgt_message.specs.Clock.{AreTimes, Times as BothTimes, ClockState}
+use Rattle.dgt_message.specs.Content.{clock_message, clock_seen, Content}
 use Rattle.dgt_message.specs.Code.{known_number}
-use Rattle.dgt_message.specs.Content.{Content}
-use Rattle.dgt_message.specs.Fault.{IsFaultOf}
+use Rattle.dgt_message.specs.Reading.{IsFaultOf}
 use Rattle.dgt_message.specs.Spelling.{Fits, times_bytes}
 use Rattle.dgt_message.proofs.AtMostOne.{not_both, one_message}
 use Rattle.dgt_command.specs.Content.{CommandContent, Read}
 use Rattle.dgt_command.specs.Telling.{command_in}
-use Rattle.dgt_command.specs.Words.{Spells}
+use Rattle.dgt_command.specs.Spelling.{SpellsCommand}
 use Rattle.dgt_command.proofs.ReaderLemmas.{words_are_short}
 use Rattle.dgt_command.proofs.TellingLemmas.{spells_its_command}
 use Rattle.dgt_script.specs.ScriptWords.{IsClockWord, IsCommandWord, IsCountWord, IsHexOf, IsPieceWord, IsSquareWord, Tells}
@@ -188,7 +186,7 @@ one_clock word a b h k =
 -- ---- Commands
 
 -- the bytes of a command are no more than 257
-pub length-command : (command : CommandContent) (bytes : List ℕ) → Spells command bytes → length bytes ≤ 257
+pub length-command : (command : CommandContent) (bytes : List ℕ) → SpellsCommand command bytes → length bytes ≤ 257
 length-command command bytes h = (words_are_short (Read command) bytes (record { form = (h.is_command, h.spelled); are_bytes = h.are_bytes })).1
 
 -- a word of more than twice 257 digits is no command

@@ -2,7 +2,8 @@
 use Rattle.std.specs.Prelude.{◌≡◌, ℕ, List, [], ◌∷◌, ◌++◌, Bool, true, false, Option, Some, None, codes}
 use Rattle.dgt_values.specs.declared.pieces.Piece.{Piece}
 use Rattle.dgt_values.specs.Placement.{placement_text}
-use Rattle.dgt_message.specs.ClockState.{ClockState, clock_message}
+use Rattle.dgt_message.specs.Clock.{ClockState}
+use Rattle.dgt_message.specs.Content.{clock_message}
 use Rattle.dgt_link.specs.declared.acts.Outcome.{Outcome}
 use Rattle.dgt_link.specs.declared.acts.Outcome.TheVariants.{Done, Nothing, NoRoom, Busy, TooMany}
 use Rattle.dgt_link.specs.View.{WorldView}

@@ -2,7 +2,7 @@
 use Rattle.std.specs.Prelude.{◌≡◌, ◌≢◌, ℕ, ◌+◌, ◌<◌, ◌≤◌, ◌==◌, ◌⊎◌, List, [], ◌∷◌, length}
 use Rattle.std.specs.List.{slice_split}
 use Rattle.dgt_values.specs.declared.pieces.Piece.{Piece}
-use Rattle.dgt_message.specs.ClockState.{ClockState}
+use Rattle.dgt_message.specs.Clock.{ClockState}
 use Rattle.dgt_command.specs.Content.{CommandContent}
 use Rattle.dgt_link.specs.Act.{ActContent, Change, ClockRead, Host, BoardSend, ToBoard, ToHost, Break, HostBreak}
 use Rattle.dgt_script.specs.declared.script.LineFault.{LineFault}

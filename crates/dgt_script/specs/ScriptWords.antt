@@ -2,15 +2,14 @@
 use Rattle.std.specs.Prelude.{◌≡◌, ℕ, ◌<◌, ◌≤◌, List, [], ◌∷◌, Ok, codes, decimal}
 use Rattle.hex.specs.Hex.{decode_of}
 use Rattle.dgt_values.specs.declared.pieces.Piece.{Piece}
-use Rattle.dgt_values.specs.Piece.{piece_letter}
-use Rattle.dgt_values.specs.Square.{square_name}
+use Rattle.dgt_values.specs.Board.{piece_letter, square_name}
 use Rattle.dgt_message.specs.declared.known.KnownCode.{KnownCode}
 use Rattle.dgt_message.specs.Code.{known_number}
-use Rattle.dgt_message.specs.ClockState.{ClockState, clock_message}
-use Rattle.dgt_message.specs.Content.{Content}
+use Rattle.dgt_message.specs.Clock.{ClockState}
+use Rattle.dgt_message.specs.Content.{clock_message, Content}
 use Rattle.dgt_message.specs.Spelling.{Fits}
 use Rattle.dgt_command.specs.Content.{CommandContent}
-use Rattle.dgt_command.specs.Words.{Spells}
+use Rattle.dgt_command.specs.Spelling.{SpellsCommand}
 use Rattle.dgt_script.specs.declared.script_words.Verb.{Verb}
 use Rattle.dgt_script.specs.declared.script_words.Verb.TheVariants as verb
 
@@ -55,7 +54,7 @@ pub record IsClockWord (word : List ℕ) (clock : ClockState) : Type 0 where
 pub record IsCommandWord (word : List ℕ) (command : CommandContent) : Type 0 where
   pub bytes : List ℕ
   pub digits : IsHexOf word bytes
-  pub spells : Spells command bytes
+  pub spells : SpellsCommand command bytes
 
 -- a number from 1 to 65535 in decimal, with no leading zero
 abbrev pub IsCountWord : List ℕ → ℕ → Type 0

@@ -1,7 +1,7 @@
 //! What is written of what comes of an act, and of a world at the end.
 
 ghost use Rattle.std.specs.Prelude.{◌≡◌, ◌+◌, ◌↔◌, ◌≤◌, ◌++◌, Bool, IsTrue, codes, length};
-ghost use Rattle.dgt_values.specs.Pieces.{pieces_of};
+ghost use Rattle.dgt_values.specs.Board.{pieces_of};
 ghost use Rattle.dgt_values.specs.Placement.{placement_text};
 ghost use Rattle.dgt_link.specs.View.{IsQuietWorld};
 ghost use Rattle.dgt_script.specs.Closing.{clock_text, closing_lines, named_line, outcome_line, picture_text, quiet_text};

@@ -2,9 +2,9 @@
 
 ghost use Rattle.std.specs.Prelude.{◌≡◌, ◌≢◌, ℕ, MatchOption};
 ghost use Rattle.dgt_values.specs.declared.pieces.Piece.{Piece};
-ghost use Rattle.dgt_values.specs.Square.{square_number};
-ghost use Rattle.dgt_message.specs.ClockState.{clock_seen, ClockState};
-ghost use Rattle.dgt_message.specs.Content.{content};
+ghost use Rattle.dgt_values.specs.Board.{square_number};
+ghost use Rattle.dgt_message.specs.Content.{clock_seen, content};
+ghost use Rattle.dgt_message.specs.Clock.{ClockState};
 ghost use Rattle.dgt_command.specs.Content.{command_content, CommandContent};
 ghost use Rattle.dgt_script.specs.ScriptWords.{verb_text, IsClockWord, IsCommandWord, IsCountWord, IsPieceWord, IsSquareWord, Tells};
 ghost use Rattle.dgt_script.specs.declared.script_words.Verb.{Verb};

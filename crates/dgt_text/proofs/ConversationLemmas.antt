@@ -8,8 +8,7 @@ use Rattle.dgt_command.specs.Laws.{DivisionsAppend, EachDividesOnce}
 use Rattle.dgt_command.specs.Words.{IsWord, IsPartial, Divides}
 use Rattle.dgt_command.proofs.DivisionLemmas.{nothing_is_partial, not_both, bytes_append, bytes_left}
 use Rattle.dgt_command.proofs.WordLemmas.{same_word}
-use Rattle.dgt_board.specs.State.{BoardState}
-use Rattle.dgt_board.specs.Effect.{effect}
+use Rattle.dgt_board.specs.State.{BoardState, effect}
 use Rattle.dgt_board.specs.Sending.{after_sending, left_to_send, next_message, piece_on, told_squares_after}
 use Rattle.dgt_board.specs.View.{BoardView, after_bytes}
 use Rattle.dgt_text.specs.Conversation.{Step, told, heard, Converses, events_heard, bytes_told, Hears, HearsFront, EachIsAnswered, EachIsAnsweredOnce, EachFrontGoesOn}

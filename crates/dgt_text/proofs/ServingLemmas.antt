@@ -11,8 +11,7 @@ use Rattle.dgt_command.specs.Laws.{DivisionsAppend}
 use Rattle.dgt_command.specs.Words.{IsWord, IsPartial}
 use Rattle.dgt_board.specs.declared.sending.Polled.{Polled}
 use Rattle.dgt_board.specs.Sending.{after_sending, next_message}
-use Rattle.dgt_board.specs.Polls.{Polls}
-use Rattle.dgt_board.specs.View.{BoardView, after_bytes}
+use Rattle.dgt_board.specs.View.{Polls, BoardView, after_bytes}
 use Rattle.dgt_lines.specs.declared.ends.Source.{Ghosts as Source}
 use Rattle.dgt_lines.specs.declared.ends.Sink.{Ghosts as Sink}
 use Rattle.dgt_lines.specs.declared.faults.RunFault.{RunFault}

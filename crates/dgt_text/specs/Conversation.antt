@@ -3,9 +3,9 @@ use Rattle.std.specs.Prelude.{◌≡◌, ℕ, List, [], ◌∷◌, ◌++◌, Som
 use Rattle.dgt_message.specs.Content.{Content}
 use Rattle.dgt_message.specs.Spelling.{spelling}
 use Rattle.dgt_command.specs.Content.{EventContent}
-use Rattle.dgt_command.specs.Words.{AreBytes, Divides}
-use Rattle.dgt_board.specs.State.{BoardState}
-use Rattle.dgt_board.specs.Effect.{effect}
+use Rattle.dgt_command.specs.Spelling.{AreBytes}
+use Rattle.dgt_command.specs.Words.{Divides}
+use Rattle.dgt_board.specs.State.{BoardState, effect}
 use Rattle.dgt_board.specs.Sending.{after_sending, next_message}
 use Rattle.dgt_board.specs.View.{BoardView, IsBoard}
 

@@ -3,7 +3,7 @@ use Rattle.std.specs.Prelude.{◌≡◌, ◌+◌, ◌≤◌, ◌↔◌, ◌⊎�
 use Rattle.std.specs.Io.KnownBytes.{Appends}
 use Rattle.dgt_link.specs.Act.{ActContent}
 use Rattle.dgt_link.specs.declared.acts.Outcome.{Outcome}
-use Rattle.dgt_link.specs.Machine.{State}
+use Rattle.dgt_link.specs.Machine.{MachineState}
 use Rattle.dgt_link.specs.Promise.{IsPromised}
 use Rattle.dgt_link.specs.Stands.{StandsFor}
 use Rattle.dgt_link.specs.Step.{Step}
@@ -106,7 +106,7 @@ ShowsTwice placement text =
 -- which those of board and host have one placement.
 abbrev pub TellsPicture : WorldView → List ℕ → Type 0
 TellsPicture world out =
-    (x : State) → StandsFor world x → IsPromised x → IsQuietWorld world
+    (x : MachineState) → StandsFor world x → IsPromised x → IsQuietWorld world
     → (text : List ℕ) × (out ≡ text ++ closing_lines world true)
     × ShowsTwice (placement_text world.board.state.squares) (closing_lines world true)
 

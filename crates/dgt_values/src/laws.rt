@@ -8,8 +8,7 @@ ghost use Rattle.dgt_values.specs.Equality.{EqualIsSame, EqualIsSameRead};
 ghost use Rattle.dgt_values.specs.declared.pieces.Piece.{Piece};
 ghost use Rattle.dgt_values.specs.declared.refusals.BadPlacement.{BadPlacement};
 ghost use Rattle.dgt_values.specs.declared.positions.Position.{Position};
-ghost use Rattle.dgt_values.specs.Placement.{digit_count, placement_text, DigitsApart};
-ghost use Rattle.dgt_values.specs.Placement.{IsPlacement, ParsesPlacement};
+ghost use Rattle.dgt_values.specs.Placement.{digit_count, placement_text, DigitsApart, IsPlacement, ParsesPlacement};
 
 use crate::bodies::{Body, MAX_BODY};
 use crate::bytes::SevenBit;

@@ -4,8 +4,7 @@ ghost use Rattle.std.specs.Prelude.{◌≡◌, ◌<◌, ◌≤◌, ◌+◌, ◌+
 ghost use Rattle.std.specs.Prelude.{MatchOption};
 ghost use Rattle.arrayvec.specs.ArrayString.{array_string_len};
 ghost use Rattle.dgt_values.specs.Board.{pieces_of};
-ghost use Rattle.dgt_values.specs.Placement.{placement_text, rank_text_after, run_text};
-ghost use Rattle.dgt_values.specs.Placement.{MeansSquares, ParsesPlacement};
+ghost use Rattle.dgt_values.specs.Placement.{placement_text, rank_text_after, run_text, MeansSquares, ParsesPlacement};
 
 use crate::pieces::Piece;
 use crate::positions::{Position, is_same};

@@ -1,5 +1,5 @@
 use Rattle.std.proofs.Common.{[], codes, refl}
-use Rattle.dgt_values.specs.Body.{body_bytes}
+use Rattle.dgt_values.specs.Bytes.{body_bytes}
 use Rattle.dgt_decode.specs.Feeding.{event_content}
 use Rattle.dgt_lines.specs.Lines.{bytes_text, event_line, event_text}
 use Rattle.dgt_lines.proofs.GatherLemmas.{gathers_first, gathers_then, gathers_via}

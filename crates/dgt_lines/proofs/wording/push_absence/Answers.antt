@@ -1,6 +1,6 @@
 use Rattle.std.proofs.Common.{◌≡◌, ◌∙◌, ap, arith, append_assoc, length, refl, sym}
 use Rattle.hex.specs.Hex.{encode_lower}
-use Rattle.dgt_message.specs.Values.{absence_seen}
+use Rattle.dgt_message.specs.Content.{absence_seen}
 use Rattle.dgt_lines.specs.Lines.{bytes_text, message_text}
 use Rattle.dgt_lines.proofs.TextLemmas.{bytes_text_some}
 use Rattle.dgt_lines.proofs.wording.push_absence.Goals as goal

@@ -1,5 +1,5 @@
 use Rattle.std.proofs.Common.{rules, ◌≡◌, refl, [], ◌++◌, take}
-use Rattle.dgt_command.specs.Content.{event_content}
+use Rattle.dgt_command.specs.Content.{command_event_content}
 use Rattle.dgt_command.specs.Framing.{rest_of}
 use Rattle.dgt_command.specs.Words.{IsWord}
 use Rattle.dgt_board.specs.State.{effect}
@@ -14,7 +14,7 @@ invariant_of-self-2 c = rw (c.advance-advanced.ensures.rest, c.in-Some.is) nothi
 pub returns : goal.returns
 returns c =
     let bytes = take c.advance-advanced.result.used c.args.piece.now in
-    let event = event_content c.event-event.result in
+    let event = command_event_content c.event-event.result in
     let word : IsWord event (c.args.self.now.partial ++ bytes) =
     rw (c.event-event.ensures, ← c.self.view_is) (rw c.in-Some.is at c.advance-advanced.ensures.found) in
     let state : state_of c.obey.new.self ≡ effect c.args.self.now.state event =

@@ -1,5 +1,5 @@
 use Rattle.std.proofs.Common.{sym}
-use Rattle.dgt_values.specs.Square.{square_number}
+use Rattle.dgt_values.specs.Board.{square_number}
 use Rattle.dgt_board.specs.Kept.{state_of}
 use Rattle.dgt_board.proofs.SendingLemmas.{field_is_next, nothing_is_next, times_are_next}
 use Rattle.dgt_board.proofs.state.State.due.Goals as goal

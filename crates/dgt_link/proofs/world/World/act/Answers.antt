@@ -1,6 +1,6 @@
 use Rattle.std.proofs.Common.{refl}
-use Rattle.dgt_values.specs.Square.{square_number}
-use Rattle.dgt_message.specs.ClockState.{clock_seen}
+use Rattle.dgt_values.specs.Board.{square_number}
+use Rattle.dgt_message.specs.Content.{clock_seen}
 use Rattle.dgt_command.specs.Content.{command_content}
 use Rattle.dgt_link.specs.Act.{ActContent}
 use Rattle.dgt_link.specs.declared.acts.Outcome.{Outcome}

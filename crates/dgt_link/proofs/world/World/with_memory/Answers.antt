@@ -1,6 +1,6 @@
 use Rattle.std.proofs.Common.{◌≡◌, [], arith, rules}
-use Rattle.dgt_values.specs.Pieces.{pieces_of}
-use Rattle.dgt_message.specs.ClockState.{clock_seen}
+use Rattle.dgt_values.specs.Board.{pieces_of}
+use Rattle.dgt_message.specs.Content.{clock_seen}
 use Rattle.dgt_link.specs.View.{line_holding}
 use Rattle.dgt_link.proofs.Standing.{new_is_exact, new_is_world}
 use Rattle.dgt_link.proofs.world.World.with_memory.Goals as goal
