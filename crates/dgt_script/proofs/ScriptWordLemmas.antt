@@ -28,8 +28,7 @@ use Rattle.dgt_message.specs.Reading.{IsFaultOf}
 use Rattle.dgt_message.specs.Spelling.{Fits, times_bytes}
 use Rattle.dgt_message.proofs.AtMostOne.{not_both, one_message}
 use Rattle.dgt_command.specs.Content.{CommandContent, Read}
-use Rattle.dgt_command.specs.Telling.{command_in}
-use Rattle.dgt_command.specs.Spelling.{SpellsCommand}
+use Rattle.dgt_command.specs.Spelling.{command_in, SpellsCommand}
 use Rattle.dgt_command.proofs.ReaderLemmas.{words_are_short}
 use Rattle.dgt_command.proofs.TellingLemmas.{spells_its_command}
 use Rattle.dgt_script.specs.ScriptWords.{IsClockWord, IsCommandWord, IsCountWord, IsHexOf, IsPieceWord, IsSquareWord, Tells}
