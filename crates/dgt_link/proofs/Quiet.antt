@@ -13,7 +13,7 @@ use Rattle.dgt_message.specs.Reading.{piece_with_code}
 use Rattle.dgt_command.specs.Content.{CommandContent, EventContent}
 use Rattle.dgt_board.specs.declared.replies.Reply.{Reply}
 use Rattle.dgt_board.specs.State.{BoardState, follows_clock, updates}
-use Rattle.dgt_board.specs.Sending.{clock_news, differs, every_square, field_of, first_reply, pending_messages, piece_on, untold_squares}
+use Rattle.dgt_board.specs.Sending.{clock_news, differs, every_square, field_of, pending_messages, piece_on, reply_message, untold_squares}
 use Rattle.dgt_link.specs.Machine.{MachineState}
 use Rattle.dgt_link.specs.Sound.{IsSound, IsExact, IsUnknownOr, coming_kinds}
 use Rattle.dgt_link.specs.Promise.{IsPromised, IsQuiet, PictureIsComing, coming_mode}
@@ -22,7 +22,7 @@ use Rattle.dgt_link.proofs.Subsequences.{subsequence_of_nothing}
 
 -- ---- nothing is pending
 
-no_reply : (board : BoardState) (owed : List Reply) → first_reply board owed ≡ [] → owed ≡ []
+no_reply : (board : BoardState) (owed : List Reply) → map (reply_message board) owed ≡ [] → owed ≡ []
 no_reply board [] h = refl
 no_reply board (reply ∷ rest) h = cc
 
@@ -79,13 +79,13 @@ pub record IsUpToDate (board : BoardState) : Type 0 where
 up_to_date : (board : BoardState) → length board.squares ≡ 64 → length board.told_squares ≡ 64 → pending_messages board ≡ [] → IsUpToDate board
 up_to_date board squares told nothing =
     record {
-      owed = no_reply board board.owed (left_empty (first_reply board board.owed) _ nothing);
+      owed = no_reply board board.owed (left_empty (map (reply_message board) board.owed) _ nothing);
       squares = λ h. none_differs board squares told (sym (cond-true (updates board.mode) (filter (differs board) every_square) [] h) ∙ none);
       times_owed = no_clock board.times_owed (clock_message board.clock) (right_empty (map (field_of board) (untold_squares board)) (clock_news board) rest);
     }
   where
     rest : map (field_of board) (untold_squares board) ++ clock_news board ≡ []
-    rest = right_empty (first_reply board board.owed) (map (field_of board) (untold_squares board) ++ clock_news board) nothing
+    rest = right_empty (map (reply_message board) board.owed) (map (field_of board) (untold_squares board) ++ clock_news board) nothing
 
     none : untold_squares board ≡ []
     none = map_empty (field_of board) (untold_squares board) (left_empty (map (field_of board) (untold_squares board)) (clock_news board) rest)

@@ -1,10 +1,11 @@
 -- What is so of a world by the state that it stands for.
+use Rattle.std.specs.Prelude.{slice_get}
 use Rattle.std.proofs.Common.{◌≡◌, refl, ◌∙◌, List, [], ◌∷◌, ◌++◌, Some, None, All, IsTrue}
 use Rattle.dgt_values.specs.declared.kinds.Kind.{Kind}
 use Rattle.dgt_message.specs.Content.{Content, kind_of}
 use Rattle.dgt_command.specs.Laws.{EachDividesOnce}
 use Rattle.dgt_board.specs.State.{follows_clock, updates}
-use Rattle.dgt_board.specs.Sending.{first_message, pending_messages}
+use Rattle.dgt_board.specs.Sending.{pending_messages}
 use Rattle.dgt_decode.specs.Grammar.{Event}
 use Rattle.dgt_host.specs.Host.{IsUnasked, picture_after_all}
 use Rattle.dgt_link.specs.Machine.{MachineState}
@@ -33,7 +34,7 @@ nothing_spelled : (messages : List Content) → AreSpelled messages [] → messa
 nothing_spelled [] h = refl
 nothing_spelled (message ∷ messages) h = let same = h.in_a_row in cc
 
-pub nothing_first : (messages : List Content) → first_message messages ≡ None → messages ≡ []
+pub nothing_first : (messages : List Content) → slice_get messages 0 ≡ None → messages ≡ []
 nothing_first [] h = refl
 nothing_first (message ∷ rest) h = cc
 
