@@ -1,6 +1,5 @@
 -- The text of a position: eight ranks, from rank 8 down, with a slash between two. A rank is
--- letters
--- of pieces and digits for so many empty squares, eight squares in all.
+-- letters of pieces and digits for so many empty squares, eight squares in all.
 use Prim.Native.Char.{code as ascii}
 use Rattle.std.specs.Prelude.{◌≡◌, ◌≢◌, ℕ, zero, suc, ◌+◌, ◌<◌, ◌≤◌, ◌⊎◌, ◌==◌, if◌then◌else◌}
 use Rattle.std.specs.Prelude.{count_by, List, [], ◌∷◌, ◌++◌, take, drop, length, replicate}

@@ -3,12 +3,11 @@
 //! clock's digits.
 //!
 //! A value of these types is always in range: `SevenBit::try_from`, `Body::new`,
-// ! `Square::from_index`, `Square::parse`, `Piece::from_code` and `Piece::from_letter` refuse what
-// is
-//! not. `Position::parse_placement` reads the text of a position and `Position::placement` writes
-//! it; module `laws` says that the two agree. `TooMuch`, `Known` and `NoRoom` are refusals that the
-//! crates above answer too, and `Kind` says what kinds of replies a host awaits. Nothing here takes
-//! memory.
+//! `Square::from_index`, `Square::parse`, `Piece::from_code` and `Piece::from_letter` refuse what
+//! is not. `Position::parse_placement` reads the text of a position and `Position::placement`
+//! writes it; module `laws` says that the two agree. `TooMuch`, `Known` and `NoRoom` are refusals
+//! that the crates above answer too, and `Kind` says what kinds of replies a host awaits. Nothing
+//! here takes memory.
 //!
 //! Piece codes, square numbers and segment bytes are those of the DGT Electronic Board Protocol
 //! Description (the published `dgtbrd` header). The letters `.`, `X`, `Y` and `Z`, and that a
