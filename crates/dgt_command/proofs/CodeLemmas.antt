@@ -1,5 +1,6 @@
 -- A number has one known id, and a byte is the code of one command of one byte.
-use Rattle.std.proofs.Common.{◌≡◌, ◌≢◌, ℕ, Bool, true, false, cond, ◌&&◌, refl, sym, ap, subst, List, [], ◌∷◌, Some, None}
+use Rattle.std.proofs.Common.{◌≡◌, ◌≢◌, ℕ, Bool, true, false, cond, ◌&&◌, refl, sym, ap, subst, List, [], ◌∷◌, Some}
+use Rattle.std.proofs.Common.{None}
 use Rattle.std.specs.Prelude.{◌==◌, ◌↔◌, find}
 use Rattle.std.proofs.lemmas.Bool.{and_parts, eqb-true}
 use Rattle.dgt_command.specs.declared.command.Command.{Command}
@@ -17,7 +18,8 @@ each_passes p [] = true
 each_passes p (x ∷ xs) = p x && each_passes p xs
 
 -- what a search finds passes its test, and each test that all members pass
-found_passes : {X : Type 0} (listed test : X → Bool) (xs : List X) (x : X) → each_passes listed xs ≡ true → find test xs ≡ Some x → (test x ≡ true) × (listed x ≡ true)
+found_passes : {X : Type 0} (listed test : X → Bool) (xs : List X) (x : X) → each_passes listed xs ≡ true
+    → find test xs ≡ Some x → (test x ≡ true) × (listed x ≡ true)
 found_passes listed test [] x all e = cc
 found_passes listed test (y ∷ xs) x all e =
     let parts = and_parts (listed y) (each_passes listed xs) all in
@@ -49,15 +51,18 @@ is_bare (command.Leds leds) = false
 is_bare _ = true
 
 -- such a command is spelled by its code
-spelled_by_code : (each : Command) → is_bare each ≡ true → HasForm (Read (command_content each)) (command_code (command_content each) ∷ [])
+spelled_by_code : (each : Command) → is_bare each ≡ true
+    → HasForm (Read (command_content each)) (command_code (command_content each) ∷ [])
 spelled_by_code (command.ClockMessage message) h = cc
 spelled_by_code (command.Leds leds) h = cc
 spelled_by_code _ h = refl
 
 -- the command that is found is spelled by the byte
-pub bare_form : (byte : ℕ) (each : Command) → bare_command byte ≡ Some each → HasForm (Read (command_content each)) (byte ∷ [])
+pub bare_form : (byte : ℕ) (each : Command) → bare_command byte ≡ Some each
+    → HasForm (Read (command_content each)) (byte ∷ [])
 bare_form byte each e =
-    let found = found_passes is_bare (λ other. command_code (command_content other) == byte) bare_commands each refl e in
+    let found = found_passes is_bare (λ other. command_code (command_content other) == byte) bare_commands each refl e
+    in
     rw (← eqb-true _ _ found.0) (spelled_by_code each found.1)
 
 -- the first byte, or 0
@@ -69,4 +74,5 @@ first_byte (b ∷ rest) = b
 pub no_command : (byte : ℕ) → bare_command byte ≡ None → byte ≢ 0x2b → byte ≢ 0x60 → BeginsNoCommand byte
 no_command byte none not_clock not_leds (ClockMessage message) rest h = not_clock (sym (ap first_byte h))
 no_command byte none not_clock not_leds (Leds leds) rest h = not_leds (sym (ap first_byte h))
-no_command byte none not_clock not_leds c rest h = let gone = subst (λ (x : ℕ). bare_command x ≡ None) (sym (ap first_byte h)) none in cc
+no_command byte none not_clock not_leds c rest h = let gone = subst (λ (x : ℕ). bare_command x ≡ None)
+    (sym (ap first_byte h)) none in cc

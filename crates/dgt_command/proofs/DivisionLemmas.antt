@@ -1,7 +1,9 @@
 -- Zeros complete each partial word, and each list of bytes divides into words in one way.
-use Rattle.std.proofs.Common.{◌≡◌, ℕ, suc, zero, ◌+◌, ◌-◌, ◌<◌, ◌≤◌, List, [], ◌∷◌, ◌++◌, length, refl, sym, ap, subst, ◌∙◌, inl, inr, arith, append_assoc, length-append, replicate, map}
+use Rattle.std.proofs.Common.{◌≡◌, ℕ, suc, zero, ◌+◌, ◌-◌, ◌<◌, ◌≤◌, List, [], ◌∷◌, ◌++◌, length, refl, sym, ap, subst}
+use Rattle.std.proofs.Common.{◌∙◌, inl, inr, arith, append_assoc, length-append, replicate, map}
 use Rattle.std.proofs.lemmas.Bool.{cases_eq, cases_lt, le-ltb, lt-ltb, ne_eqb, eq-eqb}
-use Rattle.std.proofs.lemmas.List.{append-nil, length-replicate, replicate_more, replicate-append-replicate, get_or-replicate, get_or_past}
+use Rattle.std.proofs.lemmas.List.{append-nil, length-replicate, replicate_more, replicate-append-replicate}
+use Rattle.std.proofs.lemmas.List.{get_or-replicate, get_or_past}
 use Rattle.std.specs.List.{flat_map, AllByRecursion}
 use Rattle.std.specs.Prelude.{Bool, true, false, slice_index, if◌then◌else◌}
 use Rattle.dgt_command.specs.Content.{CommandContent, ClockMessage, Leds, EventContent, Read, BadSize, BadStart, Stray}
@@ -58,13 +60,17 @@ zero_begins_none = no_command 0 refl (λ e. omega arith) (λ e. omega arith)
 
 -- one zero more at the front is one more at the end
 zeros_push : (n : ℕ) → 0 ∷ zeros n ≡ zeros n ++ 0 ∷ []
-zeros_push n = replicate-append-replicate {A = ℕ} 1 n 0 ∙ (ap (λ (k : ℕ). zeros k) (omega arith) ∙ sym (replicate_more {X = ℕ} n 0))
+zeros_push n =
+    replicate-append-replicate {A = ℕ} 1 n 0 ∙
+    (ap (λ (k : ℕ). zeros k) (omega arith) ∙ sym (replicate_more {X = ℕ} n 0))
 
 -- zeros complete a clock message whose size and third byte are right
-body_zeros : (size : ℕ) (rest : List ℕ) → 3 ≤ size → size < 256 → length rest + 3 < size + 2 → Completed (0x2b ∷ size ∷ 3 ∷ rest)
+body_zeros : (size : ℕ) (rest : List ℕ) → 3 ≤ size → size < 256 → length rest + 3 < size + 2
+    → Completed (0x2b ∷ size ∷ 3 ∷ rest)
 body_zeros size [] large byte short =
     let found = clock_word 0 (zeros (size - 3)) size (omega (arith, length_zeros (size - 3))) in
-    let shifted : 0 ∷ (zeros (size - 3) ++ 0 ∷ []) ≡ 0 ∷ zeros (size - 2) = ap (λ (zs : List ℕ). 0 ∷ zs) (replicate_more {X = ℕ} (size - 3) 0 ∙ ap (λ (k : ℕ). zeros k) (omega arith)) in
+    let shifted : 0 ∷ (zeros (size - 3) ++ 0 ∷ []) ≡ 0 ∷ zeros (size - 2) =
+    ap (λ (zs : List ℕ). 0 ∷ zs) (replicate_more {X = ℕ} (size - 3) 0 ∙ ap (λ (k : ℕ). zeros k) (omega arith)) in
     record {
       event = Read (ClockMessage found.0);
       count = size - 2;
@@ -75,7 +81,8 @@ body_zeros size [] large byte short =
 body_zeros size (id ∷ p) large byte short =
     let n : ℕ = size - 3 - length p in
     let found = clock_word id (p ++ zeros n) size (omega (arith, length-append p (zeros n), length_zeros n)) in
-    let shifted : (p ++ zeros n) ++ 0 ∷ [] ≡ p ++ 0 ∷ zeros n = append_assoc p (zeros n) (0 ∷ []) ∙ ap (λ (zs : List ℕ). p ++ zs) (sym (zeros_push n)) in
+    let shifted : (p ++ zeros n) ++ 0 ∷ [] ≡ p ++ 0 ∷ zeros n =
+    append_assoc p (zeros n) (0 ∷ []) ∙ ap (λ (zs : List ℕ). p ++ zs) (sym (zeros_push n)) in
     record {
       event = Read (ClockMessage found.0);
       count = n;
@@ -85,22 +92,37 @@ body_zeros size (id ∷ p) large byte short =
     }
 
 -- zeros complete what begins as a clock message
-clock_zeros : (rest : List ℕ) → slice_index rest 0 < 256 → length rest + 1 < word_length (0x2b ∷ rest) → Completed (0x2b ∷ rest)
-clock_zeros [] byte h = record { event = BadSize; count = 0; few = omega arith; noise = tt; form = (0, omega arith, refl) }
+clock_zeros : (rest : List ℕ) → slice_index rest 0 < 256 → length rest + 1 < word_length (0x2b ∷ rest)
+    → Completed (0x2b ∷ rest)
+clock_zeros [] byte h =
+    record { event = BadSize; count = 0; few = omega arith; noise = tt; form = (0, omega arith, refl) }
 clock_zeros (size ∷ rest) byte h = elim (cases_lt size 3) [
   | inl small ↦ absurd (let k : length (size ∷ rest) + 1 < 2 = rw (lt-ltb size 3 small) at h in omega (arith, k))
-  | inr large ↦ size_zeros size rest large byte (let k : length (size ∷ rest) + 1 < body_length size rest = rw (le-ltb size 3 large) at h in k)
+  | inr large ↦ size_zeros size rest large byte
+      (let k : length (size ∷ rest) + 1 < body_length size rest = rw (le-ltb size 3 large) at h in k)
 ]
   where
-    size_zeros : (size : ℕ) (rest : List ℕ) → 3 ≤ size → size < 256 → length (size ∷ rest) + 1 < body_length size rest → Completed (0x2b ∷ size ∷ rest)
-    size_zeros size [] large byte h = record { event = BadStart; count = 0; few = omega arith; noise = tt; form = (size, 0, large, (λ e. omega arith), refl) }
+    size_zeros : (size : ℕ) (rest : List ℕ) → 3 ≤ size → size < 256 → length (size ∷ rest) + 1 < body_length size rest
+        → Completed (0x2b ∷ size ∷ rest)
+    size_zeros size [] large byte h =
+        record {
+          event = BadStart;
+          count = 0;
+          few = omega arith;
+          noise = tt;
+          form = (size, 0, large, (λ e. omega arith), refl);
+        }
     size_zeros size (third ∷ rest) large byte h = elim (cases_eq third 3) [
-      | inl is ↦ subst (λ (x : ℕ). Completed (0x2b ∷ size ∷ x ∷ rest)) (sym is) (body_zeros size rest large byte (let k : length (size ∷ third ∷ rest) + 1 < size + 2 = rw (eq-eqb third 3 is) at h in omega (arith, k)))
-      | inr other ↦ absurd (let k : length (size ∷ third ∷ rest) + 1 < 3 = rw (ne_eqb third 3 other) at h in omega (arith, k))
+      | inl is ↦ subst (λ (x : ℕ). Completed (0x2b ∷ size ∷ x ∷ rest)) (sym is)
+          (body_zeros size rest large byte
+          (let k : length (size ∷ third ∷ rest) + 1 < size + 2 = rw (eq-eqb third 3 is) at h in omega (arith, k)))
+      | inr other ↦ absurd
+          (let k : length (size ∷ third ∷ rest) + 1 < 3 = rw (ne_eqb third 3 other) at h in omega (arith, k))
     ]
 
 -- zeros complete an LED frame
-led_zeros : (rest : List ℕ) → slice_index rest 0 < 256 → length rest + 1 < word_length (0x60 ∷ rest) → Completed (0x60 ∷ rest)
+led_zeros : (rest : List ℕ) → slice_index rest 0 < 256 → length rest + 1 < word_length (0x60 ∷ rest)
+    → Completed (0x60 ∷ rest)
 led_zeros [] byte h = record { event = Read (Leds []); count = 0; few = omega arith; noise = tt; form = refl }
 led_zeros (size ∷ rest) byte h =
     let n : ℕ = size - 1 - length rest in
@@ -115,12 +137,19 @@ led_zeros (size ∷ rest) byte h =
 
 -- what is shorter than its word becomes one by zeros
 pub completed : (r : List ℕ) → AreBytes r → length r < word_length r → Completed r
-completed [] bytes h = record { event = Stray 0; count = 0; few = omega arith; noise = tt; form = (zero_begins_none, refl) }
+completed [] bytes h =
+    record { event = Stray 0; count = 0; few = omega arith; noise = tt; form = (zero_begins_none, refl) }
 completed (b ∷ rest) bytes h = elim (cases_eq b 0x2b) [
-  | inl is ↦ subst (λ (x : ℕ). Completed (x ∷ rest)) (sym is) (clock_zeros rest (bytes 1) (let k : length (b ∷ rest) < word_length (0x2b ∷ rest) = rw (eq-eqb b 0x2b is) at h in omega (arith, k)))
+  | inl is ↦ subst (λ (x : ℕ). Completed (x ∷ rest)) (sym is)
+      (clock_zeros rest (bytes 1)
+      (let k : length (b ∷ rest) < word_length (0x2b ∷ rest) = rw (eq-eqb b 0x2b is) at h in omega (arith, k)))
   | inr other ↦ elim (cases_eq b 0x60) [
-    | inl is ↦ subst (λ (x : ℕ). Completed (x ∷ rest)) (sym is) (led_zeros rest (bytes 1) (let k : length (b ∷ rest) < word_length (0x60 ∷ rest) = rw (ne_eqb b 0x2b other, eq-eqb b 0x60 is) at h in omega (arith, k)))
-    | inr neither ↦ absurd (let k : length (b ∷ rest) < 1 = rw (ne_eqb b 0x2b other, ne_eqb b 0x60 neither) at h in omega (arith, k))
+    | inl is ↦ subst (λ (x : ℕ). Completed (x ∷ rest)) (sym is)
+        (led_zeros rest (bytes 1)
+        (let k : length (b ∷ rest) < word_length (0x60 ∷ rest) = rw (ne_eqb b 0x2b other, eq-eqb b 0x60 is) at h in
+        omega (arith, k)))
+    | inr neither ↦ absurd
+        (let k : length (b ∷ rest) < 1 = rw (ne_eqb b 0x2b other, ne_eqb b 0x60 neither) at h in omega (arith, k))
   ]
 ]
 
@@ -132,7 +161,11 @@ IsPartial-from_short r bytes h =
       event = found.event;
       next = 0;
       more = zeros found.count;
-      word = record { form = found.form; are_bytes = bytes_append r (0 ∷ zeros found.count) bytes (bytes_zeros (suc found.count)) };
+      word = record {
+        form = found.form;
+        are_bytes = bytes_append r (0 ∷ zeros found.count) bytes
+            (bytes_zeros (suc found.count));
+      };
     }
 
 -- a partial word begins with no word
@@ -140,7 +173,8 @@ pub not_both : (r : List ℕ) (e : EventContent) (w x : List ℕ) → IsPartial 
 not_both r e w x partial form is =
     let whole : List ℕ = r ++ partial.next ∷ partial.more in
     let front : w ++ (x ++ partial.next ∷ partial.more) ≡ whole ++ [] =
-    sym (append_assoc w x (partial.next ∷ partial.more)) ∙ (ap (λ (zs : List ℕ). zs ++ partial.next ∷ partial.more) (sym is) ∙ sym (append-nil whole)) in
+    sym (append_assoc w x (partial.next ∷ partial.more)) ∙
+    (ap (λ (zs : List ℕ). zs ++ partial.next ∷ partial.more) (sym is) ∙ sym (append-nil whole)) in
     let same = same_word e partial.event w whole (x ++ partial.next ∷ partial.more) [] form partial.word.form front in
     omega (arith, ap length same.word, ap length is, length-append w x, length-append r (partial.next ∷ partial.more))
 
@@ -170,7 +204,8 @@ some_word e [] h = absurd (omega (arith, form_length e [] [] h))
 some_word e (b ∷ w) h = omega arith
 
 -- bytes up to some length divide
-divide : (n : ℕ) (s : List ℕ) → length s ≤ n → AreBytes s → (events : List EventContent) × (rest : List ℕ) × Divides s events rest
+divide : (n : ℕ) (s : List ℕ) → length s ≤ n → AreBytes s → (events : List EventContent) × (rest : List ℕ)
+    × Divides s events rest
 divide zero s short bytes = (
   [],
   s,
@@ -178,7 +213,14 @@ divide zero s short bytes = (
     refl,
     IsPartial-from_short s bytes (elim (cases_lt (length s) (word_length s)) [
       | inl h ↦ h
-      | inr h ↦ let found = begins s h in absurd (omega (arith, some_word found.event found.word found.form, ap length found.is, length-append found.word found.after))
+      | inr h ↦ let found = begins s h in
+          absurd (omega (
+            arith,
+            some_word found.event found.word found.form,
+            ap length found.is,
+            length-append
+                found.word found.after,
+          ))
     ]),
   ),
 )
@@ -187,9 +229,25 @@ divide (suc n) s short bytes = elim (cases_lt (length s) (word_length s)) [
   | inr h ↦
       let found = begins s h in
       let both : AreBytes (found.word ++ found.after) = subst AreBytes found.is bytes in
-      let less : length found.after ≤ n = omega (arith, some_word found.event found.word found.form, ap length found.is, length-append found.word found.after) in
-      let more = divide n found.after less (bytes_right found.word found.after both) in
-      (found.event ∷ more.0, more.1, (found.word, found.after, record { form = found.form; are_bytes = bytes_left found.word found.after both }, found.is, more.2))
+      let less : length found.after ≤ n =
+      omega (
+        arith,
+        some_word found.event found.word found.form,
+        ap length found.is,
+        length-append found.word
+            found.after,
+      ) in
+      let more = divide n found.after less (bytes_right found.word found.after both) in (
+        found.event ∷ more.0,
+        more.1,
+        (
+          found.word,
+          found.after,
+          record { form = found.form; are_bytes = bytes_left found.word found.after both },
+          found.is,
+          more.2,
+        ),
+      )
 ]
 
 -- two divisions of bytes are the same
@@ -204,7 +262,8 @@ once s (e ∷ es) (f ∷ fs) r q h k =
 
 -- bytes divide in one way, and in only one
 pub each_divides_once : EachDividesOnce
-each_divides_once = ((λ bytes are. divide (length bytes) bytes (omega arith) are), (λ bytes es fs r q h k. once bytes es fs r q h k))
+each_divides_once =
+    ((λ bytes are. divide (length bytes) bytes (omega arith) are), (λ bytes es fs r q h k. once bytes es fs r q h k))
 
 -- a word that begins a word is that word
 pub no_word_begins_another : NoWordBeginsAnother
@@ -213,10 +272,16 @@ no_word_begins_another e f w v more h k is =
     (same.event, same.after)
 
 -- spellings in a row divide into their commands
-read_back : (cs : List CommandContent) → AllByRecursion (λ c. SpellsCommand c (command_spelling c)) cs → Divides (flat_map command_spelling cs) (map Read cs) []
+read_back : (cs : List CommandContent) → AllByRecursion (λ c. SpellsCommand c (command_spelling c)) cs
+    → Divides (flat_map command_spelling cs) (map Read cs) []
 read_back [] h = (refl, nothing_is_partial)
-read_back (c ∷ cs) h =
-    (command_spelling c, flat_map command_spelling cs, record { form = refl; are_bytes = h.0.are_bytes }, refl, read_back cs h.1)
+read_back (c ∷ cs) h = (
+  command_spelling c,
+  flat_map command_spelling cs,
+  record { form = refl; are_bytes = h.0.are_bytes },
+  refl,
+  read_back cs h.1,
+)
 
 -- bytes that follow others are divided from their rest on
 pub Divides-append : DivisionsAppend
@@ -241,14 +306,18 @@ divides_front s t (e ∷ es) (f ∷ fs) r q h k =
 
 -- so they do behind words
 pub commands_are_read_back : CommandsAreReadBack
-commands_are_read_back bytes es cs h all = Divides-append bytes (flat_map command_spelling cs) es (map Read cs) [] [] h (read_back cs all)
+commands_are_read_back bytes es cs h all = Divides-append bytes (flat_map command_spelling cs) es (map Read cs) [] [] h
+    (read_back cs all)
 
 -- zeros are stray bytes
 zeros_stray : (n : ℕ) → (es : List EventContent) × IsNoiseList es × Divides (zeros n) es []
 zeros_stray zero = ([], tt, (refl, nothing_is_partial))
 zeros_stray (suc n) =
-    let more = zeros_stray n in
-    (Stray 0 ∷ more.0, (tt, more.1), (0 ∷ [], zeros n, record { form = (zero_begins_none, refl); are_bytes = bytes_zeros 1 }, refl, more.2))
+    let more = zeros_stray n in (
+      Stray 0 ∷ more.0,
+      (tt, more.1),
+      (0 ∷ [], zeros n, record { form = (zero_begins_none, refl); are_bytes = bytes_zeros 1 }, refl, more.2),
+    )
 
 -- a part of a word and 255 zeros are noise
 pub zeros_settle_the_reader : ZerosSettleTheReader
@@ -260,13 +329,25 @@ zeros_settle_the_reader r partial =
     let word : List ℕ = r ++ zeros (suc found.count) in
     let split : r ++ replicate 255 0 ≡ word ++ zeros left =
     ap (λ (n : ℕ). r ++ zeros n) (let e : 255 ≡ suc found.count + left = omega (arith, found.few) in e)
-    ∙ (ap (λ (z : List ℕ). r ++ z) (sym (replicate-append-replicate {A = ℕ} (suc found.count) left 0)) ∙ sym (append_assoc r (zeros (suc found.count)) (zeros left))) in (
+    ∙ (ap (λ (z : List ℕ). r ++ z) (sym (replicate-append-replicate {A = ℕ} (suc found.count) left 0)) ∙
+    sym (append_assoc r (zeros (suc found.count)) (zeros left))) in (
       found.event ∷ more.0,
       (found.noise, more.1),
-      (word, zeros left, record { form = found.form; are_bytes = bytes_append r (zeros (suc found.count)) bytes (bytes_zeros (suc found.count)) }, split, more.2),
+      (
+        word,
+        zeros left,
+        record {
+          form = found.form;
+          are_bytes = bytes_append r (zeros (suc found.count)) bytes
+              (bytes_zeros (suc found.count));
+        },
+        split,
+        more.2,
+      ),
     )
 
 -- nothing is held of a word that is whole, and else a part of one
-pub held_is_partial : (is_whole : Bool) (word : List ℕ) → (is_whole ≡ false → IsPartial word) → IsPartial (if is_whole then [] else word)
+pub held_is_partial : (is_whole : Bool) (word : List ℕ) → (is_whole ≡ false → IsPartial word)
+    → IsPartial (if is_whole then [] else word)
 held_is_partial true word h = nothing_is_partial
 held_is_partial false word h = h refl

@@ -99,7 +99,8 @@ same_text letters others beep long h k = (
 raw_apart : (raw : RawClock) (said : ClockContent) → has_own_case said.id (length said.payload) ≡ true
     → clock_content (clock.Raw raw) ≡ said → ⊥
 raw_apart raw said own e =
-    let same : false ≡ true = sym raw.unread ∙ ap (λ (p : ClockContent). has_own_case p.id (length p.payload)) e ∙ own in cc
+    let same : false ≡ true = sym raw.unread ∙ ap (λ (p : ClockContent). has_own_case p.id (length p.payload)) e ∙ own
+    in cc
 
 -- two clock messages are equal exactly where they say the same
 pub equal_clocks : EqualIsSameReadOf HasArrays clock_content (derived_clock.eq-value).it
@@ -125,8 +126,11 @@ equal_clocks (clock.Text letters beep) (clock.Text others long) h k =
     let same = same_text letters others beep long h k in
     (λ t. same.0 (equal.0 t), λ e. equal.1 (same.1 e))
 equal_clocks (clock.Raw a) (clock.Raw b) h k =
-    let equal = both _ _ (equal_numbers a.id b.id) (equal_bytes a.payload.bytes.now b.payload.bytes.now) in
-    (λ t. let same = equal.0 t in λ i. record { id = same.0 i; payload = same.1 i }, λ e. equal.1 (ap id_of e, ap payload_of e))
+    let equal = both _ _ (equal_numbers a.id b.id) (equal_bytes a.payload.bytes.now b.payload.bytes.now) in (
+      λ t. let same = equal.0 t in λ i. record { id = same.0 i; payload = same.1 i },
+      λ e. equal.1
+          (ap id_of e, ap payload_of e),
+    )
 equal_clocks (clock.Raw a) b h k = (λ t. absurd (never t), λ e. absurd (raw_apart a (clock_content b) refl e))
 equal_clocks a (clock.Raw b) h k = (λ t. absurd (never t), λ e. absurd (raw_apart b (clock_content a) refl (sym e)))
 equal_clocks a b h k = differ id_of (clock_content a) (clock_content b) refl

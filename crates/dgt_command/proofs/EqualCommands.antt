@@ -1,4 +1,5 @@
--- What the derived `==` says of commands and of events. Different commands are told apart by their codes, and events by a number a case.
+-- What the derived `==` says of commands and of events. Different commands are told apart by their codes, and events by
+-- a number a case.
 use Rattle.std.proofs.Common.{◌≡◌, ℕ, refl, ap, List, []}
 use Rattle.std.specs.Prelude.{◌↔◌, IsTrue, Option, Some, None, IfSome}
 use Rattle.std.specs.Option.{option_eq, option_map}
@@ -86,7 +87,9 @@ how_many (Some told) = 1
 how_many None = 0
 
 -- two events, or none, are equal exactly where they tell the same
-equal_found : (a b : Option CommandEvent) → IfSome a EventHasArrays → IfSome b EventHasArrays → IsTrue (option_eq (derived_event.eq-value).it a b) ↔ (option_map command_event_content a ≡ option_map command_event_content b)
+equal_found : (a b : Option CommandEvent) → IfSome a EventHasArrays → IfSome b EventHasArrays
+    → IsTrue (option_eq (derived_event.eq-value).it a b) ↔
+    (option_map command_event_content a ≡ option_map command_event_content b)
 equal_found (Some a) (Some b) h k =
     let same = equal_events a b h k in
     (λ t. ap (λ (told : EventContent). Some told) (same.0 t), λ e. same.1 (ap there e))

@@ -1,5 +1,6 @@
 -- Reading byte by byte.
-use Rattle.std.proofs.Common.{◌≡◌, ℕ, ◌-◌, ◌<◌, ◌≤◌, List, [], ◌∷◌, ◌++◌, length, take, drop, refl, sym, ap, subst, ◌∙◌, inl, inr, arith}
+use Rattle.std.proofs.Common.{◌≡◌, ℕ, ◌-◌, ◌<◌, ◌≤◌, List, [], ◌∷◌, ◌++◌, length, take, drop, refl, sym, ap, subst, ◌∙◌}
+use Rattle.std.proofs.Common.{inl, inr, arith}
 use Rattle.std.proofs.lemmas.Bool.{cases_lt}
 use Rattle.std.proofs.lemmas.List.{append-nil, take_at, take_all, take-append-drop, take-take}
 use Rattle.std.proofs.lemmas.Bool.Decides.{nat_tests}
@@ -9,13 +10,15 @@ use Rattle.dgt_command.specs.Laws.{WordsAreShort}
 use Rattle.dgt_command.specs.Spelling.{AreBytes}
 use Rattle.dgt_command.specs.Words.{IsWholeWord, IsPartial}
 use Rattle.dgt_command.proofs.WordLemmas.{form_length, begins}
-use Rattle.dgt_command.proofs.DivisionLemmas.{some_word, not_both, short_from_IsPartial, IsPartial-from_short, bytes_left}
+use Rattle.dgt_command.proofs.DivisionLemmas.{some_word, not_both, short_from_IsPartial, IsPartial-from_short}
+use Rattle.dgt_command.proofs.DivisionLemmas.{bytes_left}
 
 -- bytes as long as their word begin with it
 pub whole_front : (s : List ℕ) (n : ℕ) → AreBytes s → n ≡ word_length s → n ≤ length s → IsWholeWord (take n s)
 whole_front s n bytes is long =
     let found = begins s (omega (arith, is)) in
-    let size : length found.word ≡ n = sym (form_length found.event found.word found.after found.form) ∙ (ap word_length (sym found.is) ∙ sym is) in
+    let size : length found.word ≡ n = sym (form_length found.event found.word found.after found.form) ∙
+    (ap word_length (sym found.is) ∙ sym is) in
     let front : take n s ≡ found.word = ap (take n) found.is ∙ take_at found.word found.after n size in
     let both : AreBytes (found.word ++ found.after) = subst AreBytes found.is bytes in
     (found.event, rw front (record { form = found.form; are_bytes = bytes_left found.word found.after both }))
@@ -25,7 +28,8 @@ pub partial_front : (s : List ℕ) (n : ℕ) → AreBytes s → n ≡ word_lengt
 partial_front s n bytes is short = IsPartial-from_short s bytes (omega (arith, is))
 
 -- a word that begins bytes which are partial without the last is all of them
-pub whole_last : (s : List ℕ) (n : ℕ) → IsPartial (take (length s - 1) s) → n ≤ length s → IsWholeWord (take n s) → IsWholeWord s
+pub whole_last : (s : List ℕ) (n : ℕ) → IsPartial (take (length s - 1) s) → n ≤ length s → IsWholeWord (take n s)
+    → IsWholeWord s
 whole_last s n partial long whole = elim (cases_lt (length s - 1) n) [
   | inl h ↦ subst IsWholeWord (take_all n s (omega arith)) whole
   | inr h ↦
@@ -43,14 +47,23 @@ word_limit (b ∷ size ∷ third ∷ rest) bytes = let byte : size < 256 = bytes
 
 -- a part of a word has at most 256 bytes
 pub partial_limit : (r : List ℕ) → IsPartial r → length r < 257
-partial_limit r partial = omega (arith, short_from_IsPartial r partial, word_limit r (bytes_left r (partial.next ∷ partial.more) partial.word.are_bytes))
+partial_limit r partial =
+    omega (
+      arith,
+      short_from_IsPartial r partial,
+      word_limit r
+          (bytes_left r (partial.next ∷ partial.more) partial.word.are_bytes),
+    )
 
 -- a word has 1 to 257 bytes
 pub words_are_short : WordsAreShort
-words_are_short e w h =
-    (some_word e w h.form, omega (arith, form_length e w [] h.form, ap word_length (append-nil w), word_limit w h.are_bytes))
+words_are_short e w h = (
+  some_word e w h.form,
+  omega (arith, form_length e w [] h.form, ap word_length (append-nil w), word_limit w h.are_bytes),
+)
 
 -- what is kept, a whole word or a part of one, has at most 257 bytes
-pub kept_limit : (is_whole : Bool) (word : List ℕ) → (is_whole ≡ true → IsWholeWord word) → (is_whole ≡ false → IsPartial word) → length word ≤ 257
+pub kept_limit : (is_whole : Bool) (word : List ℕ) → (is_whole ≡ true → IsWholeWord word)
+    → (is_whole ≡ false → IsPartial word) → length word ≤ 257
 kept_limit true word whole partial = let found = whole refl in (words_are_short found.0 word found.1).1
 kept_limit false word whole partial = omega (arith, partial_limit word (partial refl))

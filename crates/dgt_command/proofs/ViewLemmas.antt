@@ -1,5 +1,6 @@
 -- What a whole command looks like, byte by byte.
-use Rattle.std.proofs.Common.{◌≡◌, ℕ, suc, ◌+◌, ◌-◌, ◌<◌, ◌≤◌, List, [], ◌∷◌, ◌++◌, length, get_or, take, drop, refl, sym, ap, subst, ◌∙◌, ◌⊎◌, inl, inr, arith, length-append}
+use Rattle.std.proofs.Common.{◌≡◌, ℕ, suc, ◌+◌, ◌-◌, ◌<◌, ◌≤◌, List, [], ◌∷◌, ◌++◌, length, get_or, take, drop, refl}
+use Rattle.std.proofs.Common.{sym, ap, subst, ◌∙◌, ◌⊎◌, inl, inr, arith, length-append}
 use Rattle.dgt_command.specs.Content.{ClockContent, CommandContent, ClockMessage, Leds}
 use Rattle.dgt_command.specs.Spelling.{command_spelling}
 use Rattle.dgt_command.proofs.WordLemmas.{final_of, front, last_of}

@@ -1,5 +1,6 @@
 -- No word begins another, each list that is long enough begins with one, and zeros complete each that isn't.
-use Rattle.std.proofs.Common.{◌≡◌, ◌≢◌, ℕ, ◌+◌, ◌-◌, ◌<◌, ◌≤◌, false, List, [], ◌∷◌, ◌++◌, length, get_or, take, drop, refl, sym, ap, subst, ◌∙◌, inl, inr, arith, length-append, Option, Some, None}
+use Rattle.std.proofs.Common.{◌≡◌, ◌≢◌, ℕ, ◌+◌, ◌-◌, ◌<◌, ◌≤◌, false, List, [], ◌∷◌, ◌++◌, length, get_or, take, drop}
+use Rattle.std.proofs.Common.{refl, sym, ap, subst, ◌∙◌, inl, inr, arith, length-append, Option, Some, None}
 use Rattle.std.proofs.lemmas.Bool.{cases_eq, cases_lt, le-ltb, lt-ltb, ne_eqb, eq-eqb}
 use Rattle.std.proofs.lemmas.List.{append_cancel_left, take_at, get_or_push, length-take-le, take-append-drop}
 use Rattle.std.specs.Prelude.{◌==◌, slice_index, if◌then◌else◌}
@@ -20,25 +21,36 @@ nothing = record { id = 0; payload = [] }
 
 -- a byte that begins no command begins no clock message and no LED frame
 not_clock : (b : ℕ) → BeginsNoCommand b → (b == 0x2b) ≡ false
-not_clock b h = ne_eqb b 0x2b (λ e. h (ClockMessage nothing) (behind_code (ClockMessage nothing)) (ap (λ (x : ℕ). x ∷ behind_code (ClockMessage nothing)) (sym e)))
+not_clock b h =
+    ne_eqb b 0x2b
+    (λ e. h (ClockMessage nothing) (behind_code (ClockMessage nothing))
+    (ap (λ (x : ℕ). x ∷ behind_code (ClockMessage nothing)) (sym e)))
 
 -- nor an LED frame
 not_leds : (b : ℕ) → BeginsNoCommand b → (b == 0x60) ≡ false
-not_leds b h = ne_eqb b 0x60 (λ e. h (Leds []) (behind_code (Leds [])) (ap (λ (x : ℕ). x ∷ behind_code (Leds [])) (sym e)))
+not_leds b h =
+    ne_eqb b 0x60 (λ e. h (Leds []) (behind_code (Leds [])) (ap (λ (x : ℕ). x ∷ behind_code (Leds [])) (sym e)))
 
 -- the word that a list begins with has this length
-spelling_length : (c : CommandContent) (x : List ℕ) → word_length (command_spelling c ++ x) ≡ length (command_spelling c)
-spelling_length (ClockMessage message) x = rw (le-ltb (length message.payload + 3) 3 (omega arith)) (omega (arith, length-append message.payload (0 ∷ [])))
+spelling_length : (c : CommandContent) (x : List ℕ) → word_length (command_spelling c ++ x) ≡ length
+    (command_spelling c)
+spelling_length (ClockMessage message) x = rw (le-ltb (length message.payload + 3) 3 (omega arith))
+    (omega (arith, length-append message.payload (0 ∷ [])))
 spelling_length (Leds leds) x = omega arith
 spelling_length _ x = refl
 
 -- a word with anything behind it tells its own length
 pub form_length : (e : EventContent) (w x : List ℕ) → HasForm e w → word_length (w ++ x) ≡ length w
 form_length (Read c) w x h = subst (λ (v : List ℕ). word_length (v ++ x) ≡ length v) (sym h) (spelling_length c x)
-form_length BadSize w x (size, small, is) = subst (λ (v : List ℕ). word_length (v ++ x) ≡ length v) (sym is) (rw (lt-ltb size 3 small) refl)
-form_length BadStart w x (size, third, large, other, is) = subst (λ (v : List ℕ). word_length (v ++ x) ≡ length v) (sym is) (rw (le-ltb size 3 large, ne_eqb third 3 other) refl)
-form_length BadEnd w x (size, inner, last, long, other, some, is) = subst (λ (v : List ℕ). word_length (v ++ x) ≡ length v) (sym is) (rw (le-ltb size 3 (omega arith)) (omega (arith, length-append inner (last ∷ []))))
-form_length (Stray b) w x (none, is) = subst (λ (v : List ℕ). word_length (v ++ x) ≡ length v) (sym is) (rw (not_clock b none, not_leds b none) refl)
+form_length BadSize w x (size, small, is) = subst (λ (v : List ℕ). word_length (v ++ x) ≡ length v) (sym is)
+    (rw (lt-ltb size 3 small) refl)
+form_length BadStart w x (size, third, large, other, is) = subst (λ (v : List ℕ). word_length (v ++ x) ≡ length v)
+    (sym is) (rw (le-ltb size 3 large, ne_eqb third 3 other) refl)
+form_length BadEnd w x (size, inner, last, long, other, some, is) =
+    subst (λ (v : List ℕ). word_length (v ++ x) ≡ length v) (sym is)
+    (rw (le-ltb size 3 (omega arith)) (omega (arith, length-append inner (last ∷ []))))
+form_length (Stray b) w x (none, is) = subst (λ (v : List ℕ). word_length (v ++ x) ≡ length v) (sym is)
+    (rw (not_clock b none, not_leds b none) refl)
 
 -- the event of one byte, by the command that it is the code of
 abbrev pub event_of_byte : Option Command → ℕ → EventContent
@@ -46,14 +58,16 @@ event_of_byte (Some each) b = Read (command_content each)
 event_of_byte None b = Stray b
 
 -- a byte that begins no command is stray
-stray_byte : (found : Option Command) (b : ℕ) → bare_command b ≡ found → BeginsNoCommand b → event_of_byte found b ≡ Stray b
+stray_byte : (found : Option Command) (b : ℕ) → bare_command b ≡ found → BeginsNoCommand b
+    → event_of_byte found b ≡ Stray b
 stray_byte None b e none = refl
 stray_byte (Some each) b e none = absurd (none (command_content each) [] (sym (bare_form b each e)))
 
 -- the event of a clock message of this id, by what follows it
 abbrev pub end_event : ℕ → List ℕ → EventContent
 end_event id more =
-    if get_or more (length more - 1) 0 == 0 then Read (ClockMessage (record { id = id; payload = take (length more - 1) more }))
+    if get_or more (length more - 1) 0 == 0 then Read
+    (ClockMessage (record { id = id; payload = take (length more - 1) more }))
     else BadEnd
 
 -- the same, behind the first byte of a clock message
@@ -66,7 +80,8 @@ clock_event _ = BadSize
 abbrev pub event_of : List ℕ → EventContent
 event_of [] = BadSize
 event_of (b ∷ rest) =
-    if b == 0x2b then clock_event rest else if b == 0x60 then Read (Leds (drop 1 rest)) else event_of_byte (bare_command b) b
+    if b == 0x2b then clock_event rest else if b == 0x60 then Read (Leds (drop 1 rest)) else event_of_byte
+    (bare_command b) b
 
 -- all but the last byte
 pub front : (p : List ℕ) (x : ℕ) → take (length (p ++ x ∷ []) - 1) (p ++ x ∷ []) ≡ p
@@ -90,7 +105,8 @@ event_of_spelling (ClockMessage message) = end_read message.id message.payload
 event_of_spelling _ = refl
 
 -- a clock message with a wrong last byte is a fault
-end_bad_long : (inner : List ℕ) (x : ℕ) (size : ℕ) → 0 < length inner → x ≢ 0 → clock_event (size ∷ 3 ∷ (inner ++ x ∷ [])) ≡ BadEnd
+end_bad_long : (inner : List ℕ) (x : ℕ) (size : ℕ) → 0 < length inner → x ≢ 0
+    → clock_event (size ∷ 3 ∷ (inner ++ x ∷ [])) ≡ BadEnd
 end_bad_long [] x size some h = absurd (omega arith)
 end_bad_long (id ∷ p) x size some h = end_bad id p x h
 
@@ -99,7 +115,8 @@ pub form_event : (e : EventContent) (w : List ℕ) → HasForm e w → event_of 
 form_event (Read c) w h = ap event_of h ∙ event_of_spelling c
 form_event BadSize w (size, small, is) = ap event_of is
 form_event BadStart w (size, third, large, other, is) = ap event_of is
-form_event BadEnd w (size, inner, final, long, other, some, is) = ap event_of is ∙ end_bad_long inner final size (omega arith) other
+form_event BadEnd w (size, inner, final, long, other, some, is) =
+    ap event_of is ∙ end_bad_long inner final size (omega arith) other
 form_event (Stray b) w (none, is) =
     ap event_of is ∙ rw (not_clock b none, not_leds b none) (stray_byte (bare_command b) b refl none)
 
@@ -114,7 +131,8 @@ same_front : (w v x y : List ℕ) → length w ≡ length v → w ++ x ≡ v ++ 
 same_front w v x y h is = sym (take_at w x (length w) refl) ∙ (ap (take (length w)) is ∙ take_at v y (length w) (sym h))
 
 -- words that begin the same bytes are the same
-pub same_word : (e f : EventContent) (w v x y : List ℕ) → HasForm e w → HasForm f v → w ++ x ≡ v ++ y → SameWord e f w v x y
+pub same_word : (e f : EventContent) (w v x y : List ℕ) → HasForm e w → HasForm f v → w ++ x ≡ v ++ y
+    → SameWord e f w v x y
 same_word e f w v x y h k is =
     let long : length w ≡ length v = sym (form_length e w x h) ∙ (ap word_length is ∙ form_length f v y k) in
     let word : w ≡ v = same_front w v x y long is in
@@ -125,7 +143,8 @@ same_word e f w v x y h k is =
     }
 
 -- the word of one byte, by the command that it is the code of
-word_of_byte : (found : Option Command) (b : ℕ) → bare_command b ≡ found → b ≢ 0x2b → b ≢ 0x60 → (e : EventContent) × HasForm e (b ∷ [])
+word_of_byte : (found : Option Command) (b : ℕ) → bare_command b ≡ found → b ≢ 0x2b → b ≢ 0x60 → (e : EventContent)
+    × HasForm e (b ∷ [])
 word_of_byte (Some each) b e not_clock not_leds = (Read (command_content each), bare_form b each e)
 word_of_byte None b e not_clock not_leds = (Stray b, (no_command b e not_clock not_leds, refl))
 
@@ -140,10 +159,14 @@ clock_word id p size h =
     (record { id = id; payload = p }, ap (λ (n : ℕ). 0x2b ∷ n ∷ 3 ∷ id ∷ (p ++ 0 ∷ [])) (sym h))
 
 -- a clock message that is long enough, right or not
-full_word : (id : ℕ) (p : List ℕ) (x size : ℕ) → length p + 3 ≡ size → (e : EventContent) × HasForm e (0x2b ∷ size ∷ 3 ∷ id ∷ (p ++ x ∷ []))
+full_word : (id : ℕ) (p : List ℕ) (x size : ℕ) → length p + 3 ≡ size → (e : EventContent)
+    × HasForm e (0x2b ∷ size ∷ 3 ∷ id ∷ (p ++ x ∷ []))
 full_word id p x size h = elim (cases_eq x 0) [
-  | inl is ↦ let found = clock_word id p size h in
-      (Read (ClockMessage found.0), subst (λ (y : ℕ). HasForm (Read (ClockMessage found.0)) (0x2b ∷ size ∷ 3 ∷ id ∷ (p ++ y ∷ []))) (sym is) found.1)
+  | inl is ↦ let found = clock_word id p size h in (
+    Read (ClockMessage found.0),
+    subst (λ (y : ℕ). HasForm (Read (ClockMessage found.0)) (0x2b ∷ size ∷ 3 ∷ id ∷ (p ++ y ∷ [])))
+        (sym is) found.1,
+  )
   | inr other ↦ (BadEnd, (size, id ∷ p, x, omega arith, other, omega arith, refl))
 ]
 
@@ -163,7 +186,8 @@ final_of x (y ∷ ys) = let more = final_of y ys in (x ∷ more.0, more.1, ap (�
 ends_of : (ys : List ℕ) → 2 ≤ length ys → Ends ys
 ends_of [] h = absurd (omega arith)
 ends_of (x ∷ []) h = absurd (omega arith)
-ends_of (x ∷ y ∷ ys) h = let more = final_of y ys in record { id = x; between = more.0; final = more.1; is = ap (λ zs. x ∷ zs) more.2 }
+ends_of (x ∷ y ∷ ys) h = let more = final_of y ys in
+    record { id = x; between = more.0; final = more.1; is = ap (λ zs. x ∷ zs) more.2 }
 
 -- a list that begins with a word
 pub record Begins (s : List ℕ) : Type 0 where
@@ -174,9 +198,11 @@ pub record Begins (s : List ℕ) : Type 0 where
   pub is : s ≡ word ++ after
 
 -- a clock message that is long enough, by its ends
-ends_word : (ys : List ℕ) (size : ℕ) → Ends ys → length ys + 1 ≡ size → (e : EventContent) × HasForm e (0x2b ∷ size ∷ 3 ∷ ys)
+ends_word : (ys : List ℕ) (size : ℕ) → Ends ys → length ys + 1 ≡ size → (e : EventContent)
+    × HasForm e (0x2b ∷ size ∷ 3 ∷ ys)
 ends_word ys size ends h =
-    let long : length ends.between + 3 ≡ size = omega (arith, ap length ends.is, length-append ends.between (ends.final ∷ [])) in
+    let long : length ends.between + 3 ≡ size =
+    omega (arith, ap length ends.is, length-append ends.between (ends.final ∷ [])) in
     let found = full_word ends.id ends.between ends.final size long in
     (found.0, subst (λ zs. HasForm found.0 (0x2b ∷ size ∷ 3 ∷ zs)) (sym ends.is) found.1)
 
@@ -194,11 +220,20 @@ whole_body size rest large h =
     }
 
 -- bytes as long as a clock message of a large size begin with a word
-body_begins : (size : ℕ) (rest : List ℕ) → 3 ≤ size → body_length size rest ≤ length rest + 2 → Begins (0x2b ∷ size ∷ rest)
+body_begins : (size : ℕ) (rest : List ℕ) → 3 ≤ size → body_length size rest ≤ length rest + 2
+    → Begins (0x2b ∷ size ∷ rest)
 body_begins size [] large h = absurd (omega arith)
 body_begins size (third ∷ rest) large h = elim (cases_eq third 3) [
-  | inl is ↦ subst (λ (x : ℕ). Begins (0x2b ∷ size ∷ x ∷ rest)) (sym is) (whole_body size rest large (let k : size + 2 ≤ length (third ∷ rest) + 2 = rw (eq-eqb third 3 is) at h in omega (arith, k)))
-  | inr other ↦ record { event = BadStart; word = 0x2b ∷ size ∷ third ∷ []; after = rest; form = (size, third, large, other, refl); is = refl }
+  | inl is ↦ subst (λ (x : ℕ). Begins (0x2b ∷ size ∷ x ∷ rest)) (sym is)
+      (whole_body size rest large
+      (let k : size + 2 ≤ length (third ∷ rest) + 2 = rw (eq-eqb third 3 is) at h in omega (arith, k)))
+  | inr other ↦ record {
+    event = BadStart;
+    word = 0x2b ∷ size ∷ third ∷ [];
+    after = rest;
+    form = (size, third, large, other, refl);
+    is = refl;
+  }
 ]
 
 -- bytes as long as what begins as a clock message begin with a word
@@ -206,7 +241,8 @@ clock_begins : (rest : List ℕ) → word_length (0x2b ∷ rest) ≤ length rest
 clock_begins [] h = absurd (omega arith)
 clock_begins (size ∷ rest) h = elim (cases_lt size 3) [
   | inl small ↦ record { event = BadSize; word = 0x2b ∷ size ∷ []; after = rest; form = (size, small, refl); is = refl }
-  | inr large ↦ body_begins size rest large (let k : body_length size rest ≤ length (size ∷ rest) + 1 = rw (le-ltb size 3 large) at h in omega (arith, k))
+  | inr large ↦ body_begins size rest large
+      (let k : body_length size rest ≤ length (size ∷ rest) + 1 = rw (le-ltb size 3 large) at h in omega (arith, k))
 ]
 
 -- bytes as long as an LED frame begin with it
@@ -226,9 +262,15 @@ led_begins (size ∷ rest) h =
 pub begins : (s : List ℕ) → word_length s ≤ length s → Begins s
 begins [] h = absurd (omega arith)
 begins (b ∷ rest) h = elim (cases_eq b 0x2b) [
-  | inl is ↦ subst (λ (x : ℕ). Begins (x ∷ rest)) (sym is) (clock_begins rest (let k : word_length (0x2b ∷ rest) ≤ length (b ∷ rest) = rw (eq-eqb b 0x2b is) at h in omega (arith, k)))
+  | inl is ↦ subst (λ (x : ℕ). Begins (x ∷ rest)) (sym is)
+      (clock_begins rest
+      (let k : word_length (0x2b ∷ rest) ≤ length (b ∷ rest) = rw (eq-eqb b 0x2b is) at h in omega (arith, k)))
   | inr other ↦ elim (cases_eq b 0x60) [
-    | inl is ↦ subst (λ (x : ℕ). Begins (x ∷ rest)) (sym is) (led_begins rest (let k : word_length (0x60 ∷ rest) ≤ length (b ∷ rest) = rw (ne_eqb b 0x2b other, eq-eqb b 0x60 is) at h in omega (arith, k)))
-    | inr neither ↦ let found = byte_word b other neither in record { event = found.0; word = b ∷ []; after = rest; form = found.1; is = refl }
+    | inl is ↦ subst (λ (x : ℕ). Begins (x ∷ rest)) (sym is)
+        (led_begins rest
+        (let k : word_length (0x60 ∷ rest) ≤ length (b ∷ rest) = rw (ne_eqb b 0x2b other, eq-eqb b 0x60 is) at h in
+        omega (arith, k)))
+    | inr neither ↦ let found = byte_word b other neither in
+        record { event = found.0; word = b ∷ []; after = rest; form = found.1; is = refl }
   ]
 ]

@@ -1,6 +1,7 @@
 //! Lists of bytes that commands carry unread.
 
 ghost use Rattle.std.specs.Prelude.{◌≡◌, ◌<◌, ◌≤◌, ◌↔◌, length, IfOk, IsErr};
+ghost use Rattle.dgt_command.specs.declared.carried.TheConstants.{MAX_LED_BYTES, MAX_PAYLOAD};
 
 use dgt_values::TooMuch;
 
@@ -10,11 +11,12 @@ pub const MAX_PAYLOAD: usize = 252;
 /// The most bytes that an LED frame carries: its size is one byte.
 pub const MAX_LED_BYTES: usize = 255;
 
-/// The payload of a clock message, lent by whoever holds it: at most `MAX_PAYLOAD` bytes, of any values.
+/// The payload of a clock message, lent by whoever holds it: at most `MAX_PAYLOAD` bytes, of any
+/// values.
 #[derive(Clone, Copy, Debug, PartialEq, Eq)]
 pub struct Payload<'a> {
     pub(crate) bytes: &'a [u8],
-    ghost fits: { length bytes.now ≤ 252 },
+    ghost fits: { length bytes.now ≤ MAX_PAYLOAD },
 }
 
 impl<'a> Payload<'a> {
@@ -23,7 +25,7 @@ impl<'a> Payload<'a> {
     /// The payload of these bytes. More than `MAX_PAYLOAD` bytes are `TooMuch`.
     pub fn new(bytes: &'a [u8]) -> Result<Self, TooMuch>
         ensures ok { IfOk result (λ payload. payload_bytes payload ≡ bytes.now) }
-        ensures refused { IsErr result ↔ (252 < length bytes.now) }
+        ensures refused { IsErr result ↔ (MAX_PAYLOAD < length bytes.now) }
     {
         if bytes.len() > MAX_PAYLOAD {
             return Err(TooMuch);
@@ -34,17 +36,18 @@ impl<'a> Payload<'a> {
     /// The bytes.
     pub fn bytes(self) -> &'a [u8]
         ensures bytes { result.now ≡ payload_bytes self.entry }
-        ensures fits { length result.now ≤ 252 }
+        ensures fits { length result.now ≤ MAX_PAYLOAD }
     {
         self.bytes
     }
 }
 
-/// The bytes of an LED frame after its size, lent by whoever holds them: at most `MAX_LED_BYTES`, of any values.
+/// The bytes of an LED frame after its size, lent by whoever holds them: at most `MAX_LED_BYTES`,
+/// of any values.
 #[derive(Clone, Copy, Debug, PartialEq, Eq)]
 pub struct LedBytes<'a> {
     pub(crate) bytes: &'a [u8],
-    ghost fits: { length bytes.now ≤ 255 },
+    ghost fits: { length bytes.now ≤ MAX_LED_BYTES },
 }
 
 impl<'a> LedBytes<'a> {
@@ -53,7 +56,7 @@ impl<'a> LedBytes<'a> {
     /// The LED bytes that these are. More than `MAX_LED_BYTES` bytes are `TooMuch`.
     pub fn new(bytes: &'a [u8]) -> Result<Self, TooMuch>
         ensures ok { IfOk result (λ leds. led_bytes leds ≡ bytes.now) }
-        ensures refused { IsErr result ↔ (255 < length bytes.now) }
+        ensures refused { IsErr result ↔ (MAX_LED_BYTES < length bytes.now) }
     {
         if bytes.len() > MAX_LED_BYTES {
             return Err(TooMuch);
@@ -64,7 +67,7 @@ impl<'a> LedBytes<'a> {
     /// The bytes.
     pub fn bytes(self) -> &'a [u8]
         ensures bytes { result.now ≡ led_bytes self.entry }
-        ensures fits { length result.now ≤ 255 }
+        ensures fits { length result.now ≤ MAX_LED_BYTES }
     {
         self.bytes
     }

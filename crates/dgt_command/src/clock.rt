@@ -7,7 +7,8 @@ use crate::carried::Payload;
 use crate::ids::KnownId;
 use dgt_values::Known;
 
-/// A clock message with no case of its own: another id, or a known id with a payload of another length.
+/// A clock message with no case of its own: another id, or a known id with a payload of another
+/// length.
 #[derive(Clone, Copy, Debug, PartialEq, Eq)]
 pub struct RawClock<'a> {
     id: u8,
@@ -35,12 +36,13 @@ impl<'a> RawClock<'a> {
     ghost use Rattle.dgt_command.specs.Content.{payload_bytes, raw_id, raw_payload};
     ghost use Rattle.dgt_command.specs.Ids.{has_own_case};
 
-    /// The clock message of this id and payload. `Known` says that the id and the payload's length are those of
-    /// another case of [`ClockCommand`].
+    /// The clock message of this id and payload. `Known` says that the id and the payload's length
+    /// are those of another case of [`ClockCommand`].
     pub fn new(id: u8, payload: Payload<'a>) -> Result<Self, Known>
         ensures id { IfOk result (λ raw. raw_id raw ≡ id) }
         ensures payload { IfOk result (λ raw. raw_payload raw ≡ payload_bytes payload.entry) }
-        ensures refused { IsErr result ↔ IsTrue (has_own_case id (length (payload_bytes payload.entry))) }
+        ensures refused { IsErr result
+            ↔ IsTrue (has_own_case id (length (payload_bytes payload.entry))) }
     {
         if has_case(id, payload.bytes().len()) {
             return Err(Known);
@@ -58,13 +60,15 @@ impl<'a> RawClock<'a> {
     /// The payload.
     pub fn payload(self) -> Payload<'a>
         ensures payload { payload_bytes result ≡ raw_payload self.entry }
-        ensures unread { has_own_case (raw_id self.entry) (length (raw_payload self.entry)) ≡ false }
+        ensures unread { has_own_case (raw_id self.entry) (length (raw_payload self.entry))
+            ≡ false }
     {
         self.payload
     }
 }
 
-/// What a clock message asks of the clock. The bytes of a case are carried as they are, in any values.
+/// What a clock message asks of the clock. The bytes of a case are carried as they are, in any
+/// values.
 #[derive(Clone, Copy, Debug, PartialEq, Eq)]
 pub enum ClockCommand<'a> {
     /// Show these segments. `places` are the six digits from left to right, a segment byte each.

@@ -6,12 +6,22 @@ ghost use Rattle.dgt_command.specs.Content.{command_content};
 
 use crate::command::Command;
 
+// The byte that a clock message begins with, and the two that frame what follows its size.
+pub(crate) const CLOCK_MESSAGE: u8 = 0x2b;
+
+pub(crate) const START: u8 = 0x03;
+
+pub(crate) const END: u8 = 0x00;
+
+// The byte that an LED frame begins with.
+pub(crate) const LEDS: u8 = 0x60;
+
 // The byte that the command begins with.
 pub(crate) fn command_code(command: &Command) -> u8
     ensures { result ≡ command_code (command_content command.now) }
 {
     match command {
-        Command::ClockMessage(_) => 0x2b,
+        Command::ClockMessage(_) => CLOCK_MESSAGE,
         Command::Reset => 0x40,
         Command::Clock => 0x41,
         Command::Dump => 0x42,
@@ -23,7 +33,7 @@ pub(crate) fn command_code(command: &Command) -> u8
         Command::Battery => 0x4c,
         Command::Version => 0x4d,
         Command::LongSerial => 0x55,
-        Command::Leds(_) => 0x60,
+        Command::Leds(_) => LEDS,
     }
 }
 

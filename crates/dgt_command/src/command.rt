@@ -36,8 +36,8 @@ pub enum Command<'a> {
 
 /// What a word of the line from the host to the board tells: a command or a fault.
 ///
-/// A fault is told with the byte that shows it, and the next byte begins a new word: this project's own choice. The
-/// bytes of an LED frame are not looked at, so it has no fault.
+/// A fault is told with the byte that shows it, and the next byte begins a new word: this project's
+/// own choice. The bytes of an LED frame are not looked at, so it has no fault.
 #[derive(Clone, Copy, Debug, PartialEq, Eq)]
 pub enum CommandEvent<'a> {
     /// A command.

@@ -20,7 +20,8 @@ pub struct CommandFed<'a> {
     pub event: Option<CommandEvent<'a>>,
 }
 
-/// Reads commands as their bytes come, in any pieces. Contracts see the bytes of the word that isn't finished yet.
+/// Reads commands as their bytes come, in any pieces. Contracts see the bytes of the word that
+/// isn't finished yet.
 #[derive(Drop)]
 pub struct CommandDecoder {
     framer: WordFramer,
@@ -47,16 +48,19 @@ impl CommandDecoder {
         }
     }
 
-    /// Uses bytes of the piece up to and including the first that completes a word, and gives its event; or uses all
-    /// of it, where no byte completes one.
+    /// Uses bytes of the piece up to and including the first that completes a word, and gives its
+    /// event; or uses all of it, where no byte completes one.
     ///
     /// A command lends what it carries from the reader until the next call.
     pub fn feed(&mut self, piece: &[u8]) -> CommandFed<'_>
-        ensures* after_borrow { sem 𝓛 (Rests the_row self.entry (λ new. new ≡ rest_after result.event (self.old ++ take result.used piece.now))) }
+        ensures* after_borrow { sem 𝓛 (Rests the_row self.entry (λ new.
+            new ≡ rest_after result.event (self.old ++ take result.used piece.now))) }
         ensures within { result.used ≤ length piece.now }
         ensures progress { 0 < length piece.now → 0 < result.used }
-        ensures first { IfSome result.event (λ event. IsWord (command_event_content event) (self.old ++ take result.used piece.now)) }
-        ensures none { IfNone result.event ((result.used ≡ length piece.now) × IsPartial (self.old ++ piece.now)) }
+        ensures first { IfSome result.event (λ event.
+            IsWord (command_event_content event) (self.old ++ take result.used piece.now)) }
+        ensures none { IfNone result.event
+            ((result.used ≡ length piece.now) × IsPartial (self.old ++ piece.now)) }
     {
         let advanced = self.framer.advance(piece);
         let event = match advanced.found {

@@ -1,6 +1,7 @@
 //! The words of the line, one by one, as their bytes come.
 
-ghost use Rattle.std.specs.Prelude.{◌≡◌, ◌+◌, ◌<◌, ◌≤◌, [], ◌++◌, length, take, true, false, Some, IsTrue, IfSome, IfNone, is_some};
+ghost use Rattle.std.specs.Prelude.{◌≡◌, ◌+◌, ◌<◌, ◌≤◌, [], ◌++◌, length, take, true, false, Some};
+ghost use Rattle.std.specs.Prelude.{IsTrue, IfSome, IfNone, is_some};
 ghost use Rattle.dgt_command.specs.Content.{command_event_content};
 ghost use Rattle.dgt_command.specs.Spelling.{IsSpelling, command_in};
 ghost use Rattle.dgt_command.specs.Framing.{word_found_in, rest_after, rest_of};
@@ -15,7 +16,8 @@ use std::marker::Model;
 /// The most bytes of a word: a clock message or an LED frame with a size of 255.
 pub const MAX_WORD: usize = 257;
 
-/// What the last byte of a word made known, without what the word carries: [`WordFramer::event`] lends that.
+/// What the last byte of a word made known, without what the word carries: [`WordFramer::event`]
+/// lends that.
 #[derive(Clone, Copy, Debug, PartialEq, Eq)]
 pub enum FoundWord {
     /// A command, whose bytes the framer keeps.
@@ -39,14 +41,16 @@ pub struct AdvancedWord {
     pub found: Option<FoundWord>,
 }
 
-/// Keeps the bytes of a word that isn't finished yet, or of the one that has just become whole: at most [`MAX_WORD`].
+/// Keeps the bytes of a word that isn't finished yet, or of the one that has just become whole: at
+/// most [`MAX_WORD`].
 ///
-/// It reads as a [`CommandDecoder`](crate::CommandDecoder) does, in two steps: `advance` answers what was found, owned,
-/// and `event` lends it, as often as it is asked before the next `advance`. So a type that owns it can look at an
-/// event, write its own state, and then lend the event.
+/// It reads as a [`CommandDecoder`](crate::CommandDecoder) does, in two steps: `advance` answers
+/// what was found, owned, and `event` lends it, as often as it is asked before the next `advance`.
+/// So a type that owns it can look at an event, write its own state, and then lend the event.
 ///
-/// Contracts see the bytes kept (`word`) and whether they are a whole word (`is_whole`). The rest, of which
-/// the next bytes are read on, is the bytes kept where they aren't whole, and else empty (`rest_of`).
+/// Contracts see the bytes kept (`word`) and whether they are a whole word (`is_whole`). The rest,
+/// of which the next bytes are read on, is the bytes kept where they aren't whole, and else empty
+/// (`rest_of`).
 #[derive(Drop)]
 pub struct WordFramer {
     word: ArrayVec<u8, MAX_WORD>,
@@ -65,7 +69,8 @@ impl Model for WordFramer {
     ghost invariant = { λ framer. IsPartial (if framer.is_whole then [] else framer.word.items) };
 }
 
-// Adds bytes of the piece to a part of a word, up to the one that completes it: how many, and whether one did.
+// Adds bytes of the piece to a part of a word, up to the one that completes it: how many, and
+// whether one did.
 fn add_bytes(word: &mut ArrayVec<u8, MAX_WORD>, piece: &[u8]) -> (usize, bool)
     requires { IsPartial word.old.items }
     ensures used { result.0 ≤ length piece.now }
@@ -140,18 +145,25 @@ impl WordFramer {
         self.is_whole = false;
     }
 
-    /// Uses bytes of the piece up to and including the first that completes a word, and answers what that word tells;
-    /// or uses all of it, where no byte completes one.
+    /// Uses bytes of the piece up to and including the first that completes a word, and answers
+    /// what that word tells; or uses all of it, where no byte completes one.
     pub fn advance(&mut self, piece: &[u8]) -> AdvancedWord
         ensures within { result.used ≤ length piece.now }
         ensures progress { 0 < length piece.now → 0 < result.used }
-        ensures first { IfSome result.found (λ found. IsWord (word_found_in self.new.word found) (rest_of self.old ++ take result.used piece.now)) }
+        ensures first { IfSome result.found (λ found.
+            IsWord (word_found_in self.new.word found)
+            (rest_of self.old ++ take result.used piece.now)) }
         ensures whole { result.found ≡ Some FoundWord.Command → IsSpelling self.new.word }
-        ensures none { IfNone result.found ((result.used ≡ length piece.now) × IsPartial (rest_of self.old ++ piece.now)) }
-        ensures held { rest_of self.new ≡ rest_after result.found (rest_of self.old ++ take result.used piece.now) }
+        ensures none { IfNone result.found
+            ((result.used ≡ length piece.now) × IsPartial (rest_of self.old ++ piece.now)) }
+        ensures held { rest_of self.new
+            ≡ rest_after result.found (rest_of self.old ++ take result.used piece.now) }
         ensures unfinished { IsPartial (rest_of self.new) }
-        ensures limit { length self.new.word ≤ 257 }
-        ensures kept { self.new ≡ record { word = rest_of self.old ++ take result.used piece.now; is_whole = is_some result.found } }
+        ensures limit { length self.new.word ≤ MAX_WORD }
+        ensures kept { self.new ≡ record {
+          word = rest_of self.old ++ take result.used piece.now;
+          is_whole = is_some result.found;
+        } }
     {
         if self.is_whole {
             self.word.clear();

@@ -1,4 +1,5 @@
-//! What holds of commands, of the words on the line and of how bytes divide into them, whoever reads or writes them.
+//! What holds of commands, of the words on the line and of how bytes divide into them, whoever
+//! reads or writes them.
 
 ghost use Rattle.std.specs.Prelude.{◌≡◌, ◌↔◌, ◌++◌, ℕ, List, [], Some};
 ghost use Rattle.dgt_values.specs.Equality.{EqualIsSame, EqualIsSameRead, EqualIsSameReadOf};
@@ -24,15 +25,19 @@ pub fn limits()
     ensures led_bytes { MAX_LED_BYTES ≡ 255 }
 {}
 
-/// Two values are equal, as `==` compares them, exactly where they say the same. Of lent bytes the bytes count, and
-/// not where they lie.
+/// Two values are equal, as `==` compares them, exactly where they say the same. Of lent bytes the
+/// bytes count, and not where they lie.
 pub fn equal_is_same()
     ensures payload { EqualIsSameRead payload_bytes ⟦<Payload<'static> as PartialEq>⟧.eq }
     ensures led_bytes { EqualIsSameRead led_bytes ⟦<LedBytes<'static> as PartialEq>⟧.eq }
-    ensures raw { EqualIsSameRead {Read = ℕ × List ℕ} (λ raw. (raw_id raw, raw_payload raw)) ⟦<RawClock<'static> as PartialEq>⟧.eq }
-    ensures clock { EqualIsSameReadOf HasArrays clock_content ⟦<ClockCommand<'static> as PartialEq>⟧.eq }
-    ensures command { EqualIsSameReadOf CommandHasArrays command_content ⟦<Command<'static> as PartialEq>⟧.eq }
-    ensures event { EqualIsSameReadOf EventHasArrays command_event_content ⟦<CommandEvent<'static> as PartialEq>⟧.eq }
+    ensures raw { EqualIsSameRead {Read = ℕ × List ℕ} (λ raw. (raw_id raw, raw_payload raw))
+        ⟦<RawClock<'static> as PartialEq>⟧.eq }
+    ensures clock { EqualIsSameReadOf HasArrays clock_content
+        ⟦<ClockCommand<'static> as PartialEq>⟧.eq }
+    ensures command { EqualIsSameReadOf CommandHasArrays command_content
+        ⟦<Command<'static> as PartialEq>⟧.eq }
+    ensures event { EqualIsSameReadOf EventHasArrays command_event_content
+        ⟦<CommandEvent<'static> as PartialEq>⟧.eq }
     ensures known_id { EqualIsSame ⟦<KnownId as PartialEq>⟧.eq }
     ensures fed { EqualIsSameReadOf FedHasArrays fed_seen ⟦<CommandFed<'static> as PartialEq>⟧.eq }
     ensures found { EqualIsSame ⟦<FoundWord as PartialEq>⟧.eq }
@@ -45,7 +50,8 @@ pub fn a_number_has_one_id()
         → (id_with number ≡ Some known) ↔ (number ≡ id_number known) }
 {}
 
-/// One division: each list of bytes divides into words and a rest that some word extends, and in only one way.
+/// One division: each list of bytes divides into words and a rest that some word extends, and in
+/// only one way.
 pub fn one_division()
     ensures { EachDividesOnce }
 {}
@@ -60,8 +66,8 @@ pub fn commands_are_read_back()
     ensures { CommandsAreReadBack }
 {}
 
-/// Zeros settle the reader: any part of a word and 255 zeros are clock messages, LED frames and faults, and leave no
-/// rest.
+/// Zeros settle the reader: any part of a word and 255 zeros are clock messages, LED frames and
+/// faults, and leave no rest.
 pub fn zeros_settle_the_reader()
     ensures { ZerosSettleTheReader }
 {}
@@ -71,7 +77,8 @@ pub fn divisions_append()
     ensures { DivisionsAppend }
 {}
 
-/// Where bytes and a front of them divide, the events of the front come first, and its rest goes on.
+/// Where bytes and a front of them divide, the events of the front come first, and its rest goes
+/// on.
 pub fn fronts_divide_first()
     ensures { FrontsDivideFirst }
 {}

@@ -4,6 +4,8 @@ ghost use Rattle.std.specs.Prelude.{◌≡◌, ◌-◌, length, take, false, IsT
 ghost use Rattle.dgt_command.specs.Lengths.{word_length};
 ghost use Rattle.dgt_command.specs.Words.{IsPartial, IsWholeWord};
 
+use crate::codes::{CLOCK_MESSAGE, LEDS, START};
+
 // Whether bytes that are a part of a word without the last are a word with it.
 pub(crate) fn is_whole(bytes: &[u8]) -> bool
     requires { IsPartial (take (length bytes.now - 1) bytes.now) }
@@ -18,11 +20,11 @@ fn length_so_far(bytes: &[u8]) -> usize
     ensures { result ≡ word_length bytes.now }
 {
     match bytes {
-        [0x2b, size, 0x03, ..] if *size >= 3 => *size as usize + 2,
-        [0x2b, size, ..] if *size >= 3 => 3,
-        [0x2b, ..] => 2,
-        [0x60, size, ..] => *size as usize + 2,
-        [0x60] => 2,
+        [CLOCK_MESSAGE, size, START, ..] if *size >= 3 => *size as usize + 2,
+        [CLOCK_MESSAGE, size, ..] if *size >= 3 => 3,
+        [CLOCK_MESSAGE, ..] => 2,
+        [LEDS, size, ..] => *size as usize + 2,
+        [LEDS] => 2,
         _ => 1,
     }
 }

@@ -56,9 +56,9 @@ const LISTS: [&[u8]; 34] = [
     &[0x60, 0x42],
 ];
 
-// How many of the events are told after a piece of the bytes, where so many were told before it and `end` bytes have
-// come with it. Each event stands with the number of bytes with which it is told. `None` says that the piece told
-// something else.
+// How many of the events are told after a piece of the bytes, where so many were told before it and
+// `end` bytes have come with it. Each event stands with the number of bytes with which it is told.
+// `None` says that the piece told something else.
 fn told_after(
     decoder: &mut CommandDecoder,
     piece: &[u8],
@@ -82,7 +82,8 @@ fn told_after(
     Some(told)
 }
 
-// Whether a new reader tells these events of the bytes, cut into two at this place, and then holds so many.
+// Whether a new reader tells these events of the bytes, cut into two at this place, and then holds
+// so many.
 fn is_read_cut(
     bytes: &[u8],
     place: usize,
@@ -127,7 +128,8 @@ fn is_read(bytes: &[u8], events: &[(usize, CommandEvent<'_>)], partial: usize) -
     is_read_byte_by_byte(bytes, events, partial)
 }
 
-// Whether these are the bytes of the command: read in any pieces, viewed whole and in no part, and written.
+// Whether these are the bytes of the command: read in any pieces, viewed whole and in no part, and
+// written.
 fn is_spelled(bytes: &[u8], command: Command<'_>) -> bool {
     let events = [(bytes.len(), CommandEvent::Command(command))];
     for place in 0..bytes.len() {

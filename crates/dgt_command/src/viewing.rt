@@ -1,12 +1,13 @@
 //! Commands read from their bytes.
 
 ghost use Rattle.std.specs.Prelude.{◌≡◌, ◌+◌, ◌<◌, ◌≤◌, ◌∷◌, ◌++◌, [], length, IfNone, IfSome};
-ghost use Rattle.dgt_command.specs.Content.{CommandContent, clock_content, command_content, payload_bytes};
+ghost use Rattle.dgt_command.specs.Content.{CommandContent, clock_content, command_content};
+ghost use Rattle.dgt_command.specs.Content.{payload_bytes};
 ghost use Rattle.dgt_command.specs.Spelling.{SpellsCommand};
 
 use crate::carried::{LedBytes, Payload};
 use crate::clock::{ClockCommand, RawClock};
-use crate::codes::bare_command;
+use crate::codes::{CLOCK_MESSAGE, END, LEDS, START, bare_command};
 use crate::command::Command;
 use crate::ids::KnownId;
 
@@ -15,15 +16,17 @@ use crate::ids::KnownId;
 /// The command lends what it carries from the slice.
 pub fn view_command(bytes: &[u8]) -> Option<Command<'_>>
     ensures some { IfSome result (λ command. SpellsCommand (command_content command) bytes.now) }
-    ensures none { IfNone result ((command : CommandContent) → SpellsCommand command bytes.now → ⊥) }
+    ensures none { IfNone result
+        ((command : CommandContent) → SpellsCommand command bytes.now → ⊥) }
 {
     match bytes {
         [byte] => bare_command(*byte),
-        [0x2b, size, 0x03, id, carried @ .., 0x00] if carried.len() + 3 == *size as usize => {
+        [CLOCK_MESSAGE, size, START, id, carried @ .., END]
+            if carried.len() + 3 == *size as usize => {
             let carried = Payload { bytes: carried };
             Some(Command::ClockMessage(clock_command(*id, carried)))
         }
-        [0x60, size, leds @ ..] if leds.len() == *size as usize => {
+        [LEDS, size, leds @ ..] if leds.len() == *size as usize => {
             Some(Command::Leds(LedBytes { bytes: leds }))
         }
         _ => None,

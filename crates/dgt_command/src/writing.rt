@@ -5,16 +5,18 @@ ghost use Rattle.dgt_values.specs.Bytes.{WritesFront};
 ghost use Rattle.dgt_command.specs.Content.{clock_content, command_content};
 ghost use Rattle.dgt_command.specs.Spelling.{clock_id, command_spelling, SpellsCommand};
 
+use crate::carried::MAX_PAYLOAD;
 use crate::clock::ClockCommand;
-use crate::codes::command_code;
+use crate::codes::{END, START, command_code};
 use crate::command::Command;
+use crate::framer::MAX_WORD;
 use crate::ids::KnownId;
 use dgt_values::NoRoom;
 
 /// How many bytes the command has: 1 to 257.
 pub fn length(command: &Command) -> usize
     ensures length { result ≡ length (command_spelling (command_content command.now)) }
-    ensures limit { result ≤ 257 }
+    ensures limit { result ≤ MAX_WORD }
 {
     match command {
         Command::ClockMessage(message) => payload_length(message) + 5,
@@ -23,11 +25,15 @@ pub fn length(command: &Command) -> usize
     }
 }
 
-/// Writes the command at the front of the slice, and answers how many bytes it has. The bytes behind them stay as
-/// they were. `NoRoom` says that the slice is shorter than the command; then nothing is written.
+/// Writes the command at the front of the slice, and answers how many bytes it has. The bytes
+/// behind them stay as they were. `NoRoom` says that the slice is shorter than the command; then
+/// nothing is written.
 pub fn encode(command: &Command, out: &mut [u8]) -> Result<usize, NoRoom>
-    ensures written { WritesFront (command_spelling (command_content command.now)) out.old out.new result }
-    ensures spells { OnOk result (SpellsCommand (command_content command.now) (command_spelling (command_content command.now))) }
+    ensures written { WritesFront (command_spelling (command_content command.now))
+        out.old out.new result }
+    ensures spells { OnOk result
+        (SpellsCommand (command_content command.now)
+        (command_spelling (command_content command.now))) }
 {
     let need = length(command);
     if out.len() < need {
@@ -58,14 +64,16 @@ fn write(command: &Command, out: &mut [u8])
 // Fills the slice with what follows the code of a clock message.
 fn write_clock(message: &ClockCommand, out: &mut [u8])
     requires { length out.old ≡ length (clock_content message.now).payload + 4 }
-    ensures { out.new ≡ (length (clock_content message.now).payload + 3) ∷ 0x03 ∷ (clock_content message.now).id ∷ ((clock_content message.now).payload ++ 0x00 ∷ []) }
+    ensures { out.new
+        ≡ (length (clock_content message.now).payload + 3) ∷ 0x03 ∷ (clock_content message.now).id
+        ∷ ((clock_content message.now).payload ++ 0x00 ∷ []) }
 {
     let size = payload_length(message);
     let (head, tail) = out.split_at_mut(3);
-    head.copy_from_slice(&[(size + 3) as u8, 0x03, clock_id(message)]);
+    head.copy_from_slice(&[(size + 3) as u8, START, clock_id(message)]);
     let (body, end) = tail.split_at_mut(size);
     write_payload(message, body);
-    end.copy_from_slice(&[0x00]);
+    end.copy_from_slice(&[END]);
 }
 
 /// The id of a clock message, the byte that tells its case.
@@ -88,7 +96,7 @@ pub fn clock_id(message: &ClockCommand) -> u8
 // How many bytes a clock message carries.
 fn payload_length(message: &ClockCommand) -> usize
     ensures exact { result ≡ length (clock_content message.now).payload }
-    ensures short { result ≤ 252 }
+    ensures short { result ≤ MAX_PAYLOAD }
 {
     match message {
         ClockCommand::Display { .. } => 8,

@@ -4,4 +4,5 @@ use Rattle.dgt_command.proofs.TellingLemmas.{spells_its_command}
 use Rattle.dgt_command.proofs.framer.whole_command.Goals as goal
 
 pub returns : goal.returns
-returns c = ap Read (sym (spells_its_command (command_content c.in-Some.command) c.args.word.now c.in-Some.ensures.some))
+returns c =
+    ap Read (sym (spells_its_command (command_content c.in-Some.command) c.args.word.now c.in-Some.ensures.some))

@@ -8,8 +8,10 @@ pub returns-clause-whole : goal.returns-clause-whole
 returns-clause-whole c h =
     let bytes : AreBytes c.args.bytes.now = λ i. omega (arith, c.type_inv.bytes i) in
     let long = leb-true c.length_so_far.result (length c.args.bytes.now) h in
-    whole_last c.args.bytes.now c.length_so_far.result c.requires long (whole_front c.args.bytes.now c.length_so_far.result bytes c.length_so_far.ensures long)
+    whole_last c.args.bytes.now c.length_so_far.result c.requires long
+    (whole_front c.args.bytes.now c.length_so_far.result bytes c.length_so_far.ensures long)
 
 pub returns-clause-partial : goal.returns-clause-partial
 returns-clause-partial c h =
-    partial_front c.args.bytes.now c.length_so_far.result (λ i. omega (arith, c.type_inv.bytes i)) c.length_so_far.ensures (leb-false c.length_so_far.result (length c.args.bytes.now) h)
+    partial_front c.args.bytes.now c.length_so_far.result (λ i. omega (arith, c.type_inv.bytes i))
+    c.length_so_far.ensures (leb-false c.length_so_far.result (length c.args.bytes.now) h)

@@ -9,17 +9,17 @@ use Rattle.dgt_board.proofs.TakingLemmas.{nothing_is_partial, takes_word}
 use Rattle.dgt_board.proofs.boards.Board.take.Goals as goal
 
 pub invariant_of-self-2 : goal.invariant_of-self-2
-invariant_of-self-2 c = rw (c.advance-advanced.ensures.rest, c.in-Some.is) nothing_is_partial
+invariant_of-self-2 c = rw (c.advance-advanced.ensures.held, c.in-Some.is) nothing_is_partial
 
 pub returns : goal.returns
 returns c =
     let bytes = take c.advance-advanced.result.used c.args.piece.now in
     let event = command_event_content c.event-event.result in
     let word : IsWord event (c.args.self.now.partial ++ bytes) =
-    rw (c.event-event.ensures, ← c.self.view_is) (rw c.in-Some.is at c.advance-advanced.ensures.found) in
+    rw (c.event-event.ensures, ← c.self.view_is) (rw c.in-Some.is at c.advance-advanced.ensures.first) in
     let state : state_of c.obey.new.self ≡ effect c.args.self.now.state event =
     rw (← c.self.view_is) c.obey.ensures in
-    let rest : rest_of c.advance-advanced.new.self ≡ [] = rw c.in-Some.is at c.advance-advanced.ensures.rest in
+    let rest : rest_of c.advance-advanced.new.self ≡ [] = rw c.in-Some.is at c.advance-advanced.ensures.held in
     let after : BoardView = record { state = state_of c.obey.new.self; partial = rest_of c.advance-advanced.new.self }
     in
     let both = takes_word c.args.self.now after bytes event word state rest in (
