@@ -16,7 +16,7 @@ nothing_is_partial =
       event = EventContent.Read CommandContent.Dump;
       next = 0x42;
       more = [];
-      word = record { form = (tt, refl); are_bytes = search rules };
+      word = record { form = refl; are_bytes = search rules };
     }
 
 cons_same : (event other : EventContent) (events all : List EventContent) → event ≡ other → all ≡ events → other ∷ all ≡ event ∷ events
@@ -33,9 +33,9 @@ pub anew_divides : Divides follow_bytes (map EventContent.Read commands_anew) []
 anew_divides = (
   0x44 ∷ [],
   0x42 ∷ [],
-  record { form = (tt, refl); are_bytes = search rules },
+  record { form = refl; are_bytes = search rules },
   refl,
-  (0x42 ∷ [], [], record { form = (tt, refl); are_bytes = search rules }, refl, (refl, nothing_is_partial)),
+  (0x42 ∷ [], [], record { form = refl; are_bytes = search rules }, refl, (refl, nothing_is_partial)),
 )
 
 module _ (law : NoWordBeginsAnother) where
