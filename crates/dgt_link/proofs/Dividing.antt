@@ -26,7 +26,7 @@ cons_same event other events all same rest = rw (same, rest) refl
 pub divides_command : DivisionsAppend → (bytes : List ℕ) (events : List EventContent) (command : CommandContent) → Divides bytes events [] → SpellsCommand command (command_spelling command) → Divides (bytes ++ command_spelling command) (events ++ EventContent.Read command ∷ []) []
 divides_command append bytes events command divides spells =
     append bytes (command_spelling command) events (EventContent.Read command ∷ []) [] [] divides
-    (command_spelling command, [], record { form = (spells.is_command, refl); are_bytes = spells.are_bytes }, sym (append-nil (command_spelling command)), (refl, nothing_is_partial))
+    (command_spelling command, [], record { form = refl; are_bytes = spells.are_bytes }, sym (append-nil (command_spelling command)), (refl, nothing_is_partial))
 
 -- what a host asks with that begins anew is what it asks for
 pub anew_divides : Divides follow_bytes (map EventContent.Read commands_anew) []

@@ -186,7 +186,7 @@ one_clock word a b h k =
 
 -- the bytes of a command are no more than 257
 pub length-command : (command : CommandContent) (bytes : List ℕ) → SpellsCommand command bytes → length bytes ≤ 257
-length-command command bytes h = (words_are_short (Read command) bytes (record { form = (h.is_command, h.spelled); are_bytes = h.are_bytes })).1
+length-command command bytes h = (words_are_short (Read command) bytes (record { form = h.spelled; are_bytes = h.are_bytes })).1
 
 -- a word of more than twice 257 digits is no command
 pub command_has_room : (word : List ℕ) (command : CommandContent) → IsCommandWord word command → length word / 2 ≤ 257
