@@ -6,7 +6,7 @@ use Rattle.std.proofs.lemmas.List.{length-take, take-take}
 use Rattle.std.proofs.lemmas.List.Sums.{prefix_len-le-length}
 use Rattle.dgt_decode.specs.Grammar.{IsSevenBit, has_top_bit, events, open_message, announced_total}
 use Rattle.dgt_decode.specs.Feeding.{IsWholeMessage, at_place_if_any, event_found_in}
-use Rattle.dgt_decode.specs.Taking.{IsKept, Begins, FramesFront}
+use Rattle.dgt_decode.specs.Taking.{Begins, FramesFront, IsKept}
 use Rattle.dgt_decode.proofs.Steps.{Gives, first-begins, next-short, next-waits}
 use Rattle.dgt_decode.proofs.Feeds.{first_of_run}
 use Rattle.dgt_decode.proofs.Framing.{after, tells-after}

@@ -9,7 +9,7 @@ use Rattle.dgt_decode.specs.declared.framer.FramerState.{FramerState}
 use Rattle.dgt_decode.specs.declared.framer.FramerState.TheVariants.{Hunting, Head, Body, Whole}
 use Rattle.dgt_decode.specs.Grammar.{IsSevenBit, BadLength, Cut, Stray, at_place, message_event, announced_total, events, open_message}
 use Rattle.dgt_decode.specs.Feeding.{IsWholeMessage, at_place_if_any, event_found_in}
-use Rattle.dgt_decode.specs.Taking.{IsKept, Frames}
+use Rattle.dgt_decode.specs.Taking.{Frames, IsKept}
 use Rattle.dgt_decode.proofs.Verdicts.{announced_total-append}
 use Rattle.dgt_decode.proofs.More.{IsAlone}
 use Rattle.dgt_decode.proofs.Wholes.{whole_open}

@@ -2,11 +2,11 @@
 use Rattle.std.proofs.Common.{◌≡◌, ℕ, ◌+◌, ◌<◌, ◌≤◌, List, [], ◌∷◌, ◌++◌, length, drop, Option, Some, None, refl, sym, ap, subst, ◌∙◌, arith, inl, inr}
 use Rattle.std.proofs.lemmas.List.{append-nil, length-append}
 use Rattle.std.proofs.lemmas.Bool.{le-leb, lt-leb, cases_lt}
-use Rattle.std.proofs.Math.Seq.{take-length, drop-length}
+use Rattle.std.proofs.Math.Seq.{drop-length}
 use Rattle.dgt_decode.specs.Grammar.{IsSevenBit, Cut, BadLength, Stray, Placed, at_place, events_behind, lead, segments, announced_total, message_event, verdict, segment_events, unfinished_part, cut_of, events, open_message}
 use Rattle.dgt_decode.proofs.Places.{events_behind-zero}
 use Rattle.dgt_decode.proofs.Cuts.{lead-append, segments-append}
-use Rattle.dgt_decode.proofs.Verdicts.{verdict-short, verdict-bad, verdict-waits, verdict-whole, whole_event, Stage, short, waits, bad, whole, stage_of, announced_total-append}
+use Rattle.dgt_decode.proofs.Verdicts.{verdict-short, verdict-bad, verdict-waits, verdict-whole, verdict-full, Stage, short, waits, bad, whole, stage_of, announced_total-append}
 use Rattle.dgt_decode.proofs.More.{IsAlone, IsAlone-from, lead-seven, segments-seven}
 use Rattle.dgt_decode.proofs.Open.{IsOpen, nothing, waiting, IsOpen-open, open-of_open, events-of_open, events-alone, open-alone}
 
@@ -122,11 +122,7 @@ pub next-whole : (held run : List ℕ) → IsHeld held → 0 < length held → I
 next-whole held run h some seven long same =
     let gives = next-seven held run h some seven in
     let g = held ++ run in
-    let large : 3 ≤ announced_total g = omega arith in
-    let enough : announced_total g ≤ length g = omega arith in
-    let is : whole_event g ≡ at_place (length g) (message_event g) = rw (same, take-length g) refl in
-    let e : verdict g ≡ Some (at_place (length g) (message_event g)) =
-    verdict-whole g large enough ∙ ap (λ (x : Placed). Some x) is in
+    let e = verdict-full g long same in
     record { told = gives.told ∙ rw (e, drop-length g) refl; leaves = gives.leaves ∙ rw e refl }
 
 -- ---- No byte makes two events

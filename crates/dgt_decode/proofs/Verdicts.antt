@@ -1,6 +1,7 @@
 -- What the verdict of a segment is, by its length and its total.
 use Rattle.std.proofs.Common.{◌≡◌, ℕ, ◌<◌, ◌≤◌, List, ◌++◌, length, take, Option, Some, None, refl, sym, ap, ◌∙◌, inl, inr, arith}
 use Rattle.std.proofs.lemmas.List.{length-append, get_or_append_left, take-append-le}
+use Rattle.std.proofs.Math.Seq.{take-length}
 use Rattle.std.proofs.lemmas.Bool.{lt-ltb, le-ltb, cases_lt}
 use Rattle.dgt_decode.specs.Grammar.{BadLength, Placed, at_place, announced_total, message_event, verdict}
 
@@ -37,6 +38,13 @@ unfolding verdict
 verdict-whole g large h =
     let long : 3 ≤ length g = omega arith in
     rw (le-ltb (length g) 3 long, le-ltb (announced_total g) 3 large, le-ltb (length g) (announced_total g) h) refl
+
+-- just as many bytes
+pub verdict-full : (g : List ℕ) → 3 ≤ length g → announced_total g ≡ length g
+    → verdict g ≡ Some (at_place (length g) (message_event g))
+verdict-full g long same =
+    let is : whole_event g ≡ at_place (length g) (message_event g) = rw (same, take-length g) refl in
+    verdict-whole g (omega (arith, same, long)) (omega (arith, same)) ∙ ap (λ (x : Placed). Some x) is
 
 -- how far a segment has come
 pub data Stage (g : List ℕ) : Type 0 where

@@ -1,10 +1,9 @@
 -- The bytes of one message, and no more.
-use Rattle.std.proofs.Common.{◌≡◌, ◌≤◌, ℕ, List, [], ◌∷◌, length, drop, Some, refl, ap, ◌∙◌, arith}
+use Rattle.std.proofs.Common.{◌≡◌, ◌≤◌, ℕ, List, [], ◌∷◌, length, drop, Some, refl, ◌∙◌, arith}
 use Rattle.std.specs.Prelude.{slice_index}
-use Rattle.std.proofs.Math.Seq.{take-length}
-use Rattle.dgt_decode.specs.Grammar.{Placed, IsSevenBit, at_place, message_event, announced_total, verdict, open_message}
+use Rattle.dgt_decode.specs.Grammar.{IsSevenBit, at_place, message_event, verdict, open_message}
 use Rattle.dgt_decode.specs.Feeding.{IsWholeMessage}
-use Rattle.dgt_decode.proofs.Verdicts.{verdict-whole, whole_event}
+use Rattle.dgt_decode.proofs.Verdicts.{verdict-full}
 use Rattle.dgt_decode.proofs.More.{IsAlone, IsAlone-from}
 use Rattle.dgt_decode.proofs.Open.{open-alone}
 
@@ -20,11 +19,7 @@ IsAlone-whole g w = IsAlone-begin g w.long w.first w.later
 
 -- its message ends at its end
 pub verdict-of_whole : (g : List ℕ) → IsWholeMessage g → verdict g ≡ Some (at_place (length g) (message_event g))
-verdict-of_whole g w =
-    let large : 3 ≤ announced_total g = omega (arith, w.whole, w.long) in
-    let enough : announced_total g ≤ length g = omega (arith, w.whole) in
-    let is : whole_event g ≡ at_place (length g) (message_event g) = rw (w.whole, take-length g) refl in
-    verdict-whole g large enough ∙ ap (λ (x : Placed). Some x) is
+verdict-of_whole g w = verdict-full g w.long w.whole
 
 -- and it leaves nothing open
 pub whole_open : (g : List ℕ) → IsWholeMessage g → open_message g ≡ []
