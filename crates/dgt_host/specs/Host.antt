@@ -13,6 +13,7 @@ use Rattle.dgt_message.specs.Kind.{kind_of}
 use Rattle.dgt_command.specs.Content.CommandContent.{Dump, UpdateBoard}
 use Rattle.dgt_command.specs.Words.{spelling}
 use Rattle.dgt_decode.specs.Grammar.{Event, Message, Placed, events, open_message}
+use Rattle.dgt_host.specs.declared.host.TheConstants.{MAX_AWAITED}
 use Rattle.dgt_host.specs.declared.sending.SendFault.{SendFault}
 use Rattle.dgt_host.specs.declared.sending.SendFault.TheVariants.{TooMany, NoRoom}
 
@@ -108,7 +109,7 @@ HeardInPieces =
 
 -- a reply of this kind is to be awaited, and as many are awaited as can be
 abbrev pub awaits_too_many : HostView → Option Kind → Bool
-awaits_too_many host kind = is_some kind && nat_le 16 (length host.awaited)
+awaits_too_many host kind = is_some kind && nat_le MAX_AWAITED (length host.awaited)
 
 -- the host that awaits one more reply, where there is a kind
 abbrev pub host_awaiting : HostView → Option Kind → HostView
