@@ -13,7 +13,7 @@ nothing_is_partial =
       event = EventContent.Read CommandContent.Dump;
       next = 0x42;
       more = [];
-      word = record { form = refl; are_bytes = search rules };
+      word = record { form = search rules; are_bytes = search rules };
     }
 
 -- bytes that complete a word are taken

@@ -6,6 +6,7 @@ use Rattle.dgt_message.specs.Content.{Content}
 use Rattle.dgt_message.specs.Spelling.{Spells, spelling}
 use Rattle.dgt_command.specs.Content.{EventContent}
 use Rattle.dgt_command.specs.Words.{Divides, IsPartial}
+use Rattle.dgt_board.specs.declared.state.TheConstants.{MAX_OWED}
 use Rattle.dgt_board.specs.declared.sending.Polled.{Polled}
 use Rattle.dgt_board.specs.State.{BoardState, IdentityContent, after_line_lost, effect, effects, new_board}
 use Rattle.dgt_board.specs.Sending.{after_sending}
@@ -27,7 +28,7 @@ view_after_line_lost board = record { state = after_line_lost board.state; parti
 pub record IsBoard (board : BoardView) : Type 0 where
   pub squares : length board.state.squares ≡ 64
   pub told_squares : length board.state.told_squares ≡ 64
-  pub few_owed : length board.state.owed ≤ 8
+  pub few_owed : length board.state.owed ≤ MAX_OWED
   pub partial : IsPartial board.partial
 
 -- the board after bytes of which the last made this event, if one did

@@ -56,7 +56,7 @@ impl Model for Identity {
 fn kept_body(body: Body<'_>) -> Result<ArrayVec<u8, MAX_KEPT_BODY>, TooLong>
     ensures { MatchResult result
         (λ kept. (kept.items ≡ body_bytes body.entry) × IsKeptBody kept.items)
-        (λ _. 64 < length (body_bytes body.entry)) }
+        (λ _. MAX_KEPT_BODY < length (body_bytes body.entry)) }
 {
     let mut kept = ArrayVec::new();
     match kept.try_extend_from_slice(body.bytes()) {
@@ -89,8 +89,9 @@ impl Identity {
           long_serial = body_bytes long_serial.entry;
         }) }
         ensures refused { IsErr result
-            ↔ (64 < length (body_bytes trademark.entry) ⊎ 64 < length (body_bytes battery.entry)
-            ⊎ 64 < length (body_bytes long_serial.entry)) }
+            ↔ (MAX_KEPT_BODY < length (body_bytes trademark.entry)
+            ⊎ MAX_KEPT_BODY < length (body_bytes battery.entry)
+            ⊎ MAX_KEPT_BODY < length (body_bytes long_serial.entry)) }
     {
         Ok(Identity {
             serial,
@@ -111,7 +112,7 @@ impl Identity {
 
     pub(crate) fn trademark(&self) -> Body<'_>
         ensures bytes { body_bytes result ≡ self.now.trademark }
-        ensures short { length self.now.trademark ≤ 64 }
+        ensures short { length self.now.trademark ≤ MAX_KEPT_BODY }
     {
         Body::from_seven_bit(self.trademark.as_slice())
     }
@@ -130,7 +131,7 @@ impl Identity {
 
     pub(crate) fn battery(&self) -> Body<'_>
         ensures bytes { body_bytes result ≡ self.now.battery }
-        ensures short { length self.now.battery ≤ 64 }
+        ensures short { length self.now.battery ≤ MAX_KEPT_BODY }
     {
         Body::from_seven_bit(self.battery.as_slice())
     }
@@ -143,7 +144,7 @@ impl Identity {
 
     pub(crate) fn long_serial(&self) -> Body<'_>
         ensures bytes { body_bytes result ≡ self.now.long_serial }
-        ensures short { length self.now.long_serial ≤ 64 }
+        ensures short { length self.now.long_serial ≤ MAX_KEPT_BODY }
     {
         Body::from_seven_bit(self.long_serial.as_slice())
     }

@@ -3,8 +3,8 @@
 //! A [`Board`] keeps what stands on its squares, what its clock shows, what it has told of both,
 //! its [`Mode`], and the replies that it owes, at most [`MAX_OWED`]. What happens on the table is
 //! handed to it by `change` and `hand_clock`, and what the host sends by `take`, in any pieces.
-//! `poll` writes one message a call, of at most [`MAX_SENT`] bytes: the owed replies in their order,
-//! then the squares that differ from what was told, then the clock. Where the line breaks,
+//! `poll` writes one message a call, of at most [`MAX_SENT`] bytes: the owed replies in their
+//! order, then the squares that differ from what was told, then the clock. Where the line breaks,
 //! `line_lost` makes the board forget all that was said on it. No call takes memory, waits or fails
 //! for good.
 //!

@@ -11,7 +11,7 @@ ghost use Rattle.dgt_board.specs.Kept.{due_message};
 
 use crate::modes::Mode;
 use crate::replies::Reply;
-use crate::state::State;
+use crate::state::{MAX_OWED, State};
 use dgt_message::{Clock, ClockAck, Message, encode, encode_field};
 use dgt_values::{Kind, NoRoom, SevenBit, Square};
 
@@ -71,7 +71,7 @@ fn zero() -> SevenBit
 impl State {
     ghost use Rattle.dgt_board.specs.Kept.{state_of};
 
-    // The first square that differs from what the host was told.
+    // The first square that differs from what was told.
     fn differing_square(&self) -> Option<Square>
         ensures { slice_get (filter (differs (state_of self.now)) every_square) 0
             ≡ option_map square_number result }
@@ -99,7 +99,7 @@ impl State {
     pub fn due(&self) -> Option<Due>
         ensures next { next_message (state_of self.now)
             ≡ option_map (due_message (state_of self.now)) result }
-        ensures few_owed { length (state_of self.now).owed ≤ 8 }
+        ensures few_owed { length (state_of self.now).owed ≤ MAX_OWED }
     {
         if let Some(reply) = self.owed.as_slice().first() {
             return Some(Due::Reply(*reply));
@@ -149,7 +149,7 @@ impl State {
     // where it is made: one that is first brought together with the others is copied as long as a
     // dump is.
     fn write(&self, due: Due, out: &mut [u8]) -> Result<usize, NoRoom>
-        ensures wrote { let message = due_message (state_of self.now) due in
+        ensures written { let message = due_message (state_of self.now) due in
             WritesFront (spelling message) out.old out.new result }
         ensures spells { let message = due_message (state_of self.now) due in
             Spells message (spelling message) }
@@ -218,7 +218,7 @@ impl State {
         ensures falls { (count : ℕ) → result ≡ Polled.Wrote count
             → left_to_send (state_of self.new) < left_to_send (state_of self.old) }
         ensures room { (need : ℕ) → result ≡ Polled.NeedRoom need → length out.old < MAX_SENT }
-        ensures few_owed { length (state_of self.old).owed ≤ 8 }
+        ensures few_owed { length (state_of self.old).owed ≤ MAX_OWED }
         ensures nothing { (result ≡ Polled.Nothing) ↔ (left_to_send (state_of self.old) ≡ 0) }
     {
         let Some(due) = self.due() else {

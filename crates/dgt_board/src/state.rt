@@ -24,9 +24,9 @@ pub struct State {
     pub squares: Position,
     pub clock: Clock,
     pub mode: Mode,
-    /// The squares as the host was told them.
+    /// The squares as the board has told them.
     pub told_squares: Position,
-    /// The clock as the host was told it.
+    /// The clock as it has told it.
     pub told_clock: Option<Clock>,
     /// Whether the clock is to be told.
     pub times_owed: bool,
@@ -62,7 +62,7 @@ impl State {
         self.squares.set(square, piece);
     }
 
-    // Whether a clock differs from what the host was told.
+    // Whether a clock differs from what was told.
     fn is_news(&self, clock: Clock) -> bool
         ensures { result ≡ not (is_told (state_of self.now).told_clock (clock_seen clock)) }
     {

@@ -12,6 +12,7 @@ use Rattle.dgt_message.specs.Clock.{ClockState}
 use Rattle.dgt_command.specs.Content.CommandContent.{Dump, UpdateBoard}
 use Rattle.dgt_command.specs.Spelling.{command_spelling}
 use Rattle.dgt_decode.specs.Grammar.{Event, Message, Placed, events, open_message}
+use Rattle.dgt_host.specs.declared.host.TheConstants.{MAX_AWAITED}
 use Rattle.dgt_host.specs.declared.sending.SendFault.{SendFault}
 use Rattle.dgt_host.specs.declared.sending.SendFault.TheVariants.{TooMany, NoRoom}
 
@@ -107,7 +108,7 @@ HeardInPieces =
 
 -- a reply of this kind is to be awaited, and as many are awaited as can be
 abbrev pub awaits_too_many : HostView → Option Kind → Bool
-awaits_too_many host kind = is_some kind && nat_le 16 (length host.awaited)
+awaits_too_many host kind = is_some kind && nat_le MAX_AWAITED (length host.awaited)
 
 -- the host that awaits one more reply, where there is a kind
 abbrev pub host_awaiting : HostView → Option Kind → HostView

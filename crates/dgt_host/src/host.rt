@@ -119,7 +119,7 @@ impl Host {
 
     // Writes so many bytes `00`, and then what asks for the updates and the whole of the board.
     fn ask_for_dump(&mut self, zeros: usize, out: &mut [u8]) -> Result<usize, SendFault>
-        requires { zeros ≤ 255 }
+        requires { zeros ≤ SETTLING_ZEROS }
         ensures { let bytes = replicate zeros 0 ++ follow_bytes in
             Sends (record { kind = Some Kind.Dump; bytes = bytes })
             self.old self.new out.old out.new result }
