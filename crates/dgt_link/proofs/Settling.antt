@@ -33,7 +33,7 @@ use Rattle.dgt_link.proofs.Lists.{Contains-cons, all_append, nothing_contained, 
 use Rattle.dgt_link.proofs.Hearing.{Reads, held_alone, nothing_open}
 use Rattle.dgt_link.proofs.Resting.{quiet_state, world_awaits_nothing, world_clock_told, world_picture, world_picture_told}
 use Rattle.dgt_link.proofs.Running.{run-push}
-use Rattle.dgt_link.proofs.Taking.{effect_leaves}
+use Rattle.dgt_link.proofs.Taking.{HasSameGame, effects_same_game}
 
 -- ---- each event has a byte of its own
 
@@ -64,44 +64,32 @@ module _ (short : WordsAreShort) (within : NoWordBeginsAnother) where
 
 -- ---- what a step towards rest keeps and uses up
 
-pub record Kept (world after : WorldView) : Type 0 where
-  pub squares : after.board.state.squares ≡ world.board.state.squares
-  pub clock : after.board.state.clock ≡ world.board.state.clock
+becomes_same : (act : ActContent) (world after : WorldView) → IsSettling act → Becomes act world after → HasSameGame world.board.state after.board.state
+becomes_same ActContent.BoardSend world after is (message, is_next, spells, same) = rw same (record { squares = refl; clock = refl })
+becomes_same (ActContent.ToBoard count) world after is delivers =
+    rw (delivers.leaves, delivers.taken.state) (effects_same_game world.board.state delivers.taken.events)
+becomes_same (ActContent.ToHost count) world after is same = rw same (record { squares = refl; clock = refl })
+becomes_same (ActContent.Change square piece) world after none same = absurd none
+becomes_same (ActContent.ClockRead clock) world after none same = absurd none
+becomes_same (ActContent.Host command) world after none same = absurd none
+becomes_same ActContent.Break world after none same = absurd none
+becomes_same ActContent.HostBreak world after none same = absurd none
 
-effects_keep : (board : BoardState) (events : List EventContent) → ((effects board events).squares ≡ board.squares) × ((effects board events).clock ≡ board.clock)
-effects_keep board [] = (refl, refl)
-effects_keep board (event ∷ events) =
-    let first = effect_leaves board event in
-    let rest = effects_keep (effect board event) events in
-    (rest.0 ∙ first.squares, rest.1 ∙ first.clock)
+step_same : (act : ActContent) (world after : WorldView) (answer : Outcome) → IsSettling act → Step act world answer after → HasSameGame world.board.state after.board.state
+step_same act world after Outcome.Done is step = becomes_same act world after is step.leaves
+step_same act world after Outcome.Nothing is step = rw step.leaves (record { squares = refl; clock = refl })
+step_same act world after Outcome.NoRoom is step = rw step.leaves (record { squares = refl; clock = refl })
+step_same act world after Outcome.Busy is step = rw step.leaves (record { squares = refl; clock = refl })
+step_same act world after Outcome.TooMany is step = rw step.leaves (record { squares = refl; clock = refl })
 
-becomes_kept : (act : ActContent) (world after : WorldView) → IsSettling act → Becomes act world after → Kept world after
-becomes_kept ActContent.BoardSend world after is (message, is_next, spells, same) = rw same (record { squares = refl; clock = refl })
-becomes_kept (ActContent.ToBoard count) world after is delivers =
-    let kept = effects_keep world.board.state delivers.taken.events in
-    rw (delivers.leaves, delivers.taken.state) (record { squares = kept.0; clock = kept.1 })
-becomes_kept (ActContent.ToHost count) world after is same = rw same (record { squares = refl; clock = refl })
-becomes_kept (ActContent.Change square piece) world after none same = absurd none
-becomes_kept (ActContent.ClockRead clock) world after none same = absurd none
-becomes_kept (ActContent.Host command) world after none same = absurd none
-becomes_kept ActContent.Break world after none same = absurd none
-becomes_kept ActContent.HostBreak world after none same = absurd none
-
-step_kept : (act : ActContent) (world after : WorldView) (answer : Outcome) → IsSettling act → Step act world answer after → Kept world after
-step_kept act world after Outcome.Done is step = becomes_kept act world after is step.leaves
-step_kept act world after Outcome.Nothing is step = rw step.leaves (record { squares = refl; clock = refl })
-step_kept act world after Outcome.NoRoom is step = rw step.leaves (record { squares = refl; clock = refl })
-step_kept act world after Outcome.Busy is step = rw step.leaves (record { squares = refl; clock = refl })
-step_kept act world after Outcome.TooMany is step = rw step.leaves (record { squares = refl; clock = refl })
-
-pub run_kept : (acts : List ActContent) (world after : WorldView) (answers : List Outcome) → AllByRecursion IsSettling acts → Runs acts world answers after → Kept world after
-run_kept [] world after [] all same = rw same (record { squares = refl; clock = refl })
-run_kept (act ∷ acts) world after (answer ∷ answers) all (between, step, runs) =
-    let first = step_kept act world between answer all.0 step in
-    let rest = run_kept acts between after answers all.1 runs in
+pub run_same : (acts : List ActContent) (world after : WorldView) (answers : List Outcome) → AllByRecursion IsSettling acts → Runs acts world answers after → HasSameGame world.board.state after.board.state
+run_same [] world after [] all same = rw same (record { squares = refl; clock = refl })
+run_same (act ∷ acts) world after (answer ∷ answers) all (between, step, runs) =
+    let first = step_same act world between answer all.0 step in
+    let rest = run_same acts between after answers all.1 runs in
     record { squares = rest.squares ∙ first.squares; clock = rest.clock ∙ first.clock }
-run_kept [] world after (answer ∷ answers) all none = absurd none
-run_kept (act ∷ acts) world after [] all none = absurd none
+run_same [] world after (answer ∷ answers) all none = absurd none
+run_same (act ∷ acts) world after [] all none = absurd none
 
 settling_mode : (before : Mode) (act : ActContent) (answer : Outcome) → IsSettling act → mode_after before (act_requests answer act) ≡ before
 settling_mode before ActContent.BoardSend Outcome.Done is = refl
@@ -288,8 +276,8 @@ settled_more old now new done settled (act, is, step, less) =
       run = rw (← replicate_more done Outcome.Done) (run-push settled.acts (replicate done Outcome.Done) act Outcome.Done old now new settled.run step);
     }
 
-pub settled_kept : (count : ℕ) (old new : WorldView) → SettlesIn count old new → Kept old new
-settled_kept count old new settled = run_kept settled.acts old new (replicate count Outcome.Done) settled.settling settled.run
+pub settled_kept : (count : ℕ) (old new : WorldView) → SettlesIn count old new → HasSameGame old.board.state new.board.state
+settled_kept count old new settled = run_same settled.acts old new (replicate count Outcome.Done) settled.settling settled.run
 
 module _ (moves : (act : ActContent) (world after : WorldView) (answer : Outcome) (x : MachineState) → StandsFor world x → Step act world answer after → StandsAfterStep act answer x after)
     (mode : (act : ActContent) (world after : WorldView) (answer : Outcome) (x y : MachineState) → StandsFor world x → Step act world answer after → StandsFor after y → coming_mode y ≡ mode_after (coming_mode x) (act_requests answer act))

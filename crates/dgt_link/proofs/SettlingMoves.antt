@@ -23,7 +23,7 @@ use Rattle.dgt_link.proofs.Resting.{nothing_first}
 use Rattle.dgt_link.proofs.Runs.{moves_sound}
 use Rattle.dgt_link.proofs.Sending.{next_is_sent}
 use Rattle.dgt_link.proofs.Soundness.{move_sound}
-use Rattle.dgt_link.proofs.Taking.{effect_leaves}
+use Rattle.dgt_link.proofs.Taking.{HasSameGame, effect_leaves, same_game}
 
 sending_settles : (move : Move) → IsSending move → IsSettlingMove move
 sending_settles Move.Reply is = tt
@@ -98,41 +98,33 @@ module _ (falls : (board : BoardState) (message : Content) → length board.told
 
 -- ---- what such moves keep
 
--- the squares, the clock and the mode to come
-pub record KeepsAll (x y : MachineState) : Type 0 where
-  pub squares : y.board.squares ≡ x.board.squares
-  pub clock : y.board.clock ≡ x.board.clock
+take_same_game : (x : MachineState) (events : List EventContent) → HasSameGame x.board (after_take x events).board
+take_same_game x [] = same_game x.board
+take_same_game x (event ∷ later) = let kept = effect_leaves x.board event in record { squares = kept.squares; clock = kept.clock }
 
-same_all : (x : MachineState) → KeepsAll x x
-same_all x = record { squares = refl; clock = refl }
+reply_same_game : (x : MachineState) (replies : List Reply) → HasSameGame x.board (after_reply x replies).board
+reply_same_game x [] = same_game x.board
+reply_same_game x (reply ∷ later) = record { squares = refl; clock = refl }
 
-take_keeps_all : (x : MachineState) (events : List EventContent) → KeepsAll x (after_take x events)
-take_keeps_all x [] = same_all x
-take_keeps_all x (event ∷ later) = let kept = effect_leaves x.board event in record { squares = kept.squares; clock = kept.clock }
+hear_same_game : (x : MachineState) (messages : List Content) → HasSameGame x.board (after_hear x messages).board
+hear_same_game x [] = same_game x.board
+hear_same_game x (message ∷ later) = record { squares = refl; clock = refl }
 
-reply_keeps_all : (x : MachineState) (replies : List Reply) → KeepsAll x (after_reply x replies)
-reply_keeps_all x [] = same_all x
-reply_keeps_all x (reply ∷ later) = record { squares = refl; clock = refl }
+told_same_game : (x : MachineState) (asks : Bool) (message : Content) → HasSameGame x.board (cond asks (after_told x message) x).board
+told_same_game x true message = record { squares = refl; clock = refl }
+told_same_game x false message = same_game x.board
 
-hear_keeps_all : (x : MachineState) (messages : List Content) → KeepsAll x (after_hear x messages)
-hear_keeps_all x [] = same_all x
-hear_keeps_all x (message ∷ later) = record { squares = refl; clock = refl }
-
-told_keeps_all : (x : MachineState) (asks : Bool) (message : Content) → KeepsAll x (cond asks (after_told x message) x)
-told_keeps_all x true message = record { squares = refl; clock = refl }
-told_keeps_all x false message = same_all x
-
-move_keeps_all : (x : MachineState) (move : Move) → IsSettlingMove move → KeepsAll x (after_move x move)
-move_keeps_all x Move.Take is = take_keeps_all x x.down
-move_keeps_all x Move.Reply is = reply_keeps_all x x.board.owed
-move_keeps_all x (Move.Tell square) is = told_keeps_all x (updates x.board.mode && differs x.board square) (field_of x.board square)
-move_keeps_all x Move.TellClock is = told_keeps_all x x.board.times_owed (clock_message x.board.clock)
-move_keeps_all x Move.Hear is = hear_keeps_all x x.up
-move_keeps_all x Move.Break none = absurd none
-move_keeps_all x (Move.HostBreak noise is_noise) none = absurd none
-move_keeps_all x (Move.Change square piece) none = absurd none
-move_keeps_all x (Move.HandClock clock) none = absurd none
-move_keeps_all x (Move.Ask command) none = absurd none
+move_same_game : (x : MachineState) (move : Move) → IsSettlingMove move → HasSameGame x.board (after_move x move).board
+move_same_game x Move.Take is = take_same_game x x.down
+move_same_game x Move.Reply is = reply_same_game x x.board.owed
+move_same_game x (Move.Tell square) is = told_same_game x (updates x.board.mode && differs x.board square) (field_of x.board square)
+move_same_game x Move.TellClock is = told_same_game x x.board.times_owed (clock_message x.board.clock)
+move_same_game x Move.Hear is = hear_same_game x x.up
+move_same_game x Move.Break none = absurd none
+move_same_game x (Move.HostBreak noise is_noise) none = absurd none
+move_same_game x (Move.Change square piece) none = absurd none
+move_same_game x (Move.HandClock clock) none = absurd none
+move_same_game x (Move.Ask command) none = absurd none
 
 settling_keeps_mode : (before : Mode) (move : Move) → IsSettlingMove move → mode_after before (requests move) ≡ before
 settling_keeps_mode before Move.Take is = refl
@@ -160,11 +152,11 @@ settling_breaks_nothing (Move.Ask command) none e = none
 
 pub settling_squares : (x : MachineState) (moves : List Move) → AllByRecursion IsSettlingMove moves → (after_moves x moves).board.squares ≡ x.board.squares
 settling_squares x [] all = refl
-settling_squares x (move ∷ moves) all = settling_squares (after_move x move) moves all.1 ∙ (move_keeps_all x move all.0).squares
+settling_squares x (move ∷ moves) all = settling_squares (after_move x move) moves all.1 ∙ (move_same_game x move all.0).squares
 
 pub settling_clock : (x : MachineState) (moves : List Move) → AllByRecursion IsSettlingMove moves → (after_moves x moves).board.clock ≡ x.board.clock
 settling_clock x [] all = refl
-settling_clock x (move ∷ moves) all = settling_clock (after_move x move) moves all.1 ∙ (move_keeps_all x move all.0).clock
+settling_clock x (move ∷ moves) all = settling_clock (after_move x move) moves all.1 ∙ (move_same_game x move all.0).clock
 
 pub settling_mode : (x : MachineState) (moves : List Move) → AllByRecursion IsSettlingMove moves → coming_mode (after_moves x moves) ≡ coming_mode x
 settling_mode x [] all = refl

@@ -12,7 +12,7 @@ use Rattle.dgt_command.specs.Kind.{kind_of_command}
 use Rattle.dgt_command.specs.Words.{IsNoise, IsNoiseList}
 use Rattle.dgt_board.specs.Identity.{IdentityContent}
 use Rattle.dgt_board.specs.State.{BoardState, follows_clock}
-use Rattle.dgt_board.specs.Effect.{acknowledgements, after_command, effect, replies_to}
+use Rattle.dgt_board.specs.Effect.{acknowledgements, after_command, effect, effects, replies_to}
 use Rattle.dgt_link.specs.Sound.{kind_of_event, kind_of_reply}
 use Rattle.dgt_link.proofs.Telling.{owed_or_told}
 
@@ -70,6 +70,21 @@ effect_leaves board EventContent.BadSize = record { squares = refl; clock = refl
 effect_leaves board EventContent.BadStart = record { squares = refl; clock = refl; told_squares = refl; told_clock = refl }
 effect_leaves board EventContent.BadEnd = record { squares = refl; clock = refl; told_squares = refl; told_clock = refl }
 effect_leaves board (EventContent.Stray byte) = record { squares = refl; clock = refl; told_squares = refl; told_clock = refl }
+
+-- the same squares, and the same clock
+pub record HasSameGame (before after : BoardState) : Type 0 where
+  pub squares : after.squares ≡ before.squares
+  pub clock : after.clock ≡ before.clock
+
+pub same_game : (board : BoardState) → HasSameGame board board
+same_game board = record { squares = refl; clock = refl }
+
+pub effects_same_game : (board : BoardState) (events : List EventContent) → HasSameGame board (effects board events)
+effects_same_game board [] = same_game board
+effects_same_game board (event ∷ events) =
+    let first = effect_leaves board event in
+    let rest = effects_same_game (effect board event) events in
+    record { squares = rest.squares ∙ first.squares; clock = rest.clock ∙ first.clock }
 
 -- ---- noise
 
