@@ -225,7 +225,8 @@ pub fn promise_by_acts()
         → StandsFor after y → PictureIsComing y }
     ensures kept { (act : ActContent) (world after : WorldView) (answer : Outcome)
         (x y : MachineState) → act ≢ ActContent.Break
-        → StandsFor world x → Step act world answer after → StandsFor after y → PictureIsComing x → PictureIsComing y }
+        → StandsFor world x → Step act world answer after → StandsFor after y
+        → PictureIsComing x → PictureIsComing y }
     ensures ended { (world after : WorldView) (answer : Outcome) (x y : MachineState) →
         StandsFor world x → Step ActContent.Break world answer after
         → StandsFor after y → ¬ (PictureIsComing y) }
