@@ -14,10 +14,12 @@ use Rattle.dgt_link.specs.Sound.{IsExact, kind_of_event, kind_of_reply}
 no_kinds : (messages : List Content) → All (λ other. kind_of other ≡ None) messages → filter_map kind_of messages ≡ []
 no_kinds [] none = refl
 no_kinds (message ∷ messages) none =
-    ap (λ (kind : Option Kind). cons_option kind (filter_map kind_of messages)) (All-head (λ other. kind_of other ≡ None) message messages none)
+    ap (λ (kind : Option Kind). cons_option kind (filter_map kind_of messages))
+    (All-head (λ other. kind_of other ≡ None) message messages none)
     ∙ no_kinds messages (All-tail (λ other. kind_of other ≡ None) message messages none)
 
-first_kinds : (before later : List Content) (message : Content) (kind : Kind) → All (λ other. kind_of other ≡ None) before → kind_of message ≡ Some kind
+first_kinds : (before later : List Content) (message : Content) (kind : Kind)
+    → All (λ other. kind_of other ≡ None) before → kind_of message ≡ Some kind
     → filter_map kind_of (before ++ message ∷ later) ≡ kind ∷ filter_map kind_of later
 first_kinds before later message kind none is =
     filter_map-append kind_of before (message ∷ later)
@@ -29,11 +31,13 @@ pub first_answer : (x : MachineState) (before later : List Content) (message : C
     → (others : List Kind) × (x.awaited ≡ kind ∷ others)
 first_answer x before later message kind exact e none is = (
   filter_map kind_of later ++ (filter_map kind_of_reply x.board.owed ++ filter_map kind_of_event x.down),
-  exact.awaited ∙ ap (λ (kinds : List Kind). kinds ++ (filter_map kind_of_reply x.board.owed ++ filter_map kind_of_event x.down))
+  exact.awaited ∙ ap (λ (kinds : List Kind). kinds ++
+      (filter_map kind_of_reply x.board.owed ++ filter_map kind_of_event x.down))
       (ap (filter_map kind_of) e ∙ first_kinds before later message kind none is),
 )
 
 pub never_unasked : (x : MachineState) (later : List Content) (message : Content) → IsExact x → x.up ≡ message ∷ later
     → ¬ (IsUnasked x.awaited (Some (Event.Message message)))
 never_unasked x later message exact e (kind, is, other) =
-    other (ap (λ (kinds : List Kind). slice_get kinds 0) (first_answer x [] later message kind exact e (All-nil (λ other. kind_of other ≡ None)) is).1)
+    other (ap (λ (kinds : List Kind). slice_get kinds 0)
+    (first_answer x [] later message kind exact e (All-nil (λ other. kind_of other ≡ None)) is).1)

@@ -8,7 +8,8 @@ use Rattle.dgt_link.specs.Act.{ActContent}
 use Rattle.dgt_link.specs.declared.acts.Outcome.{Outcome}
 use Rattle.dgt_link.specs.Stands.{AreMovesOfAct, AreMovesOfRun, AreMovesOfStep}
 use Rattle.dgt_link.specs.Machine.{IsHostBreak, IsSending, MachineState, Move, after_move, after_moves}
-use Rattle.dgt_link.specs.Promise.{IsAskedBy, IsPromised, IsRestarted, PictureIsComing, act_requests, coming_mode, mode_after, requests, run_requests}
+use Rattle.dgt_link.specs.Promise.{IsAskedBy, IsPromised, IsRestarted, PictureIsComing, act_requests, coming_mode}
+use Rattle.dgt_link.specs.Promise.{mode_after, requests, run_requests}
 use Rattle.dgt_link.proofs.Lists.{all_append, all_replicate}
 use Rattle.dgt_link.proofs.Promises.{anew_is_promised, dump_asked, picture_keeps_coming}
 use Rattle.dgt_link.proofs.Runs.{moves-mode, moves_promise}
@@ -48,11 +49,18 @@ requests-step act Outcome.NoRoom moves e = rw e refl
 requests-step act Outcome.Busy moves e = rw e refl
 requests-step act Outcome.TooMany moves e = rw e refl
 
-requests-run : (acts : List ActContent) (outcomes : List Outcome) (moves : List Move) → AreMovesOfRun acts outcomes moves
+requests-run : (acts : List ActContent) (outcomes : List Outcome) (moves : List Move)
+    → AreMovesOfRun acts outcomes moves
     → flat_map requests moves ≡ run_requests acts outcomes
 requests-run [] [] moves e = rw e refl
 requests-run (act ∷ acts) (outcome ∷ outcomes) moves (first, later, are, follow, e) =
-    rw (e, flat_map-append requests first later, requests-step act outcome first are, requests-run acts outcomes later follow)
+    rw (
+      e,
+      flat_map-append requests first later,
+      requests-step act outcome first are,
+      requests-run acts outcomes later
+          follow,
+    )
     refl
 requests-run [] (outcome ∷ outcomes) moves none = absurd none
 requests-run (act ∷ acts) [] moves none = absurd none
@@ -63,10 +71,12 @@ pub run_promises : (x : MachineState) (acts : List ActContent) (outcomes : List 
 run_promises x acts outcomes moves are asked = moves_promise x moves (rw (requests-run acts outcomes moves are) asked)
 
 pub mode-step : (x : MachineState) (act : ActContent) (outcome : Outcome) (moves : List Move)
-    → AreMovesOfStep act outcome moves → coming_mode (after_moves x moves) ≡ mode_after (coming_mode x) (act_requests outcome act)
+    → AreMovesOfStep act outcome moves → coming_mode (after_moves x moves) ≡ mode_after (coming_mode x)
+    (act_requests outcome act)
 mode-step x act outcome moves are =
     moves-mode x moves
-    ∙ ap (λ (asked : List (Option CommandContent)). mode_after (coming_mode x) asked) (requests-step act outcome moves are)
+    ∙ ap (λ (asked : List (Option CommandContent)). mode_after (coming_mode x) asked)
+    (requests-step act outcome moves are)
 
 -- ---- a dump is asked for, or all begins anew
 
@@ -104,8 +114,10 @@ act_is_no_break (ActContent.ClockRead clock) moves other e = rw e (λ f. cc, tt)
 act_is_no_break (ActContent.Host command) moves other e = rw e (λ f. cc, tt)
 act_is_no_break ActContent.BoardSend moves other (move, sending, e) =
     rw e (sending_is_none (λ move. move ≢ Move.Break) (λ f. cc) (λ square f. cc) (λ f. cc) move sending, tt)
-act_is_no_break (ActContent.ToBoard bytes) moves other (count, e) = rw e (all_replicate (λ move. move ≢ Move.Break) count Move.Take (λ f. cc))
-act_is_no_break (ActContent.ToHost bytes) moves other (count, e) = rw e (all_replicate (λ move. move ≢ Move.Break) count Move.Hear (λ f. cc))
+act_is_no_break (ActContent.ToBoard bytes) moves other (count, e) =
+    rw e (all_replicate (λ move. move ≢ Move.Break) count Move.Take (λ f. cc))
+act_is_no_break (ActContent.ToHost bytes) moves other (count, e) =
+    rw e (all_replicate (λ move. move ≢ Move.Break) count Move.Hear (λ f. cc))
 act_is_no_break ActContent.Break moves other e = absurd (other refl)
 act_is_no_break ActContent.HostBreak moves other (noise, is_noise, e) = rw e (λ f. cc, tt)
 
@@ -116,8 +128,10 @@ act_is_other (ActContent.ClockRead clock) moves other e = rw e (λ is. is, tt)
 act_is_other (ActContent.Host command) moves other e = rw e (λ is. is, tt)
 act_is_other ActContent.BoardSend moves other (move, sending, e) =
     rw e (sending_is_none (λ move. ¬ (IsHostBreak move)) (λ is. is) (λ square is. is) (λ is. is) move sending, tt)
-act_is_other (ActContent.ToBoard bytes) moves other (count, e) = rw e (all_replicate (λ move. ¬ (IsHostBreak move)) count Move.Take (λ is. is))
-act_is_other (ActContent.ToHost bytes) moves other (count, e) = rw e (all_replicate (λ move. ¬ (IsHostBreak move)) count Move.Hear (λ is. is))
+act_is_other (ActContent.ToBoard bytes) moves other (count, e) =
+    rw e (all_replicate (λ move. ¬ (IsHostBreak move)) count Move.Take (λ is. is))
+act_is_other (ActContent.ToHost bytes) moves other (count, e) =
+    rw e (all_replicate (λ move. ¬ (IsHostBreak move)) count Move.Hear (λ is. is))
 act_is_other ActContent.Break moves other e = rw e (λ is. is, tt)
 act_is_other ActContent.HostBreak moves other e = absurd (other refl)
 
@@ -135,7 +149,8 @@ pub run_is_other : (acts : List ActContent) (outcomes : List Outcome) (moves : L
 run_is_other [] [] moves none e = rw e tt
 run_is_other (act ∷ acts) (outcome ∷ outcomes) moves none (first, later, are, follow, e) =
     rw e
-    (all_append (λ move. ¬ (IsHostBreak move)) first later (step_is_other act outcome first (λ is. none (0, omega arith, is)) are)
+    (all_append (λ move. ¬ (IsHostBreak move)) first later
+    (step_is_other act outcome first (λ is. none (0, omega arith, is)) are)
     (run_is_other acts outcomes later (λ has. none (suc has.0, omega (arith, has.1), has.2)) follow))
 run_is_other [] (outcome ∷ outcomes) moves none are = absurd are
 run_is_other (act ∷ acts) [] moves none are = absurd are
@@ -149,7 +164,8 @@ moves_keep_coming x (move ∷ moves) others coming =
     moves_keep_coming (after_move x move) moves others.1 (picture_keeps_coming x move others.0 coming)
 
 pub step_keeps_coming : (x : MachineState) (act : ActContent) (outcome : Outcome) (moves : List Move)
-    → act ≢ ActContent.Break → AreMovesOfStep act outcome moves → PictureIsComing x → PictureIsComing (after_moves x moves)
+    → act ≢ ActContent.Break → AreMovesOfStep act outcome moves → PictureIsComing x → PictureIsComing
+    (after_moves x moves)
 step_keeps_coming x act Outcome.Done moves other are coming =
     moves_keep_coming x moves (act_is_no_break act moves other are) coming
 step_keeps_coming x act Outcome.Nothing moves other e coming = rw e coming

@@ -41,7 +41,8 @@ module _ (answer : Outcome) (line left : LineContents) (world : WorldView) where
   pub next_step : (board after : BoardView) → answer ≡ sending_outcome (next_message board.state) line
       → IfDone answer
       ((message : Content) × (next_message board.state ≡ Some message) × Spells message (spelling message)
-      × (after ≡ record board { state = after_sending board.state message }) × (left ≡ with_bytes line (spelling message)))
+      × (after ≡ record board { state = after_sending board.state message }) ×
+      (left ≡ with_bytes line (spelling message)))
       ((after ≡ board) × (left ≡ line))
       → Step ActContent.BoardSend (record world { board = board; up = line }) answer
       (record world { board = after; up = left })
@@ -49,7 +50,8 @@ module _ (answer : Outcome) (line left : LineContents) (world : WorldView) where
       record {
         answers = answers;
         leaves =
-            if_done answer (λ done. (done.0, done.1, done.2, rw (done.3, done.4) refl)) (λ kept. rw (kept.0, kept.1) refl)
+            if_done answer (λ done. (done.0, done.1, done.2, rw (done.3, done.4) refl))
+            (λ kept. rw (kept.0, kept.1) refl)
             leaves;
       }
 

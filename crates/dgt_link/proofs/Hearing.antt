@@ -45,21 +45,27 @@ tail_same x y xs ys h = cc
 
 module _ (reads : Reads) where
   -- a message alone
-  read_alone : (message : Content) → IsMessage message → events (spelling message) ≡ at_place (0 + length (spelling message)) (Message message) ∷ []
+  read_alone : (message : Content) → IsMessage message
+      → events (spelling message) ≡ at_place (0 + length (spelling message)) (Message message) ∷ []
   read_alone message is = rw (no_events, nothing_open) at (reads.spelling [] message is).0
 
   pub held_alone : (message : Content) → IsMessage message → open_message (spelling message) ≡ []
   held_alone message is = (reads.spelling [] message is).1
 
   -- behind bytes that made an event, the rest of a message makes none
-  nothing_more : (front rest : List ℕ) (x y : Placed) (xs : List Placed) → events front ≡ x ∷ xs → events (front ++ rest) ≡ y ∷ [] → events (open_message front ++ rest) ≡ []
+  nothing_more : (front rest : List ℕ) (x y : Placed) (xs : List Placed) → events front ≡ x ∷ xs
+      → events (front ++ rest) ≡ y ∷ [] → events (open_message front ++ rest) ≡ []
   nothing_more front rest x y xs e whole =
-      let behind : List Placed = events_behind (length front - length (open_message front)) (events (open_message front ++ rest)) in
-      let all : x ∷ (xs ++ behind) ≡ y ∷ [] = ap (λ (es : List Placed). es ++ behind) (sym e) ∙ sym (reads.append front rest) ∙ whole in
-      nothing_behind (length front - length (open_message front)) (events (open_message front ++ rest)) (right_empty xs behind (tail_same x y (xs ++ behind) [] all))
+      let behind : List Placed
+      = events_behind (length front - length (open_message front)) (events (open_message front ++ rest)) in
+      let all : x ∷ (xs ++ behind) ≡ y ∷ []
+      = ap (λ (es : List Placed). es ++ behind) (sym e) ∙ sym (reads.append front rest) ∙ whole in
+      nothing_behind (length front - length (open_message front)) (events (open_message front ++ rest))
+      (right_empty xs behind (tail_same x y (xs ++ behind) [] all))
 
   -- a part of a message makes no event, and all of it is held
-  front_waits : (word front more : List ℕ) (next : ℕ) (y : Placed) → events word ≡ y ∷ [] → open_message word ≡ [] → word ≡ front ++ next ∷ more → (events front ≡ []) × (open_message front ≡ front)
+  front_waits : (word front more : List ℕ) (next : ℕ) (y : Placed) → events word ≡ y ∷ [] → open_message word ≡ []
+      → word ≡ front ++ next ∷ more → (events front ≡ []) × (open_message front ≡ front)
   front_waits word front more next y read held e = go (events front) refl
     where
       go : (es : List Placed) → events front ≡ es → (events front ≡ []) × (open_message front ≡ front)
@@ -67,7 +73,9 @@ module _ (reads : Reads) where
       go (x ∷ xs) f =
           let rest : List ℕ = next ∷ more in
           let none = nothing_more front rest x y xs f (rw e at read) in
-          let all : open_message front ++ next ∷ more ≡ [] = sym (reads.quiet_held (open_message front ++ rest) none) ∙ sym (reads.open_append front rest) ∙ rw e at held in
+          let all : open_message front ++ next ∷ more ≡ []
+          = sym (reads.quiet_held (open_message front ++ rest) none) ∙ sym (reads.open_append front rest)
+          ∙ rw e at held in
           absurd (not_empty (open_message front) next more all)
 
   -- what a front of messages in a row says, and what is left of them
@@ -79,23 +87,33 @@ module _ (reads : Reads) where
     pub spelled : AreSpelled left (open_message front ++ more)
 
   -- one message, and a front of those behind it
-  after_message : (word front others : List ℕ) (n : ℕ) (message : Content) (heard : List Content) → events word ≡ at_place n (Message message) ∷ [] → open_message word ≡ [] → front ≡ word ++ others → ((host : HostView) → host_after_events host (events others) ≡ host_after_messages host heard) → (host : HostView) → host_after_events host (events front) ≡ host_after_messages host (message ∷ heard)
+  after_message : (word front others : List ℕ) (n : ℕ) (message : Content) (heard : List Content)
+      → events word ≡ at_place n (Message message) ∷ [] → open_message word ≡ [] → front ≡ word ++ others
+      → ((host : HostView) → host_after_events host (events others) ≡ host_after_messages host heard)
+      → (host : HostView) → host_after_events host (events front) ≡ host_after_messages host (message ∷ heard)
   after_message word front others n message heard read held e on host =
       ap (host_after_events host) (ap events e ∙ reads.append word others)
       ∙ rw (read, held) (host_after_events-behind (host_after_message host message) (length word - 0) (events others))
       ∙ on (host_after_message host message)
 
-  pub heard_front : (front more : List ℕ) (messages : List Content) → AreSpelled messages (front ++ more) → IsFront front more messages
+  pub heard_front : (front more : List ℕ) (messages : List Content) → AreSpelled messages (front ++ more)
+      → IsFront front more messages
   heard_front front more [] spelled =
       record {
         heard = [];
         left = [];
         all = refl;
         host = λ host. rw (left_empty front more spelled.in_a_row, no_events) refl;
-        spelled = record { are_messages = tt; in_a_row = rw (left_empty front more spelled.in_a_row, right_empty front more spelled.in_a_row, nothing_open) refl };
+        spelled = record {
+          are_messages = tt;
+          in_a_row =
+              rw (left_empty front more spelled.in_a_row, right_empty front more spelled.in_a_row, nothing_open) refl;
+        };
       }
   heard_front front more (message ∷ messages) spelled =
-      go (λ others f. heard_front others more messages (record { are_messages = spelled.are_messages.1; in_a_row = sym f })) (fronts front more (spelling message) (flat_map spelling messages) spelled.in_a_row)
+      go (λ others f. heard_front others more messages
+      (record { are_messages = spelled.are_messages.1; in_a_row = sym f }))
+      (fronts front more (spelling message) (flat_map spelling messages) spelled.in_a_row)
     where
       read : events (spelling message) ≡ at_place (0 + length (spelling message)) (Message message) ∷ []
       read = read_alone message spelled.are_messages.0
@@ -103,10 +121,18 @@ module _ (reads : Reads) where
       held : open_message (spelling message) ≡ []
       held = held_alone message spelled.are_messages.0
 
-      go : ((others : List ℕ) → flat_map spelling messages ≡ others ++ more → IsFront others more messages) → IsShorter front (spelling message) ⊎ Reaches front more (spelling message) (flat_map spelling messages) → IsFront front more (message ∷ messages)
+      go : ((others : List ℕ) → flat_map spelling messages ≡ others ++ more → IsFront others more messages)
+          → IsShorter front (spelling message) ⊎ Reaches front more (spelling message) (flat_map spelling messages)
+          → IsFront front more (message ∷ messages)
       go on (inl (next, others, e)) =
           let waits = front_waits (spelling message) front others next _ read held e in
-          record { heard = []; left = message ∷ messages; all = refl; host = λ host. rw waits.0 refl; spelled = rw waits.1 spelled }
+          record {
+            heard = [];
+            left = message ∷ messages;
+            all = refl;
+            host = λ host. rw waits.0 refl;
+            spelled = rw waits.1 spelled;
+          }
       go on (inr (others, e, f)) =
           let rest = on others f in
           record {

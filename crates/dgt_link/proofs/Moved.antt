@@ -1,10 +1,13 @@
 -- What has been moved out of a line, some bytes at a time.
-use Rattle.std.proofs.Common.{◌≡◌, refl, sym, subst, ap, ◌∙◌, ◌⊎◌, inl, inr, ℕ, ◌+◌, ◌-◌, ◌<◌, ◌≤◌, List, [], ◌∷◌, ◌++◌, Option, Some, None, length, take, drop, get_or, suc, false, IsTrue, IfSome, IfNone, arith, drop-cons, append_assoc}
+use Rattle.std.proofs.Common.{◌≡◌, refl, sym, subst, ap, ◌∙◌, ◌⊎◌, inl, inr, ℕ, ◌+◌, ◌-◌, ◌<◌, ◌≤◌, List, [], ◌∷◌, ◌++◌}
+use Rattle.std.proofs.Common.{Option, Some, None, length, take, drop, get_or, suc, false, IsTrue, IfSome, IfNone, arith}
+use Rattle.std.proofs.Common.{drop-cons, append_assoc}
 use Rattle.std.specs.Prelude.{nat_le}
 use Rattle.std.proofs.Math.Seq.{take-add, take-append_seam}
 use Rattle.std.proofs.lemmas.Bool.{le-ltb, lt-leb}
 use Rattle.std.proofs.lemmas.Bool.Decides.{leb_tells}
-use Rattle.std.proofs.lemmas.List.{drop-drop, length-drop, length-take, length-take-le, take-take, take-append-drop, take_all}
+use Rattle.std.proofs.lemmas.List.{drop-drop, length-drop, length-take, length-take-le, take-take, take-append-drop}
+use Rattle.std.proofs.lemmas.List.{take_all}
 use Rattle.dgt_message.specs.Content.{Content}
 use Rattle.dgt_message.specs.Spelling.{Spells, spelling}
 use Rattle.dgt_command.specs.Content.{EventContent}
@@ -18,12 +21,15 @@ use Rattle.dgt_link.specs.declared.acts.Outcome.{Outcome}
 use Rattle.dgt_link.specs.View.{LineContents, WorldView, line_holding, overflows, with_bytes, without_first}
 use Rattle.dgt_link.specs.Step.{Delivers, StaysOpen, is_full, sending_outcome}
 
-left_on : (line now left : LineContents) (i n : ℕ) → now ≡ without_first line i → left ≡ without_first now n → left ≡ without_first line (i + n)
+left_on : (line now left : LineContents) (i n : ℕ) → now ≡ without_first line i → left ≡ without_first now n
+    → left ≡ without_first line (i + n)
 left_on line now left i n e f =
-    f ∙ ap (λ (before : LineContents). without_first before n) e ∙ ap (λ (bytes : List ℕ). line_holding bytes line.capacity) (drop-drop n i line.bytes)
+    f ∙ ap (λ (before : LineContents). without_first before n) e ∙ ap
+    (λ (bytes : List ℕ). line_holding bytes line.capacity) (drop-drop n i line.bytes)
 
 -- bytes of a piece of the front are bytes of the line
-pub front_bytes : (bytes front : List ℕ) (k used : ℕ) → front ≡ take (length front) bytes → used ≤ length (take k front) → take used (take k front) ≡ take used bytes
+pub front_bytes : (bytes front : List ℕ) (k used : ℕ) → front ≡ take (length front) bytes → used ≤ length (take k front)
+    → take used (take k front) ≡ take used bytes
 front_bytes bytes front k used is within =
     let short = length-take k front in
     let in_piece : used ≤ k = omega (arith, short, within) in
@@ -33,20 +39,30 @@ front_bytes bytes front k used is within =
 -- ---- the board sends
 
 -- what was written at the front
-front_taken : (count : ℕ) (written new old more : List ℕ) → new ≡ written ++ drop count old → count ≡ length written → take count (new ++ more) ≡ written
+front_taken : (count : ℕ) (written new old more : List ℕ) → new ≡ written ++ drop count old → count ≡ length written
+    → take count (new ++ more) ≡ written
 front_taken count written new old more e is =
     ap (λ (l : List ℕ). take count (l ++ more)) e ∙ ap (take count) (append_assoc written (drop count old) more)
-    ∙ ap (λ (n : ℕ). take n (written ++ (drop count old ++ more))) is ∙ take-append_seam written (drop count old ++ more)
+    ∙ ap (λ (n : ℕ). take n (written ++ (drop count old ++ more))) is ∙ take-append_seam written
+    (drop count old ++ more)
 
 -- what is polled into the front of a buffer, for which the line has room, is sent by it
-pub polled_is_sent : (count room : ℕ) (next : Option Content) (before after : BoardView) (line left : LineContents) (old new more : List ℕ) → Polls (Polled.Wrote count) next before after old new → length old ≤ room → room + length line.bytes ≡ line.capacity
+pub polled_is_sent : (count room : ℕ) (next : Option Content) (before after : BoardView) (line left : LineContents)
+    (old new more : List ℕ)
+    → Polls (Polled.Wrote count) next before after old new → length old ≤ room
+    → room + length line.bytes ≡ line.capacity
     → left ≡ with_bytes line (take count (new ++ more))
     → (Outcome.Done ≡ sending_outcome next line)
-    × ((message : Content) × (next ≡ Some message) × Spells message (spelling message) × (after ≡ record before { state = after_sending before.state message }) × (left ≡ with_bytes line (spelling message)))
+    × ((message : Content) × (next ≡ Some message) × Spells message (spelling message) ×
+    (after ≡ record before { state = after_sending before.state message }) ×
+    (left ≡ with_bytes line (spelling message)))
 polled_is_sent count room None before after line left old new more none short rest e = absurd none
-polled_is_sent count room (Some message) before after line left old new more (is, within, written, spells, state) short holds e =
-    let fits : overflows line (spelling message) ≡ false = le-ltb line.capacity (length line.bytes + length (spelling message)) (omega (arith, is, within, short, holds)) in
-    let same : take count (new ++ more) ≡ spelling message = front_taken count (spelling message) new old more written is in
+polled_is_sent count room (Some message) before after line left old new more
+    (is, within, written, spells, state) short holds e =
+    let fits : overflows line (spelling message) ≡ false
+    = le-ltb line.capacity (length line.bytes + length (spelling message)) (omega (arith, is, within, short, holds)) in
+    let same : take count (new ++ more) ≡ spelling message
+    = front_taken count (spelling message) new old more written is in
     (rw fits refl, (message, refl, spells, state, rw same at e))
 
 -- ---- the board takes
@@ -54,51 +70,74 @@ polled_is_sent count room (Some message) before after line left old new more (is
 -- what was taken in turn was taken together
 abbrev TakingsAppend : Type 0
 TakingsAppend =
-    (before between after : BoardView) (bytes more : List ℕ) → HasTaken before bytes between → HasTaken between more after
+    (before between after : BoardView) (bytes more : List ℕ) → HasTaken before bytes between
+    → HasTaken between more after
     → HasTaken before (bytes ++ more) after
 
 not_full : (n : ℕ) → n < 8 → nat_le 8 n ≡ false
 not_full n h = lt-leb 8 n h
 
 -- bytes behind others, cut before one of them
-cut_bytes : (before bytes : List ℕ) (n : ℕ) → n < length bytes → before ++ bytes ≡ (before ++ take n bytes) ++ (get_or bytes n 0 ∷ drop (suc n) bytes)
+cut_bytes : (before bytes : List ℕ) (n : ℕ) → n < length bytes
+    → before ++ bytes ≡ (before ++ take n bytes) ++ (get_or bytes n 0 ∷ drop (suc n) bytes)
 cut_bytes before bytes n within =
-    ap (λ (l : List ℕ). before ++ l) (sym (take-append-drop n bytes) ∙ ap (λ (l : List ℕ). take n bytes ++ l) (drop-cons bytes n 0 within))
+    ap (λ (l : List ℕ). before ++ l)
+    (sym (take-append-drop n bytes) ∙ ap (λ (l : List ℕ). take n bytes ++ l) (drop-cons bytes n 0 within))
     ∙ sym (append_assoc before (take n bytes) (get_or bytes n 0 ∷ drop (suc n) bytes))
 
 -- a proper prefix of a word
-word_front : (event : EventContent) (before bytes : List ℕ) (n : ℕ) → n < length bytes → IsWord event (before ++ bytes) → IsPartial (before ++ take n bytes)
+word_front : (event : EventContent) (before bytes : List ℕ) (n : ℕ) → n < length bytes → IsWord event (before ++ bytes)
+    → IsPartial (before ++ take n bytes)
 word_front event before bytes n within word =
-    record { event = event; next = get_or bytes n 0; more = drop (suc n) bytes; word = subst (IsWord event) (cut_bytes before bytes n within) word }
+    record {
+      event = event;
+      next = get_or bytes n 0;
+      more = drop (suc n) bytes;
+      word = subst (IsWord event) (cut_bytes before bytes n within) word;
+    }
 
 -- a prefix of a proper prefix
-partial_front : (before bytes : List ℕ) (n : ℕ) → n < length bytes → IsPartial (before ++ bytes) → IsPartial (before ++ take n bytes)
+partial_front : (before bytes : List ℕ) (n : ℕ) → n < length bytes → IsPartial (before ++ bytes)
+    → IsPartial (before ++ take n bytes)
 partial_front before bytes n within part =
     record {
       event = part.event;
       next = get_or bytes n 0;
       more = drop (suc n) bytes ++ (part.next ∷ part.more);
       word = subst (IsWord part.event)
-          (ap (λ (l : List ℕ). l ++ (part.next ∷ part.more)) (cut_bytes before bytes n within) ∙ append_assoc (before ++ take n bytes) (get_or bytes n 0 ∷ drop (suc n) bytes) (part.next ∷ part.more))
+          (ap (λ (l : List ℕ). l ++ (part.next ∷ part.more)) (cut_bytes before bytes n within) ∙ append_assoc
+          (before ++ take n bytes) (get_or bytes n 0 ∷ drop (suc n) bytes) (part.next ∷ part.more))
           part.word;
     }
 
 -- with bytes that end no word a board owes no more
-stays : (board : BoardView) (bytes : List ℕ) → length board.state.owed < 8 → IsPartial (board.partial ++ bytes) → (between : BoardView) × HasTaken board bytes between × (is_full between.state ≡ false)
-stays board bytes room part = (after_bytes board bytes None, record { events = []; divided = (refl, part); state = refl }, not_full (length board.state.owed) room)
+stays : (board : BoardView) (bytes : List ℕ) → length board.state.owed < 8 → IsPartial (board.partial ++ bytes)
+    → (between : BoardView) × HasTaken board bytes between × (is_full between.state ≡ false)
+stays board bytes room part = (
+  after_bytes board bytes None,
+  record { events = []; divided = (refl, part); state = refl },
+  not_full
+      (length board.state.owed) room,
+)
 
 -- bytes of which only the last may end a word
-front_of_word : {E : Type 0} (content : E → EventContent) (before bytes piece : List ℕ) (used : ℕ) (event : Option E) → take used piece ≡ take used bytes
-    → IfSome event (λ e. IsWord (content e) (before ++ take used piece)) → IfNone event ((used ≡ length piece) × IsPartial (before ++ piece))
+front_of_word : {E : Type 0} (content : E → EventContent) (before bytes piece : List ℕ) (used : ℕ) (event : Option E)
+    → take used piece ≡ take used bytes
+    → IfSome event (λ e. IsWord (content e) (before ++ take used piece)) → IfNone event
+    ((used ≡ length piece) × IsPartial (before ++ piece))
     → (fewer : ℕ) → fewer < length (take used bytes) → IsPartial (before ++ take fewer (take used bytes))
 front_of_word content before bytes piece used (Some e) same word part fewer less =
-    word_front (content e) before (take used bytes) fewer less (subst (λ (l : List ℕ). IsWord (content e) (before ++ l)) same word)
+    word_front (content e) before (take used bytes) fewer less
+    (subst (λ (l : List ℕ). IsWord (content e) (before ++ l)) same word)
 front_of_word content before bytes piece used None same word part fewer less =
     let whole : piece ≡ take used bytes = sym (take_all used piece (omega (arith, part.0))) ∙ same in
     partial_front before (take used bytes) fewer less (subst (λ (l : List ℕ). IsPartial (before ++ l)) whole part.1)
 
-pub stays_open : {E : Type 0} (content : E → EventContent) (board : BoardView) (bytes piece : List ℕ) (used : ℕ) (event : Option E) → take used piece ≡ take used bytes → used ≤ length piece → length board.state.owed < 8
-    → IfSome event (λ e. IsWord (content e) (board.partial ++ take used piece)) → IfNone event ((used ≡ length piece) × IsPartial (board.partial ++ piece)) → StaysOpen board bytes used
+pub stays_open : {E : Type 0} (content : E → EventContent) (board : BoardView) (bytes piece : List ℕ) (used : ℕ)
+    (event : Option E)
+    → take used piece ≡ take used bytes → used ≤ length piece → length board.state.owed < 8
+    → IfSome event (λ e. IsWord (content e) (board.partial ++ take used piece)) → IfNone event
+    ((used ≡ length piece) × IsPartial (board.partial ++ piece)) → StaysOpen board bytes used
 stays_open content board bytes piece used event same within room word part =
     let long : length (take used bytes) ≡ used = ap length (sym same) ∙ length-take-le used piece within in
     λ fewer some less. stays board (take fewer bytes) room
@@ -107,25 +146,38 @@ stays_open content board bytes piece used event same within room word part =
 
 -- the board as it was, or as these bytes left it
 abbrev HasTakenAny : BoardView → List ℕ → ℕ → BoardView → Type 0
-HasTakenAny before bytes moved now = ((moved ≡ 0) × (now ≡ before)) ⊎ ((0 < moved) × HasTaken before (take moved bytes) now)
+HasTakenAny before bytes moved now =
+    ((moved ≡ 0) × (now ≡ before)) ⊎ ((0 < moved) × HasTaken before (take moved bytes) now)
 
 -- how far a delivery to the board has come
-pub record IsTaking (before : BoardView) (line : LineContents) (moved : ℕ) (now : BoardView) (left : LineContents) : Type 0 where
+pub record IsTaking (before : BoardView) (line : LineContents) (moved : ℕ) (now : BoardView)
+    (left : LineContents) : Type 0 where
   pub within : moved ≤ length line.bytes
   pub taken : HasTakenAny before line.bytes moved now
   pub left_is : left ≡ without_first line moved
   pub earlier : StaysOpen before line.bytes moved
 
 pub taking_begins : (before : BoardView) (line : LineContents) → IsTaking before line 0 before line
-taking_begins before line = record { within = omega arith; taken = inl (refl, refl); left_is = refl; earlier = λ fewer some less. absurd (omega (arith, some, less)) }
+taking_begins before line =
+    record {
+      within = omega arith;
+      taken = inl (refl, refl);
+      left_is = refl;
+      earlier = λ fewer some less. absurd (omega (arith, some, less));
+    }
 
-some_taken : (before now : BoardView) (bytes : List ℕ) (moved : ℕ) → 0 < moved → HasTakenAny before bytes moved now → HasTaken before (take moved bytes) now
+some_taken : (before now : BoardView) (bytes : List ℕ) (moved : ℕ) → 0 < moved → HasTakenAny before bytes moved now
+    → HasTaken before (take moved bytes) now
 some_taken before now bytes moved some (inl (none, same)) = absurd (omega (arith, some, none))
 some_taken before now bytes moved some (inr taken) = taken.1
 
-taken_more : TakingsAppend → (before now new : BoardView) (bytes : List ℕ) (moved n : ℕ) → HasTakenAny before bytes moved now → HasTaken now (take n (drop moved bytes)) new → HasTaken before (take (moved + n) bytes) new
-taken_more append before now new bytes moved n (inl (none, same)) next = rw (take-add moved n bytes, none) (rw (none, same) at next)
-taken_more append before now new bytes moved n (inr taken) next = rw (take-add moved n bytes) (append before now new (take moved bytes) (take n (drop moved bytes)) taken.1 next)
+taken_more : TakingsAppend → (before now new : BoardView) (bytes : List ℕ) (moved n : ℕ)
+    → HasTakenAny before bytes moved now → HasTaken now (take n (drop moved bytes)) new
+    → HasTaken before (take (moved + n) bytes) new
+taken_more append before now new bytes moved n (inl (none, same)) next =
+    rw (take-add moved n bytes, none) (rw (none, same) at next)
+taken_more append before now new bytes moved n (inr taken) next =
+    rw (take-add moved n bytes) (append before now new (take moved bytes) (take n (drop moved bytes)) taken.1 next)
 
 -- fewer than so many before, so many, or more
 data Fewer (fewer moved n : ℕ) : Type 0 where
@@ -142,11 +194,14 @@ fewer_than fewer moved n h = elim (leb_tells moved fewer) [
   ]
 ]
 
-pub taking_more : TakingsAppend → (board now new : BoardView) (line left after : LineContents) (moved n : ℕ) → IsTaking board line moved now left → 0 < n → moved + n ≤ length line.bytes → length now.state.owed < 8
-    → HasTaken now (take n left.bytes) new → StaysOpen now left.bytes n → after ≡ without_first left n → IsTaking board line (moved + n) new after
+pub taking_more : TakingsAppend → (board now new : BoardView) (line left after : LineContents) (moved n : ℕ)
+    → IsTaking board line moved now left → 0 < n → moved + n ≤ length line.bytes → length now.state.owed < 8
+    → HasTaken now (take n left.bytes) new → StaysOpen now left.bytes n → after ≡ without_first left n
+    → IsTaking board line (moved + n) new after
 taking_more append board now new line left after moved n taking more within room next calm e =
     let rest : left.bytes ≡ drop moved line.bytes = ap (λ (l : LineContents). l.bytes) taking.left_is in
-    let next' : HasTaken now (take n (drop moved line.bytes)) new = subst (λ (l : List ℕ). HasTaken now (take n l) new) rest next in
+    let next' : HasTaken now (take n (drop moved line.bytes)) new
+    = subst (λ (l : List ℕ). HasTaken now (take n l) new) rest next in
     let calm' : StaysOpen now (drop moved line.bytes) n = subst (λ (l : List ℕ). StaysOpen now l n) rest calm in
     record {
       within = within;
@@ -158,20 +213,29 @@ taking_more append board now new line left after moved n taking more within room
     earlier_than : (fewer : ℕ) → 0 < fewer → Fewer fewer moved n → StaysOpen now (drop moved line.bytes) n
         → (between : BoardView) × HasTaken board (take fewer line.bytes) between × (is_full between.state ≡ false)
     earlier_than fewer some (sooner less) calm = taking.earlier fewer some less
-    earlier_than fewer some (just same) calm = (now, rw same (some_taken board now line.bytes moved (rw same at some) taking.taken), not_full (length now.state.owed) room)
+    earlier_than fewer some (just same) calm = (
+      now,
+      rw same (some_taken board now line.bytes moved (rw same at some) taking.taken),
+      not_full
+          (length now.state.owed) room,
+    )
     earlier_than fewer some (later k positive less is) calm =
         let found = calm k positive less in (
           found.0,
-          subst (λ (m : ℕ). HasTaken board (take m line.bytes) found.0) (sym is) (taken_more append board now found.0 line.bytes moved k taking.taken found.1),
+          subst (λ (m : ℕ). HasTaken board (take m line.bytes) found.0) (sym is)
+              (taken_more append board now found.0 line.bytes moved k taking.taken found.1),
           found.2,
         )
 
 -- what is left of the line
-pub left_length : (before now : BoardView) (line left : LineContents) (moved : ℕ) → IsTaking before line moved now left → length left.bytes ≡ length line.bytes - moved
-left_length before now line left moved taking = ap (λ (l : LineContents). length l.bytes) taking.left_is ∙ length-drop moved line.bytes
+pub left_length : (before now : BoardView) (line left : LineContents) (moved : ℕ) → IsTaking before line moved now left
+    → length left.bytes ≡ length line.bytes - moved
+left_length before now line left moved taking =
+    ap (λ (l : LineContents). length l.bytes) taking.left_is ∙ length-drop moved line.bytes
 
 -- a board that is full by now has taken some
-pub some_moved : (before now : BoardView) (line left : LineContents) (moved : ℕ) → IsTaking before line moved now left → length before.state.owed < 8 → 8 ≤ length now.state.owed → 0 < moved
+pub some_moved : (before now : BoardView) (line left : LineContents) (moved : ℕ) → IsTaking before line moved now left
+    → length before.state.owed < 8 → 8 ≤ length now.state.owed → 0 < moved
 some_moved before now line left moved taking room full = go taking.taken
   where
     go : HasTakenAny before line.bytes moved now → 0 < moved
@@ -201,17 +265,24 @@ abbrev HasHeardAny : HostView → List ℕ → ℕ → HostView → Type 0
 HasHeardAny before bytes moved now = ((moved ≡ 0) × (now ≡ before)) ⊎ (now ≡ host_after before (take moved bytes))
 
 -- how far a delivery to the host has come
-pub record IsHearing (before : HostView) (line : LineContents) (moved : ℕ) (now : HostView) (left : LineContents) : Type 0 where
+pub record IsHearing (before : HostView) (line : LineContents) (moved : ℕ) (now : HostView)
+    (left : LineContents) : Type 0 where
   pub heard : HasHeardAny before line.bytes moved now
   pub left_is : left ≡ without_first line moved
 
-heard_more : HeardInPieces → (before now new : HostView) (bytes : List ℕ) (moved n : ℕ) → HasHeardAny before bytes moved now → new ≡ host_after now (take n (drop moved bytes)) → new ≡ host_after before (take (moved + n) bytes)
-heard_more pieces before now new bytes moved n (inl (none, same)) next = rw (take-add moved n bytes, none) (rw (none, same) at next)
+heard_more : HeardInPieces → (before now new : HostView) (bytes : List ℕ) (moved n : ℕ)
+    → HasHeardAny before bytes moved now → new ≡ host_after now (take n (drop moved bytes))
+    → new ≡ host_after before (take (moved + n) bytes)
+heard_more pieces before now new bytes moved n (inl (none, same)) next =
+    rw (take-add moved n bytes, none) (rw (none, same) at next)
 heard_more pieces before now new bytes moved n (inr heard) next =
     next ∙ ap (λ (host : HostView). host_after host (take n (drop moved bytes))) heard
-    ∙ pieces before (take moved bytes) (take n (drop moved bytes)) ∙ ap (host_after before) (sym (take-add moved n bytes))
+    ∙ pieces before (take moved bytes) (take n (drop moved bytes)) ∙ ap (host_after before)
+    (sym (take-add moved n bytes))
 
-pub hearing_more : HeardInPieces → (before now new : HostView) (line left after : LineContents) (moved n : ℕ) → IsHearing before line moved now left → new ≡ host_after now (take n left.bytes) → after ≡ without_first left n → IsHearing before line (moved + n) new after
+pub hearing_more : HeardInPieces → (before now new : HostView) (line left after : LineContents) (moved n : ℕ)
+    → IsHearing before line moved now left → new ≡ host_after now (take n left.bytes) → after ≡ without_first left n
+    → IsHearing before line (moved + n) new after
 hearing_more pieces before now new line left after moved n hearing next e =
     record {
       heard = inr (heard_more pieces before now new line.bytes moved n hearing.heard (rw hearing.left_is at next));

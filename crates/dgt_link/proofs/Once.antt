@@ -1,5 +1,6 @@
 -- An act has one outcome and leaves one world, and a world stands for one state.
-use Rattle.std.proofs.Common.{◌≡◌, refl, sym, ap, ◌∙◌, ◌⊎◌, inl, inr, ℕ, ◌<◌, List, [], ◌∷◌, ◌++◌, length, take, Some, IsTrue, arith}
+use Rattle.std.proofs.Common.{◌≡◌, refl, sym, ap, ◌∙◌, ◌⊎◌, inl, inr, ℕ, ◌<◌, List, [], ◌∷◌, ◌++◌, length, take, Some}
+use Rattle.std.proofs.Common.{IsTrue, arith}
 use Rattle.std.specs.List.{AllByRecursion, flat_map}
 use Rattle.std.proofs.lemmas.List.{append-nil}
 use Rattle.std.proofs.lemmas.Bool.{false≢true}
@@ -21,15 +22,21 @@ order : (a b : ℕ) → (a < b) ⊎ ((b < a) ⊎ (a ≡ b))
 order a b =
     elim (leb_tells b a) [
       | inr less ↦ inl less.1
-      | inl most ↦ elim (leb_tells a b) [ inr more ↦ inr (inl more.1) | inl same ↦ inr (inr (omega (arith, most.1, same.1))) ]
+      | inl most ↦ elim (leb_tells a b) [
+        | inr more ↦ inr (inl more.1)
+        | inl same ↦ inr
+            (inr (omega (arith, most.1, same.1)))
+      ]
     ]
 
 -- ---- one outcome and one world
 
 -- a board has taken bytes in one way
-module _ (one_taking : (before after other : BoardView) (bytes : List ℕ) → HasTaken before bytes after → HasTaken before bytes other → after ≡ other) where
+module _ (one_taking : (before after other : BoardView) (bytes : List ℕ) → HasTaken before bytes after
+    → HasTaken before bytes other → after ≡ other) where
   -- a board that is full after some bytes took no more of them
-  no_further : (count : ℕ) (world one other : WorldView) (first : Delivers count world one) (second : Delivers count world other)
+  no_further : (count : ℕ) (world one other : WorldView) (first : Delivers count world one)
+      (second : Delivers count world other)
       → first.moved < second.moved → ⊥
   no_further count world one other first second less = go first.ended
     where
@@ -42,7 +49,8 @@ module _ (one_taking : (before after other : BoardView) (bytes : List ℕ) → H
           = one_taking world.board first.board stop.0 (take first.moved world.down.bytes) first.taken stop.1 in
           false≢true (sym stop.2 ∙ ap (λ (board : BoardView). is_full board.state) (sym same) ∙ full)
 
-  one_delivery : (count : ℕ) (world one other : WorldView) → Delivers count world one → Delivers count world other → one ≡ other
+  one_delivery : (count : ℕ) (world one other : WorldView) → Delivers count world one → Delivers count world other
+      → one ≡ other
   one_delivery count world one other first second = go (order first.moved second.moved)
     where
       go : (first.moved < second.moved) ⊎ ((second.moved < first.moved) ⊎ (first.moved ≡ second.moved)) → one ≡ other
@@ -50,11 +58,13 @@ module _ (one_taking : (before after other : BoardView) (bytes : List ℕ) → H
       go (inr (inl less)) = absurd (no_further count world other one second first less)
       go (inr (inr same)) =
           let board : first.board ≡ second.board
-          = one_taking world.board first.board second.board (take second.moved world.down.bytes) (rw same at first.taken)
+          = one_taking world.board first.board second.board (take second.moved world.down.bytes)
+          (rw same at first.taken)
           second.taken in
           first.leaves ∙ rw (board, same) (sym second.leaves)
 
-  becomes_once : (act : ActContent) (world one other : WorldView) → Becomes act world one → Becomes act world other → one ≡ other
+  becomes_once : (act : ActContent) (world one other : WorldView) → Becomes act world one → Becomes act world other
+      → one ≡ other
   becomes_once (ActContent.Change square piece) world one other e f = e ∙ sym f
   becomes_once (ActContent.ClockRead clock) world one other e f = e ∙ sym f
   becomes_once (ActContent.Host command) world one other e f = e.1 ∙ sym f.1
@@ -66,20 +76,24 @@ module _ (one_taking : (before after other : BoardView) (bytes : List ℕ) → H
   becomes_once ActContent.Break world one other e f = e ∙ sym f
   becomes_once ActContent.HostBreak world one other e f = e ∙ sym f
 
-  left_once : (act : ActContent) (world one other : WorldView) (answer also : Outcome) → answer ≡ also → Step act world answer one → Step act world also other → one ≡ other
-  left_once act world one other Outcome.Done Outcome.Done e first second = becomes_once act world one other first.leaves second.leaves
+  left_once : (act : ActContent) (world one other : WorldView) (answer also : Outcome) → answer ≡ also
+      → Step act world answer one → Step act world also other → one ≡ other
+  left_once act world one other Outcome.Done Outcome.Done e first second =
+      becomes_once act world one other first.leaves second.leaves
   left_once act world one other Outcome.Nothing Outcome.Nothing e first second = first.leaves ∙ sym second.leaves
   left_once act world one other Outcome.NoRoom Outcome.NoRoom e first second = first.leaves ∙ sym second.leaves
   left_once act world one other Outcome.Busy Outcome.Busy e first second = first.leaves ∙ sym second.leaves
   left_once act world one other Outcome.TooMany Outcome.TooMany e first second = first.leaves ∙ sym second.leaves
   left_once act world one other _ _ e first second = cc
 
-  pub one_step : (act : ActContent) (world one other : WorldView) (answer also : Outcome) → Step act world answer one → Step act world also other → (answer ≡ also) × (one ≡ other)
+  pub one_step : (act : ActContent) (world one other : WorldView) (answer also : Outcome) → Step act world answer one
+      → Step act world also other → (answer ≡ also) × (one ≡ other)
   one_step act world one other answer also first second =
       let same : answer ≡ also = first.answers ∙ sym second.answers in
       (same, left_once act world one other answer also same first second)
 
-  pub one_run : (acts : List ActContent) (world one other : WorldView) (answers others : List Outcome) → Runs acts world answers one → Runs acts world others other → (answers ≡ others) × (one ≡ other)
+  pub one_run : (acts : List ActContent) (world one other : WorldView) (answers others : List Outcome)
+      → Runs acts world answers one → Runs acts world others other → (answers ≡ others) × (one ≡ other)
   one_run [] world one other [] [] e f = (refl, e ∙ sym f)
   one_run (act ∷ acts) world one other (answer ∷ answers) (also ∷ others) (between, step, runs) (middle, stepped, ran) =
       let first = one_step act world between middle answer also step stepped in
@@ -95,35 +109,48 @@ module _ (one_taking : (before after other : BoardView) (bytes : List ℕ) → H
 -- the laws of the spellings of messages
 pub record SpelledOnce : Type 0 where
   pub spells : (said : Content) → IsMessage said → Spells said (spelling said)
-  pub one_message : (bytes : List ℕ) (first second : Content) → Spells first bytes → Spells second bytes → first ≡ second
-  pub none_longer : (bytes more : List ℕ) (first second : Content) → Spells first bytes → Spells second (bytes ++ more) → more ≡ []
+  pub one_message : (bytes : List ℕ) (first second : Content) → Spells first bytes → Spells second bytes
+      → first ≡ second
+  pub none_longer : (bytes more : List ℕ) (first second : Content) → Spells first bytes → Spells second (bytes ++ more)
+      → more ≡ []
 
 module _ (law : SpelledOnce) where
   -- the spelling of a message that begins another's is all of it
-  first_same : (first second : Content) (more : List ℕ) → IsMessage first → IsMessage second → spelling first ≡ spelling second ++ more → (first ≡ second) × (more ≡ [])
+  first_same : (first second : Content) (more : List ℕ) → IsMessage first → IsMessage second
+      → spelling first ≡ spelling second ++ more → (first ≡ second) × (more ≡ [])
   first_same first second more is also e =
-      let none = law.none_longer (spelling second) more second first (law.spells second also) (rw e at (law.spells first is)) in
-      let same : spelling first ≡ spelling second = e ∙ ap (λ (rest : List ℕ). spelling second ++ rest) none ∙ append-nil (spelling second) in
+      let none = law.none_longer (spelling second) more second first (law.spells second also)
+      (rw e at (law.spells first is)) in
+      let same : spelling first ≡ spelling second
+      = e ∙ ap (λ (rest : List ℕ). spelling second ++ rest) none ∙ append-nil (spelling second) in
       (law.one_message (spelling first) first second (law.spells first is) (rw same (law.spells second also)), none)
 
   -- messages in a row are spelled in one way
-  messages_once : (xs ys : List Content) → AllByRecursion IsMessage xs → AllByRecursion IsMessage ys → flat_map spelling xs ≡ flat_map spelling ys → xs ≡ ys
+  messages_once : (xs ys : List Content) → AllByRecursion IsMessage xs → AllByRecursion IsMessage ys
+      → flat_map spelling xs ≡ flat_map spelling ys → xs ≡ ys
   messages_once [] [] all also h = refl
   messages_once [] (second ∷ ys) all also h = cc
   messages_once (first ∷ xs) [] all also h = cc
-  messages_once (first ∷ xs) (second ∷ ys) all also h = go (fronts (spelling first) (flat_map spelling xs) (spelling second) (flat_map spelling ys) h) (messages_once xs ys all.1 also.1)
+  messages_once (first ∷ xs) (second ∷ ys) all also h =
+      go (fronts (spelling first) (flat_map spelling xs) (spelling second) (flat_map spelling ys) h)
+      (messages_once xs ys all.1 also.1)
     where
-      go : IsShorter (spelling first) (spelling second) ⊎ Reaches (spelling first) (flat_map spelling xs) (spelling second) (flat_map spelling ys) → (flat_map spelling xs ≡ flat_map spelling ys → xs ≡ ys) → first ∷ xs ≡ second ∷ ys
-      go (inl (next, more, e)) on = absurd (not_empty [] next more (first_same second first (next ∷ more) also.0 all.0 e).1)
+      go : IsShorter (spelling first) (spelling second) ⊎ Reaches (spelling first) (flat_map spelling xs)
+          (spelling second) (flat_map spelling ys)
+          → (flat_map spelling xs ≡ flat_map spelling ys → xs ≡ ys) → first ∷ xs ≡ second ∷ ys
+      go (inl (next, more, e)) on =
+          absurd (not_empty [] next more (first_same second first (next ∷ more) also.0 all.0 e).1)
       go (inr (more, e, f)) on =
           let same = first_same first second more all.0 also.0 e in
           let rest : xs ≡ ys = on (sym (f ∙ ap (λ (front : List ℕ). front ++ flat_map spelling xs) same.1)) in
           rw (same.0, rest) refl
 
-rebuilt : (x y : MachineState) → x.board ≡ y.board → x.up ≡ y.up → x.down ≡ y.down → x.picture ≡ y.picture → x.host_clock ≡ y.host_clock → x.awaited ≡ y.awaited → x ≡ y
+rebuilt : (x y : MachineState) → x.board ≡ y.board → x.up ≡ y.up → x.down ≡ y.down → x.picture ≡ y.picture
+    → x.host_clock ≡ y.host_clock → x.awaited ≡ y.awaited → x ≡ y
 rebuilt x y board up down picture clock awaited = rw (board, up, down, picture, clock, awaited) refl
 
-pub one_state : SpelledOnce → EachDividesOnce → (world : WorldView) (x y : MachineState) → StandsFor world x → StandsFor world y → x ≡ y
+pub one_state : SpelledOnce → EachDividesOnce → (world : WorldView) (x y : MachineState) → StandsFor world x
+    → StandsFor world y → x ≡ y
 one_state spelled divided world x y one two =
     rebuilt x y (sym one.board ∙ two.board)
     (messages_once spelled x.up y.up one.up.are_messages two.up.are_messages (sym one.up.in_a_row ∙ two.up.in_a_row))

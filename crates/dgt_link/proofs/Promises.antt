@@ -1,6 +1,8 @@
 -- The two halves of the promise, and what each move does to them.
-use Rattle.std.proofs.Common.{IsTrue, cond, false, true, Bool, ◌≡◌, ◌≢◌, refl, sym, ap, ◌∙◌, ◌⊎◌, inl, inr, zero, suc, List, [], ◌∷◌, ◌++◌, Option, Some, None, ◌&&◌, arith}
-use Rattle.std.proofs.lemmas.List.Elements.{filter_map-append, Contains-append_left, Contains-append_right, Contains-append_cases, Contains-push}
+use Rattle.std.proofs.Common.{IsTrue, cond, false, true, Bool, ◌≡◌, ◌≢◌, refl, sym, ap, ◌∙◌, ◌⊎◌, inl, inr, zero, suc}
+use Rattle.std.proofs.Common.{List, [], ◌∷◌, ◌++◌, Option, Some, None, ◌&&◌, arith}
+use Rattle.std.proofs.lemmas.List.Elements.{filter_map-append, Contains-append_left, Contains-append_right}
+use Rattle.std.proofs.lemmas.List.Elements.{Contains-append_cases, Contains-push}
 use Rattle.std.proofs.lemmas.Bool.{cond_both, false≢true}
 use Rattle.std.specs.Prelude.{IsSome, Contains, filter_map, map, unwrap_or}
 use Rattle.std.specs.List.{cons_option}
@@ -14,24 +16,29 @@ use Rattle.dgt_board.specs.State.{BoardState, updates, command_mode, effect, rep
 use Rattle.dgt_board.specs.Sending.{differs, field_of, reply_message}
 use Rattle.dgt_host.specs.Host.{picture_after, picture_after_all}
 use Rattle.dgt_command.specs.Words.{IsNoise, IsNoiseList}
-use Rattle.dgt_link.specs.Machine.{IsHostBreak, Move, MachineState, commands_anew, after_move, after_told, after_take, after_reply, after_hear}
+use Rattle.dgt_link.specs.Machine.{IsHostBreak, Move, MachineState, commands_anew, after_move, after_told, after_take}
+use Rattle.dgt_link.specs.Machine.{after_reply, after_hear}
 use Rattle.dgt_link.specs.Sound.{coming_picture}
-use Rattle.dgt_link.specs.Promise.{IsAsked, IsPromised, PictureIsComing, coming_mode, commands_after, event_mode, last_mode, mode_after, requests}
+use Rattle.dgt_link.specs.Promise.{IsAsked, IsPromised, PictureIsComing, coming_mode, commands_after, event_mode}
+use Rattle.dgt_link.specs.Promise.{last_mode, mode_after, requests}
 use Rattle.dgt_link.proofs.Lists.{Contains-cons, nothing_contained}
 use Rattle.dgt_link.proofs.Taking.{nothing_of_noise}
 use Rattle.dgt_link.proofs.Telling.{picture_after_all-append}
 
 -- ---- the mode that is coming
 
-last_mode-append : (before : Mode) (modes more : List Mode) → last_mode before (modes ++ more) ≡ last_mode (last_mode before modes) more
+last_mode-append : (before : Mode) (modes more : List Mode)
+    → last_mode before (modes ++ more) ≡ last_mode (last_mode before modes) more
 last_mode-append before [] more = refl
 last_mode-append before (mode ∷ modes) more = last_mode-append mode modes more
 
-last_mode-cons : (before : Mode) (mode : Option Mode) (rest : List Mode) → last_mode (unwrap_or mode before) rest ≡ last_mode before (cons_option mode rest)
+last_mode-cons : (before : Mode) (mode : Option Mode) (rest : List Mode)
+    → last_mode (unwrap_or mode before) rest ≡ last_mode before (cons_option mode rest)
 last_mode-cons before None rest = refl
 last_mode-cons before (Some mode) rest = refl
 
-effect-mode : (board : BoardState) (event : EventContent) → (effect board event).mode ≡ unwrap_or (event_mode event) board.mode
+effect-mode : (board : BoardState) (event : EventContent)
+    → (effect board event).mode ≡ unwrap_or (event_mode event) board.mode
 effect-mode board (EventContent.Read command) = refl
 effect-mode board EventContent.BadSize = refl
 effect-mode board EventContent.BadStart = refl
@@ -40,7 +47,8 @@ effect-mode board (EventContent.Stray byte) = refl
 
 -- ---- a picture that is known, or coming, stays so
 
-picture_after_known : (seen : Option (List Piece)) (message : Content) → IsSome seen → IsSome (picture_after seen message)
+picture_after_known : (seen : Option (List Piece)) (message : Content) → IsSome seen
+    → IsSome (picture_after seen message)
 picture_after_known None message known = absurd (false≢true known)
 picture_after_known (Some squares) (Content.dump pieces) known = refl
 picture_after_known (Some squares) (Content.field square piece) known = refl
@@ -48,80 +56,113 @@ picture_after_known (Some squares) _ known = refl
 
 -- a picture that comes, by its three ways: under way, owed, asked for
 abbrev Comes : Option (List Piece) → List Reply → List EventContent → Type 0
-Comes seen owed down = IsSome seen ⊎ (Contains owed (Reply.Of Kind.Dump) ⊎ Contains down (EventContent.Read CommandContent.Dump))
+Comes seen owed down =
+    IsSome seen ⊎ (Contains owed (Reply.Of Kind.Dump) ⊎ Contains down (EventContent.Read CommandContent.Dump))
 
 -- another message under way
-sent_comes : (picture : Option (List Piece)) (up : List Content) (message : Content) (owed : List Reply) (down : List EventContent) → Comes (picture_after_all picture up) owed down → Comes (picture_after_all picture (up ++ message ∷ [])) owed down
-sent_comes picture up message owed down (inl known) = inl (rw (picture_after_all-append picture up message) (picture_after_known (picture_after_all picture up) message known))
+sent_comes : (picture : Option (List Piece)) (up : List Content) (message : Content) (owed : List Reply)
+    (down : List EventContent)
+    → Comes (picture_after_all picture up) owed down → Comes (picture_after_all picture (up ++ message ∷ [])) owed down
+sent_comes picture up message owed down (inl known) =
+    inl
+    (rw (picture_after_all-append picture up message)
+    (picture_after_known (picture_after_all picture up) message known))
 sent_comes picture up message owed down (inr later) = inr later
 
 -- the first owed reply is sent
-dump_known : (board : BoardState) (seen : Option (List Piece)) (owed : Reply) → owed ≡ Reply.Of Kind.Dump → IsSome (picture_after seen (reply_message board owed))
+dump_known : (board : BoardState) (seen : Option (List Piece)) (owed : Reply) → owed ≡ Reply.Of Kind.Dump
+    → IsSome (picture_after seen (reply_message board owed))
 dump_known board seen owed e = rw e
 
-reply_comes : (board : BoardState) (picture : Option (List Piece)) (up : List Content) (first : Reply) (rest : List Reply) (down : List EventContent) → Comes (picture_after_all picture up) (first ∷ rest) down → Comes (picture_after_all picture (up ++ reply_message board first ∷ [])) rest down
-reply_comes board picture up first rest down (inl known) = inl (rw (picture_after_all-append picture up (reply_message board first)) (picture_after_known (picture_after_all picture up) (reply_message board first) known))
+reply_comes : (board : BoardState) (picture : Option (List Piece)) (up : List Content) (first : Reply)
+    (rest : List Reply) (down : List EventContent)
+    → Comes (picture_after_all picture up) (first ∷ rest) down
+    → Comes (picture_after_all picture (up ++ reply_message board first ∷ [])) rest down
+reply_comes board picture up first rest down (inl known) =
+    inl
+    (rw (picture_after_all-append picture up (reply_message board first))
+    (picture_after_known (picture_after_all picture up) (reply_message board first) known))
 reply_comes board picture up first rest down (inr (inl owed)) = go (Contains-cons (Reply.Of Kind.Dump) first rest owed)
   where
-    go : (first ≡ Reply.Of Kind.Dump) ⊎ Contains rest (Reply.Of Kind.Dump) → Comes (picture_after_all picture (up ++ reply_message board first ∷ [])) rest down
-    go (inl e) = inl (rw (picture_after_all-append picture up (reply_message board first)) (dump_known board (picture_after_all picture up) first e))
+    go : (first ≡ Reply.Of Kind.Dump) ⊎ Contains rest (Reply.Of Kind.Dump)
+        → Comes (picture_after_all picture (up ++ reply_message board first ∷ [])) rest down
+    go (inl e) =
+        inl
+        (rw (picture_after_all-append picture up (reply_message board first))
+        (dump_known board (picture_after_all picture up) first e))
     go (inr owed) = inr (inl owed)
 reply_comes board picture up first rest down (inr (inr asked)) = inr (inr asked)
 
-reply_keeps_picture : (x : MachineState) (owed : List Reply) → x.board.owed ≡ owed → PictureIsComing x → PictureIsComing (after_reply x owed)
+reply_keeps_picture : (x : MachineState) (owed : List Reply) → x.board.owed ≡ owed → PictureIsComing x
+    → PictureIsComing (after_reply x owed)
 reply_keeps_picture x [] e coming = coming
 reply_keeps_picture x (first ∷ rest) e coming = reply_comes x.board x.picture x.up first rest x.down (rw e at coming)
 
 -- the first command is taken
-effect_owes : (board : BoardState) (event : EventContent) (reply : Reply) → Contains board.owed reply → Contains (effect board event).owed reply
-effect_owes board (EventContent.Read command) reply h = Contains-append_left board.owed (replies_to board command) reply h
+effect_owes : (board : BoardState) (event : EventContent) (reply : Reply) → Contains board.owed reply
+    → Contains (effect board event).owed reply
+effect_owes board (EventContent.Read command) reply h =
+    Contains-append_left board.owed (replies_to board command) reply h
 effect_owes board EventContent.BadSize reply h = h
 effect_owes board EventContent.BadStart reply h = h
 effect_owes board EventContent.BadEnd reply h = h
 effect_owes board (EventContent.Stray byte) reply h = h
 
-dump_owed : (board : BoardState) (event : EventContent) → event ≡ EventContent.Read CommandContent.Dump → Contains (effect board event).owed (Reply.Of Kind.Dump)
+dump_owed : (board : BoardState) (event : EventContent) → event ≡ EventContent.Read CommandContent.Dump
+    → Contains (effect board event).owed (Reply.Of Kind.Dump)
 dump_owed board event e = rw e (Contains-push board.owed (Reply.Of Kind.Dump))
 
-take_comes : (board : BoardState) (seen : Option (List Piece)) (event : EventContent) (rest : List EventContent) → Comes seen board.owed (event ∷ rest) → Comes seen (effect board event).owed rest
+take_comes : (board : BoardState) (seen : Option (List Piece)) (event : EventContent) (rest : List EventContent)
+    → Comes seen board.owed (event ∷ rest) → Comes seen (effect board event).owed rest
 take_comes board seen event rest (inl known) = inl known
 take_comes board seen event rest (inr (inl owed)) = inr (inl (effect_owes board event (Reply.Of Kind.Dump) owed))
-take_comes board seen event rest (inr (inr asked)) = go (Contains-cons (EventContent.Read CommandContent.Dump) event rest asked)
+take_comes board seen event rest (inr (inr asked)) =
+    go (Contains-cons (EventContent.Read CommandContent.Dump) event rest asked)
   where
-    go : (event ≡ EventContent.Read CommandContent.Dump) ⊎ Contains rest (EventContent.Read CommandContent.Dump) → Comes seen (effect board event).owed rest
+    go : (event ≡ EventContent.Read CommandContent.Dump) ⊎ Contains rest (EventContent.Read CommandContent.Dump)
+        → Comes seen (effect board event).owed rest
     go (inl e) = inr (inl (dump_owed board event e))
     go (inr later) = inr (inr later)
 
-take_keeps_picture : (x : MachineState) (down : List EventContent) → x.down ≡ down → PictureIsComing x → PictureIsComing (after_take x down)
+take_keeps_picture : (x : MachineState) (down : List EventContent) → x.down ≡ down → PictureIsComing x
+    → PictureIsComing (after_take x down)
 take_keeps_picture x [] e coming = coming
 take_keeps_picture x (event ∷ rest) e coming = take_comes x.board (coming_picture x) event rest (rw e at coming)
 
-hear_keeps_picture : (x : MachineState) (up : List Content) → x.up ≡ up → PictureIsComing x → PictureIsComing (after_hear x up)
+hear_keeps_picture : (x : MachineState) (up : List Content) → x.up ≡ up → PictureIsComing x
+    → PictureIsComing (after_hear x up)
 hear_keeps_picture x [] e coming = coming
 hear_keeps_picture x (message ∷ rest) e coming = rw e at coming
 
 -- one more command under way
-ask_comes : (seen : Option (List Piece)) (owed : List Reply) (down more : List EventContent) → Comes seen owed down → Comes seen owed (down ++ more)
+ask_comes : (seen : Option (List Piece)) (owed : List Reply) (down more : List EventContent) → Comes seen owed down
+    → Comes seen owed (down ++ more)
 ask_comes seen owed down more (inl known) = inl known
 ask_comes seen owed down more (inr (inl owes)) = inr (inl owes)
-ask_comes seen owed down more (inr (inr asked)) = inr (inr (Contains-append_left down more (EventContent.Read CommandContent.Dump) asked))
+ask_comes seen owed down more (inr (inr asked)) =
+    inr (inr (Contains-append_left down more (EventContent.Read CommandContent.Dump) asked))
 
 pub dump_asked : (x : MachineState) → PictureIsComing (after_move x (Move.Ask CommandContent.Dump))
 dump_asked x = inr (inr (Contains-push x.down (EventContent.Read CommandContent.Dump)))
 
-pub anew_is_coming : (x : MachineState) (noise : List EventContent) (is_noise : IsNoiseList noise) → PictureIsComing (after_move x (Move.HostBreak noise is_noise))
+pub anew_is_coming : (x : MachineState) (noise : List EventContent) (is_noise : IsNoiseList noise)
+    → PictureIsComing (after_move x (Move.HostBreak noise is_noise))
 anew_is_coming x noise is_noise =
-    inr (inr (Contains-append_right noise (map EventContent.Read commands_anew) (EventContent.Read CommandContent.Dump) (1, omega arith, refl)))
+    inr (inr (Contains-append_right noise (map EventContent.Read commands_anew) (EventContent.Read CommandContent.Dump)
+    (1, omega arith, refl)))
 
 -- only a break ends the first half of the promise
-pub picture_keeps_coming : (x : MachineState) (move : Move) → move ≢ Move.Break → PictureIsComing x → PictureIsComing (after_move x move)
+pub picture_keeps_coming : (x : MachineState) (move : Move) → move ≢ Move.Break → PictureIsComing x
+    → PictureIsComing (after_move x move)
 picture_keeps_coming x (Move.Change square piece) other coming = coming
 picture_keeps_coming x (Move.HandClock clock) other coming = coming
-picture_keeps_coming x (Move.Ask command) other coming = ask_comes (coming_picture x) x.board.owed x.down (EventContent.Read command ∷ []) coming
+picture_keeps_coming x (Move.Ask command) other coming =
+    ask_comes (coming_picture x) x.board.owed x.down (EventContent.Read command ∷ []) coming
 picture_keeps_coming x Move.Take other coming = take_keeps_picture x x.down refl coming
 picture_keeps_coming x Move.Reply other coming = reply_keeps_picture x x.board.owed refl coming
 picture_keeps_coming x (Move.Tell square) other coming =
-    cond_both (updates x.board.mode && differs x.board square) (after_told x (field_of x.board square)) x PictureIsComing
+    cond_both (updates x.board.mode && differs x.board square)
+    (after_told x (field_of x.board square)) x PictureIsComing
     (λ h. sent_comes x.picture x.up (field_of x.board square) x.board.owed x.down coming) (λ h. coming)
 picture_keeps_coming x Move.TellClock other coming =
     cond_both x.board.times_owed (after_told x (clock_message x.board.clock)) x PictureIsComing
@@ -137,7 +178,8 @@ break_ends x (inr (inr asked)) = nothing_contained (EventContent.Read CommandCon
 
 -- ---- the second half: the mode that is coming
 
-take-mode : (x : MachineState) (down : List EventContent) → x.down ≡ down → coming_mode (after_take x down) ≡ coming_mode x
+take-mode : (x : MachineState) (down : List EventContent) → x.down ≡ down
+    → coming_mode (after_take x down) ≡ coming_mode x
 take-mode x [] e = refl
 take-mode x (event ∷ rest) e =
     rw (e, effect-mode x.board event) (last_mode-cons x.board.mode (event_mode event) (filter_map event_mode rest))
@@ -150,25 +192,32 @@ hear-mode : (x : MachineState) (up : List Content) → coming_mode (after_hear x
 hear-mode x [] = refl
 hear-mode x (message ∷ rest) = refl
 
-ask-mode : (x : MachineState) (command : CommandContent) → coming_mode (after_move x (Move.Ask command)) ≡ unwrap_or (command_mode command) (coming_mode x)
+ask-mode : (x : MachineState) (command : CommandContent)
+    → coming_mode (after_move x (Move.Ask command)) ≡ unwrap_or (command_mode command) (coming_mode x)
 ask-mode x command =
     ap (last_mode x.board.mode) (filter_map-append event_mode x.down (EventContent.Read command ∷ []))
     ∙ last_mode-append x.board.mode (filter_map event_mode x.down) (cons_option (command_mode command) [])
     ∙ sym (last_mode-cons (coming_mode x) (command_mode command) [])
 
-sent-mode : (x : MachineState) (message : Content) (test : Bool) → coming_mode (cond test (after_told x message) x) ≡ coming_mode x
+sent-mode : (x : MachineState) (message : Content) (test : Bool)
+    → coming_mode (cond test (after_told x message) x) ≡ coming_mode x
 sent-mode x message true = refl
 sent-mode x message false = refl
 
 noise-modes : (noise : List EventContent) → IsNoiseList noise → filter_map event_mode noise ≡ []
-noise-modes noise is_noise = nothing_of_noise event_mode (λ message. refl) (λ leds. refl) (refl, refl, refl) (λ byte. refl) noise is_noise
+noise-modes noise is_noise =
+    nothing_of_noise event_mode (λ message. refl) (λ leds. refl) (refl, refl, refl) (λ byte. refl) noise is_noise
 
-anew-mode : (x : MachineState) (noise : List EventContent) (is_noise : IsNoiseList noise) → coming_mode (after_move x (Move.HostBreak noise is_noise)) ≡ Mode.UpdateBoard
+anew-mode : (x : MachineState) (noise : List EventContent) (is_noise : IsNoiseList noise)
+    → coming_mode (after_move x (Move.HostBreak noise is_noise)) ≡ Mode.UpdateBoard
 anew-mode x noise is_noise =
-    ap (last_mode x.board.mode) (filter_map-append event_mode noise _ ∙ ap (λ (modes : List Mode). modes ++ Mode.UpdateBoard ∷ []) (noise-modes noise is_noise))
+    ap (last_mode x.board.mode)
+    (filter_map-append event_mode noise _ ∙ ap (λ (modes : List Mode). modes ++ Mode.UpdateBoard ∷ [])
+    (noise-modes noise is_noise))
 
 -- the mode that is coming is that of the last command that sets one, or that of a break
-pub move-mode : (x : MachineState) (move : Move) → coming_mode (after_move x move) ≡ mode_after (coming_mode x) (requests move)
+pub move-mode : (x : MachineState) (move : Move)
+    → coming_mode (after_move x move) ≡ mode_after (coming_mode x) (requests move)
 move-mode x (Move.Change square piece) = refl
 move-mode x (Move.HandClock clock) = refl
 move-mode x (Move.Ask command) = ask-mode x command
@@ -189,22 +238,29 @@ pub record IsComing (commands : List CommandContent) (x : MachineState) : Type 0
   pub mode : coming_mode x ≡ last_mode before (filter_map command_mode commands)
 
 pub nothing_asked : (x : MachineState) → IsComing [] x
-nothing_asked x = record { picture = λ h. absurd (nothing_contained CommandContent.Dump h); before = coming_mode x; mode = refl }
+nothing_asked x =
+    record { picture = λ h. absurd (nothing_contained CommandContent.Dump h); before = coming_mode x; mode = refl }
 
-asked-mode : (commands : List CommandContent) (command : CommandContent) (before mode : Mode) → mode ≡ last_mode before (filter_map command_mode commands) → unwrap_or (command_mode command) mode ≡ last_mode before (filter_map command_mode (commands ++ command ∷ []))
+asked-mode : (commands : List CommandContent) (command : CommandContent) (before mode : Mode)
+    → mode ≡ last_mode before (filter_map command_mode commands)
+    → unwrap_or (command_mode command) mode ≡ last_mode before (filter_map command_mode (commands ++ command ∷ []))
 asked-mode commands command before mode e =
     ap (unwrap_or (command_mode command)) e
     ∙ last_mode-cons (last_mode before (filter_map command_mode commands)) (command_mode command) []
-    ∙ sym (ap (last_mode before) (filter_map-append command_mode commands (command ∷ [])) ∙ last_mode-append before (filter_map command_mode commands) (cons_option (command_mode command) []))
+    ∙ sym (ap (last_mode before) (filter_map-append command_mode commands (command ∷ [])) ∙ last_mode-append before
+    (filter_map command_mode commands) (cons_option (command_mode command) []))
 
-ask_comes_dump : (commands : List CommandContent) (x : MachineState) (command : CommandContent) → IsComing commands x → Contains (commands ++ command ∷ []) CommandContent.Dump → PictureIsComing (after_move x (Move.Ask command))
+ask_comes_dump : (commands : List CommandContent) (x : MachineState) (command : CommandContent) → IsComing commands x
+    → Contains (commands ++ command ∷ []) CommandContent.Dump → PictureIsComing (after_move x (Move.Ask command))
 ask_comes_dump commands x command coming h = go (Contains-append_cases commands (command ∷ []) CommandContent.Dump h)
   where
-    new : (command ≡ CommandContent.Dump) ⊎ Contains [] CommandContent.Dump → PictureIsComing (after_move x (Move.Ask command))
+    new : (command ≡ CommandContent.Dump) ⊎ Contains [] CommandContent.Dump
+        → PictureIsComing (after_move x (Move.Ask command))
     new (inl e) = rw e (dump_asked x)
     new (inr none) = absurd (nothing_contained CommandContent.Dump none)
 
-    go : Contains commands CommandContent.Dump ⊎ Contains (command ∷ []) CommandContent.Dump → PictureIsComing (after_move x (Move.Ask command))
+    go : Contains commands CommandContent.Dump ⊎ Contains (command ∷ []) CommandContent.Dump
+        → PictureIsComing (after_move x (Move.Ask command))
     go (inl before) = picture_keeps_coming x (Move.Ask command) (λ e. cc) (coming.picture before)
     go (inr now) = new (Contains-cons CommandContent.Dump command [] now)
 
@@ -215,19 +271,28 @@ asked_anew-mode before commands =
     (asked-mode commands CommandContent.UpdateBoard before (last_mode before (filter_map command_mode commands)) refl)
 
 -- a move that asks for nothing, and is no break
-still_comes : (commands : List CommandContent) (x : MachineState) (move : Move) → move ≢ Move.Break → mode_after (coming_mode x) (requests move) ≡ coming_mode x → IsComing commands x → IsComing commands (after_move x move)
+still_comes : (commands : List CommandContent) (x : MachineState) (move : Move) → move ≢ Move.Break
+    → mode_after (coming_mode x) (requests move) ≡ coming_mode x → IsComing commands x
+    → IsComing commands (after_move x move)
 still_comes commands x move other same coming =
-    record { picture = λ h. picture_keeps_coming x move other (coming.picture h); before = coming.before; mode = move-mode x move ∙ same ∙ coming.mode }
+    record {
+      picture = λ h. picture_keeps_coming x move other (coming.picture h);
+      before = coming.before;
+      mode = move-mode x move ∙ same ∙ coming.mode;
+    }
 
-pub move_comes : (commands : List CommandContent) (x : MachineState) (move : Move) → IsComing commands x → IsComing (commands_after commands (requests move)) (after_move x move)
+pub move_comes : (commands : List CommandContent) (x : MachineState) (move : Move) → IsComing commands x
+    → IsComing (commands_after commands (requests move)) (after_move x move)
 move_comes commands x (Move.Ask command) coming =
     record {
       picture = ask_comes_dump commands x command coming;
       before = coming.before;
       mode = ask-mode x command ∙ asked-mode commands command coming.before (coming_mode x) coming.mode;
     }
-move_comes commands x (Move.Change square piece) coming = still_comes commands x (Move.Change square piece) (λ e. cc) refl coming
-move_comes commands x (Move.HandClock clock) coming = still_comes commands x (Move.HandClock clock) (λ e. cc) refl coming
+move_comes commands x (Move.Change square piece) coming =
+    still_comes commands x (Move.Change square piece) (λ e. cc) refl coming
+move_comes commands x (Move.HandClock clock) coming =
+    still_comes commands x (Move.HandClock clock) (λ e. cc) refl coming
 move_comes commands x Move.Take coming = still_comes commands x Move.Take (λ e. cc) refl coming
 move_comes commands x Move.Reply coming = still_comes commands x Move.Reply (λ e. cc) refl coming
 move_comes commands x (Move.Tell square) coming = still_comes commands x (Move.Tell square) (λ e. cc) refl coming
@@ -242,54 +307,68 @@ move_comes commands x (Move.HostBreak noise is_noise) coming =
     }
 
 -- a mode asked for holds whatever mode was before
-asked_from_any : (before : Mode) (modes : List Mode) → IsTrue (updates (last_mode Mode.Idle modes)) → IsTrue (updates (last_mode before modes))
+asked_from_any : (before : Mode) (modes : List Mode) → IsTrue (updates (last_mode Mode.Idle modes))
+    → IsTrue (updates (last_mode before modes))
 asked_from_any before [] h = absurd (false≢true h)
 asked_from_any before (mode ∷ modes) h = h
 
-pub coming_promise : (commands : List CommandContent) (x : MachineState) → IsComing commands x → IsAsked commands → IsPromised x
+pub coming_promise : (commands : List CommandContent) (x : MachineState) → IsComing commands x → IsAsked commands
+    → IsPromised x
 coming_promise commands x coming asks =
     record {
       picture = coming.picture asks.dump;
       mode = rw coming.mode (asked_from_any coming.before (filter_map command_mode commands) asks.mode);
     }
 
-pub anew_is_promised : (x : MachineState) (noise : List EventContent) (is_noise : IsNoiseList noise) → IsPromised (after_move x (Move.HostBreak noise is_noise))
-anew_is_promised x noise is_noise = record { picture = anew_is_coming x noise is_noise; mode = rw (anew-mode x noise is_noise) refl }
+pub anew_is_promised : (x : MachineState) (noise : List EventContent) (is_noise : IsNoiseList noise)
+    → IsPromised (after_move x (Move.HostBreak noise is_noise))
+anew_is_promised x noise is_noise =
+    record { picture = anew_is_coming x noise is_noise; mode = rw (anew-mode x noise is_noise) refl }
 
 -- ---- the picture that the host comes to have
 
-dump_seen : (x : MachineState) (owed rest : List Reply) → owed ≡ Reply.Of Kind.Dump ∷ rest → coming_picture (after_reply x owed) ≡ Some (after_reply x owed).board.told_squares
+dump_seen : (x : MachineState) (owed rest : List Reply) → owed ≡ Reply.Of Kind.Dump ∷ rest
+    → coming_picture (after_reply x owed) ≡ Some (after_reply x owed).board.told_squares
 dump_seen x owed rest e = rw e (picture_after_all-append x.picture x.up (Content.dump x.board.squares))
 
-pub dump_is_seen : (x : MachineState) (rest : List Reply) → x.board.owed ≡ Reply.Of Kind.Dump ∷ rest → coming_picture (after_move x Move.Reply) ≡ Some (after_move x Move.Reply).board.told_squares
+pub dump_is_seen : (x : MachineState) (rest : List Reply) → x.board.owed ≡ Reply.Of Kind.Dump ∷ rest
+    → coming_picture (after_move x Move.Reply) ≡ Some (after_move x Move.Reply).board.told_squares
 dump_is_seen x rest e = dump_seen x x.board.owed rest e
 
-sent_known : (x : MachineState) (message : Content) → IsSome (coming_picture x) → IsSome (picture_after_all x.picture (x.up ++ message ∷ []))
-sent_known x message known = rw (picture_after_all-append x.picture x.up message) (picture_after_known (coming_picture x) message known)
+sent_known : (x : MachineState) (message : Content) → IsSome (coming_picture x)
+    → IsSome (picture_after_all x.picture (x.up ++ message ∷ []))
+sent_known x message known =
+    rw (picture_after_all-append x.picture x.up message) (picture_after_known (coming_picture x) message known)
 
-reply_known : (x : MachineState) (owed : List Reply) → IsSome (coming_picture x) → IsSome (coming_picture (after_reply x owed))
+reply_known : (x : MachineState) (owed : List Reply) → IsSome (coming_picture x)
+    → IsSome (coming_picture (after_reply x owed))
 reply_known x [] known = known
 reply_known x (first ∷ rest) known = sent_known x (reply_message x.board first) known
 
-take_known : (x : MachineState) (down : List EventContent) → IsSome (coming_picture x) → IsSome (coming_picture (after_take x down))
+take_known : (x : MachineState) (down : List EventContent) → IsSome (coming_picture x)
+    → IsSome (coming_picture (after_take x down))
 take_known x [] known = known
 take_known x (event ∷ rest) known = known
 
-hear_known : (x : MachineState) (up : List Content) → x.up ≡ up → IsSome (coming_picture x) → IsSome (coming_picture (after_hear x up))
+hear_known : (x : MachineState) (up : List Content) → x.up ≡ up → IsSome (coming_picture x)
+    → IsSome (coming_picture (after_hear x up))
 hear_known x [] e known = known
 hear_known x (message ∷ rest) e known = rw e at known
 
-pub picture_stays_known : (x : MachineState) (move : Move) → move ≢ Move.Break → ¬ (IsHostBreak move) → IsSome (coming_picture x) → IsSome (coming_picture (after_move x move))
+pub picture_stays_known : (x : MachineState) (move : Move) → move ≢ Move.Break → ¬ (IsHostBreak move)
+    → IsSome (coming_picture x) → IsSome (coming_picture (after_move x move))
 picture_stays_known x (Move.Change square piece) other also known = known
 picture_stays_known x (Move.HandClock clock) other also known = known
 picture_stays_known x (Move.Ask command) other also known = known
 picture_stays_known x Move.Take other also known = take_known x x.down known
 picture_stays_known x Move.Reply other also known = reply_known x x.board.owed known
 picture_stays_known x (Move.Tell square) other also known =
-    cond_both (updates x.board.mode && differs x.board square) (after_told x (field_of x.board square)) x (λ (y : MachineState). IsSome (coming_picture y))
+    cond_both (updates x.board.mode && differs x.board square) (after_told x (field_of x.board square)) x
+    (λ (y : MachineState). IsSome (coming_picture y))
     (λ h. sent_known x (field_of x.board square) known) (λ h. known)
 picture_stays_known x Move.TellClock other also known =
-    cond_both x.board.times_owed (after_told x (clock_message x.board.clock)) x (λ (y : MachineState). IsSome (coming_picture y))
+    cond_both x.board.times_owed (after_told x (clock_message x.board.clock)) x
+    (λ (y : MachineState). IsSome (coming_picture y))
     (λ h. sent_known x (clock_message x.board.clock) known) (λ h. known)
 picture_stays_known x Move.Hear other also known = hear_known x x.up refl known
 picture_stays_known x Move.Break other also known = absurd (other refl)
@@ -297,12 +376,15 @@ picture_stays_known x (Move.HostBreak noise is_noise) other also known = absurd 
 
 -- ---- what a board makes of it
 
-effects-mode : (board : BoardState) (events : List EventContent) → (effects board events).mode ≡ last_mode board.mode (filter_map event_mode events)
+effects-mode : (board : BoardState) (events : List EventContent)
+    → (effects board events).mode ≡ last_mode board.mode (filter_map event_mode events)
 effects-mode board [] = refl
 effects-mode board (event ∷ events) =
     effects-mode (effect board event) events
     ∙ ap (λ (mode : Mode). last_mode mode (filter_map event_mode events)) (effect-mode board event)
     ∙ last_mode-cons board.mode (event_mode event) (filter_map event_mode events)
 
-pub noise_keeps_mode : (board : BoardState) (noise : List EventContent) → IsNoiseList noise → (effects board noise).mode ≡ board.mode
-noise_keeps_mode board noise is_noise = effects-mode board noise ∙ ap (last_mode board.mode) (noise-modes noise is_noise)
+pub noise_keeps_mode : (board : BoardState) (noise : List EventContent) → IsNoiseList noise
+    → (effects board noise).mode ≡ board.mode
+noise_keeps_mode board noise is_noise =
+    effects-mode board noise ∙ ap (last_mode board.mode) (noise-modes noise is_noise)

@@ -1,19 +1,21 @@
 -- What a sound state says where nothing is under way and nothing is to be sent.
-use Rattle.std.proofs.Common.{◌≡◌, refl, sym, ap, ◌∙◌, ◌⊎◌, inl, inr, ℕ, zero, suc, ◌<◌, List, [], ◌∷◌, ◌++◌, Option, Some, Bool, true, false, cond, length, get_or, arith}
+use Rattle.std.proofs.Common.{◌≡◌, refl, sym, ap, ◌∙◌, ◌⊎◌, inl, inr, ℕ, zero, suc, ◌<◌, List, [], ◌∷◌, ◌++◌, Option}
+use Rattle.std.proofs.Common.{Some, Bool, true, false, cond, length, get_or, arith}
 use Rattle.std.proofs.lemmas.Bool.{cond-true, false≢true, eqb-true, not-false}
 use Rattle.std.proofs.lemmas.List.{get_or_default, same_lists}
 use Rattle.std.proofs.lemmas.List.FromFn.{get_or-range_with_len}
 use Rattle.std.specs.Prelude.{◌==◌, not, IsTrue, IsSome, is_some, filter, map}
 use Rattle.dgt_values.specs.declared.kinds.Kind.{Kind}
 use Rattle.dgt_values.specs.declared.pieces.Piece.{Piece}
-use Rattle.dgt_values.specs.Board.{piece_code}
-use Rattle.dgt_message.specs.Content.{Content, clock_message}
-use Rattle.dgt_message.specs.Clock.{ClockState}
+use Rattle.dgt_values.specs.Piece.{piece_code}
+use Rattle.dgt_message.specs.Content.{Content}
+use Rattle.dgt_message.specs.ClockState.{ClockState, clock_message}
 use Rattle.dgt_message.specs.Reading.{piece_with_code}
 use Rattle.dgt_command.specs.Content.{CommandContent, EventContent}
 use Rattle.dgt_board.specs.declared.replies.Reply.{Reply}
 use Rattle.dgt_board.specs.State.{BoardState, follows_clock, updates}
-use Rattle.dgt_board.specs.Sending.{clock_news, differs, every_square, field_of, pending_messages, piece_on, reply_message, untold_squares}
+use Rattle.dgt_board.specs.Sending.{clock_news, differs, every_square, field_of, first_reply, pending_messages}
+use Rattle.dgt_board.specs.Sending.{piece_on, untold_squares}
 use Rattle.dgt_link.specs.Machine.{MachineState}
 use Rattle.dgt_link.specs.Sound.{IsSound, IsExact, IsUnknownOr, coming_kinds}
 use Rattle.dgt_link.specs.Promise.{IsPromised, IsQuiet, PictureIsComing, coming_mode}
@@ -22,7 +24,7 @@ use Rattle.dgt_link.proofs.Subsequences.{subsequence_of_nothing}
 
 -- ---- nothing is pending
 
-no_reply : (board : BoardState) (owed : List Reply) → map (reply_message board) owed ≡ [] → owed ≡ []
+no_reply : (board : BoardState) (owed : List Reply) → first_reply board owed ≡ [] → owed ≡ []
 no_reply board [] h = refl
 no_reply board (reply ∷ rest) h = cc
 
@@ -35,14 +37,17 @@ map_empty f [] h = refl
 map_empty f (x ∷ xs) h = cc
 
 -- a test that keeps nothing fails at each element
-kept_none : (test : ℕ → Bool) (x : ℕ) (rest : List ℕ) (passes : Bool) → cond passes (x ∷ rest) rest ≡ [] → (passes ≡ false) × (rest ≡ [])
+kept_none : (test : ℕ → Bool) (x : ℕ) (rest : List ℕ) (passes : Bool) → cond passes (x ∷ rest) rest ≡ []
+    → (passes ≡ false) × (rest ≡ [])
 kept_none test x rest true h = cc
 kept_none test x rest false h = (refl, h)
 
-filter_empty : (test : ℕ → Bool) (xs : List ℕ) (k d : ℕ) → k < length xs → filter test xs ≡ [] → test (get_or xs k d) ≡ false
+filter_empty : (test : ℕ → Bool) (xs : List ℕ) (k d : ℕ) → k < length xs → filter test xs ≡ []
+    → test (get_or xs k d) ≡ false
 filter_empty test [] k d within h = absurd (omega arith)
 filter_empty test (x ∷ xs) zero d within h = (kept_none test x (filter test xs) (test x) h).0
-filter_empty test (x ∷ xs) (suc k) d within h = filter_empty test xs k d (omega arith) (kept_none test x (filter test xs) (test x) h).1
+filter_empty test (x ∷ xs) (suc k) d within h =
+    filter_empty test xs k d (omega arith) (kept_none test x (filter test xs) (test x) h).1
 
 every_square-at : (k : ℕ) → k < 64 → (k < length every_square) × (get_or every_square k 0 ≡ k)
 unfolding every_square
@@ -55,19 +60,24 @@ code-piece _ = refl
 
 same_unless_differs : (told piece : Piece) → not (piece_code told == piece_code piece) ≡ false → told ≡ piece
 same_unless_differs told piece h =
-    sym (code-piece told) ∙ ap piece_with_code (eqb-true (piece_code told) (piece_code piece) (not-false (piece_code told == piece_code piece) h)) ∙ code-piece piece
+    sym (code-piece told) ∙ ap piece_with_code
+    (eqb-true (piece_code told) (piece_code piece) (not-false (piece_code told == piece_code piece) h))
+    ∙ code-piece piece
 
 -- where no square differs, the board has told its squares
-none_differs : (board : BoardState) → length board.squares ≡ 64 → length board.told_squares ≡ 64 → filter (differs board) every_square ≡ [] → board.told_squares ≡ board.squares
+none_differs : (board : BoardState) → length board.squares ≡ 64 → length board.told_squares ≡ 64
+    → filter (differs board) every_square ≡ [] → board.told_squares ≡ board.squares
 none_differs board squares told none = same_lists board.told_squares board.squares (told ∙ sym squares) same_at
   where
-    same_at : (k : ℕ) (d : Piece) → k < length board.told_squares → get_or board.told_squares k d ≡ get_or board.squares k d
+    same_at : (k : ℕ) (d : Piece) → k < length board.told_squares
+        → get_or board.told_squares k d ≡ get_or board.squares k d
     same_at k d h =
         let below : k < 64 = rw told at h in
         let within : k < length board.squares = rw squares below in
         let at = every_square-at k below in
         get_or_default board.told_squares k d Piece.Empty h
-        ∙ same_unless_differs (piece_on board.told_squares k) (piece_on board.squares k) (rw at.1 at (filter_empty (differs board) every_square k 0 at.0 none))
+        ∙ same_unless_differs (piece_on board.told_squares k) (piece_on board.squares k)
+        (rw at.1 at (filter_empty (differs board) every_square k 0 at.0 none))
         ∙ get_or_default board.squares k Piece.Empty d within
 
 -- what a board with nothing to send has told
@@ -76,19 +86,28 @@ pub record IsUpToDate (board : BoardState) : Type 0 where
   pub squares : IsTrue (updates board.mode) → board.told_squares ≡ board.squares
   pub times_owed : board.times_owed ≡ false
 
-up_to_date : (board : BoardState) → length board.squares ≡ 64 → length board.told_squares ≡ 64 → pending_messages board ≡ [] → IsUpToDate board
+up_to_date : (board : BoardState) → length board.squares ≡ 64 → length board.told_squares ≡ 64
+    → pending_messages board ≡ [] → IsUpToDate board
 up_to_date board squares told nothing =
     record {
-      owed = no_reply board board.owed (left_empty (map (reply_message board) board.owed) _ nothing);
-      squares = λ h. none_differs board squares told (sym (cond-true (updates board.mode) (filter (differs board) every_square) [] h) ∙ none);
-      times_owed = no_clock board.times_owed (clock_message board.clock) (right_empty (map (field_of board) (untold_squares board)) (clock_news board) rest);
+      owed = no_reply board board.owed (left_empty (first_reply board board.owed) _ nothing);
+      squares =
+          λ h. none_differs board squares told
+          (sym (cond-true (updates board.mode) (filter (differs board) every_square) [] h) ∙ none);
+      times_owed =
+          no_clock board.times_owed (clock_message board.clock)
+          (right_empty (map (field_of board) (untold_squares board)) (clock_news board) rest);
     }
   where
     rest : map (field_of board) (untold_squares board) ++ clock_news board ≡ []
-    rest = right_empty (map (reply_message board) board.owed) (map (field_of board) (untold_squares board) ++ clock_news board) nothing
+    rest =
+        right_empty (first_reply board board.owed)
+        (map (field_of board) (untold_squares board) ++ clock_news board) nothing
 
     none : untold_squares board ≡ []
-    none = map_empty (field_of board) (untold_squares board) (left_empty (map (field_of board) (untold_squares board)) (clock_news board) rest)
+    none =
+        map_empty (field_of board) (untold_squares board)
+        (left_empty (map (field_of board) (untold_squares board)) (clock_news board) rest)
 
 quiet_up_to_date : (x : MachineState) → IsSound x → IsQuiet x → IsUpToDate x.board
 quiet_up_to_date x sound quiet = up_to_date x.board sound.squares sound.told_squares quiet.pending
@@ -97,12 +116,15 @@ quiet_up_to_date x sound quiet = up_to_date x.board sound.squares sound.told_squ
 picture_at_quiet : (x : MachineState) → IsSound x → IsQuiet x → IsUnknownOr x.picture (Some x.board.told_squares)
 picture_at_quiet x sound quiet = rw quiet.up at sound.picture
 
-told_squares : (picture : Option (List Piece)) (told squares : List Piece) → told ≡ squares → IsUnknownOr picture (Some told) → IsUnknownOr picture (Some squares)
+told_squares : (picture : Option (List Piece)) (told squares : List Piece) → told ≡ squares
+    → IsUnknownOr picture (Some told) → IsUnknownOr picture (Some squares)
 told_squares picture told squares e h = rw e at h
 
-pub quiet_picture : (x : MachineState) → IsSound x → IsQuiet x → IsTrue (updates x.board.mode) → IsUnknownOr x.picture (Some x.board.squares)
+pub quiet_picture : (x : MachineState) → IsSound x → IsQuiet x → IsTrue (updates x.board.mode)
+    → IsUnknownOr x.picture (Some x.board.squares)
 quiet_picture x sound quiet asks =
-    told_squares x.picture x.board.told_squares x.board.squares ((quiet_up_to_date x sound quiet).squares asks) (picture_at_quiet x sound quiet)
+    told_squares x.picture x.board.told_squares x.board.squares ((quiet_up_to_date x sound quiet).squares asks)
+    (picture_at_quiet x sound quiet)
 
 known : (picture told : Option (List Piece)) → IsSome picture → IsUnknownOr picture told → picture ≡ told
 known picture told some (inl none) = absurd (false≢true (ap is_some (sym none) ∙ some))
@@ -111,8 +133,10 @@ known picture told some (inr same) = same
 -- at quiet a picture that was coming has come
 picture_has_come : (x : MachineState) → IsSound x → IsQuiet x → PictureIsComing x → IsSome x.picture
 picture_has_come x sound quiet (inl seen) = rw quiet.up at seen
-picture_has_come x sound quiet (inr (inl owed)) = absurd (nothing_contained (Reply.Of Kind.Dump) (rw (quiet_up_to_date x sound quiet).owed at owed))
-picture_has_come x sound quiet (inr (inr asked)) = absurd (nothing_contained (EventContent.Read CommandContent.Dump) (rw quiet.down at asked))
+picture_has_come x sound quiet (inr (inl owed)) =
+    absurd (nothing_contained (Reply.Of Kind.Dump) (rw (quiet_up_to_date x sound quiet).owed at owed))
+picture_has_come x sound quiet (inr (inr asked)) =
+    absurd (nothing_contained (EventContent.Read CommandContent.Dump) (rw quiet.down at asked))
 
 quiet_mode : (x : MachineState) → IsQuiet x → coming_mode x ≡ x.board.mode
 quiet_mode x quiet = rw quiet.down
@@ -128,10 +152,12 @@ told_clock : (owed : Bool) (told clock : Option ClockState) → owed ≡ false �
 told_clock owed told clock none (inl owes) = absurd (false≢true (sym none ∙ owes))
 told_clock owed told clock none (inr same) = same
 
-pub quiet_clock : (x : MachineState) → IsExact x → IsQuiet x → IsTrue (follows_clock x.board.mode) → x.host_clock ≡ Some x.board.clock
+pub quiet_clock : (x : MachineState) → IsExact x → IsQuiet x → IsTrue (follows_clock x.board.mode)
+    → x.host_clock ≡ Some x.board.clock
 quiet_clock x exact quiet follows =
     (rw quiet.up at exact.clock)
-    ∙ told_clock x.board.times_owed x.board.told_clock (Some x.board.clock) (quiet_up_to_date x exact.sound quiet).times_owed (exact.sound.followed follows)
+    ∙ told_clock x.board.times_owed x.board.told_clock (Some x.board.clock)
+    (quiet_up_to_date x exact.sound quiet).times_owed (exact.sound.followed follows)
 
 -- nothing is awaited at quiet
 nothing_comes : (x : MachineState) → IsSound x → IsQuiet x → coming_kinds x ≡ []

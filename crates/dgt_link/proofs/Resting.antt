@@ -18,16 +18,22 @@ use Rattle.dgt_link.proofs.Dividing.{nothing_is_partial}
 use Rattle.dgt_link.proofs.Quiet.{promised_picture, quiet_awaited, quiet_clock, quiet_picture}
 
 -- the picture to come, by the messages under way
-pub world_fold : (world : WorldView) (x : MachineState) → StandsFor world x → IsUnknownOr (picture_after_all world.host.picture x.up) (Some world.board.state.told_squares)
+pub world_fold : (world : WorldView) (x : MachineState) → StandsFor world x
+    → IsUnknownOr (picture_after_all world.host.picture x.up) (Some world.board.state.told_squares)
 world_fold world x stands = rw (stands.picture, stands.board) stands.sound.picture
 
 -- the answers come in the order of what is awaited
-pub world_first_answer : (world : WorldView) (x : MachineState) (before later : List Content) (message : Content) (kind : Kind) → StandsFor world x → IsExact x → x.up ≡ before ++ message ∷ later → All (λ said. kind_of said ≡ None) before → kind_of message ≡ Some kind → (others : List Kind) × (world.host.awaited ≡ kind ∷ others)
+pub world_first_answer : (world : WorldView) (x : MachineState) (before later : List Content) (message : Content)
+    (kind : Kind)
+    → StandsFor world x → IsExact x → x.up ≡ before ++ message ∷ later → All (λ said. kind_of said ≡ None) before
+    → kind_of message ≡ Some kind → (others : List Kind) × (world.host.awaited ≡ kind ∷ others)
 world_first_answer world x before later message kind stands exact e none is =
     let answer = first_answer x before later message kind exact e none is in
     (answer.0, stands.awaited ∙ answer.1)
 
-pub world_never_unasked : (world : WorldView) (x : MachineState) (later : List Content) (message : Content) → StandsFor world x → IsExact x → x.up ≡ message ∷ later → ¬ (IsUnasked world.host.awaited (Some (Event.Message message)))
+pub world_never_unasked : (world : WorldView) (x : MachineState) (later : List Content) (message : Content)
+    → StandsFor world x → IsExact x → x.up ≡ message ∷ later
+    → ¬ (IsUnasked world.host.awaited (Some (Event.Message message)))
 world_never_unasked world x later message stands exact e = rw stands.awaited (never_unasked x later message exact e)
 
 nothing_spelled : (messages : List Content) → AreSpelled messages [] → messages ≡ []
@@ -39,7 +45,8 @@ nothing_first [] h = refl
 nothing_first (message ∷ rest) h = cc
 
 -- a quiet world stands for a quiet state
-pub quiet_state : EachDividesOnce → (world : WorldView) (x : MachineState) → StandsFor world x → IsQuietWorld world → IsQuiet x
+pub quiet_state : EachDividesOnce → (world : WorldView) (x : MachineState) → StandsFor world x → IsQuietWorld world
+    → IsQuiet x
 quiet_state law world x stands (up, down, unread, partial, none) =
     record {
       up = nothing_spelled x.up (rw (unread, up) at stands.up);
@@ -47,15 +54,24 @@ quiet_state law world x stands (up, down, unread, partial, none) =
       pending = nothing_first (pending_messages x.board) (rw stands.board at none);
     }
 
-module _ (law : EachDividesOnce) (world : WorldView) (x : MachineState) (stands : StandsFor world x) (quiet : IsQuietWorld world) where
+module _ (law : EachDividesOnce) (world : WorldView) (x : MachineState) (stands : StandsFor world x)
+    (quiet : IsQuietWorld world) where
   pub world_awaits_nothing : world.host.awaited ≡ []
   world_awaits_nothing = stands.awaited ∙ quiet_awaited x stands.sound (quiet_state law world x stands quiet)
 
-  pub world_picture_told : IsTrue (updates world.board.state.mode) → IsUnknownOr world.host.picture (Some world.board.state.squares)
-  world_picture_told asks = rw (stands.picture, stands.board) (quiet_picture x stands.sound (quiet_state law world x stands quiet) (rw stands.board at asks))
+  pub world_picture_told : IsTrue (updates world.board.state.mode)
+      → IsUnknownOr world.host.picture (Some world.board.state.squares)
+  world_picture_told asks =
+      rw (stands.picture, stands.board)
+      (quiet_picture x stands.sound (quiet_state law world x stands quiet) (rw stands.board at asks))
 
-  pub world_clock_told : IsExact x → IsTrue (follows_clock world.board.state.mode) → world.host.clock ≡ Some world.board.state.clock
-  world_clock_told exact follows = rw (stands.clock, stands.board) (quiet_clock x exact (quiet_state law world x stands quiet) (rw stands.board at follows))
+  pub world_clock_told : IsExact x → IsTrue (follows_clock world.board.state.mode)
+      → world.host.clock ≡ Some world.board.state.clock
+  world_clock_told exact follows =
+      rw (stands.clock, stands.board)
+      (quiet_clock x exact (quiet_state law world x stands quiet) (rw stands.board at follows))
 
   pub world_picture : IsPromised x → world.host.picture ≡ Some world.board.state.squares
-  world_picture promised = rw (stands.picture, stands.board) (promised_picture x stands.sound promised (quiet_state law world x stands quiet))
+  world_picture promised =
+      rw (stands.picture, stands.board)
+      (promised_picture x stands.sound promised (quiet_state law world x stands quiet))

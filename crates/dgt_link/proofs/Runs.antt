@@ -19,7 +19,8 @@ moves_sound x (move ∷ moves) sound = moves_sound (after_move x move) moves (mo
 pub moves_exact : (x : MachineState) (moves : List Move) → AllByRecursion (λ move. ¬ (IsHostBreak move)) moves
     → IsExact x → IsExact (after_moves x moves)
 moves_exact x [] others exact = exact
-moves_exact x (move ∷ moves) others exact = moves_exact (after_move x move) moves others.1 (move_exact x move others.0 exact)
+moves_exact x (move ∷ moves) others exact =
+    moves_exact (after_move x move) moves others.1 (move_exact x move others.0 exact)
 
 -- ---- what moves ask
 
@@ -47,7 +48,8 @@ pub moves-mode : (x : MachineState) (moves : List Move)
     → coming_mode (after_moves x moves) ≡ mode_after (coming_mode x) (flat_map requests moves)
 moves-mode x [] = refl
 moves-mode x (move ∷ moves) =
-    moves-mode (after_move x move) moves ∙ ap (λ (mode : Mode). mode_after mode (flat_map requests moves)) (move-mode x move)
+    moves-mode (after_move x move) moves ∙ ap (λ (mode : Mode). mode_after mode (flat_map requests moves))
+    (move-mode x move)
     ∙ sym (mode_after-append (coming_mode x) (requests move) (flat_map requests moves))
 
 pub moves_promise : (x : MachineState) (moves : List Move) → IsAsked (commands_after [] (flat_map requests moves))

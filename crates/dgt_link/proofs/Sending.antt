@@ -1,17 +1,20 @@
 -- What a board sends next is one of the moves of the machine.
-use Rattle.std.specs.Prelude.{slice_get}
-use Rattle.std.proofs.Common.{◌≡◌, refl, sym, ap, ◌∙◌, ◌⊎◌, inl, inr, ℕ, List, [], ◌∷◌, ◌++◌, Some, Bool, true, false, ◌&&◌, cond, map, drop}
+use Rattle.std.proofs.Common.{◌≡◌, refl, sym, ap, ◌∙◌, ◌⊎◌, inl, inr, ℕ, List, [], ◌∷◌, ◌++◌, Some, Bool, true, false}
+use Rattle.std.proofs.Common.{◌&&◌, cond, map, drop}
 use Rattle.std.proofs.lemmas.Bool.{cond-true, and_from}
 use Rattle.std.specs.Prelude.{filter}
-use Rattle.dgt_message.specs.Content.{Content, clock_message}
+use Rattle.dgt_message.specs.Content.{Content}
+use Rattle.dgt_message.specs.ClockState.{clock_message}
 use Rattle.dgt_board.specs.declared.replies.Reply.{Reply}
 use Rattle.dgt_board.specs.State.{BoardState, updates}
-use Rattle.dgt_board.specs.Sending.{after_sending, after_telling, clock_news, differs, every_square, field_of, next_message, reply_message, untold_squares}
+use Rattle.dgt_board.specs.Sending.{after_sending, after_telling, clock_news, differs, every_square, field_of}
+use Rattle.dgt_board.specs.Sending.{first_message, first_reply, next_message, reply_message, untold_squares}
 use Rattle.dgt_link.specs.Machine.{IsSending, Move, MachineState, after_move, after_reply, after_told}
 use Rattle.dgt_link.proofs.Lists.{some_same}
 
 -- what a message tells does not depend on the replies owed
-told_squares_after-owed : (board : BoardState) (owed : List Reply) (message : Content) → after_telling (record board { owed = owed }) message ≡ record (after_telling board message) { owed = owed }
+told_squares_after-owed : (board : BoardState) (owed : List Reply) (message : Content)
+    → after_telling (record board { owed = owed }) message ≡ record (after_telling board message) { owed = owed }
 told_squares_after-owed board owed (Content.dump pieces) = refl
 told_squares_after-owed board owed (Content.field square piece) = refl
 told_squares_after-owed board owed (Content.times readings) = refl
@@ -25,44 +28,64 @@ sent_state x message = record x { board = after_sending x.board message; up = x.
 abbrev SendsIt : MachineState → Content → Type 0
 SendsIt x message = (move : Move) × IsSending move × (after_move x move ≡ sent_state x message)
 
-reply_is_sent : (x : MachineState) (first : Reply) (rest owed : List Reply) → owed ≡ first ∷ rest → after_reply x owed ≡ record x { board = record (after_telling x.board (reply_message x.board first)) { owed = drop 1 owed }; up = x.up ++ reply_message x.board first ∷ [] }
+reply_is_sent : (x : MachineState) (first : Reply) (rest owed : List Reply) → owed ≡ first ∷ rest
+    → after_reply x owed ≡ record x {
+      board = record
+          (after_telling x.board (reply_message x.board first)) { owed = drop 1 owed };
+      up = x.up ++ reply_message x.board first ∷ [];
+    }
 reply_is_sent x first rest owed e =
-    rw e (ap (λ (board : BoardState). record x { board = board; up = x.up ++ reply_message x.board first ∷ [] }) (told_squares_after-owed x.board rest (reply_message x.board first)))
+    rw e (ap (λ (board : BoardState). record x { board = board; up = x.up ++ reply_message x.board first ∷ [] })
+    (told_squares_after-owed x.board rest (reply_message x.board first)))
 
 -- with no reply owed
 without_reply : (x : MachineState) (message : Content) → x.board.owed ≡ [] → after_told x message ≡ sent_state x message
 without_reply x message e =
-    ap (λ (owed : List Reply). record x { board = record (after_telling x.board message) { owed = owed }; up = x.up ++ message ∷ [] })
+    ap (λ (owed : List Reply). record x {
+      board = record
+          (after_telling x.board message) { owed = owed };
+      up = x.up ++ message ∷ [];
+    })
     (e ∙ sym (ap (drop 1) e))
 
 -- the first of the field updates, or what comes after them
 abbrev FirstField : Bool → (ℕ → Content) → (ℕ → Bool) → Content → Type 0
 FirstField asks field test message = (square : ℕ) × (asks ≡ true) × (test square ≡ true) × (field square ≡ message)
 
-first_kept : (field : ℕ → Content) (test : ℕ → Bool) (square : ℕ) (rest : List ℕ) (others : List Content) (message : Content) (passes : Bool) → test square ≡ passes → slice_get (map field (cond passes (square ∷ rest) rest) ++ others) 0 ≡ Some message → FirstField true field test message ⊎ (slice_get (map field rest ++ others) 0 ≡ Some message)
+first_kept : (field : ℕ → Content) (test : ℕ → Bool) (square : ℕ) (rest : List ℕ) (others : List Content)
+    (message : Content) (passes : Bool)
+    → test square ≡ passes → first_message (map field (cond passes (square ∷ rest) rest) ++ others) ≡ Some message
+    → FirstField true field test message ⊎ (first_message (map field rest ++ others) ≡ Some message)
 first_kept field test square rest others message true e h = inl (square, refl, e, some_same (field square) message h)
 first_kept field test square rest others message false e h = inr h
 
-first_field : (asks : Bool) (field : ℕ → Content) (test : ℕ → Bool) (squares : List ℕ) (others : List Content) (message : Content) → slice_get (map field (cond asks (filter test squares) []) ++ others) 0 ≡ Some message → FirstField asks field test message ⊎ (slice_get others 0 ≡ Some message)
+first_field : (asks : Bool) (field : ℕ → Content) (test : ℕ → Bool) (squares : List ℕ) (others : List Content)
+    (message : Content)
+    → first_message (map field (cond asks (filter test squares) []) ++ others) ≡ Some message
+    → FirstField asks field test message ⊎ (first_message others ≡ Some message)
 first_field false field test squares others message h = inr h
 first_field true field test [] others message h = inr h
 first_field true field test (square ∷ squares) others message h =
     elim (first_kept field test square (filter test squares) others message (test square) refl h)
     [ inl found ↦ inl found | inr later ↦ first_field true field test squares others message later ]
 
-first_news : (owed : Bool) (news message : Content) → slice_get (cond owed (news ∷ []) []) 0 ≡ Some message → (owed ≡ true) × (news ≡ message)
+first_news : (owed : Bool) (news message : Content) → first_message (cond owed (news ∷ []) []) ≡ Some message
+    → (owed ≡ true) × (news ≡ message)
 first_news true news message h = (refl, some_same news message h)
 first_news false news message h = cc
 
-tell_is_sent : (x : MachineState) (message : Content) → x.board.owed ≡ [] → FirstField (updates x.board.mode) (field_of x.board) (differs x.board) message → SendsIt x message
+tell_is_sent : (x : MachineState) (message : Content) → x.board.owed ≡ []
+    → FirstField (updates x.board.mode) (field_of x.board) (differs x.board) message → SendsIt x message
 tell_is_sent x message none (square, asks, differing, same) = (
   Move.Tell square,
   tt,
-  cond-true (updates x.board.mode && differs x.board square) (after_told x (field_of x.board square)) x (and_from (updates x.board.mode) (differs x.board square) asks differing)
+  cond-true (updates x.board.mode && differs x.board square) (after_told x (field_of x.board square)) x
+      (and_from (updates x.board.mode) (differs x.board square) asks differing)
       ∙ without_reply x (field_of x.board square) none ∙ ap (sent_state x) same,
 )
 
-clock_is_sent : (x : MachineState) (message : Content) → x.board.owed ≡ [] → (x.board.times_owed ≡ true) × (clock_message x.board.clock ≡ message) → SendsIt x message
+clock_is_sent : (x : MachineState) (message : Content) → x.board.owed ≡ []
+    → (x.board.times_owed ≡ true) × (clock_message x.board.clock ≡ message) → SendsIt x message
 clock_is_sent x message none (owed, same) = (
   Move.TellClock,
   tt,
@@ -70,13 +93,22 @@ clock_is_sent x message none (owed, same) = (
       ∙ without_reply x (clock_message x.board.clock) none ∙ ap (sent_state x) same,
 )
 
-next_of : (x : MachineState) (owed : List Reply) (message : Content) → x.board.owed ≡ owed → slice_get (map (reply_message x.board) owed ++ (map (field_of x.board) (untold_squares x.board) ++ clock_news x.board)) 0 ≡ Some message → SendsIt x message
-next_of x (first ∷ rest) message e h =
-    (Move.Reply, tt, reply_is_sent x first rest x.board.owed e ∙ ap (sent_state x) (some_same (reply_message x.board first) message h))
+next_of : (x : MachineState) (owed : List Reply) (message : Content) → x.board.owed ≡ owed
+    → first_message (first_reply x.board owed ++
+    (map (field_of x.board) (untold_squares x.board) ++ clock_news x.board)) ≡ Some message
+    → SendsIt x message
+next_of x (first ∷ rest) message e h = (
+  Move.Reply,
+  tt,
+  reply_is_sent x first rest x.board.owed e ∙ ap (sent_state x)
+      (some_same (reply_message x.board first) message h),
+)
 next_of x [] message e h =
-    elim (first_field (updates x.board.mode) (field_of x.board) (differs x.board) every_square (clock_news x.board) message h) [
+    elim (first_field (updates x.board.mode) (field_of x.board) (differs x.board) every_square
+    (clock_news x.board) message h) [
       | inl found ↦ tell_is_sent x message e found
-      | inr later ↦ clock_is_sent x message e (first_news x.board.times_owed (clock_message x.board.clock) message later)
+      | inr later ↦ clock_is_sent x message e
+          (first_news x.board.times_owed (clock_message x.board.clock) message later)
     ]
 
 -- the message that a board sends next is sent by a move

@@ -1,5 +1,7 @@
 -- Why a world comes to rest, and what it keeps on the way.
-use Rattle.std.proofs.Common.{arith, ◌≡◌, ◌≢◌, refl, sym, ap, subst, ◌∙◌, ◌⊎◌, inl, inr, ℕ, ◌+◌, ◌*◌, ◌^◌, ◌<◌, ◌≤◌, ◌==◌, zero, suc, List, [], ◌∷◌, ◌++◌, Some, None, Bool, true, false, cond, Option, length, take, drop, replicate, append-nil}
+use Rattle.std.proofs.Common.{arith, ◌≡◌, ◌≢◌, refl, sym, ap, subst, ◌∙◌, ◌⊎◌, inl, inr, ℕ, ◌+◌, ◌*◌, ◌^◌, ◌<◌, ◌≤◌}
+use Rattle.std.proofs.Common.{◌==◌, zero, suc, List, [], ◌∷◌, ◌++◌, Some, None, Bool, true, false, cond, Option, length}
+use Rattle.std.proofs.Common.{take, drop, replicate, append-nil}
 use Rattle.std.proofs.lemmas.List.{length-append, length-drop, length-take-le, drop_all, replicate_more}
 use Rattle.std.proofs.lemmas.Bool.{eqb-true, false≢true, ltb-false}
 use Rattle.std.proofs.Math.Nat.{mul-le-mul_left}
@@ -29,14 +31,16 @@ use Rattle.dgt_link.specs.Sound.{IsUnknownOr}
 use Rattle.dgt_link.proofs.Dividing.{no_word_within}
 use Rattle.dgt_link.proofs.Lists.{Contains-cons, all_append, nothing_contained, IsShorter, Reaches, fronts}
 use Rattle.dgt_link.proofs.Hearing.{Reads, held_alone, nothing_open}
-use Rattle.dgt_link.proofs.Resting.{quiet_state, world_awaits_nothing, world_clock_told, world_picture, world_picture_told}
+use Rattle.dgt_link.proofs.Resting.{quiet_state, world_awaits_nothing, world_clock_told, world_picture}
+use Rattle.dgt_link.proofs.Resting.{world_picture_told}
 use Rattle.dgt_link.proofs.Running.{run-push}
-use Rattle.dgt_link.proofs.Taking.{effect_leaves}
+use Rattle.dgt_link.proofs.Taking.{HasSameGame, effects_same_game}
 
 -- ---- each event has a byte of its own
 
 module _ (short : WordsAreShort) (within : NoWordBeginsAnother) where
-  few_events : (events : List EventContent) (bytes rest : List ℕ) → Divides bytes events rest → length events ≤ length bytes
+  few_events : (events : List EventContent) (bytes rest : List ℕ) → Divides bytes events rest
+      → length events ≤ length bytes
   few_events [] bytes rest divides = omega arith
   few_events (event ∷ events) bytes rest (word, after, is, e, divides) =
       let some = (short event word is).0 in
@@ -44,9 +48,11 @@ module _ (short : WordsAreShort) (within : NoWordBeginsAnother) where
       rw (e, length-append word after) (omega (arith, some, more))
 
   -- bytes behind a part of a word make at most as many events as they are
-  pub few_taken : (partial bytes rest : List ℕ) (events : List EventContent) → IsPartial partial → Divides (partial ++ bytes) events rest → length events ≤ length bytes
+  pub few_taken : (partial bytes rest : List ℕ) (events : List EventContent) → IsPartial partial
+      → Divides (partial ++ bytes) events rest → length events ≤ length bytes
   few_taken partial bytes rest [] is divides = omega arith
-  few_taken partial bytes rest (event ∷ events) is (word, after, is_word, e, divides) = go (fronts partial bytes word after e)
+  few_taken partial bytes rest (event ∷ events) is (word, after, is_word, e, divides) =
+      go (fronts partial bytes word after e)
     where
       more : length events ≤ length after
       more = few_events events after rest divides
@@ -62,46 +68,39 @@ module _ (short : WordsAreShort) (within : NoWordBeginsAnother) where
 
 -- ---- what a step towards rest keeps and uses up
 
-pub record Kept (world after : WorldView) : Type 0 where
-  pub squares : after.board.state.squares ≡ world.board.state.squares
-  pub clock : after.board.state.clock ≡ world.board.state.clock
+becomes_same : (act : ActContent) (world after : WorldView) → IsSettling act → Becomes act world after
+    → HasSameGame world.board.state after.board.state
+becomes_same ActContent.BoardSend world after is (message, is_next, spells, same) =
+    rw same (record { squares = refl; clock = refl })
+becomes_same (ActContent.ToBoard count) world after is delivers =
+    rw (delivers.leaves, delivers.taken.state) (effects_same_game world.board.state delivers.taken.events)
+becomes_same (ActContent.ToHost count) world after is same = rw same (record { squares = refl; clock = refl })
+becomes_same (ActContent.Change square piece) world after none same = absurd none
+becomes_same (ActContent.ClockRead clock) world after none same = absurd none
+becomes_same (ActContent.Host command) world after none same = absurd none
+becomes_same ActContent.Break world after none same = absurd none
+becomes_same ActContent.HostBreak world after none same = absurd none
 
-effects_keep : (board : BoardState) (events : List EventContent) → ((effects board events).squares ≡ board.squares) × ((effects board events).clock ≡ board.clock)
-effects_keep board [] = (refl, refl)
-effects_keep board (event ∷ events) =
-    let first = effect_leaves board event in
-    let rest = effects_keep (effect board event) events in
-    (rest.0 ∙ first.squares, rest.1 ∙ first.clock)
+step_same : (act : ActContent) (world after : WorldView) (answer : Outcome) → IsSettling act
+    → Step act world answer after → HasSameGame world.board.state after.board.state
+step_same act world after Outcome.Done is step = becomes_same act world after is step.leaves
+step_same act world after Outcome.Nothing is step = rw step.leaves (record { squares = refl; clock = refl })
+step_same act world after Outcome.NoRoom is step = rw step.leaves (record { squares = refl; clock = refl })
+step_same act world after Outcome.Busy is step = rw step.leaves (record { squares = refl; clock = refl })
+step_same act world after Outcome.TooMany is step = rw step.leaves (record { squares = refl; clock = refl })
 
-becomes_kept : (act : ActContent) (world after : WorldView) → IsSettling act → Becomes act world after → Kept world after
-becomes_kept ActContent.BoardSend world after is (message, is_next, spells, same) = rw same (record { squares = refl; clock = refl })
-becomes_kept (ActContent.ToBoard count) world after is delivers =
-    let kept = effects_keep world.board.state delivers.taken.events in
-    rw (delivers.leaves, delivers.taken.state) (record { squares = kept.0; clock = kept.1 })
-becomes_kept (ActContent.ToHost count) world after is same = rw same (record { squares = refl; clock = refl })
-becomes_kept (ActContent.Change square piece) world after none same = absurd none
-becomes_kept (ActContent.ClockRead clock) world after none same = absurd none
-becomes_kept (ActContent.Host command) world after none same = absurd none
-becomes_kept ActContent.Break world after none same = absurd none
-becomes_kept ActContent.HostBreak world after none same = absurd none
-
-step_kept : (act : ActContent) (world after : WorldView) (answer : Outcome) → IsSettling act → Step act world answer after → Kept world after
-step_kept act world after Outcome.Done is step = becomes_kept act world after is step.leaves
-step_kept act world after Outcome.Nothing is step = rw step.leaves (record { squares = refl; clock = refl })
-step_kept act world after Outcome.NoRoom is step = rw step.leaves (record { squares = refl; clock = refl })
-step_kept act world after Outcome.Busy is step = rw step.leaves (record { squares = refl; clock = refl })
-step_kept act world after Outcome.TooMany is step = rw step.leaves (record { squares = refl; clock = refl })
-
-pub run_kept : (acts : List ActContent) (world after : WorldView) (answers : List Outcome) → AllByRecursion IsSettling acts → Runs acts world answers after → Kept world after
-run_kept [] world after [] all same = rw same (record { squares = refl; clock = refl })
-run_kept (act ∷ acts) world after (answer ∷ answers) all (between, step, runs) =
-    let first = step_kept act world between answer all.0 step in
-    let rest = run_kept acts between after answers all.1 runs in
+pub run_same : (acts : List ActContent) (world after : WorldView) (answers : List Outcome)
+    → AllByRecursion IsSettling acts → Runs acts world answers after → HasSameGame world.board.state after.board.state
+run_same [] world after [] all same = rw same (record { squares = refl; clock = refl })
+run_same (act ∷ acts) world after (answer ∷ answers) all (between, step, runs) =
+    let first = step_same act world between answer all.0 step in
+    let rest = run_same acts between after answers all.1 runs in
     record { squares = rest.squares ∙ first.squares; clock = rest.clock ∙ first.clock }
-run_kept [] world after (answer ∷ answers) all none = absurd none
-run_kept (act ∷ acts) world after [] all none = absurd none
+run_same [] world after (answer ∷ answers) all none = absurd none
+run_same (act ∷ acts) world after [] all none = absurd none
 
-settling_mode : (before : Mode) (act : ActContent) (answer : Outcome) → IsSettling act → mode_after before (act_requests answer act) ≡ before
+settling_mode : (before : Mode) (act : ActContent) (answer : Outcome) → IsSettling act
+    → mode_after before (act_requests answer act) ≡ before
 settling_mode before ActContent.BoardSend Outcome.Done is = refl
 settling_mode before (ActContent.ToBoard count) Outcome.Done is = refl
 settling_mode before (ActContent.ToHost count) Outcome.Done is = refl
@@ -127,9 +126,11 @@ settling_no_break (ActContent.ToBoard count) is e = cc
 settling_no_break (ActContent.ToHost count) is e = cc
 
 -- and holds no host break
-pub settling_no_host_break : (acts : List ActContent) → AllByRecursion IsSettling acts → ¬ (Contains acts ActContent.HostBreak)
+pub settling_no_host_break : (acts : List ActContent) → AllByRecursion IsSettling acts
+    → ¬ (Contains acts ActContent.HostBreak)
 settling_no_host_break [] all found = nothing_contained ActContent.HostBreak found
-settling_no_host_break (act ∷ acts) all found = go (settling_no_host_break acts all.1) (Contains-cons ActContent.HostBreak act acts found)
+settling_no_host_break (act ∷ acts) all found =
+    go (settling_no_host_break acts all.1) (Contains-cons ActContent.HostBreak act acts found)
   where
     go : ¬ (Contains acts ActContent.HostBreak) → (act ≡ ActContent.HostBreak) ⊎ Contains acts ActContent.HostBreak → ⊥
     go rest (inl e) = subst IsSettling e all.0
@@ -142,11 +143,18 @@ pub record KeepsPromise (x : MachineState) (after : WorldView) : Type 0 where
   pub mode : coming_mode state ≡ coming_mode x
   pub picture : PictureIsComing x → PictureIsComing state
 
-module _ (moves : (act : ActContent) (world after : WorldView) (answer : Outcome) (x : MachineState) → StandsFor world x → Step act world answer after → StandsAfterStep act answer x after)
-    (mode : (act : ActContent) (world after : WorldView) (answer : Outcome) (x y : MachineState) → StandsFor world x → Step act world answer after → StandsFor after y → coming_mode y ≡ mode_after (coming_mode x) (act_requests answer act))
-    (kept : (act : ActContent) (world after : WorldView) (answer : Outcome) (x y : MachineState) → act ≢ ActContent.Break → StandsFor world x → Step act world answer after → StandsFor after y → PictureIsComing x → PictureIsComing y) where
-  pub run_promise : (acts : List ActContent) (world after : WorldView) (answers : List Outcome) (x : MachineState) → AllByRecursion IsSettling acts → StandsFor world x → Runs acts world answers after → KeepsPromise x after
-  run_promise [] world after [] x all stands same = record { state = x; stands = rw same stands; mode = refl; picture = λ h. h }
+module _ (moves : (act : ActContent) (world after : WorldView) (answer : Outcome) (x : MachineState) → StandsFor world x
+    → Step act world answer after → StandsAfterStep act answer x after)
+    (mode : (act : ActContent) (world after : WorldView) (answer : Outcome) (x y : MachineState) → StandsFor world x
+    → Step act world answer after → StandsFor after y → coming_mode y ≡ mode_after (coming_mode x)
+    (act_requests answer act))
+    (kept : (act : ActContent) (world after : WorldView) (answer : Outcome) (x y : MachineState)
+    → act ≢ ActContent.Break → StandsFor world x → Step act world answer after → StandsFor after y → PictureIsComing x
+    → PictureIsComing y) where
+  pub run_promise : (acts : List ActContent) (world after : WorldView) (answers : List Outcome) (x : MachineState)
+      → AllByRecursion IsSettling acts → StandsFor world x → Runs acts world answers after → KeepsPromise x after
+  run_promise [] world after [] x all stands same =
+      record { state = x; stands = rw same stands; mode = refl; picture = λ h. h }
   run_promise (act ∷ acts) world after (answer ∷ answers) x all stands (between, step, runs) =
       let reached = moves act world between answer x stands step in
       let y : MachineState = after_moves x reached.0 in
@@ -154,8 +162,11 @@ module _ (moves : (act : ActContent) (world after : WorldView) (answer : Outcome
       record {
         state = rest.state;
         stands = rest.stands;
-        mode = rest.mode ∙ mode act world between answer x y stands step reached.2 ∙ settling_mode (coming_mode x) act answer all.0;
-        picture = λ h. rest.picture (kept act world between answer x y (settling_no_break act all.0) stands step reached.2 h);
+        mode =
+            rest.mode ∙ mode act world between answer x y stands step reached.2 ∙ settling_mode
+            (coming_mode x) act answer all.0;
+        picture =
+            λ h. rest.picture (kept act world between answer x y (settling_no_break act all.0) stands step reached.2 h);
       }
   run_promise [] world after (answer ∷ answers) x all stands none = absurd none
   run_promise (act ∷ acts) world after [] x all stands none = absurd none
@@ -169,29 +180,39 @@ at_most_one n = go (n == 0)
     go true = omega arith
     go false = omega arith
 
-module _ (falls : (board : BoardState) (message : Content) → length board.told_squares ≡ 64 → next_message board ≡ Some message → backlog (after_sending board message) < backlog board) where
-  pub send_works : (world after : WorldView) → length world.board.state.told_squares ≡ 64 → Becomes ActContent.BoardSend world after → work_left after < work_left world
+module _ (falls : (board : BoardState) (message : Content) → length board.told_squares ≡ 64 → next_message board
+    ≡ Some message → backlog (after_sending board message) < backlog board) where
+  pub send_works : (world after : WorldView) → length world.board.state.told_squares ≡ 64
+      → Becomes ActContent.BoardSend world after → work_left after < work_left world
   send_works world after squares (message, is_next, spells, same) =
       let less = falls world.board.state message squares is_next in
       let flag = at_most_one (length (world.up.bytes ++ spelling message)) in
       rw same (omega (arith, less, flag))
 
-module _ (short : WordsAreShort) (within : NoWordBeginsAnother) (rises : (board : BoardState) (events : List EventContent) → backlog (effects board events) ≤ backlog board + length events) where
-  pub take_works : (world after : WorldView) (count : ℕ) → IsPartial world.board.partial → Becomes (ActContent.ToBoard count) world after → work_left after < work_left world
+module _ (short : WordsAreShort) (within : NoWordBeginsAnother)
+    (rises : (board : BoardState) (events : List EventContent) → backlog
+    (effects board events) ≤ backlog board + length events) where
+  pub take_works : (world after : WorldView) (count : ℕ) → IsPartial world.board.partial
+      → Becomes (ActContent.ToBoard count) world after → work_left after < work_left world
   take_works world after count partial delivers =
       let taken = delivers.taken in
-      let few = few_taken short within world.board.partial (take delivers.moved world.down.bytes) delivers.board.partial taken.events partial taken.divided in
-      let size : length (take delivers.moved world.down.bytes) ≡ delivers.moved = length-take-le delivers.moved world.down.bytes delivers.within.1 in
+      let few = few_taken short within world.board.partial
+      (take delivers.moved world.down.bytes) delivers.board.partial taken.events partial taken.divided in
+      let size : length (take delivers.moved world.down.bytes) ≡ delivers.moved
+      = length-take-le delivers.moved world.down.bytes delivers.within.1 in
       let more = rises world.board.state taken.events in
-      let left : length (drop delivers.moved world.down.bytes) + delivers.moved ≡ length world.down.bytes = rw (length-drop delivers.moved world.down.bytes) (omega (arith, delivers.within.1)) in
+      let left : length (drop delivers.moved world.down.bytes) + delivers.moved ≡ length world.down.bytes
+      = rw (length-drop delivers.moved world.down.bytes) (omega (arith, delivers.within.1)) in
       let some = delivers.some in
-      let state : backlog delivers.board.state ≡ backlog (effects world.board.state taken.events) = ap backlog taken.state in
+      let state : backlog delivers.board.state ≡ backlog (effects world.board.state taken.events)
+      = ap backlog taken.state in
       rw delivers.leaves (omega (arith, few, size, more, left, some, state))
 
 no_more : (bytes : List ℕ) → length (drop (length bytes) bytes) ≡ 0
 no_more bytes = ap length (drop_all (length bytes) bytes (omega arith))
 
-pub hear_works : (world after : WorldView) → (length world.up.bytes == 0) ≡ false → Becomes (ActContent.ToHost (length world.up.bytes)) world after → work_left after < work_left world
+pub hear_works : (world after : WorldView) → (length world.up.bytes == 0) ≡ false
+    → Becomes (ActContent.ToHost (length world.up.bytes)) world after → work_left after < work_left world
 hear_works world after some same =
     rw (same, no_more world.up.bytes, some) (omega arith)
 
@@ -202,25 +223,40 @@ module _ (reads : Reads) where
   nothing_left_open : (messages : List Content) (bytes : List ℕ) → AreSpelled messages bytes → open_message bytes ≡ []
   nothing_left_open [] bytes spelled = rw spelled.in_a_row nothing_open
   nothing_left_open (message ∷ messages) bytes spelled =
-      let rest : open_message (flat_map spelling messages) ≡ [] = nothing_left_open messages (flat_map spelling messages) (record { are_messages = spelled.are_messages.1; in_a_row = refl }) in
-      rw (spelled.in_a_row, reads.open_append (spelling message) (flat_map spelling messages), held_alone reads message spelled.are_messages.0) rest
+      let rest : open_message (flat_map spelling messages) ≡ []
+      = nothing_left_open messages (flat_map spelling messages) (record {
+        are_messages = spelled.are_messages.1;
+        in_a_row = refl;
+      }) in
+      rw (
+        spelled.in_a_row,
+        reads.open_append (spelling message)
+            (flat_map spelling messages),
+        held_alone reads message spelled.are_messages.0,
+      ) rest
 
-  pub nothing_unread : (messages : List Content) (unread : List ℕ) → AreSpelled messages (unread ++ []) → open_message unread ≡ unread → unread ≡ []
+  pub nothing_unread : (messages : List Content) (unread : List ℕ) → AreSpelled messages (unread ++ [])
+      → open_message unread ≡ unread → unread ≡ []
   nothing_unread messages unread spelled held =
       sym held ∙ nothing_left_open messages unread (rw (append-nil unread) at spelled)
 
-pub nothing_partial : EachDividesOnce → (events : List EventContent) (partial : List ℕ) → IsPartial partial → Divides (partial ++ []) events [] → partial ≡ []
-nothing_partial law events partial is divides = sym (law.1 (partial ++ []) events [] [] partial divides (append-nil partial, is)).1
+pub nothing_partial : EachDividesOnce → (events : List EventContent) (partial : List ℕ) → IsPartial partial
+    → Divides (partial ++ []) events [] → partial ≡ []
+nothing_partial law events partial is divides =
+    sym (law.1 (partial ++ []) events [] [] partial divides (append-nil partial, is)).1
 
 -- what is left is done
-done_at : (act : ActContent) (world after : WorldView) (answer : Outcome) → answer ≡ Outcome.Done → Step act world answer after → Step act world Outcome.Done after
+done_at : (act : ActContent) (world after : WorldView) (answer : Outcome) → answer ≡ Outcome.Done
+    → Step act world answer after → Step act world Outcome.Done after
 done_at act world after answer e step = rw e at step
 
 -- one act towards rest
 abbrev pub Moves : WorldView → WorldView → Type 0
-Moves world after = (act : ActContent) × IsSettling act × Step act world Outcome.Done after × (work_left after < work_left world)
+Moves world after =
+    (act : ActContent) × IsSettling act × Step act world Outcome.Done after × (work_left after < work_left world)
 
-pub hears : (world after : WorldView) (answer : Outcome) → (length world.up.bytes == 0) ≡ false → Step (ActContent.ToHost (length world.up.bytes)) world answer after → Moves world after
+pub hears : (world after : WorldView) (answer : Outcome) → (length world.up.bytes == 0) ≡ false
+    → Step (ActContent.ToHost (length world.up.bytes)) world answer after → Moves world after
 hears world after answer some step =
     let is_done : answer ≡ Outcome.Done = step.answers ∙ rw some refl in
     let step' = done_at (ActContent.ToHost (length world.up.bytes)) world after answer is_done step in
@@ -230,7 +266,8 @@ no_bytes : (bytes : List ℕ) → (length bytes == 0) ≡ true → bytes ≡ []
 no_bytes [] h = refl
 no_bytes (byte ∷ bytes) h = absurd (let e = eqb-true (length (byte ∷ bytes)) 0 h in omega (arith, e))
 
-some_or_none : (result : Bool) (message : Option Content) → (IsTrue result ↔ IsSome message) → result ≡ false → message ≡ None
+some_or_none : (result : Bool) (message : Option Content) → (IsTrue result ↔ IsSome message) → result ≡ false
+    → message ≡ None
 some_or_none result None tells e = refl
 some_or_none result (Some message) tells e = absurd (false≢true (sym e ∙ tells.1 refl))
 
@@ -238,7 +275,11 @@ some_or_none result (Some message) tells e = absurd (false≢true (sym e ∙ tel
 told_all : (world : WorldView) → IsWorld world → length world.board.state.told_squares ≡ 64
 told_all world is = rw is.stands.board is.stands.sound.told_squares
 
-pub sends : ((board : BoardState) (message : Content) → length board.told_squares ≡ 64 → next_message board ≡ Some message → backlog (after_sending board message) < backlog board) → (world after : WorldView) (answer : Outcome) → IsWorld world → (length world.up.bytes == 0) ≡ true → IsSome (next_message world.board.state) → (world.up.bytes ≡ [] → answer ≢ Outcome.NoRoom) → Step ActContent.BoardSend world answer after → Moves world after
+pub sends : ((board : BoardState) (message : Content) → length board.told_squares ≡ 64 → next_message board
+    ≡ Some message → backlog (after_sending board message) < backlog board)
+    → (world after : WorldView) (answer : Outcome) → IsWorld world → (length world.up.bytes == 0) ≡ true
+    → IsSome (next_message world.board.state) → (world.up.bytes ≡ [] → answer ≢ Outcome.NoRoom)
+    → Step ActContent.BoardSend world answer after → Moves world after
 sends falls world after answer is up some fits step = go (next_message world.board.state) refl some
   where
     sent : answer ≡ Outcome.Done → Moves world after
@@ -246,7 +287,8 @@ sends falls world after answer is up some fits step = go (next_message world.boa
         let step' = done_at ActContent.BoardSend world after answer e step in
         (ActContent.BoardSend, tt, step', send_works falls world after (told_all world is) step'.leaves)
 
-    room : (message : Content) → next_message world.board.state ≡ Some message → (full : Bool) → overflows world.up (spelling message) ≡ full → answer ≡ Outcome.Done
+    room : (message : Content) → next_message world.board.state ≡ Some message → (full : Bool)
+        → overflows world.up (spelling message) ≡ full → answer ≡ Outcome.Done
     room message e true f = absurd (fits (no_bytes world.up.bytes up) (step.answers ∙ rw (e, f) refl))
     room message e false f = step.answers ∙ rw (e, f) refl
 
@@ -254,14 +296,25 @@ sends falls world after answer is up some fits step = go (next_message world.boa
     go None e h = absurd (false≢true h)
     go (Some message) e h = sent (room message e (overflows world.up (spelling message)) refl)
 
-module _ (short : WordsAreShort) (within : NoWordBeginsAnother) (rises : (board : BoardState) (events : List EventContent) → backlog (effects board events) ≤ backlog board + length events) where
-  pub takes : (world after : WorldView) (answer : Outcome) → IsWorld world → world.board.state.owed ≡ [] → (length world.down.bytes == 0) ≡ false → Step (ActContent.ToBoard (length world.down.bytes)) world answer after → Moves world after
+module _ (short : WordsAreShort) (within : NoWordBeginsAnother)
+    (rises : (board : BoardState) (events : List EventContent) → backlog
+    (effects board events) ≤ backlog board + length events) where
+  pub takes : (world after : WorldView) (answer : Outcome) → IsWorld world → world.board.state.owed ≡ []
+      → (length world.down.bytes == 0) ≡ false → Step (ActContent.ToBoard (length world.down.bytes)) world answer after
+      → Moves world after
   takes world after answer is none some step =
       let is_done : answer ≡ Outcome.Done = step.answers ∙ rw (some, none) refl in
-      let step' = done_at (ActContent.ToBoard (length world.down.bytes)) world after answer is_done step in
-      (ActContent.ToBoard (length world.down.bytes), tt, step', take_works short within rises world after (length world.down.bytes) is.stands.partial step'.leaves)
+      let step' = done_at (ActContent.ToBoard (length world.down.bytes)) world after answer is_done step in (
+        ActContent.ToBoard (length world.down.bytes),
+        tt,
+        step',
+        take_works short within rises world after
+            (length world.down.bytes) is.stands.partial step'.leaves,
+      )
 
-pub rests : Reads → EachDividesOnce → (world : WorldView) → IsWorld world → (length world.up.bytes == 0) ≡ true → (length world.down.bytes == 0) ≡ true → next_message world.board.state ≡ None → open_message world.host.unread ≡ world.host.unread → IsQuietWorld world
+pub rests : Reads → EachDividesOnce → (world : WorldView) → IsWorld world → (length world.up.bytes == 0) ≡ true
+    → (length world.down.bytes == 0) ≡ true → next_message world.board.state ≡ None
+    → open_message world.host.unread ≡ world.host.unread → IsQuietWorld world
 rests reads law world is up down none open_is =
     let no_up = no_bytes world.up.bytes up in
     let no_down = no_bytes world.down.bytes down in (
@@ -272,29 +325,43 @@ rests reads law world is up down none open_is =
       none,
     )
 
-pub not_owing : (result : Bool) (board : BoardState) → (IsTrue result ↔ IsSome (next_message board)) → result ≡ false → next_message board ≡ None
+pub not_owing : (result : Bool) (board : BoardState) → (IsTrue result ↔ IsSome (next_message board)) → result ≡ false
+    → next_message board ≡ None
 not_owing result board tells e = some_or_none result (next_message board) tells e
 
 -- ---- the loop
 
-pub settled_more : (old now new : WorldView) (done : ℕ) → SettlesIn done old now → Moves now new → SettlesIn (done + 1) old new
+pub settled_more : (old now new : WorldView) (done : ℕ) → SettlesIn done old now → Moves now new
+    → SettlesIn (done + 1) old new
 settled_more old now new done settled (act, is, step, less) =
     record {
       acts = settled.acts ++ act ∷ [];
       settling = all_append IsSettling settled.acts (act ∷ []) settled.settling (is, tt);
       counted = rw (length-append settled.acts (act ∷ [])) (omega (arith, settled.counted));
-      run = rw (← replicate_more done Outcome.Done) (run-push settled.acts (replicate done Outcome.Done) act Outcome.Done old now new settled.run step);
+      run =
+          rw (← replicate_more done Outcome.Done)
+          (run-push settled.acts (replicate done Outcome.Done) act Outcome.Done old now new settled.run step);
     }
 
-pub settled_kept : (count : ℕ) (old new : WorldView) → SettlesIn count old new → Kept old new
-settled_kept count old new settled = run_kept settled.acts old new (replicate count Outcome.Done) settled.settling settled.run
+pub settled_kept : (count : ℕ) (old new : WorldView) → SettlesIn count old new
+    → HasSameGame old.board.state new.board.state
+settled_kept count old new settled =
+    run_same settled.acts old new (replicate count Outcome.Done) settled.settling settled.run
 
-module _ (moves : (act : ActContent) (world after : WorldView) (answer : Outcome) (x : MachineState) → StandsFor world x → Step act world answer after → StandsAfterStep act answer x after)
-    (mode : (act : ActContent) (world after : WorldView) (answer : Outcome) (x y : MachineState) → StandsFor world x → Step act world answer after → StandsFor after y → coming_mode y ≡ mode_after (coming_mode x) (act_requests answer act))
-    (kept : (act : ActContent) (world after : WorldView) (answer : Outcome) (x y : MachineState) → act ≢ ActContent.Break → StandsFor world x → Step act world answer after → StandsFor after y → PictureIsComing x → PictureIsComing y)
-    (law : EachDividesOnce) (count : ℕ) (old new : WorldView) (settled : SettlesIn count old new) (quiet : IsQuietWorld new) (x : MachineState) (stands : StandsFor old x) where
+module _ (moves : (act : ActContent) (world after : WorldView) (answer : Outcome) (x : MachineState) → StandsFor world x
+    → Step act world answer after → StandsAfterStep act answer x after)
+    (mode : (act : ActContent) (world after : WorldView) (answer : Outcome) (x y : MachineState) → StandsFor world x
+    → Step act world answer after → StandsFor after y → coming_mode y ≡ mode_after (coming_mode x)
+    (act_requests answer act))
+    (kept : (act : ActContent) (world after : WorldView) (answer : Outcome) (x y : MachineState)
+    → act ≢ ActContent.Break → StandsFor world x → Step act world answer after → StandsFor after y → PictureIsComing x
+    → PictureIsComing y)
+    (law : EachDividesOnce) (count : ℕ) (old new : WorldView) (settled : SettlesIn count old new)
+    (quiet : IsQuietWorld new) (x : MachineState) (stands : StandsFor old x) where
   promise : KeepsPromise x new
-  promise = run_promise moves mode kept settled.acts old new (replicate count Outcome.Done) x settled.settling stands settled.run
+  promise =
+      run_promise moves mode kept settled.acts old new
+      (replicate count Outcome.Done) x settled.settling stands settled.run
 
   pub settled_mode : new.board.state.mode ≡ coming_mode x
   settled_mode =
@@ -305,23 +372,30 @@ module _ (moves : (act : ActContent) (world after : WorldView) (answer : Outcome
   pub settled_picture : IsPromised x → new.host.picture ≡ Some old.board.state.squares
   settled_picture promised =
       let same = (settled_kept count old new settled).squares in
-      world_picture law new promise.state promise.stands quiet (record { picture = promise.picture promised.picture; mode = rw promise.mode promised.mode })
+      world_picture law new promise.state promise.stands quiet (record {
+        picture = promise.picture promised.picture;
+        mode = rw promise.mode promised.mode;
+      })
       ∙ ap (λ (squares : List Piece). Some squares) same
 
   pub settled_told : IsTrue (updates new.board.state.mode) → IsUnknownOr new.host.picture (Some old.board.state.squares)
   settled_told asks =
       let same = (settled_kept count old new settled).squares in
-      subst (λ (squares : List Piece). IsUnknownOr new.host.picture (Some squares)) same (world_picture_told law new promise.state promise.stands quiet asks)
+      subst (λ (squares : List Piece). IsUnknownOr new.host.picture (Some squares)) same
+      (world_picture_told law new promise.state promise.stands quiet asks)
 
   pub settled_awaited : new.host.awaited ≡ []
   settled_awaited = world_awaits_nothing law new promise.state promise.stands quiet
 
-pub settled_clock : EachDividesOnce → (count : ℕ) (old new : WorldView) → SettlesIn count old new → IsExactWorld new → IsQuietWorld new → IsTrue (follows_clock new.board.state.mode) → new.host.clock ≡ Some old.board.state.clock
+pub settled_clock : EachDividesOnce → (count : ℕ) (old new : WorldView) → SettlesIn count old new → IsExactWorld new
+    → IsQuietWorld new → IsTrue (follows_clock new.board.state.mode) → new.host.clock ≡ Some old.board.state.clock
 settled_clock law count old new settled exact quiet follows =
     let same = (settled_kept count old new settled).clock in
-    world_clock_told law new exact.state exact.stands quiet exact.exact follows ∙ ap (λ (clock : ClockState). Some clock) same
+    world_clock_told law new exact.state exact.stands quiet exact.exact follows ∙ ap
+    (λ (clock : ClockState). Some clock) same
 
-pub work_fits : (world : WorldView) → ((board : BoardState) → backlog board ≤ length board.owed + 65) → length world.down.bytes < 2 ^ 64 → length world.board.state.owed ≤ 8 → work_left world < 2 ^ 67
+pub work_fits : (world : WorldView) → ((board : BoardState) → backlog board ≤ length board.owed + 65)
+    → length world.down.bytes < 2 ^ 64 → length world.board.state.owed ≤ 8 → work_left world < 2 ^ 67
 work_fits world bound down owed =
     let few = bound world.board.state in
     let flag = at_most_one (length world.up.bytes) in
@@ -343,16 +417,22 @@ neither false b h = (refl, h)
 fits : (capacity needed : ℕ) → nat_lt capacity needed ≡ false → needed ≤ capacity
 fits capacity needed h = ltb-false capacity needed h
 
-hear_steps : (world after : WorldView) (count : ℕ) → moves_nothing count world.up ≡ false → Becomes (ActContent.ToHost count) world after → steps_left after < steps_left world
+hear_steps : (world after : WorldView) (count : ℕ) → moves_nothing count world.up ≡ false
+    → Becomes (ActContent.ToHost count) world after → steps_left after < steps_left world
 hear_steps world after count some same =
     let parts = neither (count == 0) (length world.up.bytes == 0) some in
     let counts = positive count parts.0 in
     let bytes = positive (length world.up.bytes) parts.1 in
-    let less : length (drop count world.up.bytes) < length world.up.bytes = rw (length-drop count world.up.bytes) (omega (arith, counts, bytes)) in
+    let less : length (drop count world.up.bytes) < length world.up.bytes
+    = rw (length-drop count world.up.bytes) (omega (arith, counts, bytes)) in
     rw same (omega (arith, less))
 
-module _ (falls : (board : BoardState) (message : Content) → length board.told_squares ≡ 64 → next_message board ≡ Some message → backlog (after_sending board message) < backlog board) where
-  send_steps : (world after : WorldView) → length world.board.state.told_squares ≡ 64 → ((message : Content) → next_message world.board.state ≡ Some message → overflows world.up (spelling message) ≡ false) → Becomes ActContent.BoardSend world after → steps_left after < steps_left world
+module _ (falls : (board : BoardState) (message : Content) → length board.told_squares ≡ 64 → next_message board
+    ≡ Some message → backlog (after_sending board message) < backlog board) where
+  send_steps : (world after : WorldView) → length world.board.state.told_squares ≡ 64
+      → ((message : Content) → next_message world.board.state ≡ Some message → overflows world.up (spelling message)
+      ≡ false)
+      → Becomes ActContent.BoardSend world after → steps_left after < steps_left world
   send_steps world after squares room (message, is_next, spells, same) =
       let less = falls world.board.state message squares is_next in
       let few = fits world.up.capacity (length world.up.bytes + length (spelling message)) (room message is_next) in
@@ -360,24 +440,36 @@ module _ (falls : (board : BoardState) (message : Content) → length board.told
       let weighed = mul-le-mul_left (world.up.capacity + 1) less in
       rw same (omega (arith, few, size, weighed))
 
-module _ (short : WordsAreShort) (within : NoWordBeginsAnother) (rises : (board : BoardState) (events : List EventContent) → backlog (effects board events) ≤ backlog board + length events) where
-  take_steps : (world after : WorldView) (count : ℕ) → IsPartial world.board.partial → Becomes (ActContent.ToBoard count) world after → steps_left after < steps_left world
+module _ (short : WordsAreShort) (within : NoWordBeginsAnother)
+    (rises : (board : BoardState) (events : List EventContent) → backlog
+    (effects board events) ≤ backlog board + length events) where
+  take_steps : (world after : WorldView) (count : ℕ) → IsPartial world.board.partial
+      → Becomes (ActContent.ToBoard count) world after → steps_left after < steps_left world
   take_steps world after count partial delivers =
       let taken = delivers.taken in
-      let few = few_taken short within world.board.partial (take delivers.moved world.down.bytes) delivers.board.partial taken.events partial taken.divided in
-      let size : length (take delivers.moved world.down.bytes) ≡ delivers.moved = length-take-le delivers.moved world.down.bytes delivers.within.1 in
+      let few = few_taken short within world.board.partial
+      (take delivers.moved world.down.bytes) delivers.board.partial taken.events partial taken.divided in
+      let size : length (take delivers.moved world.down.bytes) ≡ delivers.moved
+      = length-take-le delivers.moved world.down.bytes delivers.within.1 in
       let more = rises world.board.state taken.events in
-      let left : length (drop delivers.moved world.down.bytes) + delivers.moved ≡ length world.down.bytes = rw (length-drop delivers.moved world.down.bytes) (omega (arith, delivers.within.1)) in
+      let left : length (drop delivers.moved world.down.bytes) + delivers.moved ≡ length world.down.bytes
+      = rw (length-drop delivers.moved world.down.bytes) (omega (arith, delivers.within.1)) in
       let some = delivers.some in
-      let state : backlog delivers.board.state ≡ backlog (effects world.board.state taken.events) = ap backlog taken.state in
-      let raised : backlog delivers.board.state ≤ backlog world.board.state + delivers.moved = omega (arith, few, size, more, state) in
+      let state : backlog delivers.board.state ≡ backlog (effects world.board.state taken.events)
+      = ap backlog taken.state in
+      let raised : backlog delivers.board.state ≤ backlog world.board.state + delivers.moved
+      = omega (arith, few, size, more, state) in
       let weighed = mul-le-mul_left (world.up.capacity + 1) raised in
       let bytes = ap (λ (n : ℕ). (world.up.capacity + 2) * n) left in
       rw delivers.leaves (omega (arith, some, weighed, bytes))
 
-module _ (keeps : (act : ActContent) (world after : WorldView) (answer : Outcome) → IsWorld world → Step act world answer after → IsWorld after)
-    (falls : (board : BoardState) (message : Content) → length board.told_squares ≡ 64 → next_message board ≡ Some message → backlog (after_sending board message) < backlog board)
-    (short : WordsAreShort) (within : NoWordBeginsAnother) (rises : (board : BoardState) (events : List EventContent) → backlog (effects board events) ≤ backlog board + length events) where
+module _ (keeps : (act : ActContent) (world after : WorldView) (answer : Outcome) → IsWorld world
+    → Step act world answer after → IsWorld after)
+    (falls : (board : BoardState) (message : Content) → length board.told_squares ≡ 64 → next_message board
+    ≡ Some message → backlog (after_sending board message) < backlog board)
+    (short : WordsAreShort) (within : NoWordBeginsAnother)
+    (rises : (board : BoardState) (events : List EventContent) → backlog
+    (effects board events) ≤ backlog board + length events) where
   -- an act that is done is one that can be
   some_heard : (none : Bool) → Outcome.Done ≡ cond none Outcome.Nothing Outcome.Done → none ≡ false
   some_heard true h = cc
@@ -387,32 +479,40 @@ module _ (keeps : (act : ActContent) (world after : WorldView) (answer : Outcome
   some_sent true h = cc
   some_sent false h = refl
 
-  done_steps : (act : ActContent) (world after : WorldView) → IsWorld world → IsSettling act → Step act world Outcome.Done after → steps_left after < steps_left world
+  done_steps : (act : ActContent) (world after : WorldView) → IsWorld world → IsSettling act
+      → Step act world Outcome.Done after → steps_left after < steps_left world
   done_steps ActContent.BoardSend world after is settling step =
-      send_steps falls world after (told_all world is) (λ message e. some_sent (overflows world.up (spelling message)) (rw e at step.answers)) step.leaves
-  done_steps (ActContent.ToBoard count) world after is settling step = take_steps short within rises world after count is.stands.partial step.leaves
-  done_steps (ActContent.ToHost count) world after is settling step = hear_steps world after count (some_heard (moves_nothing count world.up) step.answers) step.leaves
+      send_steps falls world after (told_all world is)
+      (λ message e. some_sent (overflows world.up (spelling message)) (rw e at step.answers)) step.leaves
+  done_steps (ActContent.ToBoard count) world after is settling step =
+      take_steps short within rises world after count is.stands.partial step.leaves
+  done_steps (ActContent.ToHost count) world after is settling step =
+      hear_steps world after count (some_heard (moves_nothing count world.up) step.answers) step.leaves
   done_steps (ActContent.Change square piece) world after is none step = absurd none
   done_steps (ActContent.ClockRead clock) world after is none step = absurd none
   done_steps (ActContent.Host command) world after is none step = absurd none
   done_steps ActContent.Break world after is none step = absurd none
   done_steps ActContent.HostBreak world after is none step = absurd none
 
-  step_steps : (act : ActContent) (world after : WorldView) (answer : Outcome) → IsWorld world → IsSettling act → Step act world answer after → done_count (answer ∷ []) + steps_left after ≤ steps_left world
-  step_steps act world after Outcome.Done is settling step = let less = done_steps act world after is settling step in omega (arith, less)
+  step_steps : (act : ActContent) (world after : WorldView) (answer : Outcome) → IsWorld world → IsSettling act
+      → Step act world answer after → done_count (answer ∷ []) + steps_left after ≤ steps_left world
+  step_steps act world after Outcome.Done is settling step =
+      let less = done_steps act world after is settling step in omega (arith, less)
   step_steps act world after Outcome.Nothing is settling step = rw step.leaves (omega arith)
   step_steps act world after Outcome.NoRoom is settling step = rw step.leaves (omega arith)
   step_steps act world after Outcome.Busy is settling step = rw step.leaves (omega arith)
   step_steps act world after Outcome.TooMany is settling step = rw step.leaves (omega arith)
 
-  count_first : (answer : Outcome) (answers : List Outcome) → done_count (answer ∷ answers) ≡ done_count (answer ∷ []) + done_count answers
+  count_first : (answer : Outcome) (answers : List Outcome)
+      → done_count (answer ∷ answers) ≡ done_count (answer ∷ []) + done_count answers
   count_first Outcome.Done answers = omega arith
   count_first Outcome.Nothing answers = omega arith
   count_first Outcome.NoRoom answers = omega arith
   count_first Outcome.Busy answers = omega arith
   count_first Outcome.TooMany answers = omega arith
 
-  pub run_steps : (acts : List ActContent) (world after : WorldView) (answers : List Outcome) → IsWorld world → AllByRecursion IsSettling acts → Runs acts world answers after → done_count answers ≤ steps_left world
+  pub run_steps : (acts : List ActContent) (world after : WorldView) (answers : List Outcome) → IsWorld world
+      → AllByRecursion IsSettling acts → Runs acts world answers after → done_count answers ≤ steps_left world
   run_steps [] world after [] is all same = omega arith
   run_steps (act ∷ acts) world after (answer ∷ answers) is all (between, step, runs) =
       let first = step_steps act world between answer is all.0 step in

@@ -1,16 +1,21 @@
 -- From each sound state takes, sendings and hears lead to a quiet one.
-use Rattle.std.proofs.Common.{arith, ◌≡◌, ◌≢◌, refl, ap, ◌∙◌, ◌⊎◌, inl, inr, ℕ, ◌+◌, ◌<◌, ◌≤◌, zero, suc, List, [], ◌∷◌, Some, None, Bool, true, false, cond, Option, length}
+use Rattle.std.proofs.Common.{arith, ◌≡◌, ◌≢◌, refl, ap, ◌∙◌, ◌⊎◌, inl, inr, ℕ, ◌+◌, ◌<◌, ◌≤◌, zero, suc, List, [], ◌∷◌}
+use Rattle.std.proofs.Common.{Some, None, Bool, true, false, cond, Option, length}
 use Rattle.std.proofs.lemmas.List.{length-append}
 use Rattle.std.specs.Prelude.{◌&&◌}
 use Rattle.std.specs.List.{AllByRecursion}
 use Rattle.dgt_values.specs.declared.pieces.Piece.{Piece}
-use Rattle.dgt_message.specs.Content.{clock_message, Content}
+use Rattle.dgt_message.specs.ClockState.{clock_message}
+use Rattle.dgt_message.specs.Content.{Content}
 use Rattle.dgt_command.specs.Content.{EventContent}
 use Rattle.dgt_board.specs.declared.modes.Mode.{Mode}
 use Rattle.dgt_board.specs.declared.replies.Reply.{Reply}
-use Rattle.dgt_board.specs.Sending.{backlog, after_sending, differs, field_of, next_message, pending_messages}
-use Rattle.dgt_board.specs.State.{effects, BoardState, updates}
-use Rattle.dgt_link.specs.Machine.{MachineState, after_hear, after_move, after_moves, after_reply, after_take, after_told, IsSending, Move}
+use Rattle.dgt_board.specs.Backlog.{backlog}
+use Rattle.dgt_board.specs.Effect.{effects}
+use Rattle.dgt_board.specs.State.{BoardState, updates}
+use Rattle.dgt_board.specs.Sending.{after_sending, differs, field_of, next_message, pending_messages}
+use Rattle.dgt_link.specs.Machine.{MachineState, after_hear, after_move, after_moves, after_reply, after_take}
+use Rattle.dgt_link.specs.Machine.{after_told, IsSending, Move}
 use Rattle.dgt_link.specs.Promise.{IsPromised, IsQuiet, PictureIsComing, coming_mode, mode_after, requests}
 use Rattle.dgt_link.specs.Settling.{IsSettlingMove, SettlesBy, moves_left}
 use Rattle.dgt_link.specs.Sound.{IsSound}
@@ -20,7 +25,7 @@ use Rattle.dgt_link.proofs.Resting.{nothing_first}
 use Rattle.dgt_link.proofs.Runs.{moves_sound}
 use Rattle.dgt_link.proofs.Sending.{next_is_sent}
 use Rattle.dgt_link.proofs.Soundness.{move_sound}
-use Rattle.dgt_link.proofs.Taking.{effect_leaves}
+use Rattle.dgt_link.proofs.Taking.{HasSameGame, effect_leaves, same_game}
 
 sending_settles : (move : Move) → IsSending move → IsSettlingMove move
 sending_settles Move.Reply is = tt
@@ -40,19 +45,24 @@ sending_settles (Move.Ask command) none = absurd none
 abbrev NearerBy : MachineState → Move → Type 0
 NearerBy x move = IsSettlingMove move × (moves_left (after_move x move) < moves_left x)
 
-hears_nearer : (x : MachineState) (message : Content) (later : List Content) → x.up ≡ message ∷ later → NearerBy x Move.Hear
+hears_nearer : (x : MachineState) (message : Content) (later : List Content) → x.up ≡ message ∷ later
+    → NearerBy x Move.Hear
 hears_nearer x message later e = (tt, rw e (omega arith))
 
-module _ (falls : (board : BoardState) (message : Content) → length board.told_squares ≡ 64 → next_message board ≡ Some message → backlog (after_sending board message) < backlog board)
-    (rises : (board : BoardState) (events : List EventContent) → backlog (effects board events) ≤ backlog board + length events) where
-  sends_nearer : (x : MachineState) (message : Content) → IsSound x → next_message x.board ≡ Some message → (move : Move) × NearerBy x move
+module _ (falls : (board : BoardState) (message : Content) → length board.told_squares ≡ 64 → next_message board
+    ≡ Some message → backlog (after_sending board message) < backlog board)
+    (rises : (board : BoardState) (events : List EventContent) → backlog
+    (effects board events) ≤ backlog board + length events) where
+  sends_nearer : (x : MachineState) (message : Content) → IsSound x → next_message x.board ≡ Some message
+      → (move : Move) × NearerBy x move
   sends_nearer x message sound e =
       let sent = next_is_sent x message e in
       let less = falls x.board message sound.told_squares e in
       let size = length-append x.up (message ∷ []) in
       (sent.0, (sending_settles sent.0 sent.1, rw sent.2 (omega (arith, less, size))))
 
-  takes_nearer : (x : MachineState) (event : EventContent) (later : List EventContent) → x.down ≡ event ∷ later → NearerBy x Move.Take
+  takes_nearer : (x : MachineState) (event : EventContent) (later : List EventContent) → x.down ≡ event ∷ later
+      → NearerBy x Move.Take
   takes_nearer x event later e =
       let more = rises x.board (event ∷ []) in
       (tt, rw e (omega (arith, more)))
@@ -61,11 +71,14 @@ module _ (falls : (board : BoardState) (message : Content) → length board.told
   nearer : (x : MachineState) → IsSound x → IsQuiet x ⊎ ((move : Move) × NearerBy x move)
   nearer x sound = up x.up refl
     where
-      down : x.up ≡ [] → next_message x.board ≡ None → (events : List EventContent) → x.down ≡ events → IsQuiet x ⊎ ((move : Move) × NearerBy x move)
-      down none_up none [] e = inl (record { up = none_up; down = e; pending = nothing_first (pending_messages x.board) none })
+      down : x.up ≡ [] → next_message x.board ≡ None → (events : List EventContent) → x.down ≡ events
+          → IsQuiet x ⊎ ((move : Move) × NearerBy x move)
+      down none_up none [] e =
+          inl (record { up = none_up; down = e; pending = nothing_first (pending_messages x.board) none })
       down none_up none (event ∷ later) e = inr (Move.Take, takes_nearer x event later e)
 
-      next : x.up ≡ [] → (message : Option Content) → next_message x.board ≡ message → IsQuiet x ⊎ ((move : Move) × NearerBy x move)
+      next : x.up ≡ [] → (message : Option Content) → next_message x.board ≡ message
+          → IsQuiet x ⊎ ((move : Move) × NearerBy x move)
       next none_up None e = down none_up e x.down refl
       next none_up (Some message) e = inr (sends_nearer x message sound e)
 
@@ -73,10 +86,17 @@ module _ (falls : (board : BoardState) (message : Content) → length board.told
       up [] e = next e (next_message x.board) refl
       up (message ∷ later) e = inr (Move.Hear, hears_nearer x message later e)
 
-  further : (x : MachineState) (move : Move) (moves : List Move) → NearerBy x move → SettlesBy moves (after_move x move) → SettlesBy (move ∷ moves) x
-  further x move moves (is, less) settles = record { settling = (is, settles.settling); few = (let few = settles.few in omega (arith, less, few)); quiet = settles.quiet }
+  further : (x : MachineState) (move : Move) (moves : List Move) → NearerBy x move → SettlesBy moves (after_move x move)
+      → SettlesBy (move ∷ moves) x
+  further x move moves (is, less) settles =
+      record {
+        settling = (is, settles.settling);
+        few = (let few = settles.few in omega (arith, less, few));
+        quiet = settles.quiet;
+      }
 
-  reached_within : (most : ℕ) (x : MachineState) → IsSound x → moves_left x ≤ most → (moves : List Move) × SettlesBy moves x
+  reached_within : (most : ℕ) (x : MachineState) → IsSound x → moves_left x ≤ most
+      → (moves : List Move) × SettlesBy moves x
   reached_within zero x sound few = go (nearer x sound)
     where
       go : IsQuiet x ⊎ ((move : Move) × NearerBy x move) → (moves : List Move) × SettlesBy moves x
@@ -84,7 +104,8 @@ module _ (falls : (board : BoardState) (message : Content) → length board.told
       go (inr (move, (is, less))) = absurd (omega (arith, less, few))
   reached_within (suc most) x sound few = go (reached_within most) (nearer x sound)
     where
-      go : ((y : MachineState) → IsSound y → moves_left y ≤ most → (moves : List Move) × SettlesBy moves y) → IsQuiet x ⊎ ((move : Move) × NearerBy x move) → (moves : List Move) × SettlesBy moves x
+      go : ((y : MachineState) → IsSound y → moves_left y ≤ most → (moves : List Move) × SettlesBy moves y)
+          → IsQuiet x ⊎ ((move : Move) × NearerBy x move) → (moves : List Move) × SettlesBy moves x
       go rest (inl quiet) = ([], record { settling = tt; few = omega arith; quiet = quiet })
       go rest (inr (move, (is, less))) =
           let later = rest (after_move x move) (move_sound x move sound) (omega (arith, less, few)) in
@@ -95,41 +116,36 @@ module _ (falls : (board : BoardState) (message : Content) → length board.told
 
 -- ---- what such moves keep
 
--- the squares, the clock and the mode to come
-pub record KeepsAll (x y : MachineState) : Type 0 where
-  pub squares : y.board.squares ≡ x.board.squares
-  pub clock : y.board.clock ≡ x.board.clock
+take_same_game : (x : MachineState) (events : List EventContent) → HasSameGame x.board (after_take x events).board
+take_same_game x [] = same_game x.board
+take_same_game x (event ∷ later) =
+    let kept = effect_leaves x.board event in record { squares = kept.squares; clock = kept.clock }
 
-same_all : (x : MachineState) → KeepsAll x x
-same_all x = record { squares = refl; clock = refl }
+reply_same_game : (x : MachineState) (replies : List Reply) → HasSameGame x.board (after_reply x replies).board
+reply_same_game x [] = same_game x.board
+reply_same_game x (reply ∷ later) = record { squares = refl; clock = refl }
 
-take_keeps_all : (x : MachineState) (events : List EventContent) → KeepsAll x (after_take x events)
-take_keeps_all x [] = same_all x
-take_keeps_all x (event ∷ later) = let kept = effect_leaves x.board event in record { squares = kept.squares; clock = kept.clock }
+hear_same_game : (x : MachineState) (messages : List Content) → HasSameGame x.board (after_hear x messages).board
+hear_same_game x [] = same_game x.board
+hear_same_game x (message ∷ later) = record { squares = refl; clock = refl }
 
-reply_keeps_all : (x : MachineState) (replies : List Reply) → KeepsAll x (after_reply x replies)
-reply_keeps_all x [] = same_all x
-reply_keeps_all x (reply ∷ later) = record { squares = refl; clock = refl }
+told_same_game : (x : MachineState) (asks : Bool) (message : Content)
+    → HasSameGame x.board (cond asks (after_told x message) x).board
+told_same_game x true message = record { squares = refl; clock = refl }
+told_same_game x false message = same_game x.board
 
-hear_keeps_all : (x : MachineState) (messages : List Content) → KeepsAll x (after_hear x messages)
-hear_keeps_all x [] = same_all x
-hear_keeps_all x (message ∷ later) = record { squares = refl; clock = refl }
-
-told_keeps_all : (x : MachineState) (asks : Bool) (message : Content) → KeepsAll x (cond asks (after_told x message) x)
-told_keeps_all x true message = record { squares = refl; clock = refl }
-told_keeps_all x false message = same_all x
-
-move_keeps_all : (x : MachineState) (move : Move) → IsSettlingMove move → KeepsAll x (after_move x move)
-move_keeps_all x Move.Take is = take_keeps_all x x.down
-move_keeps_all x Move.Reply is = reply_keeps_all x x.board.owed
-move_keeps_all x (Move.Tell square) is = told_keeps_all x (updates x.board.mode && differs x.board square) (field_of x.board square)
-move_keeps_all x Move.TellClock is = told_keeps_all x x.board.times_owed (clock_message x.board.clock)
-move_keeps_all x Move.Hear is = hear_keeps_all x x.up
-move_keeps_all x Move.Break none = absurd none
-move_keeps_all x (Move.HostBreak noise is_noise) none = absurd none
-move_keeps_all x (Move.Change square piece) none = absurd none
-move_keeps_all x (Move.HandClock clock) none = absurd none
-move_keeps_all x (Move.Ask command) none = absurd none
+move_same_game : (x : MachineState) (move : Move) → IsSettlingMove move → HasSameGame x.board (after_move x move).board
+move_same_game x Move.Take is = take_same_game x x.down
+move_same_game x Move.Reply is = reply_same_game x x.board.owed
+move_same_game x (Move.Tell square) is =
+    told_same_game x (updates x.board.mode && differs x.board square) (field_of x.board square)
+move_same_game x Move.TellClock is = told_same_game x x.board.times_owed (clock_message x.board.clock)
+move_same_game x Move.Hear is = hear_same_game x x.up
+move_same_game x Move.Break none = absurd none
+move_same_game x (Move.HostBreak noise is_noise) none = absurd none
+move_same_game x (Move.Change square piece) none = absurd none
+move_same_game x (Move.HandClock clock) none = absurd none
+move_same_game x (Move.Ask command) none = absurd none
 
 settling_keeps_mode : (before : Mode) (move : Move) → IsSettlingMove move → mode_after before (requests move) ≡ before
 settling_keeps_mode before Move.Take is = refl
@@ -155,25 +171,39 @@ settling_breaks_nothing (Move.Change square piece) none e = none
 settling_breaks_nothing (Move.HandClock clock) none e = none
 settling_breaks_nothing (Move.Ask command) none e = none
 
-pub settling_squares : (x : MachineState) (moves : List Move) → AllByRecursion IsSettlingMove moves → (after_moves x moves).board.squares ≡ x.board.squares
+pub settling_squares : (x : MachineState) (moves : List Move) → AllByRecursion IsSettlingMove moves
+    → (after_moves x moves).board.squares ≡ x.board.squares
 settling_squares x [] all = refl
-settling_squares x (move ∷ moves) all = settling_squares (after_move x move) moves all.1 ∙ (move_keeps_all x move all.0).squares
+settling_squares x (move ∷ moves) all =
+    settling_squares (after_move x move) moves all.1 ∙ (move_same_game x move all.0).squares
 
-pub settling_clock : (x : MachineState) (moves : List Move) → AllByRecursion IsSettlingMove moves → (after_moves x moves).board.clock ≡ x.board.clock
+pub settling_clock : (x : MachineState) (moves : List Move) → AllByRecursion IsSettlingMove moves
+    → (after_moves x moves).board.clock ≡ x.board.clock
 settling_clock x [] all = refl
-settling_clock x (move ∷ moves) all = settling_clock (after_move x move) moves all.1 ∙ (move_keeps_all x move all.0).clock
+settling_clock x (move ∷ moves) all =
+    settling_clock (after_move x move) moves all.1 ∙ (move_same_game x move all.0).clock
 
-pub settling_mode : (x : MachineState) (moves : List Move) → AllByRecursion IsSettlingMove moves → coming_mode (after_moves x moves) ≡ coming_mode x
+pub settling_mode : (x : MachineState) (moves : List Move) → AllByRecursion IsSettlingMove moves
+    → coming_mode (after_moves x moves) ≡ coming_mode x
 settling_mode x [] all = refl
-settling_mode x (move ∷ moves) all = settling_mode (after_move x move) moves all.1 ∙ move-mode x move ∙ settling_keeps_mode (coming_mode x) move all.0
+settling_mode x (move ∷ moves) all =
+    settling_mode (after_move x move) moves all.1 ∙ move-mode x move ∙ settling_keeps_mode (coming_mode x) move all.0
 
-settling_comes : (x : MachineState) (moves : List Move) → AllByRecursion IsSettlingMove moves → PictureIsComing x → PictureIsComing (after_moves x moves)
+settling_comes : (x : MachineState) (moves : List Move) → AllByRecursion IsSettlingMove moves → PictureIsComing x
+    → PictureIsComing (after_moves x moves)
 settling_comes x [] all comes = comes
-settling_comes x (move ∷ moves) all comes = settling_comes (after_move x move) moves all.1 (picture_keeps_coming x move (settling_breaks_nothing move all.0) comes)
+settling_comes x (move ∷ moves) all comes =
+    settling_comes (after_move x move) moves all.1
+    (picture_keeps_coming x move (settling_breaks_nothing move all.0) comes)
 
-pub settling_picture : (x : MachineState) (moves : List Move) → IsSound x → IsPromised x → AllByRecursion IsSettlingMove moves → IsQuiet (after_moves x moves)
+pub settling_picture : (x : MachineState) (moves : List Move) → IsSound x → IsPromised x
+    → AllByRecursion IsSettlingMove moves → IsQuiet (after_moves x moves)
     → (after_moves x moves).picture ≡ Some x.board.squares
 settling_picture x moves sound promised all quiet =
     let promised' : IsPromised (after_moves x moves)
-    = record { picture = settling_comes x moves all promised.picture; mode = rw (settling_mode x moves all) promised.mode } in
-    promised_picture (after_moves x moves) (moves_sound x moves sound) promised' quiet ∙ ap (λ (squares : List Piece). Some squares) (settling_squares x moves all)
+    = record {
+      picture = settling_comes x moves all promised.picture;
+      mode = rw (settling_mode x moves all) promised.mode;
+    } in
+    promised_picture (after_moves x moves) (moves_sound x moves sound) promised' quiet ∙ ap
+    (λ (squares : List Piece). Some squares) (settling_squares x moves all)

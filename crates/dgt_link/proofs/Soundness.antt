@@ -1,5 +1,6 @@
 -- Each move keeps a sound state sound, and an exact one exact.
-use Rattle.std.proofs.Common.{◌≡◌, refl, sym, ap, ◌∙◌, inl, List, [], ◌∷◌, ◌++◌, Option, Some, None, ◌&&◌, length, append_assoc}
+use Rattle.std.proofs.Common.{◌≡◌, refl, sym, ap, ◌∙◌, inl, List, [], ◌∷◌, ◌++◌, Option, Some, None, ◌&&◌, length}
+use Rattle.std.proofs.Common.{append_assoc}
 use Rattle.std.proofs.lemmas.List.{length-set}
 use Rattle.std.proofs.lemmas.List.Elements.{filter_map-append}
 use Rattle.std.proofs.lemmas.Bool.{cond_both, false≢true}
@@ -7,17 +8,25 @@ use Rattle.std.specs.Prelude.{filter_map, option_to_list}
 use Rattle.std.specs.List.{cons_option}
 use Rattle.dgt_values.specs.declared.pieces.Piece.{Piece}
 use Rattle.dgt_values.specs.declared.kinds.Kind.{Kind}
-use Rattle.dgt_message.specs.Content.{Content, clock_message, kind_of}
-use Rattle.dgt_message.specs.Clock.{ClockState}
-use Rattle.dgt_command.specs.Content.{CommandContent, EventContent, kind_of_command}
+use Rattle.dgt_message.specs.Content.{Content}
+use Rattle.dgt_message.specs.ClockState.{ClockState, clock_message}
+use Rattle.dgt_message.specs.Kind.{kind_of}
+use Rattle.dgt_command.specs.Content.{CommandContent, EventContent}
+use Rattle.dgt_command.specs.Kind.{kind_of_command}
 use Rattle.dgt_board.specs.declared.replies.Reply.{Reply}
-use Rattle.dgt_board.specs.State.{IdentityContent, updates, effect}
+use Rattle.dgt_board.specs.Identity.{IdentityContent}
+use Rattle.dgt_board.specs.State.{updates}
+use Rattle.dgt_board.specs.Effect.{effect}
 use Rattle.dgt_board.specs.Sending.{differs, field_of, reply_message}
-use Rattle.dgt_host.specs.Host.{awaited_after}
-use Rattle.dgt_link.specs.Machine.{IsHostBreak, Move, MachineState, new_state, after_move, after_told, after_take, after_reply, after_hear}
+use Rattle.dgt_host.specs.Hearing.{awaited_after}
+use Rattle.dgt_link.specs.Machine.{IsHostBreak, Move, MachineState, new_state, after_move, after_told, after_take}
+use Rattle.dgt_link.specs.Machine.{after_reply, after_hear}
 use Rattle.dgt_link.specs.Sound.{IsSound, IsExact, coming_kinds, kind_of_event, kind_of_reply}
-use Rattle.dgt_link.proofs.Subsequences.{subsequence_at_end, subsequence_append, awaited_after-subsequence, awaited_exactly, one_more, moved_over}
-use Rattle.dgt_link.proofs.Telling.{Tells, field_tells, clock_tells, reply_tells, reply_message-kind, clock_message-kind, picture_told, clock_told_of, clock_after_all-append, followed_after, handed_or_told}
+use Rattle.dgt_link.proofs.Subsequences.{subsequence_at_end, subsequence_append, awaited_after-subsequence}
+use Rattle.dgt_link.proofs.Subsequences.{awaited_exactly, one_more, moved_over}
+use Rattle.dgt_link.proofs.Telling.{Tells, field_tells, clock_tells, reply_tells, reply_message-kind}
+use Rattle.dgt_link.proofs.Telling.{clock_message-kind, picture_told, clock_told_of, clock_after_all-append}
+use Rattle.dgt_link.proofs.Telling.{followed_after, handed_or_told}
 use Rattle.dgt_command.specs.Words.{IsNoiseList}
 use Rattle.dgt_link.proofs.Taking.{Leaves, effect-kinds, effect_followed, effect_leaves, nothing_of_noise}
 
@@ -27,13 +36,19 @@ owing x owed = record x { board = record x.board { owed = owed } }
 
 -- ---- a message is sent, whose kind was the first owed
 
-send-kinds : (x : MachineState) (owed : List Reply) (message : Content) → filter_map kind_of_reply x.board.owed ≡ cons_option (kind_of message) (filter_map kind_of_reply owed) → coming_kinds (after_told (owing x owed) message) ≡ coming_kinds x
+send-kinds : (x : MachineState) (owed : List Reply) (message : Content)
+    → filter_map kind_of_reply x.board.owed ≡ cons_option (kind_of message) (filter_map kind_of_reply owed)
+    → coming_kinds (after_told (owing x owed) message) ≡ coming_kinds x
 send-kinds x owed message first =
-    ap (λ (up : List Kind). up ++ (filter_map kind_of_reply owed ++ filter_map kind_of_event x.down)) (filter_map-append kind_of x.up (message ∷ []))
-    ∙ moved_over (filter_map kind_of x.up) (kind_of message) (filter_map kind_of_reply owed) (filter_map kind_of_event x.down)
+    ap (λ (up : List Kind). up ++ (filter_map kind_of_reply owed ++ filter_map kind_of_event x.down))
+    (filter_map-append kind_of x.up (message ∷ []))
+    ∙ moved_over (filter_map kind_of x.up) (kind_of message) (filter_map kind_of_reply owed)
+    (filter_map kind_of_event x.down)
     ∙ ap (λ (owed : List Kind). filter_map kind_of x.up ++ (owed ++ filter_map kind_of_event x.down)) (sym first)
 
-send_sound : (x : MachineState) (owed : List Reply) (message : Content) → Tells (record x.board { owed = owed }) message → filter_map kind_of_reply x.board.owed ≡ cons_option (kind_of message) (filter_map kind_of_reply owed) → IsSound x → IsSound (after_told (owing x owed) message)
+send_sound : (x : MachineState) (owed : List Reply) (message : Content) → Tells (record x.board { owed = owed }) message
+    → filter_map kind_of_reply x.board.owed ≡ cons_option (kind_of message) (filter_map kind_of_reply owed) → IsSound x
+    → IsSound (after_told (owing x owed) message)
 send_sound x owed message tells first sound =
     record {
       squares = sound.squares;
@@ -44,7 +59,9 @@ send_sound x owed message tells first sound =
       awaited = rw (send-kinds x owed message first) sound.awaited;
     }
 
-send_exact : (x : MachineState) (owed : List Reply) (message : Content) → Tells (record x.board { owed = owed }) message → filter_map kind_of_reply x.board.owed ≡ cons_option (kind_of message) (filter_map kind_of_reply owed) → IsExact x → IsExact (after_told (owing x owed) message)
+send_exact : (x : MachineState) (owed : List Reply) (message : Content) → Tells (record x.board { owed = owed }) message
+    → filter_map kind_of_reply x.board.owed ≡ cons_option (kind_of message) (filter_map kind_of_reply owed) → IsExact x
+    → IsExact (after_told (owing x owed) message)
 send_exact x owed message tells first exact =
     record {
       sound = send_sound x owed message tells first exact.sound;
@@ -66,18 +83,25 @@ reply_exact x (first ∷ rest) e exact =
     send_exact x rest (reply_message x.board first) (reply_tells (record x.board { owed = rest }) first)
     (rw e (rw (reply_message-kind x.board first))) exact
 
-tell_clock_first : (x : MachineState) → filter_map kind_of_reply x.board.owed ≡ cons_option (kind_of (clock_message x.board.clock)) (filter_map kind_of_reply x.board.owed)
+tell_clock_first : (x : MachineState)
+    → filter_map kind_of_reply x.board.owed ≡ cons_option (kind_of (clock_message x.board.clock))
+    (filter_map kind_of_reply x.board.owed)
 tell_clock_first x = rw (clock_message-kind x.board.clock)
 
 -- what is asked for, or taken, keeps the kinds that come
-ask-kinds : (x : MachineState) (command : CommandContent) → coming_kinds (after_move x (Move.Ask command)) ≡ coming_kinds x ++ option_to_list (kind_of_command command)
+ask-kinds : (x : MachineState) (command : CommandContent)
+    → coming_kinds (after_move x (Move.Ask command)) ≡ coming_kinds x ++ option_to_list (kind_of_command command)
 ask-kinds x command =
     ap (λ (down : List Kind). filter_map kind_of x.up ++ (filter_map kind_of_reply x.board.owed ++ down))
-    (filter_map-append kind_of_event x.down (EventContent.Read command ∷ []) ∙ ap (λ (new : List Kind). filter_map kind_of_event x.down ++ new) (one_more (kind_of_command command)))
-    ∙ sym (append_assoc (filter_map kind_of x.up) _ _ ∙ ap (λ (rest : List Kind). filter_map kind_of x.up ++ rest) (append_assoc (filter_map kind_of_reply x.board.owed) _ _))
+    (filter_map-append kind_of_event x.down (EventContent.Read command ∷ []) ∙ ap
+    (λ (new : List Kind). filter_map kind_of_event x.down ++ new) (one_more (kind_of_command command)))
+    ∙ sym (append_assoc (filter_map kind_of x.up) _ _ ∙ ap (λ (rest : List Kind). filter_map kind_of x.up ++ rest)
+    (append_assoc (filter_map kind_of_reply x.board.owed) _ _))
 
-take-kinds : (x : MachineState) (event : EventContent) (rest : List EventContent) → x.down ≡ event ∷ rest → coming_kinds (after_take x (event ∷ rest)) ≡ coming_kinds x
-take-kinds x event rest e = rw e (ap (λ (kinds : List Kind). filter_map kind_of x.up ++ kinds) (effect-kinds x.board event rest))
+take-kinds : (x : MachineState) (event : EventContent) (rest : List EventContent) → x.down ≡ event ∷ rest
+    → coming_kinds (after_take x (event ∷ rest)) ≡ coming_kinds x
+take-kinds x event rest e =
+    rw e (ap (λ (kinds : List Kind). filter_map kind_of x.up ++ kinds) (effect-kinds x.board event rest))
 
 take_sound : (x : MachineState) (down : List EventContent) → x.down ≡ down → IsSound x → IsSound (after_take x down)
 take_sound x [] e sound = sound
@@ -103,12 +127,14 @@ take_exact x (event ∷ rest) e exact =
       awaited = exact.awaited ∙ sym (take-kinds x event rest e);
     }
 
-kinds_after_first : (kind : Option Kind) (up rest : List Kind) → cons_option kind up ++ rest ≡ cons_option kind (up ++ rest)
+kinds_after_first : (kind : Option Kind) (up rest : List Kind)
+    → cons_option kind up ++ rest ≡ cons_option kind (up ++ rest)
 kinds_after_first None up rest = refl
 kinds_after_first (Some kind) up rest = refl
 
 -- the kinds that come, where a message is the first under way
-hear-kinds : (x : MachineState) (message : Content) (rest : List Content) → x.up ≡ message ∷ rest → coming_kinds x ≡ cons_option (kind_of message) (coming_kinds (after_hear x (message ∷ rest)))
+hear-kinds : (x : MachineState) (message : Content) (rest : List Content) → x.up ≡ message ∷ rest
+    → coming_kinds x ≡ cons_option (kind_of message) (coming_kinds (after_hear x (message ∷ rest)))
 hear-kinds x message rest e = rw e (kinds_after_first (kind_of message) (filter_map kind_of rest) _)
 
 hear_sound : (x : MachineState) (up : List Content) → x.up ≡ up → IsSound x → IsSound (after_hear x up)
@@ -120,7 +146,8 @@ hear_sound x (message ∷ rest) e sound =
       picture = rw e at sound.picture;
       followed = sound.followed;
       clock = rw e at sound.clock;
-      awaited = awaited_after-subsequence x.awaited (kind_of message) _ (rw (hear-kinds x message rest e) at sound.awaited);
+      awaited =
+          awaited_after-subsequence x.awaited (kind_of message) _ (rw (hear-kinds x message rest e) at sound.awaited);
     }
 
 hear_exact : (x : MachineState) (up : List Content) → x.up ≡ up → IsExact x → IsExact (after_hear x up)
@@ -129,24 +156,40 @@ hear_exact x (message ∷ rest) e exact =
     record {
       sound = hear_sound x (message ∷ rest) e exact.sound;
       clock = rw e at exact.clock;
-      awaited = ap (λ (awaited : List Kind). awaited_after awaited (kind_of message)) (exact.awaited ∙ hear-kinds x message rest e) ∙ awaited_exactly (kind_of message) _;
+      awaited =
+          ap (λ (awaited : List Kind). awaited_after awaited (kind_of message))
+          (exact.awaited ∙ hear-kinds x message rest e) ∙ awaited_exactly (kind_of message) _;
     }
 
-pub new_sound : (position : List Piece) (clock : ClockState) (identity : IdentityContent) → length position ≡ 64 → IsSound (new_state position clock identity)
+pub new_sound : (position : List Piece) (clock : ClockState) (identity : IdentityContent) → length position ≡ 64
+    → IsSound (new_state position clock identity)
 new_sound position clock identity h =
-    record { squares = h; told_squares = h; picture = inl refl; followed = λ f. absurd (false≢true f); clock = inl refl; awaited = tt }
+    record {
+      squares = h;
+      told_squares = h;
+      picture = inl refl;
+      followed = λ f. absurd (false≢true f);
+      clock = inl refl;
+      awaited = tt;
+    }
 
-pub new_exact : (position : List Piece) (clock : ClockState) (identity : IdentityContent) → length position ≡ 64 → IsExact (new_state position clock identity)
-new_exact position clock identity h = record { sound = new_sound position clock identity h; clock = refl; awaited = refl }
+pub new_exact : (position : List Piece) (clock : ClockState) (identity : IdentityContent) → length position ≡ 64
+    → IsExact (new_state position clock identity)
+new_exact position clock identity h =
+    record { sound = new_sound position clock identity h; clock = refl; awaited = refl }
 
 noise-kinds : (noise : List EventContent) → IsNoiseList noise → filter_map kind_of_event noise ≡ []
-noise-kinds noise is_noise = nothing_of_noise kind_of_event (λ message. refl) (λ leds. refl) (refl, refl, refl) (λ byte. refl) noise is_noise
+noise-kinds noise is_noise =
+    nothing_of_noise kind_of_event (λ message. refl) (λ leds. refl) (refl, refl, refl) (λ byte. refl) noise is_noise
 
 -- of what a host asks for that begins anew, a dump alone has a kind
-host_break-kinds : (x : MachineState) (noise : List EventContent) (is_noise : IsNoiseList noise) → coming_kinds (after_move x (Move.HostBreak noise is_noise)) ≡ filter_map kind_of_reply x.board.owed ++ Kind.Dump ∷ []
+host_break-kinds : (x : MachineState) (noise : List EventContent) (is_noise : IsNoiseList noise)
+    → coming_kinds (after_move x (Move.HostBreak noise is_noise))
+    ≡ filter_map kind_of_reply x.board.owed ++ Kind.Dump ∷ []
 host_break-kinds x noise is_noise =
     ap (λ (down : List Kind). filter_map kind_of_reply x.board.owed ++ down)
-    (filter_map-append kind_of_event noise _ ∙ ap (λ (kinds : List Kind). kinds ++ Kind.Dump ∷ []) (noise-kinds noise is_noise))
+    (filter_map-append kind_of_event noise _ ∙ ap (λ (kinds : List Kind). kinds ++ Kind.Dump ∷ [])
+    (noise-kinds noise is_noise))
 
 -- ---- every move
 
@@ -176,7 +219,9 @@ move_sound x (Move.Ask command) sound =
       picture = sound.picture;
       followed = sound.followed;
       clock = sound.clock;
-      awaited = rw (ask-kinds x command) (subsequence_append x.awaited (coming_kinds x) (option_to_list (kind_of_command command)) sound.awaited);
+      awaited =
+          rw (ask-kinds x command) (subsequence_append x.awaited (coming_kinds x)
+          (option_to_list (kind_of_command command)) sound.awaited);
     }
 move_sound x Move.Take sound = take_sound x x.down refl sound
 move_sound x Move.Reply sound = reply_sound x x.board.owed refl sound
@@ -185,7 +230,8 @@ move_sound x (Move.Tell square) sound =
     (λ h. send_sound x x.board.owed (field_of x.board square) (field_tells x.board square) refl sound) (λ h. sound)
 move_sound x Move.TellClock sound =
     cond_both x.board.times_owed (after_told x (clock_message x.board.clock)) x IsSound
-    (λ h. send_sound x x.board.owed (clock_message x.board.clock) (clock_tells x.board) (tell_clock_first x) sound) (λ h. sound)
+    (λ h. send_sound x x.board.owed (clock_message x.board.clock) (clock_tells x.board) (tell_clock_first x) sound)
+    (λ h. sound)
 move_sound x Move.Hear sound = hear_sound x x.up refl sound
 move_sound x Move.Break sound = new_sound x.board.squares x.board.clock x.board.identity sound.squares
 move_sound x (Move.HostBreak noise is_noise) sound =
@@ -195,7 +241,9 @@ move_sound x (Move.HostBreak noise is_noise) sound =
       picture = inl refl;
       followed = sound.followed;
       clock = inl refl;
-      awaited = rw (host_break-kinds x noise is_noise) (subsequence_at_end (Kind.Dump ∷ []) (filter_map kind_of_reply x.board.owed));
+      awaited =
+          rw (host_break-kinds x noise is_noise)
+          (subsequence_at_end (Kind.Dump ∷ []) (filter_map kind_of_reply x.board.owed));
     }
 
 -- both ends are as new, but for the squares, the clock and the identity
@@ -203,13 +251,17 @@ pub break_exact : (x : MachineState) → IsSound x → IsExact (after_move x Mov
 break_exact x sound = new_exact x.board.squares x.board.clock x.board.identity sound.squares
 
 pub move_exact : (x : MachineState) (move : Move) → ¬ (IsHostBreak move) → IsExact x → IsExact (after_move x move)
-move_exact x (Move.Change square piece) other exact = record { sound = move_sound x (Move.Change square piece) exact.sound; clock = exact.clock; awaited = exact.awaited }
-move_exact x (Move.HandClock clock) other exact = record { sound = move_sound x (Move.HandClock clock) exact.sound; clock = exact.clock; awaited = exact.awaited }
+move_exact x (Move.Change square piece) other exact =
+    record { sound = move_sound x (Move.Change square piece) exact.sound; clock = exact.clock; awaited = exact.awaited }
+move_exact x (Move.HandClock clock) other exact =
+    record { sound = move_sound x (Move.HandClock clock) exact.sound; clock = exact.clock; awaited = exact.awaited }
 move_exact x (Move.Ask command) other exact =
     record {
       sound = move_sound x (Move.Ask command) exact.sound;
       clock = exact.clock;
-      awaited = ap (λ (awaited : List Kind). awaited ++ option_to_list (kind_of_command command)) exact.awaited ∙ sym (ask-kinds x command);
+      awaited =
+          ap (λ (awaited : List Kind). awaited ++ option_to_list (kind_of_command command)) exact.awaited ∙ sym
+          (ask-kinds x command);
     }
 move_exact x Move.Take other exact = take_exact x x.down refl exact
 move_exact x Move.Reply other exact = reply_exact x x.board.owed refl exact
@@ -218,7 +270,8 @@ move_exact x (Move.Tell square) other exact =
     (λ h. send_exact x x.board.owed (field_of x.board square) (field_tells x.board square) refl exact) (λ h. exact)
 move_exact x Move.TellClock other exact =
     cond_both x.board.times_owed (after_told x (clock_message x.board.clock)) x IsExact
-    (λ h. send_exact x x.board.owed (clock_message x.board.clock) (clock_tells x.board) (tell_clock_first x) exact) (λ h. exact)
+    (λ h. send_exact x x.board.owed (clock_message x.board.clock) (clock_tells x.board) (tell_clock_first x) exact)
+    (λ h. exact)
 move_exact x Move.Hear other exact = hear_exact x x.up refl exact
 move_exact x Move.Break other exact = break_exact x exact.sound
 move_exact x (Move.HostBreak noise is_noise) other exact = absurd (other tt)

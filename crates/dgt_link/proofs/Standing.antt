@@ -1,5 +1,6 @@
 -- An act leads a world that stands for a state to one that stands for a state which the machine reaches by it.
-use Rattle.std.proofs.Common.{◌≡◌, ◌≢◌, refl, sym, ap, ◌∙◌, ℕ, ◌≤◌, List, [], ◌∷◌, ◌++◌, length, take, drop, replicate, option_to_list, append_assoc}
+use Rattle.std.proofs.Common.{◌≡◌, ◌≢◌, refl, sym, ap, ◌∙◌, ℕ, ◌≤◌, List, [], ◌∷◌, ◌++◌, length, take, drop, replicate}
+use Rattle.std.proofs.Common.{option_to_list, append_assoc}
 use Rattle.std.proofs.lemmas.List.{append-nil, take-append-drop}
 use Rattle.std.proofs.lemmas.Grind.{flat_map-append}
 use Rattle.std.specs.List.{AllByRecursion, flat_map}
@@ -18,7 +19,8 @@ use Rattle.dgt_board.specs.View.{BoardView}
 use Rattle.dgt_host.specs.Host.{HostView, host_after_message, follow_bytes}
 use Rattle.dgt_link.specs.Act.{ActContent}
 use Rattle.dgt_link.specs.declared.acts.Outcome.{Outcome}
-use Rattle.dgt_link.specs.Machine.{Move, MachineState, commands_anew, after_hear, after_move, after_moves, after_take, new_state}
+use Rattle.dgt_link.specs.Machine.{Move, MachineState, commands_anew, after_hear, after_move, after_moves, after_take}
+use Rattle.dgt_link.specs.Machine.{new_state}
 use Rattle.dgt_link.specs.Sound.{IsSound}
 use Rattle.dgt_link.specs.Stands.{AreSpelled, IsExactWorld, IsWorld, StandsFor, StandsAfterRun, StandsAfterStep}
 use Rattle.dgt_link.specs.Step.{Becomes, Runs, Step, with_state}
@@ -38,7 +40,8 @@ pub record Grammars : Type 0 where
   pub no_word_begins_another : NoWordBeginsAnother
   pub zeros_settle : ZerosSettleTheReader
 
-pub moves-append : (x : MachineState) (moves more : List Move) → after_moves x (moves ++ more) ≡ after_moves (after_moves x moves) more
+pub moves-append : (x : MachineState) (moves more : List Move)
+    → after_moves x (moves ++ more) ≡ after_moves (after_moves x moves) more
 moves-append x [] more = refl
 moves-append x (move ∷ moves) more = moves-append (after_move x move) moves more
 
@@ -47,10 +50,12 @@ moves-append x (move ∷ moves) more = moves-append (after_move x move) moves mo
 abbrev taken_state : MachineState → List EventContent → List EventContent → MachineState
 taken_state x events left = record x { board = effects x.board events; down = left }
 
-takes : (events left : List EventContent) (x : MachineState) → x.down ≡ events ++ left → after_moves x (replicate (length events) Move.Take) ≡ taken_state x events left
+takes : (events left : List EventContent) (x : MachineState) → x.down ≡ events ++ left
+    → after_moves x (replicate (length events) Move.Take) ≡ taken_state x events left
 takes [] left x e = ap (λ (down : List EventContent). record x { down = down }) e
 takes (event ∷ events) left x e =
-    let first : after_move x Move.Take ≡ record x { board = effect x.board event; down = events ++ left } = ap (after_take x) e in
+    let first : after_move x Move.Take ≡ record x { board = effect x.board event; down = events ++ left }
+    = ap (after_take x) e in
     ap (λ (y : MachineState). after_moves y (replicate (length events) Move.Take)) first
     ∙ takes events left (record x { board = effect x.board event; down = events ++ left }) refl
 
@@ -64,22 +69,30 @@ record IsHostOf (host : HostView) (x : MachineState) : Type 0 where
   pub clock : host.clock ≡ x.host_clock
   pub awaited : host.awaited ≡ x.awaited
 
-hears : (messages left : List Content) (x : MachineState) (host : HostView) → x.up ≡ messages ++ left → IsHostOf host x → after_moves x (replicate (length messages) Move.Hear) ≡ with_host x (host_after_messages host messages) left
+hears : (messages left : List Content) (x : MachineState) (host : HostView) → x.up ≡ messages ++ left → IsHostOf host x
+    → after_moves x (replicate (length messages) Move.Hear) ≡ with_host x (host_after_messages host messages) left
 hears [] left x host e of = rw (← e, of.picture, of.clock, of.awaited) refl
 hears (message ∷ messages) left x host e of =
     let after = host_after_message host message in
-    let first : after_move x Move.Hear ≡ with_host x after (messages ++ left) = ap (after_hear x) e ∙ rw (of.picture, of.clock, of.awaited) refl in
+    let first : after_move x Move.Hear ≡ with_host x after (messages ++ left)
+    = ap (after_hear x) e ∙ rw (of.picture, of.clock, of.awaited) refl in
     ap (λ (y : MachineState). after_moves y (replicate (length messages) Move.Hear)) first
-    ∙ hears messages left (with_host x after (messages ++ left)) after refl (record { picture = refl; clock = refl; awaited = refl })
+    ∙ hears messages left (with_host x after (messages ++ left)) after refl (record {
+      picture = refl;
+      clock = refl;
+      awaited = refl;
+    })
 
 -- a front of a line, and what is left of it
 front_of : (held bytes : List ℕ) (count : ℕ) → held ++ bytes ≡ (held ++ take count bytes) ++ drop count bytes
 front_of held bytes count =
-    ap (λ (line : List ℕ). held ++ line) (sym (take-append-drop count bytes)) ∙ sym (append_assoc held (take count bytes) (drop count bytes))
+    ap (λ (line : List ℕ). held ++ line) (sym (take-append-drop count bytes)) ∙ sym
+    (append_assoc held (take count bytes) (drop count bytes))
 
 -- ---- a world just made
 
-pub new_stands : (position : List Piece) (clock : ClockState) (identity : IdentityContent) (up down : ℕ) → length position ≡ 64 → StandsFor (new_world position clock identity up down) (new_state position clock identity)
+pub new_stands : (position : List Piece) (clock : ClockState) (identity : IdentityContent) (up down : ℕ)
+    → length position ≡ 64 → StandsFor (new_world position clock identity up down) (new_state position clock identity)
 new_stands position clock identity up down squares =
     record {
       sound = new_sound position clock identity squares;
@@ -92,7 +105,8 @@ new_stands position clock identity up down squares =
       partial = nothing_is_partial;
     }
 
-pub new_is_world : (position : List Piece) (clock : ClockState) (identity : IdentityContent) (up down : ℕ) → length position ≡ 64 → 67 ≤ up → 257 ≤ down → IsWorld (new_world position clock identity up down)
+pub new_is_world : (position : List Piece) (clock : ClockState) (identity : IdentityContent) (up down : ℕ)
+    → length position ≡ 64 → 67 ≤ up → 257 ≤ down → IsWorld (new_world position clock identity up down)
 new_is_world position clock identity up down squares up_room down_room =
     record {
       state = new_state position clock identity;
@@ -101,7 +115,8 @@ new_is_world position clock identity up down squares up_room down_room =
       down_room = down_room;
     }
 
-pub new_is_exact : (position : List Piece) (clock : ClockState) (identity : IdentityContent) (up down : ℕ) → length position ≡ 64 → IsExactWorld (new_world position clock identity up down)
+pub new_is_exact : (position : List Piece) (clock : ClockState) (identity : IdentityContent) (up down : ℕ)
+    → length position ≡ 64 → IsExactWorld (new_world position clock identity up down)
 new_is_exact position clock identity up down squares =
     record {
       state = new_state position clock identity;
@@ -111,17 +126,21 @@ new_is_exact position clock identity up down squares =
 
 -- ---- an act that is done
 
-spelled_more : (bytes : List ℕ) (messages : List Content) (message : Content) → Spells message (spelling message) → AreSpelled messages bytes → AreSpelled (messages ++ message ∷ []) (bytes ++ spelling message)
+spelled_more : (bytes : List ℕ) (messages : List Content) (message : Content) → Spells message (spelling message)
+    → AreSpelled messages bytes → AreSpelled (messages ++ message ∷ []) (bytes ++ spelling message)
 spelled_more bytes messages message spells spelled =
     record {
       are_messages = all_append IsMessage messages (message ∷ []) spelled.are_messages (spells.is_message, tt);
       in_a_row =
           ap (λ (front : List ℕ). front ++ spelling message) spelled.in_a_row
-          ∙ sym (flat_map-append spelling messages (message ∷ []) ∙ ap (λ (last : List ℕ). flat_map spelling messages ++ last) (append-nil (spelling message)));
+          ∙ sym (flat_map-append spelling messages (message ∷ []) ∙ ap
+          (λ (last : List ℕ). flat_map spelling messages ++ last) (append-nil (spelling message)));
     }
 
 -- only the board is another
-board_stands : (world : WorldView) (x : MachineState) (state board : BoardState) → StandsFor world x → IsSound (record x { board = board }) → state ≡ board → StandsFor (with_state world state) (record x { board = board })
+board_stands : (world : WorldView) (x : MachineState) (state board : BoardState) → StandsFor world x
+    → IsSound (record x { board = board }) → state ≡ board
+    → StandsFor (with_state world state) (record x { board = board })
 board_stands world x state board stands sound same =
     record {
       sound = sound;
@@ -134,26 +153,34 @@ board_stands world x state board stands sound same =
       partial = stands.partial;
     }
 
-change_reaches : (world : WorldView) (square : ℕ) (piece : Piece) (after : WorldView) (x : MachineState) → StandsFor world x → Becomes (ActContent.Change square piece) world after → StandsAfterStep (ActContent.Change square piece) Outcome.Done x after
+change_reaches : (world : WorldView) (square : ℕ) (piece : Piece) (after : WorldView) (x : MachineState)
+    → StandsFor world x → Becomes (ActContent.Change square piece) world after
+    → StandsAfterStep (ActContent.Change square piece) Outcome.Done x after
 change_reaches world square piece after x stands same = (
   Move.Change square piece ∷ [],
   refl,
   rw same
-      (board_stands world x (after_change world.board.state square piece) (after_change x.board square piece) stands (move_sound x (Move.Change square piece) stands.sound)
+      (board_stands world x (after_change world.board.state square piece) (after_change x.board square piece) stands
+      (move_sound x (Move.Change square piece) stands.sound)
       (ap (λ (board : BoardState). after_change board square piece) stands.board)),
 )
 
-clock_reaches : (world : WorldView) (clock : ClockState) (after : WorldView) (x : MachineState) → StandsFor world x → Becomes (ActContent.ClockRead clock) world after → StandsAfterStep (ActContent.ClockRead clock) Outcome.Done x after
+clock_reaches : (world : WorldView) (clock : ClockState) (after : WorldView) (x : MachineState) → StandsFor world x
+    → Becomes (ActContent.ClockRead clock) world after
+    → StandsAfterStep (ActContent.ClockRead clock) Outcome.Done x after
 clock_reaches world clock after x stands same = (
   Move.HandClock clock ∷ [],
   refl,
   rw same
-      (board_stands world x (after_hand_clock world.board.state clock) (after_hand_clock x.board clock) stands (move_sound x (Move.HandClock clock) stands.sound)
+      (board_stands world x (after_hand_clock world.board.state clock) (after_hand_clock x.board clock) stands
+      (move_sound x (Move.HandClock clock) stands.sound)
       (ap (λ (board : BoardState). after_hand_clock board clock) stands.board)),
 )
 
 module _ (laws : Grammars) where
-  ask_reaches : (world : WorldView) (command : CommandContent) (after : WorldView) (x : MachineState) → StandsFor world x → Becomes (ActContent.Host command) world after → StandsAfterStep (ActContent.Host command) Outcome.Done x after
+  ask_reaches : (world : WorldView) (command : CommandContent) (after : WorldView) (x : MachineState)
+      → StandsFor world x → Becomes (ActContent.Host command) world after
+      → StandsAfterStep (ActContent.Host command) Outcome.Done x after
   ask_reaches world command after x stands (spells, same) = (
     Move.Ask command ∷ [],
     refl,
@@ -166,12 +193,14 @@ module _ (laws : Grammars) where
           awaited = ap (λ (awaited : List Kind). awaited ++ option_to_list (kind_of_command command)) stands.awaited;
           up = stands.up;
           down = rw (append_assoc world.board.partial world.down.bytes (command_spelling command)) at
-              (divides_command laws.divisions_append (world.board.partial ++ world.down.bytes) x.down command stands.down spells);
+              (divides_command laws.divisions_append
+              (world.board.partial ++ world.down.bytes) x.down command stands.down spells);
           partial = stands.partial;
         }),
   )
 
-  send_reaches : (world after : WorldView) (x : MachineState) → StandsFor world x → Becomes ActContent.BoardSend world after → StandsAfterStep ActContent.BoardSend Outcome.Done x after
+  send_reaches : (world after : WorldView) (x : MachineState) → StandsFor world x
+      → Becomes ActContent.BoardSend world after → StandsAfterStep ActContent.BoardSend Outcome.Done x after
   send_reaches world after x stands (message, is_next, spells, same) =
       let by = next_is_sent x message (ap next_message (sym stands.board) ∙ is_next) in (
         by.0 ∷ [],
@@ -190,11 +219,14 @@ module _ (laws : Grammars) where
             }),
       )
 
-  take_reaches : (world : WorldView) (count : ℕ) (after : WorldView) (x : MachineState) → StandsFor world x → Becomes (ActContent.ToBoard count) world after → StandsAfterStep (ActContent.ToBoard count) Outcome.Done x after
+  take_reaches : (world : WorldView) (count : ℕ) (after : WorldView) (x : MachineState) → StandsFor world x
+      → Becomes (ActContent.ToBoard count) world after → StandsAfterStep (ActContent.ToBoard count) Outcome.Done x after
   take_reaches world count after x stands delivers =
       let taken = delivers.taken in
       let board : BoardView = delivers.board in
-      let front = divides_front laws.no_word_begins_another (world.board.partial ++ take delivers.moved world.down.bytes) (drop delivers.moved world.down.bytes) taken.events x.down board.partial [] taken.divided
+      let front = divides_front laws.no_word_begins_another
+      (world.board.partial ++ take delivers.moved world.down.bytes)
+      (drop delivers.moved world.down.bytes) taken.events x.down board.partial [] taken.divided
       (rw (front_of world.board.partial world.down.bytes delivers.moved) at stands.down) in
       let moves : List Move = replicate (length taken.events) Move.Take in
       let led : after_moves x moves ≡ taken_state x taken.events front.0 = takes taken.events front.0 x front.1 in (
@@ -209,17 +241,22 @@ module _ (laws : Grammars) where
               awaited = stands.awaited;
               up = stands.up;
               down = front.2;
-              partial = divides_end (world.board.partial ++ take delivers.moved world.down.bytes) taken.events board.partial taken.divided;
+              partial =
+                  divides_end (world.board.partial ++ take delivers.moved world.down.bytes) taken.events board.partial
+                  taken.divided;
             }),
       )
 
-  hear_reaches : (world : WorldView) (count : ℕ) (after : WorldView) (x : MachineState) → StandsFor world x → Becomes (ActContent.ToHost count) world after → StandsAfterStep (ActContent.ToHost count) Outcome.Done x after
+  hear_reaches : (world : WorldView) (count : ℕ) (after : WorldView) (x : MachineState) → StandsFor world x
+      → Becomes (ActContent.ToHost count) world after → StandsAfterStep (ActContent.ToHost count) Outcome.Done x after
   hear_reaches world count after x stands same =
       let bytes = world.host.unread ++ take count world.up.bytes in
-      let front = heard_front laws.reads bytes (drop count world.up.bytes) x.up (rw (front_of world.host.unread world.up.bytes count) at stands.up) in
+      let front = heard_front laws.reads bytes (drop count world.up.bytes) x.up
+      (rw (front_of world.host.unread world.up.bytes count) at stands.up) in
       let moves : List Move = replicate (length front.heard) Move.Hear in
       let led : after_moves x moves ≡ with_host x (host_after_messages world.host front.heard) front.left =
-      hears front.heard front.left x world.host front.all (record { picture = stands.picture; clock = stands.clock; awaited = stands.awaited }) in (
+      hears front.heard front.left x world.host front.all
+      (record { picture = stands.picture; clock = stands.clock; awaited = stands.awaited }) in (
         moves,
         (length front.heard, refl),
         rw (same, led, front.host world.host)
@@ -235,7 +272,8 @@ module _ (laws : Grammars) where
             }),
       )
 
-  break_reaches : (world after : WorldView) (x : MachineState) → StandsFor world x → Becomes ActContent.Break world after → StandsAfterStep ActContent.Break Outcome.Done x after
+  break_reaches : (world after : WorldView) (x : MachineState) → StandsFor world x
+      → Becomes ActContent.Break world after → StandsAfterStep ActContent.Break Outcome.Done x after
   break_reaches world after x stands same = (
     Move.Break ∷ [],
     refl,
@@ -252,7 +290,8 @@ module _ (laws : Grammars) where
         }),
   )
 
-  host_break_reaches : (world after : WorldView) (x : MachineState) → StandsFor world x → Becomes ActContent.HostBreak world after → StandsAfterStep ActContent.HostBreak Outcome.Done x after
+  host_break_reaches : (world after : WorldView) (x : MachineState) → StandsFor world x
+      → Becomes ActContent.HostBreak world after → StandsAfterStep ActContent.HostBreak Outcome.Done x after
   host_break_reaches world after x stands same =
       let noise = laws.zeros_settle world.board.partial stands.partial in (
         Move.HostBreak noise.0 noise.1 ∷ [],
@@ -266,14 +305,18 @@ module _ (laws : Grammars) where
               awaited = refl;
               up = record { are_messages = tt; in_a_row = refl };
               down = rw (append_assoc world.board.partial (replicate 255 0) follow_bytes) at
-                  (laws.divisions_append (world.board.partial ++ replicate 255 0) follow_bytes noise.0 (map EventContent.Read commands_anew) [] [] noise.2 anew_divides);
+                  (laws.divisions_append (world.board.partial ++ replicate 255 0) follow_bytes noise.0
+                  (map EventContent.Read commands_anew) [] [] noise.2 anew_divides);
               partial = stands.partial;
             }),
       )
 
-  done_reaches : (act : ActContent) (world after : WorldView) (x : MachineState) → StandsFor world x → Becomes act world after → StandsAfterStep act Outcome.Done x after
-  done_reaches (ActContent.Change square piece) world after x stands becomes = change_reaches world square piece after x stands becomes
-  done_reaches (ActContent.ClockRead clock) world after x stands becomes = clock_reaches world clock after x stands becomes
+  done_reaches : (act : ActContent) (world after : WorldView) (x : MachineState) → StandsFor world x
+      → Becomes act world after → StandsAfterStep act Outcome.Done x after
+  done_reaches (ActContent.Change square piece) world after x stands becomes =
+      change_reaches world square piece after x stands becomes
+  done_reaches (ActContent.ClockRead clock) world after x stands becomes =
+      clock_reaches world clock after x stands becomes
   done_reaches (ActContent.Host command) world after x stands becomes = ask_reaches world command after x stands becomes
   done_reaches ActContent.BoardSend world after x stands becomes = send_reaches world after x stands becomes
   done_reaches (ActContent.ToBoard count) world after x stands becomes = take_reaches world count after x stands becomes
@@ -281,14 +324,17 @@ module _ (laws : Grammars) where
   done_reaches ActContent.Break world after x stands becomes = break_reaches world after x stands becomes
   done_reaches ActContent.HostBreak world after x stands becomes = host_break_reaches world after x stands becomes
 
-  pub step_stands : (act : ActContent) (world : WorldView) (answer : Outcome) (after : WorldView) (x : MachineState) → StandsFor world x → Step act world answer after → StandsAfterStep act answer x after
+  pub step_stands : (act : ActContent) (world : WorldView) (answer : Outcome) (after : WorldView) (x : MachineState)
+      → StandsFor world x → Step act world answer after → StandsAfterStep act answer x after
   step_stands act world Outcome.Done after x stands step = done_reaches act world after x stands step.leaves
   step_stands act world Outcome.Nothing after x stands step = ([], refl, rw step.leaves stands)
   step_stands act world Outcome.NoRoom after x stands step = ([], refl, rw step.leaves stands)
   step_stands act world Outcome.Busy after x stands step = ([], refl, rw step.leaves stands)
   step_stands act world Outcome.TooMany after x stands step = ([], refl, rw step.leaves stands)
 
-  pub run_stands : (acts : List ActContent) (world : WorldView) (answers : List Outcome) (after : WorldView) (x : MachineState) → StandsFor world x → Runs acts world answers after → StandsAfterRun acts answers x after
+  pub run_stands : (acts : List ActContent) (world : WorldView) (answers : List Outcome) (after : WorldView)
+      (x : MachineState)
+      → StandsFor world x → Runs acts world answers after → StandsAfterRun acts answers x after
   run_stands [] world [] after x stands same = ([], refl, rw same stands)
   run_stands (act ∷ acts) world (answer ∷ answers) after x stands (between, step, runs) =
       let first = step_stands act world answer between x stands step in
@@ -304,19 +350,22 @@ record HasRooms (world after : WorldView) : Type 0 where
   pub down : after.down.capacity ≡ world.down.capacity
 
 same_rooms : (world after : WorldView) → after ≡ world → HasRooms world after
-same_rooms world after same = record { up = ap (λ (w : WorldView). w.up.capacity) same; down = ap (λ (w : WorldView). w.down.capacity) same }
+same_rooms world after same =
+    record { up = ap (λ (w : WorldView). w.up.capacity) same; down = ap (λ (w : WorldView). w.down.capacity) same }
 
 becomes_rooms : (act : ActContent) (world after : WorldView) → Becomes act world after → HasRooms world after
 becomes_rooms (ActContent.Change square piece) world after same = rw same (record { up = refl; down = refl })
 becomes_rooms (ActContent.ClockRead clock) world after same = rw same (record { up = refl; down = refl })
 becomes_rooms (ActContent.Host command) world after (spells, same) = rw same (record { up = refl; down = refl })
-becomes_rooms ActContent.BoardSend world after (message, is_next, spells, same) = rw same (record { up = refl; down = refl })
+becomes_rooms ActContent.BoardSend world after (message, is_next, spells, same) =
+    rw same (record { up = refl; down = refl })
 becomes_rooms (ActContent.ToBoard count) world after delivers = rw delivers.leaves (record { up = refl; down = refl })
 becomes_rooms (ActContent.ToHost count) world after same = rw same (record { up = refl; down = refl })
 becomes_rooms ActContent.Break world after same = rw same (record { up = refl; down = refl })
 becomes_rooms ActContent.HostBreak world after same = rw same (record { up = refl; down = refl })
 
-step_rooms : (act : ActContent) (world : WorldView) (answer : Outcome) (after : WorldView) → Step act world answer after → HasRooms world after
+step_rooms : (act : ActContent) (world : WorldView) (answer : Outcome) (after : WorldView) → Step act world answer after
+    → HasRooms world after
 step_rooms act world Outcome.Done after step = becomes_rooms act world after step.leaves
 step_rooms act world Outcome.Nothing after step = same_rooms world after step.leaves
 step_rooms act world Outcome.NoRoom after step = same_rooms world after step.leaves
@@ -325,9 +374,11 @@ step_rooms act world Outcome.TooMany after step = same_rooms world after step.le
 
 -- ---- what is kept
 
-module _ (moves : (act : ActContent) (world after : WorldView) (answer : Outcome) (x : MachineState) → StandsFor world x → Step act world answer after → StandsAfterStep act answer x after) where
+module _ (moves : (act : ActContent) (world after : WorldView) (answer : Outcome) (x : MachineState) → StandsFor world x
+    → Step act world answer after → StandsAfterStep act answer x after) where
   -- what an act leaves of a world is one
-  pub step_is_world : (act : ActContent) (world after : WorldView) (answer : Outcome) → IsWorld world → Step act world answer after → IsWorld after
+  pub step_is_world : (act : ActContent) (world after : WorldView) (answer : Outcome) → IsWorld world
+      → Step act world answer after → IsWorld after
   step_is_world act world after answer is step =
       let reached = moves act world after answer is.state is.stands step in
       let rooms = step_rooms act world answer after step in
@@ -338,19 +389,37 @@ module _ (moves : (act : ActContent) (world after : WorldView) (answer : Outcome
         down_room = rw rooms.down is.down_room;
       }
 
-  pub step_keeps_exact : (act : ActContent) (world after : WorldView) (answer : Outcome) → act ≢ ActContent.HostBreak → IsExactWorld world → Step act world answer after → IsExactWorld after
+  pub step_keeps_exact : (act : ActContent) (world after : WorldView) (answer : Outcome) → act ≢ ActContent.HostBreak
+      → IsExactWorld world → Step act world answer after → IsExactWorld after
   step_keeps_exact act world after answer other is step =
       let reached = moves act world after answer is.state is.stands step in
-      record { state = after_moves is.state reached.0; stands = reached.2; exact = moves_exact is.state reached.0 (step_is_other act answer reached.0 other reached.1) is.exact }
+      record {
+        state = after_moves is.state reached.0;
+        stands = reached.2;
+        exact = moves_exact is.state reached.0 (step_is_other act answer reached.0 other reached.1) is.exact;
+      }
 
   -- a break makes a world exact
-  pub break_is_exact : (world after : WorldView) (answer : Outcome) → IsWorld world → Step ActContent.Break world answer after → IsExactWorld after
+  pub break_is_exact : (world after : WorldView) (answer : Outcome) → IsWorld world
+      → Step ActContent.Break world answer after → IsExactWorld after
   break_is_exact world after answer is step =
       let reached = moves ActContent.Break world after answer is.state is.stands step in
-      let broken : after_moves is.state reached.0 ≡ after_move is.state Move.Break = break_moves is.state answer reached.0 step.answers reached.1 in
-      record { state = after_moves is.state reached.0; stands = reached.2; exact = rw broken (break_exact is.state is.stands.sound) }
+      let broken : after_moves is.state reached.0 ≡ after_move is.state Move.Break
+      = break_moves is.state answer reached.0 step.answers reached.1 in
+      record {
+        state = after_moves is.state reached.0;
+        stands = reached.2;
+        exact = rw broken (break_exact is.state is.stands.sound);
+      }
 
-pub run_keeps_exact : ((acts : List ActContent) (world after : WorldView) (answers : List Outcome) (x : MachineState) → StandsFor world x → Runs acts world answers after → StandsAfterRun acts answers x after) → (acts : List ActContent) (world after : WorldView) (answers : List Outcome) → ¬ (Contains acts ActContent.HostBreak) → IsExactWorld world → Runs acts world answers after → IsExactWorld after
+pub run_keeps_exact : ((acts : List ActContent) (world after : WorldView) (answers : List Outcome) (x : MachineState)
+    → StandsFor world x → Runs acts world answers after → StandsAfterRun acts answers x after)
+    → (acts : List ActContent) (world after : WorldView) (answers : List Outcome)
+    → ¬ (Contains acts ActContent.HostBreak) → IsExactWorld world → Runs acts world answers after → IsExactWorld after
 run_keeps_exact moves acts world after answers none is runs =
     let reached = moves acts world after answers is.state is.stands runs in
-    record { state = after_moves is.state reached.0; stands = reached.2; exact = moves_exact is.state reached.0 (run_is_other acts answers reached.0 none reached.1) is.exact }
+    record {
+      state = after_moves is.state reached.0;
+      stands = reached.2;
+      exact = moves_exact is.state reached.0 (run_is_other acts answers reached.0 none reached.1) is.exact;
+    }

@@ -1,5 +1,6 @@
 -- Subsequences, and the kinds of a list to which something is added.
-use Rattle.std.proofs.Common.{◌≡◌, refl, sym, ap, ◌∙◌, inl, inr, List, [], ◌∷◌, ◌++◌, Option, Some, None, true, false, append_assoc}
+use Rattle.std.proofs.Common.{◌≡◌, refl, sym, ap, ◌∙◌, inl, inr, List, [], ◌∷◌, ◌++◌, Option, Some, None, true, false}
+use Rattle.std.proofs.Common.{append_assoc}
 use Rattle.std.proofs.lemmas.List.{append-nil}
 use Rattle.std.proofs.lemmas.Bool.{cond_both, cond-true, false≢true}
 use Rattle.std.specs.List.{cons_option}
@@ -46,12 +47,15 @@ tail_after_head : {X : Type 0} (x y : X) (xs ys : List X) → IsSubsequence (x �
 tail_after_head x y xs ys (inl h) = h.1
 tail_after_head x y xs ys (inr h) = subsequence_tail x xs ys h
 
-skips_other_head : (first kind : Kind) (others rest : List Kind) → is_same_kind first kind ≡ false → IsSubsequence (first ∷ others) (kind ∷ rest) → IsSubsequence (first ∷ others) rest
-skips_other_head first kind others rest differ (inl h) = absurd (false≢true (sym differ ∙ (rw h.0 (same_kind_itself kind))))
+skips_other_head : (first kind : Kind) (others rest : List Kind) → is_same_kind first kind ≡ false
+    → IsSubsequence (first ∷ others) (kind ∷ rest) → IsSubsequence (first ∷ others) rest
+skips_other_head first kind others rest differ (inl h) =
+    absurd (false≢true (sym differ ∙ (rw h.0 (same_kind_itself kind))))
 skips_other_head first kind others rest differ (inr h) = h
 
 -- what a heard kind leaves awaited
-pub awaited_after-subsequence : (awaited : List Kind) (kind : Option Kind) (rest : List Kind) → IsSubsequence awaited (cons_option kind rest) → IsSubsequence (awaited_after awaited kind) rest
+pub awaited_after-subsequence : (awaited : List Kind) (kind : Option Kind) (rest : List Kind)
+    → IsSubsequence awaited (cons_option kind rest) → IsSubsequence (awaited_after awaited kind) rest
 awaited_after-subsequence awaited None rest h = h
 awaited_after-subsequence [] (Some kind) rest h = tt
 awaited_after-subsequence (first ∷ others) (Some kind) rest h =
@@ -69,6 +73,7 @@ pub one_more : {X : Type 0} (x : Option X) → cons_option x [] ≡ option_to_li
 one_more None = refl
 one_more (Some x) = refl
 
-pub moved_over : {X : Type 0} (a : List X) (x : Option X) (b c : List X) → (a ++ cons_option x []) ++ (b ++ c) ≡ a ++ (cons_option x b ++ c)
+pub moved_over : {X : Type 0} (a : List X) (x : Option X) (b c : List X)
+    → (a ++ cons_option x []) ++ (b ++ c) ≡ a ++ (cons_option x b ++ c)
 moved_over {X = X} a None b c = ap (λ (left : List X). left ++ (b ++ c)) (append-nil a)
 moved_over a (Some x) b c = append_assoc a (x ∷ []) (b ++ c)

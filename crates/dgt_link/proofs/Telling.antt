@@ -1,5 +1,6 @@
 -- What a message that the board sends tells of its squares and of its clock.
-use Rattle.std.proofs.Common.{◌≡◌, refl, sym, ap, ◌∙◌, ◌⊎◌, inl, inr, ℕ, List, [], ◌∷◌, ◌++◌, Option, Some, None, Bool, true, false, length}
+use Rattle.std.proofs.Common.{◌≡◌, refl, sym, ap, ◌∙◌, ◌⊎◌, inl, inr, ℕ, List, [], ◌∷◌, ◌++◌, Option, Some, None, Bool}
+use Rattle.std.proofs.Common.{true, false, length}
 use Rattle.std.proofs.lemmas.Bool.{and_parts, eqb-true, false≢true}
 use Rattle.std.proofs.lemmas.Slice.Eq.{bytes_eq-Decides}
 use Rattle.std.specs.Prelude.{◌&&◌, ◌==◌, IsTrue, bytes_eq, not}
@@ -15,55 +16,70 @@ use Rattle.dgt_board.specs.Sending.{field_of, reply_message, told_squares_after,
 use Rattle.dgt_host.specs.Host.{clock_after, clock_after_all, picture_after, picture_after_all}
 use Rattle.dgt_link.specs.Sound.{IsUnknownOr, kind_of_reply}
 
-pub picture_after_all-append : (picture : Option (List Piece)) (up : List Content) (message : Content) → picture_after_all picture (up ++ message ∷ []) ≡ picture_after (picture_after_all picture up) message
+pub picture_after_all-append : (picture : Option (List Piece)) (up : List Content) (message : Content)
+    → picture_after_all picture (up ++ message ∷ []) ≡ picture_after (picture_after_all picture up) message
 picture_after_all-append picture [] message = refl
-picture_after_all-append picture (first ∷ up) message = picture_after_all-append (picture_after picture first) up message
+picture_after_all-append picture (first ∷ up) message =
+    picture_after_all-append (picture_after picture first) up message
 
-pub clock_after_all-append : (clock : Option ClockState) (up : List Content) (message : Content) → clock_after_all clock (up ++ message ∷ []) ≡ clock_after (clock_after_all clock up) message
+pub clock_after_all-append : (clock : Option ClockState) (up : List Content) (message : Content)
+    → clock_after_all clock (up ++ message ∷ []) ≡ clock_after (clock_after_all clock up) message
 clock_after_all-append clock [] message = refl
 clock_after_all-append clock (first ∷ up) message = clock_after_all-append (clock_after clock first) up message
 
 same_time : (a b : Time) → time_eq a b ≡ true → a ≡ b
 same_time a b h =
-    let rest = and_parts (a.hours == b.hours && a.minutes == b.minutes && a.seconds == b.seconds) (a.flags == b.flags) h in
+    let rest = and_parts (a.hours == b.hours && a.minutes == b.minutes && a.seconds == b.seconds)
+    (a.flags == b.flags) h in
     let first = and_parts (a.hours == b.hours && a.minutes == b.minutes) (a.seconds == b.seconds) rest.0 in
     let two = and_parts (a.hours == b.hours) (a.minutes == b.minutes) first.0 in
     times_alike a.hours b.hours a.minutes b.minutes a.seconds b.seconds a.flags b.flags
-    (eqb-true a.hours b.hours two.0) (eqb-true a.minutes b.minutes two.1) (eqb-true a.seconds b.seconds first.1) (eqb-true a.flags b.flags rest.1)
+    (eqb-true a.hours b.hours two.0) (eqb-true a.minutes b.minutes two.1) (eqb-true a.seconds b.seconds first.1)
+    (eqb-true a.flags b.flags rest.1)
   where
     times_alike : (h h' m m' s s' f f' : ℕ) → h ≡ h' → m ≡ m' → s ≡ s' → f ≡ f' → time_of h m s f ≡ time_of h' m' s' f'
     times_alike h h' m m' s s' f f' eh em es ef = rw (eh, em, es, ef)
 
-both_times : (first first' second second' : Time) (status status' : ℕ) → first ≡ first' → second ≡ second' → status ≡ status'
-    → ClockState.times (record { first = first; second = second; status = status }) ≡ ClockState.times (record { first = first'; second = second'; status = status' })
+both_times : (first first' second second' : Time) (status status' : ℕ) → first ≡ first' → second ≡ second'
+    → status ≡ status'
+    → ClockState.times (record { first = first; second = second; status = status }) ≡ ClockState.times
+    (record { first = first'; second = second'; status = status' })
 both_times first first' second second' status status' e f g = rw (e, f, g)
 
-absent : (raw raw' : List ℕ) (status status' : ℕ) → raw ≡ raw' → status ≡ status' → ClockState.no_clock (record { raw = raw; status = status }) ≡ ClockState.no_clock (record { raw = raw'; status = status' })
+absent : (raw raw' : List ℕ) (status status' : ℕ) → raw ≡ raw' → status ≡ status'
+    → ClockState.no_clock (record { raw = raw; status = status }) ≡ ClockState.no_clock
+    (record { raw = raw'; status = status' })
 absent raw raw' status status' e f = rw (e, f)
 
 -- clocks that pass the test are the same
 clock_eq-true : (left right : ClockState) → clock_eq left right ≡ true → left ≡ right
 clock_eq-true (ClockState.times left) (ClockState.times right) h =
-    let parts = and_parts (time_eq left.first right.first && time_eq left.second right.second) (left.status == right.status) h in
+    let parts = and_parts (time_eq left.first right.first && time_eq left.second right.second)
+    (left.status == right.status) h in
     let players = and_parts (time_eq left.first right.first) (time_eq left.second right.second) parts.0 in
     both_times left.first right.first left.second right.second left.status right.status
-    (same_time left.first right.first players.0) (same_time left.second right.second players.1) (eqb-true left.status right.status parts.1)
+    (same_time left.first right.first players.0) (same_time left.second right.second players.1)
+    (eqb-true left.status right.status parts.1)
 clock_eq-true (ClockState.no_clock left) (ClockState.no_clock right) h =
     let parts = and_parts (bytes_eq left.raw right.raw) (left.status == right.status) h in
-    absent left.raw right.raw left.status right.status ((bytes_eq-Decides left.raw right.raw).0 parts.0) (eqb-true left.status right.status parts.1)
+    absent left.raw right.raw left.status right.status ((bytes_eq-Decides left.raw right.raw).0 parts.0)
+    (eqb-true left.status right.status parts.1)
 clock_eq-true (ClockState.times left) (ClockState.no_clock right) h = absurd (false≢true h)
 clock_eq-true (ClockState.no_clock left) (ClockState.times right) h = absurd (false≢true h)
 
 -- what was told of the clock, or that telling it is owed
-owed_unless_told : (told clock : ClockState) (same : Bool) → clock_eq told clock ≡ same → IsTrue (not same) ⊎ (Some told ≡ Some clock)
+owed_unless_told : (told clock : ClockState) (same : Bool) → clock_eq told clock ≡ same
+    → IsTrue (not same) ⊎ (Some told ≡ Some clock)
 owed_unless_told told clock true e = inr (ap Some (clock_eq-true told clock e))
 owed_unless_told told clock false e = inl refl
 
-pub owed_or_told : (told : Option ClockState) (clock : ClockState) → IsTrue (not (is_told told clock)) ⊎ (told ≡ Some clock)
+pub owed_or_told : (told : Option ClockState) (clock : ClockState)
+    → IsTrue (not (is_told told clock)) ⊎ (told ≡ Some clock)
 owed_or_told None clock = inl refl
 owed_or_told (Some told) clock = owed_unless_told told clock (clock_eq told clock) refl
 
-pub handed_or_told : (mode : Mode) (told : Option ClockState) (clock : ClockState) → IsTrue (follows_clock mode) → IsTrue (owed_when_handed mode (is_told told clock)) ⊎ (told ≡ Some clock)
+pub handed_or_told : (mode : Mode) (told : Option ClockState) (clock : ClockState) → IsTrue (follows_clock mode)
+    → IsTrue (owed_when_handed mode (is_told told clock)) ⊎ (told ≡ Some clock)
 handed_or_told Mode.Idle told clock h = absurd (false≢true h)
 handed_or_told Mode.Update told clock h = inl refl
 handed_or_told Mode.UpdateBoard told clock h = absurd (false≢true h)
@@ -71,12 +87,14 @@ handed_or_told Mode.UpdateNice told clock h = owed_or_told told clock
 
 -- what the board counts as told after a message is what the host then has
 pub record Tells (board : BoardState) (message : Content) : Type 0 where
-  pub squares : length board.squares ≡ 64 → length board.told_squares ≡ 64 → length (told_squares_after board message) ≡ 64
+  pub squares : length board.squares ≡ 64 → length board.told_squares ≡ 64
+      → length (told_squares_after board message) ≡ 64
   pub picture : picture_after (Some board.told_squares) message ≡ Some (told_squares_after board message)
   pub first_picture : IsUnknownOr (picture_after None message) (Some (told_squares_after board message))
   pub clock : clock_after board.told_clock message ≡ told_clock_after board message
   pub first_clock : IsUnknownOr (clock_after None message) (told_clock_after board message)
-  pub followed : (told_clock_after board message ≡ Some board.clock) ⊎ ((told_clock_after board message ≡ board.told_clock) × (times_owed_after board message ≡ board.times_owed))
+  pub followed : (told_clock_after board message ≡ Some board.clock) ⊎
+      ((told_clock_after board message ≡ board.told_clock) × (times_owed_after board message ≡ board.times_owed))
 
 pub field_tells : (board : BoardState) (square : ℕ) → Tells board (field_of board square)
 field_tells board square =
@@ -89,7 +107,8 @@ field_tells board square =
       followed = inr (refl, refl);
     }
 
-clock_message_tells : (board : BoardState) (clock : ClockState) → board.clock ≡ clock → Tells board (clock_message clock)
+clock_message_tells : (board : BoardState) (clock : ClockState) → board.clock ≡ clock
+    → Tells board (clock_message clock)
 clock_message_tells board (ClockState.times readings) e =
     record {
       squares = λ s t. t;
@@ -142,42 +161,61 @@ reply_tells board (Reply.Of Kind.Dump) =
       followed = inr (refl, refl);
     }
 reply_tells board Reply.Clock = clock_tells board
-reply_tells board _ = plain_tells board _ (record { squares = refl; picture = λ seen. refl; told_clock = refl; clock = λ seen. refl; times_owed = refl })
+reply_tells board _ =
+    plain_tells board _
+    (record { squares = refl; picture = λ seen. refl; told_clock = refl; clock = λ seen. refl; times_owed = refl })
 
 -- the message of an owed reply is of its kind, and so has the clock's message none
 pub clock_message-kind : (clock : ClockState) → kind_of (clock_message clock) ≡ None
 clock_message-kind (ClockState.times readings) = refl
 clock_message-kind (ClockState.no_clock absence) = refl
 
-pub reply_message-kind : (board : BoardState) (reply : Reply) → kind_of (reply_message board reply) ≡ kind_of_reply reply
+pub reply_message-kind : (board : BoardState) (reply : Reply)
+    → kind_of (reply_message board reply) ≡ kind_of_reply reply
 reply_message-kind board Reply.Clock = clock_message-kind board.clock
 reply_message-kind board (Reply.Of Kind.Dump) = refl
 reply_message-kind board _ = refl
 
 -- the picture and the clock that the host comes to have, once one more message is under way
-seen_after : (told told' : List Piece) (message : Content) → picture_after (Some told) message ≡ Some told' → IsUnknownOr (picture_after None message) (Some told') → (seen : Option (List Piece)) → IsUnknownOr seen (Some told) → IsUnknownOr (picture_after seen message) (Some told')
+seen_after : (told told' : List Piece) (message : Content) → picture_after (Some told) message ≡ Some told'
+    → IsUnknownOr (picture_after None message) (Some told') → (seen : Option (List Piece))
+    → IsUnknownOr seen (Some told) → IsUnknownOr (picture_after seen message) (Some told')
 seen_after told told' message known unknown seen (inl e) = rw e unknown
 seen_after told told' message known unknown seen (inr e) = inr (rw e known)
 
-pub picture_told : (board : BoardState) (message : Content) → Tells board message → (picture : Option (List Piece)) (up : List Content) → IsUnknownOr (picture_after_all picture up) (Some board.told_squares) → IsUnknownOr (picture_after_all picture (up ++ message ∷ [])) (Some (told_squares_after board message))
+pub picture_told : (board : BoardState) (message : Content) → Tells board message
+    → (picture : Option (List Piece)) (up : List Content)
+    → IsUnknownOr (picture_after_all picture up) (Some board.told_squares)
+    → IsUnknownOr (picture_after_all picture (up ++ message ∷ [])) (Some (told_squares_after board message))
 picture_told board message tells picture up h =
     rw (picture_after_all-append picture up message)
-    (seen_after board.told_squares (told_squares_after board message) message tells.picture tells.first_picture (picture_after_all picture up) h)
+    (seen_after board.told_squares (told_squares_after board message) message tells.picture tells.first_picture
+    (picture_after_all picture up) h)
 
-clock_seen_after : (told told' : Option ClockState) (message : Content) → clock_after told message ≡ told' → IsUnknownOr (clock_after None message) told' → (seen : Option ClockState) → IsUnknownOr seen told → IsUnknownOr (clock_after seen message) told'
+clock_seen_after : (told told' : Option ClockState) (message : Content) → clock_after told message ≡ told'
+    → IsUnknownOr (clock_after None message) told' → (seen : Option ClockState) → IsUnknownOr seen told
+    → IsUnknownOr (clock_after seen message) told'
 clock_seen_after told told' message known unknown seen (inl e) = rw e unknown
 clock_seen_after told told' message known unknown seen (inr e) = inr (rw e known)
 
-pub clock_told_of : (board : BoardState) (message : Content) → Tells board message → (clock : Option ClockState) (up : List Content) → IsUnknownOr (clock_after_all clock up) board.told_clock → IsUnknownOr (clock_after_all clock (up ++ message ∷ [])) (told_clock_after board message)
+pub clock_told_of : (board : BoardState) (message : Content) → Tells board message
+    → (clock : Option ClockState) (up : List Content) → IsUnknownOr (clock_after_all clock up) board.told_clock
+    → IsUnknownOr (clock_after_all clock (up ++ message ∷ [])) (told_clock_after board message)
 clock_told_of board message tells clock up h =
     rw (clock_after_all-append clock up message)
-    (clock_seen_after board.told_clock (told_clock_after board message) message tells.clock tells.first_clock (clock_after_all clock up) h)
+    (clock_seen_after board.told_clock (told_clock_after board message) message tells.clock tells.first_clock
+    (clock_after_all clock up) h)
 
 -- the clock that is followed is told, or telling it is owed
-pub followed_after : (board : BoardState) (message : Content) → Tells board message → IsTrue board.times_owed ⊎ (board.told_clock ≡ Some board.clock) → IsTrue (times_owed_after board message) ⊎ (told_clock_after board message ≡ Some board.clock)
+pub followed_after : (board : BoardState) (message : Content) → Tells board message
+    → IsTrue board.times_owed ⊎ (board.told_clock ≡ Some board.clock)
+    → IsTrue (times_owed_after board message) ⊎ (told_clock_after board message ≡ Some board.clock)
 followed_after board message tells before = go tells.followed before
   where
-    go : (told_clock_after board message ≡ Some board.clock) ⊎ ((told_clock_after board message ≡ board.told_clock) × (times_owed_after board message ≡ board.times_owed)) → IsTrue board.times_owed ⊎ (board.told_clock ≡ Some board.clock) → IsTrue (times_owed_after board message) ⊎ (told_clock_after board message ≡ Some board.clock)
+    go : (told_clock_after board message ≡ Some board.clock) ⊎
+        ((told_clock_after board message ≡ board.told_clock) × (times_owed_after board message ≡ board.times_owed))
+        → IsTrue board.times_owed ⊎ (board.told_clock ≡ Some board.clock)
+        → IsTrue (times_owed_after board message) ⊎ (told_clock_after board message ≡ Some board.clock)
     go (inl told) before = inr told
     go (inr same) (inl owed) = inl (same.1 ∙ owed)
     go (inr same) (inr told) = inr (same.0 ∙ told)

@@ -1,26 +1,35 @@
 //! What holds of the machine of a board and its host, and of the worlds that stand for its states.
 //! Nothing here runs: each function stands for the facts that its contract states.
 
-ghost use Rattle.std.specs.Prelude.{◌≡◌, ◌≢◌, ◌≤◌, List, [], ◌∷◌, ◌++◌, All, Contains, Option, Some, None, flat_map, length, map, IsTrue, IsSome};
+ghost use Rattle.std.specs.Prelude.{◌≡◌, ◌≢◌, ◌≤◌, List, [], ◌∷◌, ◌++◌, All, Contains};
+ghost use Rattle.std.specs.Prelude.{Option, Some, None, flat_map, length, map, IsTrue, IsSome};
 ghost use Rattle.std.specs.List.{AllByRecursion};
 ghost use Rattle.dgt_values.specs.declared.pieces.Piece.{Piece};
-ghost use Rattle.dgt_values.specs.Equality.{EqualIsSame, EqualIsSameReadOf};
+ghost use Rattle.dgt_values.specs.Equality.{EqualIsSame};
 ghost use Rattle.dgt_values.specs.declared.kinds.Kind.{Kind};
-ghost use Rattle.dgt_message.specs.Content.{Content, kind_of};
-ghost use Rattle.dgt_message.specs.Clock.{ClockState};
+ghost use Rattle.dgt_message.specs.Content.{Content};
+ghost use Rattle.dgt_message.specs.ClockState.{ClockState};
+ghost use Rattle.dgt_message.specs.Kind.{kind_of};
 ghost use Rattle.dgt_command.specs.Content.{CommandContent, EventContent};
 ghost use Rattle.dgt_command.specs.Words.{IsNoiseList};
+ghost use Rattle.dgt_command.specs.Equality.{EqualIsSameReadOf};
 ghost use Rattle.dgt_decode.specs.Grammar.{Event};
 ghost use Rattle.dgt_board.specs.declared.replies.Reply.{Reply};
-ghost use Rattle.dgt_board.specs.State.{IdentityContent, BoardState, follows_clock, updates, effects};
+ghost use Rattle.dgt_board.specs.Identity.{IdentityContent};
+ghost use Rattle.dgt_board.specs.State.{BoardState, follows_clock, updates};
 ghost use Rattle.dgt_board.specs.declared.modes.Mode.{Mode};
+ghost use Rattle.dgt_board.specs.Effect.{effects};
 ghost use Rattle.dgt_board.specs.Sending.{after_sending, next_message};
-ghost use Rattle.dgt_host.specs.Host.{IsUnasked, picture_after_all};
-ghost use Rattle.dgt_link.specs.Machine.{IsHostBreak, IsSending, MachineState, Move, after_move, after_moves, commands_anew, new_state};
+ghost use Rattle.dgt_host.specs.Hearing.{IsUnasked, picture_after_all};
+ghost use Rattle.dgt_link.specs.Machine.{IsHostBreak, IsSending, MachineState, Move, after_move};
+ghost use Rattle.dgt_link.specs.Machine.{after_moves, commands_anew, new_state};
 ghost use Rattle.dgt_link.specs.Sound.{IsExact, IsSound, IsUnknownOr, coming_picture};
-ghost use Rattle.dgt_link.specs.Promise.{IsAsked, IsAskedBy, IsPromised, IsQuiet, IsRestarted, PictureIsComing, act_requests, coming_mode, commands_after, mode_after, requests};
+ghost use Rattle.dgt_link.specs.Promise.{IsAsked, IsAskedBy, IsPromised, IsQuiet, IsRestarted};
+ghost use Rattle.dgt_link.specs.Promise.{PictureIsComing, act_requests, coming_mode};
+ghost use Rattle.dgt_link.specs.Promise.{commands_after, mode_after, requests};
 ghost use Rattle.dgt_link.specs.Act.{ActContent, act_content, ActHasArrays};
-ghost use Rattle.dgt_link.specs.Stands.{StandsAfterRun, StandsAfterStep, IsExactWorld, IsWorld, StandsFor};
+ghost use Rattle.dgt_link.specs.Stands.{IsExactWorld, IsWorld, StandsAfterRun, StandsAfterStep};
+ghost use Rattle.dgt_link.specs.Stands.{StandsFor};
 ghost use Rattle.dgt_link.specs.declared.acts.Outcome.{Outcome};
 ghost use Rattle.dgt_link.specs.Step.{Runs, Step, done_count};
 ghost use Rattle.dgt_link.specs.Settling.{IsSettling, IsSettlingMove, SettlesBy, steps_left};
@@ -65,8 +74,8 @@ pub fn moves_keep()
 /// A dump that is sent makes the picture to come the squares as the board has told them, and only a
 /// break or a host break makes it unknown.
 pub fn dump_is_told()
-    ensures told { (x : MachineState) (later : List Reply) → x.board.owed ≡ Reply.Of Kind.Dump ∷ later →
-        coming_picture (after_move x Move.Reply)
+    ensures told { (x : MachineState) (later : List Reply) →
+        x.board.owed ≡ Reply.Of Kind.Dump ∷ later → coming_picture (after_move x Move.Reply)
         ≡ Some (after_move x Move.Reply).board.told_squares }
     ensures known { (x : MachineState) (move : Move) → move ≢ Move.Break → ¬ (IsHostBreak move) →
         IsSome (coming_picture x) → IsSome (coming_picture (after_move x move)) }
@@ -75,24 +84,26 @@ pub fn dump_is_told()
 /// In an exact state the next message to be heard that has a kind has the one that is awaited
 /// first, and is not unasked.
 pub fn answers_in_order()
-    ensures first { (x : MachineState) (before later : List Content) (message : Content) (kind : Kind) →
-        IsExact x → x.up ≡ before ++ message ∷ later
+    ensures first { (x : MachineState) (before later : List Content) (message : Content)
+        (kind : Kind) → IsExact x → x.up ≡ before ++ message ∷ later
         → All (λ other. kind_of other ≡ None) before → kind_of message ≡ Some kind
         → (others : List Kind) × (x.awaited ≡ kind ∷ others) }
     ensures asked { (x : MachineState) (later : List Content) (message : Content) →
-        IsExact x → x.up ≡ message ∷ later → ¬ (IsUnasked x.awaited (Some (Event.Message message))) }
+        IsExact x → x.up ≡ message ∷ later
+        → ¬ (IsUnasked x.awaited (Some (Event.Message message))) }
 {}
 
 /// What a move makes of the promise: a dump that is asked for begins its first half, which only a
 /// break ends. Its second half is that of the last command that sets a mode, where a break counts
 /// as a reset. A host break begins both.
 pub fn promise_is_kept()
-    ensures begun { (x : MachineState) → PictureIsComing (after_move x (Move.Ask CommandContent.Dump)) }
+    ensures begun { (x : MachineState) →
+        PictureIsComing (after_move x (Move.Ask CommandContent.Dump)) }
     ensures kept { (x : MachineState) (move : Move) → move ≢ Move.Break →
         PictureIsComing x → PictureIsComing (after_move x move) }
     ensures ended { (x : MachineState) → ¬ (PictureIsComing (after_move x Move.Break)) }
-    ensures begun_anew { (x : MachineState) (noise : List EventContent) (is_noise : IsNoiseList noise) →
-        IsPromised (after_move x (Move.HostBreak noise is_noise)) }
+    ensures begun_anew { (x : MachineState) (noise : List EventContent)
+        (is_noise : IsNoiseList noise) → IsPromised (after_move x (Move.HostBreak noise is_noise)) }
     ensures mode { (x : MachineState) (move : Move) →
         coming_mode (after_move x move) ≡ mode_after (coming_mode x) (requests move) }
 {}
@@ -114,8 +125,10 @@ pub fn at_quiet()
 /// among them, after the last break, ask for the picture, it is promised, and is the board's
 /// squares once all is quiet.
 pub fn picture_after_moves()
-    ensures sound { (x : MachineState) (moves : List Move) → IsSound x → IsSound (after_moves x moves) }
-    ensures exact { (x : MachineState) (moves : List Move) → AllByRecursion (λ move. ¬ (IsHostBreak move)) moves
+    ensures sound { (x : MachineState) (moves : List Move) →
+        IsSound x → IsSound (after_moves x moves) }
+    ensures exact { (x : MachineState) (moves : List Move) →
+        AllByRecursion (λ move. ¬ (IsHostBreak move)) moves
         → IsExact x → IsExact (after_moves x moves) }
     ensures promised { (x : MachineState) (moves : List Move) →
         IsAsked (commands_after [] (flat_map requests moves)) → IsPromised (after_moves x moves) }
@@ -129,7 +142,8 @@ pub fn picture_after_moves()
 pub fn restart_is_taken()
     ensures noise { (board : BoardState) (noise : List EventContent) → IsNoiseList noise →
         (effects board noise).mode ≡ board.mode }
-    ensures taken { (board : BoardState) → let after = effects board (map EventContent.Read commands_anew) in
+    ensures taken { (board : BoardState) →
+        let after = effects board (map EventContent.Read commands_anew) in
         (after.mode ≡ Mode.UpdateBoard) × (after.owed ≡ board.owed ++ Reply.Of Kind.Dump ∷ []) }
 {}
 
@@ -144,7 +158,8 @@ pub fn next_is_sent()
 /// A world stands for one state at most: the bytes alone say which messages and which commands are
 /// under way.
 pub fn worlds_stand_for_one_state()
-    ensures { (world : WorldView) (x y : MachineState) → StandsFor world x → StandsFor world y → x ≡ y }
+    ensures { (world : WorldView) (x y : MachineState) →
+        StandsFor world x → StandsFor world y → x ≡ y }
 {
     dgt_message::laws::spelling_spells();
     dgt_message::laws::spelled_once();
@@ -168,8 +183,9 @@ pub fn acts_have_one_outcome()
 /// by the act's own move, or for a delivery by takes or hears alone. A run of acts is so a run of
 /// the machine.
 pub fn acts_are_moves()
-    ensures one { (act : ActContent) (world after : WorldView) (answer : Outcome) (x : MachineState) →
-        StandsFor world x → Step act world answer after → StandsAfterStep act answer x after }
+    ensures one { (act : ActContent) (world after : WorldView) (answer : Outcome)
+        (x : MachineState) → StandsFor world x → Step act world answer after
+        → StandsAfterStep act answer x after }
     ensures all { (acts : List ActContent) (world after : WorldView) (answers : List Outcome)
         (x : MachineState) →
         StandsFor world x → Runs acts world answers after → StandsAfterRun acts answers x after }
@@ -207,17 +223,18 @@ pub fn promise_by_acts()
     ensures begun { (world after : WorldView) (x y : MachineState) →
         StandsFor world x → Step (ActContent.Host CommandContent.Dump) world Outcome.Done after
         → StandsFor after y → PictureIsComing y }
-    ensures kept { (act : ActContent) (world after : WorldView) (answer : Outcome) (x y : MachineState) →
-        act ≢ ActContent.Break → StandsFor world x → Step act world answer after
-        → StandsFor after y → PictureIsComing x → PictureIsComing y }
+    ensures kept { (act : ActContent) (world after : WorldView) (answer : Outcome)
+        (x y : MachineState) → act ≢ ActContent.Break
+        → StandsFor world x → Step act world answer after → StandsFor after y
+        → PictureIsComing x → PictureIsComing y }
     ensures ended { (world after : WorldView) (answer : Outcome) (x y : MachineState) →
         StandsFor world x → Step ActContent.Break world answer after
         → StandsFor after y → ¬ (PictureIsComing y) }
     ensures begun_anew { (world after : WorldView) (answer : Outcome) (x y : MachineState) →
         StandsFor world x → Step ActContent.HostBreak world answer after
         → StandsFor after y → IsRestarted y × IsPromised y }
-    ensures mode { (act : ActContent) (world after : WorldView) (answer : Outcome) (x y : MachineState) →
-        StandsFor world x → Step act world answer after
+    ensures mode { (act : ActContent) (world after : WorldView) (answer : Outcome)
+        (x y : MachineState) → StandsFor world x → Step act world answer after
         → StandsFor after y → coming_mode y ≡ mode_after (coming_mode x) (act_requests answer act) }
 {
     acts_are_moves();
@@ -231,14 +248,15 @@ pub fn promise_by_acts()
 /// one that is awaited first, and is not unasked.
 pub fn worlds_are_told()
     ensures fold { (world : WorldView) (x : MachineState) → StandsFor world x →
-        IsUnknownOr (picture_after_all world.host.picture x.up) (Some world.board.state.told_squares) }
+        IsUnknownOr (picture_after_all world.host.picture x.up)
+        (Some world.board.state.told_squares) }
     ensures first { (world : WorldView) (x : MachineState) (before later : List Content)
         (message : Content) (kind : Kind) → StandsFor world x → IsExact x
         → x.up ≡ before ++ message ∷ later
         → All (λ other. kind_of other ≡ None) before → kind_of message ≡ Some kind
         → (others : List Kind) × (world.host.awaited ≡ kind ∷ others) }
-    ensures asked { (world : WorldView) (x : MachineState) (later : List Content) (message : Content) →
-        StandsFor world x → IsExact x → x.up ≡ message ∷ later
+    ensures asked { (world : WorldView) (x : MachineState) (later : List Content)
+        (message : Content) → StandsFor world x → IsExact x → x.up ≡ message ∷ later
         → ¬ (IsUnasked world.host.awaited (Some (Event.Message message))) }
 {}
 
@@ -246,16 +264,17 @@ pub fn worlds_are_told()
 /// mode asks for updates. If it follows the clock, and the world stands for an exact state, the
 /// host's clock is the board's. Where it stands for a promised state the picture is known.
 pub fn at_quiet_world()
-    ensures awaited { (world : WorldView) (x : MachineState) → StandsFor world x → IsQuietWorld world
-        → world.host.awaited ≡ [] }
+    ensures awaited { (world : WorldView) (x : MachineState) →
+        StandsFor world x → IsQuietWorld world → world.host.awaited ≡ [] }
     ensures told { (world : WorldView) (x : MachineState) → StandsFor world x → IsQuietWorld world
         → IsTrue (updates world.board.state.mode)
         → IsUnknownOr world.host.picture (Some world.board.state.squares) }
     ensures clock { (world : WorldView) (x : MachineState) → StandsFor world x → IsQuietWorld world
         → IsExact x → IsTrue (follows_clock world.board.state.mode)
         → world.host.clock ≡ Some world.board.state.clock }
-    ensures picture { (world : WorldView) (x : MachineState) → StandsFor world x → IsQuietWorld world
-        → IsPromised x → world.host.picture ≡ Some world.board.state.squares }
+    ensures picture { (world : WorldView) (x : MachineState) →
+        StandsFor world x → IsQuietWorld world → IsPromised x
+        → world.host.picture ≡ Some world.board.state.squares }
 {
     dgt_command::laws::one_division();
 }

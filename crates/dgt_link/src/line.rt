@@ -101,7 +101,8 @@ impl LineMemory {
 
     /// Takes it, for two empty lines of these capacities.
     pub fn lines(self, first: usize, second: usize) -> Result<(Line, Line), AllocError>
-        ensures { IfOk result (λ lines. (lines.0 ≡ line_holding [] first) × (lines.1 ≡ line_holding [] second)) }
+        ensures { IfOk result (λ lines.
+            (lines.0 ≡ line_holding [] first) × (lines.1 ≡ line_holding [] second)) }
     {
         Ok((
             Line::new(self.alloc, first)?,

@@ -1,5 +1,5 @@
-//! Bytes go into the lines and out of them. Each function does the step of an act, of whatever world has this end
-//! and this line.
+//! Bytes go into the lines and out of them. What does an act does its step, of whatever world has
+//! this end and this line.
 
 ghost use Rattle.std.specs.Prelude.{◌≡◌, ◌+◌, ◌<◌, ◌≤◌, [], Some, length, take};
 ghost use Rattle.dgt_values.specs.declared.kinds.Kind.{Kind};

@@ -1,16 +1,22 @@
 //! The world: a board, a host, and the two lines between them.
 
-ghost use Rattle.std.specs.Prelude.{◌≡◌, ◌≢◌, ◌↔◌, ◌⊎◌, ◌<◌, ◌≤◌, ◌+◌, ◌*◌, ◌^◌, false, List, [], ◌∷◌, ◌++◌, All, Contains, Some, None, IsTrue, IsSome, IfOk, IsErr, IsErrOf, map, length};
-ghost use Rattle.dgt_values.specs.Board.{pieces_of};
+ghost use Rattle.std.specs.Prelude.{◌≡◌, ◌≢◌, ◌↔◌, ◌⊎◌, ◌<◌, ◌≤◌, ◌+◌, ◌*◌, ◌^◌, false, List, []};
+ghost use Rattle.std.specs.Prelude.{◌∷◌, ◌++◌, All, Contains, Some, None, IsTrue, IsSome, IfOk};
+ghost use Rattle.std.specs.Prelude.{IsErr, IsErrOf, map, length};
+ghost use Rattle.dgt_values.specs.Pieces.{pieces_of};
 ghost use Rattle.dgt_values.specs.declared.kinds.Kind.{Kind};
-ghost use Rattle.dgt_message.specs.Content.{Content, clock_seen, kind_of};
+ghost use Rattle.dgt_message.specs.Content.{Content};
+ghost use Rattle.dgt_message.specs.ClockState.{clock_seen};
+ghost use Rattle.dgt_message.specs.Kind.{kind_of};
 ghost use Rattle.dgt_command.specs.Content.{CommandContent};
-ghost use Rattle.dgt_board.specs.Sending.{backlog, next_message};
+ghost use Rattle.dgt_board.specs.Backlog.{backlog};
+ghost use Rattle.dgt_board.specs.Sending.{next_message};
 ghost use Rattle.dgt_board.specs.State.{follows_clock, updates};
-ghost use Rattle.dgt_host.specs.Host.{picture_after_all};
+ghost use Rattle.dgt_host.specs.Hearing.{picture_after_all};
 ghost use Rattle.dgt_link.specs.Act.{ActContent, act_content};
 ghost use Rattle.dgt_link.specs.Stands.{StandsAfterRun, StandsAfterStep, IsExactWorld, StandsFor};
-ghost use Rattle.dgt_link.specs.Promise.{IsAskedBy, IsPromised, IsRestarted, PictureIsComing, act_requests, coming_mode, mode_after};
+ghost use Rattle.dgt_link.specs.Promise.{IsAskedBy, IsPromised, IsRestarted, PictureIsComing};
+ghost use Rattle.dgt_link.specs.Promise.{act_requests, coming_mode, mode_after};
 ghost use Rattle.dgt_link.specs.Machine.{MachineState, new_state};
 ghost use Rattle.dgt_link.specs.Settling.{IsSettling, SettlesIn};
 ghost use Rattle.dgt_link.specs.Work.{work_left};
@@ -104,7 +110,8 @@ impl World {
         up: usize,
         down: usize,
     ) -> Result<Self, WorldFault>
-        ensures too_small { IsErrOf result WorldFault.LineTooSmall ↔ ((up < MIN_UP) ⊎ (down < MIN_DOWN)) }
+        ensures too_small { IsErrOf result WorldFault.LineTooSmall
+            ↔ ((up < MIN_UP) ⊎ (down < MIN_DOWN)) }
         ensures made { IfOk result (λ world.
             world ≡ new_world (pieces_of position) (clock_seen clock) identity up down) }
         ensures stands { IfOk result (λ world.
@@ -211,7 +218,8 @@ impl World {
         ensures restarted { act_content act.entry ≡ ActContent.HostBreak → (y : MachineState) →
             StandsFor self.new y → IsRestarted y × IsPromised y }
         ensures mode { (x y : MachineState) → StandsFor self.old x → StandsFor self.new y →
-            coming_mode y ≡ mode_after (coming_mode x) (act_requests result (act_content act.entry)) }
+            coming_mode y
+            ≡ mode_after (coming_mode x) (act_requests result (act_content act.entry)) }
     {
         laws::acts_are_moves();
         laws::acts_keep();
@@ -329,6 +337,7 @@ impl World {
         ensures few { backlog self.now.board.state ≤ 73 }
     {
         dgt_board::laws::bounded_backlog();
+        // how many bytes a line has, and how many replies are owed, is bounded where it is read
         let _coming = self.down.len();
         let _owed = self.board.owed_len();
     }
@@ -383,6 +392,7 @@ impl World {
     fn stands(&self)
         ensures { (x : MachineState) × StandsFor self.now x }
     {
+        // what holds of each world is known where a field of it is read
         self.up.is_empty();
     }
 

@@ -4,5 +4,9 @@ use Rattle.dgt_link.proofs.laws.worlds_stand_for_one_state.Goals as goal
 pub returns : goal.returns
 returns c =
     one_state
-    (record { spells = c.spelling_spells.ensures; one_message = c.spelled_once.ensures.one_message; none_longer = c.spelled_once.ensures.none_longer })
+    (record {
+      spells = c.spelling_spells.ensures;
+      one_message = c.spelled_once.ensures.one_message;
+      none_longer = c.spelled_once.ensures.none_longer;
+    })
     c.one_division.ensures

@@ -5,4 +5,7 @@ use Rattle.dgt_link.specs.View.{WorldView}
 use Rattle.dgt_link.proofs.world.World.has_to_send.Goals as goal
 
 pub returns : goal.returns
-returns c = subst (λ (world : WorldView). IsTrue c.owes.result ↔ IsSome (next_message world.board.state)) c.self.view_is c.owes.ensures
+returns c =
+    subst
+    (λ (world : WorldView). IsTrue c.owes.result ↔ IsSome
+    (next_message world.board.state)) c.self.view_is c.owes.ensures
