@@ -2,12 +2,11 @@
 use Rattle.std.specs.Prelude.{ℕ, ◌<◌, ◌≤◌, List, [], ◌∷◌, ◌++◌, length, map, All, Option, Some, None, option_to_list, unwrap_or, Bool, true, false, ◌&&◌, not, ◌==◌, if◌then◌else◌, slice_set}
 use Rattle.std.specs.Option.{option_map_or}
 use Rattle.dgt_values.specs.declared.pieces.Piece.{Piece}
-use Rattle.dgt_message.specs.ClockState.{ClockState, clock_eq}
+use Rattle.dgt_message.specs.Clock.{ClockState, clock_eq}
 use Rattle.dgt_command.specs.declared.ids.KnownId.{KnownId}
-use Rattle.dgt_command.specs.Content.{ClockContent, CommandContent, EventContent}
-use Rattle.dgt_command.specs.Id.{id_number}
-use Rattle.dgt_command.specs.Kind.{kind_of_command}
-use Rattle.dgt_command.specs.Words.{clock_id}
+use Rattle.dgt_command.specs.Content.{ClockContent, CommandContent, EventContent, kind_of_command}
+use Rattle.dgt_command.specs.Ids.{id_number}
+use Rattle.dgt_command.specs.Spelling.{clock_id}
 use Rattle.dgt_board.specs.declared.identities.TheConstants.{MAX_KEPT_BODY}
 use Rattle.dgt_board.specs.declared.modes.Mode.{Mode}
 use Rattle.dgt_board.specs.declared.replies.Reply.{Reply}

@@ -1,8 +1,7 @@
 //! Commands read from their bytes.
 
 ghost use Rattle.std.specs.Prelude.{◌≡◌, ◌+◌, ◌<◌, ◌≤◌, ◌∷◌, ◌++◌, [], length, IfNone, IfSome};
-ghost use Rattle.dgt_command.specs.Content.{CommandContent, clock_content, command_content};
-ghost use Rattle.dgt_command.specs.Content.{payload_bytes};
+ghost use Rattle.dgt_command.specs.Content.{CommandContent, clock_content, command_content, payload_bytes};
 ghost use Rattle.dgt_command.specs.Spelling.{SpellsCommand};
 
 use crate::carried::{LedBytes, Payload};

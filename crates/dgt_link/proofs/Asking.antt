@@ -8,8 +8,7 @@ use Rattle.dgt_link.specs.Act.{ActContent}
 use Rattle.dgt_link.specs.declared.acts.Outcome.{Outcome}
 use Rattle.dgt_link.specs.Stands.{AreMovesOfAct, AreMovesOfRun, AreMovesOfStep}
 use Rattle.dgt_link.specs.Machine.{IsHostBreak, IsSending, MachineState, Move, after_move, after_moves}
-use Rattle.dgt_link.specs.Promise.{IsAskedBy, IsPromised, IsRestarted, PictureIsComing, act_requests, coming_mode}
-use Rattle.dgt_link.specs.Promise.{mode_after, requests, run_requests}
+use Rattle.dgt_link.specs.Promise.{IsAskedBy, IsPromised, IsRestarted, PictureIsComing, act_requests, coming_mode, mode_after, requests, run_requests}
 use Rattle.dgt_link.proofs.Lists.{all_append, all_replicate}
 use Rattle.dgt_link.proofs.Promises.{anew_is_promised, dump_asked, picture_keeps_coming}
 use Rattle.dgt_link.proofs.Runs.{moves-mode, moves_promise}

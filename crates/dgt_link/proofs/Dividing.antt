@@ -2,9 +2,10 @@
 use Rattle.std.proofs.Common.{◌≡◌, refl, sym, ap, ◌∙◌, ◌⊎◌, inl, inr, ℕ, List, [], ◌∷◌, ◌++◌, append_assoc, map, rules}
 use Rattle.std.proofs.lemmas.List.{append-nil}
 use Rattle.dgt_command.specs.Content.{CommandContent, EventContent}
-use Rattle.dgt_command.specs.Words.{Divides, IsPartial, IsWord, Spells, spelling}
+use Rattle.dgt_command.specs.Words.{Divides, IsPartial, IsWord}
+use Rattle.dgt_command.specs.Spelling.{SpellsCommand, command_spelling}
 use Rattle.dgt_command.specs.Laws.{DivisionsAppend, NoWordBeginsAnother}
-use Rattle.dgt_host.specs.Sending.{follow_bytes}
+use Rattle.dgt_host.specs.Host.{follow_bytes}
 use Rattle.dgt_link.specs.Machine.{commands_anew}
 use Rattle.dgt_link.proofs.Lists.{IsShorter, Reaches, fronts, not_empty}
 
@@ -15,7 +16,7 @@ nothing_is_partial =
       event = EventContent.Read CommandContent.Dump;
       next = 0x42;
       more = [];
-      word = record { form = (tt, refl); are_bytes = search rules };
+      word = record { form = refl; are_bytes = search rules };
     }
 
 cons_same : (event other : EventContent) (events all : List EventContent) → event ≡ other → all ≡ events
@@ -24,15 +25,15 @@ cons_same event other events all same rest = rw (same, rest) refl
 
 -- one more command behind bytes with no rest
 pub divides_command : DivisionsAppend → (bytes : List ℕ) (events : List EventContent) (command : CommandContent)
-    → Divides bytes events [] → Spells command (spelling command)
-    → Divides (bytes ++ spelling command) (events ++ EventContent.Read command ∷ []) []
+    → Divides bytes events [] → SpellsCommand command (command_spelling command)
+    → Divides (bytes ++ command_spelling command) (events ++ EventContent.Read command ∷ []) []
 divides_command append bytes events command divides spells =
-    append bytes (spelling command) events (EventContent.Read command ∷ []) [] [] divides (
-      spelling command,
+    append bytes (command_spelling command) events (EventContent.Read command ∷ []) [] [] divides (
+      command_spelling command,
       [],
-      record { form = (spells.is_command, refl); are_bytes = spells.are_bytes },
+      record { form = refl; are_bytes = spells.are_bytes },
       sym
-          (append-nil (spelling command)),
+          (append-nil (command_spelling command)),
       (refl, nothing_is_partial),
     )
 
@@ -41,9 +42,9 @@ pub anew_divides : Divides follow_bytes (map EventContent.Read commands_anew) []
 anew_divides = (
   0x44 ∷ [],
   0x42 ∷ [],
-  record { form = (tt, refl); are_bytes = search rules },
+  record { form = refl; are_bytes = search rules },
   refl,
-  (0x42 ∷ [], [], record { form = (tt, refl); are_bytes = search rules }, refl, (refl, nothing_is_partial)),
+  (0x42 ∷ [], [], record { form = refl; are_bytes = search rules }, refl, (refl, nothing_is_partial)),
 )
 
 module _ (law : NoWordBeginsAnother) where

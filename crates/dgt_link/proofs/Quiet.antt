@@ -7,15 +7,14 @@ use Rattle.std.proofs.lemmas.List.FromFn.{get_or-range_with_len}
 use Rattle.std.specs.Prelude.{◌==◌, not, IsTrue, IsSome, is_some, filter, map}
 use Rattle.dgt_values.specs.declared.kinds.Kind.{Kind}
 use Rattle.dgt_values.specs.declared.pieces.Piece.{Piece}
-use Rattle.dgt_values.specs.Piece.{piece_code}
-use Rattle.dgt_message.specs.Content.{Content}
-use Rattle.dgt_message.specs.ClockState.{ClockState, clock_message}
+use Rattle.dgt_values.specs.Board.{piece_code}
+use Rattle.dgt_message.specs.Content.{Content, clock_message}
+use Rattle.dgt_message.specs.Clock.{ClockState}
 use Rattle.dgt_message.specs.Reading.{piece_with_code}
 use Rattle.dgt_command.specs.Content.{CommandContent, EventContent}
 use Rattle.dgt_board.specs.declared.replies.Reply.{Reply}
 use Rattle.dgt_board.specs.State.{BoardState, follows_clock, updates}
-use Rattle.dgt_board.specs.Sending.{clock_news, differs, every_square, field_of, first_reply, pending_messages}
-use Rattle.dgt_board.specs.Sending.{piece_on, untold_squares}
+use Rattle.dgt_board.specs.Sending.{clock_news, differs, every_square, field_of, pending_messages, piece_on, reply_message, untold_squares}
 use Rattle.dgt_link.specs.Machine.{MachineState}
 use Rattle.dgt_link.specs.Sound.{IsSound, IsExact, IsUnknownOr, coming_kinds}
 use Rattle.dgt_link.specs.Promise.{IsPromised, IsQuiet, PictureIsComing, coming_mode}
@@ -24,7 +23,7 @@ use Rattle.dgt_link.proofs.Subsequences.{subsequence_of_nothing}
 
 -- ---- nothing is pending
 
-no_reply : (board : BoardState) (owed : List Reply) → first_reply board owed ≡ [] → owed ≡ []
+no_reply : (board : BoardState) (owed : List Reply) → map (reply_message board) owed ≡ [] → owed ≡ []
 no_reply board [] h = refl
 no_reply board (reply ∷ rest) h = cc
 
@@ -90,7 +89,7 @@ up_to_date : (board : BoardState) → length board.squares ≡ 64 → length boa
     → pending_messages board ≡ [] → IsUpToDate board
 up_to_date board squares told nothing =
     record {
-      owed = no_reply board board.owed (left_empty (first_reply board board.owed) _ nothing);
+      owed = no_reply board board.owed (left_empty (map (reply_message board) board.owed) _ nothing);
       squares =
           λ h. none_differs board squares told
           (sym (cond-true (updates board.mode) (filter (differs board) every_square) [] h) ∙ none);
@@ -101,7 +100,7 @@ up_to_date board squares told nothing =
   where
     rest : map (field_of board) (untold_squares board) ++ clock_news board ≡ []
     rest =
-        right_empty (first_reply board board.owed)
+        right_empty (map (reply_message board) board.owed)
         (map (field_of board) (untold_squares board) ++ clock_news board) nothing
 
     none : untold_squares board ≡ []

@@ -1,14 +1,13 @@
 -- What a board sends next is one of the moves of the machine.
+use Rattle.std.specs.Prelude.{slice_get}
 use Rattle.std.proofs.Common.{◌≡◌, refl, sym, ap, ◌∙◌, ◌⊎◌, inl, inr, ℕ, List, [], ◌∷◌, ◌++◌, Some, Bool, true, false}
 use Rattle.std.proofs.Common.{◌&&◌, cond, map, drop}
 use Rattle.std.proofs.lemmas.Bool.{cond-true, and_from}
 use Rattle.std.specs.Prelude.{filter}
-use Rattle.dgt_message.specs.Content.{Content}
-use Rattle.dgt_message.specs.ClockState.{clock_message}
+use Rattle.dgt_message.specs.Content.{Content, clock_message}
 use Rattle.dgt_board.specs.declared.replies.Reply.{Reply}
 use Rattle.dgt_board.specs.State.{BoardState, updates}
-use Rattle.dgt_board.specs.Sending.{after_sending, after_telling, clock_news, differs, every_square, field_of}
-use Rattle.dgt_board.specs.Sending.{first_message, first_reply, next_message, reply_message, untold_squares}
+use Rattle.dgt_board.specs.Sending.{after_sending, after_telling, clock_news, differs, every_square, field_of, next_message, reply_message, untold_squares}
 use Rattle.dgt_link.specs.Machine.{IsSending, Move, MachineState, after_move, after_reply, after_told}
 use Rattle.dgt_link.proofs.Lists.{some_same}
 
@@ -54,22 +53,22 @@ FirstField asks field test message = (square : ℕ) × (asks ≡ true) × (test 
 
 first_kept : (field : ℕ → Content) (test : ℕ → Bool) (square : ℕ) (rest : List ℕ) (others : List Content)
     (message : Content) (passes : Bool)
-    → test square ≡ passes → first_message (map field (cond passes (square ∷ rest) rest) ++ others) ≡ Some message
-    → FirstField true field test message ⊎ (first_message (map field rest ++ others) ≡ Some message)
+    → test square ≡ passes → slice_get (map field (cond passes (square ∷ rest) rest) ++ others) 0 ≡ Some message
+    → FirstField true field test message ⊎ (slice_get (map field rest ++ others) 0 ≡ Some message)
 first_kept field test square rest others message true e h = inl (square, refl, e, some_same (field square) message h)
 first_kept field test square rest others message false e h = inr h
 
 first_field : (asks : Bool) (field : ℕ → Content) (test : ℕ → Bool) (squares : List ℕ) (others : List Content)
     (message : Content)
-    → first_message (map field (cond asks (filter test squares) []) ++ others) ≡ Some message
-    → FirstField asks field test message ⊎ (first_message others ≡ Some message)
+    → slice_get (map field (cond asks (filter test squares) []) ++ others) 0 ≡ Some message
+    → FirstField asks field test message ⊎ (slice_get others 0 ≡ Some message)
 first_field false field test squares others message h = inr h
 first_field true field test [] others message h = inr h
 first_field true field test (square ∷ squares) others message h =
     elim (first_kept field test square (filter test squares) others message (test square) refl h)
     [ inl found ↦ inl found | inr later ↦ first_field true field test squares others message later ]
 
-first_news : (owed : Bool) (news message : Content) → first_message (cond owed (news ∷ []) []) ≡ Some message
+first_news : (owed : Bool) (news message : Content) → slice_get (cond owed (news ∷ []) []) 0 ≡ Some message
     → (owed ≡ true) × (news ≡ message)
 first_news true news message h = (refl, some_same news message h)
 first_news false news message h = cc
@@ -94,8 +93,8 @@ clock_is_sent x message none (owed, same) = (
 )
 
 next_of : (x : MachineState) (owed : List Reply) (message : Content) → x.board.owed ≡ owed
-    → first_message (first_reply x.board owed ++
-    (map (field_of x.board) (untold_squares x.board) ++ clock_news x.board)) ≡ Some message
+    → slice_get (map (reply_message x.board) owed ++
+    (map (field_of x.board) (untold_squares x.board) ++ clock_news x.board)) 0 ≡ Some message
     → SendsIt x message
 next_of x (first ∷ rest) message e h = (
   Move.Reply,

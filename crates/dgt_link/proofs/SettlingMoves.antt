@@ -5,17 +5,13 @@ use Rattle.std.proofs.lemmas.List.{length-append}
 use Rattle.std.specs.Prelude.{◌&&◌}
 use Rattle.std.specs.List.{AllByRecursion}
 use Rattle.dgt_values.specs.declared.pieces.Piece.{Piece}
-use Rattle.dgt_message.specs.ClockState.{clock_message}
-use Rattle.dgt_message.specs.Content.{Content}
+use Rattle.dgt_message.specs.Content.{clock_message, Content}
 use Rattle.dgt_command.specs.Content.{EventContent}
 use Rattle.dgt_board.specs.declared.modes.Mode.{Mode}
 use Rattle.dgt_board.specs.declared.replies.Reply.{Reply}
-use Rattle.dgt_board.specs.Backlog.{backlog}
-use Rattle.dgt_board.specs.Effect.{effects}
-use Rattle.dgt_board.specs.State.{BoardState, updates}
-use Rattle.dgt_board.specs.Sending.{after_sending, differs, field_of, next_message, pending_messages}
-use Rattle.dgt_link.specs.Machine.{MachineState, after_hear, after_move, after_moves, after_reply, after_take}
-use Rattle.dgt_link.specs.Machine.{after_told, IsSending, Move}
+use Rattle.dgt_board.specs.Sending.{backlog, after_sending, differs, field_of, next_message, pending_messages}
+use Rattle.dgt_board.specs.State.{effects, BoardState, updates}
+use Rattle.dgt_link.specs.Machine.{MachineState, after_hear, after_move, after_moves, after_reply, after_take, after_told, IsSending, Move}
 use Rattle.dgt_link.specs.Promise.{IsPromised, IsQuiet, PictureIsComing, coming_mode, mode_after, requests}
 use Rattle.dgt_link.specs.Settling.{IsSettlingMove, SettlesBy, moves_left}
 use Rattle.dgt_link.specs.Sound.{IsSound}

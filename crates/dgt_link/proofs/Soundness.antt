@@ -8,19 +8,14 @@ use Rattle.std.specs.Prelude.{filter_map, option_to_list}
 use Rattle.std.specs.List.{cons_option}
 use Rattle.dgt_values.specs.declared.pieces.Piece.{Piece}
 use Rattle.dgt_values.specs.declared.kinds.Kind.{Kind}
-use Rattle.dgt_message.specs.Content.{Content}
-use Rattle.dgt_message.specs.ClockState.{ClockState, clock_message}
-use Rattle.dgt_message.specs.Kind.{kind_of}
-use Rattle.dgt_command.specs.Content.{CommandContent, EventContent}
-use Rattle.dgt_command.specs.Kind.{kind_of_command}
+use Rattle.dgt_message.specs.Content.{Content, clock_message, kind_of}
+use Rattle.dgt_message.specs.Clock.{ClockState}
+use Rattle.dgt_command.specs.Content.{CommandContent, EventContent, kind_of_command}
 use Rattle.dgt_board.specs.declared.replies.Reply.{Reply}
-use Rattle.dgt_board.specs.Identity.{IdentityContent}
-use Rattle.dgt_board.specs.State.{updates}
-use Rattle.dgt_board.specs.Effect.{effect}
+use Rattle.dgt_board.specs.State.{IdentityContent, updates, effect}
 use Rattle.dgt_board.specs.Sending.{differs, field_of, reply_message}
-use Rattle.dgt_host.specs.Hearing.{awaited_after}
-use Rattle.dgt_link.specs.Machine.{IsHostBreak, Move, MachineState, new_state, after_move, after_told, after_take}
-use Rattle.dgt_link.specs.Machine.{after_reply, after_hear}
+use Rattle.dgt_host.specs.Host.{awaited_after}
+use Rattle.dgt_link.specs.Machine.{IsHostBreak, Move, MachineState, new_state, after_move, after_told, after_take, after_reply, after_hear}
 use Rattle.dgt_link.specs.Sound.{IsSound, IsExact, coming_kinds, kind_of_event, kind_of_reply}
 use Rattle.dgt_link.proofs.Subsequences.{subsequence_at_end, subsequence_append, awaited_after-subsequence}
 use Rattle.dgt_link.proofs.Subsequences.{awaited_exactly, one_more, moved_over}

@@ -19,8 +19,7 @@ use Rattle.dgt_board.specs.View.{BoardView}
 use Rattle.dgt_host.specs.Host.{HostView, host_after_message, follow_bytes}
 use Rattle.dgt_link.specs.Act.{ActContent}
 use Rattle.dgt_link.specs.declared.acts.Outcome.{Outcome}
-use Rattle.dgt_link.specs.Machine.{Move, MachineState, commands_anew, after_hear, after_move, after_moves, after_take}
-use Rattle.dgt_link.specs.Machine.{new_state}
+use Rattle.dgt_link.specs.Machine.{Move, MachineState, commands_anew, after_hear, after_move, after_moves, after_take, new_state}
 use Rattle.dgt_link.specs.Sound.{IsSound}
 use Rattle.dgt_link.specs.Stands.{AreSpelled, IsExactWorld, IsWorld, StandsFor, StandsAfterRun, StandsAfterStep}
 use Rattle.dgt_link.specs.Step.{Becomes, Runs, Step, with_state}

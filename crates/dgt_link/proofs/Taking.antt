@@ -6,13 +6,10 @@ use Rattle.std.proofs.lemmas.Bool.{false≢true}
 use Rattle.std.specs.Prelude.{IsTrue, filter_map, option_to_list}
 use Rattle.std.specs.List.{cons_option}
 use Rattle.dgt_values.specs.declared.kinds.Kind.{Kind}
-use Rattle.dgt_message.specs.ClockState.{ClockState}
-use Rattle.dgt_command.specs.Content.{ClockContent, CommandContent, EventContent}
-use Rattle.dgt_command.specs.Kind.{kind_of_command}
+use Rattle.dgt_message.specs.Clock.{ClockState}
+use Rattle.dgt_command.specs.Content.{ClockContent, CommandContent, EventContent, kind_of_command}
 use Rattle.dgt_command.specs.Words.{IsNoise, IsNoiseList}
-use Rattle.dgt_board.specs.Identity.{IdentityContent}
-use Rattle.dgt_board.specs.State.{BoardState, follows_clock}
-use Rattle.dgt_board.specs.Effect.{acknowledgements, after_command, effect, effects, replies_to}
+use Rattle.dgt_board.specs.State.{IdentityContent, BoardState, follows_clock, acknowledgements, after_command, effect, effects, replies_to}
 use Rattle.dgt_link.specs.Sound.{kind_of_event, kind_of_reply}
 use Rattle.dgt_link.proofs.Telling.{owed_or_told}
 

@@ -13,7 +13,7 @@ use Rattle.std.specs.Str.Parse.{AllDigits, ParsesUnsigned, digits_value}
 use Rattle.hex.specs.Hex.{decode_sized}
 use Rattle.hex.proofs.HexLemmas.{decode_of-ok, decode_of-same, decode_sized-ok, decode_sized-twice}
 use Rattle.dgt_values.specs.declared.refusals.BodyError.{BodyError}
-use Rattle.dgt_values.specs.declared.refusals.BodyError.TheVariants.{TooMuch, NotSevenBit}
+use Rattle.dgt_values.specs.declared.refusals.BodyError.TheVariants.{Length, Byte}
 use Rattle.dgt_values.specs.declared.pieces.Piece.{Piece}
 use Rattle.dgt_values.specs.declared.pieces.Piece.TheVariants.{Empty, WhitePawn, WhiteRook, WhiteKnight, WhiteBishop, WhiteKing, WhiteQueen, BlackPawn, BlackRook, BlackKnight, BlackBishop, BlackKing, BlackQueen, FirstExtra, SecondExtra, ThirdExtra}
 use Rattle.dgt_values.specs.Bytes.{Refuses}
@@ -160,8 +160,8 @@ clock_fits word bytes clock e h =
 
 -- what the word of a clock is decoded to is no body that is refused
 pub clock_not_refused : (word bytes : List ℕ) (clock : ClockState) (why : BodyError) → decode_sized word 7 ≡ Ok bytes → IsClockWord word clock → Refuses bytes why → ⊥
-clock_not_refused word bytes clock TooMuch e h r = omega (arith, length-clock clock bytes (clock_fits word bytes clock e h))
-clock_not_refused word bytes clock NotSevenBit e h r =
+clock_not_refused word bytes clock (Length _) e h r = omega (arith, length-clock clock bytes (clock_fits word bytes clock e h))
+clock_not_refused word bytes clock (Byte _) e h r =
     let high = r.1 in
     let small : high.1 < 128 = rw high.3 at (clock_is_seven_bit clock bytes (clock_fits word bytes clock e h) high.0 high.1 high.2) in
     omega (arith, high.4)

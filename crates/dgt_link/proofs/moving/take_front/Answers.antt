@@ -1,10 +1,10 @@
-use Rattle.dgt_command.specs.Content.{event_content}
+use Rattle.dgt_command.specs.Content.{command_event_content}
 use Rattle.dgt_link.proofs.Moved.{front_bytes, stays_open}
 use Rattle.dgt_link.proofs.moving.take_front.Goals as goal
 
 pub returns-clause-earlier : goal.returns-clause-earlier
 returns-clause-earlier c =
-    stays_open event_content c.args.board.now c.args.line.now.bytes _ c.unwrap-used.result.used
+    stays_open command_event_content c.args.board.now c.args.line.now.bytes _ c.unwrap-used.result.used
     c.unwrap-used.result.event
     (front_bytes c.args.line.now.bytes c.front-front.result.now c.min.result c.unwrap-used.result.used
     c.front-front.ensures.front (rw c.unwrap-used.ensures at c.take.ensures.within))
