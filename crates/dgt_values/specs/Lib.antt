@@ -1,4 +1,4 @@
--- Read in this order. Public contracts cite all of them.
+-- What public contracts cite, in the order to read. Nothing here is for bodies alone.
 pub mod Equality
 pub mod Bytes
 pub mod Board
