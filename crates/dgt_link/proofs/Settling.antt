@@ -17,7 +17,7 @@ use Rattle.dgt_command.specs.Laws.{EachDividesOnce, NoWordBeginsAnother, WordsAr
 use Rattle.dgt_decode.specs.Grammar.{open_message}
 use Rattle.dgt_board.specs.declared.modes.Mode.{Mode}
 use Rattle.dgt_board.specs.Backlog.{backlog}
-use Rattle.dgt_board.specs.Effect.{effect, effects}
+use Rattle.dgt_board.specs.Effect.{effects}
 use Rattle.dgt_board.specs.State.{BoardState, follows_clock, updates}
 use Rattle.dgt_board.specs.Sending.{after_sending, next_message}
 use Rattle.dgt_link.specs.Act.{ActContent}
