@@ -1,5 +1,5 @@
 -- What acts ask of the board, what they make of the promise, and which of their moves are breaks.
-use Rattle.std.proofs.Common.{◌≡◌, ◌≢◌, refl, ap, ◌∙◌, ℕ, zero, suc, List, [], ◌∷◌, ◌++◌, Option, replicate, arith}
+use Rattle.std.proofs.Common.{◌≡◌, ◌≢◌, refl, ap, ◌∙◌, ℕ, zero, suc, List, [], ◌∷◌, Option, replicate, arith}
 use Rattle.std.proofs.lemmas.Grind.{flat_map-append}
 use Rattle.std.specs.Prelude.{Contains, flat_map}
 use Rattle.std.specs.List.{AllByRecursion}

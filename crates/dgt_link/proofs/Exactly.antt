@@ -1,5 +1,5 @@
 -- What the moves of bytes answer and leave is what the act answers and leaves, of whatever world.
-use Rattle.std.proofs.Common.{◌≡◌, refl, ℕ, Some, Option, take, cond}
+use Rattle.std.proofs.Common.{◌≡◌, refl, ℕ, Some, take, cond}
 use Rattle.dgt_message.specs.Content.{Content}
 use Rattle.dgt_message.specs.Spelling.{Spells, spelling}
 use Rattle.dgt_command.specs.Content.{CommandContent, kind_of_command}
