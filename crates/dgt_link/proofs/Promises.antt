@@ -14,10 +14,9 @@ use Rattle.dgt_board.specs.declared.modes.Mode.{Mode}
 use Rattle.dgt_board.specs.declared.replies.Reply.{Reply}
 use Rattle.dgt_board.specs.State.{BoardState, updates, command_mode, effect, replies_to, effects}
 use Rattle.dgt_board.specs.Sending.{differs, field_of, reply_message}
-use Rattle.dgt_host.specs.Hearing.{picture_after, picture_after_all}
+use Rattle.dgt_host.specs.Host.{picture_after, picture_after_all}
 use Rattle.dgt_command.specs.Words.{IsNoiseList}
-use Rattle.dgt_link.specs.Machine.{IsHostBreak, Move, MachineState, commands_anew, after_move, after_told, after_take}
-use Rattle.dgt_link.specs.Machine.{after_reply, after_hear}
+use Rattle.dgt_link.specs.Machine.{IsHostBreak, Move, MachineState, commands_anew, after_move, after_told, after_take, after_reply, after_hear}
 use Rattle.dgt_link.specs.Sound.{coming_picture}
 use Rattle.dgt_link.specs.Promise.{IsAsked, IsPromised, PictureIsComing, coming_mode, commands_after, event_mode, last_mode, mode_after, requests}
 use Rattle.dgt_link.proofs.Lists.{Contains-cons, nothing_contained}

@@ -16,10 +16,8 @@ use Rattle.dgt_command.specs.Words.{Divides, IsPartial}
 use Rattle.dgt_command.specs.Laws.{EachDividesOnce, NoWordBeginsAnother, WordsAreShort}
 use Rattle.dgt_decode.specs.Grammar.{open_message}
 use Rattle.dgt_board.specs.declared.modes.Mode.{Mode}
-use Rattle.dgt_board.specs.Backlog.{backlog}
-use Rattle.dgt_board.specs.Effect.{effects}
-use Rattle.dgt_board.specs.State.{BoardState, follows_clock, updates}
-use Rattle.dgt_board.specs.Sending.{after_sending, next_message}
+use Rattle.dgt_board.specs.Sending.{backlog, after_sending, next_message}
+use Rattle.dgt_board.specs.State.{effects, BoardState, follows_clock, updates}
 use Rattle.dgt_link.specs.Act.{ActContent}
 use Rattle.dgt_link.specs.Stands.{StandsAfterStep, AreSpelled, IsExactWorld, IsWorld, StandsFor}
 use Rattle.dgt_link.specs.Promise.{mode_after, act_requests, IsPromised, PictureIsComing, coming_mode}
