@@ -1,6 +1,7 @@
 -- A number has one known id, and a byte is the code of one command of one byte.
-use Rattle.std.proofs.Common.{◌≡◌, ◌≢◌, ℕ, Bool, true, false, cond, ◌&&◌, refl, sym, ap, subst, List, [], ◌∷◌, Some}
+use Rattle.std.proofs.Common.{◌≡◌, ◌≢◌, ℕ, Bool, true, false, cond, refl, sym, ap, subst, List, [], ◌∷◌, Some}
 use Rattle.std.proofs.Common.{None}
+use Rattle.std.specs.List.{list_all}
 use Rattle.std.specs.Prelude.{◌==◌, ◌↔◌, find}
 use Rattle.std.proofs.lemmas.Bool.{and_parts, eqb-true}
 use Rattle.dgt_command.specs.declared.command.Command.{Command}
@@ -12,17 +13,12 @@ use Rattle.dgt_command.specs.Content.{command_content, ClockMessage, Leds, Read}
 use Rattle.dgt_command.specs.Ids.{id_number, id_with, known_ids}
 use Rattle.dgt_command.specs.Words.{BeginsNoCommand, HasForm}
 
--- whether each member passes a test
-abbrev each_passes : {X : Type 0} → (X → Bool) → List X → Bool
-each_passes p [] = true
-each_passes p (x ∷ xs) = p x && each_passes p xs
-
 -- what a search finds passes its test, and each test that all members pass
-found_passes : {X : Type 0} (listed test : X → Bool) (xs : List X) (x : X) → each_passes listed xs ≡ true
+found_passes : {X : Type 0} (listed test : X → Bool) (xs : List X) (x : X) → list_all listed xs ≡ true
     → find test xs ≡ Some x → (test x ≡ true) × (listed x ≡ true)
 found_passes listed test [] x all e = cc
 found_passes listed test (y ∷ xs) x all e =
-    let parts = and_parts (listed y) (each_passes listed xs) all in
+    let parts = and_parts (listed y) (list_all listed xs) all in
     go (test y) refl e parts.0 (found_passes listed test xs x parts.1)
   where
     go : (t : Bool) → test y ≡ t → cond t (Some y) (find test xs) ≡ Some x → listed y ≡ true

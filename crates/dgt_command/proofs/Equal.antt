@@ -1,6 +1,7 @@
 -- What the derived `==` says of clock messages.
-use Rattle.std.proofs.Common.{◌≡◌, ℕ, nat_eq, refl, ap, sym, ◌∙◌, rules, List, [], ◌∷◌, length, Bool, true, false, ◌&&◌}
+use Rattle.std.proofs.Common.{◌≡◌, ℕ, nat_eq, refl, ap, sym, ◌∙◌, List, [], ◌∷◌, length, true, false}
 use Rattle.std.specs.Prelude.{◌↔◌, IsTrue, slice_index}
+use Rattle.std.proofs.lemmas.Bool.Decides.{Decides-and, Decides-eqb}
 use Rattle.std.proofs.lemmas.Slice.Eq.{slice_eq-Decides}
 use lib.Pointwise.{pointwise}
 use Rattle.dgt_command.specs.declared.clock.ClockCommand.TheVariants as clock
@@ -13,18 +14,9 @@ use Rattle.dgt_command.specs.Ids.{has_own_case}
 use Rattle.dgt_command.specs.contracts.clock.ClockCommandPartialEq.TheImpl as derived_clock
 use Rattle.dgt_command.proofs.ListLemmas.{three, six, eight}
 
--- two tests are both true exactly where each is
-pub both : {P Q : Type 0} → (p q : Bool) → IsTrue p ↔ P → IsTrue q ↔ Q → IsTrue (p && q) ↔ (P × Q)
-both true q p_is q_is = (λ t. (p_is.0 refl, q_is.0 t), λ h. q_is.1 h.1)
-both false q p_is q_is = (λ t. cc, λ h. p_is.1 h.0)
-
--- two numbers are equal exactly where they are the same
-pub equal_numbers : (m n : ℕ) → IsTrue (nat_eq m n) ↔ (m ≡ n)
-equal_numbers m n = search rules
-
 -- two lists of numbers are equal exactly where they are the same
 pub equal_bytes : (xs ys : List ℕ) → IsTrue (pointwise nat_eq xs ys) ↔ (xs ≡ ys)
-equal_bytes xs ys = slice_eq-Decides equal_numbers xs ys _ refl
+equal_bytes xs ys = slice_eq-Decides Decides-eqb xs ys _ refl
 
 -- no test that is false is true
 pub never : IsTrue false → ⊥
@@ -35,7 +27,7 @@ pub differ : {T : Type 0} → (number : T → ℕ) (a b : T) → nat_eq (number 
 differ number a b apart = (λ t. absurd (never t), λ e. absurd (go (ap number e)))
   where
     go : number a ≡ number b → ⊥
-    go same = let equal : IsTrue (nat_eq (number a) (number b)) = (equal_numbers (number a) (number b)).1 same in cc
+    go same = let equal : IsTrue (nat_eq (number a) (number b)) = (Decides-eqb (number a) (number b)).1 same in cc
 
 -- the id of a clock message, and what it carries
 abbrev id_of : ClockContent → ℕ
@@ -105,7 +97,8 @@ raw_apart raw said own e =
 -- two clock messages are equal exactly where they say the same
 pub equal_clocks : EqualIsSameReadOf HasArrays clock_content (derived_clock.eq-value).it
 equal_clocks (clock.Display places dots beep) (clock.Display others more long) h k =
-    let equal = both _ _ (equal_bytes places others) (both _ _ (equal_numbers dots more) (equal_numbers beep long)) in
+    let bytes = Decides-and _ _ (Decides-eqb dots more) (Decides-eqb beep long) in
+    let equal = Decides-and _ _ (equal_bytes places others) bytes in
     let same = same_display places others dots more beep long h k in
     (λ t. same.0 (equal.0 t), λ e. equal.1 (same.1 e))
 equal_clocks (clock.Icons a) (clock.Icons b) h k =
@@ -115,18 +108,19 @@ equal_clocks clock.End clock.End h k = (λ _. refl, λ _. refl)
 equal_clocks clock.Button clock.Button h k = (λ _. refl, λ _. refl)
 equal_clocks clock.Version clock.Version h k = (λ _. refl, λ _. refl)
 equal_clocks (clock.SetAndRun left right control) (clock.SetAndRun other another byte) h k =
-    let equal = both _ _ (equal_bytes left other) (both _ _ (equal_bytes right another) (equal_numbers control byte)) in
+    let later = Decides-and _ _ (equal_bytes right another) (Decides-eqb control byte) in
+    let equal = Decides-and _ _ (equal_bytes left other) later in
     let same = same_setting left other right another control byte h.0 k.0 h.1 k.1 in
     (λ t. same.0 (equal.0 t), λ e. equal.1 (same.1 e))
 equal_clocks (clock.Beep a) (clock.Beep b) h k =
-    let same = equal_numbers a b in
+    let same = Decides-eqb a b in
     (λ t. ap (λ (n : ℕ). known_clock KnownId.Beep (n ∷ [])) (same.0 t), λ e. same.1 (ap (byte_of 0) e))
 equal_clocks (clock.Text letters beep) (clock.Text others long) h k =
-    let equal = both _ _ (equal_bytes letters others) (equal_numbers beep long) in
+    let equal = Decides-and _ _ (equal_bytes letters others) (Decides-eqb beep long) in
     let same = same_text letters others beep long h k in
     (λ t. same.0 (equal.0 t), λ e. equal.1 (same.1 e))
 equal_clocks (clock.Raw a) (clock.Raw b) h k =
-    let equal = both _ _ (equal_numbers a.id b.id) (equal_bytes a.payload.bytes.now b.payload.bytes.now) in (
+    let equal = Decides-and _ _ (Decides-eqb a.id b.id) (equal_bytes a.payload.bytes.now b.payload.bytes.now) in (
       λ t. let same = equal.0 t in λ i. record { id = same.0 i; payload = same.1 i },
       λ e. equal.1
           (ap id_of e, ap payload_of e),

@@ -1,6 +1,7 @@
 -- What the derived `==` says of commands and of events. Different commands are told apart by their codes, and events by
 -- a number a case.
 use Rattle.std.proofs.Common.{◌≡◌, ℕ, refl, ap, List, []}
+use Rattle.std.proofs.lemmas.Bool.Decides.{Decides-and, Decides-eqb}
 use Rattle.std.specs.Prelude.{◌↔◌, IsTrue, Option, Some, None, IfSome}
 use Rattle.std.specs.Option.{option_eq, option_map}
 use Rattle.dgt_command.specs.declared.command.Command.TheVariants as command
@@ -14,7 +15,7 @@ use Rattle.dgt_values.specs.Equality.{EqualIsSameReadOf}
 use Rattle.dgt_command.specs.contracts.command.CommandPartialEq.TheImpl as derived_command
 use Rattle.dgt_command.specs.contracts.command.CommandEventPartialEq.TheImpl as derived_event
 use Rattle.dgt_command.specs.contracts.decoder.CommandFedPartialEq.TheImpl as derived_fed
-use Rattle.dgt_command.proofs.Equal.{both, differ, equal_numbers, equal_bytes, equal_clocks}
+use Rattle.dgt_command.proofs.Equal.{differ, equal_bytes, equal_clocks}
 
 -- the clock message of a command, and its LED bytes
 abbrev message_of : CommandContent → ClockContent
@@ -72,7 +73,7 @@ equal_events event.BadSize event.BadSize h k = (λ _. refl, λ _. refl)
 equal_events event.BadStart event.BadStart h k = (λ _. refl, λ _. refl)
 equal_events event.BadEnd event.BadEnd h k = (λ _. refl, λ _. refl)
 equal_events (event.Stray a) (event.Stray b) h k =
-    let same = equal_numbers a b in
+    let same = Decides-eqb a b in
     (λ t. ap (λ (byte : ℕ). content.Stray byte) (same.0 t), λ e. same.1 (ap byte_of e))
 equal_events a b h k = differ event_case_of (command_event_content a) (command_event_content b) refl
 
@@ -100,7 +101,7 @@ equal_found None (Some b) h k = differ how_many None (Some (command_event_conten
 -- two answers are equal exactly where they use and tell the same
 pub equal_fed : EqualIsSameReadOf FedHasArrays fed_seen (derived_fed.eq-value).it
 equal_fed a b h k =
-    let same = both _ _ (equal_numbers a.used b.used) (equal_found a.event b.event h k) in
+    let same = Decides-and _ _ (Decides-eqb a.used b.used) (equal_found a.event b.event h k) in
     (λ t. let found = same.0 t in λ i. (found.0 i, found.1 i), λ e. same.1 (ap used_of e, ap event_of e))
   where
     used_of : ℕ × Option EventContent → ℕ
