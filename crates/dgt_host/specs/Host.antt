@@ -131,11 +131,12 @@ pub record Request : Type 0 where
 -- awaited last; or one more can't be awaited, or else the slice is too short for them, and nothing
 -- changes.
 abbrev pub Sends : Request → HostView → HostView → List ℕ → List ℕ → Result ℕ SendFault → Type 0
-Sends x before after old new (Ok written) =
-    (awaits_too_many before x.kind ≡ false) × (written ≡ length x.bytes) × (written ≤ length old)
-    × (new ≡ x.bytes ++ drop written old) × (after ≡ host_awaiting before x.kind)
-Sends x before after old new (Err TooMany) =
-    IsTrue (awaits_too_many before x.kind) × (new ≡ old) × (after ≡ before)
-Sends x before after old new (Err (NoRoom need)) =
-    (awaits_too_many before x.kind ≡ false) × (need ≡ length x.bytes) × (length old < need)
+Sends sent before after old new (Ok written) =
+    (awaits_too_many before sent.kind ≡ false) × (written ≡ length sent.bytes)
+    × (written ≤ length old) × (new ≡ sent.bytes ++ drop written old)
+    × (after ≡ host_awaiting before sent.kind)
+Sends sent before after old new (Err TooMany) =
+    IsTrue (awaits_too_many before sent.kind) × (new ≡ old) × (after ≡ before)
+Sends sent before after old new (Err (NoRoom need)) =
+    (awaits_too_many before sent.kind ≡ false) × (need ≡ length sent.bytes) × (length old < need)
     × (new ≡ old) × (after ≡ before)
