@@ -19,12 +19,23 @@ const NO_E2: &str = "rnbqkbnr/pppppppp/8/8/8/8/PPPP1PPP/RNBQKBNR";
 
 const E4_PLAYED: &str = "rnbqkbnr/pppppppp/8/8/4P3/8/PPPP1PPP/RNBQKBNR";
 
+const DISPLAY: Command<'static> = Command::ClockMessage(ClockCommand::Display {
+    places: [0x06, 0x5b, 0x00, 0x00, 0x4f, 0x66],
+    dots: 0x00,
+    beep: 0x03,
+});
+
 // Hours, minutes and seconds of both, with this status.
 fn times(first: [u8; 3], second: [u8; 3], status: u8) -> Result<Clock, Fail> {
     let first = Reading::new(first[0], first[1], first[2], 0)?;
     let second = Reading::new(second[0], second[1], second[2], 0)?;
     let status = Status::new(SevenBit::try_from(status)?);
     Ok(Clock::Times(Times::new(first, second, status)?))
+}
+
+// A clock that runs.
+fn running_clock() -> Result<Clock, Fail> {
+    times([1, 30, 0], [1, 29, 55], 0x11)
 }
 
 fn identity() -> Result<Identity, Fail> {
@@ -242,7 +253,7 @@ fn a_message_heard_in_two_parts(rt: HostRuntime) -> Result<(), Fail> {
 fn a_clock_is_told_where_it_differs(rt: HostRuntime) -> Result<(), Fail> {
     let mut world = world_of(rt.alloc(), 67, 257)??;
     let zeros = times([0; 3], [0; 3], 0)?;
-    let running = times([1, 30, 0], [1, 29, 55], 0x11)?;
+    let running = running_clock()?;
     play(
         &rt,
         &mut world,
@@ -349,7 +360,7 @@ fn a_break_in_the_middle_of_a_message(rt: HostRuntime) -> Result<(), Fail> {
 #[test]
 fn a_break_with_both_lines_full(rt: HostRuntime) -> Result<(), Fail> {
     let mut world = following(&rt, rt.alloc())?;
-    let running = times([1, 30, 0], [1, 29, 55], 0x11)?;
+    let running = running_clock()?;
     // a dump is under way, seven and a version are owed, and commands wait
     play(
         &rt,
@@ -443,15 +454,10 @@ fn a_host_begins_anew_in_the_middle_of_a_frame(rt: HostRuntime) -> Result<(), Fa
 #[test]
 fn a_host_begins_anew_in_the_middle_of_a_display(rt: HostRuntime) -> Result<(), Fail> {
     let mut world = world_of(rt.alloc(), 67, 257)??;
-    let display = Command::ClockMessage(ClockCommand::Display {
-        places: [0x06, 0x5b, 0x00, 0x00, 0x4f, 0x66],
-        dots: 0x00,
-        beep: 0x03,
-    });
     play(
         &rt,
         &mut world,
-        &[(Host(display), Done), (ToBoard(4), Done), (HostBreak, Done)],
+        &[(Host(DISPLAY), Done), (ToBoard(4), Done), (HostBreak, Done)],
     );
     assert_eq!(rt; world.down_len(), 257);
     play(&rt, &mut world, &[(ToBoard(257), Done)]);

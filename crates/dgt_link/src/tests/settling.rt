@@ -1,12 +1,15 @@
 //! How worlds come to rest, and in how many acts.
 
-use super::{E4_PLAYED, NO_E2, START, following, rests_at, times, world_of};
+use super::{
+    DISPLAY, E4_PLAYED, NO_E2, START, following, rests_at, running_clock, times, world_of,
+};
 use crate::Act::*;
 use crate::{Act, World};
 use dgt_board::Mode;
-use dgt_command::{ClockCommand, Command, LedBytes};
+use dgt_command::{Command, LedBytes};
 use dgt_message::Clock;
 use dgt_values::{Piece, Square};
+use std::alloc::Global;
 use std::process::Abort;
 use std::test::Fail;
 
@@ -19,11 +22,19 @@ fn settles(rt: &impl Abort, world: &mut World, acts: u128, placement: &str) -> R
     Ok(())
 }
 
-const DISPLAY: Command<'static> = Command::ClockMessage(ClockCommand::Display {
-    places: [0x06, 0x5b, 0x00, 0x00, 0x4f, 0x66],
-    dots: 0x00,
-    beep: 0x03,
-});
+// In a world that follows, acts are done; how many are left then, and where it rests.
+fn each_settles(
+    rt: &impl Abort,
+    alloc: Global,
+    rows: &[(&[Act<'_>], u128, &str)],
+) -> Result<(), Fail> {
+    for (acts, count, placement) in rows {
+        let mut world = following(rt, alloc)?;
+        assert_eq!(rt; world.run(acts), acts.len());
+        settles(rt, &mut world, *count, placement)?;
+    }
+    Ok(())
+}
 
 #[test]
 fn worlds_settle(rt: HostRuntime) -> Result<(), Fail> {
@@ -33,7 +44,6 @@ fn worlds_settle(rt: HostRuntime) -> Result<(), Fail> {
     let frame = Host(Command::Leds(LedBytes::new(&[0x42; 255])?));
     let version = Host(Command::Version);
     let dump = Host(Command::Dump);
-    // what is done in a world that follows, how many acts are left then, and the position
     let rows: [(&[Act<'_>], u128, &str); 9] = [
         (&[], 0, START),
         // each of two fields is sent and heard
@@ -66,12 +76,7 @@ fn worlds_settle(rt: HostRuntime) -> Result<(), Fail> {
         // the rest of a frame
         (&[frame, ToBoard(2)], 1, START),
     ];
-    for (acts, count, placement) in rows {
-        let mut world = following(&rt, rt.alloc())?;
-        assert_eq!(rt; world.run(acts), acts.len());
-        settles(&rt, &mut world, count, placement)?;
-    }
-    Ok(())
+    each_settles(&rt, rt.alloc(), &rows)
 }
 
 #[test]
@@ -94,12 +99,7 @@ fn worlds_settle_after_breaks(rt: HostRuntime) -> Result<(), Fail> {
         ),
         (&[no_e2, Break, Host(Command::UpdateBoard), dump], 3, NO_E2),
     ];
-    for (acts, count, placement) in rows {
-        let mut world = following(&rt, rt.alloc())?;
-        assert_eq!(rt; world.run(acts), acts.len());
-        settles(&rt, &mut world, count, placement)?;
-    }
-    Ok(())
+    each_settles(&rt, rt.alloc(), &rows)
 }
 
 #[test]
@@ -260,10 +260,7 @@ fn settles_as_asked(rt: &impl Abort, world: &mut World, asked: Asked) {
 
 #[test]
 fn worlds_of_drawn_acts_settle(rt: HostRuntime) -> Result<(), Fail> {
-    let clocks = [
-        times([0; 3], [0; 3], 0)?,
-        times([1, 30, 0], [1, 29, 55], 0x11)?,
-    ];
+    let clocks = [times([0; 3], [0; 3], 0)?, running_clock()?];
     let mut state = 0x2545_f491;
     for (up, down, turns) in [(67, 257, 40), (67, 257, 400), (300, 1024, 200)] {
         for _ in 0..20 {
