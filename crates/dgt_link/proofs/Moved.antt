@@ -13,7 +13,7 @@ use Rattle.dgt_message.specs.Spelling.{Spells, spelling}
 use Rattle.dgt_command.specs.Content.{EventContent}
 use Rattle.dgt_command.specs.Words.{IsPartial, IsWord}
 use Rattle.dgt_board.specs.declared.sending.Polled.{Polled}
-use Rattle.dgt_board.specs.View.{Polls}
+use Rattle.dgt_board.specs.View.{Polls, BoardView, HasTaken, after_bytes}
 use Rattle.dgt_board.specs.Sending.{after_sending}
 use Rattle.dgt_host.specs.Host.{HostView, host_after, HeardInPieces}
 use Rattle.dgt_link.specs.declared.acts.Outcome.{Outcome}
