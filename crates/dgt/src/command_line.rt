@@ -29,7 +29,8 @@ pub enum Task<'a> {
     Board {
         placement: &'a str,
     },
-    /// Do the acts of the input in a world whose board has this placement, and whose lines hold so many bytes.
+    /// Do the acts of the input in a world whose board has this placement, and whose lines hold so
+    /// many bytes.
     Simulate {
         placement: &'a str,
         up: u16,

@@ -13,10 +13,11 @@ use std::io::{Read, Write};
 /// The reads that an engine makes at most.
 const MOST_TURNS: u32 = u32::MAX;
 
-/// Does what the words ask for, of which the first is the program's name, and answers the exit status.
+/// Does what the words ask for, of which the first is the program's name, and answers the exit
+/// status.
 ///
-/// What an engine reads comes from `input`, what is asked for goes to `output`, and the text of a fault to `errors`.
-/// All memory is taken before the first read and the first write.
+/// What an engine reads comes from `input`, what is asked for goes to `output`, and the text of a
+/// fault to `errors`. All memory is taken before the first read and the first write.
 pub fn run_words<I: Read + Drop, O: Write + Drop, E: Write + Drop>(
     alloc: Global,
     words: Vec<String>,
@@ -30,8 +31,8 @@ pub fn run_words<I: Read + Drop, O: Write + Drop, E: Write + Drop>(
     }
 }
 
-// Finds the faults of the command line first, then those of the hexadecimal word or the placement, then those of making
-// the world, and then those of the run.
+// Finds the faults of the command line first, then those of the hexadecimal word or the placement,
+// then those of making the world, and then those of the run.
 fn run<I: Read + Drop, O: Write + Drop>(
     alloc: Global,
     words: &[String],
@@ -52,8 +53,9 @@ fn run<I: Read + Drop, O: Write + Drop>(
     }
 }
 
-// Each task has room of its own on the stack, and is not inlined. Room for all of them at once is more than a process
-// has from its start, and where the address space is limited, a stack that can't grow ends the process by a signal.
+// Each task has room of its own on the stack, and is not inlined. Room for all of them at once is
+// more than a process has from its start, and where the address space is limited, a stack that
+// can't grow ends the process by a signal.
 
 #[inline(never)]
 fn show<O: Write + Drop>(alloc: Global, word: &str, output: O) -> Result<(), Fault> {

@@ -15,8 +15,8 @@ fn seven_bit(byte: u8) -> SevenBit
     SevenBit::try_from(byte).unwrap()
 }
 
-/// Its serial number, its trademark, its version 1.3, one byte of its battery, version 1.4 of its clock, and its long
-/// serial number.
+/// Its serial number, its trademark, its version 1.3, one byte of its battery, version 1.4 of its
+/// clock, and its long serial number.
 pub fn identity() -> Identity
     ensures { result ≡ record {
       serial = codes "00001";

@@ -94,7 +94,8 @@ fn check_over(
     Ok(())
 }
 
-// Runs the words of a line with an input that refuses each read, and compares all that the run told.
+// Runs the words of a line with an input that refuses each read, and compares all that the run
+// told.
 fn check(
     rt: &(impl Abort + AllocGlobal),
     line: &str,

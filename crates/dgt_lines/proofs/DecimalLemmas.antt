@@ -24,7 +24,8 @@ digit_last width n h k =
     ap (λ l. replicate (width - length l) 48 ++ l) e ∙ ap (λ d. replicate (width - 1) 48 ++ (48 + d) ∷ []) m
 
 -- the last digit of a longer number
-more_last : (width n : ℕ) → 10 ≤ n → n < 2 ^ 64 → padded_decimal width n ≡ padded_decimal (width - 1) (n / 10) ++ (48 + n % 10) ∷ []
+more_last : (width n : ℕ) → 10 ≤ n → n < 2 ^ 64 → padded_decimal width n ≡ padded_decimal (width - 1) (n / 10) ++
+    (48 + n % 10) ∷ []
 more_last width n h k =
     let e : decimal n ≡ decimal (n / 10) ++ (48 + n % 10) ∷ [] = decimal_step n h k in
     let l : length (decimal n) ≡ length (decimal (n / 10)) + 1 = ap length e ∙ length-append (decimal (n / 10)) _ in
@@ -33,7 +34,8 @@ more_last width n h k =
     ∙ sym (append_assoc (replicate (width - 1 - length (decimal (n / 10))) 48) (decimal (n / 10)) _)
 
 -- one digit less
-pub front-last : (width n : ℕ) → n < 2 ^ 64 → (0 < n) ⊎ (0 < width) → front width n ≡ front (width - 1) (n / 10) ++ (48 + n % 10) ∷ []
+pub front-last : (width n : ℕ) → n < 2 ^ 64 → (0 < n) ⊎ (0 < width) → front width n ≡ front (width - 1) (n / 10) ++
+    (48 + n % 10) ∷ []
 front-last width zero h k =
     let some : 0 < width = elim k [ inl a ↦ absurd (omega arith) | inr b ↦ b ] in
     let w : width ≡ width - 1 + 1 = omega arith in
@@ -43,7 +45,8 @@ front-last width (suc n) h k = elim (cases_lt (suc n) 10) [
       let q : suc n / 10 ≡ 0 = omega arith in
       digit_last width (suc n) (omega arith) low ∙ ap (λ j. front (width - 1) j ++ (48 + suc n % 10) ∷ []) (sym q)
   | inr high ↦
-      more_last width (suc n) high h ∙ ap (λ l. l ++ (48 + suc n % 10) ∷ []) (sym (front_some (width - 1) (suc n / 10) (omega arith)))
+      more_last width (suc n) high h ∙ ap (λ l. l ++ (48 + suc n % 10) ∷ [])
+      (sym (front_some (width - 1) (suc n / 10) (omega arith)))
 ]
 
 -- all digits, where there is at least one
@@ -51,7 +54,8 @@ pub front-all : (width n : ℕ) → 0 < width → front width n ≡ padded_decim
 front-all width zero h =
     let e : decimal 0 ≡ 48 ∷ [] = decimal_digit 0 (omega arith) in
     let w : width ≡ width - 1 + 1 = omega arith in
-    ap (λ j. replicate j 48) w ∙ sym (replicate_more (width - 1) 48) ∙ sym (ap (λ l. replicate (width - length l) 48 ++ l) e)
+    ap (λ j. replicate j 48) w ∙ sym (replicate_more (width - 1) 48) ∙
+    sym (ap (λ l. replicate (width - length l) 48 ++ l) e)
 front-all width (suc n) h = refl
 
 -- without its last digit a number is below a smaller power of ten
@@ -72,12 +76,16 @@ front-last_digits (suc k) n h b =
 
 -- eight digits
 padded_eight : (n : ℕ) → n < 100000000
-    → padded_decimal 8 n ≡ (48 + n / 10000000 % 10) ∷ (48 + n / 1000000 % 10) ∷ (48 + n / 100000 % 10) ∷ (48 + n / 10000 % 10) ∷ (48 + n / 1000 % 10) ∷ (48 + n / 100 % 10) ∷ (48 + n / 10 % 10) ∷ (48 + n % 10) ∷ []
-padded_eight n h = sym (front-all 8 n (omega arith)) ∙ front-last_digits 8 n h (omega arith) ∙ simp div-div-eq-div-mul refl
+    → padded_decimal 8 n ≡ (48 + n / 10000000 % 10) ∷ (48 + n / 1000000 % 10) ∷ (48 + n / 100000 % 10) ∷
+    (48 + n / 10000 % 10) ∷ (48 + n / 1000 % 10) ∷ (48 + n / 100 % 10) ∷ (48 + n / 10 % 10) ∷ (48 + n % 10) ∷ []
+padded_eight n h = sym (front-all 8 n (omega arith)) ∙ front-last_digits 8 n h
+    (omega arith) ∙ simp div-div-eq-div-mul refl
 
 -- eight digits, from four pairs
 pub padded_pairs : (n : ℕ) → n < 100000000
-    → padded_decimal 8 n ≡ (48 + n / 10000 / 100 / 10) ∷ (48 + n / 10000 / 100 % 10) ∷ (48 + n / 10000 % 100 / 10) ∷ (48 + n / 10000 % 100 % 10) ∷ (48 + n % 10000 / 100 / 10) ∷ (48 + n % 10000 / 100 % 10) ∷ (48 + n % 10000 % 100 / 10) ∷ (48 + n % 10000 % 100 % 10) ∷ []
+    → padded_decimal 8 n ≡ (48 + n / 10000 / 100 / 10) ∷ (48 + n / 10000 / 100 % 10) ∷ (48 + n / 10000 % 100 / 10) ∷
+    (48 + n / 10000 % 100 % 10) ∷ (48 + n % 10000 / 100 / 10) ∷ (48 + n % 10000 / 100 % 10) ∷
+    (48 + n % 10000 % 100 / 10) ∷ (48 + n % 10000 % 100 % 10) ∷ []
 padded_pairs n small = padded_eight n small ∙ rw (a, b, c, d, e, f, g, h) refl
   where
     a : n / 10000000 % 10 ≡ n / 10000 / 100 / 10

@@ -22,15 +22,19 @@ pub slice_room : (s : List ℕ) (i n : ℕ) → i + n < length s → n < length 
 slice_room s i n h = let e = ap length (slice_from s i) ∙ length-drop i s in omega arith
 
 -- n more bytes of a list
-pub appends_more : (a b c : Option (List ℕ)) (s : List ℕ) (i n : ℕ) → Appends a b (take i s) → Appends b c (take n (take (length s - i) (drop i s))) → Appends a c (take (i + n) s)
-appends_more a b c s i n p q = subst (Appends a c) (sym (take-add i n s)) (Appends-trans a b c _ _ p (rw slice_from at q))
+pub appends_more : (a b c : Option (List ℕ)) (s : List ℕ) (i n : ℕ) → Appends a b (take i s)
+    → Appends b c (take n (take (length s - i) (drop i s))) → Appends a c (take (i + n) s)
+appends_more a b c s i n p q =
+    subst (Appends a c) (sym (take-add i n s)) (Appends-trans a b c _ _ p (rw slice_from at q))
 
 -- the piece that a turn gave
-pub piece_some : (given : ℕ) (buffer : List ℕ) → given ≤ length buffer → (given ≡ 0 → ⊥) → 0 < length (take given buffer)
+pub piece_some : (given : ℕ) (buffer : List ℕ) → given ≤ length buffer → (given ≡ 0 → ⊥)
+    → 0 < length (take given buffer)
 piece_some given buffer h some = let e = length-take-le given buffer h in omega arith
 
 -- a turn more, which gave a byte
-pub turn_more : (turns : ℕ) (bytes piece : List ℕ) → turns ≤ length bytes → 0 < length piece → turns + 1 ≤ length (bytes ++ piece)
+pub turn_more : (turns : ℕ) (bytes piece : List ℕ) → turns ≤ length bytes → 0 < length piece
+    → turns + 1 ≤ length (bytes ++ piece)
 turn_more turns bytes piece h some = let sum = length-append bytes piece in omega arith
 
 -- what holds whatever the answer is
@@ -43,7 +47,12 @@ module _ {S : Type 0} (W : Sink S) where
   wrote_none a = record { appends = Appends-nil (W.written a); kept = refl; in_time = λ _. refl }
 
   pub wrote_then : (a b c : S) (s t : List ℕ) → Wrote W a b s → Wrote W b c t → Wrote W a c (s ++ t)
-  wrote_then a b c s t p q = record { appends = Appends-trans _ _ _ s t p.appends q.appends; kept = q.kept ∙ p.kept; in_time = λ h. q.in_time (p.kept ∙ h) ∙ p.in_time h }
+  wrote_then a b c s t p q =
+      record {
+        appends = Appends-trans _ _ _ s t p.appends q.appends;
+        kept = q.kept ∙ p.kept;
+        in_time = λ h. q.in_time (p.kept ∙ h) ∙ p.in_time h;
+      }
 
   -- some text, and then a prefix of more
   pub stopped_then : (a b c : S) (s t : List ℕ) → Wrote W a b s → Stopped W b c t → Stopped W a c (s ++ t)
@@ -68,7 +77,8 @@ module _ {S : Type 0} (W : Sink S) where
   }
 
   -- the sink refused after i bytes of s
-  pub stopped_at : (a b c : S) (s : List ℕ) (i : ℕ) → Wrote W a b (take i s) → Keeps (W.written b) (W.written c) → W.failed c ≡ true → (W.failed b ≡ false → W.late c ≡ W.late b) → Stopped W a c s
+  pub stopped_at : (a b c : S) (s : List ℕ) (i : ℕ) → Wrote W a b (take i s) → Keeps (W.written b) (W.written c)
+      → W.failed c ≡ true → (W.failed b ≡ false → W.late c ≡ W.late b) → Stopped W a c s
   stopped_at a b c s i p q h k = record {
     front = take i s;
     rest = drop i s;
@@ -79,12 +89,14 @@ module _ {S : Type 0} (W : Sink S) where
   }
 
   -- some text, and then a call that writes more
-  pub writes_then : {A : Type 0} (a b c : S) (s t : List ℕ) (r : Result A RunFault) → Wrote W a b s → Writes W b c r t → Writes W a c r (s ++ t)
+  pub writes_then : {A : Type 0} (a b c : S) (s t : List ℕ) (r : Result A RunFault) → Wrote W a b s → Writes W b c r t
+      → Writes W a c r (s ++ t)
   writes_then a b c s t (Ok x) p q = wrote_then a b c s t p q
   writes_then a b c s t (Err e) p q = (q.0, stopped_then a b c s t p q.1)
 
   -- the exit of a `?` on a call that writes
-  pub writes_exit : {A : Type 0} (a b : S) (s : List ℕ) (r : Result A RunFault) (e : RunFault) → IsErrAnd r (λ y. y ≡ e) → (e ≡ WriteFailed) × Stopped W a b s → Writes W a b r s
+  pub writes_exit : {A : Type 0} (a b : S) (s : List ℕ) (r : Result A RunFault) (e : RunFault)
+      → IsErrAnd r (λ y. y ≡ e) → (e ≡ WriteFailed) × Stopped W a b s → Writes W a b r s
   writes_exit a b s (Ok x) e p q = absurd p
   writes_exit a b s (Err y) e p q = (p ∙ q.0, q.1)
 
@@ -93,11 +105,13 @@ module _ {S : Type 0} (W : Sink S) where
   stopped_after a b c s p q = subst (λ l. Stopped W a c l) (append-nil s) (stopped_then a b c s [] p q)
 
   -- a text, and then a flush
-  pub writes_flushed : {A : Type 0} (a b c : S) (s : List ℕ) (r : Result A RunFault) → Wrote W a b s → Writes W b c r [] → Writes W a c r s
+  pub writes_flushed : {A : Type 0} (a b c : S) (s : List ℕ) (r : Result A RunFault) → Wrote W a b s
+      → Writes W b c r [] → Writes W a c r s
   writes_flushed a b c s (Ok x) p q = subst (λ l. Wrote W a c l) (append-nil s) (wrote_then a b c s [] p q)
   writes_flushed a b c s (Err e) p q = (q.0, stopped_after a b c s p q.1)
 
   -- no call came after one that was refused
-  pub writes_in_time : {A : Type 0} (a b : S) (s : List ℕ) (r : Result A RunFault) → Writes W a b r s → W.failed a ≡ false → W.late b ≡ W.late a
+  pub writes_in_time : {A : Type 0} (a b : S) (s : List ℕ) (r : Result A RunFault) → Writes W a b r s
+      → W.failed a ≡ false → W.late b ≡ W.late a
   writes_in_time a b s (Ok x) p = p.in_time
   writes_in_time a b s (Err e) p = p.1.in_time

@@ -21,10 +21,12 @@ padded_two n h = elim (cases_lt n 10) [
       let e : decimal n ≡ (48 + n) ∷ [] = decimal_digit n low in
       let tens : 48 ≡ 48 + n / 10 = omega arith in
       let units : 48 + n ≡ 48 + n % 10 = omega arith in
-      ap (λ l. replicate (2 - length l) 48 ++ l) e ∙ ap (λ t. t ∷ (48 + n) ∷ []) tens ∙ ap (λ u. (48 + n / 10) ∷ u ∷ []) units
+      ap (λ l. replicate (2 - length l) 48 ++ l) e ∙ ap (λ t. t ∷ (48 + n) ∷ []) tens ∙
+      ap (λ u. (48 + n / 10) ∷ u ∷ []) units
   | inr high ↦
       let tens : decimal (n / 10) ≡ (48 + n / 10) ∷ [] = decimal_digit (n / 10) (omega arith) in
-      let e : decimal n ≡ (48 + n / 10) ∷ (48 + n % 10) ∷ [] = decimal_step n high (omega arith) ∙ ap (λ l. l ++ (48 + n % 10) ∷ []) tens in
+      let e : decimal n ≡ (48 + n / 10) ∷ (48 + n % 10) ∷ [] =
+      decimal_step n high (omega arith) ∙ ap (λ l. l ++ (48 + n % 10) ∷ []) tens in
       ap (λ l. replicate (2 - length l) 48 ++ l) e
 ]
 
@@ -40,10 +42,14 @@ spaced_text (byte ∷ bytes) = 32 ∷ byte_text byte ++ spaced_text bytes
 
 spaced_text-append : (s t : List ℕ) → spaced_text (s ++ t) ≡ spaced_text s ++ spaced_text t
 spaced_text-append [] t = refl
-spaced_text-append (byte ∷ s) t = ap (λ l. 32 ∷ byte_text byte ++ l) (spaced_text-append s t) ∙ sym (append_assoc (32 ∷ byte_text byte) (spaced_text s) (spaced_text t))
+spaced_text-append (byte ∷ s) t =
+    ap (λ l. 32 ∷ byte_text byte ++ l)
+    (spaced_text-append s t) ∙ sym (append_assoc (32 ∷ byte_text byte) (spaced_text s) (spaced_text t))
 
-pub spaced_text-take : (s : List ℕ) (i : ℕ) → i < length s → spaced_text (take (i + 1) s) ≡ spaced_text (take i s) ++ (32 ∷ byte_text (get_or s i 0))
-spaced_text-take s i h = ap spaced_text (rw add-one (take-suc s i 0 h)) ∙ spaced_text-append (take i s) (get_or s i 0 ∷ []) ∙ ap (λ l. spaced_text (take i s) ++ l) (append-nil (32 ∷ byte_text (get_or s i 0)))
+pub spaced_text-take : (s : List ℕ) (i : ℕ) → i < length s → spaced_text (take (i + 1) s) ≡ spaced_text (take i s) ++
+    (32 ∷ byte_text (get_or s i 0))
+spaced_text-take s i h = ap spaced_text (rw add-one (take-suc s i 0 h)) ∙ spaced_text-append (take i s)
+    (get_or s i 0 ∷ []) ∙ ap (λ l. spaced_text (take i s) ++ l) (append-nil (32 ∷ byte_text (get_or s i 0)))
 
 pub words_text-bytes : (word bytes : List ℕ) → words_text (word ∷ map byte_text bytes) ≡ word ++ spaced_text bytes
 words_text-bytes word [] = sym (append-nil word)

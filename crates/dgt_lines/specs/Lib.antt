@@ -1,6 +1,8 @@
+-- what public contracts cite
 pub mod Lines
+pub mod FaultText
 pub mod Marks
 pub mod Writing
-pub mod FaultText
 pub mod Device
+-- for bodies alone
 pub mod Wording

@@ -37,7 +37,8 @@ words_text words = join_with_byte 32 words
 -- hours, minutes and seconds, and the flags
 unfoldable pub time_text : Time → List ℕ
 time_text t =
-    decimal t.hours ++ codes ":" ++ padded_decimal 2 t.minutes ++ codes ":" ++ padded_decimal 2 t.seconds
+    decimal t.hours ++ codes ":" ++ padded_decimal 2 t.minutes ++ codes ":" ++ padded_decimal 2
+    t.seconds
     ++ codes " " ++ decimal t.flags
 
 -- what a body is that is carried unread
@@ -49,13 +50,19 @@ carried_words _ code = codes "other" ∷ byte_text code ∷ []
 
 unfoldable pub message_text : Content → List ℕ
 message_text (dump pieces) = words_text (codes "dump" ∷ placement_text pieces ∷ [])
-message_text (field square piece) = words_text (codes "field" ∷ square_name square ∷ (piece_letter piece ∷ []) ∷ [])
-message_text (times t) = words_text (codes "times" ∷ time_text t.first ∷ time_text t.second ∷ byte_text t.status ∷ [])
-message_text (no_clock absence) = words_text (codes "noclock" ∷ bytes_text absence.raw ∷ byte_text absence.status ∷ [])
-message_text (ack answer) = words_text (codes "ack" ∷ map byte_text (answer.ack ++ answer.status ∷ []))
+message_text (field square piece) =
+    words_text (codes "field" ∷ square_name square ∷ (piece_letter piece ∷ []) ∷ [])
+message_text (times t) =
+    words_text (codes "times" ∷ time_text t.first ∷ time_text t.second ∷ byte_text t.status ∷ [])
+message_text (no_clock absence) =
+    words_text (codes "noclock" ∷ bytes_text absence.raw ∷ byte_text absence.status ∷ [])
+message_text (ack answer) =
+    words_text (codes "ack" ∷ map byte_text (answer.ack ++ answer.status ∷ []))
 message_text (serial digits) = words_text (codes "serial" ∷ bytes_text digits ∷ [])
-message_text (version main sub) = words_text (codes "version" ∷ (decimal main ++ codes "." ++ decimal sub) ∷ [])
-message_text (carried code body) = words_text (carried_words (known_with code) code ++ bytes_text body ∷ [])
+message_text (version main sub) =
+    words_text (codes "version" ∷ (decimal main ++ codes "." ++ decimal sub) ∷ [])
+message_text (carried code body) =
+    words_text (carried_words (known_with code) code ++ bytes_text body ∷ [])
 
 abbrev pub fault_text : BodyFault → List ℕ
 fault_text WrongSize = codes "wrongsize"
@@ -65,7 +72,8 @@ fault_text (BadReading at) = words_text (codes "badreading" ∷ decimal at ∷ [
 
 unfoldable pub event_text : Event → List ℕ
 event_text (Message said) = message_text said
-event_text (Refused code fault) = words_text (codes "refused" ∷ byte_text code ∷ fault_text fault ∷ [])
+event_text (Refused code fault) =
+    words_text (codes "refused" ∷ byte_text code ∷ fault_text fault ∷ [])
 event_text (Cut have) = words_text (codes "cut" ∷ decimal have ∷ [])
 event_text BadLength = codes "badlength"
 event_text (Stray byte) = words_text (codes "stray" ∷ byte_text byte ∷ [])
@@ -95,7 +103,8 @@ lines bytes = flat_map placed_line (events bytes)
 
 -- the lines of a piece that comes after so many bytes, of which these are an unfinished message
 abbrev pub lines_after : List ℕ → ℕ → List ℕ → List ℕ
-lines_after held offset piece = flat_map placed_line (events_behind (offset - length held) (events (held ++ piece)))
+lines_after held offset piece =
+    flat_map placed_line (events_behind (offset - length held) (events (held ++ piece)))
 
 -- the last line, where these bytes of a message are left unfinished at the end of so many bytes
 abbrev pub unfinished_line : ℕ → List ℕ → List ℕ

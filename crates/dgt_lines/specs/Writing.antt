@@ -22,15 +22,20 @@ pub record Stopped {S : Type 0} (W : Sink S) (old new : S) (text : List ℕ) : T
 
 -- a call that writes the text, or a prefix of it where the sink refuses
 abbrev pub Writes : {S A : Type 0} → Sink S → S → S → Result A RunFault → List ℕ → Type 0
-Writes W old new r text = MatchResult r (λ _. Wrote W old new text) (λ e. (e ≡ WriteFailed) × Stopped W old new text)
+Writes W old new r text =
+    MatchResult r (λ _. Wrote W old new text) (λ e. (e ≡ WriteFailed) × Stopped W old new text)
 
 -- the text came after what was held: the sink took a part of them, and the rest is held
-pub record Gathered {S : Type 0} (W : Sink S) (held held' : List ℕ) (old new : S) (text : List ℕ) : Type 0 where
+pub record Gathered {S : Type 0} (W : Sink S) (held held' : List ℕ) (old new : S) (text : List ℕ) :
+    Type 0 where
   pub out : List ℕ
   pub whole : held ++ text ≡ out ++ held'
   pub wrote : Wrote W old new out
 
--- a call that gathers the text; where the sink refuses, it has a prefix of what was held and the text
-abbrev pub Gathers : {S A : Type 0} → Sink S → List ℕ → List ℕ → S → S → Result A RunFault → List ℕ → Type 0
-Gathers W held held' old new r text =
-    MatchResult r (λ _. Gathered W held held' old new text) (λ e. (e ≡ WriteFailed) × Stopped W old new (held ++ text))
+-- a call that gathers the text, where these two were held before and after it; where the sink
+-- refuses, it has a prefix of what was held and the text
+abbrev pub Gathers : {S A : Type 0} → Sink S → List ℕ × List ℕ → S → S → Result A RunFault → List ℕ
+    → Type 0
+Gathers W held old new r text =
+    MatchResult r (λ _. Gathered W held.0 held.1 old new text)
+    (λ e. (e ≡ WriteFailed) × Stopped W old new (held.0 ++ text))

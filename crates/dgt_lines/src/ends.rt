@@ -13,9 +13,9 @@ pub struct Failed;
 
 /// Gives bytes.
 ///
-/// Contracts see the bytes that are left, where a source tells them, and four marks: whether a call was
-/// refused, whether a read told the end, how many reads there were, and whether one came after a refusal or
-/// the end.
+/// Contracts see the bytes that are left, where a source tells them, and four marks: whether a call
+/// was refused, whether a read told the end, how many reads there were, and whether one came after
+/// a refusal or the end.
 pub trait Source {
     // the bytes that are left, where the source tells them
     ghost left: { Self → Option (List ℕ) };
@@ -32,9 +32,9 @@ pub trait Source {
     // a read came after one that was refused or told the end
     ghost late: { Self → Bool };
 
-    /// Moves the next bytes to the front of `buffer`, and answers how many: none only at the end, or
-    /// where `buffer` is empty. What the rest of `buffer` holds then is open, and so is all of it after a
-    /// refusal, which moves no byte.
+    /// Moves the next bytes to the front of `buffer`, and answers how many: none only at the end,
+    /// or where `buffer` is empty. What the rest of `buffer` holds then is open, and so is all of
+    /// it after a refusal, which moves no byte.
     fn read_some(&mut self, buffer: &mut [u8]) -> Result<usize, Failed>
         ensures bound { IfOk result (λ n. n ≤ length buffer.new) }
         ensures bytes { ReadConsumes (left self.old) (left self.new) result buffer.new }
@@ -51,8 +51,9 @@ pub trait Source {
 
 /// Takes bytes.
 ///
-/// Contracts see the bytes that were written, where a sink tells them, and three marks: whether a call was
-/// refused, whether all that was written was flushed, and whether a call came after a refusal.
+/// Contracts see the bytes that were written, where a sink tells them, and three marks: whether a
+/// call was refused, whether all that was written was flushed, and whether a call came after a
+/// refusal.
 pub trait Sink {
     // the bytes that were written, where the sink tells them
     ghost written: { Self → Option (List ℕ) };
@@ -66,8 +67,8 @@ pub trait Sink {
     // a call came after one that was refused
     ghost late: { Self → Bool };
 
-    /// Takes the first bytes of `bytes`, at least one where there is one, and answers how many. A refusal
-    /// takes none.
+    /// Takes the first bytes of `bytes`, at least one where there is one, and answers how many. A
+    /// refusal takes none.
     fn write_some(&mut self, bytes: &[u8]) -> Result<usize, Failed>
         ensures bound { IfOk result (λ n. n ≤ length bytes.now) }
         ensures some { IfOk result (λ n. 0 < length bytes.now → 0 < n) }

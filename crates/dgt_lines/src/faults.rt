@@ -6,8 +6,8 @@ ghost use Rattle.dgt_lines.specs.FaultText.{run_fault_text};
 use std::error::Error;
 use std::fmt;
 
-/// Why an engine stopped before the end of its input, or could not write. It is told in a few words, a bad
-/// line as `line 3: bad at 5`.
+/// Why an engine stopped before the end of its input, or could not write. It is told in a few
+/// words, a bad line as `line 3: bad at 5`.
 #[derive(Clone, Copy, Debug, PartialEq, Eq)]
 pub enum RunFault {
     /// The source refused a read.

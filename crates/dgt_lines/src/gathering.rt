@@ -42,7 +42,8 @@ pub fn flush<W: Sink>(writer: &mut W) -> Result<(), RunFault>
 /// Room for all of a line but the bytes that a message carries.
 pub(crate) const LINE_ROOM: usize = 128;
 
-/// Bytes on their way to a sink, at most `ROOM` of them. Contracts see those that were not written yet.
+/// Bytes on their way to a sink, at most `ROOM` of them. Contracts see those that were not written
+/// yet.
 #[derive(Drop)]
 pub struct Outgoing<const ROOM: usize> {
     bytes: ArrayVec<u8, ROOM>,
@@ -82,7 +83,7 @@ impl<const ROOM: usize> Outgoing<ROOM> {
     /// Writes what was gathered, unless there is room for a line behind it.
     pub(crate) fn make_room<W: Sink>(&mut self, writer: &mut W) -> Result<(), RunFault>
         requires { LINE_ROOM ≤ ROOM }
-        ensures output { Gathers W.Sink self.old self.new writer.old writer.new
+        ensures output { Gathers W.Sink (self.old, self.new) writer.old writer.new
             result [] }
         ensures room { OnOk result (length self.new + LINE_ROOM ≤ ROOM) }
         ensures no_flush { W.flushed writer.old ≡ false → W.flushed writer.new ≡ false }
@@ -95,7 +96,7 @@ impl<const ROOM: usize> Outgoing<ROOM> {
 
     /// Adds these bytes. Where there is no room for them, what was gathered is written first.
     pub(crate) fn add<W: Sink>(&mut self, writer: &mut W, bytes: &[u8]) -> Result<(), RunFault>
-        ensures output { Gathers W.Sink self.old self.new writer.old writer.new
+        ensures output { Gathers W.Sink (self.old, self.new) writer.old writer.new
             result bytes.now }
         ensures no_flush { W.flushed writer.old ≡ false → W.flushed writer.new ≡ false }
         ensures waits { OnOk result (bytes.now ≢ [] → Waits self.new (W.flushed writer.new)) }

@@ -1,5 +1,5 @@
-//! What holds of lines as such. Nothing here runs: each function stands for the facts that its contract
-//! states.
+//! What holds of lines as such. Nothing here runs: each function stands for the facts that its
+//! contract states.
 
 ghost use Rattle.std.specs.Prelude.{◌≡◌, ◌≤◌, ◌++◌, ℕ, List, length};
 ghost use Rattle.dgt_values.specs.Equality.{EqualIsSame};
@@ -15,8 +15,8 @@ pub fn equal_is_same()
     ensures failed { EqualIsSame ⟦<Failed as PartialEq>⟧.eq }
 {}
 
-/// The lines of bytes in a row are those of the first ones, and then those of the piece after them. The
-/// message that is unfinished is a part of what came.
+/// The lines of bytes in a row are those of the first ones, and then those of the piece after them.
+/// The message that is unfinished is a part of what came.
 pub fn lines_append()
     ensures lines { (bytes piece : List ℕ) → lines (bytes ++ piece)
         ≡ lines bytes ++ lines_after (open_message bytes) (length bytes) piece }

@@ -1,17 +1,17 @@
 //! Where bytes come from and go to, and the lines that say what a DGT board sends.
 //!
-//! A [`Source`] gives bytes and a [`Sink`] takes them. [`Bytes`] is a source over a slice, and [`Device`]
-//! makes either of a reader or writer of the standard library. Contracts name the bytes that a source gave
-//! and a sink took, where these tell them, also where a call was refused. [`put`] writes all of some bytes,
-//! [`flush`] passes them on, and [`Outgoing`] gathers them for one write. [`RunFault`] is why a run over a
-//! source and a sink stops.
+//! A [`Source`] gives bytes and a [`Sink`] takes them. [`Bytes`] is a source over a slice, and
+//! [`Device`] makes either of a reader or writer of the standard library. Contracts name the bytes
+//! that a source gave and a sink took, where these tell them, also where a call was refused.
+//! [`put`] writes all of some bytes, [`flush`] passes them on, and [`Outgoing`] gathers them for
+//! one write. [`RunFault`] is why a run over a source and a sink stops.
 //!
-//! [`write_event`] writes the line of one event, as `00000005 field e4 P`: how many bytes had come, and
-//! what they say. [`write_lines`] writes the lines of a piece of what a board sends, and [`write_end`] the
-//! one of what is unfinished at the end.
+//! [`write_event`] writes the line of one event, as `00000005 field e4 P`: how many bytes had come,
+//! and what they say. [`write_lines`] writes the lines of a piece of what a board sends, and
+//! [`write_end`] the one of what is unfinished at the end.
 //!
-//! The format of lines is this project's own choice. No call takes memory. [`laws`] says what holds of
-//! lines as such.
+//! The format of lines is this project's own choice. No call takes memory. [`laws`] says what holds
+//! of lines as such.
 #![tactic(auto)]
 
 mod ends;

@@ -2,10 +2,10 @@
 
 ghost use Rattle.std.specs.Prelude.{◌≡◌, ◌+◌, ◌/◌, ◌%◌, ◌<◌, ◌≤◌, ◌++◌, [], ◌∷◌, false, length, IfSome, OnOk};
 ghost use Rattle.hex.specs.Hex.{encode_lower};
-ghost use Rattle.dgt_values.specs.Board.{square_number};
+ghost use Rattle.dgt_values.specs.Square.{square_number};
 ghost use Rattle.dgt_message.specs.Content.Content.{field};
 ghost use Rattle.dgt_decode.specs.Grammar.{Message, message_event};
-ghost use Rattle.dgt_decode.specs.Feeding.{IsWholeMessage, event_content, event_found_in};
+ghost use Rattle.dgt_decode.specs.Feeding.{IsWhole, event_content, found_in};
 ghost use Rattle.dgt_lines.specs.Writing.{Gathers, Writes};
 ghost use Rattle.dgt_lines.specs.Lines.{bytes_text, event_line, line, offset_text, padded_decimal, unfinished_text};
 ghost use Rattle.dgt_lines.specs.Marks.{Waits};
@@ -62,8 +62,8 @@ fn put_bytes<W: Sink, const ROOM: usize>(
     writer: &mut W,
     bytes: &[u8],
 ) -> Result<(), RunFault>
-    ensures output { Gathers W.Sink outgoing.old outgoing.new writer.old
-        writer.new result (bytes_text bytes.now) }
+    ensures output { Gathers W.Sink (outgoing.old, outgoing.new) writer.old writer.new
+        result (bytes_text bytes.now) }
     ensures no_flush { W.flushed writer.old ≡ false → W.flushed writer.new ≡ false }
 {
     if bytes.is_empty() {
@@ -77,8 +77,8 @@ fn put_digits<W: Sink, const ROOM: usize>(
     writer: &mut W,
     bytes: &[u8],
 ) -> Result<(), RunFault>
-    ensures output { Gathers W.Sink outgoing.old outgoing.new writer.old
-        writer.new result (encode_lower bytes.now) }
+    ensures output { Gathers W.Sink (outgoing.old, outgoing.new) writer.old writer.new
+        result (encode_lower bytes.now) }
     ensures no_flush { W.flushed writer.old ≡ false → W.flushed writer.new ≡ false }
 {
     let mut at = 0;
@@ -97,8 +97,8 @@ fn put_part<W: Sink, const ROOM: usize>(
     part: &[u8],
 ) -> Result<(), RunFault>
     requires { length part.now ≤ PART }
-    ensures output { Gathers W.Sink outgoing.old outgoing.new writer.old
-        writer.new result (encode_lower part.now) }
+    ensures output { Gathers W.Sink (outgoing.old, outgoing.new) writer.old writer.new
+        result (encode_lower part.now) }
     ensures no_flush { W.flushed writer.old ≡ false → W.flushed writer.new ≡ false }
 {
     let mut digits = [0; 2 * PART];
@@ -115,8 +115,8 @@ pub(crate) fn put_event<W: Sink, const ROOM: usize>(
     event: &Event<'_>,
 ) -> Result<(), RunFault>
     requires { LINE_ROOM ≤ ROOM }
-    ensures output { Gathers W.Sink outgoing.old outgoing.new writer.old
-        writer.new result (event_line offset (event_content event.now)) }
+    ensures output { Gathers W.Sink (outgoing.old, outgoing.new) writer.old writer.new
+        result (event_line offset (event_content event.now)) }
     ensures no_flush { W.flushed writer.old ≡ false → W.flushed writer.new ≡ false }
     ensures waits { OnOk result (Waits outgoing.new (W.flushed writer.new)) }
 {
@@ -134,7 +134,8 @@ pub(crate) fn put_event<W: Sink, const ROOM: usize>(
     }
 }
 
-/// Gathers the line of what a framer found. `found` is lent, since its copies cost more than the rest.
+/// Gathers the line of what a framer found. `found` is lent, since its copies cost more than the
+/// rest.
 pub(crate) fn put_found<W: Sink, const ROOM: usize>(
     outgoing: &mut Outgoing<ROOM>,
     writer: &mut W,
@@ -143,9 +144,9 @@ pub(crate) fn put_found<W: Sink, const ROOM: usize>(
     found: &Found,
 ) -> Result<(), RunFault>
     requires room { LINE_ROOM ≤ ROOM }
-    requires whole { found.now ≡ Found.Message → IsWholeMessage framer.now }
-    ensures { Gathers W.Sink outgoing.old outgoing.new writer.old writer.new
-        result (event_line offset (event_found_in framer.now found.now)) }
+    requires whole { found.now ≡ Found.Message → IsWhole framer.now }
+    ensures { Gathers W.Sink (outgoing.old, outgoing.new) writer.old writer.new
+        result (event_line offset (found_in framer.now found.now)) }
 {
     match found {
         Found::Message => put_message(outgoing, writer, offset, framer),
@@ -153,8 +154,8 @@ pub(crate) fn put_found<W: Sink, const ROOM: usize>(
     }
 }
 
-// The line of what a framer found, by its event. Not inlined, since room for an event would be cleared for each
-// field too.
+// The line of what a framer found, by its event. Not inlined, since room for an event would be
+// cleared for each field too.
 #[inline(never)]
 fn put_event_of<W: Sink, const ROOM: usize>(
     outgoing: &mut Outgoing<ROOM>,
@@ -164,15 +165,15 @@ fn put_event_of<W: Sink, const ROOM: usize>(
     found: Found,
 ) -> Result<(), RunFault>
     requires room { LINE_ROOM ≤ ROOM }
-    requires whole { found ≡ Found.Message → IsWholeMessage framer.now }
-    ensures { Gathers W.Sink outgoing.old outgoing.new writer.old writer.new
-        result (event_line offset (event_found_in framer.now found)) }
+    requires whole { found ≡ Found.Message → IsWhole framer.now }
+    ensures { Gathers W.Sink (outgoing.old, outgoing.new) writer.old writer.new
+        result (event_line offset (found_in framer.now found)) }
 {
     put_event(outgoing, writer, offset, &framer.event(found))
 }
 
-// The line of a whole message. Most messages are fields, whose lines are formed without an event: that
-// spares copies.
+// The line of a whole message. Most messages are fields, whose lines are formed without an event:
+// that spares copies.
 fn put_message<W: Sink, const ROOM: usize>(
     outgoing: &mut Outgoing<ROOM>,
     writer: &mut W,
@@ -180,8 +181,8 @@ fn put_message<W: Sink, const ROOM: usize>(
     framer: &Framer,
 ) -> Result<(), RunFault>
     requires room { LINE_ROOM ≤ ROOM }
-    requires whole { IsWholeMessage framer.now }
-    ensures { Gathers W.Sink outgoing.old outgoing.new writer.old writer.new
+    requires whole { IsWhole framer.now }
+    ensures { Gathers W.Sink (outgoing.old, outgoing.new) writer.old writer.new
         result (event_line offset (message_event framer.now)) }
 {
     let Some((square, piece)) = field(framer.bytes()) else {
@@ -196,10 +197,11 @@ fn put_message<W: Sink, const ROOM: usize>(
 
 // What a whole message says of one square, if it is a field.
 fn field(bytes: &[u8]) -> Option<(Square, Piece)>
-    requires { IsWholeMessage bytes.now }
+    requires { IsWhole bytes.now }
     ensures { IfSome result (λ told. message_event bytes.now ≡
         Message (field (square_number told.0) told.1)) }
 {
+    dgt_message::laws::reading_is_exact();
     if bytes.len() != 5 || bytes[0] != 0x8e {
         return None;
     }
@@ -228,11 +230,12 @@ pub(crate) fn write_unfinished<W: Sink>(
 
 /// Writes the line of an event, without a flush.
 ///
-/// A line is the offset in decimal, with leading zeros to at least eight digits, a space, what came, and a
-/// line feed, as in `00000005 field e4 P`. The offset is the number of bytes up to and including the one
-/// that made the event. The format is this project's own choice.
+/// A line is the offset in decimal, with leading zeros to at least eight digits, a space, what
+/// came, and a line feed, as in `00000005 field e4 P`. The offset is the number of bytes up to and
+/// including the one that made the event. The format is this project's own choice.
 ///
-/// `WriteFailed` comes where the writer refuses, which then took the front of the line and gets nothing more.
+/// `WriteFailed` comes where the writer refuses, which then took the front of the line and gets
+/// nothing more.
 pub fn write_event<W: Sink>(writer: &mut W, offset: u64, event: &Event<'_>) -> Result<(), RunFault>
     ensures output { Writes W.Sink writer.old writer.new result
         (event_line offset (event_content event.now)) }

@@ -14,10 +14,11 @@ use dgt_decode::{Framer, laws};
 /// Room for the lines of 4,096 bytes of field updates: 820 lines of at most 32 bytes.
 pub const LINES_ROOM: usize = 32768;
 
-/// Writes the lines of a piece that comes after so many bytes, in one write where there is room for them.
+/// Writes the lines of a piece that comes after so many bytes, in one write where there is room for
+/// them.
 ///
-/// `framer` holds what is unfinished of the bytes before. `WriteFailed` comes where the writer refuses,
-/// which then took the front of the lines.
+/// `framer` holds what is unfinished of the bytes before. `WriteFailed` comes where the writer
+/// refuses, which then took the front of the lines.
 pub fn write_lines<W: Sink>(
     framer: &mut Framer,
     outgoing: &mut Outgoing<LINES_ROOM>,

@@ -20,7 +20,8 @@ closing_lines-parts world quiet empty board picture clock all e b p c q =
     q ∙ ap (λ l. l ++ fourth) (c ∙ ap (λ l. l ++ third) (p ∙ ap (λ l. l ++ second) (b ∙ ap (λ l. l ++ first) e)))
 
 -- a text that ends one line and the next
-text-twice : (text : List ℕ) → (text ++ codes "\n") ++ named_line (codes "host") text ≡ text ++ codes "\nhost " ++ text ++ codes "\n"
+text-twice : (text : List ℕ) → (text ++ codes "\n") ++ named_line (codes "host") text ≡ text ++ codes "\nhost " ++ text
+    ++ codes "\n"
 text-twice text =
     append_assoc text (codes "\n") (named_line (codes "host") text)
     ∙ sym (append_assoc text (codes "\nhost ") (text ++ codes "\n"))
@@ -35,6 +36,8 @@ closing_lines-agree world quiet h =
     let third = named_line (codes "hostclock") (clock_text world.host.clock) in
     let fourth = named_line (codes "quiet") (quiet_text quiet) in (
       third ++ fourth,
-      ap (λ picture. named_line (codes "board") placement ++ named_line (codes "host") (picture_text picture) ++ third ++ fourth) h
-          ∙ ap (λ l. codes "board " ++ l) (append_assoc first third fourth ∙ ap (λ l. l ++ (third ++ fourth)) (text-twice placement)),
+      ap (λ picture. named_line (codes "board") placement ++ named_line (codes "host") (picture_text picture) ++ third
+          ++ fourth) h
+          ∙ ap (λ l. codes "board " ++ l)
+          (append_assoc first third fourth ∙ ap (λ l. l ++ (third ++ fourth)) (text-twice placement)),
     )

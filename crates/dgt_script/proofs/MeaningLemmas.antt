@@ -1,31 +1,27 @@
 -- No line of a script has two meanings.
 use Rattle.std.proofs.Common.{◌≡◌, ℕ, List, [], ◌∷◌, Option, Some, None, refl, sym, ◌∙◌, ap, subst, arith, inl, inr, length}
-use Rattle.std.specs.Prelude.{bytes_eq, if◌then◌else◌}
+use Rattle.std.specs.Prelude.{◌↔◌, bytes_eq, if◌then◌else◌}
+use Rattle.dgt_command.specs.Laws.{SpellingsTellCommands}
 use Rattle.dgt_link.specs.Act.{ActContent, Change, ClockRead, Host, BoardSend, ToBoard, ToHost, Break, HostBreak}
 use Rattle.dgt_script.specs.declared.script_words.Verb.{Verb}
 use Rattle.dgt_script.specs.declared.script_words.Verb.TheVariants as verb
 use Rattle.dgt_lines.specs.Lines.{words_text}
-use Rattle.dgt_script.specs.Script.{Asks, GoesWrong, AsksFor, IsBadAt, IsBadFrom, IsOf, WordKind, kinds_after, words}
+use Rattle.dgt_script.specs.Script.{AreOf, Asks, GoesWrong, AsksFor, IsBadAt, IsBadFrom, WordKind, kinds_after, words}
 use Rattle.dgt_script.specs.ScriptWords.{verb_text, IsClockWord, IsCommandWord, IsCountWord, IsPieceWord, IsSquareWord}
-use Rattle.dgt_script.proofs.ScriptWordLemmas.{one_clock, one_command, one_count, one_piece, one_square}
+use Rattle.dgt_script.proofs.ScriptWordLemmas.{IsRead, one_clock, one_command, one_count, one_piece, one_square}
 
 -- ---- Words behind the first one
 
--- the words are of these kinds, one of each
-abbrev AreOf : List WordKind → List (List ℕ) → Type 0
-AreOf [] [] = Unit {0}
-AreOf [] (word ∷ parts) = ⊥
-AreOf (kind ∷ kinds) [] = ⊥
-AreOf (kind ∷ kinds) (word ∷ parts) = IsOf kind word × AreOf kinds parts
-
-allowed_not_wrong : (kinds : List WordKind) (parts bad : List (List ℕ)) → AreOf kinds parts → GoesWrong kinds parts bad → ⊥
+allowed_not_wrong : (kinds : List WordKind) (parts bad : List (List ℕ)) → AreOf kinds parts → GoesWrong kinds parts bad
+    → ⊥
 allowed_not_wrong [] [] bad f g = g
 allowed_not_wrong [] (word ∷ parts) bad f g = f
 allowed_not_wrong (kind ∷ kinds) [] bad f g = f
 allowed_not_wrong (kind ∷ kinds) (word ∷ parts) bad f (inl g) = g.0 f.0
 allowed_not_wrong (kind ∷ kinds) (word ∷ parts) bad f (inr g) = allowed_not_wrong kinds parts bad f.1 g.1
 
-one_wrong : (kinds : List WordKind) (parts a b : List (List ℕ)) → GoesWrong kinds parts a → GoesWrong kinds parts b → a ≡ b
+one_wrong : (kinds : List WordKind) (parts a b : List (List ℕ)) → GoesWrong kinds parts a → GoesWrong kinds parts b
+    → a ≡ b
 one_wrong [] [] a b g h = absurd g
 one_wrong [] (word ∷ parts) a b g h = g ∙ sym h
 one_wrong (kind ∷ kinds) [] a b g h = g ∙ sym h
@@ -60,9 +56,11 @@ verb_named-verb_text verb.HostBreak = refl
 
 -- a word is one verb at most
 one_verb : (a b : Verb) → verb_text a ≡ verb_text b → a ≡ b
-one_verb a b h = let e : Some a ≡ Some b = sym (verb_named-verb_text a) ∙ ap verb_named h ∙ verb_named-verb_text b in cc e
+one_verb a b h = let e : Some a ≡ Some b = sym (verb_named-verb_text a) ∙ ap verb_named h ∙ verb_named-verb_text b in
+    cc e
 
-one_first : (a b : Verb) (rest later : List (List ℕ)) → verb_text a ∷ rest ≡ verb_text b ∷ later → (a ≡ b) × (rest ≡ later)
+one_first : (a b : Verb) (rest later : List (List ℕ)) → verb_text a ∷ rest ≡ verb_text b ∷ later → (a ≡ b)
+    × (rest ≡ later)
 one_first a b rest later h = (one_verb a b cc, cc)
 
 -- the first word of a line that asks for the act
@@ -76,7 +74,8 @@ verb_of (ToHost count) = verb.ToHost
 verb_of Break = verb.Break
 verb_of HostBreak = verb.HostBreak
 
-asks_in_order : (parts : List (List ℕ)) (act : ActContent) → Asks parts act → (rest : List (List ℕ)) × (parts ≡ verb_text (verb_of act) ∷ rest) × AreOf (kinds_after (verb_of act)) rest
+asks_in_order : (parts : List (List ℕ)) (act : ActContent) → Asks parts act → (rest : List (List ℕ))
+    × (parts ≡ verb_text (verb_of act) ∷ rest) × AreOf (kinds_after (verb_of act)) rest
 asks_in_order parts (Change square piece) h = (h.0 ∷ h.1 ∷ [], h.2, ((square, h.3), ((piece, h.4), tt)))
 asks_in_order parts (ClockRead clock) h = (h.0 ∷ [], h.1, ((clock, h.2), tt))
 asks_in_order parts (Host command) h = (h.0 ∷ [], h.1, ((command, h.2), tt))
@@ -86,45 +85,93 @@ asks_in_order parts (ToHost count) h = (h.0 ∷ [], h.1, ((count, h.2), tt))
 asks_in_order parts Break h = ([], h, tt)
 asks_in_order parts HostBreak h = ([], h, tt)
 
+-- an act for each list of words of the right kinds
+kinds_ask : (named : Verb) (rest : List (List ℕ)) → AreOf (kinds_after named) rest → (act : ActContent)
+    × Asks (verb_text named ∷ rest) act
+kinds_ask verb.Change (first ∷ second ∷ []) h = (Change h.0.0 h.1.0.0, (first, second, refl, h.0.1, h.1.0.1))
+kinds_ask verb.Clock (word ∷ []) h = (ClockRead h.0.0, (word, refl, h.0.1))
+kinds_ask verb.Host (word ∷ []) h = (Host h.0.0, (word, refl, h.0.1))
+kinds_ask verb.Send [] h = (BoardSend, refl)
+kinds_ask verb.ToBoard (word ∷ []) h = (ToBoard h.0.0, (word, refl, h.0.1))
+kinds_ask verb.ToHost (word ∷ []) h = (ToHost h.0.0, (word, refl, h.0.1))
+kinds_ask verb.Break [] h = (Break, refl)
+kinds_ask verb.HostBreak [] h = (HostBreak, refl)
+kinds_ask verb.Change [] h = absurd h
+kinds_ask verb.Change (first ∷ []) h = absurd h.1
+kinds_ask verb.Change (first ∷ second ∷ third ∷ rest) h = absurd h.1.1
+kinds_ask verb.Clock [] h = absurd h
+kinds_ask verb.Clock (word ∷ next ∷ rest) h = absurd h.1
+kinds_ask verb.Host [] h = absurd h
+kinds_ask verb.Host (word ∷ next ∷ rest) h = absurd h.1
+kinds_ask verb.Send (word ∷ rest) h = absurd h
+kinds_ask verb.ToBoard [] h = absurd h
+kinds_ask verb.ToBoard (word ∷ next ∷ rest) h = absurd h.1
+kinds_ask verb.ToHost [] h = absurd h
+kinds_ask verb.ToHost (word ∷ next ∷ rest) h = absurd h.1
+kinds_ask verb.Break (word ∷ rest) h = absurd h
+kinds_ask verb.HostBreak (word ∷ rest) h = absurd h
+
+asked_kinds : (named : Verb) (rest : List (List ℕ)) (act : ActContent) → Asks (verb_text named ∷ rest) act
+    → AreOf (kinds_after named) rest
+asked_kinds named rest act h =
+    let p = asks_in_order (verb_text named ∷ rest) act h in
+    let same = one_first named (verb_of act) rest p.0 p.1 in
+    subst (λ v. AreOf (kinds_after v) rest) (sym same.0)
+    (subst (λ l. AreOf (kinds_after (verb_of act)) l) (sym same.1) p.2)
+
+-- the words behind a verb ask for an act exactly where they are of the kinds that follow it
+pub kinds_are_asked_for : (named : Verb) (rest : List (List ℕ))
+    → AreOf (kinds_after named) rest ↔ ((act : ActContent) × Asks (verb_text named ∷ rest) act)
+kinds_are_asked_for named rest = (kinds_ask named rest, λ h. asked_kinds named rest h.0 h.1)
+
 -- ---- Lines
 
 -- behind one first word, one word
 same_word : (parts : List (List ℕ)) (first a b : List ℕ) → parts ≡ first ∷ a ∷ [] → parts ≡ first ∷ b ∷ [] → a ≡ b
 same_word parts first a b h k = let both : first ∷ a ∷ [] ≡ first ∷ b ∷ [] = sym h ∙ k in cc both
 
-same_first : (parts : List (List ℕ)) (a b : ActContent) → verb_of a ≡ verb_of b → Asks parts a → Asks parts b → a ≡ b
-same_first parts (Change s p) (Change t q) e h k =
+same_first : IsRead → SpellingsTellCommands → (parts : List (List ℕ)) (a b : ActContent) → verb_of a ≡ verb_of b
+    → Asks parts a → Asks parts b → a ≡ b
+same_first exact tells parts (Change s p) (Change t q) e h k =
     let both : verb_text verb.Change ∷ h.0 ∷ h.1 ∷ [] ≡ verb_text verb.Change ∷ k.0 ∷ k.1 ∷ [] = sym h.2 ∙ k.2 in
     let first : h.0 ≡ k.0 = cc both in
     let second : h.1 ≡ k.1 = cc both in
     let square : s ≡ t = one_square k.0 s t (subst (λ w. IsSquareWord w s) first h.3) k.3 in
     let piece : p ≡ q = one_piece k.1 p q (subst (λ w. IsPieceWord w p) second h.4) k.4 in
     cc (square, piece)
-same_first parts (ClockRead s) (ClockRead t) e h k =
-    ap ClockRead (one_clock k.0 s t (subst (λ w. IsClockWord w s) (same_word parts (verb_text verb.Clock) h.0 k.0 h.1 k.1) h.2) k.2)
-same_first parts (Host s) (Host t) e h k =
-    ap Host (one_command k.0 s t (subst (λ w. IsCommandWord w s) (same_word parts (verb_text verb.Host) h.0 k.0 h.1 k.1) h.2) k.2)
-same_first parts BoardSend BoardSend e h k = refl
-same_first parts (ToBoard s) (ToBoard t) e h k =
-    ap ToBoard (one_count k.0 s t (subst (λ w. IsCountWord w s) (same_word parts (verb_text verb.ToBoard) h.0 k.0 h.1 k.1) h.2) k.2)
-same_first parts (ToHost s) (ToHost t) e h k =
-    ap ToHost (one_count k.0 s t (subst (λ w. IsCountWord w s) (same_word parts (verb_text verb.ToHost) h.0 k.0 h.1 k.1) h.2) k.2)
-same_first parts Break Break e h k = refl
-same_first parts HostBreak HostBreak e h k = refl
-same_first parts a b e h k = cc e
+same_first exact tells parts (ClockRead s) (ClockRead t) e h k =
+    ap ClockRead
+    (one_clock exact k.0 s t
+    (subst (λ w. IsClockWord w s) (same_word parts (verb_text verb.Clock) h.0 k.0 h.1 k.1) h.2) k.2)
+same_first exact tells parts (Host s) (Host t) e h k =
+    ap Host (one_command tells k.0 s t
+    (subst (λ w. IsCommandWord w s) (same_word parts (verb_text verb.Host) h.0 k.0 h.1 k.1) h.2) k.2)
+same_first exact tells parts BoardSend BoardSend e h k = refl
+same_first exact tells parts (ToBoard s) (ToBoard t) e h k =
+    ap ToBoard
+    (one_count k.0 s t
+    (subst (λ w. IsCountWord w s) (same_word parts (verb_text verb.ToBoard) h.0 k.0 h.1 k.1) h.2) k.2)
+same_first exact tells parts (ToHost s) (ToHost t) e h k =
+    ap ToHost (one_count k.0 s t
+    (subst (λ w. IsCountWord w s) (same_word parts (verb_text verb.ToHost) h.0 k.0 h.1 k.1) h.2) k.2)
+same_first exact tells parts Break Break e h k = refl
+same_first exact tells parts HostBreak HostBreak e h k = refl
+same_first exact tells parts a b e h k = cc e
 
-pub one_act : (line : List ℕ) (a b : ActContent) → AsksFor line a → AsksFor line b → a ≡ b
-one_act line a b h k =
+pub one_act : IsRead → SpellingsTellCommands → (line : List ℕ) (a b : ActContent) → AsksFor line a → AsksFor line b
+    → a ≡ b
+one_act exact tells line a b h k =
     let p = asks_in_order (words line) a h.1 in
     let q = asks_in_order (words line) b k.1 in
-    same_first (words line) a b (one_first (verb_of a) (verb_of b) p.0 q.0 (sym p.1 ∙ q.1)).0 h.1 k.1
+    same_first exact tells (words line) a b (one_first (verb_of a) (verb_of b) p.0 q.0 (sym p.1 ∙ q.1)).0 h.1 k.1
 
 asks_not_bad : (parts bad : List (List ℕ)) (act : ActContent) → Asks parts act → IsBadFrom parts bad → ⊥
 asks_not_bad parts bad act h (inl g) = let p = asks_in_order parts act h in g.0 (verb_of act) p.0 p.1
 asks_not_bad parts bad act h (inr g) =
     let p = asks_in_order parts act h in
     let same = one_first (verb_of act) g.0 p.0 g.1 (sym p.1 ∙ g.2) in
-    allowed_not_wrong (kinds_after g.0) g.1 bad (subst (λ rest. AreOf (kinds_after g.0) rest) same.1 (subst (λ v. AreOf (kinds_after v) p.0) same.0 p.2)) g.3
+    allowed_not_wrong (kinds_after g.0) g.1 bad
+    (subst (λ rest. AreOf (kinds_after g.0) rest) same.1 (subst (λ v. AreOf (kinds_after v) p.0) same.0 p.2)) g.3
 
 pub asked_not_bad : (line : List ℕ) (act : ActContent) (at : ℕ) → AsksFor line act → IsBadAt line at → ⊥
 asked_not_bad line act at h (inl g) = absurd (omega (arith, h.0))
@@ -136,7 +183,9 @@ one_bad_from parts a b (inl g) (inr h) = absurd (g.0 h.0 h.1 h.2)
 one_bad_from parts a b (inr g) (inl h) = absurd (h.0 g.0 g.1 g.2)
 one_bad_from parts a b (inr g) (inr h) =
     let same = one_first g.0 h.0 g.1 h.1 (sym g.2 ∙ h.2) in
-    one_wrong (kinds_after h.0) h.1 a b (subst (λ rest. GoesWrong (kinds_after h.0) rest a) same.1 (subst (λ v. GoesWrong (kinds_after v) g.1 a) same.0 g.3)) h.3
+    one_wrong (kinds_after h.0) h.1 a b
+    (subst (λ rest. GoesWrong (kinds_after h.0) rest a) same.1
+    (subst (λ v. GoesWrong (kinds_after v) g.1 a) same.0 g.3)) h.3
 
 pub one_place : (line : List ℕ) (a b : ℕ) → IsBadAt line a → IsBadAt line b → a ≡ b
 one_place line a b (inl g) (inl h) = g.1 ∙ sym h.1

@@ -22,16 +22,19 @@ words_text-words line = join_with_byte-slice_split 32 line
 pub length-words : (line : List ℕ) → length (words_text (words line)) ≡ length line
 length-words line = ap length (words_text-words line)
 
-pub length-left_words : (rest : Option (Bor (List ℕ))) (bytes : Bor (List ℕ)) → rest ≡ Some bytes → length bytes.now ≡ length (words_text (left_words rest))
+pub length-left_words : (rest : Option (Bor (List ℕ))) (bytes : Bor (List ℕ)) → rest ≡ Some bytes
+    → length bytes.now ≡ length (words_text (left_words rest))
 length-left_words None bytes h = absurd cc
-length-left_words (Some other) bytes h = let same : bytes.now ≡ other.now = cc in ap length same ∙ sym (length-words other.now)
+length-left_words (Some other) bytes h = let same : bytes.now ≡ other.now = cc in
+    ap length same ∙ sym (length-words other.now)
 
 -- a word where none should be
 one_too_many : (parts : List (List ℕ)) → 0 < length parts → GoesWrong [] parts parts
 one_too_many [] h = absurd (omega arith)
 one_too_many (word ∷ parts) h = refl
 
-pub word_left : (rest : Option (Bor (List ℕ))) (bytes : Bor (List ℕ)) (wrong : Wrong) → rest ≡ Some bytes → wrong.left ≡ length bytes.now → GoesWrongBefore [] (left_words rest) wrong
+pub word_left : (rest : Option (Bor (List ℕ))) (bytes : Bor (List ℕ)) (wrong : Wrong) → rest ≡ Some bytes
+    → wrong.left ≡ length bytes.now → GoesWrongBefore [] (left_words rest) wrong
 word_left None bytes wrong h e = absurd cc
 word_left (Some other) bytes wrong h e =
     let same : bytes.now ≡ other.now = cc in
@@ -40,11 +43,13 @@ word_left (Some other) bytes wrong h e =
 
 -- ---- What is left where words go wrong
 
-words_text-tail : (word : List ℕ) (parts : List (List ℕ)) → length (words_text parts) ≤ length (words_text (word ∷ parts))
+words_text-tail : (word : List ℕ) (parts : List (List ℕ))
+    → length (words_text parts) ≤ length (words_text (word ∷ parts))
 words_text-tail word [] = omega arith
 words_text-tail word (next ∷ parts) = omega (arith, length-append word (32 ∷ words_text (next ∷ parts)))
 
-goes_wrong_within : (kinds : List WordKind) (parts bad : List (List ℕ)) → GoesWrong kinds parts bad → length (words_text bad) ≤ length (words_text parts)
+goes_wrong_within : (kinds : List WordKind) (parts bad : List (List ℕ)) → GoesWrong kinds parts bad
+    → length (words_text bad) ≤ length (words_text parts)
 goes_wrong_within [] [] bad h = absurd h
 goes_wrong_within [] (word ∷ parts) bad h = let e = ap (λ l. length (words_text l)) h in omega arith
 goes_wrong_within (kind ∷ kinds) [] bad h = let e = ap (λ l. length (words_text l)) h in omega arith
@@ -65,27 +70,33 @@ bad_within parts bad (inr h) =
 -- ---- The first word
 
 -- a list that is cut before the first space, or not at all
-words_cut : (line : List ℕ) (end : ℕ) (rest : Option (Bor (List ℕ))) → position_or_len (λ byte. byte == 32) line ≡ end → end ≤ length line
+words_cut : (line : List ℕ) (end : ℕ) (rest : Option (Bor (List ℕ))) → position_or_len (λ byte. byte == 32) line ≡ end
+    → end ≤ length line
     → IsGetRangeResult line (end + 1) (length line) rest → words line ≡ take end line ∷ left_words rest
 words_cut line end None e within get =
     let whole : length line ≤ end = elim get.0 [ inl h ↦ omega arith | inr h ↦ absurd (omega arith) ] in
-    let none : All (λ byte. (byte == 32) ≡ false) line = λ k d h. fails_before_first (λ byte. byte == 32) line k d (omega arith) in
+    let none : All (λ byte. (byte == 32) ≡ false) line = λ k d h. fails_before_first (λ byte. byte == 32) line k d
+    (omega arith) in
     slice_split_none (λ byte. byte == 32) line none ∙ ap (λ l. l ∷ []) (sym (take_all end line whole))
 words_cut line end (Some bytes) e within get =
     let room : end < length line = omega arith in
     let sum : end + 1 + (length line - (end + 1)) ≡ length line = omega arith in
-    let later : bytes.now ≡ drop (end + 1) line = get.0.2 ∙ take_all (length line - (end + 1)) (drop (end + 1) line) (omega (arith, length-drop (end + 1) line)) in
+    let later : bytes.now ≡ drop (end + 1) line = get.0.2 ∙ take_all (length line - (end + 1)) (drop (end + 1) line)
+    (omega (arith, length-drop (end + 1) line)) in
     slice_split_first (λ byte. byte == 32) line 0 (omega arith)
     ∙ ap (λ n. take n line ∷ words (drop (n + 1) line)) e
     ∙ ap (λ l. take end line ∷ words l) (sym later)
 
-pub first_word : (line : List ℕ) (end : ℕ) (rest : Option (Bor (List ℕ))) → end ≤ length line → All (λ byte. byte ≢ 32) (take end line) → (end < length line → slice_index line end ≡ 32)
+pub first_word : (line : List ℕ) (end : ℕ) (rest : Option (Bor (List ℕ))) → end ≤ length line
+    → All (λ byte. byte ≢ 32) (take end line) → (end < length line → slice_index line end ≡ 32)
     → IsGetRangeResult line (end + 1) (length line) rest → words line ≡ take end line ∷ left_words rest
 first_word line end rest within before space get =
     words_cut line end rest (position_or_len_is (λ byte. byte == 32) line end 0 within no_space a_space) within get
   where
     no_space : (k : ℕ) → k < end → (get_or line k 0 == 32) ≡ false
-    no_space k h = let other = before k 0 (omega (arith, length-take-le end line within)) in let e = get_or-take end line k 0 h in elim (eqb_tells (get_or line k 0) 32) [ inl same ↦ absurd (other (e ∙ same.1)) | inr ne ↦ ne.0 ]
+    no_space k h = let other = before k 0 (omega (arith, length-take-le end line within)) in
+        let e = get_or-take end line k 0 h in
+        elim (eqb_tells (get_or line k 0) 32) [ inl same ↦ absurd (other (e ∙ same.1)) | inr ne ↦ ne.0 ]
 
     a_space : end < length line → (get_or line end 0 == 32) ≡ true
     a_space h = ap (λ byte. byte == 32) (space h)
@@ -93,7 +104,8 @@ first_word line end rest within before space get =
 -- ---- Where a reader stops
 
 -- a word of another kind
-pub word_refused : (kind : WordKind) (kinds : List WordKind) (parts rest : List (List ℕ)) (word : List ℕ) (wrong : Wrong) → parts ≡ word ∷ rest → ¬ (IsOf kind word)
+pub word_refused : (kind : WordKind) (kinds : List WordKind) (parts rest : List (List ℕ)) (word : List ℕ)
+    (wrong : Wrong) → parts ≡ word ∷ rest → ¬ (IsOf kind word)
     → wrong.left ≡ length (words_text parts) → GoesWrongBefore (kind ∷ kinds) parts wrong
 word_refused kind kinds [] rest word wrong e refused k = absurd cc
 word_refused kind kinds (first ∷ parts) rest word wrong e refused k =
@@ -101,12 +113,17 @@ word_refused kind kinds (first ∷ parts) rest word wrong e refused k =
     (first ∷ parts, inl (λ of. refused (subst (λ w. IsOf kind w) same of), refl), k)
 
 -- a first word that is not allowed
-pub verb_refused : (parts rest : List (List ℕ)) (first : List ℕ) → parts ≡ first ∷ rest → ((verb : Verb) → first ≢ verb_text verb) → IsBadFrom parts parts
+pub verb_refused : (parts rest : List (List ℕ)) (first : List ℕ) → parts ≡ first ∷ rest
+    → ((verb : Verb) → first ≢ verb_text verb) → IsBadFrom parts parts
 verb_refused parts rest first e refused =
     inl (λ verb later h. refused verb (let both : first ∷ rest ≡ verb_text verb ∷ later = sym e ∙ h in cc both), refl)
 
-pub left_within : (line : List ℕ) (left : ℕ) → (bad : List (List ℕ)) × IsBadFrom (words line) bad × (left ≡ length (words_text bad)) → left ≤ length line
-left_within line left h = let within = bad_within (words line) h.0 h.1 in let whole = length-words line in let e = h.2 in omega arith
+pub left_within : (line : List ℕ) (left : ℕ) → (bad : List (List ℕ)) × IsBadFrom (words line) bad
+    × (left ≡ length (words_text bad)) → left ≤ length line
+left_within line left h = let within = bad_within (words line) h.0 h.1 in let whole = length-words line in
+    let e = h.2 in omega arith
 
-pub bad_from_there : (line : List ℕ) (left : ℕ) → length line ≤ 519 → (bad : List (List ℕ)) × IsBadFrom (words line) bad × (left ≡ length (words_text bad)) → IsBadAt line (length line - left)
-bad_from_there line left short h = let within = left_within line left h in let e = h.2 in inr (short, h.0, h.1, omega arith)
+pub bad_from_there : (line : List ℕ) (left : ℕ) → length line ≤ 519 → (bad : List (List ℕ))
+    × IsBadFrom (words line) bad × (left ≡ length (words_text bad)) → IsBadAt line (length line - left)
+bad_from_there line left short h = let within = left_within line left h in let e = h.2 in
+    inr (short, h.0, h.1, omega arith)

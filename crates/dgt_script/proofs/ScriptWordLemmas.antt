@@ -6,42 +6,46 @@ use Rattle.std.proofs.lemmas.Str.Ascii.{IsAscii-cons, IsAscii-nil}
 use Rattle.std.proofs.lemmas.Str.Parse.{IsNumeralModel, digit_at, numerals_by_value, parse_plain, tells_digits}
 use Rattle.std.proofs.lemmas.List.Elements.{All-append, All-from_recursion}
 use Rattle.std.specs.List.{AllByRecursion}
-use Rattle.std.specs.Prelude.{All, MatchOption, MatchResult, decimal, if◌then◌else◌, ◌==◌, slice_index}
+use Rattle.std.specs.Prelude.{◌↔◌, All, MatchOption, MatchResult, decimal, if◌then◌else◌, ◌==◌, slice_index}
 use Rattle.std.specs.Result.{result_ok}
 use Rattle.std.specs.Str.{IsUtf8}
 use Rattle.std.specs.Str.Parse.{AllDigits, ParsesUnsigned, digits_value}
 use Rattle.hex.specs.Hex.{decode_sized}
 use Rattle.hex.proofs.HexLemmas.{decode_of-ok, decode_of-same, decode_sized-ok, decode_sized-twice}
-use Rattle.dgt_values.specs.declared.refusals.BodyError.{BodyError}
-use Rattle.dgt_values.specs.declared.refusals.BodyError.TheVariants.{Length, Byte}
+use Rattle.dgt_values.specs.declared.bodies.BodyError.{BodyError}
+use Rattle.dgt_values.specs.declared.bodies.BodyError.TheVariants.{TooMuch, NotSevenBit}
 use Rattle.dgt_values.specs.declared.pieces.Piece.{Piece}
 use Rattle.dgt_values.specs.declared.pieces.Piece.TheVariants.{Empty, WhitePawn, WhiteRook, WhiteKnight, WhiteBishop, WhiteKing, WhiteQueen, BlackPawn, BlackRook, BlackKnight, BlackBishop, BlackKing, BlackQueen, FirstExtra, SecondExtra, ThirdExtra}
-use Rattle.dgt_values.specs.Bytes.{Refuses}
-use Rattle.dgt_values.specs.Board.{piece_letter, square_name}
-use Rattle.dgt_message.specs.declared.viewing.BodyFault.{BodyFault}
+use Rattle.dgt_values.specs.Body.{Refuses}
+use Rattle.dgt_values.specs.Piece.{piece_letter}
+use Rattle.dgt_values.specs.Square.{square_name}
+use Rattle.dgt_message.specs.declared.bodies.BodyFault.{BodyFault}
 use Rattle.dgt_message.specs.declared.clock.Clock.{Clock}
 use Rattle.dgt_message.specs.declared.known.KnownCode.{KnownCode}
-use Rattle.dgt_message.specs.Clock.{AreTimes, Times as BothTimes, ClockState}
-use Rattle.dgt_message.specs.Content.{clock_message, clock_seen, Content}
+use Rattle.dgt_message.specs.Clock.{AreTimes, Times as BothTimes}
+use Rattle.dgt_message.specs.ClockState.{ClockState, clock_message, clock_seen}
 use Rattle.dgt_message.specs.Code.{known_number}
-use Rattle.dgt_message.specs.Reading.{IsFaultOf}
+use Rattle.dgt_message.specs.Content.{Content, IsCarried}
+use Rattle.dgt_message.specs.Fault.{IsFaultOf}
+use Rattle.dgt_message.specs.Reading.{reading}
 use Rattle.dgt_message.specs.Spelling.{Fits, times_bytes}
-use Rattle.dgt_message.proofs.AtMostOne.{not_both, one_message}
 use Rattle.dgt_command.specs.Content.{CommandContent, Read}
-use Rattle.dgt_command.specs.Spelling.{command_in, SpellsCommand}
-use Rattle.dgt_command.proofs.ReaderLemmas.{words_are_short}
-use Rattle.dgt_command.proofs.TellingLemmas.{spells_its_command}
+use Rattle.dgt_command.specs.Laws.{SpellingsTellCommands, WordsAreShort}
+use Rattle.dgt_command.specs.Telling.{command_in}
+use Rattle.dgt_command.specs.Words.{Spells}
 use Rattle.dgt_script.specs.ScriptWords.{IsClockWord, IsCommandWord, IsCountWord, IsHexOf, IsPieceWord, IsSquareWord, Tells}
 
 -- ---- What a call answers
 
 -- an answer with no value is an error
-pub error_of : {T E : Type 0} (P : T → Type 0) (Q : E → Type 0) (r : Result T E) → false ≡ is_ok r → MatchResult r P Q → (e : E) × Q e
+pub error_of : {T E : Type 0} (P : T → Type 0) (Q : E → Type 0) (r : Result T E) → false ≡ is_ok r → MatchResult r P Q
+    → (e : E) × Q e
 error_of P Q (Ok x) h m = cc h
 error_of P Q (Err e) h m = (e, m)
 
 -- what holds of the value of an answer that has one
-pub value_of : {T E : Type 0} (P : T → Type 0) (Q : E → Type 0) (r : Result T E) (x : T) → Some x ≡ result_ok r → MatchResult r P Q → P x
+pub value_of : {T E : Type 0} (P : T → Type 0) (Q : E → Type 0) (r : Result T E) (x : T) → Some x ≡ result_ok r
+    → MatchResult r P Q → P x
 value_of P Q (Ok y) x h m = let e : x ≡ y = cc h in rw e m
 value_of P Q (Err e) x h m = cc h
 
@@ -60,7 +64,8 @@ not_ok r x e h = absurd (let clash : false ≡ true = rw e at h in cc clash)
 pub square_is_text : (word : List ℕ) (square : ℕ) → IsSquareWord word square → IsUtf8 word
 square_is_text word square h =
     rw h.1 (IsUtf8-from_ascii (square_name square)
-    (IsAscii-cons (97 + square % 8) ((56 - square / 8) ∷ []) (omega arith) (IsAscii-cons (56 - square / 8) [] (omega arith) IsAscii-nil)))
+    (IsAscii-cons (97 + square % 8) ((56 - square / 8) ∷ []) (omega arith)
+    (IsAscii-cons (56 - square / 8) [] (omega arith) IsAscii-nil)))
 
 -- a word tells one square at most
 pub one_square : (word : List ℕ) (a b : ℕ) → IsSquareWord word a → IsSquareWord word b → a ≡ b
@@ -111,7 +116,8 @@ piece_of-piece_letter ThirdExtra = refl
 
 -- a word tells one piece at most
 pub one_piece : (word : List ℕ) (a b : Piece) → IsPieceWord word a → IsPieceWord word b → a ≡ b
-one_piece word a b h k = sym (piece_of-piece_letter a) ∙ ap (λ w. piece_of (slice_index w 0)) (sym h ∙ k) ∙ piece_of-piece_letter b
+one_piece word a b h k = sym (piece_of-piece_letter a) ∙ ap (λ w. piece_of (slice_index w 0))
+    (sym h ∙ k) ∙ piece_of-piece_letter b
 
 -- ---- Hexadecimal digits
 
@@ -120,7 +126,8 @@ pub sized_hex : (word : List ℕ) (n : ℕ) (bytes : List ℕ) → decode_sized 
 sized_hex word n bytes h = sym (decode_sized-twice word n (decode_sized-ok word n bytes h)) ∙ h
 
 -- the digits of so many bytes are decoded into room of that size
-pub hex_sized : (word : List ℕ) (n : ℕ) (bytes : List ℕ) → IsHexOf word bytes → length bytes ≡ n → decode_sized word n ≡ Ok bytes
+pub hex_sized : (word : List ℕ) (n : ℕ) (bytes : List ℕ) → IsHexOf word bytes → length bytes ≡ n
+    → decode_sized word n ≡ Ok bytes
 hex_sized word n bytes h e = decode_sized-twice word n (omega (arith, (decode_of-ok word bytes h).2)) ∙ h
 
 -- ---- Clocks
@@ -134,68 +141,127 @@ same_clock (ClockState.no_clock a) (ClockState.times b) h = cc h
 
 -- the bytes of times are seven-bit
 times_small : (t : BothTimes) → AreTimes t → AllByRecursion (λ byte. byte < 128) (times_bytes t)
-times_small t h =
-    (omega (arith, h.0), (omega (arith, h.0), (omega (arith, h.0), (omega (arith, h.1), (omega (arith, h.1), (omega (arith, h.1), (h.2, tt)))))))
+times_small t h = (
+  omega (arith, h.0),
+  (
+    omega (arith, h.0),
+    (omega (arith, h.0), (omega (arith, h.1), (omega (arith, h.1), (omega (arith, h.1), (h.2, tt))))),
+  ),
+)
 
 -- the bytes of a clock are seven
-pub length-clock : (clock : ClockState) (body : List ℕ) → Fits (clock_message clock) (known_number KnownCode.Clock) body → length body ≡ 7
+pub length-clock : (clock : ClockState) (body : List ℕ)
+    → Fits (clock_message clock) (known_number KnownCode.Clock) body → length body ≡ 7
 length-clock (ClockState.times readings) body h = rw h.spelled refl
-length-clock (ClockState.no_clock absence) body h = rw h.spelled (omega (arith, h.is_message.0, length-append absence.raw (absence.status ∷ [])))
+length-clock (ClockState.no_clock absence) body h =
+    rw h.spelled (omega (arith, h.is_message.0, length-append absence.raw (absence.status ∷ [])))
 
 -- each byte of a clock is below 128
-pub clock_is_seven_bit : (clock : ClockState) (body : List ℕ) → Fits (clock_message clock) (known_number KnownCode.Clock) body → All (λ byte. byte < 128) body
-clock_is_seven_bit (ClockState.times readings) body h = rw h.spelled (All-from_recursion (λ byte. byte < 128) (times_bytes readings) (times_small readings h.is_message))
+pub clock_is_seven_bit : (clock : ClockState) (body : List ℕ)
+    → Fits (clock_message clock) (known_number KnownCode.Clock) body → All (λ byte. byte < 128) body
+clock_is_seven_bit (ClockState.times readings) body h =
+    rw h.spelled (All-from_recursion (λ byte. byte < 128) (times_bytes readings) (times_small readings h.is_message))
 clock_is_seven_bit (ClockState.no_clock absence) body h =
-    rw h.spelled (All-append (λ byte. byte < 128) absence.raw (absence.status ∷ []) h.is_message.1 (All-from_recursion (λ byte. byte < 128) (absence.status ∷ []) (h.is_message.3, tt)))
+    rw h.spelled
+    (All-append (λ byte. byte < 128) absence.raw (absence.status ∷ []) h.is_message.1
+    (All-from_recursion (λ byte. byte < 128) (absence.status ∷ []) (h.is_message.3, tt)))
+
+-- a message that fits a code and a body is their reading
+abbrev pub IsRead : Type 0
+IsRead = (code : ℕ) (body : List ℕ) (said : Content) → code < 128 → IsCarried body
+    → (reading code body ≡ Ok said) ↔ Fits said code body
+
+-- and so is a fault
+abbrev pub IsRefused : Type 0
+IsRefused = (code : ℕ) (body : List ℕ) (why : BodyFault) → code < 128 → IsCarried body
+    → (reading code body ≡ Err why) ↔ IsFaultOf code body why
+
+-- the reading of a clock's bytes
+clock_read : IsRead → (clock : ClockState) (body : List ℕ)
+    → Fits (clock_message clock) (known_number KnownCode.Clock) body
+    → IsCarried body × (reading (known_number KnownCode.Clock) body ≡ Ok (clock_message clock))
+clock_read exact clock body h =
+    let carried : IsCarried body = (omega (arith, length-clock clock body h), clock_is_seven_bit clock body h) in
+    (carried, (exact (known_number KnownCode.Clock) body (clock_message clock) (omega arith) carried).1 h)
+
+-- no other message fits them
+one_message : IsRead → (clock : ClockState) (said : Content) (body : List ℕ)
+    → Fits (clock_message clock) (known_number KnownCode.Clock) body
+    → Fits said (known_number KnownCode.Clock) body → clock_message clock ≡ said
+one_message exact clock said body h k =
+    let read = clock_read exact clock body h in
+    let both : Ok (clock_message clock) ≡ Ok said =
+    sym read.1 ∙ (exact (known_number KnownCode.Clock) body said (omega arith) read.0).1 k in
+    cc both
 
 -- the word of a clock is decoded into room for seven bytes
 pub clock_decoded : (word : List ℕ) (clock : ClockState) (h : IsClockWord word clock) → decode_sized word 7 ≡ Ok h.body
 clock_decoded word clock h = hex_sized word 7 h.body h.digits (length-clock clock h.body h.fits)
 
 -- what the word of a clock is decoded to is the body of that clock
-pub clock_fits : (word bytes : List ℕ) (clock : ClockState) → decode_sized word 7 ≡ Ok bytes → IsClockWord word clock → Fits (clock_message clock) (known_number KnownCode.Clock) bytes
+pub clock_fits : (word bytes : List ℕ) (clock : ClockState) → decode_sized word 7 ≡ Ok bytes → IsClockWord word clock
+    → Fits (clock_message clock) (known_number KnownCode.Clock) bytes
 clock_fits word bytes clock e h =
     let same : h.body ≡ bytes = decode_of-same word h.body bytes h.digits (sized_hex word 7 bytes e) in
     rw same at h.fits
 
 -- what the word of a clock is decoded to is no body that is refused
-pub clock_not_refused : (word bytes : List ℕ) (clock : ClockState) (why : BodyError) → decode_sized word 7 ≡ Ok bytes → IsClockWord word clock → Refuses bytes why → ⊥
-clock_not_refused word bytes clock (Length _) e h r = omega (arith, length-clock clock bytes (clock_fits word bytes clock e h))
-clock_not_refused word bytes clock (Byte _) e h r =
+pub clock_not_refused : (word bytes : List ℕ) (clock : ClockState) (why : BodyError) → decode_sized word 7 ≡ Ok bytes
+    → IsClockWord word clock → Refuses bytes why → ⊥
+clock_not_refused word bytes clock TooMuch e h r =
+    omega (arith, length-clock clock bytes (clock_fits word bytes clock e h))
+clock_not_refused word bytes clock NotSevenBit e h r =
     let high = r.1 in
-    let small : high.1 < 128 = rw high.3 at (clock_is_seven_bit clock bytes (clock_fits word bytes clock e h) high.0 high.1 high.2) in
+    let small : high.1 < 128 =
+    rw high.3 at (clock_is_seven_bit clock bytes (clock_fits word bytes clock e h) high.0 high.1 high.2) in
     omega (arith, high.4)
 
 -- what the word of a clock is decoded to has no fault
-pub clock_not_faulty : (word bytes : List ℕ) (clock : ClockState) (why : BodyFault) → decode_sized word 7 ≡ Ok bytes → IsClockWord word clock → IsFaultOf (known_number KnownCode.Clock) bytes why → ⊥
-clock_not_faulty word bytes clock why e h r = not_both _ bytes (clock_message clock) why (clock_fits word bytes clock e h) r
+pub clock_not_faulty : IsRead → IsRefused → (word bytes : List ℕ) (clock : ClockState) (why : BodyFault)
+    → decode_sized word 7 ≡ Ok bytes → IsClockWord word clock → IsFaultOf (known_number KnownCode.Clock) bytes why → ⊥
+clock_not_faulty exact refused word bytes clock why e h r =
+    let read = clock_read exact clock bytes (clock_fits word bytes clock e h) in
+    let both : Ok (clock_message clock) ≡ Err why =
+    sym read.1 ∙ (refused (known_number KnownCode.Clock) bytes why (omega arith) read.0).1 r in
+    cc both
 
 -- what a message of these bytes tells of the clock is what the word tells
-pub clock_told : (word bytes : List ℕ) (said : Content) (r : Option Clock) → decode_sized word 7 ≡ Ok bytes → Fits said (known_number KnownCode.Clock) bytes
+pub clock_told : IsRead → (word bytes : List ℕ) (said : Content) (r : Option Clock) → decode_sized word 7 ≡ Ok bytes
+    → Fits said (known_number KnownCode.Clock) bytes
     → MatchOption r ((clock : ClockState) → ¬ (Tells said clock)) (λ clock. Tells said (clock_seen clock))
     → MatchOption r ((clock : ClockState) → ¬ (IsClockWord word clock)) (λ clock. IsClockWord word (clock_seen clock))
-clock_told word bytes said None e f m = λ clock h. m clock (one_message _ bytes (clock_message clock) said (clock_fits word bytes clock e h) f)
-clock_told word bytes said (Some clock) e f m = record { body = bytes; digits = sized_hex word 7 bytes e; fits = rw m f }
+clock_told exact word bytes said None e f m =
+    λ clock h. m clock (one_message exact clock said bytes (clock_fits word bytes clock e h) f)
+clock_told exact word bytes said (Some clock) e f m =
+    record { body = bytes; digits = sized_hex word 7 bytes e; fits = rw m f }
 
 -- a word tells one clock at most
-pub one_clock : (word : List ℕ) (a b : ClockState) → IsClockWord word a → IsClockWord word b → a ≡ b
-one_clock word a b h k =
-    same_clock a b (one_message _ h.body (clock_message a) (clock_message b) h.fits (rw (decode_of-same word k.body h.body k.digits h.digits) at k.fits))
+pub one_clock : IsRead → (word : List ℕ) (a b : ClockState) → IsClockWord word a → IsClockWord word b → a ≡ b
+one_clock exact word a b h k =
+    same_clock a b
+    (one_message exact a (clock_message b) h.body h.fits
+    (rw (decode_of-same word k.body h.body k.digits h.digits) at k.fits))
 
 -- ---- Commands
 
 -- the bytes of a command are no more than 257
-pub length-command : (command : CommandContent) (bytes : List ℕ) → SpellsCommand command bytes → length bytes ≤ 257
-length-command command bytes h = (words_are_short (Read command) bytes (record { form = h.spelled; are_bytes = h.are_bytes })).1
+pub length-command : WordsAreShort → (command : CommandContent) (bytes : List ℕ) → Spells command bytes
+    → length bytes ≤ 257
+length-command short command bytes h =
+    (short (Read command) bytes (record { form = (h.is_command, h.spelled); are_bytes = h.are_bytes })).1
 
 -- a word of more than twice 257 digits is no command
-pub command_has_room : (word : List ℕ) (command : CommandContent) → IsCommandWord word command → length word / 2 ≤ 257
-command_has_room word command h = omega (arith, (decode_of-ok word h.bytes h.digits).2, length-command command h.bytes h.spells)
+pub command_has_room : WordsAreShort → (word : List ℕ) (command : CommandContent) → IsCommandWord word command
+    → length word / 2 ≤ 257
+command_has_room short word command h =
+    omega (arith, (decode_of-ok word h.bytes h.digits).2, length-command short command h.bytes h.spells)
 
 -- a word tells one command at most
-pub one_command : (word : List ℕ) (a b : CommandContent) → IsCommandWord word a → IsCommandWord word b → a ≡ b
-one_command word a b h k =
-    sym (spells_its_command a h.bytes h.spells) ∙ ap command_in (decode_of-same word h.bytes k.bytes h.digits k.digits) ∙ spells_its_command b k.bytes k.spells
+pub one_command : SpellingsTellCommands → (word : List ℕ) (a b : CommandContent) → IsCommandWord word a
+    → IsCommandWord word b → a ≡ b
+one_command tells word a b h k =
+    sym (tells a h.bytes h.spells) ∙ ap command_in (decode_of-same word h.bytes k.bytes h.digits k.digits) ∙ tells b
+    k.bytes k.spells
 
 -- ---- Counts
 
@@ -212,14 +278,16 @@ numerals : IsNumeralModel (AllDigits 10) (digits_value 10)
 numerals = numerals_by_value (AllDigits 10) tells_digits
 
 -- the first digit of a count is one of 1 to 9
-pub count_first : (word : List ℕ) (n : ℕ) → IsCountWord word n → (0 < length word) × (48 < get_or word 0 0) × (get_or word 0 0 ≤ 57)
+pub count_first : (word : List ℕ) (n : ℕ) → IsCountWord word n → (0 < length word) × (48 < get_or word 0 0)
+    × (get_or word 0 0 ≤ 57)
 count_first word n h =
     let some = decimal_nonempty n (omega arith) in
     let digit = digit_at (decimal n) 0 (digits_decimal numerals n (omega arith)) some in
     rw h.2 (some, first_decimal n (omega arith) (omega arith), digit.1)
 
 -- a count is parsed
-pub count_parsed : {E : Type 0} (word : List ℕ) (n : ℕ) (r : Result ℕ E) → IsCountWord word n → ParsesUnsigned 16 10 word r → r ≡ Ok n
+pub count_parsed : {E : Type 0} (word : List ℕ) (n : ℕ) (r : Result ℕ E) → IsCountWord word n
+    → ParsesUnsigned 16 10 word r → r ≡ Ok n
 count_parsed word n r h p = parse-decimal 16 n word r (omega arith) (omega arith) h.2 p
 
 -- a number that is written with a first digit above 0 is at least 1
@@ -228,10 +296,12 @@ not_zero word zero first e = absurd (omega (arith, ap (λ w. get_or w 0 0) (sym 
 not_zero word n first e = omega arith
 
 -- what is parsed is a count where its first byte is above the digit 0
-pub parsed_count : {E : Type 0} (word : List ℕ) (n : ℕ) (r : Result ℕ E) → ParsesUnsigned 16 10 word r → r ≡ Ok n → 48 < get_or word 0 0 → IsCountWord word n
+pub parsed_count : {E : Type 0} (word : List ℕ) (n : ℕ) (r : Result ℕ E) → ParsesUnsigned 16 10 word r → r ≡ Ok n
+    → 48 < get_or word 0 0 → IsCountWord word n
 parsed_count {E} word n r h e first =
     let same : ParsesUnsigned {E = E} 16 10 word (Ok n) = rw e at h in
     let parsed = parse_plain numerals {E = E} 16 word (Ok n) same (λ plus. omega arith) in
-    let spelled : decimal (digits_value 10 word) ≡ word = decimal-digits_value numerals word parsed.0.0 parsed.0.1 (λ none. absurd (omega arith)) (omega (arith, parsed.0.2)) in
+    let spelled : decimal (digits_value 10 word) ≡ word = decimal-digits_value numerals word parsed.0.0 parsed.0.1
+    (λ none. absurd (omega arith)) (omega (arith, parsed.0.2)) in
     let written : decimal n ≡ word = ap decimal parsed.1 ∙ spelled in
     (not_zero word n first written, omega (arith, parsed.0.2, parsed.1), sym written)

@@ -1,5 +1,5 @@
 -- The lines of a script, and the acts that they ask for.
-use Rattle.std.specs.Prelude.{◌≡◌, ◌≢◌, ℕ, ◌+◌, ◌<◌, ◌≤◌, ◌==◌, ◌⊎◌, List, [], ◌∷◌, length}
+use Rattle.std.specs.Prelude.{◌≡◌, ◌≢◌, ℕ, ◌+◌, ◌<◌, ◌≤◌, ◌==◌, ◌⊎◌, ⊤, List, [], ◌∷◌, length}
 use Rattle.std.specs.List.{slice_split}
 use Rattle.dgt_values.specs.declared.pieces.Piece.{Piece}
 use Rattle.dgt_message.specs.Clock.{ClockState}
@@ -21,12 +21,17 @@ words line = slice_split (λ byte. byte == 32) line
 -- these words ask for this act
 abbrev pub Asks : List (List ℕ) → ActContent → Type 0
 Asks parts (Change square piece) =
-    (first : List ℕ) × (second : List ℕ) × (parts ≡ verb_text verb.Change ∷ first ∷ second ∷ []) × IsSquareWord first square × IsPieceWord second piece
-Asks parts (ClockRead clock) = (word : List ℕ) × (parts ≡ verb_text verb.Clock ∷ word ∷ []) × IsClockWord word clock
-Asks parts (Host command) = (word : List ℕ) × (parts ≡ verb_text verb.Host ∷ word ∷ []) × IsCommandWord word command
+    (first : List ℕ) × (second : List ℕ) × (parts ≡ verb_text verb.Change ∷ first ∷ second ∷ [])
+    × IsSquareWord first square × IsPieceWord second piece
+Asks parts (ClockRead clock) = (word : List ℕ) × (parts ≡ verb_text verb.Clock ∷ word ∷ [])
+    × IsClockWord word clock
+Asks parts (Host command) = (word : List ℕ) × (parts ≡ verb_text verb.Host ∷ word ∷ [])
+    × IsCommandWord word command
 Asks parts BoardSend = parts ≡ verb_text verb.Send ∷ []
-Asks parts (ToBoard count) = (word : List ℕ) × (parts ≡ verb_text verb.ToBoard ∷ word ∷ []) × IsCountWord word count
-Asks parts (ToHost count) = (word : List ℕ) × (parts ≡ verb_text verb.ToHost ∷ word ∷ []) × IsCountWord word count
+Asks parts (ToBoard count) = (word : List ℕ) × (parts ≡ verb_text verb.ToBoard ∷ word ∷ [])
+    × IsCountWord word count
+Asks parts (ToHost count) = (word : List ℕ) × (parts ≡ verb_text verb.ToHost ∷ word ∷ [])
+    × IsCountWord word count
 Asks parts Break = parts ≡ verb_text verb.Break ∷ []
 Asks parts HostBreak = parts ≡ verb_text verb.HostBreak ∷ []
 
@@ -63,25 +68,37 @@ kinds_after verb.ToHost = a_count ∷ []
 kinds_after verb.Break = []
 kinds_after verb.HostBreak = []
 
--- words that should be of these kinds go wrong where `bad` begins: at the first that is of another kind or one too
+-- the words are of these kinds, one of each
+abbrev pub AreOf : List WordKind → List (List ℕ) → Type 0
+AreOf [] [] = ⊤
+AreOf [] (word ∷ parts) = ⊥
+AreOf (kind ∷ kinds) [] = ⊥
+AreOf (kind ∷ kinds) (word ∷ parts) = IsOf kind word × AreOf kinds parts
+
+-- words that should be of these kinds go wrong where `bad` begins: at the first that is of another
+-- kind or one too
 -- many, or behind the last, where one is missing
 abbrev pub GoesWrong : List WordKind → List (List ℕ) → List (List ℕ) → Type 0
 GoesWrong [] [] bad = ⊥
 GoesWrong [] (word ∷ parts) bad = bad ≡ word ∷ parts
 GoesWrong (kind ∷ kinds) [] bad = bad ≡ []
-GoesWrong (kind ∷ kinds) (word ∷ parts) bad = ((¬ IsOf kind word) × (bad ≡ word ∷ parts)) ⊎ (IsOf kind word × GoesWrong kinds parts bad)
+GoesWrong (kind ∷ kinds) (word ∷ parts) bad = ((¬ IsOf kind word) × (bad ≡ word ∷ parts))
+    ⊎ (IsOf kind word × GoesWrong kinds parts bad)
 
--- the words of a line go wrong where `bad` begins: at the first, or behind a first one that is allowed
+-- the words of a line go wrong where `bad` begins: at the first, or behind a first one that is
+-- allowed
 abbrev pub IsBadFrom : List (List ℕ) → List (List ℕ) → Type 0
 IsBadFrom parts bad =
     (((verb : Verb) (rest : List (List ℕ)) → parts ≢ verb_text verb ∷ rest) × (bad ≡ parts))
-    ⊎ ((verb : Verb) × (rest : List (List ℕ)) × (parts ≡ verb_text verb ∷ rest) × GoesWrong (kinds_after verb) rest bad)
+    ⊎ ((verb : Verb) × (rest : List (List ℕ)) × (parts ≡ verb_text verb ∷ rest)
+    × GoesWrong (kinds_after verb) rest bad)
 
 -- this line asks for no act, and goes wrong at this offset, behind which the bad words stand
 abbrev pub IsBadAt : List ℕ → ℕ → Type 0
 IsBadAt line at =
     ((519 < length line) × (at ≡ 519))
-    ⊎ ((length line ≤ 519) × (bad : List (List ℕ)) × IsBadFrom (words line) bad × (at + length (words_text bad) ≡ length line))
+    ⊎ ((length line ≤ 519) × (bad : List (List ℕ)) × IsBadFrom (words line) bad
+    × (at + length (words_text bad) ≡ length line))
 
 -- the offset that is told
 abbrev pub bad_offset : LineFault → ℕ

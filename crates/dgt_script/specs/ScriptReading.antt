@@ -16,19 +16,24 @@ left_words (Some bytes) = words bytes.now
 
 -- words that should be of these kinds go wrong where so many bytes are left
 abbrev pub GoesWrongBefore : List WordKind → List (List ℕ) → Wrong → Type 0
-GoesWrongBefore kinds parts wrong = (bad : List (List ℕ)) × GoesWrong kinds parts bad × (wrong.left ≡ length (words_text bad))
+GoesWrongBefore kinds parts wrong = (bad : List (List ℕ)) × GoesWrong kinds parts bad
+    × (wrong.left ≡ length (words_text bad))
 
 -- the answer to the words behind the first one
 abbrev pub Reads : Verb → List (List ℕ) → Result Act Wrong → Type 0
 Reads verb parts answer =
-    MatchResult answer (λ act. Asks (verb_text verb ∷ parts) (act_content act)) (λ wrong. GoesWrongBefore (kinds_after verb) parts wrong)
+    MatchResult answer (λ act. Asks (verb_text verb ∷ parts) (act_content act))
+    (λ wrong. GoesWrongBefore (kinds_after verb) parts wrong)
 
 -- the answer to words that should be one count
 abbrev pub ReadsCount : List (List ℕ) → Result ℕ Wrong → Type 0
 ReadsCount parts answer =
-    MatchResult answer (λ count. (word : List ℕ) × (parts ≡ word ∷ []) × IsCountWord word count) (λ wrong. GoesWrongBefore (a_count ∷ []) parts wrong)
+    MatchResult answer (λ count. (word : List ℕ) × (parts ≡ word ∷ []) × IsCountWord word count)
+    (λ wrong. GoesWrongBefore (a_count ∷ []) parts wrong)
 
 -- the answer to all words of a line
 abbrev pub ReadsLine : List (List ℕ) → Result Act Wrong → Type 0
 ReadsLine parts answer =
-    MatchResult answer (λ act. Asks parts (act_content act)) (λ wrong. (bad : List (List ℕ)) × IsBadFrom parts bad × (wrong.left ≡ length (words_text bad)))
+    MatchResult answer (λ act. Asks parts (act_content act))
+    (λ wrong. (bad : List (List ℕ)) × IsBadFrom parts bad
+    × (wrong.left ≡ length (words_text bad)))

@@ -81,8 +81,9 @@ fn push_quiet(text: &mut Outgoing<CLOSING_ROOM>, quiet: bool)
     text.push(if quiet { b"quiet yes\n" } else { b"quiet no\n" });
 }
 
-/// Writes the four closing lines of a world, without a flush: the board's position, the host's picture, what
-/// the host knows of the clock, and whether all is quiet. `WriteFailed` comes where the writer refuses.
+/// Writes the four closing lines of a world, without a flush: the board's position, the host's
+/// picture, what the host knows of the clock, and whether all is quiet. `WriteFailed` comes where
+/// the writer refuses.
 pub fn write_closing<W: Sink>(world: &World, writer: &mut W) -> Result<(), RunFault>
     ensures { (quiet : Bool) × (IsTrue quiet ↔ IsQuietWorld world.now)
         × Writes W.Sink writer.old writer.new result (closing_lines world.now quiet) }

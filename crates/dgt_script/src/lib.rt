@@ -1,13 +1,13 @@
 //! The lines of a script for a simulated DGT board, and the lines that say what came of it.
 //!
-//! [`read_act`] reads a line of a script, as `change e4 P`: what it asks a world to do. [`LineBuffer`] keeps
-//! a line that comes in pieces, and [`len_before`] finds where it ends.
+//! [`read_act`] reads a line of a script, as `change e4 P`: what it asks a world to do.
+//! [`LineBuffer`] keeps a line that comes in pieces, and [`len_before`] finds where it ends.
 //!
-//! [`outcome_text`] is the line of what came of an act, and [`write_closing`] writes four lines of how a
-//! world is left.
+//! [`outcome_text`] is the line of what came of an act, and [`write_closing`] writes four lines of
+//! how a world is left.
 //!
-//! The formats are this project's own choice. No call takes memory. [`laws`] says what holds of lines as
-//! such.
+//! The formats are this project's own choice. No call takes memory. [`laws`] says what holds of
+//! lines as such.
 #![tactic(auto)]
 
 mod closing;

@@ -18,8 +18,9 @@ use thiserror::Error;
 /// Why a line of a script asks for no act.
 #[derive(Clone, Copy, Debug, PartialEq, Eq, Error)]
 pub enum LineFault {
-    /// Byte `at` begins the first word that is not allowed in its place or is one too many; or a word is missing,
-    /// and `at` is the length of the line; or the line has more than 519 bytes, and `at` is 519.
+    /// Byte `at` begins the first word that is not allowed in its place or is one too many; or a
+    /// word is missing, and `at` is the length of the line; or the line has more than 519 bytes,
+    /// and `at` is 519.
     #[error("bad at {at}")]
     BadLine { at: usize },
 }
@@ -30,15 +31,15 @@ struct Wrong {
     left: usize,
 }
 
-/// Reads a line of a script, without its line feed: what it asks a world to do. The bytes of a command are put in
-/// `store`, which may hold any bytes after a refusal.
+/// Reads a line of a script, without its line feed: what it asks a world to do. The bytes of a
+/// command are put in `store`, which may hold any bytes after a refusal.
 ///
 /// The words of a line are its parts between single spaces. A line is one of
 ///
 /// | Line | Act |
 /// |---|---|
-/// | `change SQUARE LETTER` | `Change`: a square as `e4`, and the letter of a piece, or `.` for none |
-/// | `clock HEX` | `ClockRead`: fourteen hexadecimal digits, the seven bytes of a clock's times, or of no clock |
+/// | `change SQUARE LETTER` | `Change`: a square as `e4`, and a piece's letter, or `.` for none |
+/// | `clock HEX` | `ClockRead`: fourteen hexadecimal digits, the bytes of times, or of no clock |
 /// | `host HEX` | `Host`: 2 to 514 hexadecimal digits, the bytes of exactly one command |
 /// | `send` | `BoardSend` |
 /// | `toboard N` | `ToBoard`: 1 to 65535, in decimal with no leading zero |
@@ -46,7 +47,8 @@ struct Wrong {
 /// | `break` | `Break` |
 /// | `hostbreak` | `HostBreak` |
 ///
-/// Hexadecimal digits may be of either case. Any other line, and one of more than 519 bytes, is `BadLine`.
+/// Hexadecimal digits may be of either case. Any other line, and one of more than 519 bytes, is
+/// `BadLine`.
 pub fn read_act<'a>(line: &[u8], store: &'a mut [u8; 257]) -> Result<Act<'a>, LineFault>
     ensures asked { IfOk result (λ act. AsksFor line.now (act_content act)) }
     ensures bad { IfErr result (λ fault. IsBadAt line.now (bad_offset fault)) }

@@ -28,7 +28,8 @@ impl LineBuffer {
 
     /// Adds bytes to the line. Those for which there is no room aren't kept.
     pub fn add(&mut self, piece: &[u8])
-        ensures { (line : List ℕ) → KeepsLine self.old line → KeepsLine self.new (line ++ piece.now) }
+        ensures { (line : List ℕ) → KeepsLine self.old line →
+            KeepsLine self.new (line ++ piece.now) }
     {
         let room = self.bytes.remaining_capacity();
         self.is_long = self.is_long || piece.len() > room;

@@ -29,7 +29,9 @@ pub(crate) enum Verb {
 
 /// What a first word begins.
 pub(crate) fn verb_word(word: &[u8]) -> Option<Verb>
-    ensures { MatchOption result ((verb : Verb) → word.now ≢ verb_text verb) (λ verb. word.now ≡ verb_text verb) }
+    ensures { MatchOption result
+        ((verb : Verb) → word.now ≢ verb_text verb)
+        (λ verb. word.now ≡ verb_text verb) }
 {
     match word {
         b"change" => Some(Verb::Change),
@@ -55,7 +57,9 @@ pub(crate) fn square_word(word: &[u8]) -> Option<Square>
 
 /// The piece of a letter.
 pub(crate) fn piece_word(word: &[u8]) -> Option<Piece>
-    ensures { MatchOption result ((piece : Piece) → ¬ (IsPieceWord word.now piece)) (IsPieceWord word.now) }
+    ensures { MatchOption result
+        ((piece : Piece) → ¬ (IsPieceWord word.now piece))
+        (IsPieceWord word.now) }
 {
     let [letter] = word else {
         return None;
@@ -63,13 +67,14 @@ pub(crate) fn piece_word(word: &[u8]) -> Option<Piece>
     Piece::from_letter(char::from(*letter)).ok()
 }
 
-/// The clock that fourteen hexadecimal digits of either case tell of: the seven bytes of the body of a message of the
-/// times, or of one that no clock is connected.
+/// The clock that fourteen hexadecimal digits of either case tell of: the seven bytes of the body
+/// of a message of the times, or of one that no clock is connected.
 pub(crate) fn clock_word(word: &[u8]) -> Option<Clock>
     ensures { MatchOption result
         ((clock : ClockState) → ¬ (IsClockWord word.now clock))
         (λ clock. IsClockWord word.now (clock_seen clock)) }
 {
+    dgt_message::laws::reading_is_exact();
     let bytes = <[u8; 7] as FromHex>::from_hex(word).ok()?;
     let code = SevenBit::try_from(KnownCode::Clock.number()).unwrap();
     clock_of(view(code, Body::new(&bytes).ok()?).ok()?)
@@ -88,13 +93,15 @@ fn clock_of(message: Message<'_>) -> Option<Clock>
     }
 }
 
-/// The command whose bytes are these hexadecimal digits of either case, two for each byte. The bytes are put at the
-/// front of `store`, which has room for those of any command, and the command lends what it carries from there.
+/// The command whose bytes are these hexadecimal digits of either case, two for each byte. The
+/// bytes are put at the front of `store`, which has room for those of any command, and the command
+/// lends what it carries from there.
 pub(crate) fn command_word<'a>(word: &[u8], store: &'a mut [u8; 257]) -> Option<Command<'a>>
     ensures { MatchOption result
         ((command : CommandContent) → ¬ (IsCommandWord word.now command))
         (λ command. IsCommandWord word.now (command_content command)) }
 {
+    dgt_command::laws::words_are_short();
     let bytes = store.get_mut(..word.len() / 2)?;
     hex::decode_to_slice(word, bytes).ok()?;
     view_command(bytes)
@@ -102,7 +109,9 @@ pub(crate) fn command_word<'a>(word: &[u8], store: &'a mut [u8; 257]) -> Option<
 
 /// A count from 1 to 65535 in decimal, with no leading zero.
 pub(crate) fn count_word(word: &[u8]) -> Option<usize>
-    ensures { MatchOption result ((count : ℕ) → ¬ (IsCountWord word.now count)) (IsCountWord word.now) }
+    ensures { MatchOption result
+        ((count : ℕ) → ¬ (IsCountWord word.now count))
+        (IsCountWord word.now) }
 {
     let first = *word.first()?;
     if first == b'0' || !first.is_ascii_digit() {

@@ -1,44 +1,84 @@
 -- Conversations of a board.
-use Rattle.std.proofs.Common.{◌≡◌, ℕ, ◌<◌, ◌≤◌, suc, zero, List, [], ◌∷◌, ◌++◌, Option, Some, None, refl, sym, ◌∙◌, ap, subst, length, arith, append_assoc, append-nil}
+use Rattle.std.proofs.Common.{◌≡◌, ℕ, ◌<◌, ◌≤◌, suc, zero, List, [], ◌∷◌, ◌++◌, Option, Some, None, refl, sym, ◌∙◌, ap, subst, length, arith, append_assoc, append-nil, rules}
 use Rattle.std.proofs.Math.ListN.{length-set}
 use Rattle.dgt_message.specs.Content.{Content}
 use Rattle.dgt_message.specs.Spelling.{spelling}
-use Rattle.dgt_command.specs.Content.{EventContent}
+use Rattle.dgt_command.specs.Content.{CommandContent, EventContent}
 use Rattle.dgt_command.specs.Laws.{DivisionsAppend, EachDividesOnce}
-use Rattle.dgt_command.specs.Words.{IsWord, IsPartial, Divides}
-use Rattle.dgt_command.proofs.DivisionLemmas.{nothing_is_partial, not_both, bytes_append, bytes_left}
-use Rattle.dgt_command.proofs.WordLemmas.{same_word}
-use Rattle.dgt_board.specs.State.{BoardState, effect}
+use Rattle.dgt_command.specs.Words.{AreBytes, IsWord, IsPartial, Divides}
+use Rattle.dgt_board.specs.State.{BoardState}
+use Rattle.dgt_board.specs.Effect.{effect}
 use Rattle.dgt_board.specs.Sending.{after_sending, left_to_send, next_message, piece_on, told_squares_after}
 use Rattle.dgt_board.specs.View.{BoardView, after_bytes}
-use Rattle.dgt_text.specs.Conversation.{Step, told, heard, Converses, events_heard, bytes_told, Hears, HearsFront, EachIsAnswered, EachIsAnsweredOnce, EachFrontGoesOn}
+use Rattle.dgt_text.specs.Conversation.{Exchange, told, heard, Converses, events_heard, bytes_told, Hears, HearsFront, EachIsAnswered, EachIsAnsweredOnce, EachFrontGoesOn}
+
+-- ---- bytes, and parts of words
+
+bytes_append : (xs ys : List ℕ) → AreBytes xs → AreBytes ys → AreBytes (xs ++ ys)
+bytes_append [] ys h k i = k i
+bytes_append (x ∷ xs) ys h k zero = h 0
+bytes_append (x ∷ xs) ys h k (suc i) = bytes_append xs ys (λ j. h (suc j)) k i
+
+bytes_left : (xs ys : List ℕ) → AreBytes (xs ++ ys) → AreBytes xs
+bytes_left [] ys h i = omega arith
+bytes_left (x ∷ xs) ys h zero = h 0
+bytes_left (x ∷ xs) ys h (suc i) = bytes_left xs ys (λ j. h (suc j)) i
+
+bytes_right : (xs ys : List ℕ) → AreBytes (xs ++ ys) → AreBytes ys
+bytes_right [] ys h i = h i
+bytes_right (x ∷ xs) ys h i = bytes_right xs ys (λ j. h (suc j)) i
+
+partial_bytes : (rest : List ℕ) → IsPartial rest → AreBytes rest
+partial_bytes rest h = bytes_left rest (h.next ∷ h.more) h.word.are_bytes
+
+nothing_is_partial : IsPartial []
+nothing_is_partial = record {
+  event = EventContent.Read CommandContent.Dump;
+  next = 0x42;
+  more = [];
+  word = record { form = (tt, refl); are_bytes = search rules };
+}
+
+-- what divides is bytes, and leaves a part of a word
+divided_bytes : (bytes : List ℕ) (events : List EventContent) (rest : List ℕ) → Divides bytes events rest
+    → AreBytes bytes × IsPartial rest
+divided_bytes bytes [] rest h = (subst AreBytes (sym h.0) (partial_bytes rest h.1), h.1)
+divided_bytes bytes (event ∷ events) rest h =
+    let later = divided_bytes h.1 events rest h.4 in
+    (subst AreBytes (sym h.3) (bytes_append h.0 h.1 h.2.are_bytes later.0), later.1)
 
 -- ---- steps in a row
 
-pub converses-append : (b : BoardState) (s t : List Step) (c d : BoardState) → Converses b s c → Converses c t d → Converses b (s ++ t) d
+pub converses-append : (b : BoardState) (s t : List Exchange) (c d : BoardState) → Converses b s c → Converses c t d
+    → Converses b (s ++ t) d
 converses-append b [] t c d p q = subst (λ x. Converses x t d) (sym p) q
 converses-append b (told message ∷ s) t c d p q = (p.0, converses-append (after_sending b message) s t c d p.1 q)
 converses-append b (heard event ∷ s) t c d p q = (p.0, converses-append (effect b event) s t c d p.1 q)
 
-pub events_heard-append : (s t : List Step) → events_heard (s ++ t) ≡ events_heard s ++ events_heard t
+pub events_heard-append : (s t : List Exchange) → events_heard (s ++ t) ≡ events_heard s ++ events_heard t
 events_heard-append [] t = refl
 events_heard-append (told message ∷ s) t = events_heard-append s t
 events_heard-append (heard event ∷ s) t = ap (λ (l : List EventContent). event ∷ l) (events_heard-append s t)
 
-pub bytes_told-append : (s t : List Step) → bytes_told (s ++ t) ≡ bytes_told s ++ bytes_told t
+pub bytes_told-append : (s t : List Exchange) → bytes_told (s ++ t) ≡ bytes_told s ++ bytes_told t
 bytes_told-append [] t = refl
-bytes_told-append (told message ∷ s) t = ap (λ (l : List ℕ). spelling message ++ l) (bytes_told-append s t) ∙ sym (append_assoc (spelling message) (bytes_told s) (bytes_told t))
+bytes_told-append (told message ∷ s) t =
+    ap (λ (l : List ℕ). spelling message ++ l)
+    (bytes_told-append s t) ∙ sym (append_assoc (spelling message) (bytes_told s) (bytes_told t))
 bytes_told-append (heard event ∷ s) t = bytes_told-append s t
 
-pub hears_then : DivisionsAppend → (old mid new : BoardView) (s t : List ℕ) (steps more : List Step) → Hears old s steps mid → Hears mid t more new → Hears old (s ++ t) (steps ++ more) new
+pub hears_then : DivisionsAppend → (old mid new : BoardView) (s t : List ℕ) (steps more : List Exchange)
+    → Hears old s steps mid → Hears mid t more new → Hears old (s ++ t) (steps ++ more) new
 hears_then append old mid new s t steps more p q =
     record {
       conversation = converses-append old.state steps more mid.state new.state p.conversation q.conversation;
       heard = rw (events_heard-append steps more, ← append_assoc old.partial s t)
-          (append (old.partial ++ s) t (events_heard steps) (events_heard more) mid.partial new.partial p.heard q.heard);
+          (append (old.partial ++ s) t (events_heard steps) (events_heard more) mid.partial new.partial p.heard
+          q.heard);
     }
 
-pub front_then : DivisionsAppend → (old mid new : BoardView) (s t : List ℕ) (steps more : List Step) → Hears old s steps mid → HearsFront mid t more new → HearsFront old (s ++ t) (steps ++ more) new
+pub front_then : DivisionsAppend → (old mid new : BoardView) (s t : List ℕ) (steps more : List Exchange)
+    → Hears old s steps mid → HearsFront mid t more new → HearsFront old (s ++ t) (steps ++ more) new
 front_then append old mid new s t steps more p q =
     record {
       front = s ++ q.front;
@@ -47,7 +87,8 @@ front_then append old mid new s t steps more p q =
       hears = hears_then append old mid new s q.front steps more p q.hears;
     }
 
-pub front_longer : (old new : BoardView) (s t : List ℕ) (steps : List Step) → HearsFront old s steps new → HearsFront old (s ++ t) steps new
+pub front_longer : (old new : BoardView) (s t : List ℕ) (steps : List Exchange) → HearsFront old s steps new
+    → HearsFront old (s ++ t) steps new
 front_longer old new s t steps p =
     record {
       front = p.front;
@@ -56,23 +97,29 @@ front_longer old new s t steps p =
       hears = p.hears;
     }
 
-pub front_whole : (old new : BoardView) (s : List ℕ) (steps : List Step) → Hears old s steps new → HearsFront old s steps new
+pub front_whole : (old new : BoardView) (s : List ℕ) (steps : List Exchange) → Hears old s steps new
+    → HearsFront old s steps new
 front_whole old new s steps p = record { front = s; rest = []; whole = sym (append-nil s); hears = p }
 
 -- ---- one step
 
 -- a message is told
-pub converses-told : (old mid new : BoardState) (steps : List Step) (message : Content) → Converses old steps mid → next_message mid ≡ Some message → new ≡ after_sending mid message
+pub converses-told : (old mid new : BoardState) (steps : List Exchange) (message : Content) → Converses old steps mid
+    → next_message mid ≡ Some message → new ≡ after_sending mid message
     → Converses old (steps ++ told message ∷ []) new
-converses-told old mid new steps message p next is = converses-append old steps (told message ∷ []) mid new p (next, sym is)
+converses-told old mid new steps message p next is = converses-append old steps (told message ∷ []) mid new p
+    (next, sym is)
 
 -- messages alone hear nothing
-pub hears_nothing : (old new : BoardView) (steps : List Step) → Converses old.state steps new.state → events_heard steps ≡ [] → new.partial ≡ old.partial → IsPartial new.partial
+pub hears_nothing : (old new : BoardView) (steps : List Exchange) → Converses old.state steps new.state
+    → events_heard steps ≡ [] → new.partial ≡ old.partial → IsPartial new.partial
     → Hears old [] steps new
-hears_nothing old new steps p none is partial = record { conversation = p; heard = rw none (append-nil old.partial ∙ sym is, partial) }
+hears_nothing old new steps p none is partial =
+    record { conversation = p; heard = rw none (append-nil old.partial ∙ sym is, partial) }
 
 -- bytes that end a word
-pub hears_word : (old new : BoardView) (bytes : List ℕ) (event : EventContent) → next_message old.state ≡ None → IsWord event (old.partial ++ bytes) → new ≡ after_bytes old bytes (Some event)
+pub hears_word : (old new : BoardView) (bytes : List ℕ) (event : EventContent) → next_message old.state ≡ None
+    → IsWord event (old.partial ++ bytes) → new ≡ after_bytes old bytes (Some event)
     → Hears old bytes (heard event ∷ []) new
 hears_word old new bytes event none word is =
     rw is (record {
@@ -81,7 +128,8 @@ hears_word old new bytes event none word is =
     })
 
 -- bytes that end none
-pub hears_part : (old new : BoardView) (bytes : List ℕ) → IsPartial (old.partial ++ bytes) → new ≡ after_bytes old bytes None → Hears old bytes [] new
+pub hears_part : (old new : BoardView) (bytes : List ℕ) → IsPartial (old.partial ++ bytes)
+    → new ≡ after_bytes old bytes None → Hears old bytes [] new
 hears_part old new bytes partial is = rw is (record { conversation = refl; heard = (refl, partial) })
 
 -- ---- each board answers
@@ -93,43 +141,59 @@ record IsWhole (board : BoardState) : Type 0 where
 
 told_length : (board : BoardState) (message : Content) → IsWhole board → length (told_squares_after board message) ≡ 64
 told_length board (Content.dump pieces) whole = whole.squares
-told_length board (Content.field square piece) whole = length-set board.told_squares square (piece_on board.squares square) ∙ whole.told_squares
+told_length board (Content.field square piece) whole =
+    length-set board.told_squares square (piece_on board.squares square) ∙ whole.told_squares
 told_length board _ whole = whole.told_squares
 
 whole_after_sending : (board : BoardState) (message : Content) → IsWhole board → IsWhole (after_sending board message)
-whole_after_sending board message whole = record { squares = whole.squares; told_squares = told_length board message whole }
+whole_after_sending board message whole =
+    record { squares = whole.squares; told_squares = told_length board message whole }
 
 whole_after_event : (board : BoardState) (event : EventContent) → IsWhole board → IsWhole (effect board event)
-whole_after_event board (EventContent.Read command) whole = record { squares = whole.squares; told_squares = whole.told_squares }
+whole_after_event board (EventContent.Read command) whole =
+    record { squares = whole.squares; told_squares = whole.told_squares }
 whole_after_event board EventContent.BadSize whole = whole
 whole_after_event board EventContent.BadStart whole = whole
 whole_after_event board EventContent.BadEnd whole = whole
 whole_after_event board (EventContent.Stray byte) whole = whole
 
 abbrev Lowers : Type 0
-Lowers = (board : BoardState) (message : Content) → length board.told_squares ≡ 64 → next_message board ≡ Some message → left_to_send (after_sending board message) < left_to_send board
+Lowers = (board : BoardState) (message : Content) → length board.told_squares ≡ 64 → next_message board ≡ Some message
+    → left_to_send (after_sending board message) < left_to_send board
 
 -- a board hears these events and tells all that there is to tell
 record GoesOn (board : BoardState) (events : List EventContent) : Type 0 where
-  pub steps : List Step
+  pub steps : List Exchange
   pub after : BoardState
   pub whole : IsWhole after
   pub conversation : Converses board steps after
   pub settled : next_message after ≡ None
   pub heard : events_heard steps ≡ events
 
-tells_first : (board : BoardState) (next : Option Content) → next_message board ≡ next → IsWhole board → ((message : Content) → next_message board ≡ Some message → GoesOn (after_sending board message) []) → GoesOn board []
-tells_first board None is whole rest = record { steps = []; after = board; whole = whole; conversation = refl; settled = is; heard = refl }
+tells_first : (board : BoardState) (next : Option Content) → next_message board ≡ next → IsWhole board
+    → ((message : Content) → next_message board ≡ Some message → GoesOn (after_sending board message) [])
+    → GoesOn board []
+tells_first board None is whole rest =
+    record { steps = []; after = board; whole = whole; conversation = refl; settled = is; heard = refl }
 tells_first board (Some message) is whole rest =
     let more = rest message is in
-    record { steps = told message ∷ more.steps; after = more.after; whole = more.whole; conversation = (is, more.conversation); settled = more.settled; heard = more.heard }
+    record {
+      steps = told message ∷ more.steps;
+      after = more.after;
+      whole = more.whole;
+      conversation = (is, more.conversation);
+      settled = more.settled;
+      heard = more.heard;
+    }
 
 tells_all : Lowers → (n : ℕ) (board : BoardState) → IsWhole board → left_to_send board ≤ n → GoesOn board []
 tells_all lowers zero board whole few =
-    tells_first board (next_message board) refl whole (λ message is. let less = lowers board message whole.told_squares is in absurd (omega (arith, less, few)))
+    tells_first board (next_message board) refl whole
+    (λ message is. let less = lowers board message whole.told_squares is in absurd (omega (arith, less, few)))
 tells_all lowers (suc n) board whole few =
     tells_first board (next_message board) refl whole
-    (λ message is. let less = lowers board message whole.told_squares is in tells_all lowers n (after_sending board message) (whole_after_sending board message whole) (omega (arith, less, few)))
+    (λ message is. let less = lowers board message whole.told_squares is in tells_all lowers n
+    (after_sending board message) (whole_after_sending board message whole) (omega (arith, less, few)))
 
 goes_on : Lowers → (board : BoardState) (events : List EventContent) → IsWhole board → GoesOn board events
 goes_on lowers board [] whole = tells_all lowers (left_to_send board) board whole (omega arith)
@@ -140,16 +204,21 @@ goes_on lowers board (event ∷ events) whole =
       steps = first.steps ++ heard event ∷ more.steps;
       after = more.after;
       whole = more.whole;
-      conversation = converses-append board first.steps (heard event ∷ more.steps) first.after more.after first.conversation (first.settled, more.conversation);
+      conversation =
+          converses-append board first.steps (heard event ∷ more.steps) first.after more.after first.conversation
+          (first.settled, more.conversation);
       settled = more.settled;
-      heard = events_heard-append first.steps (heard event ∷ more.steps) ∙ ap (λ (l : List EventContent). l ++ event ∷ events_heard more.steps) first.heard ∙ ap (λ (l : List EventContent). event ∷ l) more.heard;
+      heard = events_heard-append first.steps
+          (heard event ∷ more.steps) ∙ ap (λ (l : List EventContent). l ++ event ∷ events_heard more.steps) first.heard
+          ∙ ap (λ (l : List EventContent). event ∷ l) more.heard;
     }
 
 pub each_is_answered : EachDividesOnce → Lowers → EachIsAnswered
 each_is_answered divisions lowers before bytes board are =
-    let partial = bytes_left before.partial (board.partial.next ∷ board.partial.more) board.partial.word.are_bytes in
+    let partial = partial_bytes before.partial board.partial in
     let found = divisions.0 (before.partial ++ bytes) (bytes_append before.partial bytes partial are) in
-    let talk = goes_on lowers before.state found.0 (record { squares = board.squares; told_squares = board.told_squares }) in (
+    let talk = goes_on lowers before.state found.0
+    (record { squares = board.squares; told_squares = board.told_squares }) in (
       talk.steps,
       record { state = talk.after; partial = found.1 },
       record {
@@ -167,65 +236,81 @@ some_same : (one another : Content) → Some one ≡ Some another → one ≡ an
 some_same one another h = cc
 
 -- others are the steps, and then a conversation between the boards
-abbrev Continues : List Step → List Step → BoardState → BoardState → Type 0
-Continues steps others between after = (more : List Step) × (others ≡ steps ++ more) × Converses between more after
+abbrev Continues : List Exchange → List Exchange → BoardState → BoardState → Type 0
+Continues steps others between after = (more : List Exchange) × (others ≡ steps ++ more) × Converses between more after
 
-one_more : (step another : Step) (steps others : List Step) (between after : BoardState) → another ≡ step → Continues steps others between after → Continues (step ∷ steps) (another ∷ others) between after
-one_more step another steps others between after same rest = (rest.0, ap (λ (s : Step). s ∷ others) same ∙ ap (λ (l : List Step). step ∷ l) rest.1, rest.2)
+one_more : (step another : Exchange) (steps others : List Exchange) (between after : BoardState) → another ≡ step
+    → Continues steps others between after → Continues (step ∷ steps) (another ∷ others) between after
+one_more step another steps others between after same rest =
+    (rest.0, ap (λ (s : Exchange). s ∷ others) same ∙ ap (λ (l : List Exchange). step ∷ l) rest.1, rest.2)
 
 -- a conversation that ends with nothing to tell goes on from each that hears the first of its events
-follows : (board between after : BoardState) (steps others : List Step) (events : List EventContent) → Converses board steps between → Converses board others after → next_message after ≡ None
+follows : (board between after : BoardState) (steps others : List Exchange) (events : List EventContent)
+    → Converses board steps between → Converses board others after → next_message after ≡ None
     → events_heard others ≡ events_heard steps ++ events → Continues steps others between after
 follows board between after [] others events p q settled is = (others, refl, subst (λ x. Converses x others after) p q)
-follows board between after (told message ∷ steps) [] events p q settled is = absurd (none_some message (sym settled ∙ ap next_message (sym q) ∙ p.0))
+follows board between after (told message ∷ steps) [] events p q settled is =
+    absurd (none_some message (sym settled ∙ ap next_message (sym q) ∙ p.0))
 follows board between after (told message ∷ steps) (told later ∷ others) events p q settled is =
     let same : later ≡ message = some_same later message (sym q.0 ∙ p.0) in
     one_more (told message) (told later) steps others between after (ap told same)
-    (follows (after_sending board message) between after steps others events p.1 (subst (λ (m : Content). Converses (after_sending board m) others after) same q.1) settled is)
-follows board between after (told message ∷ steps) (heard event ∷ others) events p q settled is = absurd (none_some message (sym q.0 ∙ p.0))
+    (follows (after_sending board message) between after steps others events p.1
+    (subst (λ (m : Content). Converses (after_sending board m) others after) same q.1) settled is)
+follows board between after (told message ∷ steps) (heard event ∷ others) events p q settled is = absurd
+    (none_some message (sym q.0 ∙ p.0))
 follows board between after (heard event ∷ steps) [] events p q settled is = absurd (cc)
-follows board between after (heard event ∷ steps) (told message ∷ others) events p q settled is = absurd (none_some message (sym p.0 ∙ q.0))
+follows board between after (heard event ∷ steps) (told message ∷ others) events p q settled is = absurd
+    (none_some message (sym p.0 ∙ q.0))
 follows board between after (heard event ∷ steps) (heard later ∷ others) events p q settled is =
     let same : later ≡ event = cc in
     let left : events_heard others ≡ events_heard steps ++ events = cc in
     one_more (heard event) (heard later) steps others between after (ap heard same)
-    (follows (effect board event) between after steps others events p.1 (subst (λ (e : EventContent). Converses (effect board e) others after) same q.1) settled left)
+    (follows (effect board event) between after steps others events p.1
+    (subst (λ (e : EventContent). Converses (effect board e) others after) same q.1) settled left)
 
 -- the events of a front of bytes are the first of theirs
-divides_more : (s t : List ℕ) (events others : List EventContent) (rest remainder : List ℕ) → Divides s events rest → Divides (s ++ t) others remainder → (more : List EventContent) × (others ≡ events ++ more)
-divides_more s t [] others rest remainder p q = (others, refl)
-divides_more s t (event ∷ events) [] rest remainder p q =
-    absurd (not_both remainder event p.0 (p.1 ++ t) q.1 p.2.form (sym q.0 ∙ ap (λ (l : List ℕ). l ++ t) p.3 ∙ append_assoc p.0 p.1 t))
-divides_more s t (event ∷ events) (later ∷ others) rest remainder p q =
-    let same = same_word event later p.0 q.0 (p.1 ++ t) q.1 p.2.form q.2.form (sym (ap (λ (l : List ℕ). l ++ t) p.3 ∙ append_assoc p.0 p.1 t) ∙ q.3) in
-    let found = divides_more p.1 t events others rest remainder p.4 (subst (λ (l : List ℕ). Divides l others remainder) (sym same.after) q.4) in
-    (found.0, ap (λ (e : EventContent). e ∷ others) (sym same.event) ∙ ap (λ (l : List EventContent). event ∷ l) found.1)
+divides_more : EachDividesOnce → DivisionsAppend → (s t : List ℕ) (events others : List EventContent)
+    (rest remainder : List ℕ)
+    → Divides s events rest → Divides (s ++ t) others remainder → (more : List EventContent) × (others ≡ events ++ more)
+divides_more divisions append s t events others rest remainder p q =
+    let partial = (divided_bytes s events rest p).1 in
+    let bytes = bytes_right s t (divided_bytes (s ++ t) others remainder q).0 in
+    let found = divisions.0 (rest ++ t) (bytes_append rest t (partial_bytes rest partial) bytes) in
+    let whole = append s t events found.0 rest found.1 p found.2 in
+    (found.0, (divisions.1 (s ++ t) others (events ++ found.0) remainder found.1 q whole).0)
 
-pub each_front_goes_on : EachFrontGoesOn
-each_front_goes_on before between after bytes steps others front answers =
+pub each_front_goes_on : EachDividesOnce → DivisionsAppend → EachFrontGoesOn
+each_front_goes_on divisions append before between after bytes steps others front answers =
     let whole : before.partial ++ bytes ≡ (before.partial ++ front.front) ++ front.rest
     = ap (λ (l : List ℕ). before.partial ++ l) front.whole ∙ sym (append_assoc before.partial front.front front.rest) in
-    let more = divides_more (before.partial ++ front.front) front.rest (events_heard steps) (events_heard others) between.partial after.partial front.hears.heard
+    let more = divides_more divisions append (before.partial ++ front.front) front.rest (events_heard steps)
+    (events_heard others) between.partial after.partial front.hears.heard
     (subst (λ (l : List ℕ). Divides l (events_heard others) after.partial) whole answers.hears.heard) in
-    follows before.state between.state after.state steps others more.0 front.hears.conversation answers.hears.conversation answers.settled more.1
+    follows before.state between.state after.state steps others more.0 front.hears.conversation
+    answers.hears.conversation answers.settled more.1
 
 -- a settled board says no more to events that it doesn't hear
-nothing_more : (board after : BoardState) (steps : List Step) → next_message board ≡ None → Converses board steps after → events_heard steps ≡ [] → (steps ≡ []) × (board ≡ after)
+nothing_more : (board after : BoardState) (steps : List Exchange) → next_message board ≡ None
+    → Converses board steps after → events_heard steps ≡ [] → (steps ≡ []) × (board ≡ after)
 nothing_more board after [] settled p none = (refl, p)
 nothing_more board after (told message ∷ steps) settled p none = absurd (none_some message (sym settled ∙ p.0))
 nothing_more board after (heard event ∷ steps) settled p none = absurd (cc)
 
 pub each_is_answered_once : EachDividesOnce → EachIsAnsweredOnce
 each_is_answered_once divisions before after other bytes steps others p q =
-    let same = divisions.1 (before.partial ++ bytes) (events_heard steps) (events_heard others) after.partial other.partial p.hears.heard q.hears.heard in
-    let rest = follows before.state after.state other.state steps others [] p.hears.conversation q.hears.conversation q.settled (sym same.0 ∙ sym (append-nil (events_heard steps))) in
-    let none : events_heard rest.0 ≡ [] = no_more (events_heard steps) (events_heard rest.0) (same.0 ∙ ap events_heard rest.1 ∙ events_heard-append steps rest.0) in
+    let same = divisions.1 (before.partial ++ bytes) (events_heard steps)
+    (events_heard others) after.partial other.partial p.hears.heard q.hears.heard in
+    let rest = follows before.state after.state other.state steps others [] p.hears.conversation q.hears.conversation
+    q.settled (sym same.0 ∙ sym (append-nil (events_heard steps))) in
+    let none : events_heard rest.0 ≡ [] = no_more (events_heard steps) (events_heard rest.0)
+    (same.0 ∙ ap events_heard rest.1 ∙ events_heard-append steps rest.0) in
     let last = nothing_more after.state other.state rest.0 p.settled rest.2 none in
-    (sym (rest.1 ∙ ap (λ (l : List Step). steps ++ l) last.0 ∙ append-nil steps), views after other last.1 same.1)
+    (sym (rest.1 ∙ ap (λ (l : List Exchange). steps ++ l) last.0 ∙ append-nil steps), views after other last.1 same.1)
   where
     no_more : (xs ys : List EventContent) → xs ≡ xs ++ ys → ys ≡ []
     no_more [] ys h = sym h
     no_more (x ∷ xs) ys h = no_more xs ys (cc)
 
     views : (a b : BoardView) → a.state ≡ b.state → a.partial ≡ b.partial → a ≡ b
-    views a b h k = ap (λ (s : BoardState). let view : BoardView = record { state = s; partial = a.partial } in view) h ∙ ap (λ (l : List ℕ). let view : BoardView = record { state = b.state; partial = l } in view) k
+    views a b h k = ap (λ (s : BoardState). let view : BoardView = record { state = s; partial = a.partial } in view) h
+        ∙ ap (λ (l : List ℕ). let view : BoardView = record { state = b.state; partial = l } in view) k

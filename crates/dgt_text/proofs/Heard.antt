@@ -9,7 +9,7 @@ use Rattle.dgt_lines.specs.declared.ends.Sink.{Ghosts as Sink}
 use Rattle.dgt_lines.specs.declared.faults.RunFault.{RunFault}
 use Rattle.dgt_lines.specs.declared.faults.RunFault.TheVariants.{WriteFailed}
 use Rattle.dgt_lines.specs.Writing.{Wrote, Stopped, Writes}
-use Rattle.dgt_text.specs.Turns.{Ran}
+use Rattle.dgt_text.specs.Turns.{Ran, change, InTurns}
 use Rattle.dgt_lines.specs.Lines.{lines, monitor_text, unfinished_line, lines_after}
 use Rattle.dgt_text.specs.Monitoring.{IsMonitored}
 use Rattle.dgt_text.proofs.RunLemmas.{wrote_none, wrote_then, stopped_then, stopped_longer}
@@ -33,15 +33,21 @@ lines-none : lines [] ≡ []
 unfolding events
 lines-none = refl
 
-heard_end_text : (s held : List ℕ) (offset : ℕ) → held ≡ open_message s → offset ≡ length s → lines s ++ unfinished_line offset held ≡ monitor_text s
-heard_end_text s held offset h k = ap (λ o. lines s ++ unfinished_line offset o) h ∙ ap (λ n. lines s ++ unfinished_line n (open_message s)) k
+heard_end_text : (s held : List ℕ) (offset : ℕ) → held ≡ open_message s → offset ≡ length s
+    → lines s ++ unfinished_line offset held ≡ monitor_text s
+heard_end_text s held offset h k =
+    ap (λ o. lines s ++ unfinished_line offset o) h ∙ ap (λ n. lines s ++ unfinished_line n (open_message s)) k
 
 -- the lines of bytes, and of a piece after them
 abbrev LinesAppend : Type 0
-LinesAppend = (bytes piece : List ℕ) → lines (bytes ++ piece) ≡ lines bytes ++ lines_after (open_message bytes) (length bytes) piece
+LinesAppend = (bytes piece : List ℕ) → lines (bytes ++ piece) ≡ lines bytes ++ lines_after (open_message bytes)
+    (length bytes) piece
 
-heard_lines : LinesAppend → (held : List ℕ) (offset : ℕ) (s p : List ℕ) → held ≡ open_message s → offset ≡ length s → lines s ++ lines_after held offset p ≡ lines (s ++ p)
-heard_lines more held offset s p h k = ap (λ o. lines s ++ lines_after o offset p) h ∙ ap (λ n. lines s ++ lines_after (open_message s) n p) k ∙ sym (more s p)
+heard_lines : LinesAppend → (held : List ℕ) (offset : ℕ) (s p : List ℕ) → held ≡ open_message s → offset ≡ length s
+    → lines s ++ lines_after held offset p ≡ lines (s ++ p)
+heard_lines more held offset s p h k =
+    ap (λ o. lines s ++ lines_after o offset p) h ∙ ap (λ n. lines s ++ lines_after (open_message s) n p) k ∙
+    sym (more s p)
 
 module _ {T : Type 0} {W : Sink T} where
   pub heard_none : (c : T) (held : List ℕ) → held ≡ [] → Heard W c c held 0 []
@@ -51,15 +57,22 @@ module _ {T : Type 0} {W : Sink T} where
     counted = refl;
   }
 
-  pub heard_bound : ((s : List ℕ) → length (open_message s) ≤ length s) → (c d : T) (held : List ℕ) (offset : ℕ) (bytes : List ℕ) → Heard W c d held offset bytes → length held ≤ offset
-  heard_bound short_open c d held offset bytes h = let short = short_open bytes in let e = h.counted in let l = ap length h.decoded in omega arith
+  pub heard_bound : ((s : List ℕ) → length (open_message s) ≤ length s) → (c d : T) (held : List ℕ) (offset : ℕ)
+      (bytes : List ℕ) → Heard W c d held offset bytes → length held ≤ offset
+  heard_bound short_open c d held offset bytes h = let short = short_open bytes in let e = h.counted in
+      let l = ap length h.decoded in omega arith
 
   -- a piece, its lines and a flush
-  pub heard_more : LinesAppend → OpenAppend → (c d d' d'' : T) (held held' : List ℕ) (offset n : ℕ) (bytes piece : List ℕ) → Heard W c d held offset bytes → length piece ≡ n
-      → Wrote W d d' (lines_after held offset piece) → Wrote W d' d'' [] → held' ≡ open_message (held ++ piece) → Heard W c d'' held' (offset + n) (bytes ++ piece)
+  pub heard_more : LinesAppend → OpenAppend → (c d d' d'' : T) (held held' : List ℕ) (offset n : ℕ)
+      (bytes piece : List ℕ) → Heard W c d held offset bytes → length piece ≡ n
+      → Wrote W d d' (lines_after held offset piece) → Wrote W d' d'' [] → held' ≡ open_message (held ++ piece)
+      → Heard W c d'' held' (offset + n) (bytes ++ piece)
   heard_more more opens c d d' d'' held held' offset n bytes piece h m q r e = record {
-    wrote = subst (λ l. Wrote W c d'' l) (ap (λ l. lines bytes ++ l) (append-nil (lines_after held offset piece)) ∙ heard_lines more held offset bytes piece h.decoded h.counted)
-        (wrote_then W c d d'' (lines bytes) (lines_after held offset piece ++ []) h.wrote (wrote_then W d d' d'' _ [] q r));
+    wrote = subst (λ l. Wrote W c d'' l)
+        (ap (λ l. lines bytes ++ l) (append-nil (lines_after held offset piece)) ∙ heard_lines more held offset bytes
+        piece h.decoded h.counted)
+        (wrote_then W c d d'' (lines bytes) (lines_after held offset piece ++ []) h.wrote
+        (wrote_then W d d' d'' _ [] q r));
     decoded = e ∙ ap (λ l. open_message (l ++ piece)) h.decoded ∙ sym (opens bytes piece);
     counted = let l = length-append bytes piece in let k = h.counted in omega arith;
   }
@@ -68,23 +81,54 @@ module _ {T : Type 0} {W : Sink T} where
 
 module _ {S T : Type 0} {R : Source S} {W : Sink T} {a b : S} {c d : T} {held : List ℕ} {offset taken limit : ℕ} where
   -- after a read that gave nothing, by what is written then
-  pub heard_end : {A : Type 0} (b' : S) (d' : T) (r : Result A RunFault) (t : BetweenReads R W a b c d taken limit) → Heard W c d held offset t.bytes → Consumes (R.left b) (R.left b') []
-      → Writes W d d' r (unfinished_line offset held) → Ran R W a b' c d' limit r (IsMonitored r)
+  pub heard_end : {A : Type 0} (b' : S) (d' : T) (r : Result A RunFault) (t : BetweenReads R W a b c d taken limit)
+      → Heard W c d held offset t.bytes → Consumes (R.left b) (R.left b') []
+      → Writes W d d' r (unfinished_line offset held)
+      → Ran R W (change a b') (change c d') (InTurns limit r (IsMonitored r))
   heard_end b' d' (Ok x) t h p q =
-      let w = wrote_then W c d d' (lines t.bytes) (unfinished_line offset held) h.wrote q in
-      (t.bytes, lines t.bytes ++ unfinished_line offset held, subst (Consumes (R.left a) (R.left b')) (append-nil t.bytes) (Consumes-trans _ _ _ t.bytes [] t.given p), w.appends, tt, heard_end_text t.bytes held offset h.decoded h.counted)
+      let w = wrote_then W c d d' (lines t.bytes) (unfinished_line offset held) h.wrote q in (
+        t.bytes,
+        lines t.bytes ++ unfinished_line offset held,
+        subst (Consumes (R.left a) (R.left b'))
+            (append-nil t.bytes) (Consumes-trans _ _ _ t.bytes [] t.given p),
+        w.appends,
+        (tt, heard_end_text t.bytes held offset h.decoded h.counted),
+      )
   heard_end {A = A} b' d' (Err e) t h p q =
       let stop = stopped_then W c d d' (lines t.bytes) (unfinished_line offset held) h.wrote q.1 in
-      subst (λ f. let r : Result A RunFault = Err f in Ran R W a b' c d' limit r (IsMonitored r)) (sym q.0)
-      (t.bytes, stop.front, subst (Consumes (R.left a) (R.left b')) (append-nil t.bytes) (Consumes-trans _ _ _ t.bytes [] t.given p), stop.appends, tt, (stop.rest, sym (heard_end_text t.bytes held offset h.decoded h.counted) ∙ stop.whole))
+      subst (λ f. let r : Result A RunFault = Err f in Ran R W (change a b') (change c d')
+      (InTurns limit r (IsMonitored r))) (sym q.0) (
+        t.bytes,
+        stop.front,
+        subst (Consumes (R.left a) (R.left b')) (append-nil t.bytes)
+            (Consumes-trans _ _ _ t.bytes [] t.given p),
+        stop.appends,
+        (
+          tt,
+          (stop.rest, sym (heard_end_text t.bytes held offset h.decoded h.counted) ∙ stop.whole),
+        ),
+      )
 
   -- at a write that was refused, of the lines of a piece
-  pub heard_stopped : {A : Type 0} → LinesAppend → (b' : S) (d' : T) (piece : List ℕ) (r : Result A RunFault) (e : RunFault) (t : BetweenReads R W a b c d taken limit) → Heard W c d held offset t.bytes
-      → Consumes (R.left b) (R.left b') piece → Stopped W d d' (lines_after held offset piece) → IsErrAnd r (λ y. y ≡ e) → e ≡ WriteFailed → Ran R W a b' c d' limit r (IsMonitored r)
+  pub heard_stopped : {A : Type 0} → LinesAppend → (b' : S) (d' : T) (piece : List ℕ) (r : Result A RunFault)
+      (e : RunFault) (t : BetweenReads R W a b c d taken limit) → Heard W c d held offset t.bytes
+      → Consumes (R.left b) (R.left b') piece → Stopped W d d' (lines_after held offset piece)
+      → IsErrAnd r (λ y. y ≡ e) → e ≡ WriteFailed
+      → Ran R W (change a b') (change c d') (InTurns limit r (IsMonitored r))
   heard_stopped more b' d' piece (Ok x) e t h p q k w = absurd k
   heard_stopped {A = A} more b' d' piece (Err y) e t h p q k w =
       let bytes = t.bytes ++ piece in
       let whole = heard_lines more held offset t.bytes piece h.decoded h.counted in
-      let stop = stopped_longer W c d' _ (unfinished_line (length bytes) (open_message bytes)) (stopped_then W c d d' (lines t.bytes) (lines_after held offset piece) h.wrote q) in
-      subst (λ f. let r : Result A RunFault = Err f in Ran R W a b' c d' limit r (IsMonitored r)) (sym (k ∙ w))
-      (bytes, stop.front, Consumes-trans _ _ _ t.bytes piece t.given p, stop.appends, tt, (stop.rest, ap (λ l. l ++ unfinished_line (length bytes) (open_message bytes)) (sym whole) ∙ stop.whole))
+      let stop = stopped_longer W c d' _ (unfinished_line (length bytes) (open_message bytes))
+      (stopped_then W c d d' (lines t.bytes) (lines_after held offset piece) h.wrote q) in
+      subst (λ f. let r : Result A RunFault = Err f in Ran R W (change a b') (change c d')
+      (InTurns limit r (IsMonitored r))) (sym (k ∙ w)) (
+        bytes,
+        stop.front,
+        Consumes-trans _ _ _ t.bytes piece t.given p,
+        stop.appends,
+        (
+          tt,
+          (stop.rest, ap (λ l. l ++ unfinished_line (length bytes) (open_message bytes)) (sym whole) ∙ stop.whole),
+        ),
+      )

@@ -1,6 +1,6 @@
 -- Lines that are played in a row.
 use Rattle.std.proofs.Common.{◌≡◌, ◌≢◌, ℕ, ◌+◌, ◌-◌, ◌<◌, List, [], ◌∷◌, ◌++◌, ◌⊎◌, inl, inr, Bool, Result, Ok, Err, IsErrAnd, IsTrue, refl, sym, ◌∙◌, ap, subst, length, arith, append_assoc, append-nil, length-append, zero, suc, take, drop, slice_index, add-one}
-use Rattle.std.specs.Prelude.{◌↔◌, All, flat_map}
+use Rattle.std.specs.Prelude.{◌↔◌, All, MatchResult, flat_map}
 use Rattle.std.specs.Io.KnownBytes.{Appends}
 use Rattle.std.proofs.KnownBytes.{Appends-trans, Appends-nil}
 use Rattle.std.proofs.Math.Seq.{take-suc}
@@ -19,7 +19,7 @@ use Rattle.dgt_text.specs.Monitoring.{IsFront}
 use Rattle.dgt_lines.specs.Writing.{Writes, Stopped}
 use Rattle.dgt_script.specs.Script.{AsksFor, IsBadAt}
 use Rattle.dgt_script.specs.ScriptLines.{HasNoFeed, IsCut, KeepsLine, ended}
-use Rattle.dgt_text.specs.Simulating.{BeginsWith, IsSimulatedFrom, Plays, PlaysLine, PlaysOn, PlaysPiece, PlaysTorn, Stops, Took, all_lines}
+use Rattle.dgt_text.specs.Simulating.{BeginsWith, IsSimulatedFrom, Plays, PlaysOn, PlaysTorn, Stops, Took, all_lines, part}
 use Rattle.dgt_text.proofs.RunLemmas.{slice_from, slice_more, slice_room}
 use Rattle.dgt_lines.specs.declared.ends.Sink.{Ghosts as Sink}
 
@@ -39,19 +39,22 @@ flat_one : (line : List ℕ) → flat_map ended (line ∷ []) ≡ ended line
 flat_one line = append-nil (ended line)
 
 -- lines, and then more lines
-whole_after : (bytes tail rest : List ℕ) (lines more : List (List ℕ)) → bytes ≡ flat_map ended lines ++ tail → tail ≡ flat_map ended more ++ rest → bytes ≡ flat_map ended (lines ++ more) ++ rest
+whole_after : (bytes tail rest : List ℕ) (lines more : List (List ℕ)) → bytes ≡ flat_map ended lines ++ tail
+    → tail ≡ flat_map ended more ++ rest → bytes ≡ flat_map ended (lines ++ more) ++ rest
 whole_after bytes tail rest lines more e f =
     e ∙ ap (λ l. flat_map ended lines ++ l) f ∙ sym (append_assoc (flat_map ended lines) (flat_map ended more) rest)
     ∙ ap (λ l. l ++ rest) (sym (flat_map-append ended lines more))
 
-pub cut_after : (bytes tail rest : List ℕ) (lines more : List (List ℕ)) → bytes ≡ flat_map ended lines ++ tail → All HasNoFeed lines → IsCut tail more rest → IsCut bytes (lines ++ more) rest
+pub cut_after : (bytes tail rest : List ℕ) (lines more : List (List ℕ)) → bytes ≡ flat_map ended lines ++ tail
+    → All HasNoFeed lines → IsCut tail more rest → IsCut bytes (lines ++ more) rest
 cut_after bytes tail rest lines more e h c = record {
   whole = whole_after bytes tail rest lines more e c.whole;
   each = All-append HasNoFeed lines more h c.each;
   last = c.last;
 }
 
-all_lines-append : (lines more : List (List ℕ)) (rest : List ℕ) → all_lines (lines ++ more) rest ≡ lines ++ all_lines more rest
+all_lines-append : (lines more : List (List ℕ)) (rest : List ℕ)
+    → all_lines (lines ++ more) rest ≡ lines ++ all_lines more rest
 all_lines-append lines more [] = refl
 all_lines-append lines more (b ∷ rest) = append_assoc lines more ((b ∷ rest) ∷ [])
 
@@ -60,16 +63,21 @@ pub begins_none : (at_end : Bool) (bytes : List ℕ) → BeginsWith at_end bytes
 begins_none at_end bytes = inl (bytes, refl, all_none)
 
 -- a line with its line feed
-pub begins_ended : (at_end : Bool) (line rest bytes : List ℕ) → HasNoFeed line → bytes ≡ (line ++ 10 ∷ []) ++ rest → BeginsWith at_end bytes (line ∷ [])
+pub begins_ended : (at_end : Bool) (line rest bytes : List ℕ) → HasNoFeed line → bytes ≡ (line ++ 10 ∷ []) ++ rest
+    → BeginsWith at_end bytes (line ∷ [])
 begins_ended at_end line rest bytes h e = inl (rest, e ∙ ap (λ l. l ++ rest) (sym (flat_one line)), all_one line h)
 
 -- a last line
-pub begins_last : (at_end : Bool) (line : List ℕ) → IsTrue at_end → HasNoFeed line → line ≢ [] → BeginsWith at_end line (line ∷ [])
+pub begins_last : (at_end : Bool) (line : List ℕ) → IsTrue at_end → HasNoFeed line → line ≢ []
+    → BeginsWith at_end line (line ∷ [])
 begins_last at_end [] e h n = absurd (n refl)
 begins_last at_end (b ∷ line) e h n = inr ([], b ∷ line, record { whole = refl; each = all_none; last = h }, refl, e)
 
-begins_after : (at_end : Bool) (bytes tail : List ℕ) (lines more : List (List ℕ)) → bytes ≡ flat_map ended lines ++ tail → All HasNoFeed lines → BeginsWith at_end tail more → BeginsWith at_end bytes (lines ++ more)
-begins_after at_end bytes tail lines more e h (inl p) = inl (p.0, whole_after bytes tail p.0 lines more e p.1, All-append HasNoFeed lines more h p.2)
+begins_after : (at_end : Bool) (bytes tail : List ℕ) (lines more : List (List ℕ))
+    → bytes ≡ flat_map ended lines ++ tail → All HasNoFeed lines → BeginsWith at_end tail more
+    → BeginsWith at_end bytes (lines ++ more)
+begins_after at_end bytes tail lines more e h (inl p) =
+    inl (p.0, whole_after bytes tail p.0 lines more e p.1, All-append HasNoFeed lines more h p.2)
 begins_after at_end bytes tail lines more e h (inr p) = inr (
   lines ++ p.0,
   p.1,
@@ -80,8 +88,10 @@ begins_after at_end bytes tail lines more e h (inr p) = inr (
 
 -- ---- playing
 
-pub plays_append : (w m l : WorldView) (ls ks : List (List ℕ)) (t u : List ℕ) → Plays w ls t m → Plays m ks u l → Plays w (ls ++ ks) (t ++ u) l
-plays_append w m l [] ks t u p q = subst (λ x. Plays w ks (x ++ u) l) (sym p.0) (subst (λ x. Plays x ks u l) (sym p.1) q)
+pub plays_append : (w m l : WorldView) (ls ks : List (List ℕ)) (t u : List ℕ) → Plays w ls t m → Plays m ks u l
+    → Plays w (ls ++ ks) (t ++ u) l
+plays_append w m l [] ks t u p q =
+    subst (λ x. Plays w ks (x ++ u) l) (sym p.0) (subst (λ x. Plays x ks u l) (sym p.1) q)
 plays_append w m l (line ∷ ls) ks t u p q = (
   p.0,
   p.1,
@@ -93,7 +103,8 @@ plays_append w m l (line ∷ ls) ks t u p q = (
   plays_append p.2 m l ls ks p.3 u p.7 q,
 )
 
-pub plays_one : (w l : WorldView) (line : List ℕ) (act : ActContent) (o : Outcome) → AsksFor line act → Step act w o l → Plays w (line ∷ []) (outcome_line o) l
+pub plays_one : (w l : WorldView) (line : List ℕ) (act : ActContent) (o : Outcome) → AsksFor line act → Step act w o l
+    → Plays w (line ∷ []) (outcome_line o) l
 plays_one w l line act o h s = (act, o, l, [], h, s, sym (append-nil (outcome_line o)), (refl, refl))
 
 -- no line
@@ -114,7 +125,8 @@ torn_none w = record {
 }
 
 -- one line, whose outcome may be torn
-torn_one : (w l : WorldView) (line front text : List ℕ) → Plays w (line ∷ []) text l → IsFront front text → PlaysTorn w (line ∷ []) front l
+torn_one : (w l : WorldView) (line front text : List ℕ) → Plays w (line ∷ []) text l → IsFront front text
+    → PlaysTorn w (line ∷ []) front l
 torn_one w l line front text p f = record {
   earlier = [];
   final = line ∷ [];
@@ -130,7 +142,8 @@ torn_one w l line front text p f = record {
   out_is = refl;
 }
 
-torn_after : (w m l : WorldView) (ls ks : List (List ℕ)) (t out : List ℕ) → Plays w ls t m → PlaysTorn m ks out l → PlaysTorn w (ls ++ ks) (t ++ out) l
+torn_after : (w m l : WorldView) (ls ks : List (List ℕ)) (t out : List ℕ) → Plays w ls t m → PlaysTorn m ks out l
+    → PlaysTorn w (ls ++ ks) (t ++ out) l
 torn_after w m l ls ks t out p q = record {
   earlier = ls ++ q.earlier;
   final = q.final;
@@ -148,25 +161,32 @@ torn_after w m l ls ks t out p q = record {
 
 -- ---- lines, and then what is made of the rest
 
-stops_after : (at_end : Bool) (e : RunFault) (w m l : WorldView) (number number' : ℕ) (bytes tail t out : List ℕ) (ls : List (List ℕ)) → bytes ≡ flat_map ended ls ++ tail → All HasNoFeed ls → number' ≡ number + length ls
-    → Plays w ls t m → Stops at_end e m l number' tail out → Stops at_end e w l number bytes (t ++ out)
+stops_after : (at_end : Bool) (e : RunFault) (w m l : WorldView) (number number' : ℕ) (bytes tail t out : List ℕ)
+    (ls : List (List ℕ)) → bytes ≡ flat_map ended ls ++ tail → All HasNoFeed ls → number' ≡ number + length ls
+    → Plays w ls t m → Stops at_end (part number' tail m l) e out → Stops at_end (part number bytes w l) e (t ++ out)
 stops_after at_end ReadFailed w m l number number' bytes tail t out ls e h n p s = absurd s
 stops_after at_end TooManyTurns w m l number number' bytes tail t out ls e h n p s = absurd s
-stops_after at_end WriteFailed w m l number number' bytes tail t out ls e h n p s = (ls ++ s.0, begins_after at_end bytes tail ls s.0 e h s.1, torn_after w m l ls s.0 t out p s.2)
+stops_after at_end WriteFailed w m l number number' bytes tail t out ls e h n p s =
+    (ls ++ s.0, begins_after at_end bytes tail ls s.0 e h s.1, torn_after w m l ls s.0 t out p s.2)
 stops_after at_end (BadLine bad at) w m l number number' bytes tail t out ls e h n p s = (
   ls ++ s.0,
   s.1,
-  subst (λ x. BeginsWith at_end bytes x) (sym (append_assoc ls s.0 (s.1 ∷ []))) (begins_after at_end bytes tail ls (s.0 ++ s.1 ∷ []) e h s.2),
+  subst (λ x. BeginsWith at_end bytes x) (sym (append_assoc ls s.0 (s.1 ∷ [])))
+      (begins_after at_end bytes tail ls (s.0 ++ s.1 ∷ []) e h s.2),
   plays_append w m l ls s.0 t out p s.3,
   s.4,
   (let k = length-append ls s.0 in let f = s.5 in omega arith),
 )
 
-all_after : (w m l : WorldView) (bytes tail rest t u : List ℕ) (ls ks : List (List ℕ)) → Plays w ls t m → Plays m (all_lines ks rest) u l → Plays w (all_lines (ls ++ ks) rest) (t ++ u) l
-all_after w m l bytes tail rest t u ls ks p q = subst (λ x. Plays w x (t ++ u) l) (sym (all_lines-append ls ks rest)) (plays_append w m l ls (all_lines ks rest) t u p q)
+all_after : (w m l : WorldView) (bytes tail rest t u : List ℕ) (ls ks : List (List ℕ)) → Plays w ls t m
+    → Plays m (all_lines ks rest) u l → Plays w (all_lines (ls ++ ks) rest) (t ++ u) l
+all_after w m l bytes tail rest t u ls ks p q = subst (λ x. Plays w x (t ++ u) l) (sym (all_lines-append ls ks rest))
+    (plays_append w m l ls (all_lines ks rest) t u p q)
 
-simulated_after : {A : Type 0} (at_end : Bool) (r : Result A RunFault) (w m l : WorldView) (number number' : ℕ) (bytes tail t out : List ℕ) (ls : List (List ℕ)) → bytes ≡ flat_map ended ls ++ tail → All HasNoFeed ls
-    → number' ≡ number + length ls → Plays w ls t m → IsSimulatedFrom at_end number' r m l tail out → IsSimulatedFrom at_end number r w l bytes (t ++ out)
+simulated_after : {A : Type 0} (at_end : Bool) (r : Result A RunFault) (w m l : WorldView) (number number' : ℕ)
+    (bytes tail t out : List ℕ) (ls : List (List ℕ)) → bytes ≡ flat_map ended ls ++ tail → All HasNoFeed ls
+    → number' ≡ number + length ls → Plays w ls t m → IsSimulatedFrom at_end (part number' tail m l) r out
+    → IsSimulatedFrom at_end (part number bytes w l) r (t ++ out)
 simulated_after at_end (Ok x) w m l number number' bytes tail t out ls e h n p s = (
   ls ++ s.0,
   s.1,
@@ -177,10 +197,14 @@ simulated_after at_end (Ok x) w m l number number' bytes tail t out ls e h n p s
   s.6,
   ap (λ x. t ++ x) s.7 ∙ sym (append_assoc t s.2 (closing_lines l s.3)),
 )
-simulated_after at_end (Err ReadFailed) w m l number number' bytes tail t out ls e h n p s = (ls ++ s.0, s.1, cut_after bytes tail s.1 ls s.0 e h s.2, plays_append w m l ls s.0 t out p s.3)
-simulated_after at_end (Err TooManyTurns) w m l number number' bytes tail t out ls e h n p s = (ls ++ s.0, s.1, cut_after bytes tail s.1 ls s.0 e h s.2, plays_append w m l ls s.0 t out p s.3)
-simulated_after at_end (Err (BadLine bad at)) w m l number number' bytes tail t out ls e h n p s = stops_after at_end (BadLine bad at) w m l number number' bytes tail t out ls e h n p s
-simulated_after at_end (Err WriteFailed) w m l number number' bytes tail t out ls e h n p (inl s) = inl (stops_after at_end WriteFailed w m l number number' bytes tail t out ls e h n p s)
+simulated_after at_end (Err ReadFailed) w m l number number' bytes tail t out ls e h n p s =
+    (ls ++ s.0, s.1, cut_after bytes tail s.1 ls s.0 e h s.2, plays_append w m l ls s.0 t out p s.3)
+simulated_after at_end (Err TooManyTurns) w m l number number' bytes tail t out ls e h n p s =
+    (ls ++ s.0, s.1, cut_after bytes tail s.1 ls s.0 e h s.2, plays_append w m l ls s.0 t out p s.3)
+simulated_after at_end (Err (BadLine bad at)) w m l number number' bytes tail t out ls e h n p s = stops_after at_end
+    (BadLine bad at) w m l number number' bytes tail t out ls e h n p s
+simulated_after at_end (Err WriteFailed) w m l number number' bytes tail t out ls e h n p (inl s) = inl
+    (stops_after at_end WriteFailed w m l number number' bytes tail t out ls e h n p s)
 simulated_after at_end (Err WriteFailed) w m l number number' bytes tail t out ls e h n p (inr s) = inr (
   ls ++ s.0,
   s.1,
@@ -195,7 +219,8 @@ simulated_after at_end (Err WriteFailed) w m l number number' bytes tail t out l
   s.10,
 )
 
-stops_simulated : (at_end : Bool) (A : Type 0) (e : RunFault) (w l : WorldView) (number : ℕ) (bytes out : List ℕ) → Stops at_end e w l number bytes out → IsSimulatedFrom {A = A} at_end number (Err e) w l bytes out
+stops_simulated : (at_end : Bool) (A : Type 0) (e : RunFault) (w l : WorldView) (number : ℕ) (bytes out : List ℕ)
+    → Stops at_end (part number bytes w l) e out → IsSimulatedFrom {A = A} at_end (part number bytes w l) (Err e) out
 stops_simulated at_end A WriteFailed w l number bytes out s = inl s
 stops_simulated at_end A (BadLine bad at) w l number bytes out s = s
 stops_simulated at_end A ReadFailed w l number bytes out s = absurd s
@@ -207,6 +232,20 @@ long_is_bad line h = inl (h, refl)
 
 -- ---- sinks
 
+-- a line with this number, with which a script of these bytes begins
+abbrev PlaysLine : {S A : Type 0} → Sink S → Bool → WorldView → WorldView → S → S → Result A RunFault → ℕ → List ℕ
+    → List ℕ → Type 0
+PlaysLine W at_end world last old new r number line bytes =
+    MatchResult r (λ _. Took W old new (λ out. Plays world (line ∷ []) out last))
+    (λ fault. Took W old new (Stops at_end (part number bytes world last) fault))
+
+-- a piece of a script; the bytes are those since the last line feed before it, and the piece
+abbrev PlaysPiece : {S A : Type 0} → Sink S → Bool → WorldView → WorldView → S → S → LineBuffer → ℕ → ℕ
+    → Result A RunFault → List ℕ → Type 0
+PlaysPiece W at_end world last old new line number number' r bytes =
+    MatchResult r (λ _. PlaysOn W (part number bytes world last) old new line number')
+    (λ fault. Took W old new (Stops at_end (part number bytes world last) fault))
+
 -- a list that has a front and a rest of no byte is none
 front_none : (front rest : List ℕ) → [] ≡ front ++ rest → front ≡ []
 front_none [] rest h = refl
@@ -217,17 +256,30 @@ module _ {S : Type 0} (W : Sink S) where
   stopped_none a b p = subst (λ l. Appends (W.written a) (W.written b) l) (front_none p.front p.rest p.whole) p.appends
 
   -- the line of an outcome, or a front of it
-  pub line_put : {A : Type 0} (at_end : Bool) (r : Result A RunFault) (w l : WorldView) (a b : S) (number : ℕ) (line bytes : List ℕ) (act : ActContent) (o : Outcome) → Writes W a b r (outcome_line o)
-      → AsksFor line act → Step act w o l → BeginsWith at_end bytes (line ∷ []) → PlaysLine W at_end w l a b r number line bytes
-  line_put at_end (Ok x) w l a b number line bytes act o p h s g = (outcome_line o, p.appends, plays_one w l line act o h s)
+  pub line_put : {A : Type 0} (at_end : Bool) (r : Result A RunFault) (w l : WorldView) (a b : S) (number : ℕ)
+      (line bytes : List ℕ) (act : ActContent) (o : Outcome) → Writes W a b r (outcome_line o)
+      → AsksFor line act → Step act w o l → BeginsWith at_end bytes (line ∷ [])
+      → PlaysLine W at_end w l a b r number line bytes
+  line_put at_end (Ok x) w l a b number line bytes act o p h s g =
+      (outcome_line o, p.appends, plays_one w l line act o h s)
   line_put at_end (Err e) w l a b number line bytes act o p h s g =
-      subst (λ f. Took W a b (Stops at_end f w l number bytes)) (sym p.0)
-      (p.1.front, p.1.appends, (line ∷ [], g, torn_one w l line p.1.front (outcome_line o) (plays_one w l line act o h s) (p.1.rest, p.1.whole)))
+      subst (λ f. Took W a b (Stops at_end (part number bytes w l) f)) (sym p.0) (
+        p.1.front,
+        p.1.appends,
+        (
+          line ∷ [],
+          g,
+          torn_one w l line p.1.front (outcome_line o) (plays_one w l line act o h s)
+              (p.1.rest, p.1.whole),
+        ),
+      )
 
 module _ {S : Type 0} (W : Sink S) where
   -- a line that asks for no act
-  pub line_refused : {A : Type 0} (at_end : Bool) (r : Result A RunFault) (w : WorldView) (a b : S) (number at : ℕ) (line bytes : List ℕ) → (r ≡ Err (BadLine number at)) ⊎ (r ≡ Err WriteFailed)
-      → Appends (W.written a) (W.written b) [] → IsBadAt line at → BeginsWith at_end bytes (line ∷ []) → PlaysLine W at_end w w a b r number line bytes
+  pub line_refused : {A : Type 0} (at_end : Bool) (r : Result A RunFault) (w : WorldView) (a b : S) (number at : ℕ)
+      (line bytes : List ℕ) → (r ≡ Err (BadLine number at)) ⊎ (r ≡ Err WriteFailed)
+      → Appends (W.written a) (W.written b) [] → IsBadAt line at → BeginsWith at_end bytes (line ∷ [])
+      → PlaysLine W at_end w w a b r number line bytes
   line_refused {A = A} at_end r w a b number at line bytes (inl e) p h g =
       subst (λ x. PlaysLine {A = A} W at_end w w a b x number line bytes) (sym e)
       ([], p, ([], line, g, (refl, refl), h, omega arith))
@@ -237,7 +289,8 @@ module _ {S : Type 0} (W : Sink S) where
 
   -- ---- pieces
 
-  pub on_none : (w : WorldView) (a : S) (line : LineBuffer) (number : ℕ) (rest : List ℕ) → KeepsLine line rest → HasNoFeed rest → PlaysOn W w w a a line number number rest
+  pub on_none : (w : WorldView) (a : S) (line : LineBuffer) (number : ℕ) (rest : List ℕ) → KeepsLine line rest
+      → HasNoFeed rest → PlaysOn W (part number rest w w) a a line number
   on_none w a line number rest k h = record {
     lines = [];
     rest = rest;
@@ -250,24 +303,31 @@ module _ {S : Type 0} (W : Sink S) where
   }
 
   -- a line with its line feed
-  pub on_one : (w l : WorldView) (a b : S) (line : LineBuffer) (number : ℕ) (whole : List ℕ) → KeepsLine line [] → HasNoFeed whole → Took W a b (λ out. Plays w (whole ∷ []) out l)
-      → PlaysOn W w l a b line number (number + 1) (whole ++ 10 ∷ [])
+  pub on_one : (w l : WorldView) (a b : S) (line : LineBuffer) (number : ℕ) (whole : List ℕ) → KeepsLine line []
+      → HasNoFeed whole → Took W a b (λ out. Plays w (whole ∷ []) out l)
+      → PlaysOn W (part number (whole ++ 10 ∷ []) w l) a b line (number + 1)
   on_one w l a b line number whole k h p = record {
     lines = whole ∷ [];
     rest = [];
     text = p.0;
-    cut = record { whole = sym (flat_one whole) ∙ sym (append-nil (flat_map ended (whole ∷ []))); each = all_one whole h; last = no_byte };
+    cut = record {
+      whole = sym (flat_one whole) ∙ sym (append-nil (flat_map ended (whole ∷ [])));
+      each = all_one whole h;
+      last = no_byte;
+    };
     kept = k;
     counted = omega arith;
     plays = p.2;
     wrote = p.1;
   }
 
-  on_whole : {w m : WorldView} {a b : S} {line : LineBuffer} {n n' : ℕ} (bytes : List ℕ) (q : PlaysOn W w m a b line n n' bytes) (p : List ℕ) → bytes ++ p ≡ flat_map ended q.lines ++ (q.rest ++ p)
+  on_whole : {w m : WorldView} {a b : S} {line : LineBuffer} {n n' : ℕ} (bytes : List ℕ)
+      (q : PlaysOn W (part n bytes w m) a b line n') (p : List ℕ) → bytes ++ p ≡ flat_map ended q.lines ++ (q.rest ++ p)
   on_whole bytes q p = ap (λ l. l ++ p) q.cut.whole ∙ append_assoc (flat_map ended q.lines) q.rest p
 
-  pub on_more : (w m l : WorldView) (a b c : S) (line line' : LineBuffer) (n n' n'' : ℕ) (bytes piece : List ℕ) (q : PlaysOn W w m a b line n n' bytes) → PlaysOn W m l b c line' n' n'' (q.rest ++ piece)
-      → PlaysOn W w l a c line' n n'' (bytes ++ piece)
+  pub on_more : (w m l : WorldView) (a b c : S) (line line' : LineBuffer) (n n' n'' : ℕ) (bytes piece : List ℕ)
+      (q : PlaysOn W (part n bytes w m) a b line n') → PlaysOn W (part n' (q.rest ++ piece) m l) b c line' n''
+      → PlaysOn W (part n (bytes ++ piece) w l) a c line' n''
   on_more w m l a b c line line' n n' n'' bytes piece q p = record {
     lines = q.lines ++ p.lines;
     rest = p.rest;
@@ -280,96 +340,149 @@ module _ {S : Type 0} (W : Sink S) where
   }
 
   -- more bytes of the line
-  pub on_held : (w m : WorldView) (a b : S) (line line' : LineBuffer) (n n' : ℕ) (bytes p : List ℕ) (q : PlaysOn W w m a b line n n' bytes) → HasNoFeed p → KeepsLine line' (q.rest ++ p)
-      → PlaysOn W w m a b line' n n' (bytes ++ p)
-  on_held w m a b line line' n n' bytes p q h k = on_more w m m a b b line line' n n' n' bytes p q (on_none m b line' n' (q.rest ++ p) k (All-append (λ x. x ≢ 10) q.rest p q.cut.last h))
+  pub on_held : (w m : WorldView) (a b : S) (line line' : LineBuffer) (n n' : ℕ) (bytes p : List ℕ)
+      (q : PlaysOn W (part n bytes w m) a b line n') → HasNoFeed p → KeepsLine line' (q.rest ++ p)
+      → PlaysOn W (part n (bytes ++ p) w m) a b line' n'
+  on_held w m a b line line' n n' bytes p q h k =
+      on_more w m m a b b line line' n n' n' bytes p q
+      (on_none m b line' n' (q.rest ++ p) k (All-append (λ x. x ≢ 10) q.rest p q.cut.last h))
 
   -- a line feed after them
-  pub on_line : (w m l : WorldView) (a b c : S) (line line' : LineBuffer) (n n' : ℕ) (bytes p : List ℕ) (q : PlaysOn W w m a b line n n' bytes) → HasNoFeed p → KeepsLine line' []
-      → Took W b c (λ out. Plays m ((q.rest ++ p) ∷ []) out l) → PlaysOn W w l a c line' n (n' + 1) (bytes ++ (p ++ 10 ∷ []))
-  on_line w m l a b c line line' n n' bytes p q h k t = on_more w m l a b c line line' n n' (n' + 1) bytes (p ++ 10 ∷ []) q
-      (subst (λ x. PlaysOn W m l b c line' n' (n' + 1) x) (append_assoc q.rest p (10 ∷ []))
+  pub on_line : (w m l : WorldView) (a b c : S) (line line' : LineBuffer) (n n' : ℕ) (bytes p : List ℕ)
+      (q : PlaysOn W (part n bytes w m) a b line n') → HasNoFeed p → KeepsLine line' []
+      → Took W b c (λ out. Plays m ((q.rest ++ p) ∷ []) out l)
+      → PlaysOn W (part n (bytes ++ (p ++ 10 ∷ [])) w l) a c line' (n' + 1)
+  on_line w m l a b c line line' n n' bytes p q h k t = on_more w m l a b c line line' n n' (n' + 1) bytes
+      (p ++ 10 ∷ []) q
+      (subst (λ x. PlaysOn W (part n' x m l) b c line' (n' + 1)) (append_assoc q.rest p (10 ∷ []))
       (on_one m l b c line' n' (q.rest ++ p) k (All-append (λ x. x ≢ 10) q.rest p q.cut.last h) t))
 
   -- what stops the run after them
-  pub on_stops : (at_end : Bool) (e : RunFault) (w m l : WorldView) (a b c : S) (line : LineBuffer) (n n' : ℕ) (bytes p : List ℕ) (q : PlaysOn W w m a b line n n' bytes) → Took W b c (Stops at_end e m l n' (q.rest ++ p))
-      → Took W a c (Stops at_end e w l n (bytes ++ p))
+  pub on_stops : (at_end : Bool) (e : RunFault) (w m l : WorldView) (a b c : S) (line : LineBuffer) (n n' : ℕ)
+      (bytes p : List ℕ) (q : PlaysOn W (part n bytes w m) a b line n')
+      → Took W b c (Stops at_end (part n' (q.rest ++ p) m l) e)
+      → Took W a c (Stops at_end (part n (bytes ++ p) w l) e)
   on_stops at_end e w m l a b c line n n' bytes p q t = (
     q.text ++ t.0,
     Appends-trans _ _ _ q.text t.0 q.wrote t.1,
-    stops_after at_end e w m l n n' (bytes ++ p) (q.rest ++ p) q.text t.0 q.lines (on_whole bytes q p) q.cut.each q.counted q.plays t.2,
+    stops_after at_end e w m l n n' (bytes ++ p) (q.rest ++ p) q.text t.0 q.lines
+        (on_whole bytes q p) q.cut.each q.counted q.plays t.2,
   )
 
-  pub on_simulated : {A : Type 0} (at_end : Bool) (r : Result A RunFault) (w m l : WorldView) (a b c : S) (line : LineBuffer) (n n' : ℕ) (bytes p : List ℕ) (q : PlaysOn W w m a b line n n' bytes)
-      → Took W b c (IsSimulatedFrom at_end n' r m l (q.rest ++ p)) → Took W a c (IsSimulatedFrom at_end n r w l (bytes ++ p))
+  pub on_simulated : {A : Type 0} (at_end : Bool) (r : Result A RunFault) (w m l : WorldView) (a b c : S)
+      (line : LineBuffer) (n n' : ℕ) (bytes p : List ℕ) (q : PlaysOn W (part n bytes w m) a b line n')
+      → Took W b c (IsSimulatedFrom at_end (part n' (q.rest ++ p) m l) r)
+      → Took W a c (IsSimulatedFrom at_end (part n (bytes ++ p) w l) r)
   on_simulated at_end r w m l a b c line n n' bytes p q t = (
     q.text ++ t.0,
     Appends-trans _ _ _ q.text t.0 q.wrote t.1,
-    simulated_after at_end r w m l n n' (bytes ++ p) (q.rest ++ p) q.text t.0 q.lines (on_whole bytes q p) q.cut.each q.counted q.plays t.2,
+    simulated_after at_end r w m l n n' (bytes ++ p) (q.rest ++ p) q.text t.0 q.lines
+        (on_whole bytes q p) q.cut.each q.counted q.plays t.2,
   )
 
   -- the exit of a `?` in a piece
-  pub piece_exit : {A : Type 0} (at_end : Bool) (r : Result A RunFault) (e : RunFault) (w l : WorldView) (a b : S) (line : LineBuffer) (n n' : ℕ) (bytes : List ℕ) → IsErrAnd r (λ y. y ≡ e) → Took W a b (Stops at_end e w l n bytes)
+  pub piece_exit : {A : Type 0} (at_end : Bool) (r : Result A RunFault) (e : RunFault) (w l : WorldView) (a b : S)
+      (line : LineBuffer) (n n' : ℕ) (bytes : List ℕ) → IsErrAnd r (λ y. y ≡ e)
+      → Took W a b (Stops at_end (part n bytes w l) e)
       → PlaysPiece W at_end w l a b line n n' r bytes
   piece_exit at_end (Ok x) e w l a b line n n' bytes k t = absurd k
-  piece_exit at_end (Err y) e w l a b line n n' bytes k t = subst (λ f. Took W a b (Stops at_end f w l n bytes)) (sym k) t
+  piece_exit at_end (Err y) e w l a b line n n' bytes k t = subst (λ f. Took W a b (Stops at_end (part n bytes w l) f))
+      (sym k) t
 
   -- ---- the end
 
   -- the exit of a `?` at the end
-  pub end_exit : {A : Type 0} (at_end : Bool) (r : Result A RunFault) (e : RunFault) (w l : WorldView) (a b : S) (n : ℕ) (bytes : List ℕ) → IsErrAnd r (λ y. y ≡ e) → Took W a b (Stops at_end e w l n bytes)
-      → Took W a b (IsSimulatedFrom at_end n r w l bytes)
+  pub end_exit : {A : Type 0} (at_end : Bool) (r : Result A RunFault) (e : RunFault) (w l : WorldView) (a b : S)
+      (n : ℕ) (bytes : List ℕ) → IsErrAnd r (λ y. y ≡ e) → Took W a b (Stops at_end (part n bytes w l) e)
+      → Took W a b (IsSimulatedFrom at_end (part n bytes w l) r)
   end_exit at_end (Ok x) e w l a b n bytes k t = absurd k
-  end_exit {A = A} at_end (Err y) e w l a b n bytes k t = subst (λ f. let r : Result A RunFault = Err f in Took W a b (IsSimulatedFrom at_end n r w l bytes)) (sym k) (t.0, t.1, stops_simulated at_end A e w l n bytes t.0 t.2)
+  end_exit {A = A} at_end
+      (Err y) e w l a b n bytes k t
+      = subst (λ f. let r : Result A RunFault = Err f in Took W a b (IsSimulatedFrom at_end (part n bytes w l) r))
+      (sym k) (t.0, t.1, stops_simulated at_end A e w l n bytes t.0 t.2)
 
-  pub end_some : (w l : WorldView) (a b : S) (rest : List ℕ) → rest ≢ [] → Took W a b (λ out. Plays w (rest ∷ []) out l) → Took W a b (λ out. Plays w (all_lines [] rest) out l)
+  pub end_some : (w l : WorldView) (a b : S) (rest : List ℕ) → rest ≢ []
+      → Took W a b (λ out. Plays w (rest ∷ []) out l) → Took W a b (λ out. Plays w (all_lines [] rest) out l)
   end_some w l a b [] n t = absurd (n refl)
   end_some w l a b (byte ∷ rest) n t = t
 
-  pub end_none : (w l : WorldView) (a b : S) (rest : List ℕ) → rest ≡ [] → l ≡ w → b ≡ a → Took W a b (λ out. Plays w (all_lines [] rest) out l)
+  pub end_none : (w l : WorldView) (a b : S) (rest : List ℕ) → rest ≡ [] → l ≡ w → b ≡ a
+      → Took W a b (λ out. Plays w (all_lines [] rest) out l)
   end_none w l a b rest e f h = rw (e, f, h) ([], Appends-nil (W.written a), (refl, refl))
 
   -- the closing lines, or a front of them
-  pub end_closing : {A : Type 0} (at_end : Bool) (r : Result A RunFault) (w l : WorldView) (a b c : S) (n : ℕ) (rest : List ℕ) (quiet : Bool) → IsTrue at_end → HasNoFeed rest
-      → Took W a b (λ out. Plays w (all_lines [] rest) out l) → (IsTrue quiet ↔ IsQuietWorld l) → Writes W b c r (closing_lines l quiet) → Took W a c (IsSimulatedFrom at_end n r w l rest)
+  pub end_closing : {A : Type 0} (at_end : Bool) (r : Result A RunFault) (w l : WorldView) (a b c : S) (n : ℕ)
+      (rest : List ℕ) (quiet : Bool) → IsTrue at_end → HasNoFeed rest
+      → Took W a b (λ out. Plays w (all_lines [] rest) out l) → (IsTrue quiet ↔ IsQuietWorld l)
+      → Writes W b c r (closing_lines l quiet) → Took W a c (IsSimulatedFrom at_end (part n rest w l) r)
   end_closing at_end (Ok x) w l a b c n rest quiet e h t k p = (
     t.0 ++ closing_lines l quiet,
     Appends-trans _ _ _ t.0 (closing_lines l quiet) t.1 p.appends,
     ([], rest, t.0, quiet, record { whole = refl; each = all_none; last = h }, t.2, k, refl),
   )
-  end_closing {A = A} at_end (Err f) w l a b c n rest quiet e h t k p = subst (λ g. let r : Result A RunFault = Err g in Took W a c (IsSimulatedFrom at_end n r w l rest)) (sym p.0) (
-    t.0 ++ p.1.front,
-    Appends-trans _ _ _ t.0 p.1.front t.1 p.1.appends,
-    inr ([], rest, t.0, quiet, p.1.front, record { whole = refl; each = all_none; last = h }, t.2, k, (p.1.rest, p.1.whole), refl, e),
-  )
+  end_closing {A = A} at_end (Err f) w l a b c n rest quiet e h t k p
+      = subst (λ g. let r : Result A RunFault = Err g in Took W a c (IsSimulatedFrom at_end (part n rest w l) r))
+      (sym p.0) (
+        t.0 ++ p.1.front,
+        Appends-trans _ _ _ t.0 p.1.front t.1 p.1.appends,
+        inr (
+          [],
+          rest,
+          t.0,
+          quiet,
+          p.1.front,
+          record { whole = refl; each = all_none; last = h },
+          t.2,
+          k,
+          (p.1.rest, p.1.whole),
+          refl,
+          e,
+        ),
+      )
 
 -- ---- the bytes of a piece
 
-pub held_bytes : (rest piece : List ℕ) (i n : ℕ) → (rest ++ take i piece) ++ take n (take (length piece - i) (drop i piece)) ≡ rest ++ take (i + n) piece
+pub held_bytes : (rest piece : List ℕ) (i n : ℕ)
+    → (rest ++ take i piece) ++ take n (take (length piece - i) (drop i piece)) ≡ rest ++ take (i + n) piece
 held_bytes rest piece i n = append_assoc rest (take i piece) _ ∙ ap (λ l. rest ++ l) (sym (slice_more piece i n))
 
-line_feed : (piece : List ℕ) (i n : ℕ) → i + n < length piece → (n < length (take (length piece - i) (drop i piece)) → slice_index (take (length piece - i) (drop i piece)) n ≡ 10)
+line_feed : (piece : List ℕ) (i n : ℕ) → i + n < length piece
+    → (n < length (take (length piece - i) (drop i piece))
+    → slice_index (take (length piece - i) (drop i piece)) n ≡ 10)
     → take (n + 1) (take (length piece - i) (drop i piece)) ≡ take n (take (length piece - i) (drop i piece)) ++ 10 ∷ []
 line_feed piece i n h k =
     let room = slice_room piece i n h in
-    rw add-one (take-suc (take (length piece - i) (drop i piece)) n 0 room) ∙ ap (λ b. take n (take (length piece - i) (drop i piece)) ++ b ∷ []) (k room)
+    rw add-one (take-suc (take (length piece - i) (drop i piece)) n 0 room) ∙
+    ap (λ b. take n (take (length piece - i) (drop i piece)) ++ b ∷ []) (k room)
 
-pub line_bytes : (rest piece : List ℕ) (i n : ℕ) → i + n < length piece → (n < length (take (length piece - i) (drop i piece)) → slice_index (take (length piece - i) (drop i piece)) n ≡ 10)
-    → (rest ++ take i piece) ++ (take n (take (length piece - i) (drop i piece)) ++ 10 ∷ []) ≡ rest ++ take (i + n + 1) piece
+pub line_bytes : (rest piece : List ℕ) (i n : ℕ) → i + n < length piece
+    → (n < length (take (length piece - i) (drop i piece))
+    → slice_index (take (length piece - i) (drop i piece)) n ≡ 10)
+    → (rest ++ take i piece) ++ (take n (take (length piece - i) (drop i piece)) ++ 10 ∷ []) ≡ rest ++ take
+    (i + n + 1) piece
 line_bytes rest piece i n h k =
     let sum : i + (n + 1) ≡ i + n + 1 = omega arith in
-    ap (λ l. (rest ++ take i piece) ++ l) (sym (line_feed piece i n h k)) ∙ held_bytes rest piece i (n + 1) ∙ ap (λ m. rest ++ take m piece) sum
+    ap (λ l. (rest ++ take i piece) ++ l) (sym (line_feed piece i n h k)) ∙ held_bytes rest piece i
+    (n + 1) ∙ ap (λ m. rest ++ take m piece) sum
 
 -- the bytes after those that were played
 pub left_bytes : (rest piece : List ℕ) (i : ℕ) → (rest ++ take i piece) ++ drop i piece ≡ rest ++ piece
-left_bytes rest piece i = append_assoc rest (take i piece) (drop i piece) ∙ ap (λ l. rest ++ l) (take-append-drop i piece)
+left_bytes rest piece i = append_assoc rest (take i piece) (drop i piece) ∙ ap (λ l. rest ++ l)
+    (take-append-drop i piece)
 
 -- they begin with a line
-pub feed_begins : (at_end : Bool) (rest piece : List ℕ) (i n : ℕ) → i + n < length piece → (n < length (take (length piece - i) (drop i piece)) → slice_index (take (length piece - i) (drop i piece)) n ≡ 10) → HasNoFeed rest
-    → HasNoFeed (take n (take (length piece - i) (drop i piece))) → BeginsWith at_end (rest ++ drop i piece) ((rest ++ take n (take (length piece - i) (drop i piece))) ∷ [])
+pub feed_begins : (at_end : Bool) (rest piece : List ℕ) (i n : ℕ) → i + n < length piece
+    → (n < length (take (length piece - i) (drop i piece))
+    → slice_index (take (length piece - i) (drop i piece)) n ≡ 10) → HasNoFeed rest
+    → HasNoFeed (take n (take (length piece - i) (drop i piece))) → BeginsWith at_end (rest ++ drop i piece)
+    ((rest ++ take n (take (length piece - i) (drop i piece))) ∷ [])
 feed_begins at_end rest piece i n h k none clean =
     let left = take (length piece - i) (drop i piece) in
     let line = take n left in
-    begins_ended at_end (rest ++ line) (drop (n + 1) left) (rest ++ drop i piece) (All-append (λ x. x ≢ 10) rest line none clean)
-    (ap (λ l. rest ++ l) (sym (slice_from piece i) ∙ sym (take-append-drop (n + 1) left) ∙ ap (λ l. l ++ drop (n + 1) left) (line_feed piece i n h k))
-    ∙ sym (append_assoc rest (line ++ 10 ∷ []) (drop (n + 1) left)) ∙ ap (λ l. l ++ drop (n + 1) left) (sym (append_assoc rest line (10 ∷ []))))
+    begins_ended at_end (rest ++ line) (drop (n + 1) left) (rest ++ drop i piece)
+    (All-append (λ x. x ≢ 10) rest line none clean)
+    (ap (λ l. rest ++ l)
+    (sym (slice_from piece i) ∙ sym (take-append-drop (n + 1) left) ∙ ap (λ l. l ++ drop (n + 1) left)
+    (line_feed piece i n h k))
+    ∙ sym (append_assoc rest (line ++ 10 ∷ []) (drop (n + 1) left)) ∙ ap (λ l. l ++ drop (n + 1) left)
+    (sym (append_assoc rest line (10 ∷ []))))

@@ -21,7 +21,8 @@ no_feed_in : (line bytes after : List ℕ) → HasNoFeed bytes → bytes ≡ lin
 no_feed_in [] [] after h e = cc
 no_feed_in [] (b ∷ bytes) after h e = let same : b ≡ 10 = cc in first_of_all (λ x. x ≢ 10) b bytes h same
 no_feed_in (c ∷ line) [] after h e = cc
-no_feed_in (c ∷ line) (b ∷ bytes) after h e = let more : bytes ≡ line ++ 10 ∷ after = cc in no_feed_in line bytes after (rest_of (λ x. x ≢ 10) b bytes h) more
+no_feed_in (c ∷ line) (b ∷ bytes) after h e = let more : bytes ≡ line ++ 10 ∷ after = cc in
+    no_feed_in line bytes after (rest_of (λ x. x ≢ 10) b bytes h) more
 
 -- the first line feed ends the first line
 feed_once : (a b x y : List ℕ) → HasNoFeed a → HasNoFeed b → a ++ 10 ∷ x ≡ b ++ 10 ∷ y → (a ≡ b) × (x ≡ y)
@@ -34,24 +35,36 @@ feed_once (c ∷ a) (d ∷ b) x y h k e =
     let more = feed_once a b x y (rest_of (λ z. z ≢ 10) c a h) (rest_of (λ z. z ≢ 10) d b k) tail in
     (ap (λ z. z ∷ a) same ∙ ap (λ z. d ∷ z) more.0, more.1)
 
-flat_first : (line : List ℕ) (lines : List (List ℕ)) (rest : List ℕ) → flat_map ended (line ∷ lines) ++ rest ≡ line ++ 10 ∷ (flat_map ended lines ++ rest)
-flat_first line lines rest = append_assoc (ended line) (flat_map ended lines) rest ∙ append_assoc line (10 ∷ []) (flat_map ended lines ++ rest)
+flat_first : (line : List ℕ) (lines : List (List ℕ)) (rest : List ℕ)
+    → flat_map ended (line ∷ lines) ++ rest ≡ line ++ 10 ∷ (flat_map ended lines ++ rest)
+flat_first line lines rest = append_assoc (ended line) (flat_map ended lines) rest ∙ append_assoc line (10 ∷ [])
+    (flat_map ended lines ++ rest)
 
-lines_once : (ls ks : List (List ℕ)) (r s : List ℕ) → All HasNoFeed ls → All HasNoFeed ks → HasNoFeed r → HasNoFeed s → flat_map ended ls ++ r ≡ flat_map ended ks ++ s → (ls ≡ ks) × (r ≡ s)
+lines_once : (ls ks : List (List ℕ)) (r s : List ℕ) → All HasNoFeed ls → All HasNoFeed ks → HasNoFeed r → HasNoFeed s
+    → flat_map ended ls ++ r ≡ flat_map ended ks ++ s → (ls ≡ ks) × (r ≡ s)
 lines_once [] [] r s h k f g e = (refl, e)
-lines_once [] (line ∷ ks) r s h k f g e = absurd (no_feed_in line r (flat_map ended ks ++ s) f (e ∙ flat_first line ks s))
-lines_once (line ∷ ls) [] r s h k f g e = absurd (no_feed_in line s (flat_map ended ls ++ r) g (sym e ∙ flat_first line ls r))
+lines_once [] (line ∷ ks) r s h k f g e =
+    absurd (no_feed_in line r (flat_map ended ks ++ s) f (e ∙ flat_first line ks s))
+lines_once (line ∷ ls) [] r s h k f g e =
+    absurd (no_feed_in line s (flat_map ended ls ++ r) g (sym e ∙ flat_first line ls r))
 lines_once (line ∷ ls) (other ∷ ks) r s h k f g e =
-    let first = feed_once line other (flat_map ended ls ++ r) (flat_map ended ks ++ s) (first_of_all HasNoFeed line ls h) (first_of_all HasNoFeed other ks k) (sym (flat_first line ls r) ∙ e ∙ flat_first other ks s) in
+    let first = feed_once line other (flat_map ended ls ++ r) (flat_map ended ks ++ s)
+    (first_of_all HasNoFeed line ls h) (first_of_all HasNoFeed other ks k)
+    (sym (flat_first line ls r) ∙ e ∙ flat_first other ks s) in
     let more = lines_once ls ks r s (rest_of HasNoFeed line ls h) (rest_of HasNoFeed other ks k) f g first.1 in
     (ap (λ z. z ∷ ls) first.0 ∙ ap (λ z. other ∷ z) more.0, more.1)
 
-pub cut_once : (bytes : List ℕ) (lines others : List (List ℕ)) (rest other : List ℕ) → IsCut bytes lines rest → IsCut bytes others other → (lines ≡ others) × (rest ≡ other)
-cut_once bytes lines others rest other c d = lines_once lines others rest other c.each d.each c.last d.last (sym c.whole ∙ d.whole)
+pub cut_once : (bytes : List ℕ) (lines others : List (List ℕ)) (rest other : List ℕ) → IsCut bytes lines rest
+    → IsCut bytes others other → (lines ≡ others) × (rest ≡ other)
+cut_once bytes lines others rest other c d = lines_once lines others rest other c.each d.each c.last d.last
+    (sym c.whole ∙ d.whole)
 
-module _ (meaning : (line : List ℕ) (first second : ActContent) → AsksFor line first → AsksFor line second → first ≡ second)
-    (one : (act : ActContent) (world after other : WorldView) (answer also : Outcome) → Step act world answer after → Step act world also other → (answer ≡ also) × (after ≡ other)) where
-  pub plays_once : (w : WorldView) (ls : List (List ℕ)) (t u : List ℕ) (l k : WorldView) → Plays w ls t l → Plays w ls u k → (t ≡ u) × (l ≡ k)
+module _ (meaning : (line : List ℕ) (first second : ActContent) → AsksFor line first → AsksFor line second
+    → first ≡ second)
+    (one : (act : ActContent) (world after other : WorldView) (answer also : Outcome) → Step act world answer after
+    → Step act world also other → (answer ≡ also) × (after ≡ other)) where
+  pub plays_once : (w : WorldView) (ls : List (List ℕ)) (t u : List ℕ) (l k : WorldView) → Plays w ls t l
+      → Plays w ls u k → (t ≡ u) × (l ≡ k)
   plays_once w [] t u l k p q = (p.0 ∙ sym q.0, sym p.1 ∙ q.1)
   plays_once w (line ∷ ls) t u l k p q =
       let act : p.0 ≡ q.0 = meaning line p.0 q.0 p.4 q.4 in

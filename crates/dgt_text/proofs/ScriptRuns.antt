@@ -3,7 +3,7 @@ use Rattle.std.proofs.Common.{◌≡◌, ℕ, List, [], ◌++◌, Bool, true, So
 use Rattle.std.specs.Prelude.{IfErr}
 use Rattle.std.specs.Io.KnownBytes.{Appends, Consumes}
 use Rattle.std.proofs.KnownBytes.{Appends-trans, Consumes-nil, Consumes-trans}
-use Rattle.dgt_link.specs.Machine.{MachineState}
+use Rattle.dgt_link.specs.Machine.{State}
 use Rattle.dgt_link.specs.Promise.{IsPromised}
 use Rattle.dgt_link.specs.Stands.{StandsFor}
 use Rattle.dgt_link.specs.View.{IsQuietWorld, WorldView}
@@ -12,14 +12,15 @@ use Rattle.dgt_lines.specs.declared.faults.RunFault.TheVariants.{ReadFailed, Wri
 use Rattle.dgt_script.specs.declared.script_lines.LineBuffer.{LineBuffer}
 use Rattle.dgt_script.specs.Closing.{ClosingLinesAgree, closing_lines}
 use Rattle.dgt_lines.specs.Writing.{Stopped}
-use Rattle.dgt_text.specs.Turns.{HasTurns, Ran}
-use Rattle.dgt_text.specs.Simulating.{IsOfLine, IsSimulated, IsSimulatedFrom, PlaysOn, Stops, TellsPicture, Took}
+use Rattle.dgt_text.specs.Turns.{HasTurns, Ran, change, InTurns}
+use Rattle.dgt_text.specs.Simulating.{IsOfLine, IsSimulated, IsSimulatedFrom, PlaysOn, Stops, TellsPicture, Took, part}
 use Rattle.dgt_text.proofs.PlayLemmas.{begins_none, end_exit, on_simulated, stopped_none, torn_none}
 use Rattle.dgt_lines.specs.declared.ends.Source.{Ghosts as Source}
 use Rattle.dgt_lines.specs.declared.ends.Sink.{Ghosts as Sink}
 
 -- a fault of a line is none of turns
-line_turns : {A : Type 0} (limit : ℕ) (r : Result A RunFault) (bytes : List ℕ) → IfErr r IsOfLine → HasTurns limit r bytes
+line_turns : {A : Type 0} (limit : ℕ) (r : Result A RunFault) (bytes : List ℕ) → IfErr r IsOfLine
+    → HasTurns limit r bytes
 line_turns limit (Ok x) bytes f = tt
 line_turns limit (Err WriteFailed) bytes f = tt
 line_turns limit (Err (BadLine number at)) bytes f = tt
@@ -27,11 +28,12 @@ line_turns limit (Err ReadFailed) bytes f = absurd f
 line_turns limit (Err TooManyTurns) bytes f = absurd f
 
 -- what stops a run at a line is a fault of a line
-stop_line : {A : Type 0} (at_end : Bool) (r : Result A RunFault) (e : RunFault) (w l : WorldView) (n : ℕ) (bytes out : List ℕ) → IsErrAnd r (λ y. y ≡ e) → Stops at_end e w l n bytes out → IfErr r IsOfLine
+stop_line : {A : Type 0} (at_end : Bool) (r : Result A RunFault) (e : RunFault) (w l : WorldView) (n : ℕ)
+    (bytes out : List ℕ) → IsErrAnd r (λ y. y ≡ e) → Stops at_end (part n bytes w l) e out → IfErr r IsOfLine
 stop_line at_end (Ok x) e w l n bytes out k s = absurd k
 stop_line at_end (Err y) e w l n bytes out k s = subst IsOfLine (sym k) (go e s)
   where
-    go : (e : RunFault) → Stops at_end e w l n bytes out → IsOfLine e
+    go : (e : RunFault) → Stops at_end (part n bytes w l) e out → IsOfLine e
     go WriteFailed s = tt
     go (BadLine number at) s = tt
     go ReadFailed s = absurd s
@@ -41,8 +43,9 @@ is_true : {b : Bool} → IsTrue b → b ≡ true
 is_true h = cc
 
 -- the lines that were played, and a flush
-pub plays_flushed : {T : Type 0} (W : Sink T) (c d d' : T) (w m : WorldView) (line : LineBuffer) (n : ℕ) (bytes : List ℕ) → PlaysOn W w m c d line 1 n bytes → Appends (W.written d) (W.written d') []
-    → PlaysOn W w m c d' line 1 n bytes
+pub plays_flushed : {T : Type 0} (W : Sink T) (c d d' : T) (w m : WorldView) (line : LineBuffer) (n : ℕ)
+    (bytes : List ℕ) → PlaysOn W (part 1 bytes w m) c d line n → Appends (W.written d) (W.written d') []
+    → PlaysOn W (part 1 bytes w m) c d' line n
 plays_flushed W c d d' w m line n bytes q p = record {
   lines = q.lines;
   rest = q.rest;
@@ -51,46 +54,69 @@ plays_flushed W c d d' w m line n bytes q p = record {
   kept = q.kept;
   counted = q.counted;
   plays = q.plays;
-  wrote = subst (λ l. Appends (W.written c) (W.written d') l) (append-nil q.text) (Appends-trans _ _ _ q.text [] q.wrote p);
+  wrote = subst (λ l. Appends (W.written c) (W.written d') l) (append-nil q.text)
+      (Appends-trans _ _ _ q.text [] q.wrote p);
 }
 
 module _ {S T : Type 0} (R : Source S) (W : Sink T) where
   -- how the run ends
-  pub scripted_ends : {A : Type 0} (at_end : Bool) (limit : ℕ) (r : Result A RunFault) (a b b' : S) (c d d' : T) (w m l : WorldView) (line : LineBuffer) (n : ℕ) (bytes piece : List ℕ) → Consumes (R.left a) (R.left b) bytes → (q : PlaysOn W w m c d line 1 n bytes)
-      → Consumes (R.left b) (R.left b') piece → IfErr r IsOfLine → Took W d d' (IsSimulatedFrom at_end n r m l (q.rest ++ piece)) → Ran R W a b' c d' limit r (IsSimulated at_end r w l)
+  pub scripted_ends : {A : Type 0} (at_end : Bool) (limit : ℕ) (r : Result A RunFault) (a b b' : S) (c d d' : T)
+      (w m l : WorldView) (line : LineBuffer) (n : ℕ) (bytes piece : List ℕ) → Consumes (R.left a) (R.left b) bytes
+      → (q : PlaysOn W (part 1 bytes w m) c d line n)
+      → Consumes (R.left b) (R.left b') piece → IfErr r IsOfLine
+      → Took W d d' (IsSimulatedFrom at_end (part n (q.rest ++ piece) m l) r)
+      → Ran R W (change a b') (change c d') (InTurns limit r (IsSimulated at_end r w l))
   scripted_ends at_end limit r a b b' c d d' w m l line n bytes piece g q p f t =
-      let whole = on_simulated W at_end r w m l c d d' line 1 n bytes piece q t in
-      (bytes ++ piece, whole.0, Consumes-trans _ _ _ bytes piece g p, whole.1, line_turns limit r (bytes ++ piece) f, whole.2)
+      let whole = on_simulated W at_end r w m l c d d' line 1 n bytes piece q t in (
+        bytes ++ piece,
+        whole.0,
+        Consumes-trans _ _ _ bytes piece g p,
+        whole.1,
+        (line_turns limit r (bytes ++ piece) f, whole.2),
+      )
 
   -- the exit of a `?` on a piece
-  pub scripted_stops : {A : Type 0} (at_end : Bool) (limit : ℕ) (r : Result A RunFault) (e : RunFault) (a b b' : S) (c d d' : T) (w m l : WorldView) (line : LineBuffer) (n : ℕ) (bytes piece : List ℕ) → Consumes (R.left a) (R.left b) bytes → (q : PlaysOn W w m c d line 1 n bytes)
-      → Consumes (R.left b) (R.left b') piece → IsErrAnd r (λ y. y ≡ e) → Took W d d' (Stops at_end e m l n (q.rest ++ piece)) → Ran R W a b' c d' limit r (IsSimulated at_end r w l)
+  pub scripted_stops : {A : Type 0} (at_end : Bool) (limit : ℕ) (r : Result A RunFault) (e : RunFault) (a b b' : S)
+      (c d d' : T) (w m l : WorldView) (line : LineBuffer) (n : ℕ) (bytes piece : List ℕ)
+      → Consumes (R.left a) (R.left b) bytes → (q : PlaysOn W (part 1 bytes w m) c d line n)
+      → Consumes (R.left b) (R.left b') piece → IsErrAnd r (λ y. y ≡ e)
+      → Took W d d' (Stops at_end (part n (q.rest ++ piece) m l) e)
+      → Ran R W (change a b') (change c d') (InTurns limit r (IsSimulated at_end r w l))
   scripted_stops at_end limit r e a b b' c d d' w m l line n bytes piece g q p k t =
-      scripted_ends at_end limit r a b b' c d d' w m l line n bytes piece g q p (stop_line at_end r e m l n (q.rest ++ piece) t.0 k t.2)
+      scripted_ends at_end limit r a b b' c d d' w m l line n bytes piece g q p
+      (stop_line at_end r e m l n (q.rest ++ piece) t.0 k t.2)
       (end_exit W at_end r e m l d d' n (q.rest ++ piece) k t)
 
   -- and on a flush
-  pub scripted_unflushed : {A : Type 0} (at_end : Bool) (limit : ℕ) (r : Result A RunFault) (e : RunFault) (a b : S) (c d d' : T) (w m : WorldView) (line : LineBuffer) (n : ℕ) (bytes : List ℕ)
-      → Consumes (R.left a) (R.left b) bytes → PlaysOn W w m c d line 1 n bytes → IsErrAnd r (λ y. y ≡ e) → (e ≡ WriteFailed) × Stopped W d d' [] → Ran R W a b c d' limit r (IsSimulated at_end r w m)
+  pub scripted_unflushed : {A : Type 0} (at_end : Bool) (limit : ℕ) (r : Result A RunFault) (e : RunFault) (a b : S)
+      (c d d' : T) (w m : WorldView) (line : LineBuffer) (n : ℕ) (bytes : List ℕ)
+      → Consumes (R.left a) (R.left b) bytes → PlaysOn W (part 1 bytes w m) c d line n → IsErrAnd r (λ y. y ≡ e)
+      → (e ≡ WriteFailed) × Stopped W d d' []
+      → Ran R W (change a b) (change c d') (InTurns limit r (IsSimulated at_end r w m))
   scripted_unflushed at_end limit r e a b c d d' w m line n bytes g q k s =
       scripted_stops at_end limit r e a b b c d d' w m m line n bytes [] g q (Consumes-nil (R.left b)) k
-      (subst (λ f. Took W d d' (Stops at_end f m m n (q.rest ++ []))) (sym s.0) ([], stopped_none W d d' s.1, ([], begins_none at_end (q.rest ++ []), torn_none m)))
+      (subst (λ f. Took W d d' (Stops at_end (part n (q.rest ++ []) m m) f)) (sym s.0)
+      ([], stopped_none W d d' s.1, ([], begins_none at_end (q.rest ++ []), torn_none m)))
 
   -- the closing lines of a world that is promised and quiet
-  pub simulated_pictures : {A : Type 0} (at_end : Bool) (limit : ℕ) (r : Result A RunFault) (a b : S) (c d : T) (w l : WorldView) → ClosingLinesAgree
-      → ((x : MachineState) → StandsFor l x → IsPromised x → IsQuietWorld l → l.host.picture ≡ Some l.board.state.squares)
-      → Ran R W a b c d limit r (IsSimulated at_end r w l) → Ran R W a b c d limit r (λ _ out. OnOk r (TellsPicture l out))
+  pub simulated_pictures : {A : Type 0} (at_end : Bool) (limit : ℕ) (r : Result A RunFault) (a b : S) (c d : T)
+      (w l : WorldView) → ClosingLinesAgree
+      → ((x : State) → StandsFor l x → IsPromised x → IsQuietWorld l → l.host.picture ≡ Some l.board.state.squares)
+      → Ran R W (change a b) (change c d) (InTurns limit r (IsSimulated at_end r w l))
+      → Ran R W (change a b) (change c d) (InTurns limit r (λ _ out. OnOk r (TellsPicture l out)))
   simulated_pictures at_end limit (Ok x) a b c d w l agree same p =
-      let s = p.5 in (
+      let s = p.4.1 in (
         p.0,
         p.1,
         p.2,
         p.3,
-        p.4,
-        λ y stands promised quiet. (
-          s.2,
-          s.7 ∙ ap (λ q. s.2 ++ closing_lines l q) (is_true (s.6.1 quiet)),
-          agree l true (same y stands promised quiet),
+        (
+          p.4.0,
+          λ y stands promised quiet. (
+            s.2,
+            s.7 ∙ ap (λ q. s.2 ++ closing_lines l q) (is_true (s.6.1 quiet)),
+            agree l true (same y stands promised quiet),
+          ),
         ),
       )
-  simulated_pictures at_end limit (Err e) a b c d w l agree same p = (p.0, p.1, p.2, p.3, p.4, tt)
+  simulated_pictures at_end limit (Err e) a b c d w l agree same p = (p.0, p.1, p.2, p.3, (p.4.0, tt))

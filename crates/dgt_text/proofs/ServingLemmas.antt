@@ -17,17 +17,20 @@ use Rattle.dgt_lines.specs.declared.ends.Sink.{Ghosts as Sink}
 use Rattle.dgt_lines.specs.declared.faults.RunFault.{RunFault}
 use Rattle.dgt_lines.specs.declared.faults.RunFault.TheVariants.{WriteFailed}
 use Rattle.dgt_lines.specs.Writing.{Wrote, Stopped, Writes}
-use Rattle.dgt_text.specs.Turns.{Ran}
-use Rattle.dgt_text.specs.Conversation.{Step, told, heard, Converses, events_heard, bytes_told, Hears}
+use Rattle.dgt_text.specs.Turns.{Ran, change, InTurns}
+use Rattle.dgt_text.specs.Conversation.{Exchange, told, heard, Converses, events_heard, bytes_told, Hears}
 use Rattle.dgt_text.specs.Serving.{IsAlmostTold, IsServed, Served, Halted, Serves}
 use Rattle.dgt_text.proofs.RunLemmas.{wrote_none, wrote_then, slice_more}
 use Rattle.dgt_text.proofs.TurnLemmas.{BetweenReads}
 use Rattle.dgt_text.proofs.ConversationLemmas.{events_heard-append, bytes_told-append, converses-told, hears_then, hears_nothing, hears_word, hears_part, front_then, front_longer, front_whole}
+use Rattle.dgt_text.specs.Simulating.{part}
 
 -- ---- pieces
 
-pub piece_rest : (piece : List ℕ) (i n : ℕ) → (take i piece ++ take n (take (length piece - i) (drop i piece))) ++ drop (i + n) piece ≡ piece
-piece_rest piece i n = ap (λ (l : List ℕ). l ++ drop (i + n) piece) (sym (slice_more piece i n)) ∙ take-append-drop (i + n) piece
+pub piece_rest : (piece : List ℕ) (i n : ℕ) → (take i piece ++ take n (take (length piece - i) (drop i piece))) ++ drop
+    (i + n) piece ≡ piece
+piece_rest piece i n = ap (λ (l : List ℕ). l ++ drop (i + n) piece) (sym (slice_more piece i n)) ∙ take-append-drop
+    (i + n) piece
 
 -- ---- calls of the board
 
@@ -38,36 +41,50 @@ pub record HasSent (before after : BoardView) (count : ℕ) (out : List ℕ) : T
   pub state : after ≡ record before { state = after_sending before.state message }
   pub bytes : take count out ≡ spelling message
 
-pub has_sent : (before after : BoardView) (count : ℕ) (old out : List ℕ) → Polls (Polled.Wrote count) (next_message before.state) before after old out → HasSent before after count out
+pub has_sent : (before after : BoardView) (count : ℕ) (old out : List ℕ)
+    → Polls (Polled.Wrote count) (next_message before.state) before after old out → HasSent before after count out
 has_sent before after count old out = go (next_message before.state) refl
   where
-    go : (next : Option Content) → next_message before.state ≡ next → Polls (Polled.Wrote count) next before after old out → HasSent before after count out
+    go : (next : Option Content) → next_message before.state ≡ next
+        → Polls (Polled.Wrote count) next before after old out → HasSent before after count out
     go None is p = absurd p
     go (Some message) is p =
         record {
           message = message;
           next = is;
           state = p.4;
-          bytes = ap (λ (l : List ℕ). take count l) p.2 ∙ ap (λ (n : ℕ). take n (spelling message ++ drop count old)) p.0 ∙ take-append_seam (spelling message) (drop count old);
+          bytes = ap (λ (l : List ℕ). take count l) p.2 ∙ ap (λ (n : ℕ). take n (spelling message ++ drop count old))
+              p.0 ∙ take-append_seam (spelling message) (drop count old);
         }
 
 -- bytes that ended a word
-pub hears_some : {E : Type 0} (content : E → EventContent) (before after : BoardView) (bytes : List ℕ) (event : Option E) → next_message before.state ≡ None → true ≡ is_some event
-    → IfSome event (λ e. IsWord (content e) (before.partial ++ bytes)) → after ≡ after_bytes before bytes (option_map content event) → (found : EventContent) × Hears before bytes (heard found ∷ []) after
+pub hears_some : {E : Type 0} (content : E → EventContent) (before after : BoardView) (bytes : List ℕ)
+    (event : Option E) → next_message before.state ≡ None → true ≡ is_some event
+    → IfSome event (λ e. IsWord (content e) (before.partial ++ bytes))
+    → after ≡ after_bytes before bytes (option_map content event) → (found : EventContent)
+    × Hears before bytes (heard found ∷ []) after
 hears_some content before after bytes None settled some word is = absurd (cc)
-hears_some content before after bytes (Some e) settled some word is = (content e, hears_word before after bytes (content e) settled word is)
+hears_some content before after bytes (Some e) settled some word is =
+    (content e, hears_word before after bytes (content e) settled word is)
 
 -- bytes that ended none, and so are all of the piece
-pub hears_none : {E : Type 0} (content : E → EventContent) (before after : BoardView) (piece : List ℕ) (used : ℕ) (event : Option E) → false ≡ is_some event
-    → IfNone event ((used ≡ length piece) × IsPartial (before.partial ++ piece)) → after ≡ after_bytes before (take used piece) (option_map content event)
+pub hears_none : {E : Type 0} (content : E → EventContent) (before after : BoardView) (piece : List ℕ) (used : ℕ)
+    (event : Option E) → false ≡ is_some event
+    → IfNone event ((used ≡ length piece) × IsPartial (before.partial ++ piece))
+    → after ≡ after_bytes before (take used piece) (option_map content event)
     → IsPartial (before.partial ++ take used piece) × (after ≡ after_bytes before (take used piece) None)
-hears_none content before after piece used None none part is = (subst (λ (l : List ℕ). IsPartial (before.partial ++ l)) (sym (take_all used piece (omega (arith, part.0)))) part.1, is)
+hears_none content before after piece used None none part is = (
+  subst (λ (l : List ℕ). IsPartial (before.partial ++ l)) (sym (take_all used piece (omega (arith, part.0))))
+      part.1,
+  is,
+)
 hears_none content before after piece used (Some e) none part is = absurd (cc)
 
 -- ---- what was written
 
 -- all but the last step was written, and a front of what that told
-pub almost_told : (before last : List Step) (front rest : List ℕ) → length last ≤ 1 → bytes_told last ≡ front ++ rest → IsAlmostTold (before ++ last) (bytes_told before ++ front)
+pub almost_told : (before last : List Exchange) (front rest : List ℕ) → length last ≤ 1
+    → bytes_told last ≡ front ++ rest → IsAlmostTold (before ++ last) (bytes_told before ++ front)
 almost_told before last front rest one is =
     record {
       before = before;
@@ -75,23 +92,37 @@ almost_told before last front rest one is =
       whole = refl;
       one = one;
       sure = (front, refl);
-      front = (rest, bytes_told-append before last ∙ ap (λ (l : List ℕ). bytes_told before ++ l) is ∙ sym (append_assoc (bytes_told before) front rest));
+      front = (
+        rest,
+        bytes_told-append before last ∙ ap (λ (l : List ℕ). bytes_told before ++ l) is ∙
+            sym (append_assoc (bytes_told before) front rest),
+      );
     }
 
-almost_told_then : (steps more : List Step) (out : List ℕ) → IsAlmostTold more out → IsAlmostTold (steps ++ more) (bytes_told steps ++ out)
+almost_told_then : (steps more : List Exchange) (out : List ℕ) → IsAlmostTold more out
+    → IsAlmostTold (steps ++ more) (bytes_told steps ++ out)
 almost_told_then steps more out p =
     record {
       before = steps ++ p.before;
       last = p.last;
-      whole = ap (λ (l : List Step). steps ++ l) p.whole ∙ sym (append_assoc steps p.before p.last);
+      whole = ap (λ (l : List Exchange). steps ++ l) p.whole ∙ sym (append_assoc steps p.before p.last);
       one = p.one;
-      sure = (p.sure.0, ap (λ (l : List ℕ). bytes_told steps ++ l) p.sure.1 ∙ sym (append_assoc (bytes_told steps) (bytes_told p.before) p.sure.0) ∙ ap (λ (l : List ℕ). l ++ p.sure.0) (sym (bytes_told-append steps p.before)));
-      front = (p.front.0, bytes_told-append steps more ∙ ap (λ (l : List ℕ). bytes_told steps ++ l) p.front.1 ∙ sym (append_assoc (bytes_told steps) out p.front.0));
+      sure = (
+        p.sure.0,
+        ap (λ (l : List ℕ). bytes_told steps ++ l) p.sure.1 ∙
+            sym (append_assoc (bytes_told steps) (bytes_told p.before) p.sure.0) ∙ ap (λ (l : List ℕ). l ++ p.sure.0)
+            (sym (bytes_told-append steps p.before)),
+      );
+      front = (
+        p.front.0,
+        bytes_told-append steps more ∙ ap (λ (l : List ℕ). bytes_told steps ++ l) p.front.1 ∙
+            sym (append_assoc (bytes_told steps) out p.front.0),
+      );
     }
 
 -- the board sent some of what it had to send, and took nothing
 pub record Sent {S : Type 0} (W : Sink S) (before after : BoardView) (old new : S) : Type 0 where
-  pub steps : List Step
+  pub steps : List Exchange
   pub conversation : Converses before.state steps after.state
   pub none_heard : events_heard steps ≡ []
   pub partial : after.partial ≡ before.partial
@@ -99,43 +130,60 @@ pub record Sent {S : Type 0} (W : Sink S) (before after : BoardView) (old new : 
 
 module _ {S : Type 0} (W : Sink S) where
   pub sent_none : (board : BoardView) (a : S) → Sent W board board a a
-  sent_none board a = record { steps = []; conversation = refl; none_heard = refl; partial = refl; wrote = wrote_none W a }
+  sent_none board a =
+      record { steps = []; conversation = refl; none_heard = refl; partial = refl; wrote = wrote_none W a }
 
-  pub sent_more : (old mid new : BoardView) (a b c : S) (message : Content) → Sent W old mid a b → next_message mid.state ≡ Some message
-      → new ≡ record mid { state = after_sending mid.state message } → Wrote W b c (spelling message) → Sent W old new a c
+  pub sent_more : (old mid new : BoardView) (a b c : S) (message : Content) → Sent W old mid a b
+      → next_message mid.state ≡ Some message
+      → new ≡ record mid { state = after_sending mid.state message } → Wrote W b c (spelling message)
+      → Sent W old new a c
   sent_more old mid new a b c message p next is q =
       record {
         steps = p.steps ++ told message ∷ [];
-        conversation = converses-told old.state mid.state new.state p.steps message p.conversation next (ap (λ (v : BoardView). v.state) is);
-        none_heard = events_heard-append p.steps (told message ∷ []) ∙ ap (λ (l : List EventContent). l ++ []) p.none_heard;
+        conversation = converses-told old.state mid.state new.state p.steps message p.conversation next
+            (ap (λ (v : BoardView). v.state) is);
+        none_heard =
+            events_heard-append p.steps (told message ∷ []) ∙ ap (λ (l : List EventContent). l ++ []) p.none_heard;
         partial = ap (λ (v : BoardView). v.partial) is ∙ p.partial;
-        wrote = subst (λ (l : List ℕ). Wrote W a c l) (ap (λ (l : List ℕ). bytes_told p.steps ++ l) (sym (append-nil (spelling message))) ∙ sym (bytes_told-append p.steps (told message ∷ [])))
+        wrote = subst (λ (l : List ℕ). Wrote W a c l)
+            (ap (λ (l : List ℕ). bytes_told p.steps ++ l)
+            (sym (append-nil (spelling message))) ∙ sym (bytes_told-append p.steps (told message ∷ [])))
             (wrote_then W a b c (bytes_told p.steps) (spelling message) p.wrote q);
       }
 
   -- nothing is left to tell
-  pub sent_all : (old mid new : BoardView) (a b : S) → Sent W old mid a b → IsPartial mid.partial → next_message mid.state ≡ None → new ≡ mid → Served W old new a b []
+  pub sent_all : (old mid new : BoardView) (a b : S) → Sent W old mid a b → IsPartial mid.partial
+      → next_message mid.state ≡ None → new ≡ mid → Served W old new a b []
   sent_all old mid new a b p partial none is =
       rw is (record {
         steps = p.steps;
-        answers = record { hears = hears_nothing old mid p.steps p.conversation p.none_heard p.partial partial; settled = none };
+        answers = record {
+          hears = hears_nothing old mid p.steps p.conversation p.none_heard p.partial partial;
+          settled = none;
+        };
         wrote = p.wrote;
       })
 
   -- the sink refused a message
-  pub sent_halts : (old mid new : BoardView) (a b c : S) (message : Content) → Sent W old mid a b → IsPartial mid.partial → next_message mid.state ≡ Some message
-      → new ≡ record mid { state = after_sending mid.state message } → Stopped W b c (spelling message) → Halted W old new a c []
+  pub sent_halts : (old mid new : BoardView) (a b c : S) (message : Content) → Sent W old mid a b
+      → IsPartial mid.partial → next_message mid.state ≡ Some message
+      → new ≡ record mid { state = after_sending mid.state message } → Stopped W b c (spelling message)
+      → Halted W old new a c []
   sent_halts old mid new a b c message p partial next is q =
       let steps = p.steps ++ told message ∷ [] in
-      let conversation = converses-told old.state mid.state new.state p.steps message p.conversation next (ap (λ (v : BoardView). v.state) is) in
-      let none : events_heard steps ≡ [] = events_heard-append p.steps (told message ∷ []) ∙ ap (λ (l : List EventContent). l ++ []) p.none_heard in
+      let conversation = converses-told old.state mid.state new.state p.steps message p.conversation next
+      (ap (λ (v : BoardView). v.state) is) in
+      let none : events_heard steps ≡ [] =
+      events_heard-append p.steps (told message ∷ []) ∙ ap (λ (l : List EventContent). l ++ []) p.none_heard in
       let same : new.partial ≡ mid.partial = ap (λ (v : BoardView). v.partial) is in
       record {
         out = bytes_told p.steps ++ q.front;
         breaks = record {
           steps = steps;
-          hears = front_whole old new [] steps (hears_nothing old new steps conversation none (same ∙ p.partial) (subst IsPartial (sym same) partial));
-          told = almost_told p.steps (told message ∷ []) q.front q.rest (omega arith) (append-nil (spelling message) ∙ q.whole);
+          hears = front_whole old new [] steps
+              (hears_nothing old new steps conversation none (same ∙ p.partial) (subst IsPartial (sym same) partial));
+          told = almost_told p.steps (told message ∷ []) q.front q.rest (omega arith)
+              (append-nil (spelling message) ∙ q.whole);
         };
         appends = Appends-trans _ _ _ (bytes_told p.steps) q.front p.wrote.appends q.appends;
         refused = q.refused;
@@ -145,33 +193,44 @@ module _ {S : Type 0} (W : Sink S) where
   -- ---- bytes in a row
 
   -- steps that tell nothing, and what follows them
-  pub served_then : DivisionsAppend → (old mid between new : BoardView) (a b c : S) (s t : List ℕ) (steps : List Step) → Served W old mid a b s → Hears mid t steps between → bytes_told steps ≡ []
+  pub served_then : DivisionsAppend → (old mid between new : BoardView) (a b c : S) (s t : List ℕ)
+      (steps : List Exchange) → Served W old mid a b s → Hears mid t steps between → bytes_told steps ≡ []
       → Served W between new b c [] → Served W old new a c (s ++ t)
   served_then append old mid between new a b c s t steps p h none q =
       let all = p.steps ++ (steps ++ q.steps) in
-      let later : Hears mid (t ++ []) (steps ++ q.steps) new = hears_then append mid between new t [] steps q.steps h q.answers.hears in
+      let later : Hears mid (t ++ []) (steps ++ q.steps) new =
+      hears_then append mid between new t [] steps q.steps h q.answers.hears in
       let told : bytes_told all ≡ bytes_told p.steps ++ bytes_told q.steps
-      = bytes_told-append p.steps (steps ++ q.steps) ∙ ap (λ (l : List ℕ). bytes_told p.steps ++ l) (bytes_told-append steps q.steps ∙ ap (λ (l : List ℕ). l ++ bytes_told q.steps) none) in
+      = bytes_told-append p.steps (steps ++ q.steps) ∙ ap (λ (l : List ℕ). bytes_told p.steps ++ l)
+      (bytes_told-append steps q.steps ∙ ap (λ (l : List ℕ). l ++ bytes_told q.steps) none) in
       record {
         steps = all;
         answers = record {
-          hears = hears_then append old mid new s t p.steps (steps ++ q.steps) p.answers.hears (rw (append-nil t) at later);
+          hears = hears_then append old mid new s t p.steps (steps ++ q.steps) p.answers.hears
+              (rw (append-nil t) at later);
           settled = q.answers.settled;
         };
-        wrote = subst (λ (l : List ℕ). Wrote W a c l) (sym told) (wrote_then W a b c (bytes_told p.steps) (bytes_told q.steps) p.wrote q.wrote);
+        wrote = subst (λ (l : List ℕ). Wrote W a c l) (sym told)
+            (wrote_then W a b c (bytes_told p.steps) (bytes_told q.steps) p.wrote q.wrote);
       }
 
-  pub halted_longer : (old new : BoardView) (a b : S) (s t : List ℕ) → Halted W old new a b s → Halted W old new a b (s ++ t)
+  pub halted_longer : (old new : BoardView) (a b : S) (s t : List ℕ) → Halted W old new a b s
+      → Halted W old new a b (s ++ t)
   halted_longer old new a b s t p =
       record {
         out = p.out;
-        breaks = record { steps = p.breaks.steps; hears = front_longer old new s t p.breaks.steps p.breaks.hears; told = p.breaks.told };
+        breaks = record {
+          steps = p.breaks.steps;
+          hears = front_longer old new s t p.breaks.steps p.breaks.hears;
+          told = p.breaks.told;
+        };
         appends = p.appends;
         refused = p.refused;
         in_time = p.in_time;
       }
 
-  halted_then : DivisionsAppend → (old mid new : BoardView) (a b c : S) (s t : List ℕ) (steps : List Step) → Hears old s steps mid → Wrote W a b (bytes_told steps) → Halted W mid new b c t
+  halted_then : DivisionsAppend → (old mid new : BoardView) (a b c : S) (s t : List ℕ) (steps : List Exchange)
+      → Hears old s steps mid → Wrote W a b (bytes_told steps) → Halted W mid new b c t
       → Halted W old new a c (s ++ t)
   halted_then append old mid new a b c s t steps h w q =
       record {
@@ -187,7 +246,8 @@ module _ {S : Type 0} (W : Sink S) where
       }
 
   -- some bytes, and then more
-  pub served_more : DivisionsAppend → (old mid new : BoardView) (a b c : S) (s t : List ℕ) → Served W old mid a b s → Served W mid new b c t → Served W old new a c (s ++ t)
+  pub served_more : DivisionsAppend → (old mid new : BoardView) (a b c : S) (s t : List ℕ) → Served W old mid a b s
+      → Served W mid new b c t → Served W old new a c (s ++ t)
   served_more append old mid new a b c s t p q =
       record {
         steps = p.steps ++ q.steps;
@@ -195,18 +255,21 @@ module _ {S : Type 0} (W : Sink S) where
           hears = hears_then append old mid new s t p.steps q.steps p.answers.hears q.answers.hears;
           settled = q.answers.settled;
         };
-        wrote = subst (λ (l : List ℕ). Wrote W a c l) (sym (bytes_told-append p.steps q.steps)) (wrote_then W a b c (bytes_told p.steps) (bytes_told q.steps) p.wrote q.wrote);
+        wrote = subst (λ (l : List ℕ). Wrote W a c l) (sym (bytes_told-append p.steps q.steps))
+            (wrote_then W a b c (bytes_told p.steps) (bytes_told q.steps) p.wrote q.wrote);
       }
 
   -- the sink refused after a word
-  pub served_halts : DivisionsAppend → (old mid between new : BoardView) (a b c : S) (s t : List ℕ) (event : EventContent) → Served W old mid a b s → Hears mid t (heard event ∷ []) between
+  pub served_halts : DivisionsAppend → (old mid between new : BoardView) (a b c : S) (s t : List ℕ)
+      (event : EventContent) → Served W old mid a b s → Hears mid t (heard event ∷ []) between
       → Halted W between new b c [] → Halted W old new a c (s ++ t)
   served_halts append old mid between new a b c s t event p h q =
       let later = halted_then append mid between new b b c t [] (heard event ∷ []) h (wrote_none W b) q in
       halted_then append old mid new a b c s t p.steps p.answers.hears p.wrote (rw (append-nil t) at later)
 
   -- bytes that end no word
-  pub served_part : DivisionsAppend → (old mid new : BoardView) (a b : S) (s t : List ℕ) → Served W old mid a b s → IsPartial (mid.partial ++ t) → new ≡ after_bytes mid t None
+  pub served_part : DivisionsAppend → (old mid new : BoardView) (a b : S) (s t : List ℕ) → Served W old mid a b s
+      → IsPartial (mid.partial ++ t) → new ≡ after_bytes mid t None
       → Served W old new a b (s ++ t)
   served_part append old mid new a b s t p partial is =
       record {
@@ -215,16 +278,18 @@ module _ {S : Type 0} (W : Sink S) where
           hears = hears_then append old mid new s t p.steps [] p.answers.hears (hears_part mid new t partial is);
           settled = ap (λ (v : BoardView). next_message v.state) is ∙ p.answers.settled;
         };
-        wrote = subst (λ (l : List Step). Wrote W a b (bytes_told l)) (sym (append-nil p.steps)) p.wrote;
+        wrote = subst (λ (l : List Exchange). Wrote W a b (bytes_told l)) (sym (append-nil p.steps)) p.wrote;
       }
 
   -- a flush at the end
-  pub served_flushed : {A : Type 0} (old new : BoardView) (a b c : S) (s : List ℕ) (r : Result A RunFault) → Served W old new a b s → Writes W b c r [] → Serves W old new a c r s
+  pub served_flushed : {A : Type 0} (old new : BoardView) (a b c : S) (s : List ℕ) (r : Result A RunFault)
+      → Served W old new a b s → Writes W b c r [] → Serves W (change old new) (change a c) r s
   served_flushed old new a b c s (Ok x) p q =
       record {
         steps = p.steps;
         answers = p.answers;
-        wrote = subst (λ (l : List ℕ). Wrote W a c l) (append-nil (bytes_told p.steps)) (wrote_then W a b c (bytes_told p.steps) [] p.wrote q);
+        wrote = subst (λ (l : List ℕ). Wrote W a c l) (append-nil (bytes_told p.steps))
+            (wrote_then W a b c (bytes_told p.steps) [] p.wrote q);
       }
   served_flushed old new a b c s (Err e) p q = (
     q.0,
@@ -233,7 +298,8 @@ module _ {S : Type 0} (W : Sink S) where
       breaks = record {
         steps = p.steps;
         hears = front_whole old new s p.steps p.answers.hears;
-        told = subst (λ (l : List Step). IsAlmostTold l (bytes_told p.steps ++ q.1.front)) (append-nil p.steps) (almost_told p.steps [] q.1.front q.1.rest (omega arith) q.1.whole);
+        told = subst (λ (l : List Exchange). IsAlmostTold l (bytes_told p.steps ++ q.1.front)) (append-nil p.steps)
+            (almost_told p.steps [] q.1.front q.1.rest (omega arith) q.1.whole);
       };
       appends = Appends-trans _ _ _ (bytes_told p.steps) q.1.front p.wrote.appends q.1.appends;
       refused = q.1.refused;
@@ -242,8 +308,9 @@ module _ {S : Type 0} (W : Sink S) where
   )
 
   -- the exit of a `?`
-  pub halted_exit : {A : Type 0} (old new : BoardView) (a b : S) (s : List ℕ) (r : Result A RunFault) (e : RunFault) → IsErrAnd r (λ y. y ≡ e) → e ≡ WriteFailed
-      → Halted W old new a b s → Serves W old new a b r s
+  pub halted_exit : {A : Type 0} (old new : BoardView) (a b : S) (s : List ℕ) (r : Result A RunFault) (e : RunFault)
+      → IsErrAnd r (λ y. y ≡ e) → e ≡ WriteFailed
+      → Halted W old new a b s → Serves W (change old new) (change a b) r s
   halted_exit old new a b s (Ok x) e k w q = absurd k
   halted_exit old new a b s (Err y) e k w q = (k ∙ w, q)
 
@@ -251,16 +318,23 @@ module _ {S : Type 0} (W : Sink S) where
 
 module _ {S T : Type 0} (R : Source S) (W : Sink T) where
   -- the sink refused
-  pub halted_run : {A : Type 0} (limit : ℕ) (a b : S) (c d : T) (old new : BoardView) (bytes : List ℕ) (r : Result A RunFault) (e : RunFault) → Consumes (R.left a) (R.left b) bytes
-      → Halted W old new c d bytes → IsErrAnd r (λ y. y ≡ e) → e ≡ WriteFailed → Ran R W a b c d limit r (IsServed r old new)
+  pub halted_run : {A : Type 0} (limit : ℕ) (a b : S) (c d : T) (old new : BoardView) (bytes : List ℕ)
+      (r : Result A RunFault) (e : RunFault) → Consumes (R.left a) (R.left b) bytes
+      → Halted W old new c d bytes → IsErrAnd r (λ y. y ≡ e) → e ≡ WriteFailed
+      → Ran R W (change a b) (change c d) (InTurns limit r (IsServed r old new))
   halted_run limit a b c d old new bytes (Ok x) e k q h w = absurd h
   halted_run {A = A} limit a b c d old new bytes (Err y) e k q h w =
-      subst (λ f. let r : Result A RunFault = Err f in Ran R W a b c d limit r (IsServed r old new)) (sym (h ∙ w)) (bytes, q.out, k, q.appends, tt, q.breaks)
+      subst (λ f. let r : Result A RunFault = Err f in Ran R W (change a b) (change c d)
+      (InTurns limit r (IsServed r old new))) (sym (h ∙ w)) (bytes, q.out, k, q.appends, (tt, q.breaks))
 
 -- it refused after a read
-pub served_stops : {S T A : Type 0} {R : Source S} {W : Sink T} {a b : S} {c d : T} {taken limit : ℕ} → DivisionsAppend → (b' : S) (d' : T) (old mid new : BoardView) (piece : List ℕ) (r : Result A RunFault) (e : RunFault)
-    → (t : BetweenReads R W a b c d taken limit) → Served W old mid c d t.bytes → Consumes (R.left b) (R.left b') piece → Halted W mid new d d' piece
-    → IsErrAnd r (λ y. y ≡ e) → e ≡ WriteFailed → Ran R W a b' c d' limit r (IsServed r old new)
-served_stops {R = R} {W = W} {a = a} {b = b} {c = c} {d = d} {limit = limit} append b' d' old mid new piece r e t p k q h w =
+pub served_stops : {S T A : Type 0} {R : Source S} {W : Sink T} {a b : S} {c d : T} {taken limit : ℕ} → DivisionsAppend
+    → (b' : S) (d' : T) (old mid new : BoardView) (piece : List ℕ) (r : Result A RunFault) (e : RunFault)
+    → (t : BetweenReads R W a b c d taken limit) → Served W old mid c d t.bytes → Consumes (R.left b) (R.left b') piece
+    → Halted W mid new d d' piece
+    → IsErrAnd r (λ y. y ≡ e) → e ≡ WriteFailed
+    → Ran R W (change a b') (change c d') (InTurns limit r (IsServed r old new))
+served_stops {R = R} {W = W} {a = a} {b = b} {c = c} {d = d} {limit = limit} append b' d' old mid new piece r e t p k q
+    h w =
     halted_run R W limit a b' c d' old new (t.bytes ++ piece) r e (Consumes-trans _ _ _ t.bytes piece t.given k)
     (halted_then W append old mid new c d d' t.bytes piece p.steps p.answers.hears p.wrote q) h w

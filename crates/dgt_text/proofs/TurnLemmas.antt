@@ -9,7 +9,8 @@ use Rattle.dgt_text.proofs.RunLemmas.{piece_some, turn_more}
 
 -- so many of at most `limit` reads succeeded and gave these bytes, and none told the end; where nothing waited for a
 -- flush, nothing does
-pub record BetweenReads {S T : Type 0} (R : Source S) (W : Sink T) (source source' : S) (sink sink' : T) (taken limit : ℕ) : Type 0 where
+pub record BetweenReads {S T : Type 0} (R : Source S) (W : Sink T) (source source' : S) (sink sink' : T)
+    (taken limit : ℕ) : Type 0 where
   pub bytes : List ℕ
   pub given : Consumes (R.left source) (R.left source') bytes
   pub each : taken ≤ length bytes
@@ -22,7 +23,8 @@ pub record BetweenReads {S T : Type 0} (R : Source S) (W : Sink T) (source sourc
   pub flushed : IsTrue (W.flushed sink) → IsTrue (W.flushed sink')
 
 -- before the first read
-abbrev pub no_read : {S T : Type 0} {R : Source S} {W : Sink T} {a : S} {c d : T} {text : List ℕ} {limit : ℕ} → Wrote W c d text → (IsTrue (W.flushed c) → IsTrue (W.flushed d))
+abbrev pub no_read : {S T : Type 0} {R : Source S} {W : Sink T} {a : S} {c d : T} {text : List ℕ} {limit : ℕ}
+    → Wrote W c d text → (IsTrue (W.flushed c) → IsTrue (W.flushed d))
     → BetweenReads R W a a c d 0 limit
 no_read {R = R} {a = a} wrote flushed = record {
   bytes = [];
@@ -38,12 +40,17 @@ no_read {R = R} {a = a} wrote flushed = record {
 }
 
 -- a turn more: a read that gave n bytes, a call that writes, and one that writes the rest and flushes
-abbrev pub next_read : {S T : Type 0} {R : Source S} {W : Sink T} {a b b' : S} {c d d' d'' : T} {text : List ℕ} {taken limit : ℕ} → BetweenReads R W a b c d taken limit → taken < limit
-    → (n : ℕ) (buffer : List ℕ) → n ≤ length buffer → Consumes (R.left b) (R.left b') (take n buffer) → R.failed b' ≡ R.failed b → (((n ≡ 0) × (0 < length buffer) → ⊥) → R.ended b' ≡ R.ended b)
-    → R.reads b' ≡ min (R.reads b + 1) (2 ^ 64 - 1) → (R.failed b ≡ false → R.ended b ≡ false → R.late b' ≡ R.late b) → (n ≡ 0 → ⊥)
-    → W.failed d' ≡ W.failed d → (W.failed d ≡ false → W.late d' ≡ W.late d) → Wrote W d' d'' text → IsTrue (W.flushed d'')
+abbrev pub next_read : {S T : Type 0} {R : Source S} {W : Sink T} {a b b' : S} {c d d' d'' : T} {text : List ℕ}
+    {taken limit : ℕ} → BetweenReads R W a b c d taken limit → taken < limit
+    → (n : ℕ) (buffer : List ℕ) → n ≤ length buffer → Consumes (R.left b) (R.left b') (take n buffer)
+    → R.failed b' ≡ R.failed b → (((n ≡ 0) × (0 < length buffer) → ⊥) → R.ended b' ≡ R.ended b)
+    → R.reads b' ≡ min (R.reads b + 1) (2 ^ 64 - 1) → (R.failed b ≡ false → R.ended b ≡ false → R.late b' ≡ R.late b)
+    → (n ≡ 0 → ⊥)
+    → W.failed d' ≡ W.failed d → (W.failed d ≡ false → W.late d' ≡ W.late d) → Wrote W d' d'' text
+    → IsTrue (W.flushed d'')
     → BetweenReads R W a b' c d'' (taken + 1) limit
-next_read {taken = taken} p more n buffer bound given not_refused no_end counted in_time some kept sink_in_time wrote flushed =
+next_read {taken = taken} p more n buffer bound given not_refused no_end counted in_time some kept sink_in_time wrote
+    flushed =
     let not_ended = no_end (λ h. some h.0) in record {
       bytes = p.bytes ++ take n buffer;
       given = Consumes-trans _ _ _ p.bytes (take n buffer) p.given given;

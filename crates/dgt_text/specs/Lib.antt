@@ -1,3 +1,4 @@
+-- what public contracts and laws cite
 pub mod Turns
 pub mod Monitoring
 pub mod Conversation

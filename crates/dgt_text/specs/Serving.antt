@@ -4,19 +4,21 @@ use Rattle.std.specs.Io.KnownBytes.{Appends}
 use Rattle.dgt_board.specs.View.{BoardView}
 use Rattle.dgt_lines.specs.declared.faults.RunFault.{RunFault}
 use Rattle.dgt_lines.specs.declared.faults.RunFault.TheVariants.{ReadFailed, WriteFailed, TooManyTurns, BadLine}
-use Rattle.dgt_text.specs.Conversation.{Step, bytes_told, Answers, HearsFront}
+use Rattle.dgt_text.specs.Conversation.{Exchange, bytes_told, Answers, HearsFront}
 use Rattle.dgt_text.specs.Monitoring.{IsFront}
+use Rattle.dgt_text.specs.Turns.{Change}
 use Rattle.dgt_lines.specs.Writing.{Wrote}
 use Rattle.dgt_lines.specs.declared.ends.Sink.{Ghosts as Sink}
 
 -- the board answered the bytes, and all that it told was written
 abbrev pub IsAnswered : BoardView → BoardView → List ℕ → List ℕ → Type 0
-IsAnswered before after bytes out = (steps : List Step) × Answers before bytes steps after × (out ≡ bytes_told steps)
+IsAnswered before after bytes out =
+    (steps : List Exchange) × Answers before bytes steps after × (out ≡ bytes_told steps)
 
 -- All that was told was written, but for the message told last, of which a front may be written.
-pub record IsAlmostTold (steps : List Step) (out : List ℕ) : Type 0 where
-  pub before : List Step
-  pub last : List Step
+pub record IsAlmostTold (steps : List Exchange) (out : List ℕ) : Type 0 where
+  pub before : List Exchange
+  pub last : List Exchange
   pub whole : steps ≡ before ++ last
   pub one : length last ≤ 1
   pub sure : IsFront (bytes_told before) out
@@ -24,12 +26,14 @@ pub record IsAlmostTold (steps : List Step) (out : List ℕ) : Type 0 where
 
 -- the board was answering the bytes when a write or a flush was refused
 pub record IsBrokenOff (before after : BoardView) (bytes out : List ℕ) : Type 0 where
-  pub steps : List Step
+  pub steps : List Exchange
   pub hears : HearsFront before bytes steps after
   pub told : IsAlmostTold steps out
 
--- the board before and after, the bytes that were read and those that were written, where `serve` gave this answer
-abbrev pub IsServed : {A : Type 0} → Result A RunFault → BoardView → BoardView → List ℕ → List ℕ → Type 0
+-- the board before and after, the bytes that were read and those that were written, where `serve`
+-- gave this answer
+abbrev pub IsServed : {A : Type 0} → Result A RunFault → BoardView → BoardView → List ℕ → List ℕ
+    → Type 0
 IsServed (Ok _) before after bytes out = IsAnswered before after bytes out
 IsServed (Err ReadFailed) before after bytes out = IsAnswered before after bytes out
 IsServed (Err TooManyTurns) before after bytes out = IsAnswered before after bytes out
@@ -39,19 +43,23 @@ IsServed (Err (BadLine _ _)) before after bytes out = ⊥
 -- ---- a call that hands the board some bytes
 
 -- the board answered them, and the sink took what it told
-pub record Served {S : Type 0} (W : Sink S) (before after : BoardView) (old new : S) (bytes : List ℕ) : Type 0 where
-  pub steps : List Step
+pub record Served {S : Type 0} (W : Sink S) (before after : BoardView) (old new : S)
+    (bytes : List ℕ) : Type 0 where
+  pub steps : List Exchange
   pub answers : Answers before bytes steps after
   pub wrote : Wrote W old new (bytes_told steps)
 
 -- the sink refused
-pub record Halted {S : Type 0} (W : Sink S) (before after : BoardView) (old new : S) (bytes : List ℕ) : Type 0 where
+pub record Halted {S : Type 0} (W : Sink S) (before after : BoardView) (old new : S)
+    (bytes : List ℕ) : Type 0 where
   pub out : List ℕ
   pub breaks : IsBrokenOff before after bytes out
   pub appends : Appends (W.written old) (W.written new) out
   pub refused : W.failed new ≡ true
   pub in_time : W.failed old ≡ false → W.late new ≡ W.late old
 
-abbrev pub Serves : {S A : Type 0} → Sink S → BoardView → BoardView → S → S → Result A RunFault → List ℕ → Type 0
-Serves W before after old new r bytes =
-    MatchResult r (λ _. Served W before after old new bytes) (λ e. (e ≡ WriteFailed) × Halted W before after old new bytes)
+abbrev pub Serves : {S A : Type 0} → Sink S → Change BoardView → Change S → Result A RunFault
+    → List ℕ → Type 0
+Serves W board sink r bytes =
+    MatchResult r (λ _. Served W board.old board.new sink.old sink.new bytes)
+    (λ e. (e ≡ WriteFailed) × Halted W board.old board.new sink.old sink.new bytes)

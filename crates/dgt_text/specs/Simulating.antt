@@ -1,5 +1,5 @@
 -- A script that is played in a world.
-use Rattle.std.specs.Prelude.{◌≡◌, ◌+◌, ◌≤◌, ◌↔◌, ◌⊎◌, ⊤, ℕ, Bool, true, List, [], ◌∷◌, ◌++◌, All, IsTrue, MatchResult, Result, Ok, Err, codes, flat_map, length}
+use Rattle.std.specs.Prelude.{◌≡◌, ◌+◌, ◌≤◌, ◌↔◌, ◌⊎◌, ⊤, ℕ, Bool, true, List, [], ◌∷◌, ◌++◌, All, IsTrue, Result, Ok, Err, codes, flat_map, length}
 use Rattle.std.specs.Io.KnownBytes.{Appends}
 use Rattle.dgt_link.specs.Act.{ActContent}
 use Rattle.dgt_link.specs.declared.acts.Outcome.{Outcome}
@@ -25,7 +25,8 @@ abbrev pub all_lines : List (List ℕ) → List ℕ → List (List ℕ)
 all_lines lines [] = lines
 all_lines lines (byte ∷ rest) = lines ++ (byte ∷ rest) ∷ []
 
--- the script begins with these lines: each has its line feed, or the source has told the end and they are all
+-- the script begins with these lines: each has its line feed, or the source has told the end and
+-- they are all
 abbrev pub BeginsWith : Bool → List ℕ → List (List ℕ) → Type 0
 BeginsWith at_end bytes lines =
     ((rest : List ℕ) × (bytes ≡ flat_map ended lines ++ rest) × All HasNoFeed lines)
@@ -44,7 +45,8 @@ Plays world (line ∷ lines) text last =
     × Plays between lines rest last
 
 -- the lines are played, but the outcome of the last one may be missing or torn
-pub record PlaysTorn (world : WorldView) (lines : List (List ℕ)) (out : List ℕ) (last : WorldView) : Type 0 where
+pub record PlaysTorn (world : WorldView) (lines : List (List ℕ)) (out : List ℕ)
+    (last : WorldView) : Type 0 where
   pub earlier : List (List ℕ)
   pub final : List (List ℕ)
   pub split : lines ≡ earlier ++ final
@@ -58,43 +60,56 @@ pub record PlaysTorn (world : WorldView) (lines : List (List ℕ)) (out : List �
   pub is_front : IsFront front torn
   pub out_is : out ≡ text ++ front
 
--- a script of which the first line has this number is played up to a refused write or a bad line
-abbrev pub Stops : Bool → RunFault → WorldView → WorldView → ℕ → List ℕ → List ℕ → Type 0
-Stops at_end WriteFailed world last number bytes out =
-    (lines : List (List ℕ)) × BeginsWith at_end bytes lines × PlaysTorn world lines out last
-Stops at_end (BadLine bad_number at) world last number bytes out =
-    (lines : List (List ℕ)) × (bad : List ℕ) × BeginsWith at_end bytes (lines ++ bad ∷ [])
-    × Plays world lines out last × IsBadAt bad at × (bad_number ≡ number + length lines)
-Stops at_end ReadFailed world last number bytes out = ⊥
-Stops at_end TooManyTurns world last number bytes out = ⊥
+-- a part of a script: the number of its first line, its bytes, and the world before and after it
+pub record Part : Type 0 where
+  pub number : ℕ
+  pub bytes : List ℕ
+  pub world : WorldView
+  pub last : WorldView
 
--- what stands in the sink for these bytes of a script, of which the first line has this number, and
--- which world is left, where the answer is this and `at_end` says whether the source has told the end
-abbrev pub IsSimulatedFrom : {A : Type 0} → Bool → ℕ → Result A RunFault → WorldView → WorldView → List ℕ → List ℕ → Type 0
+abbrev pub part : ℕ → List ℕ → WorldView → WorldView → Part
+part number bytes world last =
+    record { number = number; bytes = bytes; world = world; last = last }
+
+-- the part is played up to a refused write or a bad line
+abbrev pub Stops : Bool → Part → RunFault → List ℕ → Type 0
+Stops at_end p WriteFailed out =
+    (lines : List (List ℕ)) × BeginsWith at_end p.bytes lines × PlaysTorn p.world lines out p.last
+Stops at_end p (BadLine bad_number at) out =
+    (lines : List (List ℕ)) × (bad : List ℕ) × BeginsWith at_end p.bytes (lines ++ bad ∷ [])
+    × Plays p.world lines out p.last × IsBadAt bad at × (bad_number ≡ p.number + length lines)
+Stops at_end p ReadFailed out = ⊥
+Stops at_end p TooManyTurns out = ⊥
+
+-- the part's whole lines are played
+abbrev pub PlaysWhole : Part → List ℕ → Type 0
+PlaysWhole p out =
+    (lines : List (List ℕ)) × (rest : List ℕ) × IsCut p.bytes lines rest
+    × Plays p.world lines out p.last
+
+-- what stands in the sink for this part, and which world is left, where the answer is this and
+-- `at_end` says whether the source has told the end
+abbrev pub IsSimulatedFrom : {A : Type 0} → Bool → Part → Result A RunFault → List ℕ → Type 0
 -- all lines were played, and the closing lines are those of the world that is left
-IsSimulatedFrom at_end number (Ok _) world last bytes out =
+IsSimulatedFrom at_end p (Ok _) out =
     (lines : List (List ℕ)) × (rest : List ℕ) × (text : List ℕ) × (quiet : Bool)
-    × IsCut bytes lines rest × Plays world (all_lines lines rest) text last
-    × (IsTrue quiet ↔ IsQuietWorld last) × (out ≡ text ++ closing_lines last quiet)
--- the whole lines were played
-IsSimulatedFrom at_end number (Err ReadFailed) world last bytes out =
-    (lines : List (List ℕ)) × (rest : List ℕ) × IsCut bytes lines rest × Plays world lines out last
-IsSimulatedFrom at_end number (Err TooManyTurns) world last bytes out =
-    (lines : List (List ℕ)) × (rest : List ℕ) × IsCut bytes lines rest × Plays world lines out last
--- the lines before the bad one were played
-IsSimulatedFrom at_end number (Err (BadLine bad_number at)) world last bytes out =
-    Stops at_end (BadLine bad_number at) world last number bytes out
+    × IsCut p.bytes lines rest × Plays p.world (all_lines lines rest) text p.last
+    × (IsTrue quiet ↔ IsQuietWorld p.last) × (out ≡ text ++ closing_lines p.last quiet)
+IsSimulatedFrom at_end p (Err ReadFailed) out = PlaysWhole p out
+IsSimulatedFrom at_end p (Err TooManyTurns) out = PlaysWhole p out
+IsSimulatedFrom at_end p (Err (BadLine number at)) out = Stops at_end p (BadLine number at) out
 -- an outcome was refused, or at the end a part of the closing lines
-IsSimulatedFrom at_end number (Err WriteFailed) world last bytes out =
-    Stops at_end WriteFailed world last number bytes out
-    ⊎ ((lines : List (List ℕ)) × (rest : List ℕ) × (text : List ℕ) × (quiet : Bool) × (front : List ℕ)
-    × IsCut bytes lines rest × Plays world (all_lines lines rest) text last
-    × (IsTrue quiet ↔ IsQuietWorld last) × IsFront front (closing_lines last quiet)
-    × (out ≡ text ++ front) × IsTrue at_end)
+IsSimulatedFrom at_end p (Err WriteFailed) out =
+    Stops at_end p WriteFailed out
+    ⊎ ((lines : List (List ℕ)) × (rest : List ℕ) × (text : List ℕ) × (quiet : Bool)
+    × (front : List ℕ) × IsCut p.bytes lines rest
+    × Plays p.world (all_lines lines rest) text p.last × (IsTrue quiet ↔ IsQuietWorld p.last)
+    × IsFront front (closing_lines p.last quiet) × (out ≡ text ++ front) × IsTrue at_end)
 
 -- the first line of a script has number 1
-abbrev pub IsSimulated : {A : Type 0} → Bool → Result A RunFault → WorldView → WorldView → List ℕ → List ℕ → Type 0
-IsSimulated at_end r world last bytes out = IsSimulatedFrom at_end 1 r world last bytes out
+abbrev pub IsSimulated : {A : Type 0} → Bool → Result A RunFault → WorldView → WorldView → List ℕ
+    → List ℕ → Type 0
+IsSimulated at_end r world last bytes out = IsSimulatedFrom at_end (part 1 bytes world last) r out
 
 -- the text begins with the lines of board and host, and both have this placement
 abbrev pub ShowsTwice : List ℕ → List ℕ → Type 0
@@ -102,8 +117,8 @@ ShowsTwice placement text =
     (rest : List ℕ)
     × (text ≡ codes "board " ++ placement ++ codes "\nhost " ++ placement ++ codes "\n" ++ rest)
 
--- Where updates and a dump were asked for and all is quiet, the text ends with the closing lines of this world, of
--- which those of board and host have one placement.
+-- Where updates and a dump were asked for and all is quiet, the text ends with the closing lines of
+-- this world, of which those of board and host have one placement.
 abbrev pub TellsPicture : WorldView → List ℕ → Type 0
 TellsPicture world out =
     (x : MachineState) → StandsFor world x → IsPromised x → IsQuietWorld world
@@ -123,25 +138,15 @@ IsOfLine TooManyTurns = ⊥
 abbrev pub Took : {S : Type 0} → Sink S → S → S → (List ℕ → Type 0) → Type 0
 Took W old new P = (out : List ℕ) × Appends (W.written old) (W.written new) out × P out
 
--- a line with this number, with which a script of these bytes begins
-abbrev pub PlaysLine : {S A : Type 0} → Sink S → Bool → WorldView → WorldView → S → S → Result A RunFault → ℕ → List ℕ → List ℕ → Type 0
-PlaysLine W at_end world last old new r number line bytes =
-    MatchResult r (λ _. Took W old new (λ out. Plays world (line ∷ []) out last))
-    (λ fault. Took W old new (Stops at_end fault world last number bytes))
-
--- the lines that end among these bytes were played, and what is after them is kept
-pub record PlaysOn {S : Type 0} (W : Sink S) (world last : WorldView) (old new : S) (line : LineBuffer) (number number' : ℕ) (bytes : List ℕ) : Type 0 where
+-- the lines that end in this part were played, what is after them is kept, and the next line has
+-- this number
+pub record PlaysOn {S : Type 0} (W : Sink S) (p : Part) (old new : S) (line : LineBuffer)
+    (next : ℕ) : Type 0 where
   pub lines : List (List ℕ)
   pub rest : List ℕ
   pub text : List ℕ
-  pub cut : IsCut bytes lines rest
+  pub cut : IsCut p.bytes lines rest
   pub kept : KeepsLine line rest
-  pub counted : number' ≡ number + length lines
-  pub plays : Plays world lines text last
+  pub counted : next ≡ p.number + length lines
+  pub plays : Plays p.world lines text p.last
   pub wrote : Appends (W.written old) (W.written new) text
-
--- a piece of a script; the bytes are those since the last line feed before it, and the piece
-abbrev pub PlaysPiece : {S A : Type 0} → Sink S → Bool → WorldView → WorldView → S → S → LineBuffer → ℕ → ℕ → Result A RunFault → List ℕ → Type 0
-PlaysPiece W at_end world last old new line number number' r bytes =
-    MatchResult r (λ _. PlaysOn W world last old new line number number' bytes)
-    (λ fault. Took W old new (Stops at_end fault world last number bytes))

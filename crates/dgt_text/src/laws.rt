@@ -1,5 +1,5 @@
-//! What holds of lines, scripts and conversations as such. Nothing here runs: each function stands for the
-//! facts that its contract states.
+//! What holds of lines, scripts and conversations as such. Nothing here runs: each function stands
+//! for the facts that its contract states.
 
 ghost use Rattle.std.specs.Prelude.{◌≡◌, ℕ, List};
 ghost use Rattle.dgt_link.specs.View.{WorldView};
@@ -9,8 +9,8 @@ ghost use Rattle.dgt_text.specs.Simulating.{Plays};
 
 pub use dgt_script::laws::{closing_lines_agree, lines_have_one_meaning};
 
-/// One conversation: a board and the bytes that it hears have one, and only one, and whatever the board
-/// tells and hears while it hears a front of the bytes is the front of it.
+/// One conversation: a board and the bytes that it hears have one, and only one, and whatever the
+/// board tells and hears while it hears a front of the bytes is the front of it.
 pub fn one_conversation()
     ensures answered { EachIsAnswered }
     ensures once { EachIsAnsweredOnce }
@@ -21,8 +21,8 @@ pub fn one_conversation()
     dgt_board::laws::bounded_sending();
 }
 
-/// A script divides into lines in one way, and its lines, played in a world, have one text of outcomes and
-/// leave one world.
+/// A script divides into lines in one way, and its lines, played in a world, have one text of
+/// outcomes and leave one world.
 pub fn scripts_have_one_play()
     ensures cut { (bytes : List ℕ) (lines others : List (List ℕ)) (rest other : List ℕ) →
         IsCut bytes lines rest → IsCut bytes others other → (lines ≡ others) × (rest ≡ other) }

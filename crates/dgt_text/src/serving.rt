@@ -1,7 +1,7 @@
 //! The engine that answers for a board.
 
 ghost use Rattle.std.specs.Prelude.{[], IsTrue, OnOk};
-ghost use Rattle.dgt_text.specs.Turns.{Ran, RunsInTurns};
+ghost use Rattle.dgt_text.specs.Turns.{change, InTurns, Ran, RunsInTurns};
 ghost use Rattle.dgt_text.specs.Serving.{IsServed, Serves};
 
 use crate::MAX_PIECE;
@@ -12,10 +12,11 @@ use dgt_lines::{RunFault, Sink, Source, flush, put};
 // The most bytes of a message that a board sends: a dump.
 const MAX_SENT: usize = 67;
 
-// The board sends until it owes nothing. Each message is written before the next is asked for, so the board
-// is at most one message ahead of the sink.
+// The board sends until it owes nothing. Each message is written before the next is asked for, so
+// the board is at most one message ahead of the sink.
 fn send_all<W: Sink>(board: &mut Board, writer: &mut W) -> Result<(), RunFault>
-    ensures { Serves W.Sink board.old board.new writer.old writer.new result [] }
+    ensures { Serves W.Sink (change board.old board.new) (change writer.old writer.new)
+        result [] }
 {
     let mut message = [0; MAX_SENT];
     while let Polled::Wrote(length) = board.poll(&mut message) {
@@ -24,10 +25,10 @@ fn send_all<W: Sink>(board: &mut Board, writer: &mut W) -> Result<(), RunFault>
     Ok(())
 }
 
-// The board sends until it owes nothing, and again after each command or fault of `piece`. Then the sink is
-// flushed.
+// The board sends until it owes nothing, and again after each command or fault of `piece`. Then the
+// sink is flushed.
 fn answer<W: Sink>(board: &mut Board, piece: &[u8], writer: &mut W) -> Result<(), RunFault>
-    ensures served { Serves W.Sink board.old board.new writer.old writer.new
+    ensures served { Serves W.Sink (change board.old board.new) (change writer.old writer.new)
         result piece.now }
     ensures flushed { OnOk result (IsTrue (W.flushed writer.new)) }
 {
@@ -44,17 +45,19 @@ fn answer<W: Sink>(board: &mut Board, piece: &[u8], writer: &mut W) -> Result<()
     flush(writer)
 }
 
-/// Answers for a board, whose commands are the bytes that the reader gives, in at most `limit` reads.
+/// Answers for a board, whose commands are the bytes that the reader gives, in at most `limit`
+/// reads.
 ///
-/// Before the first read, and after each command and each fault of a command, the board sends until it owes
-/// nothing, and each message is written before the next is formed. What a read brought is answered and
-/// flushed before the next read. An unfinished command at the end has no answer, and stays in the board.
+/// Before the first read, and after each command and each fault of a command, the board sends until
+/// it owes nothing, and each message is written before the next is formed. What a read brought is
+/// answered and flushed before the next read. An unfinished command at the end has no answer, and
+/// stays in the board.
 ///
-/// - `ReadFailed` comes where the reader refuses, and `TooManyTurns` where `limit` reads succeeded and none
-///   told the end. All answers to what was read are written then.
-/// - `WriteFailed` comes where the writer refuses. All that the board sent is written then, but for its last
-///   message, of which the writer may have a front; it gets nothing more. The board has taken a front of what
-///   was read.
+/// - `ReadFailed` comes where the reader refuses, and `TooManyTurns` where `limit` reads succeeded
+///   and none told the end. All answers to what was read are written then.
+/// - `WriteFailed` comes where the writer refuses. All that the board sent is written then, but for
+///   its last message, of which the writer may have a front; it gets nothing more. The board has
+///   taken a front of what was read.
 pub fn serve<R: Source, W: Sink>(
     board: &mut Board,
     reader: &mut R,
@@ -62,12 +65,13 @@ pub fn serve<R: Source, W: Sink>(
     limit: u32,
 ) -> Result<(), RunFault>
     // what was read, what was written of it, and how the board answers
-    ensures output { Ran R.Source W.Sink reader.old reader.new writer.old writer.new limit result
-        (IsServed result board.old board.new) }
+    ensures output { Ran R.Source W.Sink
+        (change reader.old reader.new) (change writer.old writer.new)
+        (InTurns limit result (IsServed result board.old board.new)) }
 
     // how often it reads, when it stops, and which marks it leaves
-    ensures in_turns { RunsInTurns R.Source W.Sink reader.old reader.new writer.old writer.new limit
-        result }
+    ensures in_turns { RunsInTurns R.Source W.Sink (change reader.old reader.new)
+        (change writer.old writer.new) limit result }
 {
     laws::divisions_append();
     answer(board, &[], writer)?;

@@ -1,13 +1,13 @@
 //! The engine that plays a script.
 
-ghost use Rattle.std.specs.Prelude.{◌≡◌, ◌≢◌, ◌+◌, ◌^◌, ◌<◌, ◌≤◌, ◌↔◌, ◌⊎◌, ◌∷◌, ◌++◌, [], ℕ, Bool, false, List, length, IfErr, IsTrue, OnOk};
+ghost use Rattle.std.specs.Prelude.{◌≡◌, ◌≢◌, ◌+◌, ◌^◌, ◌<◌, ◌≤◌, ◌↔◌, ◌⊎◌, ◌∷◌, ◌++◌, [], ℕ, Bool, false, List, length, IfErr, MatchResult, IsTrue, OnOk};
 ghost use Rattle.std.specs.Io.KnownBytes.{Appends};
 ghost use Rattle.dgt_link.specs.View.{IsQuietWorld};
 ghost use Rattle.dgt_lines.specs.Writing.{Writes};
 ghost use Rattle.dgt_script.specs.Closing.{closing_lines};
-ghost use Rattle.dgt_text.specs.Turns.{Ran, sink_mark_after, RunsInTurns};
+ghost use Rattle.dgt_text.specs.Turns.{change, InTurns, Ran, sink_mark_after, RunsInTurns};
 ghost use Rattle.dgt_script.specs.ScriptLines.{HasNoFeed, KeepsLine};
-ghost use Rattle.dgt_text.specs.Simulating.{BeginsWith, IsOfLine, IsSimulated, IsSimulatedFrom, PlaysLine, PlaysPiece, TellsPicture, Took};
+ghost use Rattle.dgt_text.specs.Simulating.{BeginsWith, IsOfLine, IsSimulated, IsSimulatedFrom, Plays, PlaysOn, Stops, TellsPicture, Took, part};
 
 use crate::{MAX_PIECE, laws};
 use dgt_lines::{RunFault, Sink, Source, flush, put};
@@ -38,9 +38,11 @@ fn play_line<W: Sink>(
     writer: &mut W,
 ) -> Result<(), RunFault>
     ensures played { (at_end : Bool) (whole bytes : List ℕ) → KeepsLine line.now whole
-        → BeginsWith at_end bytes (whole ∷ [])
-        → PlaysLine W.Sink at_end world.old world.new writer.old writer.new result number whole
-        bytes }
+        → BeginsWith at_end bytes (whole ∷ []) → MatchResult result
+        (λ _. Took W.Sink writer.old writer.new
+        (λ out. Plays world.old (whole ∷ []) out world.new))
+        (λ fault. Took W.Sink writer.old writer.new
+        (Stops at_end (part number bytes world.old world.new) fault)) }
     ensures faults { IfErr result IsOfLine }
     ensures sink_failed { W.failed writer.new ≡ sink_mark_after result (W.failed writer.old) }
     ensures in_time { W.failed writer.old ≡ false → W.late writer.new ≡ W.late writer.old }
@@ -67,8 +69,10 @@ fn play_piece<W: Sink>(
 ) -> Result<(), RunFault>
     requires { number.old + length piece.now < 2 ^ 64 }
     ensures played { (at_end : Bool) (rest : List ℕ) → KeepsLine line.old rest → HasNoFeed rest
-        → PlaysPiece W.Sink at_end world.old world.new writer.old writer.new line.new
-        number.old number.new result (rest ++ piece.now) }
+        → let played = part number.old (rest ++ piece.now) world.old world.new in
+        MatchResult result
+        (λ _. PlaysOn W.Sink played writer.old writer.new line.new number.new)
+        (λ fault. Took W.Sink writer.old writer.new (Stops at_end played fault)) }
     ensures counted { OnOk result (number.new ≤ number.old + length piece.now) }
     ensures faults { IfErr result IsOfLine }
     ensures sink_failed { W.failed writer.new ≡ sink_mark_after result (W.failed writer.old) }
@@ -111,7 +115,7 @@ fn play_end<W: Sink>(
 ) -> Result<(), RunFault>
     ensures played { (at_end : Bool) (rest : List ℕ) → IsTrue at_end → KeepsLine line.now rest
         → HasNoFeed rest → Took W.Sink writer.old writer.new
-        (IsSimulatedFrom at_end number result world.old world.new rest) }
+        (IsSimulatedFrom at_end (part number rest world.old world.new) result) }
     ensures faults { IfErr result IsOfLine }
     ensures sink_failed { W.failed writer.new ≡ sink_mark_after result (W.failed writer.old) }
     ensures in_time { W.failed writer.old ≡ false → W.late writer.new ≡ W.late writer.old }
@@ -125,18 +129,19 @@ fn play_end<W: Sink>(
 
 /// Plays the script that the reader gives, in at most `limit` reads, in the world.
 ///
-/// Each line asks for an act, and its outcome is a line: `done`, `nothing`, `noroom`, `busy` or `toomany`.
-/// It is written before the next act is done, and the lines of what came in a read are flushed before the
-/// next read. A last line without a line feed counts if it isn't empty. At the end of the script come four
-/// closing lines, which tell the board's position, the host's picture, the host's clock and whether the
-/// world is quiet.
+/// Each line asks for an act, and its outcome is a line: `done`, `nothing`, `noroom`, `busy` or
+/// `toomany`. It is written before the next act is done, and the lines of what came in a read are
+/// flushed before the next read. A last line without a line feed counts if it isn't empty. At the
+/// end of the script come four closing lines, which tell the board's position, the host's picture,
+/// the host's clock and whether the world is quiet.
 ///
-/// - `BadLine` comes at the first line that asks for no act. Its number counts from 1. The lines before it
-///   are played, their outcomes are written and flushed, and no closing line is written.
-/// - `ReadFailed` comes where the reader refuses, and `TooManyTurns` where `limit` reads succeeded and none
-///   told the end. All whole lines of what was read are played then, and no closing line is written.
-/// - `WriteFailed` comes where the writer refuses. It gets nothing more, and no further act is done. What
-///   may be missing is the end of the last outcome, or an end of the closing lines.
+/// - `BadLine` comes at the first line that asks for no act. Its number counts from 1. The lines
+///   before it are played, their outcomes are written and flushed, and no closing line is written.
+/// - `ReadFailed` comes where the reader refuses, and `TooManyTurns` where `limit` reads succeeded
+///   and none told the end. All whole lines of what was read are played then, and no closing line
+///   is written.
+/// - `WriteFailed` comes where the writer refuses. It gets nothing more, and no further act is
+///   done. What may be missing is the end of the last outcome, or an end of the closing lines.
 pub fn simulate<R: Source, W: Sink>(
     world: &mut World,
     reader: &mut R,
@@ -144,17 +149,19 @@ pub fn simulate<R: Source, W: Sink>(
     limit: u32,
 ) -> Result<(), RunFault>
     // what was read, what was written of it, and which world is left
-    ensures output { Ran R.Source W.Sink reader.old reader.new writer.old writer.new limit result
-        (IsSimulated (R.ended reader.new) result world.old world.new) }
+    ensures output { Ran R.Source W.Sink
+        (change reader.old reader.new) (change writer.old writer.new)
+        (InTurns limit result (IsSimulated (R.ended reader.new) result world.old world.new)) }
 
     // where updates and a dump were asked for, and the last line tells that all is quiet, the lines
     // of board and host tell one placement
-    ensures picture { Ran R.Source W.Sink reader.old reader.new writer.old writer.new limit result
-        (λ _ out. OnOk result (TellsPicture world.new out)) }
+    ensures picture { Ran R.Source W.Sink
+        (change reader.old reader.new) (change writer.old writer.new)
+        (InTurns limit result (λ _ out. OnOk result (TellsPicture world.new out))) }
 
     // how often it reads, when it stops, and which marks it leaves
-    ensures in_turns { RunsInTurns R.Source W.Sink reader.old reader.new writer.old writer.new limit
-        result }
+    ensures in_turns { RunsInTurns R.Source W.Sink (change reader.old reader.new)
+        (change writer.old writer.new) limit result }
 {
     laws::closing_lines_agree();
     dgt_link::laws::at_quiet_world();

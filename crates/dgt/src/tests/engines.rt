@@ -1,4 +1,5 @@
-//! The engines, over sources and sinks that fail where a test wants them to; and the lines of worked messages.
+//! The engines, over sources and sinks that fail where a test wants them to; and the lines of
+//! worked messages.
 
 mod devices;
 mod failures;

@@ -13,14 +13,20 @@ loop-at-init g c = record {
 
 pub returns-in_err-put_part-clause-output : goal.returns-in_err-put_part-clause-output
 returns-in_err-put_part-clause-output g c =
-    gathers_stopped _ _ _ _ _ _ _ (encode_lower (take c.loop-at.at c.args.bytes.now)) _ (encode_lower (drop c.min-end.result c.args.bytes.now)) _ _ _
-    c.loop-at.invariant.output (encode_lower-around c.args.bytes.now c.loop-at.at c.min-end.result (omega (arith, c.min-end.ensures))) c.from_residual.ensures.1 c.in_err-put_part.ensures.output
+    gathers_stopped _ _ _ _ _ _ _ (encode_lower (take c.loop-at.at c.args.bytes.now)) _
+    (encode_lower (drop c.min-end.result c.args.bytes.now)) _ _ _
+    c.loop-at.invariant.output
+    (encode_lower-around c.args.bytes.now c.loop-at.at c.min-end.result (omega (arith, c.min-end.ensures)))
+    c.from_residual.ensures.1 c.in_err-put_part.ensures.output
 
 pub loop-at-preserved : goal.loop-at-preserved
 loop-at-preserved g c =
-    let step = gathered_then _ _ _ _ _ _ _ (encode_lower (take c.loop-at.at c.args.bytes.now)) _ c.loop-at.invariant.output c.in_ok-put_part.ensures.output in
+    let step =
+    gathered_then _ _ _ _ _ _ _ (encode_lower (take c.loop-at.at c.args.bytes.now)) _ c.loop-at.invariant.output
+    c.in_ok-put_part.ensures.output in
     record {
       within = omega (arith, c.min-end.ensures);
-      output = rw (encode_lower-upto c.args.bytes.now c.loop-at.at c.min-end.result (omega (arith, c.min-end.ensures))) step;
+      output = rw (encode_lower-upto c.args.bytes.now c.loop-at.at c.min-end.result (omega (arith, c.min-end.ensures)))
+          step;
       no_flush = λ h. c.in_ok-put_part.ensures.no_flush (c.loop-at.invariant.no_flush h);
     }

@@ -8,18 +8,25 @@ use Rattle.dgt_lines.proofs.lines.put_event.Goals as goal
 
 pub returns-in_err-make_room-clause-output : goal.returns-in_err-make_room-clause-output
 returns-in_err-make_room-clause-output g c =
-    gathers_first _ _ _ _ _ [] (event_line c.args.offset (event_content c.args.event.now)) _ _ _ refl c.from_residual.ensures.1 c.in_err-make_room.ensures.output
+    gathers_first _ _ _ _ _ [] (event_line c.args.offset (event_content c.args.event.now)) _ _ _ refl
+    c.from_residual.ensures.1 c.in_err-make_room.ensures.output
 
 pub returns-in_err-put_bytes-in-Some-clause-output : goal.returns-in_err-put_bytes-in-Some-clause-output
 returns-in_err-put_bytes-in-Some-clause-output g c =
     let carried = bytes_text (body_bytes c.in-Some.body) in
-    let whole = line-parts c.args.offset c.make_room.new.self c.push_offset.new.text (event_text (event_content c.args.event.now)) c.push_event.new.text carried c.push_offset.ensures.text c.in-Some.ensures.text in
+    let whole = line-parts c.args.offset c.make_room.new.self c.push_offset.new.text
+    (event_text (event_content c.args.event.now)) c.push_event.new.text carried c.push_offset.ensures.text
+    c.in-Some.ensures.text in
     gathers_via _ _ _ _ _ _ _ _ _ _ _ c.in_ok-make_room.ensures.output whole
-    (gathers_first _ _ _ _ _ carried (codes "\n") _ _ _ refl c.from_residual-in_err-put_bytes-in-Some.ensures.1 (rw c.bytes.ensures.bytes at c.in_err-put_bytes-in-Some.ensures.output))
+    (gathers_first _ _ _ _ _ carried (codes "\n") _ _ _ refl c.from_residual-in_err-put_bytes-in-Some.ensures.1
+    (rw c.bytes.ensures.bytes at c.in_err-put_bytes-in-Some.ensures.output))
 
 pub returns-in_ok-put_bytes-in-Some-clause-output : goal.returns-in_ok-put_bytes-in-Some-clause-output
 returns-in_ok-put_bytes-in-Some-clause-output g c =
     let carried = bytes_text (body_bytes c.in-Some.body) in
-    let whole = line-parts c.args.offset c.make_room.new.self c.push_offset.new.text (event_text (event_content c.args.event.now)) c.push_event.new.text carried c.push_offset.ensures.text c.in-Some.ensures.text in
+    let whole = line-parts c.args.offset c.make_room.new.self c.push_offset.new.text
+    (event_text (event_content c.args.event.now)) c.push_event.new.text carried c.push_offset.ensures.text
+    c.in-Some.ensures.text in
     gathers_via _ _ _ _ _ _ _ _ _ _ _ c.in_ok-make_room.ensures.output whole
-    (gathers_then _ _ _ _ _ _ _ carried (codes "\n") _ (rw c.bytes.ensures.bytes at c.in_ok-put_bytes-in-Some.ensures.output) c.add.ensures.output)
+    (gathers_then _ _ _ _ _ _ _ carried (codes "\n") _
+    (rw c.bytes.ensures.bytes at c.in_ok-put_bytes-in-Some.ensures.output) c.add.ensures.output)

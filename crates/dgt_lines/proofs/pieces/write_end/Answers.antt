@@ -6,8 +6,12 @@ use Rattle.dgt_lines.proofs.pieces.write_end.Goals as goal
 
 pub returns-in_err-write_unfinished-clause-output : goal.returns-in_err-write_unfinished-clause-output
 returns-in_err-write_unfinished-clause-output g c =
-    rw (unfinished_line-some (open_message c.args.framer.now) c.args.offset c.open_len-have.result (omega (arith, c.open_len-have.ensures)) c.open_len-have.ensures) (writes_exit _ _ _ _ _ _ c.from_residual.ensures.1 c.in_err-write_unfinished.ensures)
+    rw (unfinished_line-some (open_message c.args.framer.now) c.args.offset c.open_len-have.result
+    (omega (arith, c.open_len-have.ensures)) c.open_len-have.ensures)
+    (writes_exit _ _ _ _ _ _ c.from_residual.ensures.1 c.in_err-write_unfinished.ensures)
 
 pub returns-clause-output : goal.returns-clause-output
 returns-clause-output g c =
-    rw (unfinished_line-some (open_message c.args.framer.now) c.args.offset c.open_len-have.result (omega (arith, c.open_len-have.ensures)) c.open_len-have.ensures) (writes_flushed _ _ _ _ _ _ c.in_ok-write_unfinished.ensures c.flush.ensures.output)
+    rw (unfinished_line-some (open_message c.args.framer.now) c.args.offset c.open_len-have.result
+    (omega (arith, c.open_len-have.ensures)) c.open_len-have.ensures)
+    (writes_flushed _ _ _ _ _ _ c.in_ok-write_unfinished.ensures c.flush.ensures.output)

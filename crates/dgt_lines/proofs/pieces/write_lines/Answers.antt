@@ -1,6 +1,6 @@
 use Rattle.std.proofs.Common.{arith, ◌++◌, ◌∙◌, sym, ap, take, [], append-nil}
 use Rattle.std.proofs.lemmas.List.{take_all}
-use Rattle.dgt_decode.specs.Feeding.{event_found_in}
+use Rattle.dgt_decode.specs.Feeding.{found_in}
 use Rattle.dgt_lines.specs.Lines.{lines_after}
 use Rattle.dgt_decode.specs.Grammar.{open_message}
 use Rattle.dgt_lines.proofs.RunLemmas.{on_ok}
@@ -13,35 +13,57 @@ loop-at-init g c =
     let again = open-open c.open_append.ensures c.args.framer.now in
     record {
       bound = omega arith;
-      output = rw (lines_after-none c.events_append.ensures c.open_append.ensures (open_message c.args.framer.now) c.args.offset again, c.requires.empty) (gathered_none g.W.Sink [] c.args.writer.now);
+      output = rw (
+        lines_after-none c.events_append.ensures c.open_append.ensures
+            (open_message c.args.framer.now) c.args.offset again,
+        c.requires.empty,
+      )
+          (gathered_none g.W.Sink [] c.args.writer.now);
       framed = again ∙ ap open_message (sym (append-nil (open_message c.args.framer.now)));
     }
 
 pub loop-at-preserved-in-Continue-1 : goal.loop-at-preserved-in-Continue-1
 loop-at-preserved-in-Continue-1 g c = record {
-  bound = feed_bound c.args.piece.now c.loop-at.at c.advance-advanced.result.used c.loop-at.invariant.bound c.advance-advanced.ensures.within;
+  bound = feed_bound c.args.piece.now c.loop-at.at c.advance-advanced.result.used c.loop-at.invariant.bound
+      c.advance-advanced.ensures.within;
   output =
-      let step = gathered_then _ _ _ _ _ _ _ (lines_after (open_message c.args.framer.now) c.args.offset (take c.loop-at.at c.args.piece.now)) _ c.loop-at.invariant.output c.in_ok-put_found.ensures in
-      let e = feed_line c.events_append.ensures c.open_append.ensures (open_message c.args.framer.now) c.args.piece.now (open_message c.loop-at.framer) c.args.offset c.loop-at.at c.advance-advanced.result.used (event_found_in c.advance-advanced.new.self c.in-Some.found) c.requires.held c.loop-at.invariant.bound c.loop-at.invariant.framed
+      let step =
+      gathered_then _ _ _ _ _ _ _
+      (lines_after (open_message c.args.framer.now) c.args.offset (take c.loop-at.at c.args.piece.now)) _
+      c.loop-at.invariant.output c.in_ok-put_found.ensures in
+      let e = feed_line c.events_append.ensures c.open_append.ensures (open_message c.args.framer.now) c.args.piece.now
+      (open_message c.loop-at.framer) c.args.offset c.loop-at.at c.advance-advanced.result.used
+      (found_in c.advance-advanced.new.self c.in-Some.found) c.requires.held c.loop-at.invariant.bound
+      c.loop-at.invariant.framed
       (rw c.in-Some.is at c.advance-advanced.ensures.first).1 in
       rw e step;
-  framed = feed_open c.events_append.ensures c.open_append.ensures (open_message c.args.framer.now) c.args.piece.now _ _ c.loop-at.at c.advance-advanced.result.used c.loop-at.invariant.framed c.advance-advanced.ensures.held;
+  framed = feed_open c.events_append.ensures c.open_append.ensures (open_message c.args.framer.now) c.args.piece.now _
+      _ c.loop-at.at c.advance-advanced.result.used c.loop-at.invariant.framed c.advance-advanced.ensures.held;
 }
 
 pub returns-in_err-put_found-clause-output : goal.returns-in_err-put_found-clause-output
 returns-in_err-put_found-clause-output g c =
-    let e = feed_whole c.events_append.ensures c.open_append.ensures (open_message c.args.framer.now) c.args.piece.now (open_message c.loop-at.framer) c.args.offset c.loop-at.at c.advance-advanced.result.used (event_found_in c.advance-advanced.new.self c.in-Some.found) c.requires.held c.loop-at.invariant.bound c.loop-at.invariant.framed
+    let e = feed_whole c.events_append.ensures c.open_append.ensures (open_message c.args.framer.now) c.args.piece.now
+    (open_message c.loop-at.framer) c.args.offset c.loop-at.at c.advance-advanced.result.used
+    (found_in c.advance-advanced.new.self c.in-Some.found) c.requires.held c.loop-at.invariant.bound
+    c.loop-at.invariant.framed
     (rw c.in-Some.is at c.advance-advanced.ensures.first).1 in
-    gathered_exit _ _ _ _ _ _ _ _ _ _ _ c.loop-at.invariant.output e c.from_residual.ensures.1 c.in_err-put_found.ensures
+    gathered_exit _ _ _ _ _ _ _ _ _ _ _ c.loop-at.invariant.output e c.from_residual.ensures.1
+    c.in_err-put_found.ensures
 
 pub loop-at-preserved : goal.loop-at-preserved
 loop-at-preserved g c = record {
-  bound = feed_bound c.args.piece.now c.loop-at.at c.advance-advanced.result.used c.loop-at.invariant.bound c.advance-advanced.ensures.within;
+  bound = feed_bound c.args.piece.now c.loop-at.at c.advance-advanced.result.used c.loop-at.invariant.bound
+      c.advance-advanced.ensures.within;
   output =
-      let e = feed_none c.events_append.ensures c.open_append.ensures (open_message c.args.framer.now) c.args.piece.now (open_message c.loop-at.framer) c.args.offset c.loop-at.at c.advance-advanced.result.used c.requires.held c.loop-at.invariant.bound c.loop-at.invariant.framed
-      (rw c.in_default.is at c.advance-advanced.ensures.first).0 (rw c.in_default.is at c.advance-advanced.ensures.first).1 in
+      let e = feed_none c.events_append.ensures c.open_append.ensures (open_message c.args.framer.now) c.args.piece.now
+      (open_message c.loop-at.framer) c.args.offset c.loop-at.at c.advance-advanced.result.used c.requires.held
+      c.loop-at.invariant.bound c.loop-at.invariant.framed
+      (rw c.in_default.is at c.advance-advanced.ensures.first).0
+      (rw c.in_default.is at c.advance-advanced.ensures.first).1 in
       rw e c.loop-at.invariant.output;
-  framed = feed_open c.events_append.ensures c.open_append.ensures (open_message c.args.framer.now) c.args.piece.now _ _ c.loop-at.at c.advance-advanced.result.used c.loop-at.invariant.framed c.advance-advanced.ensures.held;
+  framed = feed_open c.events_append.ensures c.open_append.ensures (open_message c.args.framer.now) c.args.piece.now _
+      _ c.loop-at.at c.advance-advanced.result.used c.loop-at.invariant.framed c.advance-advanced.ensures.held;
 }
 
 pub returns-clause-output : goal.returns-clause-output
@@ -50,4 +72,7 @@ returns-clause-output g c =
     gathered_out _ _ _ _ _ _ _ (rw whole at c.loop-at.invariant.output) c.write_out.ensures.output
 
 pub returns-clause-framed : goal.returns-clause-framed
-returns-clause-framed g c = on_ok c.write_out.result (c.loop-at.invariant.framed ∙ ap (λ l. open_message ((open_message c.args.framer.now) ++ l)) (take_all _ c.args.piece.now c.loop-at-test.false))
+returns-clause-framed g c =
+    on_ok c.write_out.result
+    (c.loop-at.invariant.framed ∙ ap (λ l. open_message ((open_message c.args.framer.now) ++ l))
+    (take_all _ c.args.piece.now c.loop-at-test.false))

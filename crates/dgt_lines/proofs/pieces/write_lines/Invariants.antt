@@ -7,7 +7,8 @@ use Rattle.dgt_lines.proofs.pieces.write_lines.Given as goal
 abbrev pub invariant-loop-at : goal.invariant-loop-at
 invariant-loop-at g l = record {
   bound : l.at ≤ length l.piece;
-  output : Gathered g.W.Sink [] l.outgoing l.fn.writer l.writer (lines_after (open_message l.fn.framer) l.offset (take l.at l.piece));
+  output : Gathered g.W.Sink [] l.outgoing l.fn.writer l.writer
+      (lines_after (open_message l.fn.framer) l.offset (take l.at l.piece));
   framed : open_message l.framer ≡ open_message (open_message l.fn.framer ++ take l.at l.piece);
 }
 

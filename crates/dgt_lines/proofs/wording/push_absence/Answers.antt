@@ -11,4 +11,10 @@ returns-clause-text g c =
     let raw = (absence_seen c.args.absence).raw in
     let six : length raw ≡ 6 = ap length (sym c.absence_bytes.ensures.bytes) ∙ c.absence_bytes.ensures.len in
     let digits : encode_lower raw ≡ bytes_text raw = sym (bytes_text_some raw (omega arith)) in
-    rw (c.push_byte.ensures.text, c.push_hex.ensures.bytes, c.push.ensures.bytes, c.absence_bytes.ensures.bytes, digits) (simp (append_assoc, c.get.ensures.value, c.code.ensures, c.status.ensures.value) refl)
+    rw (
+      c.push_byte.ensures.text,
+      c.push_hex.ensures.bytes,
+      c.push.ensures.bytes,
+      c.absence_bytes.ensures.bytes,
+      digits,
+    ) (simp (append_assoc, c.get.ensures.value, c.code.ensures, c.status.ensures.value) refl)

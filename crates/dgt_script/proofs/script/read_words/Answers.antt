@@ -7,5 +7,8 @@ use Rattle.dgt_script.proofs.script.read_words.Goals as goal
 pub returns-in_default : goal.returns-in_default
 returns-in_default c =
     let line = c.args.line.now in
-    let cut = c.cut_word.result in
-    (words line, verb_refused (words line) (left_words cut.1) cut.0.now c.cut_word.ensures c.in_default.ensures, sym (length-words line))
+    let cut = c.cut_word.result in (
+      words line,
+      verb_refused (words line) (left_words cut.1) cut.0.now c.cut_word.ensures c.in_default.ensures,
+      sym (length-words line),
+    )

@@ -5,5 +5,5 @@ pub returns : goal.returns
 returns c = record {
   answered = each_is_answered c.one_division.ensures c.bounded_sending.ensures.falls;
   once = each_is_answered_once c.one_division.ensures;
-  goes_on = each_front_goes_on;
+  goes_on = each_front_goes_on c.one_division.ensures c.divisions_append.ensures;
 }

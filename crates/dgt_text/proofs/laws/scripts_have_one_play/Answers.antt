@@ -6,4 +6,5 @@ returns-clause-cut c = cut_once
 
 pub returns-clause-played : goal.returns-clause-played
 returns-clause-played c = λ world last other lines text also p q.
-    plays_once c.lines_have_one_meaning.ensures.one_act c.acts_have_one_outcome.ensures.one world lines text also last other p q
+    plays_once c.lines_have_one_meaning.ensures.one_act c.acts_have_one_outcome.ensures.one world lines text also last
+    other p q

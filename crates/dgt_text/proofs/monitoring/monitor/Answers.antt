@@ -14,27 +14,34 @@ loop-init g c = record {
 }
 
 pub returns-then-given-eq0-clause-output : goal.returns-then-given-eq0-clause-output
-returns-then-given-eq0-clause-output g c = heard_end _ _ _ c.loop.invariant.in_turns c.loop.invariant.heard (rw c.if-given-eq0.true at c.in-Ok.ensures.bytes.0) c.write_end.ensures.output
+returns-then-given-eq0-clause-output g c = heard_end _ _ _ c.loop.invariant.in_turns c.loop.invariant.heard
+    (rw c.if-given-eq0.true at c.in-Ok.ensures.bytes.0) c.write_end.ensures.output
 
 pub write_lines-requires-clause-held : goal.write_lines-requires-clause-held
 write_lines-requires-clause-held g c = heard_bound c.lines_append.ensures.unfinished _ _ _ _ _ c.loop.invariant.heard
 
 pub returns-in_err-write_lines-clause-output : goal.returns-in_err-write_lines-clause-output
 returns-in_err-write_lines-clause-output g c =
-    heard_stopped c.lines_append.ensures.lines _ _ _ _ _ c.loop.invariant.in_turns c.loop.invariant.heard c.in-Ok.ensures.bytes.0 c.in_err-write_lines.ensures.output.1 c.from_residual.ensures.1 c.in_err-write_lines.ensures.output.0
+    heard_stopped c.lines_append.ensures.lines _ _ _ _ _ c.loop.invariant.in_turns c.loop.invariant.heard
+    c.in-Ok.ensures.bytes.0 c.in_err-write_lines.ensures.output.1 c.from_residual.ensures.1
+    c.in_err-write_lines.ensures.output.0
 
 pub returns-in_err-flush-clause-output : goal.returns-in_err-flush-clause-output
 returns-in_err-flush-clause-output g c =
     let stop = stopped_after g.W.Sink _ _ _ _ c.in_ok-write_lines.ensures.output c.in_err-flush.ensures.output.1 in
-    heard_stopped c.lines_append.ensures.lines _ _ _ _ _ c.loop.invariant.in_turns c.loop.invariant.heard c.in-Ok.ensures.bytes.0 stop c.from_residual-in_err-flush.ensures.1 c.in_err-flush.ensures.output.0
+    heard_stopped c.lines_append.ensures.lines _ _ _ _ _ c.loop.invariant.in_turns c.loop.invariant.heard
+    c.in-Ok.ensures.bytes.0 stop c.from_residual-in_err-flush.ensures.1 c.in_err-flush.ensures.output.0
 
 pub loop-preserved : goal.loop-preserved
 loop-preserved g c =
     let read = c.in-Ok.ensures in
     let wrote = c.in_ok-write_lines.ensures in
     let flushed = c.in_ok-flush.ensures in record {
-      in_turns = next_read c.loop.invariant.in_turns c.loop-test.true _ _ read.bound read.bytes.0 read.not_refused read.no_end read.counted read.in_time c.if-given-eq0.false wrote.output.kept wrote.output.in_time flushed.output flushed.flushed;
-      heard = heard_more c.lines_append.ensures.lines c.open_append.ensures _ _ _ _ _ _ _ _ _ _ c.loop.invariant.heard (length-take-le c.in-Ok.given c.read_some.new.buffer read.bound) wrote.output flushed.output wrote.framed;
+      in_turns = next_read c.loop.invariant.in_turns c.loop-test.true _ _ read.bound read.bytes.0 read.not_refused
+          read.no_end read.counted read.in_time c.if-given-eq0.false wrote.output.kept wrote.output.in_time
+          flushed.output flushed.flushed;
+      heard = heard_more c.lines_append.ensures.lines c.open_append.ensures _ _ _ _ _ _ _ _ _ _ c.loop.invariant.heard
+          (length-take-le c.in-Ok.given c.read_some.new.buffer read.bound) wrote.output flushed.output wrote.framed;
       empty = wrote.empty;
       short = omega (arith, read.bound, c.read_some.auto.buffer);
     }

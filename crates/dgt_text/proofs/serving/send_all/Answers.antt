@@ -3,11 +3,15 @@ use Rattle.dgt_text.proofs.serving.send_all.Goals as goal
 
 pub loop-length-preserved : goal.loop-length-preserved
 loop-length-preserved g c =
-    let sent = has_sent c.loop-length.board c.poll.new.self c.in-Wrote.length c.loop-length.message c.poll.new.out c.in-Wrote.ensures.polls in
-    sent_more _ _ _ _ _ _ _ sent.message c.loop-length.invariant sent.next sent.state (rw sent.bytes at c.in_ok-put.ensures.output)
+    let sent = has_sent c.loop-length.board c.poll.new.self c.in-Wrote.length c.loop-length.message c.poll.new.out
+    c.in-Wrote.ensures.polls in
+    sent_more _ _ _ _ _ _ _ sent.message c.loop-length.invariant sent.next sent.state
+    (rw sent.bytes at c.in_ok-put.ensures.output)
 
 pub returns-in_err-put : goal.returns-in_err-put
 returns-in_err-put g c =
-    let sent = has_sent c.loop-length.board c.poll.new.self c.in-Wrote.length c.loop-length.message c.poll.new.out c.in-Wrote.ensures.polls in
+    let sent = has_sent c.loop-length.board c.poll.new.self c.in-Wrote.length c.loop-length.message c.poll.new.out
+    c.in-Wrote.ensures.polls in
     halted_exit _ _ _ _ _ _ _ _ c.from_residual.ensures.1 c.in_err-put.ensures.output.0
-    (sent_halts _ _ _ _ _ _ _ sent.message c.loop-length.invariant c.in-Wrote.ensures.board.partial sent.next sent.state (rw sent.bytes at c.in_err-put.ensures.output.1))
+    (sent_halts _ _ _ _ _ _ _ sent.message c.loop-length.invariant c.in-Wrote.ensures.board.partial sent.next
+    sent.state (rw sent.bytes at c.in_err-put.ensures.output.1))

@@ -6,7 +6,8 @@ use Rattle.dgt_text.proofs.serving.serve.Goals as goal
 
 pub returns-in_err-answer-clause-output : goal.returns-in_err-answer-clause-output
 returns-in_err-answer-clause-output g c =
-    halted_run g.R.Source g.W.Sink _ _ _ _ _ _ _ [] _ _ (Consumes-nil (g.R.Source.left c.args.reader.now)) c.in_err-answer.ensures.served.1 c.from_residual.ensures.1 c.in_err-answer.ensures.served.0
+    halted_run g.R.Source g.W.Sink _ _ _ _ _ _ _ [] _ _ (Consumes-nil (g.R.Source.left c.args.reader.now))
+    c.in_err-answer.ensures.served.1 c.from_residual.ensures.1 c.in_err-answer.ensures.served.0
 
 pub loop-init : goal.loop-init
 loop-init g c = record {
@@ -16,12 +17,16 @@ loop-init g c = record {
 
 pub returns-in_err-answer-2-clause-output : goal.returns-in_err-answer-2-clause-output
 returns-in_err-answer-2-clause-output g c =
-    served_stops c.divisions_append.ensures _ _ _ _ _ _ _ _ c.loop.invariant.in_turns c.loop.invariant.served c.in-Ok.ensures.bytes.0 c.in_err-answer-2.ensures.served.1 c.from_residual-in_err-answer-2.ensures.1 c.in_err-answer-2.ensures.served.0
+    served_stops c.divisions_append.ensures _ _ _ _ _ _ _ _ c.loop.invariant.in_turns c.loop.invariant.served
+    c.in-Ok.ensures.bytes.0 c.in_err-answer-2.ensures.served.1 c.from_residual-in_err-answer-2.ensures.1
+    c.in_err-answer-2.ensures.served.0
 
 pub loop-preserved : goal.loop-preserved
 loop-preserved g c =
     let read = c.in-Ok.ensures in
     let answered = c.in_ok-answer-2.ensures in record {
-      in_turns = next_read c.loop.invariant.in_turns c.loop-test.true _ _ read.bound read.bytes.0 read.not_refused read.no_end read.counted read.in_time c.if-given-eq0.false refl (λ _. refl) answered.served.wrote answered.flushed;
+      in_turns = next_read c.loop.invariant.in_turns c.loop-test.true _ _ read.bound read.bytes.0 read.not_refused
+          read.no_end read.counted read.in_time c.if-given-eq0.false refl
+          (λ _. refl) answered.served.wrote answered.flushed;
       served = served_more g.W.Sink c.divisions_append.ensures _ _ _ _ _ _ _ _ c.loop.invariant.served answered.served;
     }

@@ -1,6 +1,6 @@
 use Rattle.std.proofs.Common.{◌≡◌, ◌≤◌, ◌-◌, ◌+◌, ◌++◌, false, List, ℕ, length, take}
 use Rattle.dgt_script.specs.ScriptLines.{HasNoFeed, KeepsLine}
-use Rattle.dgt_text.specs.Simulating.{PlaysOn}
+use Rattle.dgt_text.specs.Simulating.{PlaysOn, part}
 use Rattle.dgt_text.proofs.simulating.play_piece.Given as goal
 
 abbrev pub invariant-loop-at : goal.invariant-loop-at
@@ -10,7 +10,8 @@ invariant-loop-at g l = record {
   not_failed : g.W.Sink.failed l.writer ≡ g.W.Sink.failed l.fn.writer;
   in_time : g.W.Sink.failed l.fn.writer ≡ false → g.W.Sink.late l.writer ≡ g.W.Sink.late l.fn.writer;
   played : (rest : List ℕ) → KeepsLine l.fn.line rest → HasNoFeed rest
-      → PlaysOn g.W.Sink l.fn.world l.world l.fn.writer l.writer l.line l.fn.number l.number (rest ++ take l.at l.piece);
+      → PlaysOn g.W.Sink (part l.fn.number (rest ++ take l.at l.piece) l.fn.world l.world) l.fn.writer l.writer l.line
+      l.number;
 }
 
 abbrev pub decreases-loop-at : goal.decreases-loop-at

@@ -11,13 +11,16 @@ loop-rest-preserved g c =
     let at = c.loop-rest.at in
     let rest = c.loop-rest.rest in
     let width = c.args.width - (20 - at) in
-    let more : (0 < rest) ⊎ (0 < width) = elim c.if-rest-gt0.branch [ then-rest-gt0 w ↦ inl (omega arith) | else-rest-gt0+then-at-width w ↦ inr (omega arith) ] in
+    let more : (0 < rest) ⊎ (0 < width) =
+    elim c.if-rest-gt0.branch
+    [ then-rest-gt0 w ↦ inl (omega arith) | else-rest-gt0+then-at-width w ↦ inr (omega arith) ] in
     let some : 0 < at = elim c.if-rest-gt0.branch [
       | then-rest-gt0 w ↦ none_below rest at c.loop-rest.invariant.short (omega arith)
       | else-rest-gt0+then-at-width w ↦ omega arith
     ] in
     let last = at - 1 in
-    let inside : last < length c.loop-rest.digits = omega (arith, c.loop-rest.invariant.room, c.loop-rest.invariant.within) in
+    let inside : last < length c.loop-rest.digits =
+    omega (arith, c.loop-rest.invariant.room, c.loop-rest.invariant.within) in
     let next : last + 1 ≡ at = omega arith in
     let narrow : width - 1 ≡ c.args.width - (20 - last) = omega (arith, c.loop-rest.invariant.within) in
     let digit = 48 + rest % 10 in record {
@@ -29,7 +32,8 @@ loop-rest-preserved g c =
           ∙ ap (λ l. l ++ drop at c.loop-rest.digits) (front-last width rest c.loop-rest.invariant.fits more)
           ∙ append_assoc (front (width - 1) (rest / 10)) _ _
           ∙ ap (λ w. front w (rest / 10) ++ digit ∷ drop at c.loop-rest.digits) narrow
-          ∙ ap (λ l. front (c.args.width - (20 - last)) (rest / 10) ++ l) (sym (drop-set c.loop-rest.digits last digit inside ∙ ap (λ i. digit ∷ drop i c.loop-rest.digits) next));
+          ∙ ap (λ l. front (c.args.width - (20 - last)) (rest / 10) ++ l)
+          (sym (drop-set c.loop-rest.digits last digit inside ∙ ap (λ i. digit ∷ drop i c.loop-rest.digits) next));
     }
 
 pub returns-clause-bytes : goal.returns-clause-bytes
@@ -40,6 +44,8 @@ returns-clause-bytes g c =
     let wide : c.args.width - (20 - at) ≡ 0 = omega (arith, c.if-at-width.false) in
     let written : padded_decimal c.args.width c.args.number ≡ drop at digits =
     sym (front-all c.args.width c.args.number c.requires.some) ∙ c.loop-rest.invariant.text
-    ∙ ap (λ n. front (c.args.width - (20 - at)) n ++ drop at digits) none ∙ ap (λ w. front w 0 ++ drop at digits) wide in
-    let whole : take (20 - at) (drop at digits) ≡ drop at digits = ap (λ n. take (n - at) (drop at digits)) (sym c.loop-rest.invariant.room) ∙ slice_from digits at in
+    ∙ ap (λ n. front (c.args.width - (20 - at)) n ++ drop at digits) none ∙ ap (λ w. front w 0 ++ drop at digits) wide
+    in
+    let whole : take (20 - at) (drop at digits) ≡ drop at digits =
+    ap (λ n. take (n - at) (drop at digits)) (sym c.loop-rest.invariant.room) ∙ slice_from digits at in
     c.push.ensures.bytes ∙ ap (λ l. c.args.self.now ++ l) (whole ∙ sym written)

@@ -10,7 +10,10 @@ loop-byte-init g c = record {
 
 pub loop-byte-preserved : goal.loop-byte-preserved
 loop-byte-preserved g c = record {
-  text = c.push.ensures.bytes ∙ ap (λ l. l ++ c.hex_digits.result) c.loop-byte.invariant.text ∙ append_assoc c.args.self.now _ _
-      ∙ ap (λ l. c.args.self.now ++ l) (rw c.hex_digits.ensures (sym (encode_lower-take c.args.bytes.now c.loop-byte.byte-index c.loop-byte-test.true)));
+  text = c.push.ensures.bytes ∙ ap (λ l. l ++ c.hex_digits.result) c.loop-byte.invariant.text ∙ append_assoc
+      c.args.self.now _ _
+      ∙ ap (λ l. c.args.self.now ++ l)
+      (rw c.hex_digits.ensures
+      (sym (encode_lower-take c.args.bytes.now c.loop-byte.byte-index c.loop-byte-test.true)));
   len = omega (arith, c.push.ensures.len, c.loop-byte.invariant.len);
 }
