@@ -2,10 +2,10 @@
 
 ghost use Rattle.std.specs.Prelude.{◌≡◌, ◌+◌, ◌/◌, ◌%◌, ◌<◌, ◌≤◌, ◌++◌, [], ◌∷◌, false, length, IfSome, OnOk};
 ghost use Rattle.hex.specs.Hex.{encode_lower};
-ghost use Rattle.dgt_values.specs.Square.{square_number};
+ghost use Rattle.dgt_values.specs.Board.{square_number};
 ghost use Rattle.dgt_message.specs.Content.Content.{field};
 ghost use Rattle.dgt_decode.specs.Grammar.{Message, message_event};
-ghost use Rattle.dgt_decode.specs.Feeding.{IsWhole, event_content, found_in};
+ghost use Rattle.dgt_decode.specs.Feeding.{IsWholeMessage, event_content, event_found_in};
 ghost use Rattle.dgt_lines.specs.Writing.{Gathers, Writes};
 ghost use Rattle.dgt_lines.specs.Lines.{bytes_text, event_line, line, offset_text, padded_decimal, unfinished_text};
 ghost use Rattle.dgt_lines.specs.Marks.{Waits};
@@ -144,9 +144,9 @@ pub(crate) fn put_found<W: Sink, const ROOM: usize>(
     found: &Found,
 ) -> Result<(), RunFault>
     requires room { LINE_ROOM ≤ ROOM }
-    requires whole { found.now ≡ Found.Message → IsWhole framer.now }
+    requires whole { found.now ≡ Found.Message → IsWholeMessage framer.now }
     ensures { Gathers W.Sink (outgoing.old, outgoing.new) writer.old writer.new
-        result (event_line offset (found_in framer.now found.now)) }
+        result (event_line offset (event_found_in framer.now found.now)) }
 {
     match found {
         Found::Message => put_message(outgoing, writer, offset, framer),
@@ -165,9 +165,9 @@ fn put_event_of<W: Sink, const ROOM: usize>(
     found: Found,
 ) -> Result<(), RunFault>
     requires room { LINE_ROOM ≤ ROOM }
-    requires whole { found ≡ Found.Message → IsWhole framer.now }
+    requires whole { found ≡ Found.Message → IsWholeMessage framer.now }
     ensures { Gathers W.Sink (outgoing.old, outgoing.new) writer.old writer.new
-        result (event_line offset (found_in framer.now found)) }
+        result (event_line offset (event_found_in framer.now found)) }
 {
     put_event(outgoing, writer, offset, &framer.event(found))
 }
@@ -181,7 +181,7 @@ fn put_message<W: Sink, const ROOM: usize>(
     framer: &Framer,
 ) -> Result<(), RunFault>
     requires room { LINE_ROOM ≤ ROOM }
-    requires whole { IsWhole framer.now }
+    requires whole { IsWholeMessage framer.now }
     ensures { Gathers W.Sink (outgoing.old, outgoing.new) writer.old writer.new
         result (event_line offset (message_event framer.now)) }
 {
@@ -197,7 +197,7 @@ fn put_message<W: Sink, const ROOM: usize>(
 
 // What a whole message says of one square, if it is a field.
 fn field(bytes: &[u8]) -> Option<(Square, Piece)>
-    requires { IsWhole bytes.now }
+    requires { IsWholeMessage bytes.now }
     ensures { IfSome result (λ told. message_event bytes.now ≡
         Message (field (square_number told.0) told.1)) }
 {

@@ -12,27 +12,23 @@ use Rattle.std.specs.Str.{IsUtf8}
 use Rattle.std.specs.Str.Parse.{AllDigits, ParsesUnsigned, digits_value}
 use Rattle.hex.specs.Hex.{decode_sized}
 use Rattle.hex.proofs.HexLemmas.{decode_of-ok, decode_of-same, decode_sized-ok, decode_sized-twice}
-use Rattle.dgt_values.specs.declared.bodies.BodyError.{BodyError}
-use Rattle.dgt_values.specs.declared.bodies.BodyError.TheVariants.{TooMuch, NotSevenBit}
+use Rattle.dgt_values.specs.declared.refusals.BodyError.{BodyError}
+use Rattle.dgt_values.specs.declared.refusals.BodyError.TheVariants.{Length, Byte}
 use Rattle.dgt_values.specs.declared.pieces.Piece.{Piece}
 use Rattle.dgt_values.specs.declared.pieces.Piece.TheVariants.{Empty, WhitePawn, WhiteRook, WhiteKnight, WhiteBishop, WhiteKing, WhiteQueen, BlackPawn, BlackRook, BlackKnight, BlackBishop, BlackKing, BlackQueen, FirstExtra, SecondExtra, ThirdExtra}
-use Rattle.dgt_values.specs.Body.{Refuses}
-use Rattle.dgt_values.specs.Piece.{piece_letter}
-use Rattle.dgt_values.specs.Square.{square_name}
-use Rattle.dgt_message.specs.declared.bodies.BodyFault.{BodyFault}
+use Rattle.dgt_values.specs.Bytes.{Refuses}
+use Rattle.dgt_values.specs.Board.{piece_letter, square_name}
+use Rattle.dgt_message.specs.declared.viewing.BodyFault.{BodyFault}
 use Rattle.dgt_message.specs.declared.clock.Clock.{Clock}
 use Rattle.dgt_message.specs.declared.known.KnownCode.{KnownCode}
-use Rattle.dgt_message.specs.Clock.{AreTimes, Times as BothTimes}
-use Rattle.dgt_message.specs.ClockState.{ClockState, clock_message, clock_seen}
+use Rattle.dgt_message.specs.Clock.{AreTimes, Times as BothTimes, ClockState}
+use Rattle.dgt_message.specs.Content.{clock_message, clock_seen, Content, IsCarried}
 use Rattle.dgt_message.specs.Code.{known_number}
-use Rattle.dgt_message.specs.Content.{Content, IsCarried}
-use Rattle.dgt_message.specs.Fault.{IsFaultOf}
-use Rattle.dgt_message.specs.Reading.{reading}
+use Rattle.dgt_message.specs.Reading.{IsFaultOf, reading}
 use Rattle.dgt_message.specs.Spelling.{Fits, times_bytes}
 use Rattle.dgt_command.specs.Content.{CommandContent, Read}
 use Rattle.dgt_command.specs.Laws.{SpellingsTellCommands, WordsAreShort}
-use Rattle.dgt_command.specs.Telling.{command_in}
-use Rattle.dgt_command.specs.Words.{Spells}
+use Rattle.dgt_command.specs.Spelling.{command_in, SpellsCommand}
 use Rattle.dgt_script.specs.ScriptWords.{IsClockWord, IsCommandWord, IsCountWord, IsHexOf, IsPieceWord, IsSquareWord, Tells}
 
 -- ---- What a call answers
@@ -208,9 +204,9 @@ clock_fits word bytes clock e h =
 -- what the word of a clock is decoded to is no body that is refused
 pub clock_not_refused : (word bytes : List ℕ) (clock : ClockState) (why : BodyError) → decode_sized word 7 ≡ Ok bytes
     → IsClockWord word clock → Refuses bytes why → ⊥
-clock_not_refused word bytes clock TooMuch e h r =
+clock_not_refused word bytes clock (Length _) e h r =
     omega (arith, length-clock clock bytes (clock_fits word bytes clock e h))
-clock_not_refused word bytes clock NotSevenBit e h r =
+clock_not_refused word bytes clock (Byte _) e h r =
     let high = r.1 in
     let small : high.1 < 128 =
     rw high.3 at (clock_is_seven_bit clock bytes (clock_fits word bytes clock e h) high.0 high.1 high.2) in
@@ -245,10 +241,10 @@ one_clock exact word a b h k =
 -- ---- Commands
 
 -- the bytes of a command are no more than 257
-pub length-command : WordsAreShort → (command : CommandContent) (bytes : List ℕ) → Spells command bytes
+pub length-command : WordsAreShort → (command : CommandContent) (bytes : List ℕ) → SpellsCommand command bytes
     → length bytes ≤ 257
 length-command short command bytes h =
-    (short (Read command) bytes (record { form = (h.is_command, h.spelled); are_bytes = h.are_bytes })).1
+    (short (Read command) bytes (record { form = h.spelled; are_bytes = h.are_bytes })).1
 
 -- a word of more than twice 257 digits is no command
 pub command_has_room : WordsAreShort → (word : List ℕ) (command : CommandContent) → IsCommandWord word command

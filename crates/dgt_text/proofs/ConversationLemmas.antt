@@ -5,9 +5,9 @@ use Rattle.dgt_message.specs.Content.{Content}
 use Rattle.dgt_message.specs.Spelling.{spelling}
 use Rattle.dgt_command.specs.Content.{CommandContent, EventContent}
 use Rattle.dgt_command.specs.Laws.{DivisionsAppend, EachDividesOnce}
-use Rattle.dgt_command.specs.Words.{AreBytes, IsWord, IsPartial, Divides}
-use Rattle.dgt_board.specs.State.{BoardState}
-use Rattle.dgt_board.specs.Effect.{effect}
+use Rattle.dgt_command.specs.Spelling.{AreBytes}
+use Rattle.dgt_command.specs.Words.{IsWord, IsPartial, Divides}
+use Rattle.dgt_board.specs.State.{BoardState, effect}
 use Rattle.dgt_board.specs.Sending.{after_sending, left_to_send, next_message, piece_on, told_squares_after}
 use Rattle.dgt_board.specs.View.{BoardView, after_bytes}
 use Rattle.dgt_text.specs.Conversation.{Exchange, told, heard, Converses, events_heard, bytes_told, Hears, HearsFront, EachIsAnswered, EachIsAnsweredOnce, EachFrontGoesOn}

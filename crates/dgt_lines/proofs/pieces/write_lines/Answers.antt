@@ -1,6 +1,6 @@
 use Rattle.std.proofs.Common.{arith, ◌++◌, ◌∙◌, sym, ap, take, [], append-nil}
 use Rattle.std.proofs.lemmas.List.{take_all}
-use Rattle.dgt_decode.specs.Feeding.{found_in}
+use Rattle.dgt_decode.specs.Feeding.{event_found_in}
 use Rattle.dgt_lines.specs.Lines.{lines_after}
 use Rattle.dgt_decode.specs.Grammar.{open_message}
 use Rattle.dgt_lines.proofs.RunLemmas.{on_ok}
@@ -33,7 +33,7 @@ loop-at-preserved-in-Continue-1 g c = record {
       c.loop-at.invariant.output c.in_ok-put_found.ensures in
       let e = feed_line c.events_append.ensures c.open_append.ensures (open_message c.args.framer.now) c.args.piece.now
       (open_message c.loop-at.framer) c.args.offset c.loop-at.at c.advance-advanced.result.used
-      (found_in c.advance-advanced.new.self c.in-Some.found) c.requires.held c.loop-at.invariant.bound
+      (event_found_in c.advance-advanced.new.self c.in-Some.found) c.requires.held c.loop-at.invariant.bound
       c.loop-at.invariant.framed
       (rw c.in-Some.is at c.advance-advanced.ensures.first).1 in
       rw e step;
@@ -45,7 +45,7 @@ pub returns-in_err-put_found-clause-output : goal.returns-in_err-put_found-claus
 returns-in_err-put_found-clause-output g c =
     let e = feed_whole c.events_append.ensures c.open_append.ensures (open_message c.args.framer.now) c.args.piece.now
     (open_message c.loop-at.framer) c.args.offset c.loop-at.at c.advance-advanced.result.used
-    (found_in c.advance-advanced.new.self c.in-Some.found) c.requires.held c.loop-at.invariant.bound
+    (event_found_in c.advance-advanced.new.self c.in-Some.found) c.requires.held c.loop-at.invariant.bound
     c.loop-at.invariant.framed
     (rw c.in-Some.is at c.advance-advanced.ensures.first).1 in
     gathered_exit _ _ _ _ _ _ _ _ _ _ _ c.loop-at.invariant.output e c.from_residual.ensures.1
