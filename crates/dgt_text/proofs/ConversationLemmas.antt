@@ -36,7 +36,7 @@ nothing_is_partial = record {
   event = EventContent.Read CommandContent.Dump;
   next = 0x42;
   more = [];
-  word = record { form = (tt, refl); are_bytes = search rules };
+  word = record { form = refl; are_bytes = search rules };
 }
 
 -- what divides is bytes, and leaves a part of a word
