@@ -154,7 +154,7 @@ fn unmatched<'a>(error: clap::Error) -> Result<Task<'a>, Fault> {
     }
 }
 
-// Each subcommand of `command` has its task here, and each option its value: what hasn't is refused.
+// Each subcommand has its task here, and each option its value. What hasn't is refused.
 fn requested<'a>(alloc: Global, matches: &ArgMatches<'a>) -> Result<Option<Task<'a>>, Fault> {
     match matches.subcommand() {
         Some(("ask", ask)) => Ok(Some(Task::Ask {

@@ -39,7 +39,8 @@ pub fn identity() -> Identity
 
 /// Its clock, which shows 0:00:00 for both players, and doesn't run.
 pub fn clock() -> Clock
-    ensures { clock_seen result ≡ ClockState.times (times_of (time_of 0 0 0 0) (time_of 0 0 0 0) 0) }
+    ensures { clock_seen result
+        ≡ ClockState.times (times_of (time_of 0 0 0 0) (time_of 0 0 0 0) 0) }
 {
     let zero = Reading::new(0, 0, 0, 0).unwrap();
     let status = Status::new(seven_bit(0));
