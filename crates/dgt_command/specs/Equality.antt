@@ -1,6 +1,6 @@
 -- What `==` says of commands. An array is a list here, so it is said of those that are as long as
 -- their types say.
-use Rattle.std.specs.Prelude.{◌≡◌, ◌↔◌, ℕ, length, Bool, IsTrue, Option, IfSome}
+use Rattle.std.specs.Prelude.{◌≡◌, ℕ, length, Option, IfSome}
 use Rattle.std.specs.Option.{option_map}
 use Rattle.dgt_command.specs.declared.clock.ClockCommand.{ClockCommand}
 use Rattle.dgt_command.specs.declared.clock.ClockCommand.TheVariants as clock
@@ -10,12 +10,6 @@ use Rattle.dgt_command.specs.declared.command.CommandEvent.{CommandEvent}
 use Rattle.dgt_command.specs.declared.command.CommandEvent.TheVariants as event
 use Rattle.dgt_command.specs.declared.decoder.CommandFed.{CommandFed}
 use Rattle.dgt_command.specs.Content.{EventContent, command_event_content}
-
--- two values that are as they should be are equal exactly where a clause reads the same of them
-abbrev pub EqualIsSameReadOf :
-    {T Read : Type 0} → (T → Type 0) → (T → Read) → (T → T → Bool) → Type 0
-EqualIsSameReadOf Holds read eq =
-    (a b : _) → Holds a → Holds b → IsTrue (eq a b) ↔ (read a ≡ read b)
 
 -- a display has six places, a set clock three bytes on each side, and a text eight letters
 abbrev pub HasArrays : ClockCommand → Type 0
