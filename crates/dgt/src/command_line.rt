@@ -131,6 +131,9 @@ fn command<'a>(alloc: Global) -> Result<Command<'a>, AllocError> {
 }
 
 /// The task of the words, of which the first is the program's name.
+///
+/// It is not inlined: what `clap` needs of the stack is free again before the task begins.
+#[inline(never)]
 pub fn read<'a>(alloc: Global, words: &'a [String]) -> Result<Task<'a>, Fault> {
     match command(alloc)?.try_get_matches_from(words) {
         Ok(matches) => match requested(alloc, &matches)? {

@@ -102,7 +102,7 @@ module _ {S T : Type 0} (R : Source S) (W : Sink T) where
   pub simulated_pictures : {A : Type 0} (at_end : Bool) (limit : ℕ) (r : Result A RunFault) (a b : S) (c d : T)
       (w l : WorldView) → ClosingLinesAgree
       → ((x : MachineState) → StandsFor l x → IsPromised x → IsQuietWorld l
-          → l.host.picture ≡ Some l.board.state.squares)
+      → l.host.picture ≡ Some l.board.state.squares)
       → Ran R W (change a b) (change c d) (InTurns limit r (IsSimulated at_end r w l))
       → Ran R W (change a b) (change c d) (InTurns limit r (λ _ out. OnOk r (TellsPicture l out)))
   simulated_pictures at_end limit (Ok x) a b c d w l agree same p =
