@@ -1,9 +1,12 @@
 pub mod DecimalLemmas
 pub mod FieldLemmas
 pub mod GatherLemmas
+pub mod EventLemmas
 pub mod Heard
 pub mod HexLemmas
 pub mod LineLemmas
+pub mod PictureLemmas
+pub mod Pictured
 pub mod PieceLemmas
 pub mod RunLemmas
 pub mod TurnLemmas

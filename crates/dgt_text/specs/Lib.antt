@@ -7,6 +7,7 @@ pub mod Turns
 pub mod FaultText
 pub mod Gathering
 pub mod Monitoring
+pub mod Picturing
 pub mod Conversation
 pub mod Serving
 pub mod ScriptWords

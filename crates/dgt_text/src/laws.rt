@@ -7,6 +7,7 @@ ghost use Rattle.dgt_link.specs.Act.{ActContent};
 ghost use Rattle.dgt_link.specs.View.{WorldView};
 ghost use Rattle.dgt_text.specs.Closing.{ClosingLinesAgree};
 ghost use Rattle.dgt_text.specs.Conversation.{EachFrontGoesOn, EachIsAnswered, EachIsAnsweredOnce};
+ghost use Rattle.dgt_text.specs.Picturing.{LastLineIsPicture};
 ghost use Rattle.dgt_text.specs.Script.{IsAsked, IsBadAt};
 ghost use Rattle.dgt_text.specs.ScriptLines.{IsCut};
 ghost use Rattle.dgt_text.specs.Simulating.{Plays};
@@ -61,4 +62,10 @@ pub fn scripts_have_one_play()
 /// first, have one and the same placement.
 pub fn closing_lines_agree()
     ensures { ClosingLinesAgree }
+{}
+
+/// The last line of [`picture`](crate::picture) has the placement of the picture after all messages that
+/// were read. Where that is unknown there is no line.
+pub fn last_line_is_picture()
+    ensures { LastLineIsPicture }
 {}

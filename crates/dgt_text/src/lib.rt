@@ -5,7 +5,8 @@
 //! what they say. [`read_act`] reads a line of a script, as `change e4 P`: what it asks a world to do.
 //!
 //! [`monitor`] reads what a board sends and writes a line for each event, as soon as its bytes came.
-//! [`serve`] reads commands and writes what a board answers. [`simulate`] plays a script in a world of a
+//! [`picture`] reads the same, and writes a line with the pieces of the board for each message that sets
+//! them. [`serve`] reads commands and writes what a board answers. [`simulate`] plays a script in a world of a
 //! board, a host and the lines between them, and writes what came of each act.
 //!
 //! An engine reads from a [`Source`] and writes to a [`Sink`]. [`Bytes`] is a source over a slice, and
@@ -24,6 +25,8 @@ mod gathering;
 pub mod laws;
 mod lines;
 mod monitoring;
+mod pictures;
+mod picturing;
 mod script;
 mod script_lines;
 mod script_words;
@@ -39,6 +42,7 @@ pub use ends::{Failed, Sink, Source};
 pub use faults::RunFault;
 pub use lines::write_event;
 pub use monitoring::monitor;
+pub use picturing::picture;
 pub use script::{LineFault, read_act};
 pub use serving::serve;
 pub use simulating::simulate;
