@@ -3,6 +3,7 @@
 mod closing;
 mod devices;
 mod failures;
+mod picturing;
 mod script;
 mod script_lines;
 mod script_words;
