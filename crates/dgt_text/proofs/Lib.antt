@@ -8,6 +8,7 @@ pub mod LineLemmas
 pub mod PictureLemmas
 pub mod Pictured
 pub mod PieceLemmas
+pub mod RankLemmas
 pub mod RunLemmas
 pub mod TurnLemmas
 pub mod TextLemmas

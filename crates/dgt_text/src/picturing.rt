@@ -37,8 +37,7 @@ fn put_known<W: Sink>(
     };
     outgoing.make_room(writer)?;
     push_offset(outgoing, offset);
-    outgoing.push(picture.text());
-    outgoing.push(b"\n");
+    picture.push(outgoing);
     Ok(())
 }
 
