@@ -8,11 +8,14 @@ use Rattle.dgt_text.specs.Picturing.{events_after}
 use Rattle.dgt_text.proofs.PieceLemmas.{open_short}
 use Rattle.dgt_text.proofs.RunLemmas.{slice_from}
 
-events_behind-append : (n : ℕ) (xs ys : List Placed) → events_behind n (xs ++ ys) ≡ events_behind n xs ++ events_behind n ys
+events_behind-append : (n : ℕ) (xs ys : List Placed)
+    → events_behind n (xs ++ ys) ≡ events_behind n xs ++ events_behind n ys
 events_behind-append n [] ys = refl
-events_behind-append n (x ∷ xs) ys = ap (λ (zs : List Placed). at_place (n + x.place) x.event ∷ zs) (events_behind-append n xs ys)
+events_behind-append n (x ∷ xs) ys = ap (λ (zs : List Placed). at_place (n + x.place) x.event ∷ zs)
+    (events_behind-append n xs ys)
 
-events_behind-events_behind : (m n : ℕ) (xs : List Placed) → events_behind m (events_behind n xs) ≡ events_behind (m + n) xs
+events_behind-events_behind : (m n : ℕ) (xs : List Placed) → events_behind m (events_behind n xs) ≡ events_behind
+    (m + n) xs
 events_behind-events_behind m n [] = refl
 events_behind-events_behind m n (x ∷ xs) =
     let same : m + (n + x.place) ≡ (m + n) + x.place = omega arith in
@@ -32,11 +35,13 @@ events_after-start s = events_behind-zero (events s)
 
 -- bytes that make one event at their end
 one_event : (held bytes : List ℕ) (offset n : ℕ) (event : Event) → length held ≤ offset
-    → events (held ++ bytes) ≡ at_place (length held + n) event ∷ [] → events_after held offset bytes ≡ at_place (offset + n) event ∷ []
+    → events (held ++ bytes) ≡ at_place (length held + n) event ∷ [] → events_after held offset bytes ≡ at_place
+    (offset + n) event ∷ []
 one_event held bytes offset n event h e =
     ap (events_behind (offset - length held)) e ∙ ap (λ m. at_place m event ∷ []) (omega arith)
 
-open_bound : (held piece o : List ℕ) (offset i : ℕ) → length held ≤ offset → i ≤ length piece → o ≡ open_message (held ++ take i piece) → length o ≤ offset + i
+open_bound : (held piece o : List ℕ) (offset i : ℕ) → length held ≤ offset → i ≤ length piece
+    → o ≡ open_message (held ++ take i piece) → length o ≤ offset + i
 open_bound held piece o offset i h k e =
     let short = open_short (held ++ take i piece) in
     let long = length-append held (take i piece) in
@@ -47,66 +52,84 @@ open_bound held piece o offset i h k e =
 module _ (more : EventsAppend) (opens : OpenAppend) where
   -- the events of a longer piece
   pub events_after-append : (held p q : List ℕ) (offset : ℕ) → length held ≤ offset
-      → events_after held offset (p ++ q) ≡ events_after held offset p ++ events_after (open_message (held ++ p)) (offset + length p) q
+      → events_after held offset (p ++ q) ≡ events_after held offset p ++ events_after (open_message (held ++ p))
+      (offset + length p) q
   events_after-append held p q offset h =
       let s = held ++ p in
       let d = offset - length held in
       let o = open_message s in
       let k = length s - length o in
-      let whole : events (held ++ (p ++ q)) ≡ events s ++ events_behind k (events (o ++ q)) = ap events (sym (append_assoc held p q)) ∙ more s q in
+      let whole : events (held ++ (p ++ q)) ≡ events s ++ events_behind k (events (o ++ q)) =
+      ap events (sym (append_assoc held p q)) ∙ more s q in
       let short : length o ≤ length s = open_short s in
       let long : length s ≡ length held + length p = length-append held p in
       let sum : d + k ≡ offset + length p - length o = omega arith in
-      let later : events_behind d (events_behind k (events (o ++ q))) ≡ events_behind (offset + length p - length o) (events (o ++ q)) =
+      let later : events_behind d (events_behind k (events (o ++ q))) ≡ events_behind (offset + length p - length o)
+      (events (o ++ q)) =
       events_behind-events_behind d k (events (o ++ q)) ∙ ap (λ n. events_behind n (events (o ++ q))) sum in
-      ap (events_behind d) whole ∙ events_behind-append d (events s) (events_behind k (events (o ++ q))) ∙ ap (λ l. events_behind d (events s) ++ l) later
+      ap (events_behind d) whole ∙ events_behind-append d (events s)
+      (events_behind k (events (o ++ q))) ∙ ap (λ l. events_behind d (events s) ++ l) later
 
   -- n more bytes of a piece
   events_after-take : (held piece : List ℕ) (offset i n : ℕ) → length held ≤ offset → i ≤ length piece
-      → events_after held offset (take (i + n) piece) ≡ events_after held offset (take i piece) ++ events_after (open_message (held ++ take i piece)) (offset + i) (take n (drop i piece))
+      → events_after held offset (take (i + n) piece) ≡ events_after held offset (take i piece) ++ events_after
+      (open_message (held ++ take i piece)) (offset + i) (take n (drop i piece))
   events_after-take held piece offset i n h k =
-      ap (events_after held offset) (take-add i n piece) ∙ events_after-append held (take i piece) (take n (drop i piece)) offset h
-      ∙ ap (λ m. events_after held offset (take i piece) ++ events_after (open_message (held ++ take i piece)) (offset + m) (take n (drop i piece))) (length-take-le i piece k)
+      ap (events_after held offset) (take-add i n piece) ∙ events_after-append held (take i piece)
+      (take n (drop i piece)) offset h
+      ∙ ap (λ m. events_after held offset (take i piece) ++ events_after (open_message (held ++ take i piece))
+      (offset + m) (take n (drop i piece))) (length-take-le i piece k)
 
   -- ---- a call of `advance` with `&piece[i..]` that used n bytes
 
   -- the event that it found
-  pub advance_event : (held piece o : List ℕ) (offset i n : ℕ) (event : Event) → length held ≤ offset → i ≤ length piece → o ≡ open_message (held ++ take i piece)
+  pub advance_event : (held piece o : List ℕ) (offset i n : ℕ) (event : Event) → length held ≤ offset
+      → i ≤ length piece → o ≡ open_message (held ++ take i piece)
       → events (o ++ take n (take (length piece - i) (drop i piece))) ≡ at_place (length o + n) event ∷ []
-      → events_after held offset (take (i + n) piece) ≡ events_after held offset (take i piece) ++ at_place (offset + (i + n)) event ∷ []
+      → events_after held offset (take (i + n) piece) ≡ events_after held offset (take i piece) ++ at_place
+      (offset + (i + n)) event ∷ []
   advance_event held piece o offset i n event h k e q =
       let q' : events (o ++ take n (drop i piece)) ≡ at_place (length o + n) event ∷ [] = rw slice_from at q in
       let sum : offset + i + n ≡ offset + (i + n) = omega arith in
       events_after-take held piece offset i n h k
       ∙ ap (λ l. events_after held offset (take i piece) ++ l)
-      (ap (λ l. events_after l (offset + i) (take n (drop i piece))) (sym e) ∙ one_event o (take n (drop i piece)) (offset + i) n event (open_bound held piece o offset i h k e) q' ∙ ap (λ m. at_place m event ∷ []) sum)
+      (ap (λ l. events_after l (offset + i) (take n (drop i piece))) (sym e) ∙ one_event o (take n (drop i piece))
+      (offset + i) n event (open_bound held piece o offset i h k e) q' ∙ ap (λ m. at_place m event ∷ []) sum)
 
   -- it found none
-  pub advance_none : (held piece o : List ℕ) (offset i n : ℕ) → length held ≤ offset → i ≤ length piece → o ≡ open_message (held ++ take i piece)
+  pub advance_none : (held piece o : List ℕ) (offset i n : ℕ) → length held ≤ offset → i ≤ length piece
+      → o ≡ open_message (held ++ take i piece)
       → n ≡ length (take (length piece - i) (drop i piece)) → events (o ++ take (length piece - i) (drop i piece)) ≡ []
       → events_after held offset (take (i + n) piece) ≡ events_after held offset (take i piece)
   advance_none held piece o offset i n h k e l q =
       let l' : n ≡ length (drop i piece) = rw slice_from at l in
-      let q' : events (o ++ take n (drop i piece)) ≡ [] = ap (λ l. events (o ++ l)) (take_all n (drop i piece) (omega arith)) ∙ (rw slice_from at q) in
+      let q' : events (o ++ take n (drop i piece)) ≡ [] =
+      ap (λ l. events (o ++ l)) (take_all n (drop i piece) (omega arith)) ∙ (rw slice_from at q) in
       events_after-take held piece offset i n h k
       ∙ ap (λ l. events_after held offset (take i piece) ++ l)
-      (ap (λ l. events_after l (offset + i) (take n (drop i piece))) (sym e) ∙ ap (events_behind (offset + i - length o)) q')
+      (ap (λ l. events_after l (offset + i) (take n (drop i piece)))
+      (sym e) ∙ ap (events_behind (offset + i - length o)) q')
       ∙ append-nil _
 
   -- all events, where these are those of the first i bytes
   pub events_after-rest : (held piece : List ℕ) (offset i : ℕ) → length held ≤ offset
-      → events_after held offset piece ≡ events_after held offset (take i piece) ++ events_after (open_message (held ++ take i piece)) (offset + length (take i piece)) (drop i piece)
-  events_after-rest held piece offset i h = ap (events_after held offset) (sym (take-append-drop i piece)) ∙ events_after-append held (take i piece) (drop i piece) offset h
+      → events_after held offset piece ≡ events_after held offset (take i piece) ++ events_after
+      (open_message (held ++ take i piece)) (offset + length (take i piece)) (drop i piece)
+  events_after-rest held piece offset i h =
+      ap (events_after held offset) (sym (take-append-drop i piece)) ∙ events_after-append held (take i piece)
+      (drop i piece) offset h
 
   -- the unfinished end alone makes no event
   events-open : (s : List ℕ) → events (open_message s) ≡ []
   events-open s =
       let k = length s - length (open_message s) in
       let later = events_behind k (events (open_message s ++ [])) in
-      let whole : length (events s) ≡ length (events s ++ later) = ap length (ap events (sym (append-nil s)) ∙ more s []) in
+      let whole : length (events s) ≡ length (events s ++ later) =
+      ap length (ap events (sym (append-nil s)) ∙ more s []) in
       let sum = length-append (events s) later in
       let same = length-events_behind k (events (open_message s ++ [])) in
       ap events (sym (append-nil (open_message s))) ∙ nil_from_length _ (omega arith)
 
   pub events_after-none : (held : List ℕ) (offset : ℕ) → held ≡ open_message held → events_after held offset [] ≡ []
-  events_after-none held offset h = ap (events_behind (offset - length held)) (ap events (append-nil held ∙ h) ∙ events-open held)
+  events_after-none held offset h =
+      ap (events_behind (offset - length held)) (ap events (append-nil held ∙ h) ∙ events-open held)

@@ -60,7 +60,7 @@ fn is_empty(piece: Piece) -> bool
     piece == Piece::Empty
 }
 
-/// The pieces of a board that is known, and the texts of its ranks, so that a field message has one of them formed
+/// The pieces of a board, and the texts of its ranks: so a field message has one of them formed
 /// anew. Contracts see the pieces.
 #[derive(Drop)]
 pub(crate) struct Picture {

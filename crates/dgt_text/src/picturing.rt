@@ -18,8 +18,8 @@ use crate::pictures::Picture;
 use dgt_decode::{Event, Found, Framer, laws};
 use dgt_message::Message;
 
-// Room for the lines of a full piece of field updates: 820 lines of at most 81 bytes, where the offset has
-// eight digits.
+// Room for the lines of a full piece of field updates: 820 lines of at most 81 bytes, where the
+// offset has eight digits.
 const ROOM: usize = 66560;
 
 // The line of a picture that is known.
@@ -29,8 +29,8 @@ fn put_known<W: Sink>(
     offset: u64,
     picture: &Option<Picture>,
 ) -> Result<(), RunFault>
-    ensures { Gathers W.written W.failed W.late outgoing.old outgoing.new writer.old writer.new result
-        (flat_map picture_line (known_at offset picture.now)) }
+    ensures { Gathers W.written W.failed W.late outgoing.old outgoing.new writer.old writer.new
+        result (flat_map picture_line (known_at offset picture.now)) }
 {
     let Some(picture) = picture else {
         return Ok(());
@@ -41,10 +41,12 @@ fn put_known<W: Sink>(
     Ok(())
 }
 
-// A message sets the picture, or doesn't: the answer tells whether it is of those that do where the picture is known.
+// Makes of the picture what a message does. The answer tells whether the message is one that sets
+// the picture where it is known.
 fn hear(picture: &mut Option<Picture>, message: &Message<'_>) -> bool
     ensures set { picture.new ≡ picture_after picture.old (content message.now) }
-    ensures tells { (place : ℕ) → picture_set place (event_content (Event.Message message.now)) picture.new
+    ensures tells { (place : ℕ) →
+        picture_set place (event_content (Event.Message message.now)) picture.new
         ≡ (if result then known_at place picture.new else []) }
 {
     match message {
@@ -62,8 +64,8 @@ fn hear(picture: &mut Option<Picture>, message: &Message<'_>) -> bool
     }
 }
 
-// What a whole message says sets the picture, and its line follows. Not inlined, since room for an event would be
-// cleared for each field too.
+// What a whole message says sets the picture, and its line follows. Not inlined, since room for an
+// event would be cleared for each field too.
 #[inline(never)]
 fn hear_event<W: Sink>(
     picture: &mut Option<Picture>,
@@ -73,9 +75,11 @@ fn hear_event<W: Sink>(
     framer: &Framer,
 ) -> Result<(), RunFault>
     requires { IsWhole framer.now }
-    ensures set { picture.new ≡ picture_after_all picture.old (message_told (message_event framer.now)) }
-    ensures output { Gathers W.written W.failed W.late outgoing.old outgoing.new writer.old writer.new
-        result (flat_map picture_line (picture_set offset (message_event framer.now) picture.new)) }
+    ensures set { picture.new
+        ≡ picture_after_all picture.old (message_told (message_event framer.now)) }
+    ensures output { Gathers W.written W.failed W.late outgoing.old outgoing.new writer.old
+        writer.new result
+        (flat_map picture_line (picture_set offset (message_event framer.now) picture.new)) }
 {
     let Event::Message(message) = framer.event(Found::Message) else {
         return Ok(());
@@ -96,9 +100,11 @@ fn hear_found<W: Sink>(
     found: &Found,
 ) -> Result<(), RunFault>
     requires { found.now ≡ Found.Message → IsWhole framer.now }
-    ensures set { picture.new ≡ picture_after_all picture.old (message_told (found_in framer.now found.now)) }
-    ensures output { Gathers W.written W.failed W.late outgoing.old outgoing.new writer.old writer.new
-        result (flat_map picture_line (picture_set offset (found_in framer.now found.now) picture.new)) }
+    ensures set { picture.new
+        ≡ picture_after_all picture.old (message_told (found_in framer.now found.now)) }
+    ensures output { Gathers W.written W.failed W.late outgoing.old outgoing.new writer.old
+        writer.new result
+        (flat_map picture_line (picture_set offset (found_in framer.now found.now) picture.new)) }
 {
     if !matches!(found, Found::Message) {
         return Ok(());
@@ -145,16 +151,18 @@ fn write_pictures<W: Sink>(
     outgoing.write_out(writer)
 }
 
-/// Writes the placement of the board for each message that sets it, of the bytes that the reader gives, in at
-/// most `limit` reads.
+/// Writes a line with the placement of the board for each message that sets its picture, of the
+/// bytes that the reader gives, in at most `limit` reads.
 ///
-/// A dump always sets it, and a field message where it is known. A line is the offset as in
-/// [`write_event`](crate::write_event), a space, the placement and a line feed. What came in a read has its
-/// lines written and flushed before the next read. An unfinished message at the end has no line.
+/// A dump always sets the picture, and a field message does where it is known. A line is the offset
+/// as in [`write_event`](crate::write_event), a space, the placement and a line feed. What came in
+/// a read has its lines written and flushed before the next read. An unfinished message at the end
+/// has none.
 ///
-/// - `ReadFailed` comes where the reader refuses, and `TooManyTurns` where `limit` reads succeeded and none
-///   told the end. All lines of what was read are written then.
-/// - `WriteFailed` comes where the writer refuses. It took the front of the lines, and gets nothing more.
+/// - `ReadFailed` comes where the reader refuses, and `TooManyTurns` where `limit` reads succeeded
+///   and none told the end. All lines of what was read are written then.
+/// - `WriteFailed` comes where the writer refuses. It took the front of the lines, and gets nothing
+///   more.
 pub fn picture<R: Source, W: Sink>(
     reader: &mut R,
     writer: &mut W,

@@ -26,18 +26,26 @@ fn joined(parts: &[&[u8]]) -> Result<ArrayVec<u8, 512>, Fail> {
 
 #[test]
 fn pictures_of_messages(rt: HostRuntime) -> Result<(), Fail> {
-    let rows: [(&[&[u8]], &[u8]); 15] = [
-        (&[], b""),
+    let rows: [(&[&[u8]], &[&[u8]]); 15] = [
+        (&[], &[]),
         // a dump, and the same again
-        (&[START], START_LINE),
+        (&[START], &[START_LINE]),
         (
             &[START, START],
-            b"00000067 rnbqkbnr/pppppppp/8/8/8/8/PPPPPPPP/RNBQKBNR\n00000134 rnbqkbnr/pppppppp/8/8/8/8/PPPPPPPP/RNBQKBNR\n",
+            &[
+                START_LINE,
+                b"00000134 rnbqkbnr/pppppppp/8/8/8/8/PPPPPPPP/RNBQKBNR\n",
+            ],
         ),
         // fields after a dump, the last of which changes nothing
         (
             &[START, E2_EMPTY, FIELD, FIELD],
-            b"00000067 rnbqkbnr/pppppppp/8/8/8/8/PPPPPPPP/RNBQKBNR\n00000072 rnbqkbnr/pppppppp/8/8/8/8/PPPP1PPP/RNBQKBNR\n00000077 rnbqkbnr/pppppppp/8/8/4P3/8/PPPP1PPP/RNBQKBNR\n00000082 rnbqkbnr/pppppppp/8/8/4P3/8/PPPP1PPP/RNBQKBNR\n",
+            &[
+                START_LINE,
+                b"00000072 rnbqkbnr/pppppppp/8/8/8/8/PPPP1PPP/RNBQKBNR\n",
+                b"00000077 rnbqkbnr/pppppppp/8/8/4P3/8/PPPP1PPP/RNBQKBNR\n",
+                b"00000082 rnbqkbnr/pppppppp/8/8/4P3/8/PPPP1PPP/RNBQKBNR\n",
+            ],
         ),
         // fields in all corners: a8 extra piece 1, h8 extra piece 3, a1 empty, h1 black queen
         (
@@ -48,29 +56,44 @@ fn pictures_of_messages(rt: HostRuntime) -> Result<(), Fail> {
                 &[0x8e, 0x00, 0x05, 0x38, 0x00],
                 &[0x8e, 0x00, 0x05, 0x3f, 0x0c],
             ],
-            b"00000067 rnbqkbnr/pppppppp/8/8/8/8/PPPPPPPP/RNBQKBNR\n00000072 Xnbqkbnr/pppppppp/8/8/8/8/PPPPPPPP/RNBQKBNR\n00000077 XnbqkbnZ/pppppppp/8/8/8/8/PPPPPPPP/RNBQKBNR\n00000082 XnbqkbnZ/pppppppp/8/8/8/8/PPPPPPPP/1NBQKBNR\n00000087 XnbqkbnZ/pppppppp/8/8/8/8/PPPPPPPP/1NBQKBNq\n",
+            &[
+                START_LINE,
+                b"00000072 Xnbqkbnr/pppppppp/8/8/8/8/PPPPPPPP/RNBQKBNR\n",
+                b"00000077 XnbqkbnZ/pppppppp/8/8/8/8/PPPPPPPP/RNBQKBNR\n",
+                b"00000082 XnbqkbnZ/pppppppp/8/8/8/8/PPPPPPPP/1NBQKBNR\n",
+                b"00000087 XnbqkbnZ/pppppppp/8/8/8/8/PPPPPPPP/1NBQKBNq\n",
+            ],
         ),
         // a field before any dump says nothing, and the dump after it forgets it
-        (&[FIELD], b""),
+        (&[FIELD], &[]),
         (
             &[FIELD, START],
-            b"00000072 rnbqkbnr/pppppppp/8/8/8/8/PPPPPPPP/RNBQKBNR\n",
+            &[b"00000072 rnbqkbnr/pppppppp/8/8/8/8/PPPPPPPP/RNBQKBNR\n"],
         ),
         // messages of other kinds
         (
             &[VERSION, START, VERSION, FIELD],
-            b"00000072 rnbqkbnr/pppppppp/8/8/8/8/PPPPPPPP/RNBQKBNR\n00000082 rnbqkbnr/pppppppp/8/8/4P3/8/PPPPPPPP/RNBQKBNR\n",
+            &[
+                b"00000072 rnbqkbnr/pppppppp/8/8/8/8/PPPPPPPP/RNBQKBNR\n",
+                b"00000082 rnbqkbnr/pppppppp/8/8/4P3/8/PPPPPPPP/RNBQKBNR\n",
+            ],
         ),
         // a dump that is cut off, before any dump and after one
-        (&[&START[..66], FIELD], b""),
+        (&[&START[..66], FIELD], &[]),
         (
             &[START, &START[..5], FIELD],
-            b"00000067 rnbqkbnr/pppppppp/8/8/8/8/PPPPPPPP/RNBQKBNR\n00000077 rnbqkbnr/pppppppp/8/8/4P3/8/PPPPPPPP/RNBQKBNR\n",
+            &[
+                START_LINE,
+                b"00000077 rnbqkbnr/pppppppp/8/8/4P3/8/PPPPPPPP/RNBQKBNR\n",
+            ],
         ),
         // stray bytes and a bad length
         (
             &[&[0x05], START, &[0x42, 0x8e, 0x00, 0x02], FIELD],
-            b"00000068 rnbqkbnr/pppppppp/8/8/8/8/PPPPPPPP/RNBQKBNR\n00000077 rnbqkbnr/pppppppp/8/8/4P3/8/PPPPPPPP/RNBQKBNR\n",
+            &[
+                b"00000068 rnbqkbnr/pppppppp/8/8/8/8/PPPPPPPP/RNBQKBNR\n",
+                b"00000077 rnbqkbnr/pppppppp/8/8/4P3/8/PPPPPPPP/RNBQKBNR\n",
+            ],
         ),
         // a field of no square and one of no piece are refused
         (
@@ -79,21 +102,21 @@ fn pictures_of_messages(rt: HostRuntime) -> Result<(), Fail> {
                 &[0x8e, 0x00, 0x05, 0x40, 0x01],
                 &[0x8e, 0x00, 0x05, 0x24, 0x10],
             ],
-            START_LINE,
+            &[START_LINE],
         ),
         // so is a dump whose last byte is no piece
-        (&[&START[..66], &[0x10], FIELD], b""),
+        (&[&START[..66], &[0x10], FIELD], &[]),
         // an unfinished end
-        (&[START, &FIELD[..4]], START_LINE),
-        (&[&START[..66]], b""),
+        (&[START, &FIELD[..4]], &[START_LINE]),
+        (&[&START[..66]], &[]),
     ];
     for (parts, lines) in rows {
-        let bytes = joined(parts)?;
+        let (bytes, lines) = (joined(parts)?, joined(lines)?);
         for step in [1, 3, 64] {
             let mut source = Lender::new(bytes.as_slice(), step);
             let mut sink = Recorder::new();
             assert_eq!(rt; picture(&mut source, &mut sink, 1000), Ok(()));
-            assert_eq!(rt; sink.taken(), lines);
+            assert_eq!(rt; sink.taken(), lines.as_slice());
             assert!(rt; source.ended);
             assert!(rt; sink.flushed);
         }
@@ -101,7 +124,8 @@ fn pictures_of_messages(rt: HostRuntime) -> Result<(), Fail> {
     Ok(())
 }
 
-// A board with a pawn on each square has the longest placement, so the lines of a piece are as long as they can be.
+// A board with a pawn on each square has the longest placement, so the lines of a piece are as long
+// as they can be.
 #[test]
 fn a_write_and_a_flush_for_each_piece(rt: HostRuntime) {
     let mut bytes = [0x01; 8257];
@@ -124,7 +148,8 @@ const READ_FAILED: Result<(), RunFault> = Err(RunFault::ReadFailed);
 
 const TOO_MANY_TURNS: Result<(), RunFault> = Err(RunFault::TooManyTurns);
 
-// The bytes, how many of them a read gives, what fails and where; the answer, the reads and what is written.
+// The bytes, how many of them a read gives, what fails and where; the answer, the reads and what is
+// written.
 type Run<'a> = (
     &'a [u8],
     usize,
@@ -139,6 +164,8 @@ type Run<'a> = (
 fn pictures_that_fail(rt: HostRuntime) -> Result<(), Fail> {
     let unfinished = joined(&[START, &FIELD[..4]])?;
     let twice = joined(&[START, START])?;
+    let again: &[u8] = b"00000134 rnbqkbnr/pppppppp/8/8/8/8/PPPPPPPP/RNBQKBNR\n";
+    let lines = joined(&[START_LINE, again])?;
     let rows: [Run<'_>; 8] = [
         (START, 67, Room, 53, Ok(()), 2, START_LINE),
         (START, 67, Room, 9, WRITE_FAILED, 1, b"00000067 "),
@@ -150,9 +177,17 @@ fn pictures_that_fail(rt: HostRuntime) -> Result<(), Fail> {
             2,
             WRITE_FAILED,
             2,
-            b"00000067 rnbqkbnr/pppppppp/8/8/8/8/PPPPPPPP/RNBQKBNR\n00000134 rnbqkbnr/pppppppp/8/8/8/8/PPPPPPPP/RNBQKBNR\n",
+            lines.as_slice(),
         ),
-        (unfinished.as_slice(), 71, Read, 2, READ_FAILED, 2, START_LINE),
+        (
+            unfinished.as_slice(),
+            71,
+            Read,
+            2,
+            READ_FAILED,
+            2,
+            START_LINE,
+        ),
         (&[], 67, Turns, 0, TOO_MANY_TURNS, 0, b""),
         (START, 67, Turns, 1, TOO_MANY_TURNS, 1, START_LINE),
         (START, 67, Turns, 2, Ok(()), 2, START_LINE),
@@ -210,7 +245,10 @@ fn a_picture_meets_each_trouble_at_each_place(rt: HostRuntime) -> Result<(), Fai
 #[test]
 fn readers_and_writers_of_std_that_fail(rt: HostRuntime) {
     let mut sink = Recorder::new();
-    assert_eq!(rt; picture(&mut Device::new(Broken), &mut sink, 10), READ_FAILED);
+    assert_eq!(rt;
+        picture(&mut Device::new(Broken), &mut sink, 10),
+        READ_FAILED
+    );
     assert_eq!(rt; sink.taken(), b"".as_slice());
     let answer = picture(&mut Bytes::new(START), &mut Device::new(Broken), 10);
     assert_eq!(rt; answer, WRITE_FAILED);

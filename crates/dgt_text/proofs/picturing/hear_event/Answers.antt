@@ -5,9 +5,11 @@ use Rattle.dgt_text.proofs.picturing.hear_event.Goals as goal
 
 pub returns-in_default : goal.returns-in_default
 returns-in_default g c =
-    let none = no_message c.event.result (message_event c.args.framer.now) c.in_default.not-Message c.event.ensures c.args.picture.now c.args.offset in
+    let none = no_message c.event.result (message_event c.args.framer.now) c.in_default.not-Message c.event.ensures
+    c.args.picture.now c.args.offset in
     record { set = none.0; output = rw none.1 (gathered_none g.W.Sink.written g.W.Sink.failed g.W.Sink.late _ _) }
 
 pub returns-then-not-hear-clause-output : goal.returns-then-not-hear-clause-output
 returns-then-not-hear-clause-output g c =
-    rw (← c.in-Message.ensures, c.if-not-hear.ensures.tells c.args.offset) (gathered_none g.W.Sink.written g.W.Sink.failed g.W.Sink.late _ _)
+    rw (← c.in-Message.ensures, c.if-not-hear.ensures.tells c.args.offset)
+    (gathered_none g.W.Sink.written g.W.Sink.failed g.W.Sink.late _ _)

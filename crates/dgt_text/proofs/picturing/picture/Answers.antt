@@ -17,24 +17,35 @@ pub write_pictures-requires-clause-held : goal.write_pictures-requires-clause-he
 write_pictures-requires-clause-held g c = pictured_bound _ _ _ _ _ _ c.loop.invariant.pictured
 
 pub returns-then-given-eq0-clause-output : goal.returns-then-given-eq0-clause-output
-returns-then-given-eq0-clause-output g c = pictured_end _ (tt {0}) c.loop.invariant.in_turns c.loop.invariant.pictured (rw c.if-given-eq0.true at c.in-Ok.ensures.bytes.0)
+returns-then-given-eq0-clause-output g c = pictured_end _ (tt {0}) c.loop.invariant.in_turns c.loop.invariant.pictured
+    (rw c.if-given-eq0.true at c.in-Ok.ensures.bytes.0)
 
 pub returns-in_err-write_pictures-clause-output : goal.returns-in_err-write_pictures-clause-output
 returns-in_err-write_pictures-clause-output g c =
-    pictured_stopped c.events_append.ensures _ _ _ _ _ c.loop.invariant.in_turns c.loop.invariant.pictured c.in-Ok.ensures.bytes.0 c.in_err-write_pictures.ensures.output.1 c.from_residual.ensures.1 c.in_err-write_pictures.ensures.output.0
+    pictured_stopped c.events_append.ensures _ _ _ _ _ c.loop.invariant.in_turns c.loop.invariant.pictured
+    c.in-Ok.ensures.bytes.0 c.in_err-write_pictures.ensures.output.1 c.from_residual.ensures.1
+    c.in_err-write_pictures.ensures.output.0
 
 pub returns-in_err-flush-clause-output : goal.returns-in_err-flush-clause-output
 returns-in_err-flush-clause-output g c =
-    let stop = stopped_after g.W.Sink.written g.W.Sink.failed g.W.Sink.late _ _ _ _ c.in_ok-write_pictures.ensures.output c.in_err-flush.ensures.output.1 in
-    pictured_stopped c.events_append.ensures _ _ _ _ _ c.loop.invariant.in_turns c.loop.invariant.pictured c.in-Ok.ensures.bytes.0 stop c.from_residual-in_err-flush.ensures.1 c.in_err-flush.ensures.output.0
+    let stop =
+    stopped_after g.W.Sink.written g.W.Sink.failed g.W.Sink.late _ _ _ _ c.in_ok-write_pictures.ensures.output
+    c.in_err-flush.ensures.output.1 in
+    pictured_stopped c.events_append.ensures _ _ _ _ _ c.loop.invariant.in_turns c.loop.invariant.pictured
+    c.in-Ok.ensures.bytes.0 stop c.from_residual-in_err-flush.ensures.1 c.in_err-flush.ensures.output.0
 
 pub loop-preserved : goal.loop-preserved
 loop-preserved g c =
     let read = c.in-Ok.ensures in
     let wrote = c.in_ok-write_pictures.ensures in
     let flushed = c.in_ok-flush.ensures in record {
-      in_turns = next_read c.loop.invariant.in_turns c.loop-test.true _ _ read.bound read.bytes.0 read.not_refused read.no_end read.counted read.in_time c.if-given-eq0.false wrote.output.kept wrote.output.in_time flushed.output flushed.flushed;
-      pictured = pictured_more c.events_append.ensures c.open_append.ensures _ _ _ _ _ _ _ _ _ _ _ _ c.loop.invariant.pictured (length-take-le c.in-Ok.given c.read_some.new.buffer read.bound) wrote.output flushed.output wrote.set wrote.framed;
+      in_turns = next_read c.loop.invariant.in_turns c.loop-test.true _ _ read.bound read.bytes.0 read.not_refused
+          read.no_end read.counted read.in_time c.if-given-eq0.false wrote.output.kept wrote.output.in_time
+          flushed.output flushed.flushed;
+      pictured =
+          pictured_more c.events_append.ensures c.open_append.ensures _ _ _ _ _ _ _ _ _ _ _ _ c.loop.invariant.pictured
+          (length-take-le c.in-Ok.given c.read_some.new.buffer read.bound) wrote.output flushed.output wrote.set
+          wrote.framed;
       empty = wrote.empty;
       short = omega (arith, read.bound, c.read_some.auto.buffer);
     }

@@ -22,14 +22,19 @@ loop-rank-preserved g c =
     let room : at + 8 ≤ length bytes = omega (arith, old.long, old.short) in
     let same : put ≡ eight = c.copy_from_slice.ensures.after in
     let many : length put ≡ 8 = ap length same ∙ c.rank.invariant.0 in
-    let front : take (at + 8) whole ≡ take at bytes ++ eight = take-put_mid at (at + 8 - at) bytes put (at + 8) (omega arith) (omega arith) ∙ ap (λ l. take at bytes ++ l) same in
+    let front : take (at + 8) whole ≡ take at bytes ++ eight =
+    take-put_mid at (at + 8 - at) bytes put (at + 8) (omega arith) (omega arith) ∙ ap (λ l. take at bytes ++ l)
+    same in
     let long : length whole ≡ 80 = length-put at (at + 8 - at) bytes put (omega arith) room (omega arith) ∙ old.long in
-    let next : take (i + 1) ranks ≡ take i ranks ++ take len eight ∷ [] = take_more ranks i c.rank-item.result (omega (arith, c.type_inv.rank-items)) ∙ ap (λ r. take i ranks ++ r ∷ []) (sym c.rank.view_is) in
+    let next : take (i + 1) ranks ≡ take i ranks ++ take len eight ∷ [] =
+    take_more ranks i c.rank-item.result (omega (arith, c.type_inv.rank-items)) ∙ ap (λ r. take i ranks ++ r ∷ [])
+    (sym c.rank.view_is) in
     let inside : at + len < length whole = omega (arith, c.rank.invariant.1) in
     record {
       written = rank_written at len bytes whole eight front (omega arith) c.rank.invariant.1 inside
           ∙ ap (λ l. l ++ (take len eight ++ 47 ∷ [])) old.written
-          ∙ sym (ap ended_ranks next ∙ flat_map-append (λ rank. rank ++ 47 ∷ []) (take i ranks) (take len eight ∷ []) ∙ ap (λ l. ended_ranks (take i ranks) ++ l) (append-nil _));
+          ∙ sym (ap ended_ranks next ∙ flat_map-append (λ rank. rank ++ 47 ∷ []) (take i ranks)
+          (take len eight ∷ []) ∙ ap (λ l. ended_ranks (take i ranks) ++ l) (append-nil _));
       long = length-set whole (at + len) 47 ∙ long;
       some = omega arith;
       short = omega (arith, c.rank.invariant.1, old.short);
@@ -44,8 +49,10 @@ returns g c =
     let old = c.loop-rank.invariant in
     let eight : length ranks ≡ 8 = ap length c.self.invariant in
     let all : take c.loop-rank.rank-index ranks ≡ ranks = take_all _ ranks (omega arith) in
-    let ended : take at bytes ≡ text ++ 47 ∷ [] = old.written ∙ ap ended_ranks all ∙ ended_placement ranks (pieces_of c.self.inside.position) c.self.invariant in
+    let ended : take at bytes ≡ text ++ 47 ∷ [] = old.written ∙ ap ended_ranks all ∙ ended_placement ranks
+    (pieces_of c.self.inside.position) c.self.invariant in
     let within : at ≤ length bytes = omega (arith, old.long, old.short) in
     let some : 1 ≤ at = omega (arith, old.some) in
-    let end = take-set_at bytes (at - 1) at 10 (omega arith) (omega arith) ∙ ap (λ l. l ++ 10 ∷ []) (last_slash at bytes text ended within ∙ ap placement_text c.self.view_is) in
+    let end = take-set_at bytes (at - 1) at 10 (omega arith) (omega arith) ∙ ap (λ l. l ++ 10 ∷ [])
+    (last_slash at bytes text ended within ∙ ap placement_text c.self.view_is) in
     c.push.ensures.bytes ∙ ap (λ l. c.args.text.now ++ l) end

@@ -20,19 +20,23 @@ loop-piece-preserved c =
       | then-is_empty w ↦ (
           let e = c.is_empty.ensures.0 w.if-is_empty.true in
           let digit = 48 + (empty + 1) in record {
-            written = rw (w.bytes-is, w.len-is, w.empty-is, take-set bytes len digit) (ap (λ t. take len bytes ++ t) (sym (one_more_empty rank i empty within e)) ∙ old.written);
+            written = rw (w.bytes-is, w.len-is, w.empty-is, take-set bytes len digit)
+                (ap (λ t. take len bytes ++ t) (sym (one_more_empty rank i empty within e)) ∙ old.written);
             long = rw w.bytes-is (length-set bytes len digit ∙ old.long);
             within = rw w.len-is (omega (arith, old.within));
             run = rw w.empty-is (omega (arith, old.run));
             room = rw (w.len-is, w.empty-is) (λ _. omega (arith, old.within));
-            digit = rw (w.bytes-is, w.len-is, w.empty-is) (λ _. take_more_set bytes len digit inside ∙ ap (λ l. l ++ digit ∷ []) (sym (take-set bytes len digit)));
+            digit = rw (w.bytes-is, w.len-is, w.empty-is)
+                (λ _. take_more_set bytes len digit inside ∙ ap (λ l. l ++ digit ∷ [])
+                (sym (take-set bytes len digit)));
           }
           )
       | else-is_empty w ↦ (
           let differs : get_or rank i Empty ≢ Empty = λ e. let told = c.is_empty.ensures.1 e in cc in
           let at = w.if-empty-gt0.len in
           let front : take at bytes ≡ take len bytes ++ run_text empty = elim w.if-empty-gt0.branch [
-            | then-empty-gt0 v ↦ rw v.len-is (run_some bytes len empty v.if-empty-gt0.true (old.digit v.if-empty-gt0.true))
+            | then-empty-gt0 v ↦ rw v.len-is
+                (run_some bytes len empty v.if-empty-gt0.true (old.digit v.if-empty-gt0.true))
             | else-empty-gt0 v ↦ rw v.len-is (run_none bytes len empty (omega arith))
           ] in
           let short : at ≤ i = elim w.if-empty-gt0.branch [
@@ -40,7 +44,8 @@ loop-piece-preserved c =
             | else-empty-gt0 v ↦ rw v.len-is old.within
           ] in
           let room : at < length bytes = omega (arith, old.long, c.requires) in record {
-            written = rw (w.bytes-is, w.len-is, w.empty-is, take_more_set bytes at _ room, w.letter.ensures.value) (one_more_piece rank i empty (take len bytes) (take at bytes) within differs front ∙ old.written);
+            written = rw (w.bytes-is, w.len-is, w.empty-is, take_more_set bytes at _ room, w.letter.ensures.value)
+                (one_more_piece rank i empty (take len bytes) (take at bytes) within differs front ∙ old.written);
             long = rw w.bytes-is (length-set bytes at _ ∙ old.long);
             within = rw w.len-is (omega arith);
             run = rw w.empty-is (omega arith);
