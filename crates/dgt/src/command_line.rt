@@ -1,6 +1,8 @@
 //! The words of the command line, read by `clap`.
 use crate::fault::Fault;
-use crate::help::{BOARD_NOTES, MONITOR_NOTES, PROGRAM_NOTES, SHOW_NOTES, SIMULATE_NOTES};
+use crate::help::{
+    BOARD_NOTES, MONITOR_NOTES, PICTURE_NOTES, PROGRAM_NOTES, SHOW_NOTES, SIMULATE_NOTES,
+};
 use clap::error::ErrorKind;
 use clap::{Arg, ArgMatches, Command, value_parser};
 use dgt_link::{MIN_DOWN, MIN_UP};
@@ -18,6 +20,8 @@ pub enum Task<'a> {
     },
     /// Show what the bytes of the input make known.
     Monitor,
+    /// Show the pieces of the board for each message of the input that sets them.
+    Picture,
     /// Answer the commands of the input as a board with this placement.
     Board {
         placement: &'a str,
@@ -71,6 +75,12 @@ fn monitor<'a>(alloc: Global) -> Command<'a> {
         .after_help(MONITOR_NOTES)
 }
 
+fn picture<'a>(alloc: Global) -> Command<'a> {
+    Command::new(alloc, "picture")
+        .about("Shows the pieces of the board after each change on standard input")
+        .after_help(PICTURE_NOTES)
+}
+
 fn board<'a>(alloc: Global) -> Result<Command<'a>, AllocError> {
     Command::new(alloc, "board")
         .about("Answers the commands on standard input, as a board does")
@@ -104,6 +114,7 @@ fn command<'a>(alloc: Global) -> Result<Command<'a>, AllocError> {
         .subcommand_required(true)
         .subcommand(show(alloc)?)?
         .subcommand(monitor(alloc))?
+        .subcommand(picture(alloc))?
         .subcommand(board(alloc)?)?
         .subcommand(simulate(alloc)?)
 }
@@ -139,6 +150,7 @@ fn requested<'a>(matches: &ArgMatches<'a>) -> Option<Task<'a>> {
             word: show.get_str("hex").unwrap_or(""),
         }),
         ("monitor", _) => Some(Task::Monitor),
+        ("picture", _) => Some(Task::Picture),
         ("board", board) => Some(Task::Board {
             placement: board.get_str("position").unwrap_or(START),
         }),
