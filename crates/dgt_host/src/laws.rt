@@ -6,11 +6,12 @@ ghost use Rattle.dgt_values.specs.Equality.{EqualIsSame};
 ghost use Rattle.dgt_decode.specs.Grammar.{Placed, events_behind};
 ghost use Rattle.dgt_host.specs.Host.{HeardInPieces, HostView, host_after_events};
 
-use crate::{Kind, MAX_AWAITED, SendFault};
+use crate::{Kind, MAX_AWAITED, RESTART_LENGTH, SendFault};
 
 /// The limits by their numbers.
 pub fn limits()
     ensures awaited { MAX_AWAITED ≡ 16 }
+    ensures restart { RESTART_LENGTH ≡ 257 }
 {}
 
 /// Two values are equal, as `==` compares them, exactly where they are the same.

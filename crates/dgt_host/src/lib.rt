@@ -34,5 +34,5 @@ pub use dgt_decode::Event;
 pub use dgt_message::{Clock, Message};
 pub use dgt_values::{Kind, Position};
 pub use hearing::Heard;
-pub use host::{Host, MAX_AWAITED};
+pub use host::{Host, MAX_AWAITED, RESTART_LENGTH};
 pub use sending::SendFault;

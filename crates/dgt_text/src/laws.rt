@@ -17,7 +17,8 @@ pub fn one_conversation()
     ensures goes_on { EachFrontGoesOn }
 {
     dgt_command::laws::one_division();
-    dgt_command::laws::divisions_append();
+    dgt_command::laws::fronts_divide_first();
+    dgt_command::laws::parts_of_words();
     dgt_board::laws::bounded_sending();
 }
 
