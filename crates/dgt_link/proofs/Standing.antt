@@ -108,7 +108,8 @@ new_stands nothing position clock identity up down squares =
       partial = nothing;
     }
 
-pub new_is_world : IsPartial [] → (position : List Piece) (clock : ClockState) (identity : IdentityContent) (up down : ℕ)
+pub new_is_world : IsPartial []
+    → (position : List Piece) (clock : ClockState) (identity : IdentityContent) (up down : ℕ)
     → length position ≡ 64 → MIN_UP ≤ up → MIN_DOWN ≤ down → IsWorld (new_world position clock identity up down)
 new_is_world nothing position clock identity up down squares up_room down_room =
     record {
@@ -118,7 +119,8 @@ new_is_world nothing position clock identity up down squares up_room down_room =
       down_room = down_room;
     }
 
-pub new_is_exact : IsPartial [] → (position : List Piece) (clock : ClockState) (identity : IdentityContent) (up down : ℕ)
+pub new_is_exact : IsPartial []
+    → (position : List Piece) (clock : ClockState) (identity : IdentityContent) (up down : ℕ)
     → length position ≡ 64 → IsExactWorld (new_world position clock identity up down)
 new_is_exact nothing position clock identity up down squares =
     record {

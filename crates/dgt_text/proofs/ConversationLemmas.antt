@@ -83,8 +83,8 @@ hears_nothing old new steps p none is partial =
     record { conversation = p; heard = rw none (append-nil old.partial ∙ sym is, partial) }
 
 -- bytes that end a word
-pub hears_word : IsPartial [] → (old new : BoardView) (bytes : List ℕ) (event : EventContent) → next_message old.state ≡ None
-    → IsWord event (old.partial ++ bytes) → new ≡ after_bytes old bytes (Some event)
+pub hears_word : IsPartial [] → (old new : BoardView) (bytes : List ℕ) (event : EventContent)
+    → next_message old.state ≡ None → IsWord event (old.partial ++ bytes) → new ≡ after_bytes old bytes (Some event)
     → Hears old bytes (heard event ∷ []) new
 hears_word nothing old new bytes event none word is =
     rw is (record {
