@@ -33,7 +33,7 @@ mod wording;
 pub use ends::{Failed, Sink, Source};
 pub use faults::RunFault;
 pub use gathering::{Outgoing, flush, put};
-pub use lines::write_event;
+pub use lines::{write_event, write_unfinished};
 pub use pictures::Picture;
 pub use picturing::{PICTURES_ROOM, write_pictures};
 pub use pieces::{LINES_ROOM, write_end, write_lines};

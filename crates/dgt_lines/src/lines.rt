@@ -211,12 +211,9 @@ pub(crate) fn field(bytes: &[u8]) -> Option<(Square, Piece)>
     }
 }
 
-/// Writes the line of a message of which so many bytes came, and no more.
-pub(crate) fn write_unfinished<W: Sink>(
-    writer: &mut W,
-    offset: u64,
-    have: usize,
-) -> Result<(), RunFault>
+/// Writes the line of a message or a command of which so many bytes came, and no more, without a
+/// flush.
+pub fn write_unfinished<W: Sink>(writer: &mut W, offset: u64, have: usize) -> Result<(), RunFault>
     ensures { Writes W.Sink writer.old writer.new result
         (line offset (unfinished_text have)) }
 {

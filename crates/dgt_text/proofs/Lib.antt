@@ -1,6 +1,7 @@
 pub mod RunLemmas
 pub mod Heard
 pub mod TurnLemmas
+pub mod Listed
 pub mod ConversationLemmas
 pub mod ServingLemmas
 pub mod PlayLemmas

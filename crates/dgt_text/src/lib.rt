@@ -1,7 +1,7 @@
 //! The engines that read what comes for a DGT board or from one, and write what is made of it.
 //!
 //! [`monitor`] reads what a board sends and writes a line for each event, as soon as its bytes
-//! came. [`serve`] reads commands and writes what a board answers. [`simulate`] plays a script in a
+//! came, and [`commands`] does the same for what a host sends. [`serve`] reads commands and writes what a board answers. [`simulate`] plays a script in a
 //! world of a board, a host and the lines between them, and writes what came of each act.
 //!
 //! An engine reads from a [`Source`] and writes to a [`Sink`], as [`Bytes`] and [`Device`] are;
@@ -12,6 +12,7 @@
 //! [`laws`] says what holds of conversations and scripts.
 #![tactic(auto)]
 
+mod commanding;
 pub mod laws;
 mod monitoring;
 mod serving;
@@ -19,6 +20,8 @@ mod simulating;
 #[cfg(test)]
 mod tests;
 
+pub use commanding::commands;
+pub use dgt_command_lines::write_command;
 pub use dgt_lines::{Bytes, Device, Failed, RunFault, Sink, Source, write_event};
 pub use dgt_script::{LineFault, read_act};
 pub use monitoring::monitor;
