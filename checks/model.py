@@ -1,4 +1,5 @@
-"""docs/PROTOCOL.md once more, as plain as it can be said in Python: what `dgt monitor`, `dgt board` and `dgt simulate` write.
+"""docs/PROTOCOL.md once more, as plain as it can be said in Python: what `dgt monitor`, `dgt picture`, `dgt board` and
+`dgt simulate` write.
 
 Written from that page, README.md and the program's help, and not from its sources, so that both can be held against each other:
 checks/hostile does that. Squares are numbers, pieces their codes, a position is a list of 64 pieces. A clock is the seven bytes
@@ -167,6 +168,22 @@ def monitor(data):
             lines.append(f"{offset:08} {text}\n")
     if decoder.unfinished:
         lines.append(f"{len(data):08} unfinished {len(decoder.unfinished)}\n")
+    return "".join(lines).encode()
+
+
+def picture(data):
+    """What `dgt picture` writes."""
+    decoder, lines, squares = Decoder(), [], None
+    for offset, byte in enumerate(data, 1):
+        text = decoder.take(byte) or ""
+        if text.startswith("dump "):
+            squares = list(decoder.message[1])
+        elif text.startswith("field ") and squares:
+            square, piece = decoder.message[1]
+            squares[square] = piece
+        else:
+            continue
+        lines.append(f"{offset:08} {placement(squares)}\n")
     return "".join(lines).encode()
 
 

@@ -2,7 +2,7 @@
 use crate::asking::{BadAsk, WORDS, asked_bytes};
 use crate::fault::Fault;
 use crate::help::{
-    ASK_NOTES, BOARD_NOTES, MONITOR_NOTES, PROGRAM_NOTES, SHOW_NOTES, SIMULATE_NOTES,
+    ASK_NOTES, BOARD_NOTES, MONITOR_NOTES, PICTURE_NOTES, PROGRAM_NOTES, SHOW_NOTES, SIMULATE_NOTES,
 };
 use clap::error::ErrorKind;
 use clap::{Arg, ArgMatches, Command, value_parser};
@@ -21,6 +21,8 @@ pub enum Task<'a> {
     },
     /// Show what the bytes of the input make known.
     Monitor,
+    /// Show the pieces of the board for each message of the input that sets them.
+    Picture,
     /// Write these bytes of commands.
     Ask {
         bytes: Vec<u8>,
@@ -79,6 +81,12 @@ fn monitor<'a>(alloc: Global) -> Command<'a> {
         .after_help(MONITOR_NOTES)
 }
 
+fn picture<'a>(alloc: Global) -> Command<'a> {
+    Command::new(alloc, "picture")
+        .about("Shows the pieces of the board after each change on standard input")
+        .after_help(PICTURE_NOTES)
+}
+
 fn ask<'a>(alloc: Global) -> Result<Command<'a>, AllocError> {
     let words = Arg::new(alloc, "word")
         .value_name("WORD")
@@ -125,6 +133,7 @@ fn command<'a>(alloc: Global) -> Result<Command<'a>, AllocError> {
         .subcommand_required(true)
         .subcommand(show(alloc)?)?
         .subcommand(monitor(alloc))?
+        .subcommand(picture(alloc))?
         .subcommand(ask(alloc)?)?
         .subcommand(board(alloc)?)?
         .subcommand(simulate(alloc)?)
@@ -174,6 +183,7 @@ fn task_named<'a>(name: &str, options: &ArgMatches<'a>) -> Option<Task<'a>> {
             word: options.get_str("hex")?,
         },
         "monitor" => Task::Monitor,
+        "picture" => Task::Picture,
         "board" => Task::Board {
             placement: options.get_str("position")?,
         },

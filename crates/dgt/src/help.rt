@@ -35,10 +35,10 @@ or badpiece, badsquare or badreading and the place in the body, from 0 on.",
 pub const PROGRAM_NOTES: &str = "\
 A DGT board is a chess board that tells over a serial line what stands on its
 squares, where a host, the program at the other end, asks it to by commands.
-'show' and 'monitor' tell in lines of text what the board's bytes mean. 'ask'
-writes commands. 'board' takes the place of a board, to try a host on.
-'simulate' has a board and a host on a line of bytes each way, and moves the
-bytes as a script tells it to.
+'show' and 'monitor' tell in lines of text what the board's bytes mean, and
+'picture' which pieces stand on it then. 'ask' writes commands. 'board' takes
+the place of a board, to try a host on. 'simulate' has a board and a host on a
+line of bytes each way, and moves the bytes as a script tells it to.
 
 Examples:
   $ dgt show 8e00052401
@@ -103,6 +103,31 @@ squares. Ctrl-C ends it.
   00000072 field e2 .
   00000077 field e4 P"
 );
+
+/// What follows clap's own text in the help of `picture`.
+pub const PICTURE_NOTES: &str = "\
+Reads the bytes that a board sends, from standard input up to its end. Writes
+one line to standard output for each message that sets the pieces of the board,
+as soon as it has come: the number of bytes up to there, then the pieces as the
+first field of a FEN tells them. That is the ranks from 8 down to 1 with /
+between them, in each the letters of its pieces (PRNBKQ white, prnbkq black, XYZ
+extra) and digits for so many empty squares.
+
+A message of all squares, as 'dgt ask dump' asks for one, sets all pieces, and a
+message of one square that one. Until the first message of all squares came the
+pieces are unknown, and a message of one square has no line. Other messages and
+faults in the bytes have none. 'dgt monitor' shows what these are.
+
+Exit status: 0, with faults in the bytes too; 1 if standard input or output
+fails, or the end has not come after 4294967295 reads; 2 if the command line is
+wrong; 3 if memory runs out.
+
+Examples:
+  $ dgt ask dump | dgt board | dgt picture
+  00000067 rnbqkbnr/pppppppp/8/8/8/8/PPPPPPPP/RNBQKBNR
+  $ { dgt ask dump | dgt board; printf '\\x8e\\0\\x5\\x34\\0'; } | dgt picture
+  00000067 rnbqkbnr/pppppppp/8/8/8/8/PPPPPPPP/RNBQKBNR
+  00000072 rnbqkbnr/pppppppp/8/8/8/8/PPPP1PPP/RNBQKBNR";
 
 /// What follows clap's own text in the help of `ask`.
 pub const ASK_NOTES: &str = "\

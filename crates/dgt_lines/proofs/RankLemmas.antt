@@ -60,13 +60,16 @@ run_none bytes len empty e = rw e (sym (append-nil (take len bytes)))
 
 -- ---- a square is set
 
+abbrev pub rank_text : List Piece → List ℕ
+rank_text pieces = rank_text_after 0 pieces
+
 ranks_text-set : (n q r : ℕ) (pieces : List Piece) (piece : Piece) → q < n → r < 8
     → ranks_text n (slice_set pieces (8 * q + r) piece) ≡ slice_set (ranks_text n pieces) q
-    (rank_text_after 0 (take 8 (drop (8 * q) (slice_set pieces (8 * q + r) piece))))
+    (rank_text (take 8 (drop (8 * q) (slice_set pieces (8 * q + r) piece))))
 ranks_text-set zero q r pieces piece h k = absurd (omega arith)
 ranks_text-set (suc n) zero r pieces piece h k =
     let first : 8 * 0 + r ≡ r = omega arith in
-    rw first (ap (λ l. rank_text_after 0 (take 8 (slice_set pieces r piece)) ∷ ranks_text n l) (drop-set-lt 8 pieces r piece k))
+    rw first (ap (λ l. rank_text (take 8 (slice_set pieces r piece)) ∷ ranks_text n l) (drop-set-lt 8 pieces r piece k))
 ranks_text-set (suc n) (suc q) r pieces piece h k =
     let s = 8 * q + r in
     let later : 8 * suc q + r ≡ 8 + s = omega arith in
@@ -74,33 +77,33 @@ ranks_text-set (suc n) (suc q) r pieces piece h k =
     let behind : drop (8 + 8 * q) (slice_set pieces (8 + s) piece) ≡ drop (8 * q) (slice_set (drop 8 pieces) s piece) =
     sym (drop-drop (8 * q) 8 (slice_set pieces (8 + s) piece)) ∙ ap (drop (8 * q)) (drop-set-add 8 pieces s piece) in
     rw (later, next)
-    (ap (λ l. rank_text_after 0 l ∷ ranks_text n (drop 8 (slice_set pieces (8 + s) piece)))
+    (ap (λ l. rank_text l ∷ ranks_text n (drop 8 (slice_set pieces (8 + s) piece)))
     (take-set-le 8 pieces (8 + s) piece (omega arith))
-    ∙ ap (λ l. rank_text_after 0 (take 8 pieces) ∷ ranks_text n l) (drop-set-add 8 pieces s piece)
-    ∙ ap (λ l. rank_text_after 0 (take 8 pieces) ∷ l) (ranks_text-set n q r (drop 8 pieces) piece (omega arith) k)
-    ∙ ap (λ l. rank_text_after 0 (take 8 pieces) ∷ slice_set (ranks_text n (drop 8 pieces)) q (rank_text_after 0 (take 8 l)))
+    ∙ ap (λ l. rank_text (take 8 pieces) ∷ ranks_text n l) (drop-set-add 8 pieces s piece)
+    ∙ ap (λ l. rank_text (take 8 pieces) ∷ l) (ranks_text-set n q r (drop 8 pieces) piece (omega arith) k)
+    ∙ ap (λ l. rank_text (take 8 pieces) ∷ slice_set (ranks_text n (drop 8 pieces)) q (rank_text (take 8 l)))
     (sym behind))
 
 -- the rank of the square is formed anew
 pub rank_set : (square q : ℕ) (piece : Piece) (pieces pieces' : List Piece) (ranks : List (List ℕ)) (text : List ℕ)
     → square < 64 → q ≡ square / 8 → pieces' ≡ slice_set pieces square piece
-    → ranks ≡ ranks_text 8 pieces → text ≡ rank_text_after 0 (take 8 (drop (8 * q) pieces'))
+    → ranks ≡ ranks_text 8 pieces → text ≡ rank_text (take 8 (drop (8 * q) pieces'))
     → slice_set ranks q text ≡ ranks_text 8 pieces'
 rank_set square q piece pieces pieces' ranks text h e set known formed =
     let whole : square ≡ 8 * q + square % 8 = omega arith in
     let p : pieces' ≡ slice_set pieces (8 * q + square % 8) piece = set ∙ ap (λ s. slice_set pieces s piece) whole in
-    ap (λ l. slice_set ranks q l) formed ∙ ap (λ l. slice_set l q (rank_text_after 0 (take 8 (drop (8 * q) pieces')))) known
-    ∙ ap (λ l. slice_set (ranks_text 8 pieces) q (rank_text_after 0 (take 8 (drop (8 * q) l)))) p
+    ap (λ l. slice_set ranks q l) formed ∙ ap (λ l. slice_set l q (rank_text (take 8 (drop (8 * q) pieces')))) known
+    ∙ ap (λ l. slice_set (ranks_text 8 pieces) q (rank_text (take 8 (drop (8 * q) l)))) p
     ∙ sym (ranks_text-set 8 q (square % 8) pieces piece (omega arith) (omega arith)) ∙ ap (ranks_text 8) (sym p)
 
 -- ---- all ranks
 
 -- the ranks by their squares
 pub ranks_text-eight : (pieces : List Piece)
-    → rank_text_after 0 (take 8 pieces) ∷ rank_text_after 0 (take 8 (drop 8 pieces)) ∷ rank_text_after 0 (take 8 (drop 16 pieces)) ∷ rank_text_after 0
+    → rank_text (take 8 pieces) ∷ rank_text (take 8 (drop 8 pieces)) ∷ rank_text (take 8 (drop 16 pieces)) ∷ rank_text
     (take 8 (drop 24 pieces))
-    ∷ rank_text_after 0 (take 8 (drop 32 pieces)) ∷ rank_text_after 0 (take 8 (drop 40 pieces)) ∷ rank_text_after 0
-    (take 8 (drop 48 pieces)) ∷ rank_text_after 0 (take 8 (drop 56 pieces)) ∷ [] ≡ ranks_text 8 pieces
+    ∷ rank_text (take 8 (drop 32 pieces)) ∷ rank_text (take 8 (drop 40 pieces)) ∷ rank_text
+    (take 8 (drop 48 pieces)) ∷ rank_text (take 8 (drop 56 pieces)) ∷ [] ≡ ranks_text 8 pieces
 ranks_text-eight pieces = simp drop-drop refl
 
 -- ranks, each with a slash behind it
@@ -115,7 +118,7 @@ join-ended rank (next ∷ ranks) = ap (λ l. (rank ++ 47 ∷ []) ++ l) (join-end
 pub ended_placement : (ranks : List (List ℕ)) (pieces : List Piece) → ranks ≡ ranks_text 8 pieces
     → ended_ranks ranks ≡ placement_text pieces ++ 47 ∷ []
 unfolding placement_text
-ended_placement ranks pieces e = ap ended_ranks e ∙ join-ended (rank_text_after 0 (take 8 pieces))
+ended_placement ranks pieces e = ap ended_ranks e ∙ join-ended (rank_text (take 8 pieces))
     (ranks_text 7 (drop 8 pieces))
 
 -- ---- the bytes of a text

@@ -8,9 +8,9 @@
 //!
 //! [`write_event`] writes the line of one event, as `00000005 field e4 P`: how many bytes had come,
 //! and what they say. [`write_lines`] writes the lines of a piece of what a board sends, and
-//! [`write_end`] the one of what is unfinished at the end. [`write_pictures`] writes lines that show
-//! the board, as `00000067 rnbqkbnr/pppppppp/8/8/8/8/PPPPPPPP/RNBQKBNR`, and keeps a [`Picture`] of
-//! it.
+//! [`write_end`] the one of what is unfinished at the end. [`write_pictures`] writes lines that
+//! show the board, as `00000067 rnbqkbnr/pppppppp/8/8/8/8/PPPPPPPP/RNBQKBNR`, and keeps a
+//! [`Picture`] of it.
 //!
 //! The format of lines is this project's own choice. No call takes memory. [`laws`] says what holds
 //! of lines as such.

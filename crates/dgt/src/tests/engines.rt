@@ -3,6 +3,7 @@
 
 mod devices;
 mod failures;
+mod picturing;
 mod serving;
 mod simulating;
 mod sweeps;

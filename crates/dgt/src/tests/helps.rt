@@ -1,7 +1,7 @@
 //! The texts of help.
 use super::*;
 use crate::help::{
-    ASK_NOTES, BOARD_NOTES, MONITOR_NOTES, PROGRAM_NOTES, SHOW_NOTES, SIMULATE_NOTES,
+    ASK_NOTES, BOARD_NOTES, MONITOR_NOTES, PICTURE_NOTES, PROGRAM_NOTES, SHOW_NOTES, SIMULATE_NOTES,
 };
 
 /// The help of the program, before its notes.
@@ -13,6 +13,7 @@ Usage: dgt <COMMAND>
 Commands:
   show      Shows the messages in the bytes of a hexadecimal word
   monitor   Shows the messages in the bytes of standard input, as they come
+  picture   Shows the pieces of the board after each change on standard input
   ask       Writes the bytes of commands to a board
   board     Answers the commands on standard input, as a board does
   simulate  Plays a script with a board, a host, and the lines between them
@@ -42,6 +43,17 @@ const MONITOR: &str = "\
 Shows the messages in the bytes of standard input, as they come
 
 Usage: dgt monitor
+
+Options:
+  -h, --help  Print help
+
+";
+
+/// The help of `picture`, before its notes.
+const PICTURE: &str = "\
+Shows the pieces of the board after each change on standard input
+
+Usage: dgt picture
 
 Options:
   -h, --help  Print help
@@ -95,6 +107,7 @@ fn shows_help(rt: HostRuntime) -> Result<(), Fail> {
         ("dgt help", PROGRAM, PROGRAM_NOTES),
         ("dgt show --help", SHOW, SHOW_NOTES),
         ("dgt monitor --help", MONITOR, MONITOR_NOTES),
+        ("dgt picture --help", PICTURE, PICTURE_NOTES),
         ("dgt ask --help", ASK, ASK_NOTES),
         ("dgt board --help", BOARD, BOARD_NOTES),
         ("dgt help board", BOARD, BOARD_NOTES),

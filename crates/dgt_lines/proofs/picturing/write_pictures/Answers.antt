@@ -36,8 +36,8 @@ loop-at-preserved-in-Continue-1 g c =
       bound = feed_bound c.args.piece.now c.loop-at.at c.advance-advanced.result.used c.loop-at.invariant.bound
           c.advance-advanced.ensures.within;
       output =
-          let more = lines_more c.args.picture.now _ c.hear_found.new.picture front place event c.loop-at.invariant.shown
-          c.in_ok-hear_found.ensures.shown in
+          let more = lines_more c.args.picture.now _ c.hear_found.new.picture front place event
+          c.loop-at.invariant.shown c.in_ok-hear_found.ensures.shown in
           rw (e, more)
           (gathered_then _ _ _ _ _ _ _ (picture_lines c.args.picture.now front) _ c.loop-at.invariant.output
           c.in_ok-hear_found.ensures.output);

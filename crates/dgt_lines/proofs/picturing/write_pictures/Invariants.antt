@@ -10,7 +10,8 @@ invariant-loop-at g l = record {
   bound : l.at ≤ length l.piece;
   output : Gathered g.W.Sink [] l.outgoing l.fn.writer l.writer
       (picture_lines l.fn.picture (events_after (open_message l.fn.framer) l.offset (take l.at l.piece)));
-  shown : l.picture ≡ picture_after_events l.fn.picture (events_after (open_message l.fn.framer) l.offset (take l.at l.piece));
+  shown : l.picture ≡ picture_after_events l.fn.picture
+      (events_after (open_message l.fn.framer) l.offset (take l.at l.piece));
   framed : open_message l.framer ≡ open_message (open_message l.fn.framer ++ take l.at l.piece);
 }
 
