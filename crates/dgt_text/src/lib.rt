@@ -1,8 +1,9 @@
 //! The engines that read what comes for a DGT board or from one, and write what is made of it.
 //!
 //! [`monitor`] reads what a board sends and writes a line for each event, as soon as its bytes
-//! came, and [`commands`] does the same for what a host sends. [`serve`] reads commands and writes what a board answers. [`simulate`] plays a script in a
-//! world of a board, a host and the lines between them, and writes what came of each act.
+//! came, and [`commands`] does so for what a host sends. [`serve`] reads commands and writes what a
+//! board answers. [`simulate`] plays a script in a world of a board, a host and the lines between
+//! them, and writes what came of each act.
 //!
 //! An engine reads from a [`Source`] and writes to a [`Sink`], as [`Bytes`] and [`Device`] are;
 //! these and the lines of events are those of [`dgt_lines`]. The lines of scripts are those of
