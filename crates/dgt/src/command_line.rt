@@ -2,7 +2,8 @@
 use crate::asking::{BadAsk, WORDS, asked_bytes};
 use crate::fault::Fault;
 use crate::help::{
-    ASK_NOTES, BOARD_NOTES, MONITOR_NOTES, PICTURE_NOTES, PROGRAM_NOTES, SHOW_NOTES, SIMULATE_NOTES,
+    ASK_NOTES, BOARD_NOTES, COMMANDS_NOTES, MONITOR_NOTES, PICTURE_NOTES, PROGRAM_NOTES, SHOW_NOTES,
+    SIMULATE_NOTES,
 };
 use clap::error::ErrorKind;
 use clap::{Arg, ArgMatches, Command, value_parser};
@@ -23,6 +24,8 @@ pub enum Task<'a> {
     Monitor,
     /// Show the pieces of the board for each message of the input that sets them.
     Picture,
+    /// Show what the bytes of the input ask a board for.
+    Commands,
     /// Write these bytes of commands.
     Ask {
         bytes: Vec<u8>,
@@ -100,6 +103,12 @@ fn ask<'a>(alloc: Global) -> Result<Command<'a>, AllocError> {
         .arg(words)
 }
 
+fn commands<'a>(alloc: Global) -> Command<'a> {
+    Command::new(alloc, "commands")
+        .about("Shows the commands in the bytes of standard input, as they come")
+        .after_help(COMMANDS_NOTES)
+}
+
 fn board<'a>(alloc: Global) -> Result<Command<'a>, AllocError> {
     Command::new(alloc, "board")
         .about("Answers the commands on standard input, as a board does")
@@ -135,6 +144,7 @@ fn command<'a>(alloc: Global) -> Result<Command<'a>, AllocError> {
         .subcommand(monitor(alloc))?
         .subcommand(picture(alloc))?
         .subcommand(ask(alloc)?)?
+        .subcommand(commands(alloc))?
         .subcommand(board(alloc)?)?
         .subcommand(simulate(alloc)?)
 }
@@ -170,7 +180,7 @@ fn unmatched<'a>(error: clap::Error) -> Result<Task<'a>, Fault> {
 fn requested<'a>(alloc: Global, matches: &ArgMatches<'a>) -> Result<Option<Task<'a>>, Fault> {
     match matches.subcommand() {
         Some(("ask", ask)) => Ok(Some(Task::Ask {
-            bytes: commands(alloc, ask.get_strs("word").unwrap_or(&[]))?,
+            bytes: asked(alloc, ask.get_strs("word").unwrap_or(&[]))?,
         })),
         Some((name, options)) => Ok(task_named(name, options)),
         None => Ok(None),
@@ -184,6 +194,7 @@ fn task_named<'a>(name: &str, options: &ArgMatches<'a>) -> Option<Task<'a>> {
         },
         "monitor" => Task::Monitor,
         "picture" => Task::Picture,
+        "commands" => Task::Commands,
         "board" => Task::Board {
             placement: options.get_str("position")?,
         },
@@ -198,7 +209,7 @@ fn task_named<'a>(name: &str, options: &ArgMatches<'a>) -> Option<Task<'a>> {
 }
 
 // The bytes of the commands with these names.
-fn commands(alloc: Global, words: &[&str]) -> Result<Vec<u8>, Fault> {
+fn asked(alloc: Global, words: &[&str]) -> Result<Vec<u8>, Fault> {
     asked_bytes(alloc, words).map_err(|bad| match bad {
         BadAsk::Unknown(word) => match format!(in alloc; "{word} is none of the words {WORDS}") {
             Ok(text) => refuse(alloc, ErrorKind::InvalidValue, text.as_str()),

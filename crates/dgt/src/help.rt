@@ -36,9 +36,10 @@ pub const PROGRAM_NOTES: &str = "\
 A DGT board is a chess board that tells over a serial line what stands on its
 squares, where a host, the program at the other end, asks it to by commands.
 'show' and 'monitor' tell in lines of text what the board's bytes mean, and
-'picture' which pieces stand on it then. 'ask' writes commands. 'board' takes
-the place of a board, to try a host on. 'simulate' has a board and a host on a
-line of bytes each way, and moves the bytes as a script tells it to.
+'picture' which pieces stand on it then. 'ask' writes commands, and 'commands'
+tells in lines of text what a host's bytes ask for. 'board' takes the place of
+a board, to try a host on. 'simulate' has a board and a host on a line of bytes
+each way, and moves the bytes as a script tells it to.
 
 Examples:
   $ dgt show 8e00052401
@@ -169,6 +170,37 @@ Examples:
   00000072 version 1.3
   $ dgt ask clockversion | dgt board | dgt monitor
   00000010 ack 10 09 14 00 00";
+
+/// What follows clap's own text in the help of `commands`.
+pub const COMMANDS_NOTES: &str = "\
+Reads the bytes that a host sends to a board, from standard input up to its end.
+Writes one line to standard output for each command, and for each fault in the
+bytes, as soon as they have come: the number of bytes up to there, then the
+command in the words of 'dgt ask --help', or one of
+
+  display BYTES           a display with other signs, with dots or with a beep
+  text BYTES              a text with other characters or with a beep
+  icons BYTES             the clock shows these icons
+  clockmessage ID BYTES   a message for the clock of another kind
+  badsize                 2b and a size below 3
+  badstart                2b, a size, and a byte that isn't 03
+  badend                  a message for the clock whose last byte isn't 00
+  stray BYTE              a byte that begins no command
+  unfinished N            N bytes of a command, cut off by the end
+
+Bytes and ID are hexadecimal, and - stands for no BYTES. They are those between
+the id and the 00 at the end: of a display the places C, B, A, F, E and D, the
+dots and the beep; of a text its characters and the beep.
+
+Exit status: 0, with faults in the bytes too; 1 if standard input or output
+fails, or the end has not come after 4294967295 reads; 2 if the command line is
+wrong; 3 if memory runs out.
+
+Example:
+  $ dgt ask follow beep 3 | dgt commands
+  00000001 updateboard
+  00000002 dump
+  00000008 beep 3";
 
 // What the placement of a command's option is, between two texts.
 macro_rules! with_placement {

@@ -1,6 +1,7 @@
 //! Whole runs of the program, over words and streams in memory.
 mod asking;
 mod boards;
+mod commands;
 mod engines;
 mod helps;
 mod scripts;
@@ -235,7 +236,7 @@ fn refuses_words(rt: HostRuntime) -> Result<(), Fail> {
         ("dgt show 8e0005240g", "dgt: bad hex\n", ""),
         (
             "dgt",
-            "error: 'dgt' requires a subcommand but one was not provided\n  [subcommands: show, monitor, picture, ask, board, simulate, help]\n\nUsage: dgt <COMMAND>",
+            "error: 'dgt' requires a subcommand but one was not provided\n  [subcommands: show, monitor, picture, ask, commands, board, simulate, help]\n\nUsage: dgt <COMMAND>",
             more,
         ),
         (
@@ -256,6 +257,11 @@ fn refuses_words(rt: HostRuntime) -> Result<(), Fail> {
         (
             "dgt picture 8e",
             "error: unexpected argument '8e' found\n\nUsage: dgt picture",
+            more,
+        ),
+        (
+            "dgt commands 42",
+            "error: unexpected argument '42' found\n\nUsage: dgt commands",
             more,
         ),
         (
@@ -394,6 +400,8 @@ fn stops_at_a_refused_write(rt: HostRuntime) -> Result<(), Fail> {
         ("dgt show 8e000205", bytes, ROOM, false, lines),
         ("dgt monitor", bytes, 9, true, "00000003 "),
         ("dgt monitor", bytes, ROOM, false, lines),
+        ("dgt commands", b"\x42", 9, true, "00000001 "),
+        ("dgt commands", b"\x42", ROOM, false, "00000001 dump\n"),
         ("dgt board", b"\x45", 0, true, ""),
         ("dgt simulate", b"send\nsend\n", 4, true, "noth"),
         ("dgt simulate", b"send\nsend\n", 8, true, "nothing\n"),
@@ -419,7 +427,7 @@ fn stops_at_a_refused_write(rt: HostRuntime) -> Result<(), Fail> {
 fn stops_at_a_refused_read(rt: HostRuntime) -> Result<(), Fail> {
     let field = "00000005 field e4 P\n";
     check(&rt, "dgt show 8e00052401", 0, field, "")?;
-    for line in ["dgt monitor", "dgt picture", "dgt board", "dgt simulate"] {
+    for line in ["dgt monitor", "dgt picture", "dgt commands", "dgt board", "dgt simulate"] {
         check(&rt, line, 1, "", "dgt: read failed\n")?;
     }
     let version: &[u8] = &[0x93, 0x00, 0x05, 0x01, 0x03];
@@ -429,6 +437,7 @@ fn stops_at_a_refused_read(rt: HostRuntime) -> Result<(), Fail> {
             b"\x8e\x00\x05\x24\x01\x8e".as_slice(),
             field.as_bytes(),
         ),
+        ("dgt commands", b"\x42\x2b", b"00000001 dump\n"),
         ("dgt board", b"\x4d\x2b\x04", version),
         ("dgt simulate", b"send\nsen", b"nothing\n"),
     ];

@@ -1,6 +1,7 @@
 -- What holds between two reads of `commands`.
 use Rattle.std.proofs.Common.{◌≡◌, ◌≤◌, ◌+◌, ◌-◌, ℕ, List, [], ◌++◌, Result, Ok, Err, IsErrAnd, length, refl, sym, ◌∙◌, ap, subst, arith, append-nil, length-append}
 use Rattle.std.specs.Io.KnownBytes.{Consumes}
+use Rattle.std.specs.Prelude.{flat_map}
 use Rattle.std.proofs.KnownBytes.{Consumes-trans}
 use Rattle.dgt_command.specs.Words.{IsPartial}
 use Rattle.dgt_lines.specs.declared.ends.Source.{Ghosts as Source}
@@ -9,7 +10,7 @@ use Rattle.dgt_lines.specs.declared.faults.RunFault.{RunFault}
 use Rattle.dgt_lines.specs.declared.faults.RunFault.TheVariants.{WriteFailed}
 use Rattle.dgt_lines.specs.Lines.{unfinished_line}
 use Rattle.dgt_lines.specs.Writing.{Wrote, Stopped, Writes}
-use Rattle.dgt_command_lines.specs.CommandLines.{AreWords, Tells, Word}
+use Rattle.dgt_command_lines.specs.CommandLines.{Tells, Word}
 use Rattle.dgt_command_lines.specs.Laws.{TextsAppend}
 use Rattle.dgt_text.specs.Commanding.{IsListed}
 use Rattle.dgt_text.specs.Turns.{Ran, change, InTurns}
@@ -26,7 +27,7 @@ pub record Listed {T : Type 0} (W : Sink T) (sink sink' : T) (held : List ℕ) (
 
 -- what is left of a word is a part of the bytes
 rest_short : (bytes rest text : List ℕ) → Tells 0 bytes rest text → length rest ≤ length bytes
-rest_short bytes rest text h = omega (arith, ap length h.are_words.whole, length-append _ rest)
+rest_short bytes rest text h = omega (arith, ap length h.are_words.whole, length-append (flat_map (λ (word : Word). word.bytes) h.words) rest)
 
 -- a piece behind bytes
 piece_told : TextsAppend → (bytes piece held rest text more : List ℕ) (offset : ℕ) → Tells 0 bytes held text

@@ -1,7 +1,8 @@
 //! The texts of help.
 use super::*;
 use crate::help::{
-    ASK_NOTES, BOARD_NOTES, MONITOR_NOTES, PICTURE_NOTES, PROGRAM_NOTES, SHOW_NOTES, SIMULATE_NOTES,
+    ASK_NOTES, BOARD_NOTES, COMMANDS_NOTES, MONITOR_NOTES, PICTURE_NOTES, PROGRAM_NOTES, SHOW_NOTES,
+    SIMULATE_NOTES,
 };
 
 /// The help of the program, before its notes.
@@ -15,6 +16,7 @@ Commands:
   monitor   Shows the messages in the bytes of standard input, as they come
   picture   Shows the pieces of the board after each change on standard input
   ask       Writes the bytes of commands to a board
+  commands  Shows the commands in the bytes of standard input, as they come
   board     Answers the commands on standard input, as a board does
   simulate  Plays a script with a board, a host, and the lines between them
   help      Print this message or the help of the given subcommand(s)
@@ -74,6 +76,17 @@ Options:
 
 ";
 
+/// The help of `commands`, before its notes.
+const COMMANDS: &str = "\
+Shows the commands in the bytes of standard input, as they come
+
+Usage: dgt commands
+
+Options:
+  -h, --help  Print help
+
+";
+
 /// The help of `board`, before its notes.
 const BOARD: &str = "\
 Answers the commands on standard input, as a board does
@@ -109,6 +122,7 @@ fn shows_help(rt: HostRuntime) -> Result<(), Fail> {
         ("dgt monitor --help", MONITOR, MONITOR_NOTES),
         ("dgt picture --help", PICTURE, PICTURE_NOTES),
         ("dgt ask --help", ASK, ASK_NOTES),
+        ("dgt commands --help", COMMANDS, COMMANDS_NOTES),
         ("dgt board --help", BOARD, BOARD_NOTES),
         ("dgt help board", BOARD, BOARD_NOTES),
         ("dgt simulate --help", SIMULATE, SIMULATE_NOTES),

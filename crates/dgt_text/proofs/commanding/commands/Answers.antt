@@ -1,4 +1,4 @@
-use Rattle.std.proofs.Common.{ap, arith}
+use Rattle.std.proofs.Common.{ap, arith, refl}
 use Rattle.std.proofs.lemmas.List.{length-take-le}
 use Rattle.dgt_command.specs.Framing.{rest_of}
 use Rattle.dgt_text.proofs.RunLemmas.{stopped_after, wrote_none}
@@ -26,7 +26,7 @@ returns-clause-output g c =
       c.loop.invariant.in_turns.given,
       listed.wrote.appends,
       (
-        c.loop.invariant.in_turns.each,
+        omega (arith, c.loop.invariant.in_turns.each, c.loop-test.false),
         record {
           text = listed.text;
           rest = rest_of c.loop.framer;
