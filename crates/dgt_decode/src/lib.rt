@@ -22,6 +22,7 @@ mod header;
 mod kept;
 mod lanes;
 pub mod laws;
+mod listening;
 #[cfg(test)]
 mod plain;
 #[cfg(test)]
@@ -31,3 +32,4 @@ pub use decoder::{Decoder, Fed, Unfinished};
 pub use event::{Event, Found};
 pub use framer::{Advanced, Framer, MAX_TOTAL};
 pub use lanes::first_top;
+pub use listening::Listener;

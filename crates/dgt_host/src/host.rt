@@ -227,4 +227,18 @@ impl Host {
             unasked,
         }
     }
+    /// Uses all of a piece, as [`Host::hear`] does one event after another. The events are not
+    /// told: `picture`, `clock` and `awaited` tell what has become of the host.
+    ///
+    /// Whatever pieces bytes come in, the host afterwards is the one that hears them in a row
+    /// (`laws::heard_in_pieces`).
+    pub fn hear_all(&mut self, piece: &[u8])
+        ensures { self.new ≡ host_after self.old piece.now }
+    {
+        crate::laws::heard_in_pieces();
+        let mut at = self.hear(piece).used;
+        while at < piece.len() {
+            at += self.hear(&piece[at..]).used;
+        }
+    }
 }
