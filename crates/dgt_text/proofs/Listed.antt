@@ -27,7 +27,12 @@ pub record Listed {T : Type 0} (W : Sink T) (sink sink' : T) (held : List ℕ) (
 
 -- what is left of a word is a part of the bytes
 rest_short : (bytes rest text : List ℕ) → Tells 0 bytes rest text → length rest ≤ length bytes
-rest_short bytes rest text h = omega (arith, ap length h.are_words.whole, length-append (flat_map (λ (word : Word). word.bytes) h.words) rest)
+rest_short bytes rest text h =
+    omega (
+      arith,
+      ap length h.are_words.whole,
+      length-append (flat_map (λ (word : Word). word.bytes) h.words) rest,
+    )
 
 -- a piece behind bytes
 piece_told : TextsAppend → (bytes piece held rest text more : List ℕ) (offset : ℕ) → Tells 0 bytes held text
