@@ -23,12 +23,22 @@ fn gives_back_the_words_of_each_command(rt: HostRuntime) -> Result<(), Fail> {
         ("2b03030900", "00000005 clockversion\n"),
         ("2b0b03015b06406d664f000000", "00000013 display -12345\n"),
         ("2b0c030c41424344454647480000", "00000014 text ABCDEFGH\n"),
-        ("2b0a030a0102030405060a00", "00000012 setandrun 0102030405060a\n"),
+        (
+            "2b0a030a0102030405060a00",
+            "00000012 setandrun 0102030405060a\n",
+        ),
         ("600200ff", "00000004 leds 00ff\n"),
     ];
     for (word, lines) in rows {
         let bytes = hex::decode(rt.alloc(), word)?;
-        check_over(&rt, "dgt commands", bytes.as_slice(), 0, lines.as_bytes(), "")?;
+        check_over(
+            &rt,
+            "dgt commands",
+            bytes.as_slice(),
+            0,
+            lines.as_bytes(),
+            "",
+        )?;
     }
     Ok(())
 }
@@ -37,11 +47,26 @@ fn gives_back_the_words_of_each_command(rt: HostRuntime) -> Result<(), Fail> {
 fn tells_what_no_word_of_ask_says(rt: HostRuntime) -> Result<(), Fail> {
     let rows = [
         ("", ""),
-        ("2b0b03015b06406d664f010000", "00000013 display 5b06406d664f0100\n"),
-        ("2b0b03015b06406d664f000100", "00000013 display 5b06406d664f0001\n"),
-        ("2b0b03015b06416d664f000000", "00000013 display 5b06416d664f0000\n"),
-        ("2b0c030c41424344454647480100", "00000014 text 414243444546474801\n"),
-        ("2b0c030c0a424344454647480000", "00000014 text 0a4243444546474800\n"),
+        (
+            "2b0b03015b06406d664f010000",
+            "00000013 display 5b06406d664f0100\n",
+        ),
+        (
+            "2b0b03015b06406d664f000100",
+            "00000013 display 5b06406d664f0001\n",
+        ),
+        (
+            "2b0b03015b06416d664f000000",
+            "00000013 display 5b06416d664f0000\n",
+        ),
+        (
+            "2b0c030c41424344454647480100",
+            "00000014 text 414243444546474801\n",
+        ),
+        (
+            "2b0c030c0a424344454647480000",
+            "00000014 text 0a4243444546474800\n",
+        ),
         ("2b05030200ff00", "00000007 icons 00ff\n"),
         ("2b03030b00", "00000005 clockmessage 0b -\n"),
         ("2b0503ff0a0b00", "00000007 clockmessage ff 0a0b\n"),
@@ -49,7 +74,14 @@ fn tells_what_no_word_of_ask_says(rt: HostRuntime) -> Result<(), Fail> {
     ];
     for (word, lines) in rows {
         let bytes = hex::decode(rt.alloc(), word)?;
-        check_over(&rt, "dgt commands", bytes.as_slice(), 0, lines.as_bytes(), "")?;
+        check_over(
+            &rt,
+            "dgt commands",
+            bytes.as_slice(),
+            0,
+            lines.as_bytes(),
+            "",
+        )?;
     }
     Ok(())
 }
@@ -61,13 +93,23 @@ fn tells_faults_and_what_is_unfinished(rt: HostRuntime) -> Result<(), Fail> {
         ("2b0242", "00000002 badsize\n00000003 dump\n"),
         ("2b030442", "00000003 badstart\n00000004 dump\n"),
         ("2b0303090142", "00000005 badend\n00000006 dump\n"),
-        ("420042", "00000001 dump\n00000002 stray 00\n00000003 dump\n"),
+        (
+            "420042",
+            "00000001 dump\n00000002 stray 00\n00000003 dump\n",
+        ),
         ("422b03", "00000001 dump\n00000003 unfinished 2\n"),
         ("60", "00000001 unfinished 1\n"),
     ];
     for (word, lines) in rows {
         let bytes = hex::decode(rt.alloc(), word)?;
-        check_over(&rt, "dgt commands", bytes.as_slice(), 0, lines.as_bytes(), "")?;
+        check_over(
+            &rt,
+            "dgt commands",
+            bytes.as_slice(),
+            0,
+            lines.as_bytes(),
+            "",
+        )?;
     }
     Ok(())
 }
