@@ -35,7 +35,8 @@ behind_verdict h b e (Some x) f =
     rw (place, drop-length (h ++ b ∷ []))
     (behind_one (length h) (length (h ++ b ∷ [])) x.event (length-append h (b ∷ [])))
 
-behind_byte_held : (held : List ℕ) (b : ℕ) → IsHeld held → IsOpen held → IsBehind (length held) (events (held ++ b ∷ []))
+behind_byte_held : (held : List ℕ) (b : ℕ) → IsHeld held → IsOpen held
+    → IsBehind (length held) (events (held ++ b ∷ []))
 behind_byte_held held b h nothing =
     record { early = events (b ∷ []); is = sym (events_behind-zero (events (b ∷ []))) }
 behind_byte_held held b h (waiting [] alone e) = absurd (let no = alone.one in cc)
