@@ -619,6 +619,7 @@ fn a_framer_lends_what_it_found(rt: HostRuntime) {
 }
 
 /// Keeps the places of the first three events, and how many of them are messages.
+#[derive(Drop)]
 struct Places {
     places: [usize; 3],
     count: usize,
