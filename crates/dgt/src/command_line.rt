@@ -2,8 +2,8 @@
 use crate::asking::{BadAsk, WORDS, asked_bytes};
 use crate::fault::Fault;
 use crate::help::{
-    ASK_NOTES, BOARD_NOTES, COMMANDS_NOTES, MONITOR_NOTES, PICTURE_NOTES, PROGRAM_NOTES, SHOW_NOTES,
-    SIMULATE_NOTES,
+    ASK_NOTES, BOARD_NOTES, COMMANDS_NOTES, MONITOR_NOTES, PICTURE_NOTES, PROGRAM_NOTES,
+    SHOW_NOTES, SIMULATE_NOTES,
 };
 use clap::error::ErrorKind;
 use clap::{Arg, ArgMatches, Command, value_parser};

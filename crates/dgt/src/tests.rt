@@ -427,7 +427,13 @@ fn stops_at_a_refused_write(rt: HostRuntime) -> Result<(), Fail> {
 fn stops_at_a_refused_read(rt: HostRuntime) -> Result<(), Fail> {
     let field = "00000005 field e4 P\n";
     check(&rt, "dgt show 8e00052401", 0, field, "")?;
-    for line in ["dgt monitor", "dgt picture", "dgt commands", "dgt board", "dgt simulate"] {
+    for line in [
+        "dgt monitor",
+        "dgt picture",
+        "dgt commands",
+        "dgt board",
+        "dgt simulate",
+    ] {
         check(&rt, line, 1, "", "dgt: read failed\n")?;
     }
     let version: &[u8] = &[0x93, 0x00, 0x05, 0x01, 0x03];

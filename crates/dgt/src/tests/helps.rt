@@ -1,8 +1,8 @@
 //! The texts of help.
 use super::*;
 use crate::help::{
-    ASK_NOTES, BOARD_NOTES, COMMANDS_NOTES, MONITOR_NOTES, PICTURE_NOTES, PROGRAM_NOTES, SHOW_NOTES,
-    SIMULATE_NOTES,
+    ASK_NOTES, BOARD_NOTES, COMMANDS_NOTES, MONITOR_NOTES, PICTURE_NOTES, PROGRAM_NOTES,
+    SHOW_NOTES, SIMULATE_NOTES,
 };
 
 /// The help of the program, before its notes.
