@@ -215,7 +215,7 @@ EMPTY = {0x03: "end", 0x08: "button", 0x09: "clockversion"}
 SEGMENTS = dict(zip(bytes.fromhex("3f065b4f666d7d077f6f0040"), "0123456789 -"))
 
 
-def clock_text(clock_id, payload):
+def clock_message_text(clock_id, payload):
     carried = payload.hex() or "-"
     if clock_id == 0x01 and len(payload) == 8:
         c, b, a, f, e, d, dots, beep = payload
@@ -243,7 +243,7 @@ def word_text(word, kind):
         return kind.replace(" ", "")
     if word[0] == LIGHTS:
         return f"leds {word[2:].hex() or '-'}"
-    return clock_text(word[3], word[4:-1]) if word[0] == CLOCK_MESSAGE else NAMES[word[0]]
+    return clock_message_text(word[3], word[4:-1]) if word[0] == CLOCK_MESSAGE else NAMES[word[0]]
 
 
 def commands(data):
