@@ -232,8 +232,8 @@ The commands, in hexadecimal, and what they ask for:
   44      from now on each change of squares is told
   45      the serial number, 00001
   47      the trademark, SIMULATED BOARD
-  4b      as 43
-  4c      the state of the battery, one byte 64
+  4b      as 43, but a clock that is read again and shows the same isn't told
+  4c      the state of the battery, the byte 64
   4d      the version, 1.3
   55      the long serial number, 0000000001
   2b ..   a message for the clock: size, 03, id, payload, 00. It is
