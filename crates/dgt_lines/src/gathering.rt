@@ -67,14 +67,6 @@ impl<const ROOM: usize> Outgoing<ROOM> {
         }
     }
 
-    /// How many bytes were gathered and not written.
-    pub fn len(&self) -> usize
-        ensures len { result ≡ length self.now }
-        ensures limit { result ≤ ROOM }
-    {
-        self.bytes.len()
-    }
-
     /// Writes all that was gathered. After a refused write the rest of it is dropped.
     pub fn write_out<W: Sink>(&mut self, writer: &mut W) -> Result<(), RunFault>
         ensures output { Writes W.Sink writer.old writer.new result self.old }
@@ -129,7 +121,7 @@ impl<const ROOM: usize> Outgoing<ROOM> {
     }
 
     /// Adds two hexadecimal digits for each byte.
-    pub fn push_hex(&mut self, bytes: &[u8])
+    pub(crate) fn push_hex(&mut self, bytes: &[u8])
         requires { length self.old + 2 * length bytes.now ≤ ROOM }
         ensures bytes { self.new ≡ self.old ++ encode_lower bytes.now }
         ensures len { length self.new ≡ length self.old + 2 * length bytes.now }
@@ -140,7 +132,7 @@ impl<const ROOM: usize> Outgoing<ROOM> {
     }
 
     /// Adds a number in decimal, with leading zeros to at least `width` digits.
-    pub fn push_decimal(&mut self, number: u64, width: usize)
+    pub(crate) fn push_decimal(&mut self, number: u64, width: usize)
         requires room { length self.old + 20 ≤ ROOM }
         requires some { 0 < width }
         requires fits { width ≤ 20 }

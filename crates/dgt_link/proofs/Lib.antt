@@ -1,5 +1,4 @@
 pub mod Lists
-pub mod Backlogs
 pub mod Subsequences
 pub mod Telling
 pub mod Taking

@@ -1,8 +1,6 @@
 pub mod RunLemmas
 pub mod Heard
-pub mod Pictured
 pub mod TurnLemmas
-pub mod Listed
 pub mod ConversationLemmas
 pub mod ServingLemmas
 pub mod PlayLemmas

@@ -1,10 +1,8 @@
 //! The engines, over sources and sinks that fail where a test wants them to; and the lines of
 //! worked messages.
 
-mod commanding;
 mod devices;
 mod failures;
-mod picturing;
 mod serving;
 mod simulating;
 mod sweeps;
