@@ -34,21 +34,18 @@ impl RankText {
         let mut len = 0;
         let mut empty = 0;
         for piece in rank {
-            if is_empty(*piece) {
-                empty += 1;
-                bytes[len] = b'0' + empty;
+            let here = is_empty(*piece);
+            // a run ends before a piece
+            len += usize::from(!here & (empty > 0));
+            bytes[len] = if here {
+                b'1' + empty
             } else {
-                if empty > 0 {
-                    len += 1;
-                }
-                bytes[len] = piece.letter() as u8;
-                len += 1;
-                empty = 0;
-            }
+                piece.letter() as u8
+            };
+            len += usize::from(!here);
+            empty = if here { empty + 1 } else { 0 };
         }
-        if empty > 0 {
-            len += 1;
-        }
+        len += usize::from(empty > 0);
         RankText { bytes, len }
     }
 }
