@@ -1,4 +1,5 @@
-"""docs/PROTOCOL.md once more, as plain as it can be said in Python: what `dgt monitor`, `dgt board` and `dgt simulate` write.
+"""docs/PROTOCOL.md once more, as plain as it can be said in Python: what `dgt monitor`, `dgt picture`, `dgt commands`,
+`dgt board` and `dgt simulate` write.
 
 Written from that page, README.md and the program's help, and not from its sources, so that both can be held against each other:
 checks/hostile does that. Squares are numbers, pieces their codes, a position is a list of 64 pieces. A clock is the seven bytes
@@ -170,6 +171,22 @@ def monitor(data):
     return "".join(lines).encode()
 
 
+def picture(data):
+    """What `dgt picture` writes."""
+    decoder, lines, squares = Decoder(), [], None
+    for offset, byte in enumerate(data, 1):
+        text = decoder.take(byte) or ""
+        if text.startswith("dump "):
+            squares = list(decoder.message[1])
+        elif text.startswith("field ") and squares:
+            square, piece = decoder.message[1]
+            squares[square] = piece
+        else:
+            continue
+        lines.append(f"{offset:08} {placement(squares)}\n")
+    return "".join(lines).encode()
+
+
 def word_kind(word):
     """What these bytes of the host are, or None while more of the word is to come."""
     first, have = word[0], len(word)
@@ -189,6 +206,58 @@ def word_kind(word):
     if have < 2 + size:
         return None
     return "command" if word[-1] == 0x00 else "bad end"
+
+
+# The words for commands, and for clock messages that carry nothing, by their ids.
+NAMES = {0x40: "reset", 0x41: "clock", 0x42: "dump", 0x43: "update", 0x44: "updateboard", 0x4B: "updatenice"}
+NAMES |= {0x45: "serial", 0x47: "trademark", 0x4C: "battery", 0x4D: "version", 0x55: "longserial"}
+EMPTY = {0x03: "end", 0x08: "button", 0x09: "clockversion"}
+SEGMENTS = dict(zip(bytes.fromhex("3f065b4f666d7d077f6f0040"), "0123456789 -"))
+
+
+def clock_message_text(clock_id, payload):
+    carried = payload.hex() or "-"
+    if clock_id == 0x01 and len(payload) == 8:
+        c, b, a, f, e, d, dots, beep = payload
+        shown = "".join(SEGMENTS.get(place, "?") for place in (a, b, c, d, e, f))
+        return "display " + (carried if "?" in shown or dots or beep else shown)
+    if clock_id == 0x0C and len(payload) == 9:
+        is_plain = all(0x20 <= letter <= 0x7E for letter in payload[:8]) and payload[8] == 0
+        return "text " + (payload[:8].decode() if is_plain else carried)
+    if clock_id == 0x02:
+        return f"icons {carried}"
+    if clock_id == 0x0A and len(payload) == 7:
+        return f"setandrun {carried}"
+    if clock_id == 0x0B and len(payload) == 1:
+        return f"beep {payload[0]}"
+    if clock_id in EMPTY and not payload:
+        return EMPTY[clock_id]
+    return f"clockmessage {clock_id:02x} {carried}"
+
+
+def word_text(word, kind):
+    """The line's text of a word of this kind."""
+    if kind == "stray":
+        return f"stray {word[0]:02x}"
+    if kind != "command":
+        return kind.replace(" ", "")
+    if word[0] == LIGHTS:
+        return f"leds {word[2:].hex() or '-'}"
+    return clock_message_text(word[3], word[4:-1]) if word[0] == CLOCK_MESSAGE else NAMES[word[0]]
+
+
+def commands(data):
+    """What `dgt commands` writes."""
+    word, lines = b"", []
+    for offset, byte in enumerate(data, 1):
+        word += bytes([byte])
+        kind = word_kind(word)
+        if kind:
+            lines.append(f"{offset:08} {word_text(word, kind)}\n")
+            word = b""
+    if word:
+        lines.append(f"{len(data):08} unfinished {len(word)}\n")
+    return "".join(lines).encode()
 
 
 class CommandReader:

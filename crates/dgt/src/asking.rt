@@ -1,14 +1,8 @@
 //! Commands by name, as `dgt ask` takes them.
-use dgt_command::{ClockCommand, Command, LedBytes, display, encode};
-use dgt_host::Host;
+use dgt_command::{ClockCommand, Command, LedBytes, MAX_LED_BYTES, MAX_WORD, display, encode};
+use dgt_host::{Host, RESTART_LENGTH};
 use hex::decode_to_slice;
 use std::alloc::{AllocError, Global};
-
-/// The most bytes that a command has, and what a host begins anew with.
-const MOST_BYTES: usize = 257;
-
-/// The most bytes of an LED frame.
-const MOST_LEDS: usize = 255;
 
 /// The words, as a fault lists them.
 pub const WORDS: &str = "reset, clock, dump, update, updateboard, updatenice, serial, longserial, \
@@ -115,19 +109,19 @@ pub fn asked_bytes<'a>(alloc: Global, words: &[&'a str]) -> Result<Vec<u8>, BadA
 }
 
 fn push(command: &Command<'_>, bytes: &mut Vec<u8>) -> Result<(), AllocError> {
-    let mut room = [0; MOST_BYTES];
+    let mut room = [0; MAX_WORD];
     let count = Host::new().send(command, &mut room).unwrap();
     bytes.extend_from_slice(&room[..count])
 }
 
 fn push_follow(bytes: &mut Vec<u8>) -> Result<(), AllocError> {
-    let mut room = [0; MOST_BYTES];
+    let mut room = [0; RESTART_LENGTH];
     let count = Host::new().follow(&mut room).unwrap();
     bytes.extend_from_slice(&room[..count])
 }
 
 fn push_restart(bytes: &mut Vec<u8>) -> Result<(), AllocError> {
-    let mut room = [0; MOST_BYTES];
+    let mut room = [0; RESTART_LENGTH];
     let count = Host::new().restart(&mut room).unwrap();
     bytes.extend_from_slice(&room[..count])
 }
@@ -187,7 +181,7 @@ fn set_and_run(word: &str) -> Option<ClockCommand<'static>> {
 }
 
 fn push_leds<'a>(word: &str, bytes: &mut Vec<u8>) -> Result<(), BadAsk<'a>> {
-    let mut room = [0; MOST_LEDS];
+    let mut room = [0; MAX_LED_BYTES];
     let count = word.len() / 2;
     let Some(lit) = room.get_mut(..count) else {
         return Err(BadAsk::Unfit(Detail::Leds));

@@ -2,7 +2,8 @@
 use crate::asking::{BadAsk, WORDS, asked_bytes};
 use crate::fault::Fault;
 use crate::help::{
-    ASK_NOTES, BOARD_NOTES, MONITOR_NOTES, PROGRAM_NOTES, SHOW_NOTES, SIMULATE_NOTES,
+    ASK_NOTES, BOARD_NOTES, COMMANDS_NOTES, MONITOR_NOTES, PICTURE_NOTES, PROGRAM_NOTES,
+    SHOW_NOTES, SIMULATE_NOTES,
 };
 use clap::error::ErrorKind;
 use clap::{Arg, ArgMatches, Command, value_parser};
@@ -21,6 +22,10 @@ pub enum Task<'a> {
     },
     /// Show what the bytes of the input make known.
     Monitor,
+    /// Show the pieces of the board for each message of the input that sets them.
+    Picture,
+    /// Show what the bytes of the input ask a board for.
+    Commands,
     /// Write these bytes of commands.
     Ask {
         bytes: Vec<u8>,
@@ -79,6 +84,12 @@ fn monitor<'a>(alloc: Global) -> Command<'a> {
         .after_help(MONITOR_NOTES)
 }
 
+fn picture<'a>(alloc: Global) -> Command<'a> {
+    Command::new(alloc, "picture")
+        .about("Shows the pieces of the board after each change on standard input")
+        .after_help(PICTURE_NOTES)
+}
+
 fn ask<'a>(alloc: Global) -> Result<Command<'a>, AllocError> {
     let words = Arg::new(alloc, "word")
         .value_name("WORD")
@@ -90,6 +101,12 @@ fn ask<'a>(alloc: Global) -> Result<Command<'a>, AllocError> {
         .about("Writes the bytes of commands to a board")
         .after_help(ASK_NOTES)
         .arg(words)
+}
+
+fn commands<'a>(alloc: Global) -> Command<'a> {
+    Command::new(alloc, "commands")
+        .about("Shows the commands in the bytes of standard input, as they come")
+        .after_help(COMMANDS_NOTES)
 }
 
 fn board<'a>(alloc: Global) -> Result<Command<'a>, AllocError> {
@@ -125,7 +142,9 @@ fn command<'a>(alloc: Global) -> Result<Command<'a>, AllocError> {
         .subcommand_required(true)
         .subcommand(show(alloc)?)?
         .subcommand(monitor(alloc))?
+        .subcommand(picture(alloc))?
         .subcommand(ask(alloc)?)?
+        .subcommand(commands(alloc))?
         .subcommand(board(alloc)?)?
         .subcommand(simulate(alloc)?)
 }
@@ -161,7 +180,7 @@ fn unmatched<'a>(error: clap::Error) -> Result<Task<'a>, Fault> {
 fn requested<'a>(alloc: Global, matches: &ArgMatches<'a>) -> Result<Option<Task<'a>>, Fault> {
     match matches.subcommand() {
         Some(("ask", ask)) => Ok(Some(Task::Ask {
-            bytes: commands(alloc, ask.get_strs("word").unwrap_or(&[]))?,
+            bytes: asked(alloc, ask.get_strs("word").unwrap_or(&[]))?,
         })),
         Some((name, options)) => Ok(task_named(name, options)),
         None => Ok(None),
@@ -174,6 +193,8 @@ fn task_named<'a>(name: &str, options: &ArgMatches<'a>) -> Option<Task<'a>> {
             word: options.get_str("hex")?,
         },
         "monitor" => Task::Monitor,
+        "picture" => Task::Picture,
+        "commands" => Task::Commands,
         "board" => Task::Board {
             placement: options.get_str("position")?,
         },
@@ -188,7 +209,7 @@ fn task_named<'a>(name: &str, options: &ArgMatches<'a>) -> Option<Task<'a>> {
 }
 
 // The bytes of the commands with these names.
-fn commands(alloc: Global, words: &[&str]) -> Result<Vec<u8>, Fault> {
+fn asked(alloc: Global, words: &[&str]) -> Result<Vec<u8>, Fault> {
     asked_bytes(alloc, words).map_err(|bad| match bad {
         BadAsk::Unknown(word) => match format!(in alloc; "{word} is none of the words {WORDS}") {
             Ok(text) => refuse(alloc, ErrorKind::InvalidValue, text.as_str()),

@@ -35,10 +35,11 @@ or badpiece, badsquare or badreading and the place in the body, from 0 on.",
 pub const PROGRAM_NOTES: &str = "\
 A DGT board is a chess board that tells over a serial line what stands on its
 squares, where a host, the program at the other end, asks it to by commands.
-'show' and 'monitor' tell in lines of text what the board's bytes mean. 'ask'
-writes commands. 'board' takes the place of a board, to try a host on.
-'simulate' has a board and a host on a line of bytes each way, and moves the
-bytes as a script tells it to.
+'show' and 'monitor' tell in lines of text what the board's bytes mean, and
+'picture' which pieces stand on it then. 'ask' writes commands, and 'commands'
+tells in lines of text what a host's bytes ask for. 'board' takes the place of
+a board, to try a host on. 'simulate' has a board and a host on a line of bytes
+each way, and moves the bytes as a script tells it to.
 
 Examples:
   $ dgt show 8e00052401
@@ -104,6 +105,31 @@ squares. Ctrl-C ends it.
   00000077 field e4 P"
 );
 
+/// What follows clap's own text in the help of `picture`.
+pub const PICTURE_NOTES: &str = "\
+Reads the bytes that a board sends, from standard input up to its end. Writes
+one line to standard output for each message that sets the pieces of the board,
+as soon as it has come: the number of bytes up to there, then the pieces as the
+first field of a FEN tells them. That is the ranks from 8 down to 1 with /
+between them, in each the letters of its pieces (PRNBKQ white, prnbkq black, XYZ
+extra) and digits for so many empty squares.
+
+A message of all squares, as 'dgt ask dump' asks for one, sets all pieces, and a
+message of one square that one. Until the first message of all squares came the
+pieces are unknown, and a message of one square has no line. Other messages and
+faults in the bytes have none. 'dgt monitor' shows what these are.
+
+Exit status: 0, with faults in the bytes too; 1 if standard input or output
+fails, or the end has not come after 4294967295 reads; 2 if the command line is
+wrong; 3 if memory runs out.
+
+Examples:
+  $ dgt ask dump | dgt board | dgt picture
+  00000067 rnbqkbnr/pppppppp/8/8/8/8/PPPPPPPP/RNBQKBNR
+  $ { dgt ask dump | dgt board; printf '\\x8e\\0\\x5\\x34\\0'; } | dgt picture
+  00000067 rnbqkbnr/pppppppp/8/8/8/8/PPPPPPPP/RNBQKBNR
+  00000072 rnbqkbnr/pppppppp/8/8/8/8/PPPP1PPP/RNBQKBNR";
+
 /// What follows clap's own text in the help of `ask`.
 pub const ASK_NOTES: &str = "\
 Writes the bytes of these commands, in their order and at once, to standard
@@ -145,6 +171,37 @@ Examples:
   $ dgt ask clockversion | dgt board | dgt monitor
   00000010 ack 10 09 14 00 00";
 
+/// What follows clap's own text in the help of `commands`.
+pub const COMMANDS_NOTES: &str = "\
+Reads the bytes that a host sends to a board, from standard input up to its end.
+Writes one line to standard output for each command, and for each fault in the
+bytes, as soon as they have come: the number of bytes up to there, then the
+command in the words of 'dgt ask --help', or one of
+
+  display BYTES           a display with other signs, with dots or with a beep
+  text BYTES              a text with other characters or with a beep
+  icons BYTES             the clock shows these icons
+  clockmessage ID BYTES   a message for the clock of another kind
+  badsize                 2b and a size below 3
+  badstart                2b, a size, and a byte that isn't 03
+  badend                  a message for the clock whose last byte isn't 00
+  stray BYTE              a byte that begins no command
+  unfinished N            N bytes of a command, cut off by the end
+
+Bytes and ID are hexadecimal, and - stands for no BYTES. They are those between
+the id and the 00 at the end: of a display the places C, B, A, F, E and D, the
+dots and the beep; of a text its characters and the beep.
+
+Exit status: 0, with faults in the bytes too; 1 if standard input or output
+fails, or the end has not come after 4294967295 reads; 2 if the command line is
+wrong; 3 if memory runs out.
+
+Example:
+  $ dgt ask follow beep 3 | dgt commands
+  00000001 updateboard
+  00000002 dump
+  00000008 beep 3";
+
 // What the placement of a command's option is, between two texts.
 macro_rules! with_placement {
     ($before:literal, $after:literal) => {
@@ -175,8 +232,8 @@ The commands, in hexadecimal, and what they ask for:
   44      from now on each change of squares is told
   45      the serial number, 00001
   47      the trademark, SIMULATED BOARD
-  4b      as 43
-  4c      the state of the battery, one byte 64
+  4b      as 43, but a clock that is read again and shows the same isn't told
+  4c      the state of the battery, the byte 64
   4d      the version, 1.3
   55      the long serial number, 0000000001
   2b ..   a message for the clock: size, 03, id, payload, 00. It is

@@ -2,9 +2,9 @@
 //!
 //! `dgt show 8e00052401` prints `00000005 field e4 P`: the five bytes are a message of the DGT
 //! Electronic Board Protocol, by which a white pawn stands on e4. `dgt monitor` does the same with
-//! the bytes of standard input, as they come. `dgt board` answers the commands of standard input as
-//! a board does, and `dgt simulate` plays a script with a board, a host, and the lines between
-//! them.
+//! the bytes of standard input, as they come, and `dgt commands` with those of a host. `dgt board`
+//! answers the commands of standard input as a board does, and `dgt simulate` plays a script with a
+//! board, a host, and the lines between them.
 //!
 //! `main` fetches the words and the streams, and `run_words` of `program` does the rest, over any
 //! reader and writers: it has `command_line` read the words, with the texts of `help`, takes the

@@ -4,7 +4,7 @@ use crate::fault::Fault;
 use crate::{command_line, simulated};
 use dgt_board::Board;
 use dgt_link::{World, WorldFault};
-use dgt_text::{Bytes, Device, RunFault, monitor, serve, simulate};
+use dgt_text::{Bytes, Device, RunFault, commands, monitor, picture, serve, simulate};
 use dgt_values::Position;
 use hex::FromHexError;
 use std::alloc::Global;
@@ -43,6 +43,8 @@ fn run<I: Read + Drop, O: Write + Drop>(
         Task::Help(text) => Ok(write_help(&text, &mut output)?),
         Task::Show { word } => show(alloc, word, output),
         Task::Monitor => show_input(input, output),
+        Task::Picture => show_picture(input, output),
+        Task::Commands => show_commands(input, output),
         Task::Ask { bytes } => Ok(write_bytes(bytes.as_slice(), &mut output)?),
         Task::Board { placement } => answer(placement, input, output),
         Task::Simulate {
@@ -68,6 +70,18 @@ fn show<O: Write + Drop>(alloc: Global, word: &str, output: O) -> Result<(), Fau
 fn show_input<I: Read + Drop, O: Write + Drop>(input: I, output: O) -> Result<(), Fault> {
     let mut output = Device::new(output);
     Ok(monitor(&mut Device::new(input), &mut output, MOST_TURNS)?)
+}
+
+#[inline(never)]
+fn show_picture<I: Read + Drop, O: Write + Drop>(input: I, output: O) -> Result<(), Fault> {
+    let mut output = Device::new(output);
+    Ok(picture(&mut Device::new(input), &mut output, MOST_TURNS)?)
+}
+
+#[inline(never)]
+fn show_commands<I: Read + Drop, O: Write + Drop>(input: I, output: O) -> Result<(), Fault> {
+    let mut output = Device::new(output);
+    Ok(commands(&mut Device::new(input), &mut output, MOST_TURNS)?)
 }
 
 #[inline(never)]

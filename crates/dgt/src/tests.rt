@@ -1,6 +1,7 @@
 //! Whole runs of the program, over words and streams in memory.
 mod asking;
 mod boards;
+mod commands;
 mod engines;
 mod helps;
 mod scripts;
@@ -192,6 +193,42 @@ fn shows_a_dump(rt: HostRuntime) -> Result<(), Fail> {
 }
 
 #[test]
+fn shows_pictures(rt: HostRuntime) -> Result<(), Fail> {
+    let start = "00000067 rnbqkbnr/pppppppp/8/8/8/8/PPPPPPPP/RNBQKBNR\n";
+    let moved = "\
+00000067 rnbqkbnr/pppppppp/8/8/8/8/PPPPPPPP/RNBQKBNR
+00000072 rnbqkbnr/pppppppp/8/8/8/8/PPPP1PPP/RNBQKBNR
+00000077 rnbqkbnr/pppppppp/8/8/4P3/8/PPPP1PPP/RNBQKBNR
+";
+    let rows = [
+        ("02", start),
+        ("10", ""),
+        ("028e000534008e00052401", moved),
+        ("028e0005", start),
+    ];
+    for (behind, output) in rows {
+        let word = format!(in rt.alloc(); "{START_BUT_H1}{behind}")?;
+        let bytes = hex::decode(rt.alloc(), word.as_str())?;
+        check_over(
+            &rt,
+            "dgt picture",
+            bytes.as_slice(),
+            0,
+            output.as_bytes(),
+            "",
+        )?;
+    }
+    check_over(
+        &rt,
+        "dgt picture",
+        &[0x8e, 0x00, 0x05, 0x24, 0x01],
+        0,
+        b"",
+        "",
+    )
+}
+
+#[test]
 fn refuses_words(rt: HostRuntime) -> Result<(), Fail> {
     let more = "\n\nFor more information, try '--help'.\n";
     let rows = [
@@ -199,7 +236,7 @@ fn refuses_words(rt: HostRuntime) -> Result<(), Fail> {
         ("dgt show 8e0005240g", "dgt: bad hex\n", ""),
         (
             "dgt",
-            "error: 'dgt' requires a subcommand but one was not provided\n  [subcommands: show, monitor, ask, board, simulate, help]\n\nUsage: dgt <COMMAND>",
+            "error: 'dgt' requires a subcommand but one was not provided\n  [subcommands: show, monitor, picture, ask, commands, board, simulate, help]\n\nUsage: dgt <COMMAND>",
             more,
         ),
         (
@@ -215,6 +252,16 @@ fn refuses_words(rt: HostRuntime) -> Result<(), Fail> {
         (
             "dgt monitor 8e",
             "error: unexpected argument '8e' found\n\nUsage: dgt monitor",
+            more,
+        ),
+        (
+            "dgt picture 8e",
+            "error: unexpected argument '8e' found\n\nUsage: dgt picture",
+            more,
+        ),
+        (
+            "dgt commands 42",
+            "error: unexpected argument '42' found\n\nUsage: dgt commands",
             more,
         ),
         (
@@ -353,6 +400,8 @@ fn stops_at_a_refused_write(rt: HostRuntime) -> Result<(), Fail> {
         ("dgt show 8e000205", bytes, ROOM, false, lines),
         ("dgt monitor", bytes, 9, true, "00000003 "),
         ("dgt monitor", bytes, ROOM, false, lines),
+        ("dgt commands", b"\x42", 9, true, "00000001 "),
+        ("dgt commands", b"\x42", ROOM, false, "00000001 dump\n"),
         ("dgt board", b"\x45", 0, true, ""),
         ("dgt simulate", b"send\nsend\n", 4, true, "noth"),
         ("dgt simulate", b"send\nsend\n", 8, true, "nothing\n"),
@@ -378,7 +427,13 @@ fn stops_at_a_refused_write(rt: HostRuntime) -> Result<(), Fail> {
 fn stops_at_a_refused_read(rt: HostRuntime) -> Result<(), Fail> {
     let field = "00000005 field e4 P\n";
     check(&rt, "dgt show 8e00052401", 0, field, "")?;
-    for line in ["dgt monitor", "dgt board", "dgt simulate"] {
+    for line in [
+        "dgt monitor",
+        "dgt picture",
+        "dgt commands",
+        "dgt board",
+        "dgt simulate",
+    ] {
         check(&rt, line, 1, "", "dgt: read failed\n")?;
     }
     let version: &[u8] = &[0x93, 0x00, 0x05, 0x01, 0x03];
@@ -388,6 +443,7 @@ fn stops_at_a_refused_read(rt: HostRuntime) -> Result<(), Fail> {
             b"\x8e\x00\x05\x24\x01\x8e".as_slice(),
             field.as_bytes(),
         ),
+        ("dgt commands", b"\x42\x2b", b"00000001 dump\n"),
         ("dgt board", b"\x4d\x2b\x04", version),
         ("dgt simulate", b"send\nsen", b"nothing\n"),
     ];

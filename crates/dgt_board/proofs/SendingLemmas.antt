@@ -12,7 +12,7 @@ use Rattle.dgt_message.specs.Clock.{ClockState}
 use Rattle.dgt_message.specs.Content.{clock_message, Content}
 use Rattle.dgt_board.specs.declared.replies.Reply.{Reply}
 use Rattle.dgt_board.specs.State.{BoardState, updates}
-use Rattle.dgt_board.specs.Sending.{after_sending, after_telling, clock_news, differs, every_square, field_of, left_to_send, next_message, pending_messages, piece_on, reply_message, times_owed_after, untold_squares}
+use Rattle.dgt_board.specs.Sending.{after_sending, after_telling, clock_news, differs, every_square, field_of, left_to_send, next_message, piece_on, reply_message, times_owed_after, untold_squares}
 
 -- ---- what passes a test
 

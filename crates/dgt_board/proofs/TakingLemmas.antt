@@ -1,26 +1,16 @@
 -- What a board has taken.
-use Rattle.std.proofs.Common.{rules, ◌≡◌, refl, sym, ap, ◌∙◌, ℕ, List, [], ◌∷◌, ◌++◌, Some, append-nil, append_assoc}
-use Rattle.dgt_command.specs.Content.{CommandContent, EventContent}
+use Rattle.std.proofs.Common.{◌≡◌, refl, sym, ap, ◌∙◌, ℕ, List, [], ◌∷◌, ◌++◌, Some, append-nil, append_assoc}
+use Rattle.dgt_command.specs.Content.{EventContent}
 use Rattle.dgt_command.specs.Laws.{DivisionsAppend}
 use Rattle.dgt_command.specs.Words.{IsPartial, IsWord}
 use Rattle.dgt_board.specs.State.{BoardState, effect, effects}
 use Rattle.dgt_board.specs.View.{BoardView, HasTaken, after_bytes}
 
--- no bytes are a part of the byte that asks for a dump
-pub nothing_is_partial : IsPartial []
-nothing_is_partial =
-    record {
-      event = EventContent.Read CommandContent.Dump;
-      next = 0x42;
-      more = [];
-      word = record { form = search rules; are_bytes = search rules };
-    }
-
 -- bytes that complete a word are taken
-pub takes_word : (before after : BoardView) (bytes : List ℕ) (event : EventContent)
+pub takes_word : IsPartial [] → (before after : BoardView) (bytes : List ℕ) (event : EventContent)
     → IsWord event (before.partial ++ bytes) → after.state ≡ effect before.state event → after.partial ≡ []
     → (after ≡ after_bytes before bytes (Some event)) × HasTaken before bytes after
-takes_word before after bytes event word state rest = (
+takes_word nothing before after bytes event word state rest = (
   rw (← state, ← rest) refl,
   record {
     events = event ∷ [];
@@ -29,7 +19,7 @@ takes_word before after bytes event word state rest = (
       [],
       word,
       sym (append-nil (before.partial ++ bytes)),
-      (sym rest, rw rest nothing_is_partial),
+      (sym rest, rw rest nothing),
     );
     state = state;
   },

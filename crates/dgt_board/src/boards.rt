@@ -16,7 +16,7 @@ use crate::identities::Identity;
 use crate::modes::Mode;
 use crate::sending::{MAX_SENT, Polled};
 use crate::state::{MAX_OWED, State};
-use dgt_command::{CommandEvent, WordFramer};
+use dgt_command::{CommandEvent, MAX_WORD, WordFramer};
 use dgt_message::Clock;
 use dgt_values::{Piece, Position, Square};
 use std::marker::Model;
@@ -101,6 +101,7 @@ impl Board {
     pub fn line_lost(&mut self)
         ensures { self.new ≡ view_after_line_lost self.old }
     {
+        dgt_command::laws::parts_of_words();
         self.framer.reset();
         self.state.line_lost();
     }
@@ -124,6 +125,7 @@ impl Board {
         ensures none { IfOk result (λ taken. IfNone taken.event (
             (taken.used ≡ length piece.now) × IsPartial (self.old.partial ++ piece.now))) }
     {
+        dgt_command::laws::parts_of_words();
         if self.state.owed.is_full() {
             return Err(Busy);
         }
@@ -180,7 +182,7 @@ impl Board {
     pub fn partial(&self) -> usize
         ensures length { result ≡ length self.now.partial }
         ensures part_of_a_word { IsPartial self.now.partial }
-        ensures limit { result < 257 }
+        ensures limit { result < MAX_WORD }
     {
         self.framer.partial()
     }

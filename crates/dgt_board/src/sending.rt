@@ -37,17 +37,6 @@ pub enum Due {
     Times,
 }
 
-// The square with a number.
-fn square_at(index: u8) -> Square
-    requires { index < 64 }
-    ensures { square_number result ≡ index }
-{
-    match Square::from_index(index) {
-        Ok(square) => square,
-        Err(_) => unreachable!(),
-    }
-}
-
 // Success, the id of the clock message, and the version of the clock where the id asks for it.
 fn acknowledgement<'a>(id: u8, version: u8) -> Message<'a>
     ensures { content result
@@ -55,17 +44,8 @@ fn acknowledgement<'a>(id: u8, version: u8) -> Message<'a>
 {
     Message::Ack(ClockAck {
         ack: [0x10, id, version, 0x00],
-        status: zero(),
+        status: SevenBit::from_small(0),
     })
-}
-
-fn zero() -> SevenBit
-    ensures { number result ≡ 0 }
-{
-    match SevenBit::try_from(0) {
-        Ok(zero) => zero,
-        Err(_) => unreachable!(),
-    }
 }
 
 impl State {
@@ -80,7 +60,7 @@ impl State {
         if differing == 0 {
             return None;
         }
-        Some(square_at(differing.trailing_zeros() as u8))
+        Some(Square::from_small(differing.trailing_zeros() as u8))
     }
 
     // The first square that is left to tell in this mode.

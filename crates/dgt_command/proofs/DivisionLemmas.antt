@@ -10,7 +10,7 @@ use Rattle.dgt_command.specs.Content.{CommandContent, ClockMessage, Leds, EventC
 use Rattle.dgt_command.specs.Spelling.{AreBytes, command_spelling, SpellsCommand}
 use Rattle.dgt_command.specs.Lengths.{word_length}
 use Rattle.dgt_command.specs.Words.{BeginsNoCommand, HasForm, IsWord, IsPartial, Divides, IsNoise, IsNoiseList}
-use Rattle.dgt_command.specs.Laws.{EachDividesOnce, NoWordBeginsAnother, CommandsAreReadBack, ZerosSettleTheReader, DivisionsAppend, FrontsDivideFirst}
+use Rattle.dgt_command.specs.Laws.{EachDividesOnce, NoWordBeginsAPart, NoWordBeginsAnother, CommandsAreReadBack, ZerosSettleTheReader, DivisionsAppend, FrontsDivideFirst}
 use Rattle.dgt_command.proofs.WordLemmas.{body_length, form_length, same_word, begins, clock_word}
 use Rattle.dgt_command.proofs.CodeLemmas.{no_command}
 
@@ -186,13 +186,18 @@ short_from_IsPartial r partial = elim (cases_lt (length r) (word_length r)) [
 ]
 
 -- what begins with a word is no part of one
-pub no_word_within : (e : EventContent) (w x : List ℕ) → IsWord e w → IsPartial (w ++ x) → ⊥
+pub no_word_within : NoWordBeginsAPart
 no_word_within e w x word partial = not_both (w ++ x) e w x partial word.form refl
 
 -- bytes behind a part of a word are bytes with it
 pub partial_bytes : (r more : List ℕ) → IsPartial r → AreBytes more → AreBytes (r ++ more)
 partial_bytes r more partial are =
     bytes_append r more (bytes_left r (partial.next ∷ partial.more) partial.word.are_bytes) are
+
+-- what a division leaves
+pub partial_left : (bytes rest : List ℕ) (events : List EventContent) → Divides bytes events rest → IsPartial rest
+partial_left bytes rest [] divides = divides.1
+partial_left bytes rest (e ∷ events) divides = partial_left divides.1 rest events divides.4
 
 -- no byte is a proper prefix of a word
 pub nothing_is_partial : IsPartial []

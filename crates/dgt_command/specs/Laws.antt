@@ -21,6 +21,11 @@ NoWordBeginsAnother =
     IsWord event word → IsWord other longer → longer ≡ word ++ more →
     (event ≡ other) × (more ≡ [])
 
+-- no part of a word begins with a word
+abbrev pub NoWordBeginsAPart : Type 0
+NoWordBeginsAPart =
+    (event : EventContent) (word more : List ℕ) → IsWord event word → ¬ (IsPartial (word ++ more))
+
 -- after bytes with no rest, spellings of commands in a row are read as those commands
 abbrev pub CommandsAreReadBack : Type 0
 CommandsAreReadBack =

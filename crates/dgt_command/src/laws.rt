@@ -7,9 +7,9 @@ ghost use Rattle.dgt_command.specs.declared.ids.KnownId.{KnownId};
 ghost use Rattle.dgt_command.specs.Content.{led_bytes, payload_bytes, raw_id, raw_payload, EventContent, clock_content, command_content, command_event_content};
 ghost use Rattle.dgt_command.specs.Equality.{CommandHasArrays, EventHasArrays, FedHasArrays, HasArrays, fed_seen};
 ghost use Rattle.dgt_command.specs.Ids.{id_number, id_with};
-ghost use Rattle.dgt_command.specs.Laws.{CommandsAreReadBack, DivisionsAppend, EachDividesOnce, FrontsDivideFirst, NoWordBeginsAnother, SpellingsTellCommands, WordsAreShort, ZerosSettleTheReader};
+ghost use Rattle.dgt_command.specs.Laws.{CommandsAreReadBack, DivisionsAppend, EachDividesOnce, FrontsDivideFirst, NoWordBeginsAPart, NoWordBeginsAnother, SpellingsTellCommands, WordsAreShort, ZerosSettleTheReader};
 ghost use Rattle.dgt_command.specs.Spelling.{AreBytes};
-ghost use Rattle.dgt_command.specs.Words.{IsPartial, IsWord};
+ghost use Rattle.dgt_command.specs.Words.{Divides, IsPartial};
 
 use crate::carried::{LedBytes, MAX_LED_BYTES, MAX_PAYLOAD, Payload};
 use crate::clock::{ClockCommand, RawClock};
@@ -84,13 +84,14 @@ pub fn fronts_divide_first()
 {}
 
 /// Parts of words: no byte at all is one, none begins with a whole word, and with bytes behind it
-/// each is bytes.
+/// each is bytes. What a division leaves is one.
 pub fn parts_of_words()
     ensures nothing { IsPartial [] }
-    ensures no_word { (event : EventContent) (word more : List ℕ)
-        → IsWord event word → ¬ (IsPartial (word ++ more)) }
+    ensures no_word { NoWordBeginsAPart }
     ensures bytes { (rest more : List ℕ)
         → IsPartial rest → AreBytes more → AreBytes (rest ++ more) }
+    ensures left { (bytes rest : List ℕ) (events : List EventContent)
+        → Divides bytes events rest → IsPartial rest }
 {}
 
 /// Each word has 1 to 257 bytes.

@@ -24,7 +24,7 @@ first_told held piece used None h = rw (h.0, take-length piece) h.1
 first_told held piece used (Some event) h = h.1
 
 -- and behind bytes of which these are held
-call_told : (s : List ℕ) (call : Call) → FirstEvent (open_message s) call.piece call.used call.event
+pub call_told : (s : List ℕ) (call : Call) → FirstEvent (open_message s) call.piece call.used call.event
     → events (s ++ take call.used call.piece) ≡ events s ++ at_place_if_any (length s + call.used) call.event
 call_told s call first =
     let o = open_message s in

@@ -12,6 +12,7 @@ pub mod Loops
 pub mod Division
 pub mod Framing
 pub mod AnyPieces
+pub mod Pieces
 pub mod Cutting
 pub mod Chunks
 pub mod Runs

@@ -1,6 +1,6 @@
 -- What a reader that holds an unfinished message does with a piece: it uses the bytes up to and
 -- including the first one that makes an event.
-use Rattle.std.specs.Prelude.{◌≡◌, ℕ, ◌+◌, ◌<◌, ◌≤◌, List, [], ◌∷◌, ◌++◌, length, drop, take, slice_index, option_map, Option, Some, None}
+use Rattle.std.specs.Prelude.{◌≡◌, ℕ, ◌+◌, ◌<◌, ◌≤◌, List, [], ◌∷◌, ◌++◌, length, map, ◌-◌, drop, take, slice_index, option_map, Option, Some, None}
 use Rattle.dgt_values.specs.Bytes.{number}
 use Rattle.dgt_message.specs.Content.{content}
 use Rattle.dgt_decode.specs.declared.decoder.Fed.{Fed}
@@ -18,6 +18,12 @@ FirstEvent held piece used (Some event) =
     (used ≤ length piece)
     × (events (held ++ take used piece) ≡ at_place (length held + used) event ∷ [])
     × ((k : ℕ) → k < used → events (held ++ take k piece) ≡ [])
+
+-- The events of a piece behind an unfinished message. The place of each is how many bytes of the
+-- piece come up to and including the one that makes it.
+abbrev pub piece_events : List ℕ → List ℕ → List Placed
+piece_events held piece =
+    map (λ x. at_place (x.place - length held) x.event) (events (held ++ piece))
 
 -- an event that the code tells
 abbrev pub event_content : code.Event → Event

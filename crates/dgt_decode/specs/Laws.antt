@@ -4,7 +4,7 @@ use Rattle.std.specs.List.{AllByRecursion, flat_map, concat}
 use Rattle.dgt_message.specs.Content.{Content, IsMessage}
 use Rattle.dgt_message.specs.Spelling.{spelling}
 use Rattle.dgt_decode.specs.Grammar.{Message, IsSevenBit, Event, Placed, at_place, events_behind, cut_of, events, open_message}
-use Rattle.dgt_decode.specs.Feeding.{FirstEvent, at_place_if_any}
+use Rattle.dgt_decode.specs.Feeding.{FirstEvent, at_place_if_any, piece_events}
 
 -- a byte with a set top bit, and seven-bit bytes behind it
 abbrev pub IsSegment : List ℕ → Type 0
@@ -44,6 +44,25 @@ pub record PlacesAdd : Type 0 where
       events_behind m (events_behind n told) ≡ events_behind (m + n) told
   pub in_a_row : (n : ℕ) (told more : List Placed) →
       events_behind n (told ++ more) ≡ events_behind n told ++ events_behind n more
+
+-- An unfinished message makes no event, and is what it leaves unfinished. No byte behind it makes
+-- none, and leaves it as it is.
+pub record OpenIsQuiet : Type 0 where
+  pub no_event : (s : List ℕ) → events (open_message s) ≡ []
+  pub stays : (s : List ℕ) → open_message (open_message s) ≡ open_message s
+  pub no_bytes : (s : List ℕ) →
+      (piece_events (open_message s) [] ≡ [])
+      × (open_message (open_message s ++ []) ≡ open_message s)
+
+-- Behind any bytes, those of a piece make the events of the piece; and a piece's events are those
+-- of its front, and then those of the rest.
+pub record PiecesAdd : Type 0 where
+  pub behind : (s piece : List ℕ) → events (s ++ piece)
+      ≡ events s ++ events_behind (length s) (piece_events (open_message s) piece)
+  pub in_two : (s front rest : List ℕ) →
+      piece_events (open_message s) (front ++ rest)
+      ≡ piece_events (open_message s) front
+      ++ events_behind (length front) (piece_events (open_message (s ++ front)) rest)
 
 -- ---- Messages in a row
 
@@ -94,3 +113,10 @@ abbrev pub events_in_pieces : ℕ → List Call → List Placed
 events_in_pieces n [] = []
 events_in_pieces n (call ∷ calls) =
     at_place_if_any (n + call.used) call.event ++ events_in_pieces (n + call.used) calls
+
+-- the events of pieces in a row behind n bytes, of which these are an unfinished message
+abbrev pub events_of_pieces : ℕ → List ℕ → List (List ℕ) → List Placed
+events_of_pieces n held [] = []
+events_of_pieces n held (piece ∷ more) =
+    events_behind n (piece_events held piece)
+    ++ events_of_pieces (n + length piece) (open_message (held ++ piece)) more

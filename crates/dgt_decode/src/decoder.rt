@@ -3,11 +3,13 @@
 ghost use Rattle.std.specs.Prelude.{◌≡◌, ◌<◌, ◌≤◌, ℕ, List, [], ◌++◌, length, take, MatchOption};
 ghost use Rattle.std.specs.Borrow.{sem};
 ghost use Rattle.std.specs.Io.BufRead.{Rests};
+ghost use Rattle.std.specs.List.{FoldsTo};
 ghost use Rattle.dgt_decode.specs.Grammar.{open_message};
-ghost use Rattle.dgt_decode.specs.Feeding.{FirstEvent, event_content_if_any};
+ghost use Rattle.dgt_decode.specs.Feeding.{FirstEvent, event_content_if_any, piece_events};
 
 use crate::event::Event;
 use crate::framer::{Framer, MAX_TOTAL};
+use crate::listening::Listener;
 use std::marker::Model;
 
 /// A message that was not finished.
@@ -76,6 +78,25 @@ impl Decoder {
         Fed {
             used: advanced.used,
             event,
+        }
+    }
+
+    /// Uses a whole piece, and tells the listener each event that it makes, in order, with how many
+    /// bytes of the piece come up to and including the one that makes it.
+    ///
+    /// Whatever pieces bytes come in, the events are those of the bytes in a row
+    /// (`laws::pieces_in_a_row`).
+    pub fn feed_all<L: Listener>(&mut self, piece: &[u8], listener: &mut L)
+        ensures told { FoldsTo L.hears listener.old (piece_events self.old piece.now) listener.new }
+        ensures held { self.new ≡ open_message (self.old ++ piece.now) }
+    {
+        let mut at = 0;
+        while at < piece.len() {
+            let advanced = self.framer.advance(&piece[at..]);
+            at += advanced.used;
+            if let Some(found) = advanced.found {
+                listener.hear(at, &self.framer.event(found));
+            }
         }
     }
 

@@ -84,9 +84,7 @@ pub fn whole_message(bytes: &[u8]) -> Event<'_>
     requires { IsWholeMessage bytes.now }
     ensures { event_content result ≡ message_event bytes.now }
 {
-    let Ok(code) = SevenBit::try_from(bytes[0] - TOP_BIT) else {
-        unreachable!()
-    };
+    let code = SevenBit::from_small(bytes[0] - TOP_BIT);
     match view(code, Body::from_seven_bit(&bytes[HEADER..])) {
         Ok(message) => Event::Message(message),
         Err(fault) => Event::Refused { code, fault },

@@ -2,13 +2,13 @@
 //! function stands for the fact that its contract states.
 
 ghost use Rattle.std.specs.Prelude.{◌≡◌, ◌<◌, ◌≤◌, ◌+◌, ℕ, List, [], ◌∷◌, ◌++◌, length, Option};
-ghost use Rattle.std.specs.List.{AllByRecursion};
+ghost use Rattle.std.specs.List.{AllByRecursion, concat};
 ghost use Rattle.dgt_values.specs.Equality.{EqualIsSame, EqualIsSameRead};
 ghost use Rattle.dgt_message.specs.Content.{Content, IsMessage};
 ghost use Rattle.dgt_message.specs.Spelling.{Spells, spelling};
 ghost use Rattle.dgt_decode.specs.Feeding.{FirstEvent, event_content, fed_content};
 ghost use Rattle.dgt_decode.specs.Grammar.{Event as EventSaid, Message, at_place, cut_of, events, events_behind, lead, open_message, segments};
-ghost use Rattle.dgt_decode.specs.Laws.{AreCalls, Call, CutsInto, EventsAppend, OpenAppend, OpenIsPart, PlacesAdd, QuietHeld, Sent, SpellingIsRead, arrivals, events_in_pieces, sent_bytes, used_bytes};
+ghost use Rattle.dgt_decode.specs.Laws.{AreCalls, Call, CutsInto, EventsAppend, OpenAppend, OpenIsPart, OpenIsQuiet, PiecesAdd, PlacesAdd, QuietHeld, Sent, SpellingIsRead, arrivals, events_in_pieces, events_of_pieces, sent_bytes, used_bytes};
 
 use crate::decoder::{Fed, Unfinished};
 use crate::event::{Event, Found};
@@ -72,6 +72,11 @@ pub fn quiet_held()
     ensures { QuietHeld }
 {}
 
+/// What is unfinished makes no event, and where nothing comes behind it, nothing changes.
+pub fn open_is_quiet()
+    ensures { OpenIsQuiet }
+{}
+
 /// An unfinished message is shorter than the longest message.
 pub fn open_is_short()
     ensures { (s : List ℕ) → length (open_message s) < MAX_TOTAL }
@@ -124,3 +129,10 @@ pub fn spelling_in_pieces()
     messages::spelled_is_read();
     messages::spelling_spells();
 }
+
+/// The events of pieces, one after another, are those of the bytes in a row.
+pub fn pieces_in_a_row()
+    ensures add { PiecesAdd }
+    ensures any { (s : List ℕ) (pieces : List (List ℕ)) → events (s ++ concat pieces)
+        ≡ events s ++ events_of_pieces (length s) (open_message s) pieces }
+{}

@@ -6,6 +6,7 @@ use crate::decoder::{Decoder, Unfinished};
 use crate::event::{Event, Found};
 use crate::framer::Framer;
 use crate::lanes::first_top;
+use crate::listening::Listener;
 use crate::plain::{self, Told};
 use dgt_message::{BodyFault, Message, Reading};
 use dgt_values::SevenBit;
@@ -615,4 +616,55 @@ fn a_framer_lends_what_it_found(rt: HostRuntime) {
     framer.reset();
     let advanced = framer.advance(&[0x07]);
     assert_eq!(rt; advanced.found, Some(Found::Stray(0x07)));
+}
+
+/// Keeps the places of the first three events, and how many of them are messages.
+#[derive(Drop)]
+struct Places {
+    places: [usize; 3],
+    count: usize,
+    messages: usize,
+}
+
+impl Listener for Places {
+    fn hear(&mut self, place: usize, event: &Event<'_>) {
+        if self.count < 3 {
+            self.places[self.count] = place;
+            self.count += 1;
+        }
+        if let Event::Message(_) = event {
+            self.messages = self.messages.saturating_add(1);
+        }
+    }
+}
+
+/// What a listener is told of a piece.
+fn assert_told(
+    rt: &impl Abort,
+    decoder: &mut Decoder,
+    piece: &[u8],
+    told: &[usize],
+    messages: usize,
+) {
+    let mut heard = Places {
+        places: [0; 3],
+        count: 0,
+        messages: 0,
+    };
+    decoder.feed_all(piece, &mut heard);
+    assert!(rt; heard.count <= 3);
+    assert_eq!(rt; &heard.places[..heard.count], told);
+    assert_eq!(rt; heard.messages, messages);
+}
+
+#[test]
+fn a_listener_is_told_each_event_at_its_place_in_the_piece(rt: HostRuntime) {
+    let mut decoder = Decoder::new();
+    assert_told(&rt, &mut decoder, &[], &[], 0);
+    let cut = [0x86, 0x00, 0x43, 0x00, 0x8e, 0x00, 0x05, 0x34];
+    assert_told(&rt, &mut decoder, &cut, &[5], 0);
+    assert_eq!(rt; decoder.rest(), 4);
+    let ends = [0x00, 0x07, 0x8e, 0x00, 0x05, 0x24, 0x01, 0x93];
+    assert_told(&rt, &mut decoder, &ends, &[1, 2, 7], 2);
+    assert_eq!(rt; decoder.rest(), 1);
 }

@@ -1,8 +1,9 @@
 -- What a host makes of the events of bytes that come in pieces.
-use Rattle.std.proofs.Common.{◌≡◌, refl, sym, ap, ◌∙◌, ℕ, List, [], ◌∷◌, ◌++◌, append_assoc, length, ◌-◌}
+use Rattle.std.proofs.Common.{◌≡◌, ◌+◌, refl, sym, ap, ◌∙◌, ℕ, List, [], ◌∷◌, ◌++◌, append_assoc, length, ◌-◌, take, drop, append-nil}
+use Rattle.std.proofs.Math.Seq.{take-add}
 use Rattle.dgt_decode.specs.Grammar.{Event, Message, Refused, Cut, BadLength, Stray, Placed, events, events_behind, open_message}
-use Rattle.dgt_decode.specs.Laws.{EventsAppend, OpenAppend}
-use Rattle.dgt_host.specs.Host.{HeardInPieces, HostView, host_after_event, host_after_events}
+use Rattle.dgt_decode.specs.Laws.{EventsAppend, OpenAppend, OpenIsQuiet}
+use Rattle.dgt_host.specs.Host.{HeardInPieces, HostView, host_after, host_after_event, host_after_events}
 
 host_after_events-append : (host : HostView) (xs ys : List Placed)
     → host_after_events host (xs ++ ys) ≡ host_after_events (host_after_events host xs) ys
@@ -59,3 +60,20 @@ in_two later still host s more whole e =
 pub heard_in_pieces : EventsAppend → OpenAppend → HeardInPieces
 heard_in_pieces later still host bytes more = in_two later still host (host.unread ++ bytes) more
     (host.unread ++ (bytes ++ more)) (append_assoc host.unread bytes more)
+
+-- a host that hears no bytes
+pub nothing_heard : OpenIsQuiet → (host : HostView) → open_message host.unread ≡ host.unread → host_after host [] ≡ host
+nothing_heard quiet host held =
+    let no_event : events (host.unread ++ []) ≡ [] =
+    ap events (append-nil host.unread ∙ sym held) ∙ quiet.no_event host.unread in
+    let stays : open_message (host.unread ++ []) ≡ host.unread = ap open_message (append-nil host.unread) ∙ held in
+    rw (no_event, stays) refl
+
+-- some more bytes of a piece
+pub heard_more : HeardInPieces → (host before now : HostView) (piece : List ℕ) (i n : ℕ)
+    → before ≡ host_after host (take i piece) → now ≡ host_after before (take n (drop i piece))
+    → now ≡ host_after host (take (i + n) piece)
+heard_more in_pieces host before now piece i n e f =
+    f ∙ ap (λ (h : HostView). host_after h (take n (drop i piece))) e
+    ∙ in_pieces host (take i piece) (take n (drop i piece))
+    ∙ ap (host_after host) (sym (take-add i n piece))

@@ -14,7 +14,7 @@ ghost use Rattle.dgt_host.specs.Host.{IsUnasked, Sends, awaits_too_many, follow_
 use crate::hearing::{Heard, hear_event};
 use crate::sending::SendFault;
 use arrayvec::ArrayVec;
-use dgt_command::{Command, encode, kind_of_command, length};
+use dgt_command::{Command, MAX_WORD, encode, kind_of_command, length};
 use dgt_decode::{Framer, laws};
 use dgt_message::Clock;
 use dgt_values::{Kind, Position};
@@ -28,6 +28,9 @@ const FOLLOW: [u8; 2] = [0x44, 0x42];
 
 /// So many bytes `00` complete whatever part of a command a board has, and ask for nothing.
 const SETTLING_ZEROS: usize = 255;
+
+/// How many bytes a host sends to begin anew: zeros, `UpdateBoard` and `Dump`.
+pub const RESTART_LENGTH: usize = SETTLING_ZEROS + 2;
 
 /// What a host knows of a board, what it awaits, and the unread bytes of an unfinished message.
 #[derive(Drop)]
@@ -75,7 +78,7 @@ impl Host {
             self.old self.new out.old out.new result }
         ensures spells { let said = command_content command.now in
             OnOk result (SpellsCommand said (command_spelling said)) }
-        ensures limit { length (command_spelling (command_content command.now)) ≤ 257 }
+        ensures limit { length (command_spelling (command_content command.now)) ≤ MAX_WORD }
     {
         let kind = kind_of_command(command);
         if self.awaits_too_many(kind) {
@@ -222,6 +225,20 @@ impl Host {
             used: advanced.used,
             event: Some(event),
             unasked,
+        }
+    }
+    /// Uses all of a piece, as [`Host::hear`] does one event after another. The events are not
+    /// told: `picture`, `clock` and `awaited` tell what has become of the host.
+    ///
+    /// Whatever pieces bytes come in, the host afterwards is the one that hears them in a row
+    /// (`laws::heard_in_pieces`).
+    pub fn hear_all(&mut self, piece: &[u8])
+        ensures { self.new ≡ host_after self.old piece.now }
+    {
+        crate::laws::heard_in_pieces();
+        let mut at = self.hear(piece).used;
+        while at < piece.len() {
+            at += self.hear(&piece[at..]).used;
         }
     }
 }

@@ -536,3 +536,23 @@ fn texts_of_faults(rt: HostRuntime) -> Result<(), Fail> {
     }
     Ok(())
 }
+
+#[test]
+fn whole_pieces_at_once(rt: HostRuntime) -> Result<(), Fail> {
+    let mut host = Host::new();
+    host.hear_all(&[]);
+    host.hear_all(&DUMP[..60]);
+    assert_eq!(rt; host.unread(), 60);
+    assert!(rt; host.picture().is_none());
+    host.hear_all(&DUMP[60..]);
+    assert!(rt; is_start(&host));
+    host.hear_all(&[
+        0x8e, 0x00, 0x05, 0x34, 0x00, 0x8e, 0x00, 0x05, 0x24, 0x01, 0x07, 0x8e,
+    ]);
+    let mut moved = Position::start();
+    moved.set(Square::parse("e2")?, Piece::Empty);
+    moved.set(Square::parse("e4")?, Piece::WhitePawn);
+    assert!(rt; host.picture() == Some(&moved));
+    assert_eq!(rt; host.unread(), 1);
+    Ok(())
+}

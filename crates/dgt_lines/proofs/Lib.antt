@@ -1,8 +1,11 @@
 pub mod DecimalLemmas
+pub mod EventLemmas
 pub mod FieldLemmas
 pub mod GatherLemmas
 pub mod HexLemmas
 pub mod LineLemmas
+pub mod PictureLemmas
 pub mod PieceLemmas
+pub mod RankLemmas
 pub mod RunLemmas
 pub mod TextLemmas

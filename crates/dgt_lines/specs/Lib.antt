@@ -1,5 +1,6 @@
 -- what public contracts cite
 pub mod Lines
+pub mod Pictures
 pub mod FaultText
 pub mod Marks
 pub mod Writing

@@ -101,10 +101,13 @@ placed_line x = event_line x.place x.event
 abbrev pub lines : List ℕ → List ℕ
 lines bytes = flat_map placed_line (events bytes)
 
--- the lines of a piece that comes after so many bytes, of which these are an unfinished message
+-- the events of a piece that comes after so many bytes, of which these are an unfinished message
+abbrev pub events_after : List ℕ → ℕ → List ℕ → List Placed
+events_after held offset piece = events_behind (offset - length held) (events (held ++ piece))
+
+-- and their lines
 abbrev pub lines_after : List ℕ → ℕ → List ℕ → List ℕ
-lines_after held offset piece =
-    flat_map placed_line (events_behind (offset - length held) (events (held ++ piece)))
+lines_after held offset piece = flat_map placed_line (events_after held offset piece)
 
 -- the last line, where these bytes of a message are left unfinished at the end of so many bytes
 abbrev pub unfinished_line : ℕ → List ℕ → List ℕ

@@ -67,6 +67,14 @@ impl<const ROOM: usize> Outgoing<ROOM> {
         }
     }
 
+    /// How many bytes were gathered and not written.
+    pub fn len(&self) -> usize
+        ensures len { result ≡ length self.now }
+        ensures limit { result ≤ ROOM }
+    {
+        self.bytes.len()
+    }
+
     /// Writes all that was gathered. After a refused write the rest of it is dropped.
     pub fn write_out<W: Sink>(&mut self, writer: &mut W) -> Result<(), RunFault>
         ensures output { Writes W.Sink writer.old writer.new result self.old }
@@ -121,7 +129,7 @@ impl<const ROOM: usize> Outgoing<ROOM> {
     }
 
     /// Adds two hexadecimal digits for each byte.
-    pub(crate) fn push_hex(&mut self, bytes: &[u8])
+    pub fn push_hex(&mut self, bytes: &[u8])
         requires { length self.old + 2 * length bytes.now ≤ ROOM }
         ensures bytes { self.new ≡ self.old ++ encode_lower bytes.now }
         ensures len { length self.new ≡ length self.old + 2 * length bytes.now }
@@ -132,7 +140,7 @@ impl<const ROOM: usize> Outgoing<ROOM> {
     }
 
     /// Adds a number in decimal, with leading zeros to at least `width` digits.
-    pub(crate) fn push_decimal(&mut self, number: u64, width: usize)
+    pub fn push_decimal(&mut self, number: u64, width: usize)
         requires room { length self.old + 20 ≤ ROOM }
         requires some { 0 < width }
         requires fits { width ≤ 20 }

@@ -4,7 +4,8 @@
 ghost use Rattle.std.specs.Prelude.{◌≡◌, ◌≤◌, ◌++◌, ℕ, List, length};
 ghost use Rattle.dgt_values.specs.Equality.{EqualIsSame};
 ghost use Rattle.dgt_decode.specs.Grammar.{open_message};
-ghost use Rattle.dgt_lines.specs.Lines.{lines, lines_after};
+ghost use Rattle.dgt_lines.specs.Lines.{events_after, lines, lines_after};
+ghost use Rattle.dgt_lines.specs.Pictures.{LastLineIsPicture, picture_after_events, picture_lines, picture_told, pictures_text};
 
 use crate::ends::Failed;
 use crate::faults::RunFault;
@@ -23,5 +24,23 @@ pub fn lines_append()
     ensures unfinished { (bytes : List ℕ) → length (open_message bytes) ≤ length bytes }
 {
     dgt_decode::laws::events_append();
-    dgt_decode::laws::open_append();
 }
+
+/// The lines that show the board, of bytes in a row, are those of the first ones, and then those of
+/// the piece after them, and so it is with the picture.
+pub fn pictures_append()
+    ensures lines { (bytes piece : List ℕ) → pictures_text (bytes ++ piece)
+        ≡ pictures_text bytes ++ picture_lines (picture_told bytes)
+        (events_after (open_message bytes) (length bytes) piece) }
+    ensures picture { (bytes piece : List ℕ) → picture_told (bytes ++ piece)
+        ≡ picture_after_events (picture_told bytes)
+        (events_after (open_message bytes) (length bytes) piece) }
+{
+    dgt_decode::laws::events_append();
+}
+
+/// The last line that shows the board has the placement of the picture after all messages. Where
+/// that is unknown there is no line.
+pub fn last_line_is_picture()
+    ensures { LastLineIsPicture }
+{}

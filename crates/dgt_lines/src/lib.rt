@@ -8,7 +8,9 @@
 //!
 //! [`write_event`] writes the line of one event, as `00000005 field e4 P`: how many bytes had come,
 //! and what they say. [`write_lines`] writes the lines of a piece of what a board sends, and
-//! [`write_end`] the one of what is unfinished at the end.
+//! [`write_end`] the one of what is unfinished at the end. [`write_pictures`] writes lines that
+//! show the board, as `00000067 rnbqkbnr/pppppppp/8/8/8/8/PPPPPPPP/RNBQKBNR`, and keeps a
+//! [`Picture`] of it.
 //!
 //! The format of lines is this project's own choice. No call takes memory. [`laws`] says what holds
 //! of lines as such.
@@ -19,6 +21,8 @@ mod faults;
 mod gathering;
 pub mod laws;
 mod lines;
+mod pictures;
+mod picturing;
 mod pieces;
 mod slice_source;
 mod std_device;
@@ -29,7 +33,9 @@ mod wording;
 pub use ends::{Failed, Sink, Source};
 pub use faults::RunFault;
 pub use gathering::{Outgoing, flush, put};
-pub use lines::write_event;
+pub use lines::{write_event, write_unfinished};
+pub use pictures::Picture;
+pub use picturing::{PICTURES_ROOM, write_pictures};
 pub use pieces::{LINES_ROOM, write_end, write_lines};
 pub use slice_source::Bytes;
 pub use std_device::Device;

@@ -23,8 +23,8 @@ const PART: usize = 64;
 // Room for a line that is written by itself. One that carries more bytes takes more writes.
 const ROOM: usize = 1024;
 
-// Adds an offset, and a space.
-fn push_offset<const ROOM: usize>(text: &mut Outgoing<ROOM>, offset: u64)
+/// Adds an offset, and a space.
+pub(crate) fn push_offset<const ROOM: usize>(text: &mut Outgoing<ROOM>, offset: u64)
     requires { length text.old + LINE_ROOM ≤ ROOM }
     ensures text { text.new ≡ text.old ++ (offset_text offset ++ 32 ∷ []) }
     ensures room { length text.new + 100 ≤ ROOM }
@@ -195,8 +195,8 @@ fn put_message<W: Sink, const ROOM: usize>(
     Ok(())
 }
 
-// What a whole message says of one square, if it is a field.
-fn field(bytes: &[u8]) -> Option<(Square, Piece)>
+/// What a whole message says of one square, if it is a field.
+pub(crate) fn field(bytes: &[u8]) -> Option<(Square, Piece)>
     requires { IsWholeMessage bytes.now }
     ensures { IfSome result (λ told. message_event bytes.now ≡
         Message (field (square_number told.0) told.1)) }
@@ -211,12 +211,9 @@ fn field(bytes: &[u8]) -> Option<(Square, Piece)>
     }
 }
 
-/// Writes the line of a message of which so many bytes came, and no more.
-pub(crate) fn write_unfinished<W: Sink>(
-    writer: &mut W,
-    offset: u64,
-    have: usize,
-) -> Result<(), RunFault>
+/// Writes the line of a message or a command of which so many bytes came, and no more, without a
+/// flush.
+pub fn write_unfinished<W: Sink>(writer: &mut W, offset: u64, have: usize) -> Result<(), RunFault>
     ensures { Writes W.Sink writer.old writer.new result
         (line offset (unfinished_text have)) }
 {

@@ -5,16 +5,18 @@ use Rattle.dgt_message.specs.Content.{Content, IsMessage}
 use Rattle.dgt_message.specs.Spelling.{spelling}
 use Rattle.dgt_decode.specs.Grammar.{Message, Placed, at_place, events, events_behind, open_message}
 use Rattle.dgt_decode.specs.Laws.{EventsAppend, OpenAppend, QuietHeld, SpellingIsRead}
-use Rattle.dgt_host.specs.Host.{HostView, host_after_event, host_after_events, host_after_message}
+use Rattle.dgt_host.specs.Host.{HostView, host_after_events, host_after_message}
 use Rattle.dgt_link.specs.Stands.{AreSpelled}
 use Rattle.dgt_link.proofs.Lists.{IsShorter, Reaches, fronts, left_empty, not_empty, right_empty}
 
--- the laws of the decoder
+-- the laws of the decoder, and that where an event stands doesn't matter to a host
 pub record Reads : Type 0 where
   pub append : EventsAppend
   pub open_append : OpenAppend
   pub quiet_held : QuietHeld
   pub spelling : SpellingIsRead
+  pub places : (host : HostView) (n : ℕ) (told : List Placed)
+      → host_after_events host (events_behind n told) ≡ host_after_events host told
 
 -- no bytes make no event, and hold nothing
 no_events : events [] ≡ []
@@ -24,12 +26,6 @@ no_events = refl
 pub nothing_open : open_message [] ≡ []
 unfolding open_message
 nothing_open = refl
-
--- where an event stands doesn't matter to a host
-host_after_events-behind : (host : HostView) (n : ℕ) (xs : List Placed)
-    → host_after_events host (events_behind n xs) ≡ host_after_events host xs
-host_after_events-behind host n [] = refl
-host_after_events-behind host n (x ∷ xs) = host_after_events-behind (host_after_event host x.event) n xs
 
 -- the host after messages
 abbrev pub host_after_messages : HostView → List Content → HostView
@@ -93,7 +89,7 @@ module _ (reads : Reads) where
       → (host : HostView) → host_after_events host (events front) ≡ host_after_messages host (message ∷ heard)
   after_message word front others n message heard read held e on host =
       ap (host_after_events host) (ap events e ∙ reads.append word others)
-      ∙ rw (read, held) (host_after_events-behind (host_after_message host message) (length word - 0) (events others))
+      ∙ rw (read, held) (reads.places (host_after_message host message) (length word - 0) (events others))
       ∙ on (host_after_message host message)
 
   pub heard_front : (front more : List ℕ) (messages : List Content) → AreSpelled messages (front ++ more)

@@ -1,4 +1,5 @@
 pub mod Lists
+pub mod Backlogs
 pub mod Subsequences
 pub mod Telling
 pub mod Taking

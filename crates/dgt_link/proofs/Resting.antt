@@ -14,7 +14,6 @@ use Rattle.dgt_link.specs.Sound.{IsExact, IsUnknownOr}
 use Rattle.dgt_link.specs.Stands.{AreSpelled, StandsFor}
 use Rattle.dgt_link.specs.View.{IsQuietWorld, WorldView}
 use Rattle.dgt_link.proofs.Answering.{first_answer, never_unasked}
-use Rattle.dgt_link.proofs.Dividing.{nothing_is_partial}
 use Rattle.dgt_link.proofs.Quiet.{promised_picture, quiet_awaited, quiet_clock, quiet_picture}
 
 -- the picture to come, by the messages under way
@@ -50,7 +49,7 @@ pub quiet_state : EachDividesOnce → (world : WorldView) (x : MachineState) →
 quiet_state law world x stands (up, down, unread, partial, none) =
     record {
       up = nothing_spelled x.up (rw (unread, up) at stands.up);
-      down = (law.1 [] x.down [] [] [] (rw (partial, down) at stands.down) (refl, nothing_is_partial)).0;
+      down = (law.1 [] x.down [] [] [] (rw (partial, down) at stands.down) (refl, rw partial at stands.partial)).0;
       pending = nothing_first (pending_messages x.board) (rw stands.board at none);
     }
 

@@ -13,7 +13,7 @@ use Rattle.dgt_message.specs.Content.{Content}
 use Rattle.dgt_message.specs.Spelling.{spelling}
 use Rattle.dgt_command.specs.Content.{EventContent}
 use Rattle.dgt_command.specs.Words.{Divides, IsPartial}
-use Rattle.dgt_command.specs.Laws.{EachDividesOnce, NoWordBeginsAnother, WordsAreShort}
+use Rattle.dgt_command.specs.Laws.{EachDividesOnce, NoWordBeginsAPart, WordsAreShort}
 use Rattle.dgt_decode.specs.Grammar.{open_message}
 use Rattle.dgt_board.specs.declared.modes.Mode.{Mode}
 use Rattle.dgt_board.specs.Sending.{backlog, after_sending, next_message}
@@ -24,11 +24,11 @@ use Rattle.dgt_link.specs.Promise.{mode_after, act_requests, IsPromised, Picture
 use Rattle.dgt_link.specs.declared.acts.Outcome.{Outcome}
 use Rattle.dgt_link.specs.View.{overflows, IsQuietWorld, WorldView}
 use Rattle.dgt_link.specs.Machine.{MachineState, after_moves}
-use Rattle.dgt_link.specs.Step.{moves_nothing, Becomes, Runs, Step, done_count}
+use Rattle.dgt_link.specs.Step.{moves_nothing, Becomes, Delivers, Runs, Step, done_count}
 use Rattle.dgt_link.specs.Settling.{IsSettling, SettlesIn, steps_left}
 use Rattle.dgt_link.specs.Work.{work_left}
 use Rattle.dgt_link.specs.Sound.{IsUnknownOr}
-use Rattle.dgt_link.proofs.Dividing.{no_word_within}
+use Rattle.dgt_link.proofs.Backlogs.{BacklogFalls, BacklogRises}
 use Rattle.dgt_link.proofs.Lists.{Contains-cons, all_append, nothing_contained, IsShorter, Reaches, fronts}
 use Rattle.dgt_link.proofs.Hearing.{Reads, held_alone, nothing_open}
 use Rattle.dgt_link.proofs.Resting.{quiet_state, world_awaits_nothing, world_clock_told, world_picture}
@@ -38,7 +38,7 @@ use Rattle.dgt_link.proofs.Taking.{HasSameGame, effects_same_game}
 
 -- ---- each event has a byte of its own
 
-module _ (short : WordsAreShort) (within : NoWordBeginsAnother) where
+module _ (short : WordsAreShort) (within : NoWordBeginsAPart) where
   few_events : (events : List EventContent) (bytes rest : List ℕ) → Divides bytes events rest
       → length events ≤ length bytes
   few_events [] bytes rest divides = omega arith
@@ -64,7 +64,7 @@ module _ (short : WordsAreShort) (within : NoWordBeginsAnother) where
       go (inl (next, others, f)) =
           let size = ap length f ∙ length-append partial (next ∷ others) in
           omega (arith, more, all, size)
-      go (inr (others, f, g)) = absurd (no_word_within within event word others partial is_word f is)
+      go (inr (others, f, g)) = absurd (within event word others is_word (rw f at is))
 
 -- ---- what a step towards rest keeps and uses up
 
@@ -180,8 +180,7 @@ at_most_one n = go (n == 0)
     go true = omega arith
     go false = omega arith
 
-module _ (falls : (board : BoardState) (message : Content) → length board.told_squares ≡ 64 → next_message board
-    ≡ Some message → backlog (after_sending board message) < backlog board) where
+module _ (falls : BacklogFalls) where
   pub send_works : (world after : WorldView) → length world.board.state.told_squares ≡ 64
       → Becomes ActContent.BoardSend world after → work_left after < work_left world
   send_works world after squares (message, is_next, spells, same) =
@@ -189,24 +188,36 @@ module _ (falls : (board : BoardState) (message : Content) → length board.told
       let flag = at_most_one (length (world.up.bytes ++ spelling message)) in
       rw same (omega (arith, less, flag))
 
-module _ (short : WordsAreShort) (within : NoWordBeginsAnother)
-    (rises : (board : BoardState) (events : List EventContent) → backlog
-    (effects board events) ≤ backlog board + length events) where
-  pub take_works : (world after : WorldView) (count : ℕ) → IsPartial world.board.partial
-      → Becomes (ActContent.ToBoard count) world after → work_left after < work_left world
-  take_works world after count partial delivers =
+-- a delivery takes as many bytes as it moves out of the down line
+take_leaves : (world after : WorldView) (count : ℕ) (delivers : Delivers count world after)
+    → length (drop delivers.moved world.down.bytes) + delivers.moved ≡ length world.down.bytes
+take_leaves world after count delivers =
+    rw (length-drop delivers.moved world.down.bytes) (omega (arith, delivers.within.1))
+
+module _ (short : WordsAreShort) (within : NoWordBeginsAPart) (rises : BacklogRises) where
+  -- each byte of it raises what the board has to send by one at most
+  take_raises : (world after : WorldView) (count : ℕ) → IsPartial world.board.partial
+      → (delivers : Delivers count world after)
+      → backlog delivers.board.state ≤ backlog world.board.state + delivers.moved
+  take_raises world after count partial delivers =
       let taken = delivers.taken in
       let few = few_taken short within world.board.partial
       (take delivers.moved world.down.bytes) delivers.board.partial taken.events partial taken.divided in
       let size : length (take delivers.moved world.down.bytes) ≡ delivers.moved
       = length-take-le delivers.moved world.down.bytes delivers.within.1 in
       let more = rises world.board.state taken.events in
-      let left : length (drop delivers.moved world.down.bytes) + delivers.moved ≡ length world.down.bytes
-      = rw (length-drop delivers.moved world.down.bytes) (omega (arith, delivers.within.1)) in
-      let some = delivers.some in
       let state : backlog delivers.board.state ≡ backlog (effects world.board.state taken.events)
       = ap backlog taken.state in
-      rw delivers.leaves (omega (arith, few, size, more, left, some, state))
+      omega (arith, few, size, more, state)
+
+module _ (short : WordsAreShort) (within : NoWordBeginsAPart) (rises : BacklogRises) where
+  pub take_works : (world after : WorldView) (count : ℕ) → IsPartial world.board.partial
+      → Becomes (ActContent.ToBoard count) world after → work_left after < work_left world
+  take_works world after count partial delivers =
+      let raised = take_raises short within rises world after count partial delivers in
+      let left = take_leaves world after count delivers in
+      let some = delivers.some in
+      rw delivers.leaves (omega (arith, raised, left, some))
 
 no_more : (bytes : List ℕ) → length (drop (length bytes) bytes) ≡ 0
 no_more bytes = ap length (drop_all (length bytes) bytes (omega arith))
@@ -296,9 +307,7 @@ sends falls world after answer is up some fits step = go (next_message world.boa
     go None e h = absurd (false≢true h)
     go (Some message) e h = sent (room message e (overflows world.up (spelling message)) refl)
 
-module _ (short : WordsAreShort) (within : NoWordBeginsAnother)
-    (rises : (board : BoardState) (events : List EventContent) → backlog
-    (effects board events) ≤ backlog board + length events) where
+module _ (short : WordsAreShort) (within : NoWordBeginsAPart) (rises : BacklogRises) where
   pub takes : (world after : WorldView) (answer : Outcome) → IsWorld world → world.board.state.owed ≡ []
       → (length world.down.bytes == 0) ≡ false → Step (ActContent.ToBoard (length world.down.bytes)) world answer after
       → Moves world after
@@ -427,8 +436,7 @@ hear_steps world after count some same =
     = rw (length-drop count world.up.bytes) (omega (arith, counts, bytes)) in
     rw same (omega (arith, less))
 
-module _ (falls : (board : BoardState) (message : Content) → length board.told_squares ≡ 64 → next_message board
-    ≡ Some message → backlog (after_sending board message) < backlog board) where
+module _ (falls : BacklogFalls) where
   send_steps : (world after : WorldView) → length world.board.state.told_squares ≡ 64
       → ((message : Content) → next_message world.board.state ≡ Some message → overflows world.up (spelling message)
       ≡ false)
@@ -440,36 +448,20 @@ module _ (falls : (board : BoardState) (message : Content) → length board.told
       let weighed = mul-le-mul_left (world.up.capacity + 1) less in
       rw same (omega (arith, few, size, weighed))
 
-module _ (short : WordsAreShort) (within : NoWordBeginsAnother)
-    (rises : (board : BoardState) (events : List EventContent) → backlog
-    (effects board events) ≤ backlog board + length events) where
+module _ (short : WordsAreShort) (within : NoWordBeginsAPart) (rises : BacklogRises) where
   take_steps : (world after : WorldView) (count : ℕ) → IsPartial world.board.partial
       → Becomes (ActContent.ToBoard count) world after → steps_left after < steps_left world
   take_steps world after count partial delivers =
-      let taken = delivers.taken in
-      let few = few_taken short within world.board.partial
-      (take delivers.moved world.down.bytes) delivers.board.partial taken.events partial taken.divided in
-      let size : length (take delivers.moved world.down.bytes) ≡ delivers.moved
-      = length-take-le delivers.moved world.down.bytes delivers.within.1 in
-      let more = rises world.board.state taken.events in
-      let left : length (drop delivers.moved world.down.bytes) + delivers.moved ≡ length world.down.bytes
-      = rw (length-drop delivers.moved world.down.bytes) (omega (arith, delivers.within.1)) in
+      let weighed = mul-le-mul_left (world.up.capacity + 1)
+      (take_raises short within rises world after count partial delivers) in
+      let bytes = ap (λ (n : ℕ). (world.up.capacity + 2) * n) (take_leaves world after count delivers) in
       let some = delivers.some in
-      let state : backlog delivers.board.state ≡ backlog (effects world.board.state taken.events)
-      = ap backlog taken.state in
-      let raised : backlog delivers.board.state ≤ backlog world.board.state + delivers.moved
-      = omega (arith, few, size, more, state) in
-      let weighed = mul-le-mul_left (world.up.capacity + 1) raised in
-      let bytes = ap (λ (n : ℕ). (world.up.capacity + 2) * n) left in
       rw delivers.leaves (omega (arith, some, weighed, bytes))
 
 module _ (keeps : (act : ActContent) (world after : WorldView) (answer : Outcome) → IsWorld world
     → Step act world answer after → IsWorld after)
-    (falls : (board : BoardState) (message : Content) → length board.told_squares ≡ 64 → next_message board
-    ≡ Some message → backlog (after_sending board message) < backlog board)
-    (short : WordsAreShort) (within : NoWordBeginsAnother)
-    (rises : (board : BoardState) (events : List EventContent) → backlog
-    (effects board events) ≤ backlog board + length events) where
+    (falls : BacklogFalls)
+    (short : WordsAreShort) (within : NoWordBeginsAPart) (rises : BacklogRises) where
   -- an act that is done is one that can be
   some_heard : (none : Bool) → Outcome.Done ≡ cond none Outcome.Nothing Outcome.Done → none ≡ false
   some_heard true h = cc

@@ -1,6 +1,6 @@
 -- From each sound state takes, sendings and hears lead to a quiet one.
-use Rattle.std.proofs.Common.{arith, ◌≡◌, ◌≢◌, refl, ap, ◌∙◌, ◌⊎◌, inl, inr, ℕ, ◌+◌, ◌<◌, ◌≤◌, zero, suc, List, [], ◌∷◌}
-use Rattle.std.proofs.Common.{Some, None, Bool, true, false, cond, Option, length}
+use Rattle.std.proofs.Common.{arith, ◌≡◌, ◌≢◌, refl, ap, ◌∙◌, ◌⊎◌, inl, inr, ℕ, ◌<◌, ◌≤◌, zero, suc, List, [], ◌∷◌}
+use Rattle.std.proofs.Common.{Some, None, Bool, true, false, cond, Option}
 use Rattle.std.proofs.lemmas.List.{length-append}
 use Rattle.std.specs.Prelude.{◌&&◌}
 use Rattle.std.specs.List.{AllByRecursion}
@@ -9,12 +9,13 @@ use Rattle.dgt_message.specs.Content.{clock_message, Content}
 use Rattle.dgt_command.specs.Content.{EventContent}
 use Rattle.dgt_board.specs.declared.modes.Mode.{Mode}
 use Rattle.dgt_board.specs.declared.replies.Reply.{Reply}
-use Rattle.dgt_board.specs.Sending.{backlog, after_sending, differs, field_of, next_message, pending_messages}
-use Rattle.dgt_board.specs.State.{effects, BoardState, updates}
+use Rattle.dgt_board.specs.Sending.{differs, field_of, next_message, pending_messages}
+use Rattle.dgt_board.specs.State.{updates}
 use Rattle.dgt_link.specs.Machine.{MachineState, after_hear, after_move, after_moves, after_reply, after_take, after_told, IsSending, Move}
 use Rattle.dgt_link.specs.Promise.{IsPromised, IsQuiet, PictureIsComing, coming_mode, mode_after, requests}
 use Rattle.dgt_link.specs.Settling.{IsSettlingMove, SettlesBy, moves_left}
 use Rattle.dgt_link.specs.Sound.{IsSound}
+use Rattle.dgt_link.proofs.Backlogs.{BacklogFalls, BacklogRises}
 use Rattle.dgt_link.proofs.Promises.{move-mode, picture_keeps_coming}
 use Rattle.dgt_link.proofs.Quiet.{promised_picture}
 use Rattle.dgt_link.proofs.Resting.{nothing_first}
@@ -45,10 +46,7 @@ hears_nearer : (x : MachineState) (message : Content) (later : List Content) →
     → NearerBy x Move.Hear
 hears_nearer x message later e = (tt, rw e (omega arith))
 
-module _ (falls : (board : BoardState) (message : Content) → length board.told_squares ≡ 64 → next_message board
-    ≡ Some message → backlog (after_sending board message) < backlog board)
-    (rises : (board : BoardState) (events : List EventContent) → backlog
-    (effects board events) ≤ backlog board + length events) where
+module _ (falls : BacklogFalls) (rises : BacklogRises) where
   sends_nearer : (x : MachineState) (message : Content) → IsSound x → next_message x.board ≡ Some message
       → (move : Move) × NearerBy x move
   sends_nearer x message sound e =

@@ -11,21 +11,23 @@ use Rattle.dgt_message.specs.Content.{Content, IsMessage}
 use Rattle.dgt_message.specs.Clock.{ClockState}
 use Rattle.dgt_message.specs.Spelling.{Spells, spelling}
 use Rattle.dgt_command.specs.Content.{CommandContent, EventContent, kind_of_command}
-use Rattle.dgt_command.specs.Spelling.{command_spelling as command_spelling}
-use Rattle.dgt_command.specs.Laws.{DivisionsAppend, NoWordBeginsAnother, ZerosSettleTheReader}
+use Rattle.dgt_command.specs.Spelling.{command_spelling}
+use Rattle.dgt_command.specs.Laws.{DivisionsAppend, FrontsDivideFirst, ZerosSettleTheReader}
+use Rattle.dgt_command.specs.Words.{Divides, IsPartial}
 use Rattle.dgt_board.specs.State.{IdentityContent, BoardState, after_change, after_hand_clock, after_line_lost, effect, effects}
 use Rattle.dgt_board.specs.Sending.{after_sending, next_message}
 use Rattle.dgt_board.specs.View.{BoardView}
 use Rattle.dgt_host.specs.Host.{HostView, host_after_message, follow_bytes}
 use Rattle.dgt_link.specs.Act.{ActContent}
 use Rattle.dgt_link.specs.declared.acts.Outcome.{Outcome}
+use Rattle.dgt_link.specs.declared.world.TheConstants.{MIN_DOWN, MIN_UP}
 use Rattle.dgt_link.specs.Machine.{Move, MachineState, commands_anew, after_hear, after_move, after_moves, after_take, new_state}
 use Rattle.dgt_link.specs.Sound.{IsSound}
 use Rattle.dgt_link.specs.Stands.{AreSpelled, IsExactWorld, IsWorld, StandsFor, StandsAfterRun, StandsAfterStep}
 use Rattle.dgt_link.specs.Step.{Becomes, Runs, Step, with_state}
 use Rattle.dgt_link.specs.View.{WorldView, new_world}
 use Rattle.dgt_link.proofs.Asking.{break_moves, run_is_other, step_is_other}
-use Rattle.dgt_link.proofs.Dividing.{anew_divides, divides_command, divides_end, divides_front, nothing_is_partial}
+use Rattle.dgt_link.proofs.Dividing.{anew_divides, divides_command}
 use Rattle.dgt_link.proofs.Lists.{all_append}
 use Rattle.dgt_link.proofs.Hearing.{Reads, heard_front, host_after_messages}
 use Rattle.dgt_link.proofs.Runs.{moves_exact, moves_sound}
@@ -36,8 +38,10 @@ use Rattle.dgt_link.proofs.Soundness.{break_exact, move_sound, new_exact, new_so
 pub record Grammars : Type 0 where
   pub reads : Reads
   pub divisions_append : DivisionsAppend
-  pub no_word_begins_another : NoWordBeginsAnother
+  pub fronts_divide_first : FrontsDivideFirst
   pub zeros_settle : ZerosSettleTheReader
+  pub nothing : IsPartial []
+  pub left : (bytes rest : List ℕ) (events : List EventContent) → Divides bytes events rest → IsPartial rest
 
 pub moves-append : (x : MachineState) (moves more : List Move)
     → after_moves x (moves ++ more) ≡ after_moves (after_moves x moves) more
@@ -90,9 +94,9 @@ front_of held bytes count =
 
 -- ---- a world just made
 
-pub new_stands : (position : List Piece) (clock : ClockState) (identity : IdentityContent) (up down : ℕ)
+pub new_stands : IsPartial [] → (position : List Piece) (clock : ClockState) (identity : IdentityContent) (up down : ℕ)
     → length position ≡ 64 → StandsFor (new_world position clock identity up down) (new_state position clock identity)
-new_stands position clock identity up down squares =
+new_stands nothing position clock identity up down squares =
     record {
       sound = new_sound position clock identity squares;
       board = refl;
@@ -100,26 +104,28 @@ new_stands position clock identity up down squares =
       clock = refl;
       awaited = refl;
       up = record { are_messages = tt; in_a_row = refl };
-      down = (refl, nothing_is_partial);
-      partial = nothing_is_partial;
+      down = (refl, nothing);
+      partial = nothing;
     }
 
-pub new_is_world : (position : List Piece) (clock : ClockState) (identity : IdentityContent) (up down : ℕ)
-    → length position ≡ 64 → 67 ≤ up → 257 ≤ down → IsWorld (new_world position clock identity up down)
-new_is_world position clock identity up down squares up_room down_room =
+pub new_is_world : IsPartial []
+    → (position : List Piece) (clock : ClockState) (identity : IdentityContent) (up down : ℕ)
+    → length position ≡ 64 → MIN_UP ≤ up → MIN_DOWN ≤ down → IsWorld (new_world position clock identity up down)
+new_is_world nothing position clock identity up down squares up_room down_room =
     record {
       state = new_state position clock identity;
-      stands = new_stands position clock identity up down squares;
+      stands = new_stands nothing position clock identity up down squares;
       up_room = up_room;
       down_room = down_room;
     }
 
-pub new_is_exact : (position : List Piece) (clock : ClockState) (identity : IdentityContent) (up down : ℕ)
+pub new_is_exact : IsPartial []
+    → (position : List Piece) (clock : ClockState) (identity : IdentityContent) (up down : ℕ)
     → length position ≡ 64 → IsExactWorld (new_world position clock identity up down)
-new_is_exact position clock identity up down squares =
+new_is_exact nothing position clock identity up down squares =
     record {
       state = new_state position clock identity;
-      stands = new_stands position clock identity up down squares;
+      stands = new_stands nothing position clock identity up down squares;
       exact = new_exact position clock identity squares;
     }
 
@@ -192,7 +198,7 @@ module _ (laws : Grammars) where
           awaited = ap (λ (awaited : List Kind). awaited ++ option_to_list (kind_of_command command)) stands.awaited;
           up = stands.up;
           down = rw (append_assoc world.board.partial world.down.bytes (command_spelling command)) at
-              (divides_command laws.divisions_append
+              (divides_command laws.nothing laws.divisions_append
               (world.board.partial ++ world.down.bytes) x.down command stands.down spells);
           partial = stands.partial;
         }),
@@ -223,7 +229,7 @@ module _ (laws : Grammars) where
   take_reaches world count after x stands delivers =
       let taken = delivers.taken in
       let board : BoardView = delivers.board in
-      let front = divides_front laws.no_word_begins_another
+      let front = laws.fronts_divide_first
       (world.board.partial ++ take delivers.moved world.down.bytes)
       (drop delivers.moved world.down.bytes) taken.events x.down board.partial [] taken.divided
       (rw (front_of world.board.partial world.down.bytes delivers.moved) at stands.down) in
@@ -241,7 +247,7 @@ module _ (laws : Grammars) where
               up = stands.up;
               down = front.2;
               partial =
-                  divides_end (world.board.partial ++ take delivers.moved world.down.bytes) taken.events board.partial
+                  laws.left (world.board.partial ++ take delivers.moved world.down.bytes) board.partial taken.events
                   taken.divided;
             }),
       )
@@ -284,8 +290,8 @@ module _ (laws : Grammars) where
           clock = refl;
           awaited = refl;
           up = record { are_messages = tt; in_a_row = refl };
-          down = (refl, nothing_is_partial);
-          partial = nothing_is_partial;
+          down = (refl, laws.nothing);
+          partial = laws.nothing;
         }),
   )
 
@@ -305,7 +311,7 @@ module _ (laws : Grammars) where
               up = record { are_messages = tt; in_a_row = refl };
               down = rw (append_assoc world.board.partial (replicate 255 0) follow_bytes) at
                   (laws.divisions_append (world.board.partial ++ replicate 255 0) follow_bytes noise.0
-                  (map EventContent.Read commands_anew) [] [] noise.2 anew_divides);
+                  (map EventContent.Read commands_anew) [] [] noise.2 (anew_divides laws.nothing));
               partial = stands.partial;
             }),
       )

@@ -6,6 +6,7 @@ use Rattle.dgt_message.specs.Spelling.{spelling}
 use Rattle.dgt_command.specs.Content.{EventContent}
 use Rattle.dgt_command.specs.Words.{Divides, IsNoiseList, IsPartial}
 use Rattle.dgt_link.specs.declared.acts.Outcome.{Outcome}
+use Rattle.dgt_link.specs.declared.world.TheConstants.{MIN_DOWN, MIN_UP}
 use Rattle.dgt_link.specs.Act.{ActContent}
 use Rattle.dgt_link.specs.Machine.{IsSending, MachineState, Move, after_moves}
 use Rattle.dgt_link.specs.Sound.{IsExact, IsSound}
@@ -42,8 +43,8 @@ pub record IsExactWorld (world : WorldView) : Type 0 where
 pub record IsWorld (world : WorldView) : Type 0 where
   pub state : MachineState
   pub stands : StandsFor world state
-  pub up_room : 67 ≤ world.up.capacity
-  pub down_room : 257 ≤ world.down.capacity
+  pub up_room : MIN_UP ≤ world.up.capacity
+  pub down_room : MIN_DOWN ≤ world.down.capacity
 
 -- ---- the moves of acts
 

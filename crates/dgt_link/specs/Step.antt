@@ -5,7 +5,8 @@ use Rattle.dgt_values.specs.declared.kinds.Kind.{Kind}
 use Rattle.dgt_message.specs.Content.{Content}
 use Rattle.dgt_message.specs.Spelling.{Spells, spelling}
 use Rattle.dgt_command.specs.Content.{kind_of_command}
-use Rattle.dgt_command.specs.Spelling.{SpellsCommand as SpellsCommand, command_spelling as command_spelling}
+use Rattle.dgt_command.specs.Spelling.{SpellsCommand, command_spelling}
+use Rattle.dgt_board.specs.declared.state.TheConstants.{MAX_OWED}
 use Rattle.dgt_board.specs.State.{BoardState, after_change, after_hand_clock}
 use Rattle.dgt_board.specs.Sending.{after_sending, next_message}
 use Rattle.dgt_board.specs.View.{BoardView, HasTaken, view_after_line_lost}
@@ -18,7 +19,7 @@ use Rattle.dgt_link.specs.View.{LineContents, WorldView, line_holding, overflows
 
 -- the board owes as many replies as it can
 abbrev pub is_full : BoardState → Bool
-is_full board = nat_le 8 (length board.owed)
+is_full board = nat_le MAX_OWED (length board.owed)
 
 -- no byte is asked for, or the line has none
 abbrev pub moves_nothing : ℕ → LineContents → Bool

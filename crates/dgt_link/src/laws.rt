@@ -186,8 +186,10 @@ pub fn acts_are_moves()
     dgt_decode::laws::open_append();
     dgt_decode::laws::quiet_held();
     dgt_decode::laws::spelling_is_read();
+    dgt_host::laws::places_do_not_matter();
     dgt_command::laws::divisions_append();
-    dgt_command::laws::no_word_begins_another();
+    dgt_command::laws::fronts_divide_first();
+    dgt_command::laws::parts_of_words();
     dgt_command::laws::zeros_settle_the_reader();
 }
 
@@ -320,5 +322,5 @@ pub fn settling_ends()
     acts_keep();
     dgt_board::laws::bounded_backlog();
     dgt_command::laws::words_are_short();
-    dgt_command::laws::no_word_begins_another();
+    dgt_command::laws::parts_of_words();
 }

@@ -12,15 +12,9 @@ ghost use Rattle.dgt_link.specs.View.{WorldView, line_holding, without_first};
 
 use crate::acts::Outcome;
 use crate::line::Line;
-use dgt_board::{Board, MAX_OWED, Polled};
+use dgt_board::{Board, MAX_OWED, MAX_SENT, Polled};
 use dgt_command::{Command, MAX_WORD};
-use dgt_host::{Host, SendFault};
-
-/// What a host sends to begin anew: 255 zeros and two commands.
-const RESTART_LENGTH: usize = 257;
-
-/// The most bytes of a message that a board sends: a dump.
-pub const MAX_SENT: usize = 67;
+use dgt_host::{Host, RESTART_LENGTH, SendFault};
 
 /// The host sends a command into the line.
 pub fn ask(host: &mut Host, line: &mut Line, command: &Command<'_>) -> Outcome
@@ -42,7 +36,7 @@ pub fn ask(host: &mut Host, line: &mut Line, command: &Command<'_>) -> Outcome
 
 /// Both lines lose their bytes, and the host alone sees it: it is as new, and begins anew.
 pub fn restart(host: &mut Host, up: &mut Line, down: &mut Line)
-    requires { 257 ≤ down.old.capacity }
+    requires { RESTART_LENGTH ≤ down.old.capacity }
     ensures host { host.new ≡ host_awaiting new_host (Some Kind.Dump) }
     ensures up { up.new ≡ line_holding [] up.old.capacity }
     ensures down { down.new ≡ line_holding restart_bytes down.old.capacity }

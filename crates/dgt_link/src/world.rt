@@ -24,8 +24,9 @@ use crate::acts::{Act, Outcome};
 use crate::laws;
 use crate::line::{Line, LineMemory};
 use crate::moving::{ask, restart, send_next, to_board, to_host};
-use dgt_board::{Board, Identity};
-use dgt_host::Host;
+use dgt_board::{Board, Identity, MAX_SENT};
+use dgt_command::MAX_WORD;
+use dgt_host::{Host, RESTART_LENGTH};
 use dgt_message::Clock;
 use dgt_values::Position;
 use std::alloc::{AllocError, Global};
@@ -33,10 +34,10 @@ use std::marker::Model;
 use thiserror::Error;
 
 /// The least capacity of the line from the board to the host: one dump.
-pub const MIN_UP: usize = 67;
+pub const MIN_UP: usize = MAX_SENT;
 
 /// The least capacity of the line from the host to the board: one longest command.
-pub const MIN_DOWN: usize = 257;
+pub const MIN_DOWN: usize = MAX_WORD;
 
 /// Why a world was not made.
 #[derive(Clone, Copy, Debug, PartialEq, Eq, Error)]
@@ -137,6 +138,7 @@ impl World {
             world ≡ new_world (pieces_of position) (clock_seen clock) identity up down)) }
         ensures exact { IfOk result (λ made. IfOk made (λ world. IsExactWorld world)) }
     {
+        dgt_command::laws::parts_of_words();
         if up < MIN_UP || down < MIN_DOWN {
             return Err(memory);
         }
@@ -210,7 +212,7 @@ impl World {
         ensures ended { act_content act.entry ≡ ActContent.Break → (y : MachineState) →
             StandsFor self.new y → ¬ (PictureIsComing y) }
         ensures host_break { act_content act.entry ≡ ActContent.HostBreak → (result ≡ Outcome.Done)
-            × (length self.new.down.bytes ≡ 257) × (self.new.board ≡ self.old.board) }
+            × (length self.new.down.bytes ≡ RESTART_LENGTH) × (self.new.board ≡ self.old.board) }
         ensures restarted { act_content act.entry ≡ ActContent.HostBreak → (y : MachineState) →
             StandsFor self.new y → IsRestarted y × IsPromised y }
         ensures mode { (x y : MachineState) → StandsFor self.old x → StandsFor self.new y →
@@ -306,12 +308,13 @@ impl World {
         dgt_board::laws::bounded_backlog();
         dgt_board::laws::nothing_to_send();
         dgt_command::laws::words_are_short();
-        dgt_command::laws::no_word_begins_another();
+        dgt_command::laws::parts_of_words();
         dgt_command::laws::one_division();
         dgt_decode::laws::events_append();
         dgt_decode::laws::open_append();
         dgt_decode::laws::quiet_held();
         dgt_decode::laws::spelling_is_read();
+        dgt_host::laws::places_do_not_matter();
         self.host.unread();
         if !self.up.is_empty() {
             self.hear_all();

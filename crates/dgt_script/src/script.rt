@@ -12,6 +12,7 @@ use crate::script_lines::MAX_LINE;
 use crate::script_words::{
     Verb, clock_word, command_word, count_word, piece_word, square_word, verb_word,
 };
+use dgt_command::MAX_WORD;
 use dgt_link::Act;
 use thiserror::Error;
 
@@ -49,7 +50,7 @@ struct Wrong {
 ///
 /// Hexadecimal digits may be of either case. Any other line, and one of more than 519 bytes, is
 /// `BadLine`.
-pub fn read_act<'a>(line: &[u8], store: &'a mut [u8; 257]) -> Result<Act<'a>, LineFault>
+pub fn read_act<'a>(line: &[u8], store: &'a mut [u8; MAX_WORD]) -> Result<Act<'a>, LineFault>
     ensures asked { IfOk result (λ act. AsksFor line.now (act_content act)) }
     ensures bad { IfErr result (λ fault. IsBadAt line.now (bad_offset fault)) }
 {
@@ -65,7 +66,7 @@ pub fn read_act<'a>(line: &[u8], store: &'a mut [u8; 257]) -> Result<Act<'a>, Li
 }
 
 // The act that all words of a line ask for.
-fn read_words<'a>(line: &[u8], store: &'a mut [u8; 257]) -> Result<Act<'a>, Wrong>
+fn read_words<'a>(line: &[u8], store: &'a mut [u8; MAX_WORD]) -> Result<Act<'a>, Wrong>
     ensures { ReadsLine (words line.now) result }
 {
     let (first, rest) = cut_word(line);
@@ -120,7 +121,7 @@ fn clock_line(rest: Option<&[u8]>) -> Result<Act<'static>, Wrong>
     Ok(Act::ClockRead(clock))
 }
 
-fn host_line<'a>(rest: Option<&[u8]>, store: &'a mut [u8; 257]) -> Result<Act<'a>, Wrong>
+fn host_line<'a>(rest: Option<&[u8]>, store: &'a mut [u8; MAX_WORD]) -> Result<Act<'a>, Wrong>
     ensures { Reads verb.Host (left_words rest.entry) result }
 {
     let (word, last) = next_word(rest)?;

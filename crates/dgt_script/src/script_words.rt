@@ -9,7 +9,7 @@ ghost use Rattle.dgt_command.specs.Content.{command_content, CommandContent};
 ghost use Rattle.dgt_script.specs.ScriptWords.{verb_text, IsClockWord, IsCommandWord, IsCountWord, IsPieceWord, IsSquareWord, Tells};
 ghost use Rattle.dgt_script.specs.declared.script_words.Verb.{Verb};
 
-use dgt_command::{Command, view_command};
+use dgt_command::{Command, MAX_WORD, view_command};
 use dgt_message::{Clock, KnownCode, Message, view};
 use dgt_values::{Body, Piece, SevenBit, Square};
 use hex::FromHex;
@@ -76,7 +76,7 @@ pub(crate) fn clock_word(word: &[u8]) -> Option<Clock>
 {
     dgt_message::laws::reading_is_exact();
     let bytes = <[u8; 7] as FromHex>::from_hex(word).ok()?;
-    let code = SevenBit::try_from(KnownCode::Clock.number()).unwrap();
+    let code = SevenBit::from_small(KnownCode::Clock.number());
     clock_of(view(code, Body::new(&bytes).ok()?).ok()?)
 }
 
@@ -96,7 +96,7 @@ fn clock_of(message: Message<'_>) -> Option<Clock>
 /// The command whose bytes are these hexadecimal digits of either case, two for each byte. The
 /// bytes are put at the front of `store`, which has room for those of any command, and the command
 /// lends what it carries from there.
-pub(crate) fn command_word<'a>(word: &[u8], store: &'a mut [u8; 257]) -> Option<Command<'a>>
+pub(crate) fn command_word<'a>(word: &[u8], store: &'a mut [u8; MAX_WORD]) -> Option<Command<'a>>
     ensures { MatchOption result
         ((command : CommandContent) → ¬ (IsCommandWord word.now command))
         (λ command. IsCommandWord word.now (command_content command)) }

@@ -4,48 +4,13 @@ use Rattle.std.proofs.Math.ListN.{length-set}
 use Rattle.dgt_message.specs.Content.{Content}
 use Rattle.dgt_message.specs.Spelling.{spelling}
 use Rattle.dgt_command.specs.Content.{CommandContent, EventContent}
-use Rattle.dgt_command.specs.Laws.{DivisionsAppend, EachDividesOnce}
+use Rattle.dgt_command.specs.Laws.{DivisionsAppend, EachDividesOnce, FrontsDivideFirst}
 use Rattle.dgt_command.specs.Spelling.{AreBytes}
 use Rattle.dgt_command.specs.Words.{IsWord, IsPartial, Divides}
 use Rattle.dgt_board.specs.State.{BoardState, effect}
 use Rattle.dgt_board.specs.Sending.{after_sending, left_to_send, next_message, piece_on, told_squares_after}
 use Rattle.dgt_board.specs.View.{BoardView, after_bytes}
 use Rattle.dgt_text.specs.Conversation.{Exchange, told, heard, Converses, events_heard, bytes_told, Hears, HearsFront, EachIsAnswered, EachIsAnsweredOnce, EachFrontGoesOn}
-
--- ---- bytes, and parts of words
-
-bytes_append : (xs ys : List ℕ) → AreBytes xs → AreBytes ys → AreBytes (xs ++ ys)
-bytes_append [] ys h k i = k i
-bytes_append (x ∷ xs) ys h k zero = h 0
-bytes_append (x ∷ xs) ys h k (suc i) = bytes_append xs ys (λ j. h (suc j)) k i
-
-bytes_left : (xs ys : List ℕ) → AreBytes (xs ++ ys) → AreBytes xs
-bytes_left [] ys h i = omega arith
-bytes_left (x ∷ xs) ys h zero = h 0
-bytes_left (x ∷ xs) ys h (suc i) = bytes_left xs ys (λ j. h (suc j)) i
-
-bytes_right : (xs ys : List ℕ) → AreBytes (xs ++ ys) → AreBytes ys
-bytes_right [] ys h i = h i
-bytes_right (x ∷ xs) ys h i = bytes_right xs ys (λ j. h (suc j)) i
-
-partial_bytes : (rest : List ℕ) → IsPartial rest → AreBytes rest
-partial_bytes rest h = bytes_left rest (h.next ∷ h.more) h.word.are_bytes
-
-nothing_is_partial : IsPartial []
-nothing_is_partial = record {
-  event = EventContent.Read CommandContent.Dump;
-  next = 0x42;
-  more = [];
-  word = record { form = refl; are_bytes = search rules };
-}
-
--- what divides is bytes, and leaves a part of a word
-divided_bytes : (bytes : List ℕ) (events : List EventContent) (rest : List ℕ) → Divides bytes events rest
-    → AreBytes bytes × IsPartial rest
-divided_bytes bytes [] rest h = (subst AreBytes (sym h.0) (partial_bytes rest h.1), h.1)
-divided_bytes bytes (event ∷ events) rest h =
-    let later = divided_bytes h.1 events rest h.4 in
-    (subst AreBytes (sym h.3) (bytes_append h.0 h.1 h.2.are_bytes later.0), later.1)
 
 -- ---- steps in a row
 
@@ -118,13 +83,13 @@ hears_nothing old new steps p none is partial =
     record { conversation = p; heard = rw none (append-nil old.partial ∙ sym is, partial) }
 
 -- bytes that end a word
-pub hears_word : (old new : BoardView) (bytes : List ℕ) (event : EventContent) → next_message old.state ≡ None
-    → IsWord event (old.partial ++ bytes) → new ≡ after_bytes old bytes (Some event)
+pub hears_word : IsPartial [] → (old new : BoardView) (bytes : List ℕ) (event : EventContent)
+    → next_message old.state ≡ None → IsWord event (old.partial ++ bytes) → new ≡ after_bytes old bytes (Some event)
     → Hears old bytes (heard event ∷ []) new
-hears_word old new bytes event none word is =
+hears_word nothing old new bytes event none word is =
     rw is (record {
       conversation = (none, refl);
-      heard = (old.partial ++ bytes, [], word, sym (append-nil (old.partial ++ bytes)), (refl, nothing_is_partial));
+      heard = (old.partial ++ bytes, [], word, sym (append-nil (old.partial ++ bytes)), (refl, nothing));
     })
 
 -- bytes that end none
@@ -213,10 +178,10 @@ goes_on lowers board (event ∷ events) whole =
           ∙ ap (λ (l : List EventContent). event ∷ l) more.heard;
     }
 
-pub each_is_answered : EachDividesOnce → Lowers → EachIsAnswered
-each_is_answered divisions lowers before bytes board are =
-    let partial = partial_bytes before.partial board.partial in
-    let found = divisions.0 (before.partial ++ bytes) (bytes_append before.partial bytes partial are) in
+pub each_is_answered : EachDividesOnce
+    → ((rest more : List ℕ) → IsPartial rest → AreBytes more → AreBytes (rest ++ more)) → Lowers → EachIsAnswered
+each_is_answered divisions are_all_bytes lowers before bytes board are =
+    let found = divisions.0 (before.partial ++ bytes) (are_all_bytes before.partial bytes board.partial are) in
     let talk = goes_on lowers before.state found.0
     (record { squares = board.squares; told_squares = board.told_squares }) in (
       talk.steps,
@@ -268,22 +233,11 @@ follows board between after (heard event ∷ steps) (heard later ∷ others) eve
     (follows (effect board event) between after steps others events p.1
     (subst (λ (e : EventContent). Converses (effect board e) others after) same q.1) settled left)
 
--- the events of a front of bytes are the first of theirs
-divides_more : EachDividesOnce → DivisionsAppend → (s t : List ℕ) (events others : List EventContent)
-    (rest remainder : List ℕ)
-    → Divides s events rest → Divides (s ++ t) others remainder → (more : List EventContent) × (others ≡ events ++ more)
-divides_more divisions append s t events others rest remainder p q =
-    let partial = (divided_bytes s events rest p).1 in
-    let bytes = bytes_right s t (divided_bytes (s ++ t) others remainder q).0 in
-    let found = divisions.0 (rest ++ t) (bytes_append rest t (partial_bytes rest partial) bytes) in
-    let whole = append s t events found.0 rest found.1 p found.2 in
-    (found.0, (divisions.1 (s ++ t) others (events ++ found.0) remainder found.1 q whole).0)
-
-pub each_front_goes_on : EachDividesOnce → DivisionsAppend → EachFrontGoesOn
-each_front_goes_on divisions append before between after bytes steps others front answers =
+pub each_front_goes_on : FrontsDivideFirst → EachFrontGoesOn
+each_front_goes_on fronts before between after bytes steps others front answers =
     let whole : before.partial ++ bytes ≡ (before.partial ++ front.front) ++ front.rest
     = ap (λ (l : List ℕ). before.partial ++ l) front.whole ∙ sym (append_assoc before.partial front.front front.rest) in
-    let more = divides_more divisions append (before.partial ++ front.front) front.rest (events_heard steps)
+    let more = fronts (before.partial ++ front.front) front.rest (events_heard steps)
     (events_heard others) between.partial after.partial front.hears.heard
     (subst (λ (l : List ℕ). Divides l (events_heard others) after.partial) whole answers.hears.heard) in
     follows before.state between.state after.state steps others more.0 front.hears.conversation

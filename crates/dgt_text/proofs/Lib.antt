@@ -1,6 +1,8 @@
 pub mod RunLemmas
 pub mod Heard
+pub mod Pictured
 pub mod TurnLemmas
+pub mod Listed
 pub mod ConversationLemmas
 pub mod ServingLemmas
 pub mod PlayLemmas

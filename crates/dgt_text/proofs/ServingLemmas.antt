@@ -58,14 +58,14 @@ has_sent before after count old out = go (next_message before.state) refl
         }
 
 -- bytes that ended a word
-pub hears_some : {E : Type 0} (content : E → EventContent) (before after : BoardView) (bytes : List ℕ)
+pub hears_some : {E : Type 0} → IsPartial [] → (content : E → EventContent) (before after : BoardView) (bytes : List ℕ)
     (event : Option E) → next_message before.state ≡ None → true ≡ is_some event
     → IfSome event (λ e. IsWord (content e) (before.partial ++ bytes))
     → after ≡ after_bytes before bytes (option_map content event) → (found : EventContent)
     × Hears before bytes (heard found ∷ []) after
-hears_some content before after bytes None settled some word is = absurd (cc)
-hears_some content before after bytes (Some e) settled some word is =
-    (content e, hears_word before after bytes (content e) settled word is)
+hears_some nothing content before after bytes None settled some word is = absurd (cc)
+hears_some nothing content before after bytes (Some e) settled some word is =
+    (content e, hears_word nothing before after bytes (content e) settled word is)
 
 -- bytes that ended none, and so are all of the piece
 pub hears_none : {E : Type 0} (content : E → EventContent) (before after : BoardView) (piece : List ℕ) (used : ℕ)

@@ -15,8 +15,7 @@ pub data Exchange : Type 0 where
   heard : (event : EventContent) → Exchange
 
 -- Steps that lead from one board to another. A message that is told is the next one, and an event
--- is heard only where
--- nothing is left to tell.
+-- is heard only where nothing is left to tell.
 abbrev pub Converses : BoardState → List Exchange → BoardState → Type 0
 Converses before [] after = before ≡ after
 Converses before (told message ∷ steps) after =

@@ -7,6 +7,7 @@ ghost use Rattle.dgt_text.specs.Conversation.{EachFrontGoesOn, EachIsAnswered, E
 ghost use Rattle.dgt_script.specs.ScriptLines.{IsCut};
 ghost use Rattle.dgt_text.specs.Simulating.{Plays};
 
+pub use dgt_lines::laws::last_line_is_picture;
 pub use dgt_script::laws::{closing_lines_agree, lines_have_one_meaning};
 
 /// One conversation: a board and the bytes that it hears have one, and only one, and whatever the
@@ -17,7 +18,8 @@ pub fn one_conversation()
     ensures goes_on { EachFrontGoesOn }
 {
     dgt_command::laws::one_division();
-    dgt_command::laws::divisions_append();
+    dgt_command::laws::fronts_divide_first();
+    dgt_command::laws::parts_of_words();
     dgt_board::laws::bounded_sending();
 }
 

@@ -1,27 +1,34 @@
 //! The engines that read what comes for a DGT board or from one, and write what is made of it.
 //!
 //! [`monitor`] reads what a board sends and writes a line for each event, as soon as its bytes
-//! came. [`serve`] reads commands and writes what a board answers. [`simulate`] plays a script in a
-//! world of a board, a host and the lines between them, and writes what came of each act.
+//! came, and [`commands`] does the same for what a host sends. [`picture`] reads what a board sends
+//! too, and writes a line with the pieces of the board for each message that sets them. [`serve`]
+//! reads commands and writes what a board answers. [`simulate`] plays a script in a world of a
+//! board, a host and the lines between them, and writes what came of each act.
 //!
 //! An engine reads from a [`Source`] and writes to a [`Sink`], as [`Bytes`] and [`Device`] are;
 //! these and the lines of events are those of [`dgt_lines`]. The lines of scripts are those of
 //! [`dgt_script`]. What engines are called with stands here too. Contracts say what is written of
 //! what was read, also where a call was refused. No call takes memory.
 //!
-//! [`laws`] says what holds of conversations and scripts.
+//! [`laws`] says what holds of conversations, scripts and pictures.
 #![tactic(auto)]
 
+mod commanding;
 pub mod laws;
 mod monitoring;
+mod picturing;
 mod serving;
 mod simulating;
 #[cfg(test)]
 mod tests;
 
+pub use commanding::commands;
+pub use dgt_command_lines::write_command;
 pub use dgt_lines::{Bytes, Device, Failed, RunFault, Sink, Source, write_event};
 pub use dgt_script::{LineFault, read_act};
 pub use monitoring::monitor;
+pub use picturing::picture;
 pub use serving::serve;
 pub use simulating::simulate;
 

@@ -5,12 +5,9 @@ ghost use Rattle.dgt_text.specs.Turns.{change, InTurns, Ran, RunsInTurns};
 ghost use Rattle.dgt_text.specs.Serving.{IsServed, Serves};
 
 use crate::MAX_PIECE;
-use dgt_board::{Board, Polled, Taken};
+use dgt_board::{Board, MAX_SENT, Polled, Taken};
 use dgt_command::laws;
 use dgt_lines::{RunFault, Sink, Source, flush, put};
-
-// The most bytes of a message that a board sends: a dump.
-const MAX_SENT: usize = 67;
 
 // The board sends until it owes nothing. Each message is written before the next is asked for, so
 // the board is at most one message ahead of the sink.
@@ -33,6 +30,7 @@ fn answer<W: Sink>(board: &mut Board, piece: &[u8], writer: &mut W) -> Result<()
     ensures flushed { OnOk result (IsTrue (W.flushed writer.new)) }
 {
     laws::divisions_append();
+    laws::parts_of_words();
     send_all(board, writer)?;
     let mut at = 0;
     while at < piece.len() {

@@ -10,6 +10,7 @@ ghost use Rattle.dgt_script.specs.ScriptLines.{HasNoFeed, KeepsLine};
 ghost use Rattle.dgt_text.specs.Simulating.{BeginsWith, IsOfLine, IsSimulated, IsSimulatedFrom, Plays, PlaysOn, Stops, TellsPicture, Took, part};
 
 use crate::{MAX_PIECE, laws};
+use dgt_command::MAX_WORD;
 use dgt_lines::{RunFault, Sink, Source, flush, put};
 use dgt_link::World;
 use dgt_script::{
@@ -52,7 +53,7 @@ fn play_line<W: Sink>(
     let Some(bytes) = line.line() else {
         return refuse(writer, number, MAX_LINE);
     };
-    let mut store = [0; 257];
+    let mut store = [0; MAX_WORD];
     match read_act(bytes, &mut store) {
         Ok(act) => put(writer, outcome_text(world.step(act))),
         Err(LineFault::BadLine { at }) => refuse(writer, number, at),

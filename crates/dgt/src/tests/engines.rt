@@ -1,8 +1,10 @@
 //! The engines, over sources and sinks that fail where a test wants them to; and the lines of
 //! worked messages.
 
+mod commanding;
 mod devices;
 mod failures;
+mod picturing;
 mod serving;
 mod simulating;
 mod sweeps;

@@ -1,7 +1,8 @@
 //! The texts of help.
 use super::*;
 use crate::help::{
-    ASK_NOTES, BOARD_NOTES, MONITOR_NOTES, PROGRAM_NOTES, SHOW_NOTES, SIMULATE_NOTES,
+    ASK_NOTES, BOARD_NOTES, COMMANDS_NOTES, MONITOR_NOTES, PICTURE_NOTES, PROGRAM_NOTES,
+    SHOW_NOTES, SIMULATE_NOTES,
 };
 
 /// The help of the program, before its notes.
@@ -13,7 +14,9 @@ Usage: dgt <COMMAND>
 Commands:
   show      Shows the messages in the bytes of a hexadecimal word
   monitor   Shows the messages in the bytes of standard input, as they come
+  picture   Shows the pieces of the board after each change on standard input
   ask       Writes the bytes of commands to a board
+  commands  Shows the commands in the bytes of standard input, as they come
   board     Answers the commands on standard input, as a board does
   simulate  Plays a script with a board, a host, and the lines between them
   help      Print this message or the help of the given subcommand(s)
@@ -48,6 +51,17 @@ Options:
 
 ";
 
+/// The help of `picture`, before its notes.
+const PICTURE: &str = "\
+Shows the pieces of the board after each change on standard input
+
+Usage: dgt picture
+
+Options:
+  -h, --help  Print help
+
+";
+
 /// The help of `ask`, before its notes.
 const ASK: &str = "\
 Writes the bytes of commands to a board
@@ -56,6 +70,17 @@ Usage: dgt ask <WORD>...
 
 Arguments:
   <WORD>...  The commands by name, in order
+
+Options:
+  -h, --help  Print help
+
+";
+
+/// The help of `commands`, before its notes.
+const COMMANDS: &str = "\
+Shows the commands in the bytes of standard input, as they come
+
+Usage: dgt commands
 
 Options:
   -h, --help  Print help
@@ -95,7 +120,9 @@ fn shows_help(rt: HostRuntime) -> Result<(), Fail> {
         ("dgt help", PROGRAM, PROGRAM_NOTES),
         ("dgt show --help", SHOW, SHOW_NOTES),
         ("dgt monitor --help", MONITOR, MONITOR_NOTES),
+        ("dgt picture --help", PICTURE, PICTURE_NOTES),
         ("dgt ask --help", ASK, ASK_NOTES),
+        ("dgt commands --help", COMMANDS, COMMANDS_NOTES),
         ("dgt board --help", BOARD, BOARD_NOTES),
         ("dgt help board", BOARD, BOARD_NOTES),
         ("dgt simulate --help", SIMULATE, SIMULATE_NOTES),

@@ -263,6 +263,8 @@ fn program_has_memory(rt: HostRuntime) -> Result<(), Fail> {
         ("dgt board", commands.as_slice()),
         ("dgt simulate", FIRST_MOVE.as_bytes()),
         ("dgt monitor", b"\x8e"),
+        ("dgt picture", b"\x8e"),
+        ("dgt commands", b"\x42\x2b"),
         ("dgt show 8e00052401", b""),
         ("dgt --help", b""),
     ];

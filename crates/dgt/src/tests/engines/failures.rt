@@ -1,6 +1,7 @@
 //! Worked runs that fail, and readers and writers of the standard library that do.
 
 use crate::tests::engines::devices::{Broken, Lender, Recorder, Trickle, Zeros};
+use crate::tests::engines::picturing::{AGAIN_LINE, PLACEMENT_LINE, joined};
 use crate::tests::engines::serving::{VERSION, new_board};
 use crate::tests::engines::simulating::new_world;
 use crate::tests::engines::troubles::Trouble::{Flush, Read, Room, Turns};
@@ -8,7 +9,7 @@ use crate::tests::engines::troubles::{Trial, Trouble};
 use crate::tests::engines::{FIELD, FIELD_LINE, START};
 use dgt_decode::Event;
 use dgt_message::{BodyFault, Message};
-use dgt_text::{Bytes, Device, RunFault, Source, monitor, serve, simulate, write_event};
+use dgt_text::{Bytes, Device, RunFault, Source, monitor, picture, serve, simulate, write_event};
 use dgt_values::{Body, Piece, SevenBit, Square};
 use std::process::Abort;
 use std::test::Fail;
@@ -65,6 +66,31 @@ fn monitors_that_fail(rt: HostRuntime) {
         assert_eq!(rt; monitor(&mut source, &mut sink, limit), answer);
         assert_ran(&rt, &source, &sink, reads, taken);
     }
+}
+
+#[test]
+fn pictures_that_fail(rt: HostRuntime) -> Result<(), Fail> {
+    let unfinished = joined(&[START, &FIELD[..4]])?;
+    let twice = joined(&[START, START])?;
+    let both = joined(&[PLACEMENT_LINE, AGAIN_LINE])?;
+    let (unfinished, twice) = (unfinished.as_slice(), twice.as_slice());
+    let line = PLACEMENT_LINE;
+    let rows: [Run<'_>; 8] = [
+        (START, 67, Room, 53, Ok(()), 2, line),
+        (START, 67, Room, 9, WRITE_FAILED, 1, b"00000067 "),
+        (START, 67, Flush, 1, WRITE_FAILED, 1, line),
+        (twice, 67, Flush, 2, WRITE_FAILED, 2, both.as_slice()),
+        (unfinished, 71, Read, 2, READ_FAILED, 2, line),
+        (&[], 67, Turns, 0, TOO_MANY_TURNS, 0, b""),
+        (START, 67, Turns, 1, TOO_MANY_TURNS, 1, line),
+        (START, 67, Turns, 2, Ok(()), 2, line),
+    ];
+    for (bytes, step, trouble, at, answer, reads, taken) in rows {
+        let (mut source, mut sink, limit) = Trial { trouble, at }.ends(bytes, step);
+        assert_eq!(rt; picture(&mut source, &mut sink, limit), answer);
+        assert_ran(&rt, &source, &sink, reads, taken);
+    }
+    Ok(())
 }
 
 #[test]
@@ -182,6 +208,7 @@ fn readers_and_writers_of_std_that_fail(rt: HostRuntime) -> Result<(), Fail> {
     let answers = [
         write_event(&mut Device::new(Broken), 1, &event),
         monitor(&mut Bytes::new(FIELD), &mut Device::new(Broken), 10),
+        picture(&mut Bytes::new(START), &mut Device::new(Broken), 10),
         serve(
             &mut board,
             &mut Bytes::new(&[0x4d]),
@@ -195,13 +222,14 @@ fn readers_and_writers_of_std_that_fail(rt: HostRuntime) -> Result<(), Fail> {
             10,
         ),
     ];
-    assert_eq!(rt; answers, [WRITE_FAILED; 4]);
+    assert_eq!(rt; answers, [WRITE_FAILED; 5]);
     let answers = [
         monitor(&mut Device::new(Broken), &mut sink, 10),
+        picture(&mut Device::new(Broken), &mut sink, 10),
         serve(&mut new_board()?, &mut Device::new(Broken), &mut sink, 10),
         simulate(&mut world, &mut Device::new(Broken), &mut sink, 10),
     ];
-    assert_eq!(rt; answers, [READ_FAILED; 3]);
+    assert_eq!(rt; answers, [READ_FAILED; 4]);
     assert_eq!(rt; sink.taken(), b"".as_slice());
     Ok(())
 }

@@ -1,13 +1,13 @@
 //! Runs in which something fails, at each place where it can.
 
-use crate::tests::engines::devices::Lender;
+use crate::tests::engines::devices::{Lender, Recorder};
 use crate::tests::engines::serving::{BATTERY, SERIAL, TRADEMARK, VERSION, ZERO_TIMES, new_board};
 use crate::tests::engines::simulating::{NEW_LINES, new_world};
 use crate::tests::engines::troubles::{TROUBLES, Text, Trial};
-use crate::tests::engines::{START, START_LINE};
+use crate::tests::engines::{FIELD, START, START_LINE};
 use dgt_board::{Board, Polled};
 use dgt_link::World;
-use dgt_text::{RunFault, monitor, read_act, serve, simulate};
+use dgt_text::{RunFault, monitor, picture, read_act, serve, simulate};
 use std::alloc::Global;
 use std::process::Abort;
 use std::test::Fail;
@@ -15,7 +15,23 @@ use std::test::Fail;
 // The most bytes in a read and in a write.
 const STEPS: [usize; 3] = [1, 2, 64];
 
-fn sweep_monitor(rt: &impl Abort, text: Text<'_>) -> Result<(), Fail> {
+// What tells what a board sends.
+#[derive(Clone, Copy)]
+enum Teller {
+    Monitor,
+    Picture,
+}
+
+impl Teller {
+    fn run(self, source: &mut Lender<'_>, sink: &mut Recorder, limit: u32) -> Result<(), RunFault> {
+        match self {
+            Teller::Monitor => monitor(source, sink, limit),
+            Teller::Picture => picture(source, sink, limit),
+        }
+    }
+}
+
+fn sweep_telling(rt: &impl Abort, teller: Teller, text: Text<'_>) -> Result<(), Fail> {
     let input = text.input()?;
     for step in STEPS {
         for trouble in TROUBLES {
@@ -24,7 +40,7 @@ fn sweep_monitor(rt: &impl Abort, text: Text<'_>) -> Result<(), Fail> {
                 let trial = Trial { trouble, at };
                 let (mut source, mut sink, limit) = trial.ends(input.as_slice(), step);
                 sink.step = step;
-                let answer = monitor(&mut source, &mut sink, limit);
+                let answer = teller.run(&mut source, &mut sink, limit);
                 met = trial.is_met(rt, &source, &sink, answer, Ok(()));
                 let is_torn = met && trouble.tears();
                 text.assert_written(rt, &source, &sink, is_torn)?;
@@ -63,9 +79,31 @@ fn a_monitor_meets_each_trouble_at_each_place(rt: HostRuntime) -> Result<(), Fai
         (&[], b""),
     ];
     for (rows, last) in rows {
-        sweep_monitor(&rt, Text { rows, last })?;
+        sweep_telling(&rt, Teller::Monitor, Text { rows, last })?;
     }
     Ok(())
+}
+
+#[test]
+fn a_picture_meets_each_trouble_at_each_place(rt: HostRuntime) -> Result<(), Fail> {
+    let rows: [(&[u8], &[u8]); 5] = [
+        (FIELD, b""),
+        (
+            START,
+            b"00000072 rnbqkbnr/pppppppp/8/8/8/8/PPPPPPPP/RNBQKBNR\n",
+        ),
+        (&[0x05, 0x8e, 0x00], b""),
+        (
+            FIELD,
+            b"00000080 rnbqkbnr/pppppppp/8/8/4P3/8/PPPPPPPP/RNBQKBNR\n",
+        ),
+        (&[0x8e], b""),
+    ];
+    let text = Text {
+        rows: &rows,
+        last: b"",
+    };
+    sweep_telling(&rt, Teller::Picture, text)
 }
 
 // Lets the board send at most so many messages, and answers how many more it may.

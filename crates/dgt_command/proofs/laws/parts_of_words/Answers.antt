@@ -9,3 +9,6 @@ returns-clause-no_word c = DivisionLemmas.no_word_within
 
 pub returns-clause-bytes : goal.returns-clause-bytes
 returns-clause-bytes c = DivisionLemmas.partial_bytes
+
+pub returns-clause-left : goal.returns-clause-left
+returns-clause-left c = DivisionLemmas.partial_left

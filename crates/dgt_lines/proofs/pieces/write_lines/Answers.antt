@@ -5,7 +5,8 @@ use Rattle.dgt_lines.specs.Lines.{lines_after}
 use Rattle.dgt_decode.specs.Grammar.{open_message}
 use Rattle.dgt_lines.proofs.RunLemmas.{on_ok}
 use Rattle.dgt_lines.proofs.GatherLemmas.{gathered_none, gathered_then, gathered_exit, gathered_out}
-use Rattle.dgt_lines.proofs.PieceLemmas.{lines_after-none, open-open, feed_bound, feed_open, feed_line, feed_none, feed_whole}
+use Rattle.dgt_lines.proofs.EventLemmas.{open-open, feed_bound, feed_open}
+use Rattle.dgt_lines.proofs.PieceLemmas.{lines_after-none, feed_line, feed_none, feed_whole}
 use Rattle.dgt_lines.proofs.pieces.write_lines.Goals as goal
 
 pub loop-at-init : goal.loop-at-init

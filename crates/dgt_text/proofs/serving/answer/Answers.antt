@@ -15,7 +15,8 @@ returns-in_err-send_all-clause-served g c =
 pub loop-at-preserved-in-Continue-branch-2 : goal.loop-at-preserved-in-Continue-branch-2
 loop-at-preserved-in-Continue-branch-2 g c =
     let taken = rw c.unwrap-used.ensures at c.take.follows.holds-at-none in
-    let found = hears_some command_event_content _ _ _ _ c.loop-at.invariant.served.answers.settled c.if-is_some.ensures
+    let found = hears_some c.parts_of_words.ensures.nothing command_event_content _ _ _ _
+    c.loop-at.invariant.served.answers.settled c.if-is_some.ensures
     (rw c.unwrap-used.ensures at c.take.ensures.event) taken.0 in
     record {
       bound = feed_bound c.args.piece.now c.loop-at.at c.unwrap-used.result.used c.loop-at.invariant.bound
@@ -28,7 +29,8 @@ loop-at-preserved-in-Continue-branch-2 g c =
 pub returns-in_err-send_all-2-clause-served : goal.returns-in_err-send_all-2-clause-served
 returns-in_err-send_all-2-clause-served g c =
     let taken = rw c.unwrap-used.ensures at c.take.follows.holds-at-none in
-    let found = hears_some command_event_content _ _ _ _ c.loop-at.invariant.served.answers.settled c.if-is_some.ensures
+    let found = hears_some c.parts_of_words.ensures.nothing command_event_content _ _ _ _
+    c.loop-at.invariant.served.answers.settled c.if-is_some.ensures
     (rw c.unwrap-used.ensures at c.take.ensures.event) taken.0 in
     let halted = served_halts _ c.divisions_append.ensures _ _ _ _ _ _ _ _ _ found.0 c.loop-at.invariant.served found.1
     c.in_err-send_all-2.ensures.1 in

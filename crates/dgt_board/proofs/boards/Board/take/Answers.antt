@@ -5,11 +5,11 @@ use Rattle.dgt_command.specs.Words.{IsWord}
 use Rattle.dgt_board.specs.State.{effect}
 use Rattle.dgt_board.specs.Kept.{state_of}
 use Rattle.dgt_board.specs.View.{BoardView}
-use Rattle.dgt_board.proofs.TakingLemmas.{nothing_is_partial, takes_word}
+use Rattle.dgt_board.proofs.TakingLemmas.{takes_word}
 use Rattle.dgt_board.proofs.boards.Board.take.Goals as goal
 
 pub invariant_of-self-2 : goal.invariant_of-self-2
-invariant_of-self-2 c = rw (c.advance-advanced.ensures.held, c.in-Some.is) nothing_is_partial
+invariant_of-self-2 c = rw (c.advance-advanced.ensures.held, c.in-Some.is) c.parts_of_words.ensures.nothing
 
 pub returns : goal.returns
 returns c =
@@ -22,7 +22,7 @@ returns c =
     let rest : rest_of c.advance-advanced.new.self ≡ [] = rw c.in-Some.is at c.advance-advanced.ensures.held in
     let after : BoardView = record { state = state_of c.obey.new.self; partial = rest_of c.advance-advanced.new.self }
     in
-    let both = takes_word c.args.self.now after bytes event word state rest in (
+    let both = takes_word c.parts_of_words.ensures.nothing c.args.self.now after bytes event word state rest in (
       (refl, λ _. tt, both),
       record {
         after_borrow = tt;

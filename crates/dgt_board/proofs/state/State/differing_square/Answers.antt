@@ -12,6 +12,6 @@ returns-then-differing-eq0 c =
 pub returns : goal.returns
 returns c =
     let kept = c.args.self.now in
-    rw c.square_at.ensures
+    rw c.from_small.ensures
     (lowest_differs (state_of kept) c.differ-differing.result kept.told_squares.all kept.squares.all
     c.differ-differing.ensures (omega arith) (omega arith))

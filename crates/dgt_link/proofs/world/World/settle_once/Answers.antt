@@ -15,7 +15,7 @@ pub returns-then-not-is_empty-2-clause-moved : goal.returns-then-not-is_empty-2-
 returns-then-not-is_empty-2-clause-moved c =
     let none = not_owing c.has_to_send.result c.args.self.now.board.state c.has_to_send.ensures
     c.if-has_to_send.false in
-    λ _. takes c.words_are_short.ensures c.no_word_begins_another.ensures c.bounded_backlog.ensures.rises
+    λ _. takes c.words_are_short.ensures c.parts_of_words.ensures.no_word c.bounded_backlog.ensures.rises
     c.args.self.now c.take_all.new.self c.take_all.result (search rules)
     (c.nothing_to_send.ensures.none_owed c.args.self.now.board.state none) (search rules) c.take_all.ensures
 
@@ -30,6 +30,7 @@ returns-else-not-is_empty-2-clause-rests c =
             open_append = c.open_append.ensures;
             quiet_held = c.quiet_held.ensures;
             spelling = c.spelling_is_read.ensures;
+            places = c.places_do_not_matter.ensures;
           })
           c.one_division.ensures c.args.self.now (search rules) (search rules) (search rules) none (search rules),
       refl,

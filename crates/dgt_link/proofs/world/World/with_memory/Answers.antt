@@ -10,7 +10,7 @@ invariant_of-result c =
     let up : c.in-Ok.up ≡ line_holding [] c.args.up = search rules in
     let down : c.in-Ok.down ≡ line_holding [] c.args.down = search rules in
     rw (c.new.ensures, c.new-in-Ok.ensures, up, down)
-    (new_is_world (pieces_of c.args.position)
+    (new_is_world c.parts_of_words.ensures.nothing (pieces_of c.args.position)
     (clock_seen c.args.clock) c.args.identity c.args.up c.args.down c.args.position.all (omega arith) (omega arith))
 
 pub returns-in-Ok-clause-exact : goal.returns-in-Ok-clause-exact
@@ -18,5 +18,5 @@ returns-in-Ok-clause-exact c =
     let up : c.in-Ok.up ≡ line_holding [] c.args.up = search rules in
     let down : c.in-Ok.down ≡ line_holding [] c.args.down = search rules in
     rw (c.new.ensures, c.new-in-Ok.ensures, up, down)
-    (new_is_exact (pieces_of c.args.position)
+    (new_is_exact c.parts_of_words.ensures.nothing (pieces_of c.args.position)
     (clock_seen c.args.clock) c.args.identity c.args.up c.args.down c.args.position.all)

@@ -1,0 +1,4 @@
+pub mod TextLemmas
+pub mod TellingLemmas
+pub mod GatherLemmas
+pub mod PieceLemmas

@@ -1,0 +1,143 @@
+-- The text of a piece, word after word.
+use Rattle.std.proofs.Common.{◌≡◌, ℕ, suc, ◌+◌, ◌-◌, ◌≤◌, List, [], ◌∷◌, ◌++◌, Result, Ok, Err, IsErrAnd, OnOk, sym, ◌∙◌, ap, subst, length, arith, take, drop, append_assoc, append-nil, length-append}
+use Rattle.std.proofs.lemmas.List.{take-append-drop, length-drop, length-take-le}
+use Rattle.std.proofs.Math.Seq.{take-add, take-length}
+use Rattle.dgt_command.specs.Content.{EventContent}
+use Rattle.dgt_command.specs.Spelling.{AreBytes}
+use Rattle.dgt_command.specs.Words.{IsWord, IsPartial}
+use Rattle.dgt_lines.specs.declared.ends.Sink.{Ghosts as Sink}
+use Rattle.dgt_lines.specs.declared.faults.RunFault.{RunFault}
+use Rattle.dgt_lines.specs.declared.faults.RunFault.TheVariants.{WriteFailed}
+use Rattle.dgt_lines.specs.Writing.{Stopped, Writes, Gathered}
+use Rattle.dgt_command_lines.specs.CommandLines.{Tells, WritesPiece, command_line}
+use Rattle.dgt_command_lines.specs.Laws.{EachIsTold}
+use Rattle.dgt_command_lines.proofs.TellingLemmas.{texts_append, told_word, told_part, word_bytes}
+use Rattle.dgt_command_lines.proofs.GatherLemmas.{gathered_out, gathered_exit}
+
+-- `&s[i..]`
+pub slice_from : (s : List ℕ) (i : ℕ) → take (length s - i) (drop i s) ≡ drop i s
+slice_from s i = rw (← length-drop i s) (take-length (drop i s))
+
+-- `&s[i..]`, of which n bytes more are taken
+slice_more : (s : List ℕ) (i n : ℕ) → take (i + n) s ≡ take i s ++ take n (take (length s - i) (drop i s))
+slice_more s i n = take-add i n s ∙ ap (λ (l : List ℕ). take i s ++ take n l) (sym (slice_from s i))
+
+pub feed_bound : (piece : List ℕ) (i n : ℕ) → i ≤ length piece → n ≤ length (take (length piece - i) (drop i piece))
+    → i + n ≤ length piece
+feed_bound piece i n h k = let k' : n ≤ length (drop i piece) = rw slice_from at k in let e = length-drop i piece in
+    omega arith
+
+-- what follows in bytes is bytes
+bytes_right : (xs ys : List ℕ) → AreBytes (xs ++ ys) → AreBytes ys
+bytes_right [] ys h i = h i
+bytes_right (x ∷ xs) ys h i = bytes_right xs ys (λ j. h (suc j)) i
+
+-- what is left of a word is a part of the bytes
+rest_short : (k : ℕ) (bytes rest text : List ℕ) → Tells k bytes rest text → length rest ≤ length bytes
+rest_short k bytes rest text h =
+    omega (arith, ap length h.are_words.whole, length-append (word_bytes h.words) rest)
+
+module _ (held piece rest text : List ℕ) (offset i n : ℕ) (within : length held ≤ offset) (front : i ≤ length piece)
+    (some : n ≤ length (take (length piece - i) (drop i piece)))
+    (tells : Tells (offset - length held) (held ++ take i piece) rest text) where
+  more_bytes : (held ++ take i piece) ++ take n (take (length piece - i) (drop i piece)) ≡ held ++ take (i + n) piece
+  more_bytes = append_assoc held (take i piece) _ ∙ ap (λ l. held ++ l) (sym (slice_more piece i n))
+
+  -- n more bytes, which complete a word
+  pub told_event : IsPartial [] → (event : EventContent)
+      → IsWord event (rest ++ take n (take (length piece - i) (drop i piece)))
+      → Tells (offset - length held) (held ++ take (i + n) piece) []
+      (text ++ command_line (offset + (i + n)) event)
+  told_event none event h =
+      let slice = take (length piece - i) (drop i piece) in
+      let k = offset - length held in
+      let place = k + (length (held ++ take i piece) - length rest) in
+      let same : place + length (rest ++ take n slice) ≡ offset + (i + n) =
+      omega (
+        arith,
+        rest_short k (held ++ take i piece) rest text tells,
+        length-append held (take i piece),
+        length-take-le i piece front,
+        length-append rest (take n slice),
+        length-take-le n slice some,
+      ) in
+      let word = told_word none place (rest ++ take n slice) event h in
+      subst (λ l. Tells k l [] (text ++ command_line (offset + (i + n)) event)) more_bytes
+      (subst (λ m. Tells k ((held ++ take i piece) ++ take n slice) [] (text ++ command_line m event)) same
+      (texts_append k (held ++ take i piece) (take n slice) rest [] text _ tells word))
+
+  -- n more bytes, which complete none
+  pub told_none : IsPartial (rest ++ take n (take (length piece - i) (drop i piece)))
+      → Tells (offset - length held) (held ++ take (i + n) piece)
+      (rest ++ take n (take (length piece - i) (drop i piece))) text
+  told_none h =
+      let slice = take (length piece - i) (drop i piece) in
+      let k = offset - length held in
+      let place = k + (length (held ++ take i piece) - length rest) in
+      let part = told_part place (rest ++ take n slice) h in
+      subst (λ l. Tells k l (rest ++ take n slice) text) more_bytes
+      (subst (λ t. Tells k ((held ++ take i piece) ++ take n slice) (rest ++ take n slice) t) (append-nil text)
+      (texts_append k (held ++ take i piece) (take n slice) rest _ text [] tells part))
+
+-- the text of the rest of a piece
+pub record ToldOn (offset : ℕ) (held piece text : List ℕ) : Type 0 where
+  pub rest : List ℕ
+  pub more : List ℕ
+  pub tells : Tells (offset - length held) (held ++ piece) rest (text ++ more)
+
+pub told_on : EachIsTold → (held piece text : List ℕ) (offset i : ℕ) → AreBytes piece
+    → Tells (offset - length held) (held ++ take i piece) [] text → ToldOn offset held piece text
+told_on each held piece text offset i are tells =
+    let k = offset - length held in
+    let place = k + (length (held ++ take i piece) - 0) in
+    let later = bytes_right (take i piece) (drop i piece) (subst AreBytes (sym (take-append-drop i piece)) are) in
+    let found = each place (drop i piece) later in
+    let whole : (held ++ take i piece) ++ drop i piece ≡ held ++ piece =
+    append_assoc held (take i piece) (drop i piece) ∙ ap (λ l. held ++ l) (take-append-drop i piece) in
+    record {
+      rest = found.0;
+      more = found.1;
+      tells = subst (λ l. Tells k l found.0 (text ++ found.1)) whole
+          (texts_append k (held ++ take i piece) (drop i piece) [] found.0 text found.1 tells found.2);
+    }
+
+-- ---- what was gathered of a piece
+
+-- bytes that come after so many have a text, which the sink took but for what is gathered, and leave this rest
+pub record Gathers {S : Type 0} (W : Sink S) (old new : S) (gathered : List ℕ) (offset : ℕ) (bytes rest : List ℕ) :
+    Type 0 where
+  pub text : List ℕ
+  pub tells : Tells offset bytes rest text
+  pub output : Gathered W [] gathered old new text
+
+module _ {S : Type 0} {W : Sink S} where
+  -- at the end of a piece
+  pub piece_written : {A : Type 0} (a b c : S) (gathered held piece rest kept : List ℕ) (offset : ℕ)
+      (r : Result A RunFault) → Gathers W a b gathered (offset - length held) (held ++ piece) rest
+      → Writes W b c r gathered → kept ≡ rest → WritesPiece W a c r offset held piece kept
+  piece_written a b c gathered held piece rest kept offset r h q e = record {
+    text = h.text;
+    rest = rest;
+    tells = h.tells;
+    writes = gathered_out W gathered a b c h.text r h.output q;
+    keeps = go r;
+  }
+    where
+      go : {A : Type 0} (r : Result A RunFault) → OnOk r (kept ≡ rest)
+      go (Ok x) = e
+      go (Err y) = tt
+
+  -- at a line that was refused
+  pub piece_refused : {A : Type 0} (a b c : S) (gathered held piece kept text line : List ℕ) (offset : ℕ)
+      (r : Result A RunFault) (e : RunFault) → Gathered W [] gathered a b text
+      → ToldOn offset held piece (text ++ line) → IsErrAnd r (λ y. y ≡ e)
+      → (e ≡ WriteFailed) × Stopped W b c (gathered ++ line) → WritesPiece W a c r offset held piece kept
+  piece_refused a b c gathered held piece kept text line offset (Ok x) e h on k q = absurd k
+  piece_refused {A = A} a b c gathered held piece kept text line offset (Err y) e h on k q = record {
+    text = (text ++ line) ++ on.more;
+    rest = on.rest;
+    tells = on.tells;
+    writes = gathered_exit W {A = A} gathered a b c text line on.more ((text ++ line) ++ on.more) (Err y) e h
+        (append_assoc text line on.more) k q;
+    keeps = tt;
+  }

@@ -1,0 +1,76 @@
+use Rattle.std.proofs.Common.{◌++◌, ◌+◌, ◌-◌, [], append-nil, arith, length, refl, subst, sym}
+use Rattle.std.proofs.lemmas.List.{take_all}
+use Rattle.dgt_command.specs.Framing.{rest_of, word_found_in}
+use Rattle.dgt_command.specs.Spelling.{AreBytes}
+use Rattle.dgt_command.specs.Words.{IsPartial}
+use Rattle.dgt_command_lines.specs.CommandLines.{Tells, command_line}
+use Rattle.dgt_command_lines.proofs.GatherLemmas.{gathered_none, gathered_then}
+use Rattle.dgt_command_lines.proofs.TellingLemmas.{each_is_told, told_part}
+use Rattle.dgt_command_lines.proofs.PieceLemmas.{feed_bound, told_event, told_none, told_on, piece_written, piece_refused}
+use Rattle.dgt_command_lines.proofs.pieces.write_commands.Goals as goal
+
+pub loop-at-init : goal.loop-at-init
+loop-at-init g c =
+    let held = rest_of c.args.framer.now in record {
+      bound = omega arith;
+      told = record {
+        text = [];
+        tells = subst (λ l. Tells (c.args.offset - length held) l held []) (sym (append-nil held))
+            (told_part _ held c.partial.ensures.unfinished);
+        output = rw c.requires.empty (gathered_none g.W.Sink [] c.args.writer.now);
+      };
+    }
+
+pub loop-at-preserved-in-Continue-1 : goal.loop-at-preserved-in-Continue-1
+loop-at-preserved-in-Continue-1 g c =
+    let told = c.loop-at.invariant.told in
+    let advanced = c.advance-advanced.ensures in
+    let event = word_found_in c.advance-advanced.new.self.word c.in-Some.found in
+    let word = rw c.in-Some.is at advanced.first in
+    record {
+      bound = feed_bound c.args.piece.now c.loop-at.at c.advance-advanced.result.used c.loop-at.invariant.bound
+          advanced.within;
+      told = record {
+        text = told.text ++ command_line (c.args.offset + (c.loop-at.at + c.advance-advanced.result.used)) event;
+        tells = rw (advanced.held, c.in-Some.is)
+            (told_event _ _ _ _ _ _ _ c.requires.held c.loop-at.invariant.bound advanced.within told.tells
+            c.parts_of_words.ensures.nothing event word);
+        output = gathered_then _ _ _ _ _ _ _ told.text _ told.output
+            (rw c.event.ensures at c.in_ok-put_command.ensures);
+      };
+    }
+
+pub loop-at-preserved : goal.loop-at-preserved
+loop-at-preserved g c =
+    let told = c.loop-at.invariant.told in
+    let advanced = c.advance-advanced.ensures in
+    let kept = rw c.in_default.is at advanced.held in
+    record {
+      bound = feed_bound c.args.piece.now c.loop-at.at c.advance-advanced.result.used c.loop-at.invariant.bound
+          advanced.within;
+      told = record {
+        text = told.text;
+        tells = rw kept
+            (told_none _ _ _ _ _ _ _ c.requires.held c.loop-at.invariant.bound advanced.within told.tells
+            (subst IsPartial kept advanced.unfinished));
+        output = told.output;
+      };
+    }
+
+pub returns-in_err-put_command-clause-output : goal.returns-in_err-put_command-clause-output
+returns-in_err-put_command-clause-output g c =
+    let told = c.loop-at.invariant.told in
+    let advanced = c.advance-advanced.ensures in
+    let event = word_found_in c.advance-advanced.new.self.word c.in-Some.found in
+    let word = rw c.in-Some.is at advanced.first in
+    let are : AreBytes c.args.piece.now = λ i. omega (arith, c.type_inv.piece i) in
+    let tells = told_event _ _ _ _ _ _ _ c.requires.held c.loop-at.invariant.bound advanced.within told.tells
+    c.parts_of_words.ensures.nothing event word in
+    piece_refused _ _ _ _ _ _ _ told.text _ _ _ _ told.output
+    (told_on (each_is_told c.one_division.ensures) _ _ _ _ _ are tells) c.from_residual.ensures.1
+    (rw c.event.ensures at c.in_err-put_command.ensures)
+
+pub returns-clause-output : goal.returns-clause-output
+returns-clause-output g c =
+    let whole = take_all _ c.args.piece.now c.loop-at-test.false in
+    piece_written _ _ _ _ _ _ _ _ _ _ (rw whole at c.loop-at.invariant.told) c.write_out.ensures.output refl

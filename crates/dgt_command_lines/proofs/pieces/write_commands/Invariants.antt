@@ -1,0 +1,14 @@
+use Rattle.std.proofs.Common.{◌≤◌, ◌-◌, ◌++◌, length, take}
+use Rattle.dgt_command.specs.Framing.{rest_of}
+use Rattle.dgt_command_lines.proofs.PieceLemmas.{Gathers}
+use Rattle.dgt_command_lines.proofs.pieces.write_commands.Given as goal
+
+abbrev pub invariant-loop-at : goal.invariant-loop-at
+invariant-loop-at g l = record {
+  bound : l.at ≤ length l.piece;
+  told : Gathers g.W.Sink l.fn.writer l.writer l.outgoing (l.offset - length (rest_of l.fn.framer))
+      (rest_of l.fn.framer ++ take l.at l.piece) (rest_of l.framer);
+}
+
+abbrev pub decreases-loop-at : goal.decreases-loop-at
+decreases-loop-at g l = length l.piece - l.at

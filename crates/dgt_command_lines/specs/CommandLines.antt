@@ -1,0 +1,48 @@
+-- The lines that say what a host sends. A line is an offset, a space, a text and a line feed.
+use Rattle.std.specs.Prelude.{◌≡◌, ℕ, ◌+◌, ◌-◌, List, [], ◌∷◌, ◌++◌, length, Result, OnOk, flat_map}
+use Rattle.std.specs.List.{AllByRecursion}
+use Rattle.dgt_command.specs.Content.{EventContent}
+use Rattle.dgt_command.specs.Words.{IsWord, IsPartial}
+use Rattle.dgt_lines.specs.declared.ends.Sink.{Ghosts as Sink}
+use Rattle.dgt_lines.specs.declared.faults.RunFault.{RunFault}
+use Rattle.dgt_lines.specs.Lines.{line}
+use Rattle.dgt_lines.specs.Writing.{Writes}
+use Rattle.dgt_command_lines.specs.CommandWords.{command_event_text}
+
+-- the line of an event that the byte at the end of so many bytes makes
+abbrev pub command_line : ℕ → EventContent → List ℕ
+command_line offset event = line offset (command_event_text event)
+
+-- some bytes in a row, and the event that they are said to be
+pub record Word : Type 0 where
+  pub event : EventContent
+  pub bytes : List ℕ
+
+-- a line for each of some words in a row, which come after so many bytes
+abbrev pub word_lines : ℕ → List Word → List ℕ
+word_lines offset [] = []
+word_lines offset (word ∷ words) =
+    command_line (offset + length word.bytes) word.event
+    ++ word_lines (offset + length word.bytes) words
+
+-- the bytes are these words in a row, and then a proper prefix of a word
+pub record AreWords (bytes : List ℕ) (words : List Word) (rest : List ℕ) : Type 0 where
+  pub each : AllByRecursion (λ word. IsWord word.event word.bytes) words
+  pub whole : bytes ≡ flat_map (λ word. word.bytes) words ++ rest
+  pub partial : IsPartial rest
+
+-- bytes that come after so many have this text, and leave this rest of a word
+pub record Tells (offset : ℕ) (bytes rest text : List ℕ) : Type 0 where
+  pub words : List Word
+  pub are_words : AreWords bytes words rest
+  pub said : text ≡ word_lines offset words
+
+-- a call that writes the text of a piece that comes after so many bytes, of which `held` is a part
+-- of a word, and then keeps `held'`
+pub record WritesPiece {S A : Type 0} (W : Sink S) (old new : S) (r : Result A RunFault)
+    (offset : ℕ) (held piece held' : List ℕ) : Type 0 where
+  pub text : List ℕ
+  pub rest : List ℕ
+  pub tells : Tells (offset - length held) (held ++ piece) rest text
+  pub writes : Writes W old new r text
+  pub keeps : OnOk r (held' ≡ rest)

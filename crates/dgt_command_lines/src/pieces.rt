@@ -1,0 +1,66 @@
+//! The lines of what a host sends, piece after piece.
+
+ghost use Rattle.std.specs.Prelude.{◌≡◌, ◌+◌, ◌^◌, ◌<◌, ◌≤◌, [], length, IsTrue, OnOk};
+ghost use Rattle.dgt_command.specs.Framing.{rest_of};
+ghost use Rattle.dgt_lines.specs.Lines.{unfinished_line};
+ghost use Rattle.dgt_lines.specs.Writing.{Writes};
+ghost use Rattle.dgt_command_lines.specs.CommandLines.{WritesPiece};
+
+use crate::lines::put_command;
+use dgt_command::{WordFramer, laws};
+use dgt_lines::{Outgoing, RunFault, Sink, flush, write_unfinished};
+
+/// Room for some 1,500 lines of commands that carry nothing.
+pub const COMMANDS_ROOM: usize = 32768;
+
+/// Writes the lines of a piece that comes after so many bytes, in one write where there is room for
+/// them.
+///
+/// `framer` holds what is unfinished of the bytes before. `WriteFailed` comes where the writer
+/// refuses, which then took the front of the lines.
+pub fn write_commands<W: Sink>(
+    framer: &mut WordFramer,
+    outgoing: &mut Outgoing<COMMANDS_ROOM>,
+    offset: u64,
+    piece: &[u8],
+    writer: &mut W,
+) -> Result<(), RunFault>
+    requires empty { outgoing.old ≡ [] }
+    requires fits { offset + length piece.now < 2 ^ 64 }
+    requires held { length (rest_of framer.old) ≤ offset }
+    ensures output { WritesPiece W.Sink writer.old writer.new result offset
+        (rest_of framer.old) piece.now (rest_of framer.new) }
+    ensures empty { OnOk result (outgoing.new ≡ []) }
+{
+    laws::one_division();
+    laws::parts_of_words();
+    // What is held is a part of a word: the call is made for that promise.
+    framer.partial();
+    let mut at = 0;
+    while at < piece.len() {
+        let advanced = framer.advance(&piece[at..]);
+        at += advanced.used;
+        if let Some(found) = advanced.found {
+            put_command(outgoing, writer, offset + at as u64, &framer.event(found))?;
+        }
+    }
+    outgoing.write_out(writer)
+}
+
+/// Writes and flushes a last line after so many bytes, where a command is unfinished.
+pub fn write_commands_end<W: Sink>(
+    framer: &WordFramer,
+    offset: u64,
+    writer: &mut W,
+) -> Result<(), RunFault>
+    ensures output { Writes W.Sink writer.old writer.new result
+        (unfinished_line offset (rest_of framer.now)) }
+    ensures flushed { OnOk result (IsTrue (W.flushed writer.old) → IsTrue (W.flushed writer.new)) }
+{
+    let have = framer.partial();
+    if have == 0 {
+        return Ok(());
+    }
+    write_unfinished(writer, offset, have)?;
+    flush(writer)
+}

@@ -1,0 +1,253 @@
+-- The events of whole pieces, and who hears them.
+use Rattle.std.proofs.Common.{◌≡◌, ℕ, ◌+◌, ◌-◌, ◌<◌, ◌≤◌, List, [], ◌∷◌, ◌++◌, length, map, take, drop, Option, Some, None, refl, sym, ap, subst, ◌∙◌, append_assoc, arith, inl, inr}
+use Rattle.std.proofs.lemmas.List.{append-nil, length-append, length-drop, length-take-le}
+use Rattle.std.proofs.lemmas.Bool.{cases_lt}
+use Rattle.std.proofs.Math.Seq.{drop-length, take-add}
+use Rattle.std.specs.List.{FoldsTo, concat}
+use Rattle.dgt_decode.specs.Grammar.{Event, Placed, at_place, events, events_behind, open_message, segment_events, verdict}
+use Rattle.dgt_decode.specs.Feeding.{FirstEvent, at_place_if_any, piece_events}
+use Rattle.dgt_decode.specs.Laws.{Call, OpenIsQuiet, PiecesAdd, events_of_pieces}
+use Rattle.dgt_decode.proofs.AnyPieces.{call_told}
+use Rattle.dgt_decode.proofs.Places.{events_behind-append, events_behind-events_behind, events_behind-zero}
+use Rattle.dgt_decode.proofs.More.{events-append}
+use Rattle.dgt_decode.proofs.Open.{IsOpen, nothing, waiting, IsOpen-open, events-of_open, length-open, open-append}
+use Rattle.dgt_decode.proofs.Steps.{IsHeld, IsHeld-open, next-begins, next-seven, verdict-new}
+
+-- These are events behind n bytes.
+record IsBehind (n : ℕ) (told : List Placed) : Type 0 where
+  early : List Placed
+  is : told ≡ events_behind n early
+
+-- an event at the byte that follows
+behind_one : (n m : ℕ) (event : Event) → m ≡ n + 1 → IsBehind n (at_place m event ∷ [])
+behind_one n m event e =
+    record { early = at_place 1 event ∷ []; is = ap (λ (k : ℕ). at_place k event ∷ []) e }
+
+behind_none : (n : ℕ) → IsBehind n []
+behind_none n = record { early = []; is = refl }
+
+-- what a byte makes behind an open message
+behind_verdict : (h : List ℕ) (b : ℕ) → verdict h ≡ None → (v : Option Placed) → verdict (h ++ b ∷ []) ≡ v
+    → IsBehind (length h) (segment_events v (h ++ b ∷ []))
+behind_verdict h b e None f = behind_none (length h)
+behind_verdict h b e (Some x) f =
+    let place = verdict-new h b x e f in
+    rw (place, drop-length (h ++ b ∷ []))
+    (behind_one (length h) (length (h ++ b ∷ [])) x.event (length-append h (b ∷ [])))
+
+behind_byte_held : (held : List ℕ) (b : ℕ) → IsHeld held → IsOpen held
+    → IsBehind (length held) (events (held ++ b ∷ []))
+behind_byte_held held b h nothing =
+    record { early = events (b ∷ []); is = sym (events_behind-zero (events (b ∷ []))) }
+behind_byte_held held b h (waiting [] alone e) = absurd (let no = alone.one in cc)
+behind_byte_held held b h (waiting (x ∷ g) alone e) =
+    let some : 0 < length (x ∷ g) = omega arith in
+    elim (cases_lt b 128) [
+      | inl seven ↦ rw (next-seven (x ∷ g) (b ∷ []) h some (seven, tt)).told
+          (behind_verdict (x ∷ g) b e (verdict ((x ∷ g) ++ b ∷ [])) refl)
+      | inr top ↦ rw (next-begins (x ∷ g) b h some top).told
+          (behind_one (length (x ∷ g)) (length (x ∷ g) + 1) _ refl)
+    ]
+
+-- what more bytes make behind any
+record AreBehind (s p : List ℕ) : Type 0 where
+  early : List Placed
+  is : events (s ++ p) ≡ events s ++ events_behind (length s) early
+
+-- one byte
+one_behind : (s : List ℕ) (b : ℕ) → AreBehind s (b ∷ [])
+one_behind s b =
+    let o = open_message s in
+    let byte = behind_byte_held o b (IsHeld-open s) (IsOpen-open s) in
+    let place : length s - length o + length o ≡ length s = omega (arith, length-open s) in
+    record {
+      early = byte.early;
+      is = events-append s (b ∷ [])
+          ∙ ap (λ (xs : List Placed). events s ++ events_behind (length s - length o) xs) byte.is
+          ∙ ap (λ (xs : List Placed). events s ++ xs)
+          (events_behind-events_behind (length s - length o) (length o) byte.early
+          ∙ ap (λ (n : ℕ). events_behind n byte.early) place);
+    }
+
+-- any bytes, one after another
+all_behind : (s p : List ℕ) → AreBehind s p
+all_behind s [] = record { early = []; is = rw (append-nil s) (sym (append-nil (events s))) }
+all_behind s (b ∷ p) =
+    let one = one_behind s b in
+    let later = all_behind (s ++ b ∷ []) p in
+    let count : length (s ++ b ∷ []) ≡ length s + 1 = length-append s (b ∷ []) in
+    record {
+      early = one.early ++ events_behind 1 later.early;
+      is = ap events (sym (append_assoc s (b ∷ []) p))
+          ∙ later.is
+          ∙ rw (
+            count,
+            one.is,
+            events_behind-append (length s) one.early (events_behind 1 later.early),
+            events_behind-events_behind (length s) 1 later.early,
+          )
+          (append_assoc (events s) (events_behind (length s) one.early) (events_behind (length s + 1) later.early));
+    }
+
+-- ---- the events of a piece
+
+-- each event at its place in the piece
+abbrev nearer : ℕ → List Placed → List Placed
+nearer n told = map (λ x. at_place (x.place - n) x.event) told
+
+nearer-behind : (n : ℕ) (told : List Placed) → nearer n (events_behind n told) ≡ told
+nearer-behind n [] = refl
+nearer-behind n (x ∷ told) =
+    let same : n + x.place - n ≡ x.place = omega arith in
+    rw (same, nearer-behind n told) refl
+
+nearer-append : (n : ℕ) (xs ys : List Placed) → nearer n (xs ++ ys) ≡ nearer n xs ++ nearer n ys
+nearer-append n [] ys = refl
+nearer-append n (x ∷ xs) ys = ap (λ (zs : List Placed). at_place (x.place - n) x.event ∷ zs) (nearer-append n xs ys)
+
+-- they make the events behind what is held
+held_behind : (s p : List ℕ) → events (open_message s ++ p)
+    ≡ events_behind (length (open_message s)) (piece_events (open_message s) p)
+held_behind s p =
+    let o = open_message s in
+    let all = all_behind o p in
+    let quiet = events-of_open o (IsOpen-open s) in
+    let is : events (o ++ p) ≡ events_behind (length o) all.early =
+    all.is ∙ ap (λ (xs : List Placed). xs ++ events_behind (length o) all.early) quiet in
+    is ∙ ap (events_behind (length o)) (sym (ap (nearer (length o)) is ∙ nearer-behind (length o) all.early))
+
+-- and behind all that came
+pub behind : (s p : List ℕ) → events (s ++ p) ≡ events s ++ events_behind (length s) (piece_events (open_message s) p)
+behind s p =
+    let o = open_message s in
+    let place : length s - length o + length o ≡ length s = omega (arith, length-open s) in
+    events-append s p
+    ∙ ap (λ (xs : List Placed). events s ++ events_behind (length s - length o) xs) (held_behind s p)
+    ∙ ap (λ (xs : List Placed). events s ++ xs)
+    (events_behind-events_behind (length s - length o) (length o) (piece_events o p)
+    ∙ ap (λ (n : ℕ). events_behind n (piece_events o p)) place)
+
+-- in two parts, behind what is held
+held_in_two : (o p q : List ℕ) → piece_events o (p ++ q)
+    ≡ piece_events o p ++ events_behind (length p) (piece_events (open_message (o ++ p)) q)
+held_in_two o p q =
+    let more = piece_events (open_message (o ++ p)) q in
+    ap (λ (xs : List ℕ). nearer (length o) (events xs)) (sym (append_assoc o p q))
+    ∙ ap (nearer (length o)) (behind (o ++ p) q)
+    ∙ nearer-append (length o) (events (o ++ p)) (events_behind (length (o ++ p)) more)
+    ∙ ap (λ (xs : List Placed). piece_events o p ++ xs)
+    (ap (λ (n : ℕ). nearer (length o) (events_behind n more)) (length-append o p)
+    ∙ ap (nearer (length o)) (sym (events_behind-events_behind (length o) (length p) more))
+    ∙ nearer-behind (length o) (events_behind (length p) more))
+
+pub pieces_add : PiecesAdd
+pieces_add = record {
+  behind = behind;
+  in_two = λ s front rest. held_in_two (open_message s) front rest
+      ∙ ap (λ (o : List ℕ). piece_events (open_message s) front ++ events_behind (length front) (piece_events o rest))
+      (sym (open-append s front));
+}
+
+-- any pieces
+pub in_a_row : (s : List ℕ) (pieces : List (List ℕ))
+    → events (s ++ concat pieces) ≡ events s ++ events_of_pieces (length s) (open_message s) pieces
+in_a_row s [] = rw (append-nil s) (sym (append-nil (events s)))
+in_a_row s (piece ∷ more) =
+    ap events (sym (append_assoc s piece (concat more)))
+    ∙ in_a_row (s ++ piece) more
+    ∙ rw (length-append s piece, behind s piece, open-append s piece)
+    (append_assoc (events s) (events_behind (length s) (piece_events (open_message s) piece))
+    (events_of_pieces (length s + length piece) (open_message (open_message s ++ piece)) more))
+
+-- ---- nothing
+
+-- no byte behind what is held
+pub held_none : (o : List ℕ) → IsHeld o → piece_events o [] ≡ []
+held_none o h = ap (nearer (length o)) (ap events (append-nil o) ∙ events-of_open o (subst (λ (x : List ℕ). IsOpen x) h
+    (IsOpen-open o)))
+
+pub open_is_quiet : OpenIsQuiet
+open_is_quiet = record {
+  no_event = λ s. events-of_open (open_message s) (IsOpen-open s);
+  stays = IsHeld-open;
+  no_bytes = λ s. (
+    held_none (open_message s) (IsHeld-open s),
+    ap open_message (append-nil (open_message s)) ∙ IsHeld-open s,
+  );
+}
+
+-- ---- a listener of calls
+
+-- The first i bytes of a piece have been fed, and each of their events was heard.
+pub record HasHeard {L : Type 0} (hears : L → Placed → L → Type 0) (held piece : List ℕ) (i : ℕ) (old new : L)
+    (now : List ℕ) : Type 0 where
+  pub within : i ≤ length piece
+  pub holds : now ≡ open_message (held ++ take i piece)
+  pub told : FoldsTo hears old (piece_events held (take i piece)) new
+
+FoldsTo-one : {L : Type 0} (hears : L → Placed → L → Type 0) (a b c : L) (told : List Placed) (x : Placed)
+    → FoldsTo hears a told b → hears b x c → FoldsTo hears a (told ++ x ∷ []) c
+FoldsTo-one hears a b c [] x p q = (c, subst (λ (v : _). hears v x c) (sym p) q, refl)
+FoldsTo-one hears a b c (y ∷ told) x p q = (p.0, p.1, FoldsTo-one hears p.0 b c told x p.2 q)
+
+module _ {L : Type 0} (hears : L → Placed → L → Type 0) where
+  -- nothing yet
+  pub heard_none : (held piece : List ℕ) (old : L) → IsHeld held → HasHeard hears held piece 0 old old held
+  heard_none held piece old h = record {
+    within = omega arith;
+    holds = sym (ap open_message (append-nil held) ∙ h);
+    told = rw (held_none held h) refl;
+  }
+
+  -- what a call uses makes one event more
+  next_told : (held piece : List ℕ) (i used : ℕ) (now : List ℕ) (event : Option Event) → i ≤ length piece
+      → now ≡ open_message (held ++ take i piece) → FirstEvent now (drop i piece) used event
+      → piece_events held (take (i + used) piece)
+      ≡ piece_events held (take i piece) ++ at_place_if_any (i + used) event
+  next_told held piece i used now event h e first =
+      let s = held ++ take i piece in
+      let call : Call = record { piece = drop i piece; used = used; event = event } in
+      let place : length s + used ≡ length held + (i + used) =
+      omega (arith, length-append held (take i piece), length-take-le i piece h) in
+      ap (λ (xs : List ℕ). nearer (length held) (events xs))
+      (ap (λ (xs : List ℕ). held ++ xs) (take-add i used piece) ∙ sym (append_assoc held (take i piece) _))
+      ∙ ap (nearer (length held)) (call_told s call (rw e at first))
+      ∙ nearer-append (length held) (events s) (at_place_if_any (length s + used) event)
+      ∙ ap (λ (xs : List Placed). piece_events held (take i piece) ++ xs)
+      (ap (λ (n : ℕ). nearer (length held) (at_place_if_any n event)) place ∙ near event)
+    where
+      near : (x : Option Event) → nearer (length held) (at_place_if_any (length held + (i + used)) x) ≡ at_place_if_any
+          (i + used) x
+      near None = refl
+      near (Some x) = ap (λ (n : ℕ). at_place n x ∷ []) (omega arith)
+
+  next_holds : (held piece : List ℕ) (i used : ℕ) (now new : List ℕ) → now ≡ open_message (held ++ take i piece)
+      → new ≡ open_message (now ++ take used (drop i piece)) → new ≡ open_message (held ++ take (i + used) piece)
+  next_holds held piece i used now new e f =
+      f ∙ ap (λ (o : List ℕ). open_message (o ++ take used (drop i piece))) e
+      ∙ sym (ap (λ (xs : List ℕ). open_message (held ++ xs)) (take-add i used piece)
+      ∙ ap open_message (sym (append_assoc held (take i piece) _)) ∙ open-append (held ++ take i piece) _)
+
+  -- a call with no event
+  pub heard_quiet : (held piece : List ℕ) (i used : ℕ) (old now : L) (before new : List ℕ)
+      → HasHeard hears held piece i old now before → used ≤ length (drop i piece)
+      → FirstEvent before (drop i piece) used None → new ≡ open_message (before ++ take used (drop i piece))
+      → HasHeard hears held piece (i + used) old now new
+  heard_quiet held piece i used old now before new heard fits first e = record {
+    within = omega (arith, fits, length-drop i piece, heard.within);
+    holds = next_holds held piece i used before new heard.holds e;
+    told = rw (next_told held piece i used before None heard.within heard.holds first, append-nil) heard.told;
+  }
+
+  -- a call with an event, which is heard
+  pub heard_one : (held piece : List ℕ) (i used : ℕ) (old now later : L) (before new : List ℕ) (event : Event)
+      → HasHeard hears held piece i old now before → used ≤ length (drop i piece)
+      → FirstEvent before (drop i piece) used (Some event) → new ≡ open_message (before ++ take used (drop i piece))
+      → hears now (at_place (i + used) event) later
+      → HasHeard hears held piece (i + used) old later new
+  heard_one held piece i used old now later before new event heard fits first e one = record {
+    within = omega (arith, fits, length-drop i piece, heard.within);
+    holds = next_holds held piece i used before new heard.holds e;
+    told = rw (next_told held piece i used before (Some event) heard.within heard.holds first)
+        (FoldsTo-one hears old now later _ _ heard.told one);
+  }

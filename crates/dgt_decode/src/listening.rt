@@ -1,0 +1,21 @@
+//! Who is told the events of a whole piece.
+
+ghost use Rattle.std.specs.Prelude.{⊤};
+ghost use Rattle.dgt_decode.specs.Feeding.{event_content};
+ghost use Rattle.dgt_decode.specs.Grammar.{Placed, at_place};
+
+use crate::event::Event;
+
+/// Is told events, one after another.
+///
+/// Contracts see what a listener makes of an event as a relation, `hears`, of which each listener
+/// has its own. One that has none promises nothing.
+pub trait Listener {
+    // the listener before an event, the event with its place, and the listener after it
+    ghost hears: { Self → Placed → Self → Type 0 } = { λ _ _ _. ⊤ };
+
+    /// Is told an event, and how many bytes of the piece come up to and including the one that
+    /// makes it.
+    fn hear(&mut self, place: usize, event: &Event<'_>)
+        ensures { hears self.old (at_place place (event_content event.now)) self.new };
+}

@@ -1,0 +1,25 @@
+use dgt_decode::{Decoder, Event, Listener};
+use dgt_message::Message;
+use dgt_values::{Piece, Square};
+
+/// The square that a board told last, and the piece on it.
+#[derive(Drop)]
+pub struct Last(pub Option<(Square, Piece)>);
+
+impl Listener for Last {
+    fn hear(&mut self, _place: usize, event: &Event<'_>) {
+        if let Event::Message(Message::Field { square, piece }) = event {
+            self.0 = Some((*square, *piece));
+        }
+    }
+}
+
+/// What the bytes of a board tell last of a square, whatever pieces they come in.
+pub fn last_field(pieces: &[&[u8]]) -> Option<(Square, Piece)> {
+    let mut decoder = Decoder::new();
+    let mut last = Last(None);
+    for piece in pieces {
+        decoder.feed_all(piece, &mut last);
+    }
+    last.0
+}

@@ -1,0 +1,22 @@
+//! What a program does with the libraries. README.md shows these files, and `checks/readme` finds
+//! each block of Rust of that page in one of them.
+//!
+//! The program itself, `pictures`, shows where the pieces stand after each change that the board on
+//! standard input tells. Beside it: following a board over a source and a sink, the squares on
+//! which two positions differ, reading a board's bytes without a host, and trying a host against a
+//! board of this project.
+#![tactic(auto)]
+
+mod decoding;
+mod differing;
+mod following;
+mod pictures;
+#[cfg(test)]
+mod tests;
+mod trying;
+
+use std::io;
+
+fn main(rt: HostRuntime) -> io::Result<()> {
+    pictures::show(rt.stdin(), rt.stdout())
+}

@@ -1,0 +1,132 @@
+-- Pictures that events set, one event after another.
+use Rattle.std.proofs.Common.{◌≡◌, ℕ, List, [], ◌∷◌, ◌++◌, Option, Some, None, refl, sym, ◌∙◌, ap, append_assoc, append-nil, length, map}
+use Rattle.std.proofs.lemmas.Grind.{flat_map-append}
+use Rattle.std.proofs.lemmas.List.{map-append}
+use Rattle.std.specs.List.{flat_map, last_or}
+use Rattle.dgt_values.specs.declared.pieces.Piece.{Piece}
+use Rattle.dgt_message.specs.Content.Content.{dump, field, times, no_clock, ack, serial, version, carried}
+use Rattle.dgt_message.specs.declared.message.Message as code_message
+use Rattle.dgt_decode.specs.Grammar.{Event, Message, Refused, Cut, BadLength, Stray, Placed, at_place, events, open_message}
+use Rattle.dgt_decode.specs.Feeding.{event_content}
+use Rattle.dgt_decode.specs.Laws.{EventsAppend}
+use Rattle.dgt_decode.specs.declared.event.Event as code
+use Rattle.dgt_decode.specs.declared.event.Event.TheVariants as code_events
+use Rattle.dgt_lines.specs.Lines.{events_after}
+use Rattle.dgt_lines.specs.Pictures.{LastLineIsPicture, PlacedPicture, picture_after_event, picture_after_events, picture_line, picture_lines, picture_set, picture_told, pictures, pictures_text}
+
+-- the picture after more events
+pub picture_after-append : (before : Option (List Piece)) (xs ys : List Placed)
+    → picture_after_events before (xs ++ ys) ≡ picture_after_events (picture_after_events before xs) ys
+picture_after-append before [] ys = refl
+picture_after-append before (x ∷ xs) ys = picture_after-append (picture_after_event before x.event) xs ys
+
+pictures-append : (before : Option (List Piece)) (xs ys : List Placed)
+    → pictures before (xs ++ ys) ≡ pictures before xs ++ pictures (picture_after_events before xs) ys
+pictures-append before [] ys = refl
+pictures-append before (x ∷ xs) ys =
+    let after = picture_after_event before x.event in
+    let set = picture_set x.place x.event after in
+    ap (λ l. set ++ l) (pictures-append after xs ys) ∙ sym (append_assoc set (pictures after xs) _)
+
+-- the lines of more events
+pub picture_lines-append : (before : Option (List Piece)) (xs ys : List Placed)
+    → picture_lines before (xs ++ ys) ≡ picture_lines before xs ++ picture_lines (picture_after_events before xs) ys
+picture_lines-append before xs ys =
+    ap (flat_map picture_line) (pictures-append before xs ys) ∙ flat_map-append picture_line (pictures before xs)
+    (pictures (picture_after_events before xs) ys)
+
+-- ---- bytes, and a piece after them
+
+pub pictures_text-append : EventsAppend → (bytes piece : List ℕ)
+    → pictures_text (bytes ++ piece) ≡ pictures_text bytes ++ picture_lines (picture_told bytes)
+    (events_after (open_message bytes) (length bytes) piece)
+pictures_text-append more bytes piece =
+    ap (picture_lines None) (more bytes piece)
+    ∙ picture_lines-append None (events bytes) (events_after (open_message bytes) (length bytes) piece)
+
+pub picture_told-append : EventsAppend → (bytes piece : List ℕ)
+    → picture_told (bytes ++ piece) ≡ picture_after_events (picture_told bytes)
+    (events_after (open_message bytes) (length bytes) piece)
+picture_told-append more bytes piece =
+    ap (picture_after_events None) (more bytes piece)
+    ∙ picture_after-append None (events bytes) (events_after (open_message bytes) (length bytes) piece)
+
+-- ---- one event more, behind which the picture is `after`
+
+module _ (before now after : Option (List Piece)) (xs : List Placed) (place : ℕ) (event : Event)
+    (shown : now ≡ picture_after_events before xs) (heard : after ≡ picture_after_event now event) where
+  heard_behind : after ≡ picture_after_event (picture_after_events before xs) event
+  heard_behind = heard ∙ ap (λ p. picture_after_event p event) shown
+
+  pub behind_more : after ≡ picture_after_events before (xs ++ at_place place event ∷ [])
+  behind_more = heard_behind ∙ sym (picture_after-append before xs (at_place place event ∷ []))
+
+  pub lines_more : picture_lines before (xs ++ at_place place event ∷ []) ≡ picture_lines before xs ++ flat_map
+      picture_line (picture_set place event after)
+  lines_more =
+      picture_lines-append before xs (at_place place event ∷ [])
+      ∙ ap (λ l. picture_lines before xs ++ flat_map picture_line l)
+      (append-nil _ ∙ ap (picture_set place event) (sym heard_behind))
+
+  -- and events behind it
+  pub lines_whole : (all later : List Placed) → all ≡ (xs ++ at_place place event ∷ []) ++ later
+      → picture_lines before all ≡ picture_lines before xs ++
+      (flat_map picture_line (picture_set place event after) ++ picture_lines
+      (picture_after_events before (xs ++ at_place place event ∷ [])) later)
+  lines_whole all later e =
+      ap (picture_lines before) e
+      ∙ picture_lines-append before (xs ++ at_place place event ∷ []) later
+      ∙ ap (λ l. l ++ picture_lines (picture_after_events before (xs ++ at_place place event ∷ [])) later) lines_more
+      ∙ append_assoc (picture_lines before xs) _ _
+
+-- an event that is no message sets nothing
+pub no_message : (e : code.Event) (event : Event)
+    → ((message : code_message.Message) → e ≡ code_events.Message message → ⊥) → event_content e ≡ event
+    → (picture : Option (List Piece)) (place : ℕ) → (picture ≡ picture_after_event picture event)
+    × (picture_set place event picture ≡ [])
+no_message (code_events.Message message) event h e = absurd (h message refl)
+no_message (code_events.Refused code fault) event h e = λ picture place. rw (← e) (refl, refl)
+no_message (code_events.Cut have) event h e = λ picture place. rw (← e) (refl, refl)
+no_message code_events.BadLength event h e = λ picture place. rw (← e) (refl, refl)
+no_message (code_events.Stray byte) event h e = λ picture place. rw (← e) (refl, refl)
+
+-- ---- the last line
+
+last_or-append : {A : Type 0} (o : Option A) (xs ys : List A) → last_or o (xs ++ ys) ≡ last_or (last_or o xs) ys
+last_or-append o [] ys = refl
+last_or-append o (x ∷ xs) ys = last_or-append (Some x) xs ys
+
+abbrev pub pieces_set : List PlacedPicture → List (List Piece)
+pieces_set xs = map (λ x. x.pieces) xs
+
+-- what an event sets is the picture after it, and what sets nothing leaves it
+set_last : (before : Option (List Piece)) (place : ℕ) (event : Event) →
+    let after = picture_after_event before event in
+    last_or before (pieces_set (picture_set place event after)) ≡ after
+set_last before place (Message (dump pieces)) = refl
+set_last None place (Message (field square piece)) = refl
+set_last (Some pieces) place (Message (field square piece)) = refl
+set_last before place (Message (times readings)) = refl
+set_last before place (Message (no_clock absence)) = refl
+set_last before place (Message (ack answer)) = refl
+set_last before place (Message (serial digits)) = refl
+set_last before place (Message (version main sub)) = refl
+set_last before place (Message (carried code body)) = refl
+set_last before place (Refused code fault) = refl
+set_last before place (Cut have) = refl
+set_last before place BadLength = refl
+set_last before place (Stray byte) = refl
+
+pictures_last : (before : Option (List Piece)) (xs : List Placed)
+    → last_or before (pieces_set (pictures before xs)) ≡ picture_after_events before xs
+pictures_last before [] = refl
+pictures_last before (x ∷ xs) =
+    let after = picture_after_event before x.event in
+    let set = picture_set x.place x.event after in
+    ap (last_or before) (map-append (λ y. y.pieces) set (pictures after xs))
+    ∙ last_or-append before (pieces_set set) (pieces_set (pictures after xs))
+    ∙ ap (λ o. last_or o (pieces_set (pictures after xs))) (set_last before x.place x.event)
+    ∙ pictures_last after xs
+
+pub last_line_is_picture : LastLineIsPicture
+last_line_is_picture bytes = pictures_last None (events bytes)

@@ -1,0 +1,75 @@
+-- The lines that show the board. A line is an offset, a space and a placement: one for each message
+-- that sets the picture of the board.
+use Rattle.std.specs.Prelude.{◌≡◌, ℕ, List, [], ◌∷◌, ◌++◌, map, Option, Some, None}
+use Rattle.std.specs.List.{flat_map, last_or}
+use Rattle.dgt_values.specs.declared.pieces.Piece.{Piece}
+use Rattle.dgt_values.specs.Placement.{placement_text}
+use Rattle.dgt_message.specs.Content.Content.{dump, field}
+use Rattle.dgt_decode.specs.Grammar.{Event, Message, Placed, events}
+use Rattle.dgt_host.specs.Host.{picture_after}
+use Rattle.dgt_lines.specs.Lines.{line}
+
+-- ---- The picture
+
+-- the picture after an event: only a message changes it
+abbrev pub picture_after_event : Option (List Piece) → Event → Option (List Piece)
+picture_after_event picture (Message said) = picture_after picture said
+picture_after_event picture _ = picture
+
+abbrev pub picture_after_events : Option (List Piece) → List Placed → Option (List Piece)
+picture_after_events picture [] = picture
+picture_after_events picture (x ∷ more) =
+    picture_after_events (picture_after_event picture x.event) more
+
+-- the picture after all events of these bytes, where nothing was known before
+abbrev pub picture_told : List ℕ → Option (List Piece)
+picture_told bytes = picture_after_events None (events bytes)
+
+-- ---- What sets it
+
+-- the pieces of the board, and the number of bytes up to and including the message that sets them
+pub record PlacedPicture : Type 0 where
+  pub place : ℕ
+  pub pieces : List Piece
+
+abbrev pub picture_at : ℕ → List Piece → PlacedPicture
+picture_at place pieces = record { place = place; pieces = pieces }
+
+-- the picture at this place, if it is known
+abbrev pub known_at : ℕ → Option (List Piece) → List PlacedPicture
+known_at place None = []
+known_at place (Some pieces) = picture_at place pieces ∷ []
+
+-- what an event at this place sets, where this is the picture after it: a dump sets the picture,
+-- and a field does where it is known
+abbrev pub picture_set : ℕ → Event → Option (List Piece) → List PlacedPicture
+picture_set place (Message (dump _)) after = known_at place after
+picture_set place (Message (field _ _)) after = known_at place after
+picture_set place _ after = []
+
+-- the pictures that events set, where the picture is this before them
+abbrev pub pictures : Option (List Piece) → List Placed → List PlacedPicture
+pictures before [] = []
+pictures before (x ∷ more) =
+    let after = picture_after_event before x.event in
+    picture_set x.place x.event after ++ pictures after more
+
+-- ---- Lines
+
+abbrev pub picture_line : PlacedPicture → List ℕ
+picture_line x = line x.place (placement_text x.pieces)
+
+-- a line for each picture that events set
+abbrev pub picture_lines : Option (List Piece) → List Placed → List ℕ
+picture_lines before placed = flat_map picture_line (pictures before placed)
+
+-- and for each that bytes set, where nothing was known before
+abbrev pub pictures_text : List ℕ → List ℕ
+pictures_text bytes = picture_lines None (events bytes)
+
+-- The last line shows the picture after all messages that were read. Where that is unknown there
+-- is no line.
+abbrev pub LastLineIsPicture : Type 0
+LastLineIsPicture =
+    (bytes : List ℕ) → last_or None (map (λ x. x.pieces) (pictures None (events bytes)))
+    ≡ picture_told bytes

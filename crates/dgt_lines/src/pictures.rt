@@ -1,0 +1,127 @@
+//! The picture of a board, and its text.
+
+ghost use Rattle.std.specs.Prelude.{◌≡◌, ◌+◌, ◌≤◌, ◌↔◌, ◌++◌, IsTrue, codes, length, slice_set};
+ghost use Rattle.dgt_values.specs.Board.{pieces_of, square_number};
+ghost use Rattle.dgt_values.specs.Placement.{placement_text, rank_text_after, ranks_text};
+
+use crate::gathering::Outgoing;
+use dgt_values::{Piece, Position, Square};
+use std::marker::Model;
+
+// The text of a rank. Contracts see its bytes, of which there are at most eight.
+#[derive(Drop)]
+struct RankText {
+    bytes: [u8; 8],
+    len: usize,
+}
+
+impl Model for RankText {
+    ghost use Rattle.std.specs.Prelude.{◌≡◌, ◌≤◌, ℕ, List, length, take};
+
+    ghost Value = { List ℕ };
+
+    ghost view = { λ rank. take rank.len rank.bytes };
+
+    ghost invariant = { λ rank. (length rank.bytes ≡ 8) × (rank.len ≤ 8) };
+}
+
+impl RankText {
+    fn new(rank: &[Piece]) -> Self
+        requires { length rank.now ≡ 8 }
+        ensures { result ≡ rank_text_after 0 rank.now }
+    {
+        let mut bytes = [0; 8];
+        let mut len = 0;
+        let mut empty = 0;
+        for piece in rank {
+            let here = is_empty(*piece);
+            // a run ends before a piece
+            len += usize::from(!here & (empty > 0));
+            bytes[len] = if here {
+                b'1' + empty
+            } else {
+                piece.letter() as u8
+            };
+            len += usize::from(!here);
+            empty = if here { empty + 1 } else { 0 };
+        }
+        len += usize::from(empty > 0);
+        RankText { bytes, len }
+    }
+}
+
+fn is_empty(piece: Piece) -> bool
+    ensures { IsTrue result ↔ (piece ≡ Piece.Empty) }
+{
+    piece == Piece::Empty
+}
+
+/// The pieces of a board, and the texts of its ranks: so a field message has one of them formed
+/// anew. Contracts see the pieces.
+#[derive(Drop)]
+pub struct Picture {
+    position: Position,
+    ranks: [RankText; 8],
+}
+
+impl Model for Picture {
+    ghost use Rattle.std.specs.Prelude.{◌≡◌, List};
+    ghost use Rattle.dgt_values.specs.declared.pieces.Piece.{Piece};
+    ghost use Rattle.dgt_values.specs.Board.{pieces_of};
+    ghost use Rattle.dgt_values.specs.Placement.{ranks_text};
+
+    ghost Value = { List Piece };
+
+    ghost view = { λ picture. pieces_of picture.position };
+
+    ghost invariant = { λ picture. picture.ranks ≡ ranks_text 8 (pieces_of picture.position) };
+}
+
+impl Picture {
+    /// The picture of a dump.
+    pub(crate) fn new(position: &Position) -> Self
+        ensures { result ≡ pieces_of position.now }
+    {
+        let pieces = position.pieces();
+        Picture {
+            position: *position,
+            ranks: [
+                RankText::new(&pieces[..8]),
+                RankText::new(&pieces[8..16]),
+                RankText::new(&pieces[16..24]),
+                RankText::new(&pieces[24..32]),
+                RankText::new(&pieces[32..40]),
+                RankText::new(&pieces[40..48]),
+                RankText::new(&pieces[48..56]),
+                RankText::new(&pieces[56..64]),
+            ],
+        }
+    }
+
+    /// Puts the piece on the square, as a field message does.
+    pub(crate) fn set(&mut self, square: Square, piece: Piece)
+        ensures { self.new ≡ slice_set self.old (square_number square) piece }
+    {
+        self.position.set(square, piece);
+        let rank = usize::from(square.index() / 8);
+        self.ranks[rank] = RankText::new(&self.position.pieces()[8 * rank..8 * rank + 8]);
+    }
+
+    /// Adds its placement and a line feed.
+    pub(crate) fn push<const ROOM: usize>(&self, text: &mut Outgoing<ROOM>)
+        requires { length text.old + 72 ≤ ROOM }
+        ensures { text.new ≡ text.old ++ (placement_text self.now ++ codes "\n") }
+    {
+        let mut bytes = [0; 80];
+        let mut at = 0;
+        for rank in &self.ranks {
+            bytes[at..at + 8].copy_from_slice(&rank.bytes);
+            at += rank.len;
+            bytes[at] = b'/';
+            at += 1;
+        }
+        // behind the last rank the line ends
+        bytes[at - 1] = b'\n';
+        text.push(&bytes[..at]);
+    }
+}

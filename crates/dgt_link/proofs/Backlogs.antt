@@ -1,0 +1,16 @@
+-- What is known of a board's backlog.
+use Rattle.std.proofs.Common.{◌≡◌, ◌+◌, ◌<◌, ◌≤◌, List, Some, length}
+use Rattle.dgt_message.specs.Content.{Content}
+use Rattle.dgt_command.specs.Content.{EventContent}
+use Rattle.dgt_board.specs.Sending.{backlog, after_sending, next_message}
+use Rattle.dgt_board.specs.State.{BoardState, effects}
+
+-- it falls by each message
+abbrev pub BacklogFalls : Type 0
+BacklogFalls = (board : BoardState) (message : Content) → length board.told_squares ≡ 64
+    → next_message board ≡ Some message → backlog (after_sending board message) < backlog board
+
+-- and rises by one for each event at most
+abbrev pub BacklogRises : Type 0
+BacklogRises = (board : BoardState) (events : List EventContent)
+    → backlog (effects board events) ≤ backlog board + length events
