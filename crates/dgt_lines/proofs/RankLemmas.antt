@@ -1,11 +1,7 @@
 -- The texts of ranks.
-use Rattle.std.proofs.Common.{◌≡◌, ℕ, zero, suc, ◌+◌, ◌-◌, ◌*◌, ◌/◌, ◌%◌, ◌<◌, ◌≤◌, List, [], ◌∷◌, ◌++◌, ◌∙◌, add-one, ap, append_assoc, append-nil, arith, drop, drop-cons, get_or, length, length-append, refl, sym, take}
-use Rattle.std.proofs.Math.Seq.{take-append_seam, take-append-add}
-use Rattle.std.proofs.lemmas.List.{drop-drop, drop-set-add, drop-set-lt, length-take-le, take-set-le, take-take, take_more_set}
+use Rattle.std.proofs.Common.{◌≡◌, ℕ, zero, suc, ◌+◌, ◌*◌, ◌/◌, ◌%◌, ◌<◌, List, [], ◌∷◌, ◌++◌, ◌∙◌, add-one, ap, append_assoc, append-nil, arith, drop, drop-cons, get_or, length, refl, sym, take}
+use Rattle.std.proofs.lemmas.List.{drop-drop, drop-set-add, drop-set-lt, take-set-le}
 use Rattle.std.proofs.lemmas.Bool.{ne_eqb}
-use Rattle.std.proofs.lemmas.List.Edits.{length-paste}
-use Rattle.std.proofs.lemmas.Slice.{put_mid-paste}
-use borrow.Rule.Slice.PartMut.{put_mid}
 use Rattle.std.specs.Prelude.{◌≢◌, flat_map, slice_set}
 use Rattle.std.specs.List.{join_with_byte}
 use Rattle.dgt_values.specs.declared.pieces.Piece.{Piece}
@@ -110,43 +106,16 @@ ranks_text-eight pieces = simp drop-drop refl
 abbrev pub ended_ranks : List (List ℕ) → List ℕ
 ended_ranks ranks = flat_map (λ rank. rank ++ 47 ∷ []) ranks
 
-join-ended : (rank : List ℕ) (ranks : List (List ℕ)) → ended_ranks (rank ∷ ranks) ≡ join_with_byte 47
-    (rank ∷ ranks) ++ 47 ∷ []
-join-ended rank [] = append-nil (rank ++ 47 ∷ [])
-join-ended rank (next ∷ ranks) = ap (λ l. (rank ++ 47 ∷ []) ++ l) (join-ended next ranks) ∙ simp append_assoc
+-- and one behind them
+join-last : (ranks : List (List ℕ)) (last : List ℕ)
+    → ended_ranks ranks ++ last ≡ join_with_byte 47 (ranks ++ last ∷ [])
+join-last [] last = refl
+join-last (rank ∷ []) last = simp append_assoc
+join-last (rank ∷ next ∷ ranks) last = append_assoc (rank ++ 47 ∷ []) (ended_ranks (next ∷ ranks)) last
+    ∙ ap (λ l. (rank ++ 47 ∷ []) ++ l) (join-last (next ∷ ranks) last) ∙ append_assoc rank (47 ∷ []) _
 
-pub ended_placement : (ranks : List (List ℕ)) (pieces : List Piece) → ranks ≡ ranks_text 8 pieces
-    → ended_ranks ranks ≡ placement_text pieces ++ 47 ∷ []
+-- the eighth rank behind seven others
+pub placement_ended : (ranks : List (List ℕ)) (pieces : List Piece) (other : List ℕ) → ranks ≡ ranks_text 8 pieces
+    → ended_ranks (take 7 ranks) ++ get_or ranks 7 other ≡ placement_text pieces
 unfolding placement_text
-ended_placement ranks pieces e = ap ended_ranks e ∙ join-ended (rank_text (take 8 pieces))
-    (ranks_text 7 (drop 8 pieces))
-
--- ---- the bytes of a text
-
--- eight bytes are put behind what is written, and a slash behind the first of them
-pub rank_written : (at len : ℕ) (bytes whole eight : List ℕ) → take (at + 8) whole ≡ take at bytes ++ eight
-    → at ≤ length bytes → len ≤ 8 → at + len < length whole
-    → take (at + len + 1) (slice_set whole (at + len) 47) ≡ take at bytes ++ (take len eight ++ 47 ∷ [])
-rank_written at len bytes whole eight e h short inside =
-    let front : take (at + len) whole ≡ take at bytes ++ take len eight =
-    sym (take-take (at + len) (at + 8) whole (omega arith)) ∙ ap (take (at + len)) e
-    ∙ ap (λ n. take (n + len) (take at bytes ++ eight)) (sym (length-take-le at bytes h)) ∙ take-append-add
-    (take at bytes) eight len in
-    take_more_set whole (at + len) 47 inside ∙ ap (λ l. l ++ 47 ∷ []) front ∙ append_assoc (take at bytes)
-    (take len eight) (47 ∷ [])
-
-pub length-put : (a k : ℕ) (xs ys : List ℕ) → k ≡ 8 → a + 8 ≤ length xs → length ys ≡ 8
-    → length (put_mid a k xs ys) ≡ length xs
-length-put a k xs ys e room many =
-    ap length (put_mid-paste a k xs ys ys 8 refl (sym e) (sym many)) ∙ length-paste xs a ys 8 room (omega arith)
-
--- without the last slash
-pub last_slash : (at : ℕ) (bytes text : List ℕ) → take at bytes ≡ text ++ 47 ∷ [] → at ≤ length bytes
-    → take (at - 1) bytes ≡ text
-last_slash at bytes text e h =
-    let long = ap length e in
-    let taken = length-take-le at bytes h in
-    let sum = length-append text (47 ∷ []) in
-    let n : at - 1 ≡ length text = omega arith in
-    sym (take-take (at - 1) at bytes (omega arith)) ∙ ap (take (at - 1)) e ∙ ap (λ m. take m (text ++ 47 ∷ [])) n ∙
-    take-append_seam text (47 ∷ [])
+placement_ended ranks pieces other e = join-last (take 7 ranks) (get_or ranks 7 other) ∙ rw e refl

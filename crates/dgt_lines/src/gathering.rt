@@ -1,6 +1,6 @@
 //! How bytes are written: they are gathered, and go out in one write.
 
-ghost use Rattle.std.specs.Prelude.{◌≡◌, ◌≢◌, ◌+◌, ◌*◌, ◌<◌, ◌≤◌, [], ◌∷◌, ◌++◌, false, length, OnOk, IsTrue};
+ghost use Rattle.std.specs.Prelude.{◌≡◌, ◌≢◌, ◌+◌, ◌*◌, ◌<◌, ◌≤◌, [], ◌∷◌, ◌++◌, false, length, take, OnOk, IsTrue};
 ghost use Rattle.hex.specs.Hex.{encode_lower};
 ghost use Rattle.dgt_lines.specs.Lines.{padded_decimal};
 ghost use Rattle.dgt_lines.specs.Marks.{Waits};
@@ -8,7 +8,6 @@ ghost use Rattle.dgt_lines.specs.Writing.{Writes, Gathers};
 
 use crate::ends::{Failed, Sink};
 use crate::faults::RunFault;
-use arrayvec::ArrayVec;
 use std::marker::Model;
 
 /// Writes all of these bytes, in as many writes as the sink asks for, without a flush.
@@ -44,17 +43,22 @@ pub(crate) const LINE_ROOM: usize = 128;
 
 /// Bytes on their way to a sink, at most `ROOM` of them. Contracts see those that were not written
 /// yet.
+///
+/// An array of its own, since [`push_rank`](Outgoing::push_rank) writes behind what is kept.
 #[derive(Drop)]
 pub struct Outgoing<const ROOM: usize> {
-    bytes: ArrayVec<u8, ROOM>,
+    bytes: [u8; ROOM],
+    len: usize,
 }
 
 impl<const ROOM: usize> Model for Outgoing<ROOM> {
-    ghost use Rattle.std.specs.Prelude.{ℕ, List};
+    ghost use Rattle.std.specs.Prelude.{◌≡◌, ◌≤◌, ℕ, List, length, take};
 
     ghost Value = { List ℕ };
 
-    ghost view = { λ outgoing. outgoing.bytes.items };
+    ghost view = { λ outgoing. take outgoing.len outgoing.bytes };
+
+    ghost invariant = { λ outgoing. (length outgoing.bytes ≡ ROOM) × (outgoing.len ≤ ROOM) };
 }
 
 impl<const ROOM: usize> Outgoing<ROOM> {
@@ -63,7 +67,8 @@ impl<const ROOM: usize> Outgoing<ROOM> {
         ensures { result ≡ [] }
     {
         Outgoing {
-            bytes: ArrayVec::new(),
+            bytes: [0; ROOM],
+            len: 0,
         }
     }
 
@@ -72,7 +77,14 @@ impl<const ROOM: usize> Outgoing<ROOM> {
         ensures len { result ≡ length self.now }
         ensures limit { result ≤ ROOM }
     {
-        self.bytes.len()
+        self.len
+    }
+
+    // How many more bytes there is room for.
+    fn room(&self) -> usize
+        ensures { result + length self.now ≡ ROOM }
+    {
+        ROOM - self.len
     }
 
     /// Writes all that was gathered. After a refused write the rest of it is dropped.
@@ -83,8 +95,8 @@ impl<const ROOM: usize> Outgoing<ROOM> {
         ensures unflushed { OnOk result (Waits self.old (W.flushed writer.old) →
             W.flushed writer.new ≡ false) }
     {
-        let answer = put(writer, self.bytes.as_slice());
-        self.bytes.clear();
+        let answer = put(writer, &self.bytes[..self.len]);
+        self.len = 0;
         answer
     }
 
@@ -96,7 +108,7 @@ impl<const ROOM: usize> Outgoing<ROOM> {
         ensures room { OnOk result (length self.new + LINE_ROOM ≤ ROOM) }
         ensures no_flush { W.flushed writer.old ≡ false → W.flushed writer.new ≡ false }
     {
-        if self.bytes.remaining_capacity() < LINE_ROOM {
+        if self.room() < LINE_ROOM {
             return self.write_out(writer);
         }
         Ok(())
@@ -109,9 +121,9 @@ impl<const ROOM: usize> Outgoing<ROOM> {
         ensures no_flush { W.flushed writer.old ≡ false → W.flushed writer.new ≡ false }
         ensures waits { OnOk result (bytes.now ≢ [] → Waits self.new (W.flushed writer.new)) }
     {
-        if bytes.len() > self.bytes.remaining_capacity() {
+        if bytes.len() > self.room() {
             self.write_out(writer)?;
-            if bytes.len() > self.bytes.remaining_capacity() {
+            if bytes.len() > self.room() {
                 return put(writer, bytes);
             }
         }
@@ -125,7 +137,25 @@ impl<const ROOM: usize> Outgoing<ROOM> {
         ensures bytes { self.new ≡ self.old ++ bytes.now }
         ensures len { length self.new ≡ length self.old + length bytes.now }
     {
-        self.bytes.try_extend_from_slice(bytes).unwrap();
+        let end = self.len + bytes.len();
+        let all = &mut self.bytes[..];
+        all[self.len..end].copy_from_slice(bytes);
+        self.len = end;
+    }
+
+    /// Adds the first `len` of eight bytes, and one behind them: the text of a rank, and what ends
+    /// it. All eight are copied, which is faster than so many.
+    pub(crate) fn push_rank(&mut self, rank: &[u8; 8], len: usize, end: u8)
+        requires room { length self.old + 9 ≤ ROOM }
+        requires within { len ≤ 8 }
+        ensures bytes { self.new ≡ self.old ++ (take len rank.now ++ end ∷ []) }
+        ensures len { length self.new ≡ length self.old + len + 1 }
+    {
+        let at = self.len;
+        let all = &mut self.bytes[..];
+        all[at..at + 8].copy_from_slice(rank);
+        all[at + len] = end;
+        self.len = at + len + 1;
     }
 
     /// Adds two hexadecimal digits for each byte.

@@ -112,16 +112,10 @@ impl Picture {
         requires { length text.old + 72 ≤ ROOM }
         ensures { text.new ≡ text.old ++ (placement_text self.now ++ codes "\n") }
     {
-        let mut bytes = [0; 80];
-        let mut at = 0;
-        for rank in &self.ranks {
-            bytes[at..at + 8].copy_from_slice(&rank.bytes);
-            at += rank.len;
-            bytes[at] = b'/';
-            at += 1;
+        for rank in &self.ranks[..7] {
+            text.push_rank(&rank.bytes, rank.len, b'/');
         }
-        // behind the last rank the line ends
-        bytes[at - 1] = b'\n';
-        text.push(&bytes[..at]);
+        let last = &self.ranks[7];
+        text.push_rank(&last.bytes, last.len, b'\n');
     }
 }
