@@ -1,15 +1,38 @@
 -- The texts of ranks.
-use Rattle.std.proofs.Common.{◌≡◌, ℕ, zero, suc, ◌+◌, ◌*◌, ◌/◌, ◌%◌, ◌<◌, List, [], ◌∷◌, ◌++◌, ◌∙◌, add-one, ap, append_assoc, append-nil, arith, drop, drop-cons, get_or, length, refl, sym, take}
-use Rattle.std.proofs.lemmas.List.{drop-drop, drop-set-add, drop-set-lt, take-set-le}
+use Rattle.std.proofs.Common.{length-append, length-take-le, take-take, true≢false, Bool, ◌≤◌, ◌-◌, ◌&&◌, subst, true, false, slice_index_or, ◌≡◌, ℕ, zero, suc, ◌+◌, ◌*◌, ◌/◌, ◌%◌, ◌<◌, List, [], ◌∷◌, ◌++◌, ◌∙◌, add-one, ap, append_assoc, append-nil, arith, drop, drop-cons, get_or, length, refl, sym, take}
+use Rattle.std.proofs.lemmas.List.{take_more_set, drop-drop, drop-set-add, drop-set-lt, take-set-le}
+use Rattle.std.proofs.Math.Seq.{take-append_seam}
 use Rattle.std.proofs.lemmas.Bool.{ne_eqb}
 use Rattle.std.specs.Prelude.{◌≢◌, flat_map, slice_set}
 use Rattle.std.specs.List.{join_with_byte}
 use Rattle.dgt_values.specs.declared.pieces.Piece.{Piece}
 use Rattle.dgt_values.specs.declared.pieces.Piece.TheVariants.{Empty, WhitePawn, WhiteRook, WhiteKnight, WhiteBishop, WhiteKing, WhiteQueen, BlackPawn, BlackRook, BlackKnight, BlackBishop, BlackKing, BlackQueen, FirstExtra, SecondExtra, ThirdExtra}
-use Rattle.dgt_values.specs.Board.{piece_letter}
+use Rattle.dgt_values.specs.Board.{piece_code, piece_letter}
 use Rattle.dgt_values.specs.Placement.{placement_text, rank_text_after, ranks_text, run_text}
 
 -- ---- one rank, a piece after another
+
+-- the letters of pieces, with a digit in place of the first one
+abbrev pub letters_with : List ℕ
+letters_with = 49 ∷ 80 ∷ 82 ∷ 78 ∷ 66 ∷ 75 ∷ 81 ∷ 112 ∷ 114 ∷ 110 ∷ 98 ∷ 107 ∷ 113 ∷ 88 ∷ 89 ∷ 90 ∷ []
+
+pub letter_of : (piece : Piece) → piece ≢ Empty → slice_index_or letters_with (piece_code piece) 0 ≡ piece_letter piece
+letter_of Empty h = absurd (h refl)
+letter_of WhitePawn h = refl
+letter_of WhiteRook h = refl
+letter_of WhiteKnight h = refl
+letter_of WhiteBishop h = refl
+letter_of WhiteKing h = refl
+letter_of WhiteQueen h = refl
+letter_of BlackPawn h = refl
+letter_of BlackRook h = refl
+letter_of BlackKnight h = refl
+letter_of BlackBishop h = refl
+letter_of BlackKing h = refl
+letter_of BlackQueen h = refl
+letter_of FirstExtra h = refl
+letter_of SecondExtra h = refl
+letter_of ThirdExtra h = refl
 
 pub one_more_empty : (rank : List Piece) (i empty : ℕ) → i < length rank → get_or rank i Empty ≡ Empty
     → rank_text_after empty (drop i rank) ≡ rank_text_after (empty + 1) (drop (i + 1) rank)
@@ -43,16 +66,159 @@ one_more_piece rank i empty text front h ne e =
     rw (e, add-one i, drop-cons rank i Empty h, text_after_piece (get_or rank i Empty) empty (drop (suc i) rank) ne)
     (simp append_assoc)
 
+-- what is written of a rank: a front, and the digit of the run of empty squares behind it, if there is one
+pub record RankSoFar (written : List ℕ) (was_empty : Bool) (last seen : ℕ) (later : List Piece) (whole : List ℕ) :
+    Type 0 where
+  pub front : List ℕ
+  pub empty : ℕ
+  pub ends : written ≡ front ++ run_text empty
+  pub goes_on : front ++ rank_text_after empty later ≡ whole
+  pub digit : was_empty ≡ true → (0 < empty) × (last ≡ 48 + empty)
+  pub no_digit : was_empty ≡ false → empty ≡ 0
+  pub few : empty ≤ seen
+
 run_digit : (empty : ℕ) → 0 < empty → run_text empty ≡ (48 + empty) ∷ []
 run_digit empty some = rw (ne_eqb empty 0 (λ h. omega arith)) refl
 
--- the digit of a run stands behind what is written; with no run none does
-pub run_some : (bytes : List ℕ) (len empty : ℕ) → 0 < empty → take (len + 1) bytes ≡ take len bytes ++
-    (48 + empty) ∷ [] → take (len + 1) bytes ≡ take len bytes ++ run_text empty
-run_some bytes len empty h e = e ∙ ap (λ l. take len bytes ++ l) (sym (run_digit empty h))
+-- one digit is a byte
+run_short : (empty : ℕ) → 0 < empty → length (run_text empty) ≡ 1
+run_short empty some = rw (run_digit empty some) refl
 
-pub run_none : (bytes : List ℕ) (len empty : ℕ) → empty ≡ 0 → take len bytes ≡ take len bytes ++ run_text empty
-run_none bytes len empty e = rw e (sym (append-nil (take len bytes)))
+module _ (rank : List Piece) (i len last : ℕ) (bytes whole : List ℕ) (inside : i < length rank) where
+  -- one empty square more of a run
+  pub counted : (before : RankSoFar (take len bytes) true last i (drop i rank) whole) → len ≤ length bytes
+      → get_or rank i Empty ≡ Empty
+      → RankSoFar (take len (slice_set bytes (len - 1) (last + 1))) true (last + 1) (i + 1) (drop (i + 1) rank) whole
+  counted before room e =
+      let some = before.digit refl in
+      let long : len ≡ length before.front + 1 =
+      omega (
+        arith,
+        ap length before.ends,
+        length-append before.front (run_text before.empty),
+        run_short before.empty some.0,
+        length-take-le len bytes room,
+      ) in
+      let next : len - 1 + 1 ≡ len = omega arith in
+      let front : take (len - 1) bytes ≡ before.front =
+      sym (take-take (len - 1) len bytes (omega arith)) ∙ ap (take (len - 1)) before.ends
+      ∙ ap (λ n. take n (before.front ++ run_text before.empty)) (omega arith) ∙ take-append_seam before.front
+      (run_text before.empty) in
+      let digit : last + 1 ≡ 48 + (before.empty + 1) = omega (arith, some.1) in
+      record {
+        front = before.front;
+        empty = before.empty + 1;
+        ends =
+            ap (λ n. take n (slice_set bytes (len - 1) (last + 1))) (sym next)
+            ∙ take_more_set bytes (len - 1) (last + 1) (omega arith) ∙ ap (λ l. l ++ (last + 1) ∷ []) front
+            ∙ ap (λ n. before.front ++ n ∷ []) digit
+            ∙ ap (λ l. before.front ++ l) (sym (run_digit (before.empty + 1) (omega arith)));
+        goes_on =
+            ap (λ l. before.front ++ l) (sym (one_more_empty rank i before.empty inside e)) ∙ before.goes_on;
+        digit = λ _. (omega arith, digit);
+        no_digit = λ h. absurd (true≢false h);
+        few = omega (arith, before.few);
+      }
+
+  -- the first empty square of a run
+  pub begun : RankSoFar (take len bytes) false last i (drop i rank) whole → len < length bytes
+      → get_or rank i Empty ≡ Empty
+      → RankSoFar (take (len + 1) (slice_set bytes len 49)) true 49 (i + 1) (drop (i + 1) rank) whole
+  begun before room e =
+      let none = before.no_digit refl in
+      let front : take len bytes ≡ before.front =
+      before.ends ∙ ap (λ n. before.front ++ run_text n) none ∙ append-nil before.front in
+      record {
+        front = before.front;
+        empty = 1;
+        ends = take_more_set bytes len 49 room ∙ ap (λ l. l ++ 49 ∷ []) front;
+        goes_on =
+            ap (λ l. before.front ++ l)
+            (sym (one_more_empty rank i 0 inside e) ∙ ap (λ n. rank_text_after n (drop i rank)) (sym none))
+            ∙ before.goes_on;
+        digit = λ _. (omega arith, refl);
+        no_digit = λ h. absurd (true≢false h);
+        few = omega arith;
+      }
+
+  -- a piece
+  pub lettered : (was_empty : Bool) (letter : ℕ) → RankSoFar (take len bytes) was_empty last i (drop i rank) whole
+      → len < length bytes → get_or rank i Empty ≢ Empty → letter ≡ piece_letter (get_or rank i Empty)
+      → RankSoFar (take (len + 1) (slice_set bytes len letter)) false letter (i + 1) (drop (i + 1) rank) whole
+  lettered was_empty letter before room ne e =
+      record {
+        front = take len bytes ++ letter ∷ [];
+        empty = 0;
+        ends = take_more_set bytes len letter room ∙ sym (append-nil (take len bytes ++ letter ∷ []));
+        goes_on =
+            ap (λ n. (take len bytes ++ n ∷ []) ++ rank_text_after 0 (drop (i + 1) rank)) e
+            ∙ one_more_piece rank i before.empty before.front (take len bytes) inside ne before.ends
+            ∙ before.goes_on;
+        digit = λ h. absurd (true≢false (sym h));
+        no_digit = λ _. refl;
+        few = omega arith;
+      }
+
+  -- with the byte at k - 1 written, k bytes are
+  abbrev NextSoFar : ℕ → ℕ → Bool → Type 0
+  NextSoFar k next empty =
+      RankSoFar (take k (slice_set bytes (k - 1) next)) empty next (i + 1) (drop (i + 1) rank) whole
+
+  pub counted_next : (was_empty empty : Bool) (k next : ℕ)
+      → RankSoFar (take len bytes) was_empty last i (drop i rank) whole → len ≤ length bytes
+      → (empty ≡ true → get_or rank i Empty ≡ Empty) → (empty && was_empty) ≡ true → k ≡ len → next ≡ last + 1
+      → NextSoFar k next empty
+  counted_next true true k next before room is both ek en =
+      subst (λ j. NextSoFar j next true) (sym ek)
+      (subst (λ n. NextSoFar len n true) (sym en) (counted before room (is refl)))
+  counted_next false true k next before room is both ek en = absurd (true≢false (sym both))
+  counted_next was_empty false k next before room is both ek en = absurd (true≢false (sym both))
+
+  pub other_next : (was_empty empty : Bool) (k next : ℕ)
+      → RankSoFar (take len bytes) was_empty last i (drop i rank) whole → len < length bytes
+      → (empty ≡ true → get_or rank i Empty ≡ Empty) → (get_or rank i Empty ≡ Empty → empty ≡ true)
+      → (empty && was_empty) ≡ false → k ≡ len + 1
+      → (get_or rank i Empty ≡ Empty → next ≡ 49)
+      → (get_or rank i Empty ≢ Empty → next ≡ piece_letter (get_or rank i Empty))
+      → NextSoFar k next empty
+  other_next was_empty empty k next before room is is_not both ek one letter =
+      subst (λ j. NextSoFar j next empty) (sym ek)
+      (subst
+      (λ j. RankSoFar (take (len + 1) (slice_set bytes j next)) empty next (i + 1) (drop (i + 1) rank) whole) e
+      (go was_empty empty before both is is_not))
+    where
+      e : len ≡ len + 1 - 1
+      e = omega arith
+      go : (was_empty empty : Bool) → RankSoFar (take len bytes) was_empty last i (drop i rank) whole
+          → (empty && was_empty) ≡ false → (empty ≡ true → get_or rank i Empty ≡ Empty)
+          → (get_or rank i Empty ≡ Empty → empty ≡ true)
+          → RankSoFar (take (len + 1) (slice_set bytes len next)) empty next (i + 1) (drop (i + 1) rank) whole
+      go true true before both is is_not = absurd (true≢false both)
+      go false true before both is is_not =
+          subst
+          (λ n. RankSoFar (take (len + 1) (slice_set bytes len n)) true n (i + 1) (drop (i + 1) rank) whole)
+          (sym (one (is refl))) (begun before room (is refl))
+      go was_empty false before both is is_not =
+          let piece : get_or rank i Empty ≢ Empty = λ h. true≢false (sym (is_not h)) in
+          lettered was_empty next before room piece (letter piece)
+
+-- nothing is written of a rank
+pub so_far_none : (rank : List Piece) → RankSoFar [] false 0 0 rank (rank_text_after 0 rank)
+so_far_none rank = record {
+  front = [];
+  empty = 0;
+  ends = refl;
+  goes_on = refl;
+  digit = λ h. absurd (true≢false (sym h));
+  no_digit = λ _. refl;
+  few = omega arith;
+}
+
+-- and all of it
+pub so_far_all : (written : List ℕ) (was_empty : Bool) (last seen : ℕ) (later : List Piece) (whole : List ℕ)
+    → later ≡ [] → RankSoFar written was_empty last seen later whole → written ≡ whole
+so_far_all written was_empty last seen later whole e all =
+    all.ends ∙ ap (λ l. all.front ++ rank_text_after all.empty l) (sym e) ∙ all.goes_on
 
 -- ---- a square is set
 

@@ -144,16 +144,16 @@ impl<const ROOM: usize> Outgoing<ROOM> {
     }
 
     /// Adds the first `len` of eight bytes, and one behind them: the text of a rank, and what ends
-    /// it. All eight are copied, which is faster than so many.
-    pub(crate) fn push_rank(&mut self, rank: &[u8; 8], len: usize, end: u8)
+    /// it. All eight are copied, and passed by value, which is faster than so many.
+    pub(crate) fn push_rank(&mut self, rank: [u8; 8], len: usize, end: u8)
         requires room { length self.old + 9 ≤ ROOM }
         requires within { len ≤ 8 }
-        ensures bytes { self.new ≡ self.old ++ (take len rank.now ++ end ∷ []) }
+        ensures bytes { self.new ≡ self.old ++ (take len rank ++ end ∷ []) }
         ensures len { length self.new ≡ length self.old + len + 1 }
     {
         let at = self.len;
         let all = &mut self.bytes[..];
-        all[at..at + 8].copy_from_slice(rank);
+        all[at..at + 8].copy_from_slice(&rank);
         all[at + len] = end;
         self.len = at + len + 1;
     }

@@ -1,7 +1,7 @@
 //! The picture of a board, and its text.
 
-ghost use Rattle.std.specs.Prelude.{◌≡◌, ◌+◌, ◌≤◌, ◌↔◌, ◌++◌, IsTrue, codes, length, slice_set};
-ghost use Rattle.dgt_values.specs.Board.{pieces_of, square_number};
+ghost use Rattle.std.specs.Prelude.{◌≡◌, ◌≢◌, ◌+◌, ◌≤◌, ◌↔◌, ◌++◌, IsTrue, codes, length, slice_set};
+ghost use Rattle.dgt_values.specs.Board.{piece_letter, pieces_of, square_number};
 ghost use Rattle.dgt_values.specs.Placement.{placement_text, rank_text_after, ranks_text};
 
 use crate::gathering::Outgoing;
@@ -32,22 +32,29 @@ impl RankText {
     {
         let mut bytes = [0; 8];
         let mut len = 0;
-        let mut empty = 0;
+        let mut last = 0;
+        let mut was_empty = false;
         for piece in rank {
-            let here = is_empty(*piece);
-            // a run ends before a piece
-            len += usize::from(!here & (empty > 0));
-            bytes[len] = if here {
-                b'1' + empty
-            } else {
-                piece.letter() as u8
-            };
-            len += usize::from(!here);
-            empty = if here { empty + 1 } else { 0 };
+            let empty = is_empty(*piece);
+            // an empty square behind another one is counted by the digit that stands there
+            let counts = empty & was_empty;
+            last = if counts { last + 1 } else { square_text(*piece) };
+            len += usize::from(!counts);
+            bytes[len - 1] = last;
+            was_empty = empty;
         }
-        len += usize::from(empty > 0);
         RankText { bytes, len }
     }
+}
+
+// The text of a square by itself, by its piece's code.
+const SQUARE_TEXTS: [u8; 16] = *b"1PRNBKQprnbkqXYZ";
+
+fn square_text(piece: Piece) -> u8
+    ensures empty { piece ≡ Piece.Empty → result ≡ 49 }
+    ensures piece { piece ≢ Piece.Empty → result ≡ piece_letter piece }
+{
+    SQUARE_TEXTS[usize::from(piece.code())]
 }
 
 fn is_empty(piece: Piece) -> bool
@@ -113,9 +120,9 @@ impl Picture {
         ensures { text.new ≡ text.old ++ (placement_text self.now ++ codes "\n") }
     {
         for rank in &self.ranks[..7] {
-            text.push_rank(&rank.bytes, rank.len, b'/');
+            text.push_rank(rank.bytes, rank.len, b'/');
         }
         let last = &self.ranks[7];
-        text.push_rank(&last.bytes, last.len, b'\n');
+        text.push_rank(last.bytes, last.len, b'\n');
     }
 }
