@@ -30,20 +30,33 @@ impl RankText {
         requires { length rank.now ≡ 8 }
         ensures { result ≡ rank_text_after 0 rank.now }
     {
-        let mut bytes = [0; 8];
+        let mut text = RankText {
+            bytes: [0; 8],
+            len: 0,
+        };
+        text.form(rank);
+        text
+    }
+
+    // Forms the text of a rank. It does so without branches.
+    fn form(&mut self, rank: &[Piece])
+        requires { length rank.now ≡ 8 }
+        ensures { self.new ≡ rank_text_after 0 rank.now }
+    {
         let mut len = 0;
         let mut last = 0;
         let mut was_empty = false;
         for piece in rank {
             let empty = is_empty(*piece);
+            let text = square_text(*piece);
             // an empty square behind another one is counted by the digit that stands there
             let counts = empty & was_empty;
-            last = if counts { last + 1 } else { square_text(*piece) };
+            last = if counts { last + 1 } else { text };
             len += usize::from(!counts);
-            bytes[len - 1] = last;
+            self.bytes[len - 1] = last;
             was_empty = empty;
         }
-        RankText { bytes, len }
+        self.len = len;
     }
 }
 
@@ -111,7 +124,8 @@ impl Picture {
     {
         self.position.set(square, piece);
         let rank = usize::from(square.index() / 8);
-        self.ranks[rank] = RankText::new(&self.position.pieces()[8 * rank..8 * rank + 8]);
+        let text = &mut self.ranks[rank];
+        text.form(&self.position.pieces()[8 * rank..8 * rank + 8]);
     }
 
     /// Adds its placement and a line feed.

@@ -1,11 +1,11 @@
 use Rattle.std.proofs.Common.{rules, true, false, ◌≡◌, ◌&&◌, ◌∙◌, ◌+◌, ◌<◌, arith, length}
 use Rattle.std.proofs.lemmas.List.{length-set}
 use Rattle.dgt_lines.proofs.RankLemmas.{counted_next, other_next, so_far_none}
-use Rattle.dgt_lines.proofs.pictures.RankText.new.Goals as goal
-use Rattle.dgt_lines.proofs.pictures.RankText.new.Goals.{then-counts, else-counts}
+use Rattle.dgt_lines.proofs.pictures.RankText.form.Goals as goal
+use Rattle.dgt_lines.proofs.pictures.RankText.form.Goals.{then-counts, else-counts}
 
 pub loop-piece-init : goal.loop-piece-init
-loop-piece-init c = record { text = so_far_none c.args.rank.now; long = omega arith; within = omega arith }
+loop-piece-init c = record { text = so_far_none c.args.rank.now; long = c.self.invariant.0; within = omega arith }
 
 pub loop-piece-preserved : goal.loop-piece-preserved
 loop-piece-preserved c =
@@ -13,20 +13,20 @@ loop-piece-preserved c =
     let i = c.loop-piece.piece-index in
     let k = c.loop-piece.len + c.from-len.result in
     let empty = c.is_empty-empty.result in
-    let room : c.loop-piece.len < length c.loop-piece.bytes = omega (arith, old.long, old.within, c.loop-piece-test.true, c.requires) in
+    let room : c.loop-piece.len < length c.loop-piece.self-inside.bytes = omega (arith, old.long, old.within, c.loop-piece-test.true, c.requires) in
     let same : (empty && c.loop-piece.was_empty) ≡ true → k ≡ c.loop-piece.len =
     λ h. rw (c.from-len.ensures, h) (omega arith) in
     let more : (empty && c.loop-piece.was_empty) ≡ false → k ≡ c.loop-piece.len + 1 =
     λ h. rw (c.from-len.ensures, h) (omega arith) in
     record {
       text = elim c.if-counts.branch [
-        | then-counts w ↦ counted_next c.args.rank.now i c.loop-piece.len c.loop-piece.last c.loop-piece.bytes _
+        | then-counts w ↦ counted_next c.args.rank.now i c.loop-piece.len c.loop-piece.last c.loop-piece.self-inside.bytes _
         c.loop-piece-test.true c.loop-piece.was_empty empty k c.if-counts.last old.text (omega arith)
         c.is_empty-empty.ensures.0 w.if-counts.true (same w.if-counts.true) w.last-is
-        | else-counts w ↦ other_next c.args.rank.now i c.loop-piece.len c.loop-piece.last c.loop-piece.bytes _
+        | else-counts w ↦ other_next c.args.rank.now i c.loop-piece.len c.loop-piece.last c.loop-piece.self-inside.bytes _
         c.loop-piece-test.true c.loop-piece.was_empty empty k c.if-counts.last old.text room
         c.is_empty-empty.ensures.0 c.is_empty-empty.ensures.1 w.if-counts.false (more w.if-counts.false)
-        (λ h. w.last-is ∙ w.square_text-last.ensures.empty h) (λ h. w.last-is ∙ w.square_text-last.ensures.piece h)
+        (λ h. w.last-is ∙ c.square_text-text.ensures.empty h) (λ h. w.last-is ∙ c.square_text-text.ensures.piece h)
       ];
       long = length-set _ _ _ ∙ old.long;
       within = search rules;
