@@ -1,6 +1,5 @@
-use Rattle.dgt_lines.proofs.GatherLemmas.{gathered_none, gathered_pushed, gathers_then}
-use Rattle.dgt_lines.proofs.RunLemmas.{wrote_none, stopped_longer, writes_then}
 use Rattle.std.proofs.Common.{refl}
+use Rattle.dgt_lines.proofs.GatherLemmas.{wrote_none, writes_then, stopped_longer, gathered_none, gathered_pushed, gathers_then}
 use Rattle.dgt_lines.proofs.laws.writes_in_a_row.Goals as goal
 
 pub returns : goal.returns
