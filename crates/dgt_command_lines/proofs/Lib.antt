@@ -1,4 +1,3 @@
 pub mod TextLemmas
 pub mod TellingLemmas
-pub mod GatherLemmas
 pub mod PieceLemmas

@@ -1,31 +1,17 @@
 -- The text of a piece, word after word.
 use Rattle.std.proofs.Common.{◌≡◌, ℕ, suc, ◌+◌, ◌-◌, ◌≤◌, List, [], ◌∷◌, ◌++◌, Result, Ok, Err, IsErrAnd, OnOk, sym, ◌∙◌, ap, subst, length, arith, take, drop, append_assoc, append-nil, length-append}
-use Rattle.std.proofs.lemmas.List.{take-append-drop, length-drop, length-take-le}
-use Rattle.std.proofs.Math.Seq.{take-add, take-length}
+use Rattle.std.proofs.lemmas.List.{take-append-drop, take_rest, length-take-le}
+use Rattle.std.proofs.Math.Seq.{take-add}
 use Rattle.dgt_command.specs.Content.{EventContent}
 use Rattle.dgt_command.specs.Spelling.{AreBytes}
 use Rattle.dgt_command.specs.Words.{IsWord, IsPartial}
 use Rattle.dgt_lines.specs.declared.ends.Sink.{Ghosts as Sink}
 use Rattle.dgt_lines.specs.declared.faults.RunFault.{RunFault}
 use Rattle.dgt_lines.specs.declared.faults.RunFault.TheVariants.{WriteFailed}
-use Rattle.dgt_lines.specs.Writing.{Stopped, Writes, Gathered}
+use Rattle.dgt_lines.specs.Writing.{Stopped, Writes, Gathered, InARow}
 use Rattle.dgt_command_lines.specs.CommandLines.{Tells, WritesPiece, command_line}
 use Rattle.dgt_command_lines.specs.Laws.{EachIsTold}
 use Rattle.dgt_command_lines.proofs.TellingLemmas.{texts_append, told_word, told_part, word_bytes}
-use Rattle.dgt_command_lines.proofs.GatherLemmas.{gathered_out, gathered_exit}
-
--- `&s[i..]`
-pub slice_from : (s : List ℕ) (i : ℕ) → take (length s - i) (drop i s) ≡ drop i s
-slice_from s i = rw (← length-drop i s) (take-length (drop i s))
-
--- `&s[i..]`, of which n bytes more are taken
-slice_more : (s : List ℕ) (i n : ℕ) → take (i + n) s ≡ take i s ++ take n (take (length s - i) (drop i s))
-slice_more s i n = take-add i n s ∙ ap (λ (l : List ℕ). take i s ++ take n l) (sym (slice_from s i))
-
-pub feed_bound : (piece : List ℕ) (i n : ℕ) → i ≤ length piece → n ≤ length (take (length piece - i) (drop i piece))
-    → i + n ≤ length piece
-feed_bound piece i n h k = let k' : n ≤ length (drop i piece) = rw slice_from at k in let e = length-drop i piece in
-    omega arith
 
 -- what follows in bytes is bytes
 bytes_right : (xs ys : List ℕ) → AreBytes (xs ++ ys) → AreBytes ys
@@ -41,7 +27,7 @@ module _ (held piece rest text : List ℕ) (offset i n : ℕ) (within : length h
     (some : n ≤ length (take (length piece - i) (drop i piece)))
     (tells : Tells (offset - length held) (held ++ take i piece) rest text) where
   more_bytes : (held ++ take i piece) ++ take n (take (length piece - i) (drop i piece)) ≡ held ++ take (i + n) piece
-  more_bytes = append_assoc held (take i piece) _ ∙ ap (λ l. held ++ l) (sym (slice_more piece i n))
+  more_bytes = rw (take_rest, take-add i n piece) (append_assoc held (take i piece) _)
 
   -- n more bytes, which complete a word
   pub told_event : IsPartial [] → (event : EventContent)
@@ -110,16 +96,16 @@ pub record Gathers {S : Type 0} (W : Sink S) (old new : S) (gathered : List ℕ)
   pub tells : Tells offset bytes rest text
   pub output : Gathered W [] gathered old new text
 
-module _ {S : Type 0} {W : Sink S} where
+module _ {S : Type 0} {W : Sink S} (row : InARow W) where
   -- at the end of a piece
-  pub piece_written : {A : Type 0} (a b c : S) (gathered held piece rest kept : List ℕ) (offset : ℕ)
-      (r : Result A RunFault) → Gathers W a b gathered (offset - length held) (held ++ piece) rest
+  pub piece_written : (a b c : S) (gathered held piece rest kept : List ℕ) (offset : ℕ)
+      (r : Result (Unit {0}) RunFault) → Gathers W a b gathered (offset - length held) (held ++ piece) rest
       → Writes W b c r gathered → kept ≡ rest → WritesPiece W a c r offset held piece kept
   piece_written a b c gathered held piece rest kept offset r h q e = record {
     text = h.text;
     rest = rest;
     tells = h.tells;
-    writes = gathered_out W gathered a b c h.text r h.output q;
+    writes = rw h.output.whole (row.writes a b c h.output.out gathered r h.output.wrote q);
     keeps = go r;
   }
     where
@@ -128,16 +114,16 @@ module _ {S : Type 0} {W : Sink S} where
       go (Err y) = tt
 
   -- at a line that was refused
-  pub piece_refused : {A : Type 0} (a b c : S) (gathered held piece kept text line : List ℕ) (offset : ℕ)
-      (r : Result A RunFault) (e : RunFault) → Gathered W [] gathered a b text
+  pub piece_refused : (a b c : S) (gathered held piece kept text line : List ℕ) (offset : ℕ)
+      (r : Result (Unit {0}) RunFault) (e : RunFault) → Gathered W [] gathered a b text
       → ToldOn offset held piece (text ++ line) → IsErrAnd r (λ y. y ≡ e)
       → (e ≡ WriteFailed) × Stopped W b c (gathered ++ line) → WritesPiece W a c r offset held piece kept
   piece_refused a b c gathered held piece kept text line offset (Ok x) e h on k q = absurd k
-  piece_refused {A = A} a b c gathered held piece kept text line offset (Err y) e h on k q = record {
-    text = (text ++ line) ++ on.more;
-    rest = on.rest;
-    tells = on.tells;
-    writes = gathered_exit W {A = A} gathered a b c text line on.more ((text ++ line) ++ on.more) (Err y) e h
-        (append_assoc text line on.more) k q;
-    keeps = tt;
-  }
+  piece_refused a b c gathered held piece kept text line offset (Err y) e h on k q =
+      let stop = row.gathers [] gathered [] a b c text line (Err y) h (k ∙ q.0, q.1) in record {
+        text = (text ++ line) ++ on.more;
+        rest = on.rest;
+        tells = on.tells;
+        writes = (stop.0, row.longer a c (text ++ line) on.more stop.1);
+        keeps = tt;
+      }

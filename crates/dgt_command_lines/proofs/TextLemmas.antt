@@ -1,11 +1,10 @@
 -- Texts in parts.
-use Rattle.std.proofs.Common.{◌≡◌, ℕ, ◌-◌, ◌^◌, ◌<◌, List, [], ◌∷◌, ◌++◌, ap, arith, length, refl, replicate, sym, ◌∙◌, Bool, true}
+use Rattle.std.proofs.Common.{◌≡◌, ℕ, ◌-◌, ◌^◌, ◌<◌, List, [], ◌∷◌, ◌++◌, ap, arith, length, replicate, sym, ◌∙◌, Bool, true}
 use Rattle.std.proofs.lemmas.Fmt.{decimal_nonempty}
 use Rattle.std.proofs.lemmas.List.Folds.{list_all-append}
 use Rattle.std.specs.List.{list_all}
 use Rattle.std.specs.Prelude.{◌&&◌, decimal}
-use Rattle.hex.specs.Hex.{encode_lower}
-use Rattle.dgt_lines.specs.Lines.{bytes_text, line, padded_decimal, unfinished_line, unfinished_text}
+use Rattle.dgt_lines.specs.Lines.{line, padded_decimal, unfinished_line, unfinished_text}
 
 -- no leading zero
 pub padded_one : (n : ℕ) → n < 2 ^ 64 → padded_decimal 1 n ≡ decimal n
@@ -13,16 +12,6 @@ padded_one n h =
     let some = decimal_nonempty n h in
     let z : 1 - length (decimal n) ≡ 0 = omega arith in
     ap (λ j. replicate j 48 ++ decimal n) z
-
--- no hyphen where there is a byte
-pub bytes_text_some : (bytes : List ℕ) → 0 < length bytes → bytes_text bytes ≡ encode_lower bytes
-bytes_text_some [] h = absurd (omega arith)
-bytes_text_some (byte ∷ bytes) h = refl
-
--- a hyphen where there is none
-pub bytes_text_none : (bytes : List ℕ) → length bytes ≡ 0 → bytes_text bytes ≡ bytes_text []
-bytes_text_none [] h = refl
-bytes_text_none (byte ∷ bytes) h = absurd (omega arith)
 
 -- the line of a word that is unfinished
 pub unfinished_line-some : (held : List ℕ) (offset have : ℕ) → 0 < length held → have ≡ length held

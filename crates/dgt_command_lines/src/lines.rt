@@ -7,6 +7,7 @@ ghost use Rattle.dgt_command_lines.specs.CommandLines.{command_line};
 
 use crate::wording::push_event;
 use dgt_command::CommandEvent;
+use dgt_lines::laws::writes_in_a_row;
 use dgt_lines::{Outgoing, RunFault, Sink};
 
 /// Room for a line.
@@ -49,6 +50,7 @@ pub(crate) fn put_command<W: Sink, const ROOM: usize>(
     ensures { Gathers W.Sink (outgoing.old, outgoing.new) writer.old writer.new
         result (command_line offset (command_event_content event.now)) }
 {
+    writes_in_a_row::<W>();
     make_room(outgoing, writer)?;
     push_line(outgoing, offset, event);
     Ok(())

@@ -8,6 +8,7 @@ ghost use Rattle.dgt_command_lines.specs.CommandLines.{WritesPiece};
 
 use crate::lines::put_command;
 use dgt_command::{WordFramer, laws};
+use dgt_lines::laws::writes_in_a_row;
 use dgt_lines::{Outgoing, RunFault, Sink, flush, write_unfinished};
 
 /// Room for some 1,500 lines of commands that carry nothing.
@@ -34,6 +35,7 @@ pub fn write_commands<W: Sink>(
 {
     laws::one_division();
     laws::parts_of_words();
+    writes_in_a_row::<W>();
     // What is held is a part of a word: the call is made for that promise.
     framer.partial();
     let mut at = 0;
@@ -57,6 +59,7 @@ pub fn write_commands_end<W: Sink>(
         (unfinished_line offset (rest_of framer.now)) }
     ensures flushed { OnOk result (IsTrue (W.flushed writer.old) → IsTrue (W.flushed writer.new)) }
 {
+    writes_in_a_row::<W>();
     let have = framer.partial();
     if have == 0 {
         return Ok(());

@@ -1,11 +1,10 @@
 -- The events of bytes that come in pieces.
-use Rattle.std.proofs.Common.{◌≡◌, ℕ, ◌+◌, ◌-◌, ◌≤◌, List, [], ◌∷◌, ◌++◌, refl, sym, ◌∙◌, ap, length, arith, take, drop, append_assoc, append-nil, length-append, suc, Bool, true, false, cond, Option, Some, None}
-use Rattle.std.proofs.lemmas.List.{length-take-le, take-append-drop, length-drop, nil_from_length, take_all}
+use Rattle.std.proofs.Common.{◌≡◌, ℕ, ◌+◌, ◌-◌, ◌≤◌, List, [], ◌∷◌, ◌++◌, refl, sym, ◌∙◌, ap, length, arith, take, drop, append_assoc, append-nil, length-append, suc, Bool, true, false, cond, Option, Some, None, rules}
+use Rattle.std.proofs.lemmas.List.{places, length-take-le, take-append-drop, nil_from_length, take_all, take_rest}
 use Rattle.std.proofs.Math.Seq.{take-add}
 use Rattle.dgt_decode.specs.Grammar.{Event, Placed, at_place, events, events_behind, has_top_bit, lead, open_message, open_segment, segments, unfinished_part, verdict}
 use Rattle.dgt_decode.specs.Laws.{EventsAppend, OpenAppend}
 use Rattle.dgt_lines.specs.Lines.{events_after}
-use Rattle.dgt_lines.proofs.RunLemmas.{slice_from}
 
 length-events_behind : (n : ℕ) (xs : List Placed) → length (events_behind n xs) ≡ length xs
 length-events_behind n [] = refl
@@ -70,8 +69,7 @@ open_bound held piece o offset i h k e =
 
 pub feed_bound : (piece : List ℕ) (i n : ℕ) → i ≤ length piece → n ≤ length (take (length piece - i) (drop i piece))
     → i + n ≤ length piece
-feed_bound piece i n h k = let k' : n ≤ length (drop i piece) = rw slice_from at k in let e = length-drop i piece in
-    omega arith
+feed_bound piece i n h k = search (rules, places)
 
 -- what is open is open by itself
 pub open-open : OpenAppend → (s : List ℕ) → open_message s ≡ open_message (open_message s)
@@ -120,7 +118,7 @@ module _ (more : EventsAppend) (opens : OpenAppend) where
       → o' ≡ open_message (o ++ take n (take (length piece - i) (drop i piece)))
       → o' ≡ open_message (held ++ take (i + n) piece)
   feed_open held piece o o' i n h e =
-      rw slice_from at e ∙ ap (λ l. open_message (l ++ take n (drop i piece))) h ∙ sym (open-take held piece i n)
+      rw take_rest at e ∙ ap (λ l. open_message (l ++ take n (drop i piece))) h ∙ sym (open-take held piece i n)
 
   -- the event that it found
   pub advance_event : (held piece o : List ℕ) (offset i n : ℕ) (event : Event) → length held ≤ offset
@@ -129,7 +127,7 @@ module _ (more : EventsAppend) (opens : OpenAppend) where
       → events_after held offset (take (i + n) piece) ≡ events_after held offset (take i piece) ++ at_place
       (offset + (i + n)) event ∷ []
   advance_event held piece o offset i n event h k e q =
-      let q' : events (o ++ take n (drop i piece)) ≡ at_place (length o + n) event ∷ [] = rw slice_from at q in
+      let q' : events (o ++ take n (drop i piece)) ≡ at_place (length o + n) event ∷ [] = rw take_rest at q in
       let sum : offset + i + n ≡ offset + (i + n) = omega arith in
       events_after-take held piece offset i n h k
       ∙ ap (λ l. events_after held offset (take i piece) ++ l)
@@ -142,9 +140,9 @@ module _ (more : EventsAppend) (opens : OpenAppend) where
       → n ≡ length (take (length piece - i) (drop i piece)) → events (o ++ take (length piece - i) (drop i piece)) ≡ []
       → events_after held offset (take (i + n) piece) ≡ events_after held offset (take i piece)
   advance_none held piece o offset i n h k e l q =
-      let l' : n ≡ length (drop i piece) = rw slice_from at l in
+      let l' : n ≡ length (drop i piece) = rw take_rest at l in
       let q' : events (o ++ take n (drop i piece)) ≡ [] =
-      ap (λ l. events (o ++ l)) (take_all n (drop i piece) (omega arith)) ∙ (rw slice_from at q) in
+      ap (λ l. events (o ++ l)) (take_all n (drop i piece) (omega arith)) ∙ (rw take_rest at q) in
       events_after-take held piece offset i n h k
       ∙ ap (λ l. events_after held offset (take i piece) ++ l)
       (ap (λ l. events_after l (offset + i) (take n (drop i piece)))

@@ -1,58 +1,85 @@
--- Bytes that are gathered in a row.
-use Rattle.std.proofs.Common.{◌≡◌, ℕ, List, [], ◌++◌, Result, Ok, Err, IsErrAnd, sym, ◌∙◌, ap, subst, append_assoc, append-nil}
+-- Bytes that are written and gathered in a row.
+use Rattle.std.proofs.Common.{◌≡◌, ℕ, List, [], ◌++◌, Result, Ok, Err, IsErrAnd, refl, sym, ◌∙◌, ap, subst, append_assoc, append-nil}
+use Rattle.std.proofs.KnownBytes.{Appends-trans, Appends-nil}
 use Rattle.dgt_lines.specs.Writing.{Wrote, Stopped, Writes, Gathered, Gathers}
 use Rattle.dgt_lines.specs.declared.faults.RunFault.{RunFault}
 use Rattle.dgt_lines.specs.declared.faults.RunFault.TheVariants.{WriteFailed}
-use Rattle.dgt_lines.proofs.RunLemmas.{wrote_none, wrote_then, stopped_then, stopped_longer, writes_then, writes_exit}
 use Rattle.dgt_lines.specs.declared.ends.Sink.{Ghosts as Sink}
 
 module _ {S : Type 0} (W : Sink S) where
+  pub wrote_none : (a : S) → Wrote W a a []
+  wrote_none a = record { appends = Appends-nil (W.written a); kept = refl; in_time = λ _. refl }
+
+  -- some text, and then a call that writes more
+  pub writes_then : {A : Type 0} (a b c : S) (s t : List ℕ) (r : Result A RunFault) → Wrote W a b s → Writes W b c r t
+      → Writes W a c r (s ++ t)
+  writes_then a b c s t (Ok x) p q = record {
+    appends = Appends-trans _ _ _ s t p.appends q.appends;
+    kept = q.kept ∙ p.kept;
+    in_time = λ h. q.in_time (p.kept ∙ h) ∙ p.in_time h;
+  }
+  writes_then a b c s t (Err e) p q = (
+    q.0,
+    record {
+      front = s ++ q.1.front;
+      rest = q.1.rest;
+      whole = ap (λ l. s ++ l) q.1.whole ∙ sym (append_assoc s q.1.front q.1.rest);
+      appends = Appends-trans _ _ _ s q.1.front p.appends q.1.appends;
+      refused = q.1.refused;
+      in_time = λ h. q.1.in_time (p.kept ∙ h) ∙ p.in_time h;
+    },
+  )
+
+  -- what stops at a text stops at a longer one
+  pub stopped_longer : (a b : S) (s t : List ℕ) → Stopped W a b s → Stopped W a b (s ++ t)
+  stopped_longer a b s t p = record {
+    front = p.front;
+    rest = p.rest ++ t;
+    whole = ap (λ l. l ++ t) p.whole ∙ append_assoc p.front p.rest t;
+    appends = p.appends;
+    refused = p.refused;
+    in_time = p.in_time;
+  }
+
   pub gathered_none : (h : List ℕ) (a : S) → Gathered W h h a a []
-  gathered_none h a = record { out = []; whole = append-nil h; wrote = wrote_none W a }
+  gathered_none h a = record { out = []; whole = append-nil h; wrote = wrote_none a }
 
   -- what was held is written, and the text after it
   pub gathers_through : {A : Type 0} (h : List ℕ) (a b c : S) (r : Result A RunFault) (s : List ℕ) → Wrote W a b h
       → Writes W b c r s → Gathers W (h, []) a c r s
   gathers_through h a b c (Ok x) s p q =
-      record { out = h ++ s; whole = sym (append-nil (h ++ s)); wrote = wrote_then W a b c h s p q }
-  gathers_through h a b c (Err e) s p q = (q.0, stopped_then W a b c h s p q.1)
+      record { out = h ++ s; whole = sym (append-nil (h ++ s)); wrote = writes_then a b c h s (Ok x) p q }
+  gathers_through {A = A} h a b c (Err e) s p q = writes_then {A = A} a b c h s (Err e) p q
 
-  pub gathered_then : (h i j : List ℕ) (a b c : S) (s t : List ℕ) → Gathered W h i a b s → Gathered W i j b c t
-      → Gathered W h j a c (s ++ t)
-  gathered_then h i j a b c s t p q = record {
+  -- some text, and then a call that gathers more
+  pub gathers_then : {A : Type 0} (h i j : List ℕ) (a b c : S) (s t : List ℕ) (r : Result A RunFault)
+      → Gathered W h i a b s → Gathers W (i, j) b c r t → Gathers W (h, j) a c r (s ++ t)
+  gathers_then h i j a b c s t (Ok x) p q = record {
     out = p.out ++ q.out;
     whole = sym (append_assoc h s t) ∙ ap (λ l. l ++ t) p.whole ∙ append_assoc p.out i t ∙ ap (λ l. p.out ++ l) q.whole
         ∙ sym (append_assoc p.out q.out j);
-    wrote = wrote_then W a b c p.out q.out p.wrote q.wrote;
+    wrote = writes_then a b c p.out q.out (Ok x) p.wrote q.wrote;
   }
-
-  pub gathered_stopped : (h i : List ℕ) (a b c : S) (s t : List ℕ) → Gathered W h i a b s → Stopped W b c (i ++ t)
-      → Stopped W a c (h ++ (s ++ t))
-  gathered_stopped h i a b c s t p q = subst (λ l. Stopped W a c l)
+  gathers_then {A = A} h i j a b c s t (Err e) p q =
+      let r : Result A RunFault = Err e in
+      subst (λ l. Writes W a c r l)
       (sym (append_assoc p.out i t) ∙ ap (λ l. l ++ t) (sym p.whole) ∙ append_assoc h s t)
-      (stopped_then W a b c p.out (i ++ t) p.wrote q)
+      (writes_then a b c p.out (i ++ t) r p.wrote q)
 
-  pub gathers_then : {A : Type 0} (h i j : List ℕ) (a b c : S) (s t : List ℕ) (r : Result A RunFault)
-      → Gathered W h i a b s → Gathers W (i, j) b c r t → Gathers W (h, j) a c r (s ++ t)
-  gathers_then h i j a b c s t (Ok x) p q = gathered_then h i j a b c s t p q
-  gathers_then h i j a b c s t (Err e) p q = (q.0, gathered_stopped h i a b c s t p q.1)
-
-  -- the exit of a `?` on a call that gathers
-  pub gathers_exit : {A : Type 0} (h j : List ℕ) (a b : S) (s : List ℕ) (r : Result A RunFault) (e : RunFault)
-      → IsErrAnd r (λ y. y ≡ e) → (e ≡ WriteFailed) × Stopped W a b (h ++ s) → Gathers W (h, j) a b r s
-  gathers_exit h j a b s (Ok x) e p q = absurd p
-  gathers_exit h j a b s (Err y) e p q = (p ∙ q.0, q.1)
+  pub gathered_then : (h i j : List ℕ) (a b c : S) (s t : List ℕ) → Gathered W h i a b s → Gathered W i j b c t
+      → Gathered W h j a c (s ++ t)
+  gathered_then h i j a b c s t p q = gathers_then h i j a b c s t (Ok (tt {0})) p q
 
   -- the exit of a `?` on a call that gathers a part of a text
   pub gathers_stopped : {A : Type 0} (h i j : List ℕ) (a b c : S) (s t rest whole : List ℕ) (r : Result A RunFault)
       (e : RunFault) → Gathered W h i a b s → whole ≡ s ++ (t ++ rest)
       → IsErrAnd r (λ y. y ≡ e) → (e ≡ WriteFailed) × Stopped W b c (i ++ t) → Gathers W (h, j) a c r whole
-  gathers_stopped h i j a b c s t rest whole r e p w k q = subst (λ l. Gathers W (h, j) a c r l) (sym w)
-      (gathers_exit h j a c (s ++ (t ++ rest)) r e k (
-        q.0,
-        gathered_stopped h i a b c s (t ++ rest) p
-            (subst (λ l. Stopped W b c l) (append_assoc i t rest) (stopped_longer W b c (i ++ t) rest q.1)),
-      ))
+  gathers_stopped h i j a b c s t rest whole (Ok x) e p w k q = absurd k
+  gathers_stopped {A = A} h i j a b c s t rest whole (Err y) e p w k q =
+      let stop = gathers_then {A = A} h i j a b c s t (Err y) p (k ∙ q.0, q.1) in
+      let longer : (h ++ (s ++ t)) ++ rest ≡ h ++ whole =
+      append_assoc h (s ++ t) rest ∙ ap (λ l. h ++ l) (append_assoc s t rest ∙ sym w) in
+      (stop.0, subst (λ l. Stopped W a c l) longer (stopped_longer a c _ rest stop.1))
 
   -- the exit of the first `?`
   pub gathers_first : {A : Type 0} (h j : List ℕ) (a b : S) (t rest whole : List ℕ) (r : Result A RunFault)
@@ -65,43 +92,27 @@ module _ {S : Type 0} (W : Sink S) where
   pub gathers_via : {A : Type 0} (h i j k : List ℕ) (a b c : S) (s t : List ℕ) (r : Result A RunFault)
       → Gathered W h i a b [] → j ++ t ≡ i ++ s → Gathers W (j, k) b c r t
       → Gathers W (h, k) a c r s
-  gathers_via h i j k a b c s t r p e q =
-      let whole : h ++ s ≡ p.out ++ (j ++ t) =
-      ap (λ l. l ++ s) (sym (append-nil h) ∙ p.whole) ∙ append_assoc p.out i s ∙ ap (λ l. p.out ++ l) (sym e) in
-      go r q whole
-    where
-      go : {A : Type 0} (r : Result A RunFault) → Gathers W (j, k) b c r t → h ++ s ≡ p.out ++ (j ++ t)
-          → Gathers W (h, k) a c r s
-      go (Ok x) q whole = record {
-        out = p.out ++ q.out;
-        whole = whole ∙ ap (λ l. p.out ++ l) q.whole ∙ sym (append_assoc p.out q.out k);
-        wrote = wrote_then W a b c p.out q.out p.wrote q.wrote;
-      }
-      go (Err f) q whole =
-          (q.0, subst (λ l. Stopped W a c l) (sym whole) (stopped_then W a b c p.out (j ++ t) p.wrote q.1))
+  gathers_via h i j k a b c s t (Ok x) p e q =
+      gathered_then h i k a b c [] s p (record { out = q.out; whole = sym e ∙ q.whole; wrote = q.wrote })
+  gathers_via {A = A} h i j k a b c s t (Err f) p e q =
+      gathers_then {A = A} h i k a b c [] s (Err f) p (q.0, subst (λ l. Stopped W b c l) e q.1)
 
   -- a text that is held behind what is left of what was held before
   pub gathered_pushed : (h i j : List ℕ) (a b : S) (s : List ℕ) → Gathered W h i a b [] → j ≡ i ++ s
       → Gathered W h j a b s
-  gathered_pushed h i j a b s p e = record {
-    out = p.out;
-    whole = ap (λ l. l ++ s) (sym (append-nil h) ∙ p.whole) ∙ append_assoc p.out i s ∙ ap (λ l. p.out ++ l) (sym e);
-    wrote = p.wrote;
-  }
+  gathered_pushed h i j a b s p e =
+      gathers_via h i j j a b b s [] (Ok (tt {0})) p (append-nil j ∙ e) (gathered_none j b)
 
   -- ---- from nothing held to nothing held
 
   pub gathered_out : {A : Type 0} (h : List ℕ) (a b c : S) (s : List ℕ) (r : Result A RunFault) → Gathered W [] h a b s
       → Writes W b c r h → Writes W a c r s
-  gathered_out h a b c s r p q = subst (λ l. Writes W a c r l) (sym p.whole) (writes_then W a b c p.out h r p.wrote q)
+  gathered_out h a b c s r p q = subst (λ l. Writes W a c r l) (sym p.whole) (writes_then a b c p.out h r p.wrote q)
 
   -- the exit of a `?` on a call that gathers a part of a text, from nothing held
   pub gathered_exit : {A : Type 0} (i : List ℕ) (a b c : S) (s t rest whole : List ℕ) (r : Result A RunFault)
       (e : RunFault) → Gathered W [] i a b s → whole ≡ s ++ (t ++ rest)
       → IsErrAnd r (λ y. y ≡ e) → (e ≡ WriteFailed) × Stopped W b c (i ++ t) → Writes W a c r whole
-  gathered_exit i a b c s t rest whole r e p w k q = subst (λ l. Writes W a c r l) (sym w)
-      (writes_exit W a c (s ++ (t ++ rest)) r e k (
-        q.0,
-        gathered_stopped [] i a b c s (t ++ rest) p
-            (subst (λ l. Stopped W b c l) (append_assoc i t rest) (stopped_longer W b c (i ++ t) rest q.1)),
-      ))
+  gathered_exit i a b c s t rest whole (Ok x) e p w k q = absurd k
+  gathered_exit {A = A} i a b c s t rest whole (Err y) e p w k q =
+      gathers_stopped {A = A} [] i [] a b c s t rest whole (Err y) e p w k q

@@ -7,5 +7,4 @@ pub mod LineLemmas
 pub mod PictureLemmas
 pub mod PieceLemmas
 pub mod RankLemmas
-pub mod RunLemmas
 pub mod TextLemmas

@@ -1,5 +1,5 @@
 -- What a call that writes on a caller's behalf does to the sink.
-use Rattle.std.specs.Prelude.{◌≡◌, ℕ, true, false, List, ◌++◌, Result, MatchResult}
+use Rattle.std.specs.Prelude.{◌≡◌, ℕ, true, false, List, [], ◌++◌, Result, MatchResult}
 use Rattle.std.specs.Io.KnownBytes.{Appends}
 use Rattle.dgt_lines.specs.declared.faults.RunFault.{RunFault}
 use Rattle.dgt_lines.specs.declared.faults.RunFault.TheVariants.{WriteFailed}
@@ -39,3 +39,20 @@ abbrev pub Gathers : {S A : Type 0} → Sink S → List ℕ × List ℕ → S �
 Gathers W held old new r text =
     MatchResult r (λ _. Gathered W held.0 held.1 old new text)
     (λ e. (e ≡ WriteFailed) × Stopped W old new (held.0 ++ text))
+
+-- ---- One call after another
+
+-- what holds of writes in a row
+pub record InARow {S : Type 0} (W : Sink S) : Type 0 where
+  -- where no call was made, nothing was written
+  pub nothing : (a : S) → Wrote W a a []
+  -- a text was written, and then a call writes more
+  pub writes : (a b c : S) (s t : List ℕ) (r : Result (Unit {0}) RunFault) →
+      Wrote W a b s → Writes W b c r t → Writes W a c r (s ++ t)
+  -- what stops at a text stops at a longer one
+  pub longer : (a b : S) (s t : List ℕ) → Stopped W a b s → Stopped W a b (s ++ t)
+  -- a text is held behind what was held, and nothing is written
+  pub holds : (h : List ℕ) (a : S) (s : List ℕ) → Gathered W h (h ++ s) a a s
+  -- a text was gathered, and then a call gathers more
+  pub gathers : (h i j : List ℕ) (a b c : S) (s t : List ℕ) (r : Result (Unit {0}) RunFault) →
+      Gathered W h i a b s → Gathers W (i, j) b c r t → Gathers W (h, j) a c r (s ++ t)

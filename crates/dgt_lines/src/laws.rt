@@ -1,19 +1,25 @@
-//! What holds of lines as such. Nothing here runs: each function stands for the facts that its
-//! contract states.
+//! What holds of lines and of writes as such. Nothing here runs: each function stands for the facts
+//! that its contract states.
 
 ghost use Rattle.std.specs.Prelude.{◌≡◌, ◌≤◌, ◌++◌, ℕ, List, length};
 ghost use Rattle.dgt_values.specs.Equality.{EqualIsSame};
 ghost use Rattle.dgt_decode.specs.Grammar.{open_message};
 ghost use Rattle.dgt_lines.specs.Lines.{events_after, lines, lines_after};
 ghost use Rattle.dgt_lines.specs.Pictures.{LastLineIsPicture, picture_after_events, picture_lines, picture_told, pictures_text};
+ghost use Rattle.dgt_lines.specs.Writing.{InARow};
 
-use crate::ends::Failed;
+use crate::ends::{Failed, Sink};
 use crate::faults::RunFault;
 
 /// Two values are equal, as `==` answers, exactly where they are the same.
 pub fn equal_is_same()
     ensures run_fault { EqualIsSame ⟦<RunFault as PartialEq>⟧.eq }
     ensures failed { EqualIsSame ⟦<Failed as PartialEq>⟧.eq }
+{}
+
+/// What calls write or gather one after another, the sink takes in a row, up to the first refusal.
+pub fn writes_in_a_row<W: Sink>()
+    ensures { InARow W.Sink }
 {}
 
 /// The lines of bytes in a row are those of the first ones, and then those of the piece after them.

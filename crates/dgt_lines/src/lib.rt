@@ -13,7 +13,7 @@
 //! [`Picture`] of it.
 //!
 //! The format of lines is this project's own choice. No call takes memory. [`laws`] says what holds
-//! of lines as such.
+//! of lines and of writes as such.
 #![tactic(auto)]
 
 mod ends;

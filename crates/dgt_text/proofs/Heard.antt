@@ -8,11 +8,10 @@ use Rattle.dgt_lines.specs.declared.ends.Source.{Ghosts as Source}
 use Rattle.dgt_lines.specs.declared.ends.Sink.{Ghosts as Sink}
 use Rattle.dgt_lines.specs.declared.faults.RunFault.{RunFault}
 use Rattle.dgt_lines.specs.declared.faults.RunFault.TheVariants.{WriteFailed}
-use Rattle.dgt_lines.specs.Writing.{Wrote, Stopped, Writes}
+use Rattle.dgt_lines.specs.Writing.{Wrote, Stopped, Writes, InARow}
 use Rattle.dgt_text.specs.Turns.{Ran, change, InTurns}
 use Rattle.dgt_lines.specs.Lines.{lines, monitor_text, unfinished_line, lines_after}
 use Rattle.dgt_text.specs.Monitoring.{IsMonitored}
-use Rattle.dgt_text.proofs.RunLemmas.{wrote_none, wrote_then, stopped_then, stopped_longer}
 use Rattle.dgt_text.proofs.TurnLemmas.{BetweenReads}
 
 -- the sink took the lines of the bytes that were read, and the framer holds their unfinished end
@@ -50,9 +49,9 @@ heard_lines more held offset s p h k =
     sym (more s p)
 
 module _ {T : Type 0} {W : Sink T} where
-  pub heard_none : (c : T) (held : List ℕ) → held ≡ [] → Heard W c c held 0 []
-  heard_none c held h = record {
-    wrote = rw lines-none (wrote_none W c);
+  pub heard_none : InARow W → (c : T) (held : List ℕ) → held ≡ [] → Heard W c c held 0 []
+  heard_none row c held h = record {
+    wrote = rw lines-none (row.nothing c);
     decoded = h ∙ sym open_none;
     counted = refl;
   }
@@ -63,30 +62,31 @@ module _ {T : Type 0} {W : Sink T} where
       let l = ap length h.decoded in omega arith
 
   -- a piece, its lines and a flush
-  pub heard_more : LinesAppend → OpenAppend → (c d d' d'' : T) (held held' : List ℕ) (offset n : ℕ)
+  pub heard_more : InARow W → LinesAppend → OpenAppend → (c d d' d'' : T) (held held' : List ℕ) (offset n : ℕ)
       (bytes piece : List ℕ) → Heard W c d held offset bytes → length piece ≡ n
       → Wrote W d d' (lines_after held offset piece) → Wrote W d' d'' [] → held' ≡ open_message (held ++ piece)
       → Heard W c d'' held' (offset + n) (bytes ++ piece)
-  heard_more more opens c d d' d'' held held' offset n bytes piece h m q r e = record {
+  heard_more row more opens c d d' d'' held held' offset n bytes piece h m q r e = record {
     wrote = subst (λ l. Wrote W c d'' l)
         (ap (λ l. lines bytes ++ l) (append-nil (lines_after held offset piece)) ∙ heard_lines more held offset bytes
         piece h.decoded h.counted)
-        (wrote_then W c d d'' (lines bytes) (lines_after held offset piece ++ []) h.wrote
-        (wrote_then W d d' d'' _ [] q r));
+        (row.writes c d d'' (lines bytes) (lines_after held offset piece ++ []) (Ok tt) h.wrote
+        (row.writes d d' d'' _ [] (Ok tt) q r));
     decoded = e ∙ ap (λ l. open_message (l ++ piece)) h.decoded ∙ sym (opens bytes piece);
     counted = let l = length-append bytes piece in let k = h.counted in omega arith;
   }
 
 -- ---- how the run ends
 
-module _ {S T : Type 0} {R : Source S} {W : Sink T} {a b : S} {c d : T} {held : List ℕ} {offset taken limit : ℕ} where
+module _ {S T : Type 0} {R : Source S} {W : Sink T} (row : InARow W) {a b : S} {c d : T} {held : List ℕ}
+    {offset taken limit : ℕ} where
   -- after a read that gave nothing, by what is written then
-  pub heard_end : {A : Type 0} (b' : S) (d' : T) (r : Result A RunFault) (t : BetweenReads R W a b c d taken limit)
+  pub heard_end : (b' : S) (d' : T) (r : Result (Unit {0}) RunFault) (t : BetweenReads R W a b c d taken limit)
       → Heard W c d held offset t.bytes → Consumes (R.left b) (R.left b') []
       → Writes W d d' r (unfinished_line offset held)
       → Ran R W (change a b') (change c d') (InTurns limit r (IsMonitored r))
   heard_end b' d' (Ok x) t h p q =
-      let w = wrote_then W c d d' (lines t.bytes) (unfinished_line offset held) h.wrote q in (
+      let w = row.writes c d d' (lines t.bytes) (unfinished_line offset held) (Ok x) h.wrote q in (
         t.bytes,
         lines t.bytes ++ unfinished_line offset held,
         subst (Consumes (R.left a) (R.left b'))
@@ -94,9 +94,9 @@ module _ {S T : Type 0} {R : Source S} {W : Sink T} {a b : S} {c d : T} {held : 
         w.appends,
         (tt, heard_end_text t.bytes held offset h.decoded h.counted),
       )
-  heard_end {A = A} b' d' (Err e) t h p q =
-      let stop = stopped_then W c d d' (lines t.bytes) (unfinished_line offset held) h.wrote q.1 in
-      subst (λ f. let r : Result A RunFault = Err f in Ran R W (change a b') (change c d')
+  heard_end b' d' (Err e) t h p q =
+      let stop = (row.writes c d d' (lines t.bytes) (unfinished_line offset held) (Err e) h.wrote q).1 in
+      subst (λ f. let r : Result (Unit {0}) RunFault = Err f in Ran R W (change a b') (change c d')
       (InTurns limit r (IsMonitored r))) (sym q.0) (
         t.bytes,
         stop.front,
@@ -110,19 +110,19 @@ module _ {S T : Type 0} {R : Source S} {W : Sink T} {a b : S} {c d : T} {held : 
       )
 
   -- at a write that was refused, of the lines of a piece
-  pub heard_stopped : {A : Type 0} → LinesAppend → (b' : S) (d' : T) (piece : List ℕ) (r : Result A RunFault)
+  pub heard_stopped : LinesAppend → (b' : S) (d' : T) (piece : List ℕ) (r : Result (Unit {0}) RunFault)
       (e : RunFault) (t : BetweenReads R W a b c d taken limit) → Heard W c d held offset t.bytes
-      → Consumes (R.left b) (R.left b') piece → Stopped W d d' (lines_after held offset piece)
-      → IsErrAnd r (λ y. y ≡ e) → e ≡ WriteFailed
+      → Consumes (R.left b) (R.left b') piece → IsErrAnd r (λ y. y ≡ e)
+      → (e ≡ WriteFailed) × Stopped W d d' (lines_after held offset piece)
       → Ran R W (change a b') (change c d') (InTurns limit r (IsMonitored r))
-  heard_stopped more b' d' piece (Ok x) e t h p q k w = absurd k
-  heard_stopped {A = A} more b' d' piece (Err y) e t h p q k w =
+  heard_stopped more b' d' piece (Ok x) e t h p k q = absurd k
+  heard_stopped more b' d' piece (Err y) e t h p k q =
       let bytes = t.bytes ++ piece in
       let whole = heard_lines more held offset t.bytes piece h.decoded h.counted in
-      let stop = stopped_longer W c d' _ (unfinished_line (length bytes) (open_message bytes))
-      (stopped_then W c d d' (lines t.bytes) (lines_after held offset piece) h.wrote q) in
-      subst (λ f. let r : Result A RunFault = Err f in Ran R W (change a b') (change c d')
-      (InTurns limit r (IsMonitored r))) (sym (k ∙ w)) (
+      let stop = row.longer c d' _ (unfinished_line (length bytes) (open_message bytes))
+      (row.writes c d d' (lines t.bytes) (lines_after held offset piece) (Err e) h.wrote q).1 in
+      subst (λ f. let r : Result (Unit {0}) RunFault = Err f in Ran R W (change a b') (change c d')
+      (InTurns limit r (IsMonitored r))) (sym (k ∙ q.0)) (
         bytes,
         stop.front,
         Consumes-trans _ _ _ t.bytes piece t.given p,

@@ -1,4 +1,3 @@
-pub mod RunLemmas
 pub mod Heard
 pub mod Pictured
 pub mod TurnLemmas

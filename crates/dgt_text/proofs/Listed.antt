@@ -9,12 +9,11 @@ use Rattle.dgt_lines.specs.declared.ends.Sink.{Ghosts as Sink}
 use Rattle.dgt_lines.specs.declared.faults.RunFault.{RunFault}
 use Rattle.dgt_lines.specs.declared.faults.RunFault.TheVariants.{WriteFailed}
 use Rattle.dgt_lines.specs.Lines.{unfinished_line}
-use Rattle.dgt_lines.specs.Writing.{Wrote, Stopped, Writes}
+use Rattle.dgt_lines.specs.Writing.{Wrote, Stopped, Writes, InARow}
 use Rattle.dgt_command_lines.specs.CommandLines.{Tells, Word}
 use Rattle.dgt_command_lines.specs.Laws.{TextsAppend}
 use Rattle.dgt_text.specs.Commanding.{IsListed}
 use Rattle.dgt_text.specs.Turns.{Ran, change, InTurns}
-use Rattle.dgt_text.proofs.RunLemmas.{wrote_none, wrote_then, stopped_then, stopped_longer}
 use Rattle.dgt_text.proofs.TurnLemmas.{BetweenReads}
 
 -- the sink took the text of the bytes that were read, and the framer holds what they leave of a word
@@ -43,11 +42,11 @@ piece_told appends bytes piece held rest text more offset h e q =
     appends 0 bytes piece held rest text more h (subst (λ k. Tells k (held ++ piece) rest more) same q)
 
 module _ {T : Type 0} {W : Sink T} where
-  pub listed_none : IsPartial [] → (c : T) (held : List ℕ) → held ≡ [] → Listed W c c held 0 []
-  listed_none none c held h = record {
+  pub listed_none : InARow W → IsPartial [] → (c : T) (held : List ℕ) → held ≡ [] → Listed W c c held 0 []
+  listed_none row none c held h = record {
     text = [];
     tells = rw h (record { words = []; are_words = record { each = tt; whole = refl; partial = none }; said = refl });
-    wrote = wrote_none W c;
+    wrote = row.nothing c;
     counted = refl;
   }
 
@@ -57,29 +56,30 @@ module _ {T : Type 0} {W : Sink T} where
       let short = rest_short bytes held h.text h.tells in let e = h.counted in omega arith
 
   -- a piece, its lines and a flush
-  pub listed_more : TextsAppend → (c d d' d'' : T) (held held' rest more : List ℕ) (offset n : ℕ)
+  pub listed_more : InARow W → TextsAppend → (c d d' d'' : T) (held held' rest more : List ℕ) (offset n : ℕ)
       (bytes piece : List ℕ) → Listed W c d held offset bytes → length piece ≡ n
       → Tells (offset - length held) (held ++ piece) rest more → Wrote W d d' more → held' ≡ rest → Wrote W d' d'' []
       → Listed W c d'' held' (offset + n) (bytes ++ piece)
-  listed_more appends c d d' d'' held held' rest more offset n bytes piece h m q w e f = record {
+  listed_more row appends c d d' d'' held held' rest more offset n bytes piece h m q w e f = record {
     text = h.text ++ more;
     tells = rw e (piece_told appends bytes piece held rest h.text more offset h.tells h.counted q);
     wrote = subst (λ l. Wrote W c d'' l) (append-nil (h.text ++ more))
-        (wrote_then W c d' d'' (h.text ++ more) [] (wrote_then W c d d' h.text more h.wrote w) f);
+        (row.writes c d' d'' (h.text ++ more) [] (Ok tt) (row.writes c d d' h.text more (Ok tt) h.wrote w) f);
     counted = let l = length-append bytes piece in let k = h.counted in omega arith;
   }
 
 -- ---- how the run ends
 
-module _ {S T : Type 0} {R : Source S} {W : Sink T} {a b : S} {c d : T} {held : List ℕ} {offset taken limit : ℕ} where
+module _ {S T : Type 0} {R : Source S} {W : Sink T} (row : InARow W) {a b : S} {c d : T} {held : List ℕ}
+    {offset taken limit : ℕ} where
   -- after a read that gave nothing, by what is written then
-  pub listed_end : {A : Type 0} (b' : S) (d' : T) (r : Result A RunFault) (t : BetweenReads R W a b c d taken limit)
+  pub listed_end : (b' : S) (d' : T) (r : Result (Unit {0}) RunFault) (t : BetweenReads R W a b c d taken limit)
       → Listed W c d held offset t.bytes → Consumes (R.left b) (R.left b') []
       → Writes W d d' r (unfinished_line offset held)
       → Ran R W (change a b') (change c d') (InTurns limit r (IsListed r))
   listed_end b' d' (Ok x) t h p q =
       let last = unfinished_line offset held in
-      let w = wrote_then W c d d' h.text last h.wrote q in (
+      let w = row.writes c d d' h.text last (Ok x) h.wrote q in (
         t.bytes,
         h.text ++ last,
         subst (Consumes (R.left a) (R.left b'))
@@ -95,10 +95,10 @@ module _ {S T : Type 0} {R : Source S} {W : Sink T} {a b : S} {c d : T} {held : 
           },
         ),
       )
-  listed_end {A = A} b' d' (Err e) t h p q =
+  listed_end b' d' (Err e) t h p q =
       let last = unfinished_line offset held in
-      let stop = stopped_then W c d d' h.text last h.wrote q.1 in
-      subst (λ f. let r : Result A RunFault = Err f in Ran R W (change a b') (change c d')
+      let stop = (row.writes c d d' h.text last (Err e) h.wrote q).1 in
+      subst (λ f. let r : Result (Unit {0}) RunFault = Err f in Ran R W (change a b') (change c d')
       (InTurns limit r (IsListed r))) (sym q.0) (
         t.bytes,
         stop.front,
@@ -117,18 +117,18 @@ module _ {S T : Type 0} {R : Source S} {W : Sink T} {a b : S} {c d : T} {held : 
       )
 
   -- at a write that was refused, of the lines of a piece
-  pub listed_stopped : {A : Type 0} → TextsAppend → (b' : S) (d' : T) (piece rest more : List ℕ) (r : Result A RunFault)
+  pub listed_stopped : TextsAppend → (b' : S) (d' : T) (piece rest more : List ℕ) (r : Result (Unit {0}) RunFault)
       (e : RunFault) (t : BetweenReads R W a b c d taken limit) → Listed W c d held offset t.bytes
       → Consumes (R.left b) (R.left b') piece → Tells (offset - length held) (held ++ piece) rest more
-      → Stopped W d d' more → IsErrAnd r (λ y. y ≡ e) → e ≡ WriteFailed
+      → IsErrAnd r (λ y. y ≡ e) → (e ≡ WriteFailed) × Stopped W d d' more
       → Ran R W (change a b') (change c d') (InTurns limit r (IsListed r))
-  listed_stopped appends b' d' piece rest more (Ok x) e t h p tells q k w = absurd k
-  listed_stopped {A = A} appends b' d' piece rest more (Err y) e t h p tells q k w =
+  listed_stopped appends b' d' piece rest more (Ok x) e t h p tells k q = absurd k
+  listed_stopped appends b' d' piece rest more (Err y) e t h p tells k q =
       let bytes = t.bytes ++ piece in
-      let stop = stopped_longer W c d' _ (unfinished_line (length bytes) rest)
-      (stopped_then W c d d' h.text more h.wrote q) in
-      subst (λ f. let r : Result A RunFault = Err f in Ran R W (change a b') (change c d')
-      (InTurns limit r (IsListed r))) (sym (k ∙ w)) (
+      let stop = row.longer c d' _ (unfinished_line (length bytes) rest)
+      (row.writes c d d' h.text more (Err e) h.wrote q).1 in
+      subst (λ f. let r : Result (Unit {0}) RunFault = Err f in Ran R W (change a b') (change c d')
+      (InTurns limit r (IsListed r))) (sym (k ∙ q.0)) (
         bytes,
         stop.front,
         Consumes-trans _ _ _ t.bytes piece t.given p,

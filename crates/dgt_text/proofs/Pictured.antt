@@ -11,10 +11,9 @@ use Rattle.dgt_lines.specs.declared.faults.RunFault.{RunFault}
 use Rattle.dgt_lines.specs.declared.faults.RunFault.TheVariants.{WriteFailed}
 use Rattle.dgt_lines.specs.Lines.{events_after}
 use Rattle.dgt_lines.specs.Pictures.{picture_after_events, picture_lines, picture_told, pictures_text}
-use Rattle.dgt_lines.specs.Writing.{Wrote, Stopped}
+use Rattle.dgt_lines.specs.Writing.{Wrote, Stopped, InARow}
 use Rattle.dgt_text.specs.Turns.{Ran, change, InTurns}
 use Rattle.dgt_text.specs.Picturing.{IsPictured}
-use Rattle.dgt_text.proofs.RunLemmas.{wrote_none, wrote_then, stopped_then}
 use Rattle.dgt_text.proofs.TurnLemmas.{BetweenReads}
 
 -- the sink took the lines of the bytes that were read, the picture is the one after them, and the framer holds their
@@ -59,9 +58,9 @@ module _ (held : List ℕ) (offset : ℕ) (picture : Option (List Piece)) (s p :
   picture_read more = rw (decoded, counted, shown) (sym (more s p))
 
 module _ {T : Type 0} {W : Sink T} where
-  pub pictured_none : (c : T) (held : List ℕ) → held ≡ [] → Pictured W c c (open_message held) 0 None []
-  pictured_none c held h = record {
-    wrote = rw text_none (wrote_none W c);
+  pub pictured_none : InARow W → (c : T) (held : List ℕ) → held ≡ [] → Pictured W c c (open_message held) 0 None []
+  pictured_none row c held h = record {
+    wrote = rw text_none (row.nothing c);
     shown = sym told_none;
     decoded = ap open_message h;
     counted = refl;
@@ -74,18 +73,18 @@ module _ {T : Type 0} {W : Sink T} where
       let l = ap length h.decoded in omega arith
 
   -- a piece, its lines and a flush
-  pub pictured_more : PicturesAppend → ToldAppend → OpenAppend → (c d d' d'' : T) (held held' : List ℕ) (offset n : ℕ)
-      (picture picture' : Option (List Piece)) (bytes piece : List ℕ)
+  pub pictured_more : InARow W → PicturesAppend → ToldAppend → OpenAppend → (c d d' d'' : T)
+      (held held' : List ℕ) (offset n : ℕ) (picture picture' : Option (List Piece)) (bytes piece : List ℕ)
       → Pictured W c d held offset picture bytes → length piece ≡ n
       → Wrote W d d' (picture_lines picture (events_after held offset piece)) → Wrote W d' d'' []
       → picture' ≡ picture_after_events picture (events_after held offset piece)
       → held' ≡ open_message (held ++ piece) → Pictured W c d'' held' (offset + n) picture' (bytes ++ piece)
-  pictured_more more told opens c d d' d'' held held' offset n picture picture' bytes piece h m q r set e = record {
+  pictured_more row more told opens c d d' d'' held held' offset n picture picture' bytes piece h m q r set e = record {
     wrote = subst (λ l. Wrote W c d'' l)
         (ap (λ l. pictures_text bytes ++ l) (append-nil _) ∙ lines_read held offset picture bytes piece h.decoded
         h.counted h.shown more)
-        (wrote_then W c d d'' (pictures_text bytes) (picture_lines picture (events_after held offset piece) ++ [])
-        h.wrote (wrote_then W d d' d'' _ [] q r));
+        (row.writes c d d'' (pictures_text bytes) (picture_lines picture (events_after held offset piece) ++ [])
+        (Ok tt) h.wrote (row.writes d d' d'' _ [] (Ok tt) q r));
     shown = set ∙ picture_read held offset picture bytes piece h.decoded h.counted h.shown told;
     decoded = e ∙ ap (λ l. open_message (l ++ piece)) h.decoded ∙ sym (opens bytes piece);
     counted = let l = length-append bytes piece in let k = h.counted in omega arith;
@@ -109,18 +108,18 @@ module _ {S T : Type 0} {R : Source S} {W : Sink T} {a b : S} {c d : T} {held : 
   )
 
   -- at a write that was refused, of the lines of a piece
-  pub pictured_stopped : {A : Type 0} → PicturesAppend → (b' : S) (d' : T) (piece : List ℕ) (r : Result A RunFault)
-      (e : RunFault) (t : BetweenReads R W a b c d taken limit) → Pictured W c d held offset picture t.bytes
-      → Consumes (R.left b) (R.left b') piece
-      → Stopped W d d' (picture_lines picture (events_after held offset piece))
-      → IsErrAnd r (λ y. y ≡ e) → e ≡ WriteFailed
+  pub pictured_stopped : InARow W → PicturesAppend → (b' : S) (d' : T) (piece : List ℕ)
+      (r : Result (Unit {0}) RunFault) (e : RunFault) (t : BetweenReads R W a b c d taken limit)
+      → Pictured W c d held offset picture t.bytes → Consumes (R.left b) (R.left b') piece
+      → IsErrAnd r (λ y. y ≡ e)
+      → (e ≡ WriteFailed) × Stopped W d d' (picture_lines picture (events_after held offset piece))
       → Ran R W (change a b') (change c d') (InTurns limit r (IsPictured r))
-  pictured_stopped more b' d' piece (Ok x) e t h p q k w = absurd k
-  pictured_stopped {A = A} more b' d' piece (Err y) e t h p q k w =
+  pictured_stopped row more b' d' piece (Ok x) e t h p k q = absurd k
+  pictured_stopped row more b' d' piece (Err y) e t h p k q =
       let whole = lines_read held offset picture t.bytes piece h.decoded h.counted h.shown more in
-      let stop = stopped_then W c d d' (pictures_text t.bytes) _ h.wrote q in
-      subst (λ f. let r : Result A RunFault = Err f in Ran R W (change a b') (change c d')
-      (InTurns limit r (IsPictured r))) (sym (k ∙ w)) (
+      let stop = (row.writes c d d' (pictures_text t.bytes) _ (Err e) h.wrote q).1 in
+      subst (λ f. let r : Result (Unit {0}) RunFault = Err f in Ran R W (change a b') (change c d')
+      (InTurns limit r (IsPictured r))) (sym (k ∙ q.0)) (
         t.bytes ++ piece,
         stop.front,
         Consumes-trans _ _ _ t.bytes piece t.given p,

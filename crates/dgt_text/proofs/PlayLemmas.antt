@@ -1,10 +1,10 @@
 -- Lines that are played in a row.
-use Rattle.std.proofs.Common.{◌≡◌, ◌≢◌, ℕ, ◌+◌, ◌-◌, ◌<◌, List, [], ◌∷◌, ◌++◌, ◌⊎◌, inl, inr, Bool, Result, Ok, Err, IsErrAnd, IsTrue, refl, sym, ◌∙◌, ap, subst, length, arith, append_assoc, append-nil, length-append, zero, suc, take, drop, slice_index, add-one}
+use Rattle.std.proofs.Common.{◌≡◌, ◌≢◌, ℕ, ◌+◌, ◌-◌, ◌<◌, List, [], ◌∷◌, ◌++◌, ◌⊎◌, inl, inr, Bool, Result, Ok, Err, IsErrAnd, IsTrue, refl, sym, ◌∙◌, ap, subst, length, arith, append_assoc, append-nil, length-append, zero, suc, take, drop, slice_index, add-one, rules}
 use Rattle.std.specs.Prelude.{◌↔◌, All, MatchResult, flat_map}
 use Rattle.std.specs.Io.KnownBytes.{Appends}
 use Rattle.std.proofs.KnownBytes.{Appends-trans, Appends-nil}
-use Rattle.std.proofs.Math.Seq.{take-suc}
-use Rattle.std.proofs.lemmas.List.{take-append-drop}
+use Rattle.std.proofs.Math.Seq.{take-add, take-suc}
+use Rattle.std.proofs.lemmas.List.{places, take_rest, take-append-drop}
 use Rattle.std.proofs.lemmas.List.Elements.{All-append}
 use Rattle.std.proofs.lemmas.Grind.{flat_map-append}
 use Rattle.dgt_link.specs.Act.{ActContent}
@@ -20,7 +20,6 @@ use Rattle.dgt_lines.specs.Writing.{Writes, Stopped}
 use Rattle.dgt_script.specs.Script.{AsksFor, IsBadAt}
 use Rattle.dgt_script.specs.ScriptLines.{HasNoFeed, IsCut, KeepsLine, ended}
 use Rattle.dgt_text.specs.Simulating.{BeginsWith, IsSimulatedFrom, Plays, PlaysOn, PlaysTorn, Stops, Took, all_lines, part}
-use Rattle.dgt_text.proofs.RunLemmas.{slice_from, slice_more, slice_room}
 use Rattle.dgt_lines.specs.declared.ends.Sink.{Ghosts as Sink}
 
 -- ---- lines
@@ -444,14 +443,14 @@ module _ {S : Type 0} (W : Sink S) where
 
 pub held_bytes : (rest piece : List ℕ) (i n : ℕ)
     → (rest ++ take i piece) ++ take n (take (length piece - i) (drop i piece)) ≡ rest ++ take (i + n) piece
-held_bytes rest piece i n = append_assoc rest (take i piece) _ ∙ ap (λ l. rest ++ l) (sym (slice_more piece i n))
+held_bytes rest piece i n = rw (take_rest, take-add i n piece) (append_assoc rest (take i piece) _)
 
 line_feed : (piece : List ℕ) (i n : ℕ) → i + n < length piece
     → (n < length (take (length piece - i) (drop i piece))
     → slice_index (take (length piece - i) (drop i piece)) n ≡ 10)
     → take (n + 1) (take (length piece - i) (drop i piece)) ≡ take n (take (length piece - i) (drop i piece)) ++ 10 ∷ []
 line_feed piece i n h k =
-    let room = slice_room piece i n h in
+    let room : n < length (take (length piece - i) (drop i piece)) = search (rules, places, h) in
     rw add-one (take-suc (take (length piece - i) (drop i piece)) n 0 room) ∙
     ap (λ b. take n (take (length piece - i) (drop i piece)) ++ b ∷ []) (k room)
 
@@ -482,7 +481,7 @@ feed_begins at_end rest piece i n h k none clean =
     begins_ended at_end (rest ++ line) (drop (n + 1) left) (rest ++ drop i piece)
     (All-append (λ x. x ≢ 10) rest line none clean)
     (ap (λ l. rest ++ l)
-    (sym (slice_from piece i) ∙ sym (take-append-drop (n + 1) left) ∙ ap (λ l. l ++ drop (n + 1) left)
+    (sym (take_rest piece i) ∙ sym (take-append-drop (n + 1) left) ∙ ap (λ l. l ++ drop (n + 1) left)
     (line_feed piece i n h k))
     ∙ sym (append_assoc rest (line ++ 10 ∷ []) (drop (n + 1) left)) ∙ ap (λ l. l ++ drop (n + 1) left)
     (sym (append_assoc rest line (10 ∷ []))))

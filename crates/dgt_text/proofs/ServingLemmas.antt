@@ -1,7 +1,7 @@
 -- What a board's conversation leaves in a sink.
 use Rattle.std.proofs.Common.{◌≡◌, ℕ, ◌+◌, ◌-◌, ◌≤◌, List, [], ◌∷◌, ◌++◌, Option, Some, None, Result, Ok, Err, IsErrAnd, refl, sym, ◌∙◌, ap, subst, append_assoc, append-nil, length, take, drop, arith, true, false, is_some, IfSome, IfNone, option_map}
-use Rattle.std.proofs.Math.Seq.{take-append_seam}
-use Rattle.std.proofs.lemmas.List.{take-append-drop, take_all}
+use Rattle.std.proofs.Math.Seq.{take-add, take-append_seam}
+use Rattle.std.proofs.lemmas.List.{take-append-drop, take_all, take_rest}
 use Rattle.std.specs.Io.KnownBytes.{Consumes}
 use Rattle.std.proofs.KnownBytes.{Appends-trans, Consumes-trans}
 use Rattle.dgt_message.specs.Content.{Content}
@@ -16,21 +16,24 @@ use Rattle.dgt_lines.specs.declared.ends.Source.{Ghosts as Source}
 use Rattle.dgt_lines.specs.declared.ends.Sink.{Ghosts as Sink}
 use Rattle.dgt_lines.specs.declared.faults.RunFault.{RunFault}
 use Rattle.dgt_lines.specs.declared.faults.RunFault.TheVariants.{WriteFailed}
-use Rattle.dgt_lines.specs.Writing.{Wrote, Stopped, Writes}
+use Rattle.dgt_lines.specs.Writing.{Wrote, Stopped, Writes, InARow}
 use Rattle.dgt_text.specs.Turns.{Ran, change, InTurns}
 use Rattle.dgt_text.specs.Conversation.{Exchange, told, heard, Converses, events_heard, bytes_told, Hears}
 use Rattle.dgt_text.specs.Serving.{IsAlmostTold, IsServed, Served, Halted, Serves}
-use Rattle.dgt_text.proofs.RunLemmas.{wrote_none, wrote_then, slice_more}
 use Rattle.dgt_text.proofs.TurnLemmas.{BetweenReads}
 use Rattle.dgt_text.proofs.ConversationLemmas.{events_heard-append, bytes_told-append, converses-told, hears_then, hears_nothing, hears_word, hears_part, front_then, front_longer, front_whole}
 use Rattle.dgt_text.specs.Simulating.{part}
 
 -- ---- pieces
 
+-- n more bytes of a piece
+pub piece_more : (piece : List ℕ) (i n : ℕ)
+    → take (i + n) piece ≡ take i piece ++ take n (take (length piece - i) (drop i piece))
+piece_more piece i n = rw take_rest (take-add i n piece)
+
 pub piece_rest : (piece : List ℕ) (i n : ℕ) → (take i piece ++ take n (take (length piece - i) (drop i piece))) ++ drop
     (i + n) piece ≡ piece
-piece_rest piece i n = ap (λ (l : List ℕ). l ++ drop (i + n) piece) (sym (slice_more piece i n)) ∙ take-append-drop
-    (i + n) piece
+piece_rest piece i n = rw (← piece_more piece i n) (take-append-drop (i + n) piece)
 
 -- ---- calls of the board
 
@@ -129,15 +132,11 @@ pub record Sent {S : Type 0} (W : Sink S) (before after : BoardView) (old new : 
   pub wrote : Wrote W old new (bytes_told steps)
 
 module _ {S : Type 0} (W : Sink S) where
-  pub sent_none : (board : BoardView) (a : S) → Sent W board board a a
-  sent_none board a =
-      record { steps = []; conversation = refl; none_heard = refl; partial = refl; wrote = wrote_none W a }
-
-  pub sent_more : (old mid new : BoardView) (a b c : S) (message : Content) → Sent W old mid a b
+  pub sent_more : InARow W → (old mid new : BoardView) (a b c : S) (message : Content) → Sent W old mid a b
       → next_message mid.state ≡ Some message
       → new ≡ record mid { state = after_sending mid.state message } → Wrote W b c (spelling message)
       → Sent W old new a c
-  sent_more old mid new a b c message p next is q =
+  sent_more row old mid new a b c message p next is q =
       record {
         steps = p.steps ++ told message ∷ [];
         conversation = converses-told old.state mid.state new.state p.steps message p.conversation next
@@ -148,21 +147,8 @@ module _ {S : Type 0} (W : Sink S) where
         wrote = subst (λ (l : List ℕ). Wrote W a c l)
             (ap (λ (l : List ℕ). bytes_told p.steps ++ l)
             (sym (append-nil (spelling message))) ∙ sym (bytes_told-append p.steps (told message ∷ [])))
-            (wrote_then W a b c (bytes_told p.steps) (spelling message) p.wrote q);
+            (row.writes a b c (bytes_told p.steps) (spelling message) (Ok tt) p.wrote q);
       }
-
-  -- nothing is left to tell
-  pub sent_all : (old mid new : BoardView) (a b : S) → Sent W old mid a b → IsPartial mid.partial
-      → next_message mid.state ≡ None → new ≡ mid → Served W old new a b []
-  sent_all old mid new a b p partial none is =
-      rw is (record {
-        steps = p.steps;
-        answers = record {
-          hears = hears_nothing old mid p.steps p.conversation p.none_heard p.partial partial;
-          settled = none;
-        };
-        wrote = p.wrote;
-      })
 
   -- the sink refused a message
   pub sent_halts : (old mid new : BoardView) (a b c : S) (message : Content) → Sent W old mid a b
@@ -193,10 +179,10 @@ module _ {S : Type 0} (W : Sink S) where
   -- ---- bytes in a row
 
   -- steps that tell nothing, and what follows them
-  pub served_then : DivisionsAppend → (old mid between new : BoardView) (a b c : S) (s t : List ℕ)
+  pub served_then : InARow W → DivisionsAppend → (old mid between new : BoardView) (a b c : S) (s t : List ℕ)
       (steps : List Exchange) → Served W old mid a b s → Hears mid t steps between → bytes_told steps ≡ []
       → Served W between new b c [] → Served W old new a c (s ++ t)
-  served_then append old mid between new a b c s t steps p h none q =
+  served_then row append old mid between new a b c s t steps p h none q =
       let all = p.steps ++ (steps ++ q.steps) in
       let later : Hears mid (t ++ []) (steps ++ q.steps) new =
       hears_then append mid between new t [] steps q.steps h q.answers.hears in
@@ -211,7 +197,7 @@ module _ {S : Type 0} (W : Sink S) where
           settled = q.answers.settled;
         };
         wrote = subst (λ (l : List ℕ). Wrote W a c l) (sym told)
-            (wrote_then W a b c (bytes_told p.steps) (bytes_told q.steps) p.wrote q.wrote);
+            (row.writes a b c (bytes_told p.steps) (bytes_told q.steps) (Ok tt) p.wrote q.wrote);
       }
 
   pub halted_longer : (old new : BoardView) (a b : S) (s t : List ℕ) → Halted W old new a b s
@@ -246,9 +232,9 @@ module _ {S : Type 0} (W : Sink S) where
       }
 
   -- some bytes, and then more
-  pub served_more : DivisionsAppend → (old mid new : BoardView) (a b c : S) (s t : List ℕ) → Served W old mid a b s
-      → Served W mid new b c t → Served W old new a c (s ++ t)
-  served_more append old mid new a b c s t p q =
+  pub served_more : InARow W → DivisionsAppend → (old mid new : BoardView) (a b c : S) (s t : List ℕ)
+      → Served W old mid a b s → Served W mid new b c t → Served W old new a c (s ++ t)
+  served_more row append old mid new a b c s t p q =
       record {
         steps = p.steps ++ q.steps;
         answers = record {
@@ -256,15 +242,15 @@ module _ {S : Type 0} (W : Sink S) where
           settled = q.answers.settled;
         };
         wrote = subst (λ (l : List ℕ). Wrote W a c l) (sym (bytes_told-append p.steps q.steps))
-            (wrote_then W a b c (bytes_told p.steps) (bytes_told q.steps) p.wrote q.wrote);
+            (row.writes a b c (bytes_told p.steps) (bytes_told q.steps) (Ok tt) p.wrote q.wrote);
       }
 
   -- the sink refused after a word
-  pub served_halts : DivisionsAppend → (old mid between new : BoardView) (a b c : S) (s t : List ℕ)
+  pub served_halts : InARow W → DivisionsAppend → (old mid between new : BoardView) (a b c : S) (s t : List ℕ)
       (event : EventContent) → Served W old mid a b s → Hears mid t (heard event ∷ []) between
       → Halted W between new b c [] → Halted W old new a c (s ++ t)
-  served_halts append old mid between new a b c s t event p h q =
-      let later = halted_then append mid between new b b c t [] (heard event ∷ []) h (wrote_none W b) q in
+  served_halts row append old mid between new a b c s t event p h q =
+      let later = halted_then append mid between new b b c t [] (heard event ∷ []) h (row.nothing b) q in
       halted_then append old mid new a b c s t p.steps p.answers.hears p.wrote (rw (append-nil t) at later)
 
   -- bytes that end no word
@@ -282,16 +268,16 @@ module _ {S : Type 0} (W : Sink S) where
       }
 
   -- a flush at the end
-  pub served_flushed : {A : Type 0} (old new : BoardView) (a b c : S) (s : List ℕ) (r : Result A RunFault)
+  pub served_flushed : InARow W → (old new : BoardView) (a b c : S) (s : List ℕ) (r : Result (Unit {0}) RunFault)
       → Served W old new a b s → Writes W b c r [] → Serves W (change old new) (change a c) r s
-  served_flushed old new a b c s (Ok x) p q =
+  served_flushed row old new a b c s (Ok x) p q =
       record {
         steps = p.steps;
         answers = p.answers;
         wrote = subst (λ (l : List ℕ). Wrote W a c l) (append-nil (bytes_told p.steps))
-            (wrote_then W a b c (bytes_told p.steps) [] p.wrote q);
+            (row.writes a b c (bytes_told p.steps) [] (Ok tt) p.wrote q);
       }
-  served_flushed old new a b c s (Err e) p q = (
+  served_flushed row old new a b c s (Err e) p q = (
     q.0,
     record {
       out = bytes_told p.steps ++ q.1.front;

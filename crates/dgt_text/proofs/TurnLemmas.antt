@@ -1,11 +1,11 @@
 -- A run between two reads.
-use Rattle.std.proofs.Common.{◌≡◌, ◌+◌, ◌-◌, ◌^◌, ◌<◌, ◌≤◌, ℕ, List, [], ◌++◌, false, length, min, take, IsTrue, arith, ◌∙◌, refl}
+use Rattle.std.proofs.Common.{◌≡◌, ◌+◌, ◌-◌, ◌^◌, ◌<◌, ◌≤◌, ℕ, List, [], ◌++◌, false, length, min, take, IsTrue, arith, ◌∙◌, length-append, refl}
 use Rattle.std.specs.Io.KnownBytes.{Consumes}
 use Rattle.std.proofs.KnownBytes.{Consumes-nil, Consumes-trans}
+use Rattle.std.proofs.lemmas.List.{length-take-le}
 use Rattle.dgt_lines.specs.declared.ends.Source.{Ghosts as Source}
 use Rattle.dgt_lines.specs.declared.ends.Sink.{Ghosts as Sink}
 use Rattle.dgt_lines.specs.Writing.{Wrote}
-use Rattle.dgt_text.proofs.RunLemmas.{piece_some, turn_more}
 
 -- so many of at most `limit` reads succeeded and gave these bytes, and none told the end; where nothing waited for a
 -- flush, nothing does
@@ -54,7 +54,7 @@ next_read {taken = taken} p more n buffer bound given not_refused no_end counted
     let not_ended = no_end (λ h. some h.0) in record {
       bytes = p.bytes ++ take n buffer;
       given = Consumes-trans _ _ _ p.bytes (take n buffer) p.given given;
-      each = turn_more taken p.bytes (take n buffer) p.each (piece_some n buffer bound some);
+      each = omega (arith, p.each, some, length-append p.bytes (take n buffer), length-take-le n buffer bound);
       not_failed = not_refused ∙ p.not_failed;
       not_ended = not_ended ∙ p.not_ended;
       source_in_time = λ f e. in_time (p.not_failed ∙ f) (p.not_ended ∙ e) ∙ p.source_in_time f e;

@@ -35,6 +35,7 @@ pub fn commands<R: Source, W: Sink>(
 {
     dgt_command::laws::parts_of_words();
     dgt_command_lines::laws::texts_append();
+    dgt_lines::laws::writes_in_a_row::<W>();
     let mut framer = WordFramer::new();
     let mut outgoing = Outgoing::new();
     let mut offset = 0u64;

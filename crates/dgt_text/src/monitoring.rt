@@ -32,6 +32,7 @@ pub fn monitor<R: Source, W: Sink>(
         (change writer.old writer.new) limit result }
 {
     dgt_lines::laws::lines_append();
+    dgt_lines::laws::writes_in_a_row::<W>();
     dgt_decode::laws::open_append();
     let mut framer = Framer::new();
     let mut outgoing = Outgoing::new();

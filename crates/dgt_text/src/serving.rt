@@ -7,6 +7,7 @@ ghost use Rattle.dgt_text.specs.Serving.{IsServed, Serves};
 use crate::MAX_PIECE;
 use dgt_board::{Board, MAX_SENT, Polled, Taken};
 use dgt_command::laws;
+use dgt_lines::laws::writes_in_a_row;
 use dgt_lines::{RunFault, Sink, Source, flush, put};
 
 // The board sends until it owes nothing. Each message is written before the next is asked for, so
@@ -15,6 +16,7 @@ fn send_all<W: Sink>(board: &mut Board, writer: &mut W) -> Result<(), RunFault>
     ensures { Serves W.Sink (change board.old board.new) (change writer.old writer.new)
         result [] }
 {
+    writes_in_a_row::<W>();
     let mut message = [0; MAX_SENT];
     while let Polled::Wrote(length) = board.poll(&mut message) {
         put(writer, &message[..length])?;
@@ -31,6 +33,7 @@ fn answer<W: Sink>(board: &mut Board, piece: &[u8], writer: &mut W) -> Result<()
 {
     laws::divisions_append();
     laws::parts_of_words();
+    writes_in_a_row::<W>();
     send_all(board, writer)?;
     let mut at = 0;
     while at < piece.len() {
@@ -72,6 +75,7 @@ pub fn serve<R: Source, W: Sink>(
         (change writer.old writer.new) limit result }
 {
     laws::divisions_append();
+    writes_in_a_row::<W>();
     answer(board, &[], writer)?;
     let mut buffer = [0; MAX_PIECE];
     for _ in 0..limit {

@@ -11,6 +11,7 @@ ghost use Rattle.dgt_text.specs.Simulating.{BeginsWith, IsOfLine, IsSimulated, I
 
 use crate::{MAX_PIECE, laws};
 use dgt_command::MAX_WORD;
+use dgt_lines::laws::writes_in_a_row;
 use dgt_lines::{RunFault, Sink, Source, flush, put};
 use dgt_link::World;
 use dgt_script::{
@@ -103,6 +104,7 @@ fn close<W: Sink>(world: &World, writer: &mut W) -> Result<(), RunFault>
         × Writes W.Sink writer.old writer.new result (closing_lines world.now quiet) }
     ensures flushed { OnOk result (IsTrue (W.flushed writer.new)) }
 {
+    writes_in_a_row::<W>();
     write_closing(world, writer)?;
     flush(writer)
 }
@@ -164,6 +166,7 @@ pub fn simulate<R: Source, W: Sink>(
     ensures in_turns { RunsInTurns R.Source W.Sink (change reader.old reader.new)
         (change writer.old writer.new) limit result }
 {
+    writes_in_a_row::<W>();
     laws::closing_lines_agree();
     dgt_link::laws::at_quiet_world();
     let mut line = LineBuffer::new();

@@ -1,12 +1,11 @@
-use Rattle.std.proofs.Common.{◌++◌, ◌+◌, ◌-◌, [], append-nil, arith, length, refl, subst, sym}
-use Rattle.std.proofs.lemmas.List.{take_all}
+use Rattle.std.proofs.Common.{◌++◌, ◌+◌, ◌-◌, [], Ok, append-nil, arith, length, refl, rules, subst, sym}
+use Rattle.std.proofs.lemmas.List.{places, take_all}
 use Rattle.dgt_command.specs.Framing.{rest_of, word_found_in}
 use Rattle.dgt_command.specs.Spelling.{AreBytes}
 use Rattle.dgt_command.specs.Words.{IsPartial}
 use Rattle.dgt_command_lines.specs.CommandLines.{Tells, command_line}
-use Rattle.dgt_command_lines.proofs.GatherLemmas.{gathered_none, gathered_then}
 use Rattle.dgt_command_lines.proofs.TellingLemmas.{each_is_told, told_part}
-use Rattle.dgt_command_lines.proofs.PieceLemmas.{feed_bound, told_event, told_none, told_on, piece_written, piece_refused}
+use Rattle.dgt_command_lines.proofs.PieceLemmas.{told_event, told_none, told_on, piece_written, piece_refused}
 use Rattle.dgt_command_lines.proofs.pieces.write_commands.Goals as goal
 
 pub loop-at-init : goal.loop-at-init
@@ -17,7 +16,7 @@ loop-at-init g c =
         text = [];
         tells = subst (λ l. Tells (c.args.offset - length held) l held []) (sym (append-nil held))
             (told_part _ held c.partial.ensures.unfinished);
-        output = rw c.requires.empty (gathered_none g.W.Sink [] c.args.writer.now);
+        output = rw c.requires.empty (c.writes_in_a_row.ensures.holds [] c.args.writer.now []);
       };
     }
 
@@ -28,14 +27,13 @@ loop-at-preserved-in-Continue-1 g c =
     let event = word_found_in c.advance-advanced.new.self.word c.in-Some.found in
     let word = rw c.in-Some.is at advanced.first in
     record {
-      bound = feed_bound c.args.piece.now c.loop-at.at c.advance-advanced.result.used c.loop-at.invariant.bound
-          advanced.within;
+      bound = search (rules, places, c.loop-at.invariant.bound, advanced.within);
       told = record {
         text = told.text ++ command_line (c.args.offset + (c.loop-at.at + c.advance-advanced.result.used)) event;
         tells = rw (advanced.held, c.in-Some.is)
             (told_event _ _ _ _ _ _ _ c.requires.held c.loop-at.invariant.bound advanced.within told.tells
             c.parts_of_words.ensures.nothing event word);
-        output = gathered_then _ _ _ _ _ _ _ told.text _ told.output
+        output = c.writes_in_a_row.ensures.gathers _ _ _ _ _ _ told.text _ (Ok tt) told.output
             (rw c.event.ensures at c.in_ok-put_command.ensures);
       };
     }
@@ -46,8 +44,7 @@ loop-at-preserved g c =
     let advanced = c.advance-advanced.ensures in
     let kept = rw c.in_default.is at advanced.held in
     record {
-      bound = feed_bound c.args.piece.now c.loop-at.at c.advance-advanced.result.used c.loop-at.invariant.bound
-          advanced.within;
+      bound = search (rules, places, c.loop-at.invariant.bound, advanced.within);
       told = record {
         text = told.text;
         tells = rw kept
@@ -66,11 +63,12 @@ returns-in_err-put_command-clause-output g c =
     let are : AreBytes c.args.piece.now = λ i. omega (arith, c.type_inv.piece i) in
     let tells = told_event _ _ _ _ _ _ _ c.requires.held c.loop-at.invariant.bound advanced.within told.tells
     c.parts_of_words.ensures.nothing event word in
-    piece_refused _ _ _ _ _ _ _ told.text _ _ _ _ told.output
+    piece_refused c.writes_in_a_row.ensures _ _ _ _ _ _ _ told.text _ _ _ _ told.output
     (told_on (each_is_told c.one_division.ensures) _ _ _ _ _ are tells) c.from_residual.ensures.1
     (rw c.event.ensures at c.in_err-put_command.ensures)
 
 pub returns-clause-output : goal.returns-clause-output
 returns-clause-output g c =
     let whole = take_all _ c.args.piece.now c.loop-at-test.false in
-    piece_written _ _ _ _ _ _ _ _ _ _ (rw whole at c.loop-at.invariant.told) c.write_out.ensures.output refl
+    piece_written c.writes_in_a_row.ensures _ _ _ _ _ _ _ _ _ _ (rw whole at c.loop-at.invariant.told)
+    c.write_out.ensures.output refl

@@ -1,6 +1,5 @@
-use Rattle.std.proofs.Common.{arith}
+use Rattle.std.proofs.Common.{[], append-nil, arith, rules}
 use Rattle.dgt_command.specs.Framing.{rest_of}
-use Rattle.dgt_command_lines.proofs.GatherLemmas.{writes_exit, writes_flushed}
 use Rattle.dgt_command_lines.proofs.TextLemmas.{unfinished_line-some}
 use Rattle.dgt_command_lines.proofs.pieces.write_commands_end.Goals as goal
 
@@ -8,10 +7,11 @@ pub returns-in_err-write_unfinished-clause-output : goal.returns-in_err-write_un
 returns-in_err-write_unfinished-clause-output g c =
     rw (unfinished_line-some (rest_of c.args.framer.now) c.args.offset c.partial-have.result
     (omega (arith, c.partial-have.ensures.length)) c.partial-have.ensures.length)
-    (writes_exit _ _ _ _ _ _ c.from_residual.ensures.1 c.in_err-write_unfinished.ensures)
+    (search rules)
 
 pub returns-clause-output : goal.returns-clause-output
 returns-clause-output g c =
     rw (unfinished_line-some (rest_of c.args.framer.now) c.args.offset c.partial-have.result
     (omega (arith, c.partial-have.ensures.length)) c.partial-have.ensures.length)
-    (writes_flushed _ _ _ _ _ _ c.in_ok-write_unfinished.ensures c.flush.ensures.output)
+    (rw append-nil at (c.writes_in_a_row.ensures.writes _ _ _ _ [] _ c.in_ok-write_unfinished.ensures
+    c.flush.ensures.output))

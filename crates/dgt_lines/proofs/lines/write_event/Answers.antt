@@ -1,10 +1,10 @@
+use Rattle.std.proofs.Common.{rules}
 use Rattle.dgt_lines.proofs.GatherLemmas.{gathered_out}
-use Rattle.dgt_lines.proofs.RunLemmas.{writes_exit}
 use Rattle.dgt_lines.proofs.lines.write_event.Goals as goal
 
 pub returns-in_err-put_event-clause-output : goal.returns-in_err-put_event-clause-output
 returns-in_err-put_event-clause-output g c =
-    writes_exit _ _ _ _ _ _ c.from_residual.ensures.1 (rw c.new-outgoing.ensures at c.in_err-put_event.ensures.output)
+    search (rules, rw c.new-outgoing.ensures at c.in_err-put_event.ensures.output)
 
 pub returns-clause-output : goal.returns-clause-output
 returns-clause-output g c = gathered_out _ _ _ _ _ _ _ (rw c.new-outgoing.ensures at c.in_ok-put_event.ensures.output)

@@ -1,9 +1,8 @@
-use Rattle.std.proofs.Common.{arith, ◌++◌, ◌∙◌, sym, ap, take, [], append-nil}
+use Rattle.std.proofs.Common.{arith, ◌∙◌, sym, ap, take, [], append-nil}
 use Rattle.std.proofs.lemmas.List.{take_all}
 use Rattle.dgt_decode.specs.Feeding.{event_found_in}
 use Rattle.dgt_lines.specs.Lines.{lines_after}
 use Rattle.dgt_decode.specs.Grammar.{open_message}
-use Rattle.dgt_lines.proofs.RunLemmas.{on_ok}
 use Rattle.dgt_lines.proofs.GatherLemmas.{gathered_none, gathered_then, gathered_exit, gathered_out}
 use Rattle.dgt_lines.proofs.EventLemmas.{open-open, feed_bound, feed_open}
 use Rattle.dgt_lines.proofs.PieceLemmas.{lines_after-none, feed_line, feed_none, feed_whole}
@@ -71,9 +70,3 @@ pub returns-clause-output : goal.returns-clause-output
 returns-clause-output g c =
     let whole = take_all _ c.args.piece.now c.loop-at-test.false in
     gathered_out _ _ _ _ _ _ _ (rw whole at c.loop-at.invariant.output) c.write_out.ensures.output
-
-pub returns-clause-framed : goal.returns-clause-framed
-returns-clause-framed g c =
-    on_ok c.write_out.result
-    (c.loop-at.invariant.framed ∙ ap (λ l. open_message ((open_message c.args.framer.now) ++ l))
-    (take_all _ c.args.piece.now c.loop-at-test.false))

@@ -1,20 +1,20 @@
-use Rattle.std.proofs.Common.{arith}
+use Rattle.std.proofs.Common.{[], Err, append-nil, arith}
 use Rattle.std.proofs.lemmas.List.{length-take-le}
-use Rattle.dgt_text.proofs.RunLemmas.{stopped_after, wrote_none}
 use Rattle.dgt_text.proofs.TurnLemmas.{no_read, next_read}
 use Rattle.dgt_text.proofs.Heard.{heard_none, open_new, heard_bound, heard_more, heard_stopped, heard_end}
 use Rattle.dgt_text.proofs.monitoring.monitor.Goals as goal
 
 pub loop-init : goal.loop-init
 loop-init g c = record {
-  in_turns = no_read (wrote_none g.W.Sink _) (λ h. h);
-  heard = heard_none _ _ (open_new c.new-framer.ensures);
+  in_turns = no_read (c.writes_in_a_row.ensures.nothing _) (λ h. h);
+  heard = heard_none c.writes_in_a_row.ensures _ _ (open_new c.new-framer.ensures);
   empty = c.new-outgoing.ensures;
   short = omega arith;
 }
 
 pub returns-then-given-eq0-clause-output : goal.returns-then-given-eq0-clause-output
-returns-then-given-eq0-clause-output g c = heard_end _ _ _ c.loop.invariant.in_turns c.loop.invariant.heard
+returns-then-given-eq0-clause-output g c =
+    heard_end c.writes_in_a_row.ensures _ _ _ c.loop.invariant.in_turns c.loop.invariant.heard
     (rw c.if-given-eq0.true at c.in-Ok.ensures.bytes.0) c.write_end.ensures.output
 
 pub write_lines-requires-clause-held : goal.write_lines-requires-clause-held
@@ -22,15 +22,15 @@ write_lines-requires-clause-held g c = heard_bound c.lines_append.ensures.unfini
 
 pub returns-in_err-write_lines-clause-output : goal.returns-in_err-write_lines-clause-output
 returns-in_err-write_lines-clause-output g c =
-    heard_stopped c.lines_append.ensures.lines _ _ _ _ _ c.loop.invariant.in_turns c.loop.invariant.heard
-    c.in-Ok.ensures.bytes.0 c.in_err-write_lines.ensures.output.1 c.from_residual.ensures.1
-    c.in_err-write_lines.ensures.output.0
+    heard_stopped c.writes_in_a_row.ensures c.lines_append.ensures.lines _ _ _ _ _ c.loop.invariant.in_turns
+    c.loop.invariant.heard c.in-Ok.ensures.bytes.0 c.from_residual.ensures.1 c.in_err-write_lines.ensures.output
 
 pub returns-in_err-flush-clause-output : goal.returns-in_err-flush-clause-output
 returns-in_err-flush-clause-output g c =
-    let stop = stopped_after g.W.Sink _ _ _ _ c.in_ok-write_lines.ensures.output c.in_err-flush.ensures.output.1 in
-    heard_stopped c.lines_append.ensures.lines _ _ _ _ _ c.loop.invariant.in_turns c.loop.invariant.heard
-    c.in-Ok.ensures.bytes.0 stop c.from_residual-in_err-flush.ensures.1 c.in_err-flush.ensures.output.0
+    heard_stopped c.writes_in_a_row.ensures c.lines_append.ensures.lines _ _ _ _ _ c.loop.invariant.in_turns
+    c.loop.invariant.heard c.in-Ok.ensures.bytes.0 c.from_residual-in_err-flush.ensures.1
+    (rw append-nil at (c.writes_in_a_row.ensures.writes _ _ _ _ [] (Err _) c.in_ok-write_lines.ensures.output
+    c.in_err-flush.ensures.output))
 
 pub loop-preserved : goal.loop-preserved
 loop-preserved g c =
@@ -40,8 +40,9 @@ loop-preserved g c =
       in_turns = next_read c.loop.invariant.in_turns c.loop-test.true _ _ read.bound read.bytes.0 read.not_refused
           read.no_end read.counted read.in_time c.if-given-eq0.false wrote.output.kept wrote.output.in_time
           flushed.output flushed.flushed;
-      heard = heard_more c.lines_append.ensures.lines c.open_append.ensures _ _ _ _ _ _ _ _ _ _ c.loop.invariant.heard
-          (length-take-le c.in-Ok.given c.read_some.new.buffer read.bound) wrote.output flushed.output wrote.framed;
+      heard = heard_more c.writes_in_a_row.ensures c.lines_append.ensures.lines c.open_append.ensures _ _ _ _ _ _ _ _ _
+          _ c.loop.invariant.heard (length-take-le c.in-Ok.given c.read_some.new.buffer read.bound)
+          wrote.output flushed.output wrote.framed;
       empty = wrote.empty;
       short = omega (arith, read.bound, c.read_some.auto.buffer);
     }

@@ -1,14 +1,13 @@
-use Rattle.std.proofs.Common.{arith}
+use Rattle.std.proofs.Common.{[], Err, append-nil, arith}
 use Rattle.std.proofs.lemmas.List.{length-take-le}
 use Rattle.dgt_text.proofs.Pictured.{pictured_none, pictured_bound, pictured_more, pictured_stopped, pictured_end}
-use Rattle.dgt_text.proofs.RunLemmas.{stopped_after, wrote_none}
 use Rattle.dgt_text.proofs.TurnLemmas.{no_read, next_read}
 use Rattle.dgt_text.proofs.picturing.picture.Goals as goal
 
 pub loop-init : goal.loop-init
 loop-init g c = record {
-  in_turns = no_read (wrote_none g.W.Sink _) (λ h. h);
-  pictured = pictured_none _ _ c.new-framer.ensures;
+  in_turns = no_read (c.writes_in_a_row.ensures.nothing _) (λ h. h);
+  pictured = pictured_none c.writes_in_a_row.ensures _ _ c.new-framer.ensures;
   empty = c.new-outgoing.ensures;
   short = omega arith;
 }
@@ -23,15 +22,15 @@ returns-then-given-eq0-clause-output g c = pictured_end _ (tt {0}) c.loop.invari
 
 pub returns-in_err-write_pictures-clause-output : goal.returns-in_err-write_pictures-clause-output
 returns-in_err-write_pictures-clause-output g c =
-    pictured_stopped c.pictures_append.ensures.lines _ _ _ _ _ c.loop.invariant.in_turns c.loop.invariant.pictured
-    c.in-Ok.ensures.bytes.0 c.in_err-write_pictures.ensures.output.1 c.from_residual.ensures.1
-    c.in_err-write_pictures.ensures.output.0
+    pictured_stopped c.writes_in_a_row.ensures c.pictures_append.ensures.lines _ _ _ _ _ c.loop.invariant.in_turns
+    c.loop.invariant.pictured c.in-Ok.ensures.bytes.0 c.from_residual.ensures.1 c.in_err-write_pictures.ensures.output
 
 pub returns-in_err-flush-clause-output : goal.returns-in_err-flush-clause-output
 returns-in_err-flush-clause-output g c =
-    let stop = stopped_after g.W.Sink _ _ _ _ c.in_ok-write_pictures.ensures.output c.in_err-flush.ensures.output.1 in
-    pictured_stopped c.pictures_append.ensures.lines _ _ _ _ _ c.loop.invariant.in_turns c.loop.invariant.pictured
-    c.in-Ok.ensures.bytes.0 stop c.from_residual-in_err-flush.ensures.1 c.in_err-flush.ensures.output.0
+    pictured_stopped c.writes_in_a_row.ensures c.pictures_append.ensures.lines _ _ _ _ _ c.loop.invariant.in_turns
+    c.loop.invariant.pictured c.in-Ok.ensures.bytes.0 c.from_residual-in_err-flush.ensures.1
+    (rw append-nil at (c.writes_in_a_row.ensures.writes _ _ _ _ [] (Err _) c.in_ok-write_pictures.ensures.output
+    c.in_err-flush.ensures.output))
 
 pub loop-preserved : goal.loop-preserved
 loop-preserved g c =
@@ -41,8 +40,8 @@ loop-preserved g c =
       in_turns = next_read c.loop.invariant.in_turns c.loop-test.true _ _ read.bound read.bytes.0 read.not_refused
           read.no_end read.counted read.in_time c.if-given-eq0.false wrote.output.kept wrote.output.in_time
           flushed.output flushed.flushed;
-      pictured = pictured_more c.pictures_append.ensures.lines c.pictures_append.ensures.picture c.open_append.ensures
-          _ _ _ _ _ _ _ _ _ _ _ _ c.loop.invariant.pictured
+      pictured = pictured_more c.writes_in_a_row.ensures c.pictures_append.ensures.lines
+          c.pictures_append.ensures.picture c.open_append.ensures _ _ _ _ _ _ _ _ _ _ _ _ c.loop.invariant.pictured
           (length-take-le c.in-Ok.given c.read_some.new.buffer read.bound) wrote.output flushed.output wrote.shown
           wrote.framed;
       empty = wrote.empty;

@@ -1,10 +1,8 @@
-use Rattle.std.proofs.Common.{◌+◌, ◌∷◌, [], take, drop, length, ◌-◌, refl}
-use Rattle.std.proofs.lemmas.List.{take_all}
+use Rattle.std.proofs.Common.{◌+◌, ◌∷◌, [], take, drop, length, ◌-◌, refl, rules}
+use Rattle.std.proofs.lemmas.List.{places, take_all}
 use Rattle.dgt_command.specs.Content.{command_event_content}
 use Rattle.dgt_text.specs.Conversation.{heard}
-use Rattle.dgt_text.proofs.RunLemmas.{feed_bound}
-use Rattle.dgt_text.proofs.RunLemmas.{slice_more}
-use Rattle.dgt_text.proofs.ServingLemmas.{piece_rest, hears_some, hears_none, served_then, served_part, served_halts, served_flushed, halted_exit, halted_longer}
+use Rattle.dgt_text.proofs.ServingLemmas.{piece_more, piece_rest, hears_some, hears_none, served_then, served_part, served_halts, served_flushed, halted_exit, halted_longer}
 use Rattle.dgt_text.proofs.serving.answer.Goals as goal
 
 pub returns-in_err-send_all-clause-served : goal.returns-in_err-send_all-clause-served
@@ -19,11 +17,10 @@ loop-at-preserved-in-Continue-branch-2 g c =
     c.loop-at.invariant.served.answers.settled c.if-is_some.ensures
     (rw c.unwrap-used.ensures at c.take.ensures.event) taken.0 in
     record {
-      bound = feed_bound c.args.piece.now c.loop-at.at c.unwrap-used.result.used c.loop-at.invariant.bound
-          (rw c.unwrap-used.ensures at c.take.ensures.within);
-      served = rw (slice_more c.args.piece.now c.loop-at.at c.unwrap-used.result.used)
-          (served_then _ c.divisions_append.ensures _ _ _ _ _ _ _ _ _ (heard found.0 ∷ []) c.loop-at.invariant.served
-          found.1 refl c.in_ok-send_all-2.ensures);
+      bound = search (rules, places, c.loop-at.invariant.bound, rw c.unwrap-used.ensures at c.take.ensures.within);
+      served = rw (piece_more c.args.piece.now c.loop-at.at c.unwrap-used.result.used)
+          (served_then _ c.writes_in_a_row.ensures c.divisions_append.ensures _ _ _ _ _ _ _ _ _ (heard found.0 ∷ [])
+          c.loop-at.invariant.served found.1 refl c.in_ok-send_all-2.ensures);
     }
 
 pub returns-in_err-send_all-2-clause-served : goal.returns-in_err-send_all-2-clause-served
@@ -32,8 +29,8 @@ returns-in_err-send_all-2-clause-served g c =
     let found = hears_some c.parts_of_words.ensures.nothing command_event_content _ _ _ _
     c.loop-at.invariant.served.answers.settled c.if-is_some.ensures
     (rw c.unwrap-used.ensures at c.take.ensures.event) taken.0 in
-    let halted = served_halts _ c.divisions_append.ensures _ _ _ _ _ _ _ _ _ found.0 c.loop-at.invariant.served found.1
-    c.in_err-send_all-2.ensures.1 in
+    let halted = served_halts _ c.writes_in_a_row.ensures c.divisions_append.ensures _ _ _ _ _ _ _ _ _ found.0
+    c.loop-at.invariant.served found.1 c.in_err-send_all-2.ensures.1 in
     halted_exit _ _ _ _ _ _ _ _ c.from_residual-in_err-send_all-2.ensures.1 c.in_err-send_all-2.ensures.0
     (rw (piece_rest c.args.piece.now c.loop-at.at c.unwrap-used.result.used) at
     (halted_longer _ _ _ _ _ _ (drop (c.loop-at.at + c.unwrap-used.result.used) c.args.piece.now) halted))
@@ -46,13 +43,13 @@ loop-at-preserved g c =
     (take (length c.args.piece.now - c.loop-at.at) (drop c.loop-at.at c.args.piece.now)) _ _ c.if-is_some.ensures
     (rw c.unwrap-used.ensures at c.take.ensures.none) taken.0 in
     record {
-      bound = feed_bound c.args.piece.now c.loop-at.at c.unwrap-used.result.used c.loop-at.invariant.bound
-          (rw c.unwrap-used.ensures at c.take.ensures.within);
-      served = rw (slice_more c.args.piece.now c.loop-at.at c.unwrap-used.result.used)
+      bound = search (rules, places, c.loop-at.invariant.bound, rw c.unwrap-used.ensures at c.take.ensures.within);
+      served = rw (piece_more c.args.piece.now c.loop-at.at c.unwrap-used.result.used)
           (served_part _ c.divisions_append.ensures _ _ _ _ _ _ _ c.loop-at.invariant.served part.0 part.1);
     }
 
 pub returns-clause-served : goal.returns-clause-served
 returns-clause-served g c =
     let whole = take_all _ c.args.piece.now c.loop-at-test.false in
-    served_flushed _ _ _ _ _ _ _ _ (rw whole at c.loop-at.invariant.served) c.flush.ensures.output
+    served_flushed _ c.writes_in_a_row.ensures _ _ _ _ _ _ _ (rw whole at c.loop-at.invariant.served)
+    c.flush.ensures.output

@@ -5,7 +5,7 @@ pub loop-length-preserved : goal.loop-length-preserved
 loop-length-preserved g c =
     let sent = has_sent c.loop-length.board c.poll.new.self c.in-Wrote.length c.loop-length.message c.poll.new.out
     c.in-Wrote.ensures.polls in
-    sent_more _ _ _ _ _ _ _ sent.message c.loop-length.invariant sent.next sent.state
+    sent_more _ c.writes_in_a_row.ensures _ _ _ _ _ _ sent.message c.loop-length.invariant sent.next sent.state
     (rw sent.bytes at c.in_ok-put.ensures.output)
 
 pub returns-in_err-put : goal.returns-in_err-put

@@ -28,5 +28,6 @@ loop-preserved g c =
       in_turns = next_read c.loop.invariant.in_turns c.loop-test.true _ _ read.bound read.bytes.0 read.not_refused
           read.no_end read.counted read.in_time c.if-given-eq0.false refl
           (λ _. refl) answered.served.wrote answered.flushed;
-      served = served_more g.W.Sink c.divisions_append.ensures _ _ _ _ _ _ _ _ c.loop.invariant.served answered.served;
+      served = served_more g.W.Sink c.writes_in_a_row.ensures c.divisions_append.ensures _ _ _ _ _ _ _ _
+          c.loop.invariant.served answered.served;
     }

@@ -1,5 +1,5 @@
-use Rattle.std.proofs.Common.{refl, sym, ◌∙◌, append-nil, drop, true, arith}
-use Rattle.dgt_text.proofs.RunLemmas.{feed_bound}
+use Rattle.std.proofs.Common.{refl, sym, ◌∙◌, append-nil, drop, true, arith, rules}
+use Rattle.std.proofs.lemmas.List.{places}
 use Rattle.dgt_text.proofs.PlayLemmas.{on_none, on_held, on_line, on_stops, piece_exit, held_bytes, line_bytes, left_bytes, feed_begins}
 use Rattle.dgt_text.proofs.simulating.play_piece.Goals as goal
 
@@ -17,7 +17,7 @@ pub loop-at-preserved : goal.loop-at-preserved
 loop-at-preserved g c =
     let p = c.args.piece.now in let i = c.loop-at.at in let n = c.len_before-end.result in
     record {
-      bound = feed_bound p i n c.loop-at.invariant.bound c.len_before-end.ensures.within;
+      bound = search (rules, places, c.loop-at.invariant.bound, c.len_before-end.ensures.within);
       count = let k = c.loop-at.invariant.count in omega arith;
       not_failed = c.loop-at.invariant.not_failed;
       in_time = c.loop-at.invariant.in_time;

@@ -1,7 +1,6 @@
 use Rattle.std.proofs.Common.{arith, true, [], append-nil}
 use Rattle.std.proofs.lemmas.List.{length-take-le}
 use Rattle.std.proofs.KnownBytes.{Consumes-kept, Consumes-trans}
-use Rattle.dgt_text.proofs.RunLemmas.{wrote_none}
 use Rattle.dgt_text.proofs.PlayLemmas.{no_byte, on_more, on_none}
 use Rattle.dgt_text.proofs.ScriptRuns.{plays_flushed, scripted_ends, scripted_stops, scripted_unflushed, simulated_pictures}
 use Rattle.dgt_text.proofs.TurnLemmas.{no_read, next_read}
@@ -9,7 +8,7 @@ use Rattle.dgt_text.proofs.simulating.simulate.Goals as goal
 
 pub loop-init : goal.loop-init
 loop-init g c = record {
-  in_turns = no_read (wrote_none g.W.Sink _) (λ h. h);
+  in_turns = no_read (c.writes_in_a_row.ensures.nothing _) (λ h. h);
   played = on_none g.W.Sink _ _ _ 1 [] c.new-line.ensures no_byte;
   short = omega arith;
 }

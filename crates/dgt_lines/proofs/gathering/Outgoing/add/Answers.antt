@@ -1,10 +1,11 @@
-use Rattle.dgt_lines.proofs.RunLemmas.{stopped_longer}
-use Rattle.dgt_lines.proofs.GatherLemmas.{gathers_through, gathers_exit}
+use Rattle.std.proofs.Common.{rules}
+use Rattle.dgt_lines.proofs.GatherLemmas.{gathers_through, stopped_longer}
 use Rattle.dgt_lines.proofs.gathering.Outgoing.add.Goals as goal
 
 pub returns-in_err-write_out-clause-output : goal.returns-in_err-write_out-clause-output
-returns-in_err-write_out-clause-output g c = gathers_exit _ _ _ _ _ _ _ _ c.from_residual.ensures.1
-    (c.in_err-write_out.ensures.output.0, stopped_longer _ _ _ _ _ c.in_err-write_out.ensures.output.1)
+returns-in_err-write_out-clause-output g c =
+    let stop = c.in_err-write_out.ensures.output in
+    search (rules, stop.0, stopped_longer _ _ _ _ c.args.bytes.now stop.1)
 
 pub returns-then-bytes-room-2-clause-output : goal.returns-then-bytes-room-2-clause-output
 returns-then-bytes-room-2-clause-output g c =

@@ -1,8 +1,7 @@
 use Rattle.std.proofs.Common.{rules, ◌≡◌, ◌+◌, ◌-◌, ◌/◌, ◌%◌, ◌<◌, ◌∷◌, ◌++◌, ◌∙◌, ◌⊎◌, inl, inr, ap, arith, append_assoc, drop, length, sym, take}
-use Rattle.std.proofs.lemmas.List.{drop-set}
+use Rattle.std.proofs.lemmas.List.{drop-set, take_rest}
 use Rattle.dgt_lines.specs.Lines.{padded_decimal}
 use Rattle.dgt_lines.proofs.DecimalLemmas.{front, front-all, front-last, none_below, tenth_below}
-use Rattle.dgt_lines.proofs.RunLemmas.{slice_from}
 use Rattle.dgt_lines.proofs.gathering.Outgoing.push_decimal.Goals as goal
 use Rattle.dgt_lines.proofs.gathering.Outgoing.push_decimal.Goals.{then-rest-gt0, else-rest-gt0+then-at-width}
 
@@ -47,5 +46,5 @@ returns-clause-bytes g c =
     ∙ ap (λ n. front (c.args.width - (20 - at)) n ++ drop at digits) none ∙ ap (λ w. front w 0 ++ drop at digits) wide
     in
     let whole : take (20 - at) (drop at digits) ≡ drop at digits =
-    ap (λ n. take (n - at) (drop at digits)) (sym c.loop-rest.invariant.room) ∙ slice_from digits at in
+    ap (λ n. take (n - at) (drop at digits)) (sym c.loop-rest.invariant.room) ∙ take_rest digits at in
     c.push.ensures.bytes ∙ ap (λ l. c.args.self.now ++ l) (whole ∙ sym written)
