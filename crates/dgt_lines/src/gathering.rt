@@ -44,7 +44,7 @@ pub(crate) const LINE_ROOM: usize = 128;
 /// Bytes on their way to a sink, at most `ROOM` of them. Contracts see those that were not written
 /// yet.
 ///
-/// An array of its own, since [`push_rank`](Outgoing::push_rank) writes behind what is kept.
+/// An array of its own, since [`push_front`](Outgoing::push_front) writes behind what is kept.
 #[derive(Drop)]
 pub struct Outgoing<const ROOM: usize> {
     bytes: [u8; ROOM],
@@ -143,19 +143,18 @@ impl<const ROOM: usize> Outgoing<ROOM> {
         self.len = end;
     }
 
-    /// Adds the first `len` of eight bytes, and one behind them: the text of a rank, and what ends
-    /// it. All eight are copied, and passed by value, which is faster than so many.
-    pub(crate) fn push_rank(&mut self, rank: [u8; 8], len: usize, end: u8)
-        requires room { length self.old + 9 ≤ ROOM }
-        requires within { len ≤ 8 }
-        ensures bytes { self.new ≡ self.old ++ (take len rank ++ end ∷ []) }
-        ensures len { length self.new ≡ length self.old + len + 1 }
+    /// Adds the first `len` of sixteen bytes. All of them are copied, and passed by value, which is
+    /// faster than so many.
+    pub(crate) fn push_front(&mut self, bytes: [u8; 16], len: usize)
+        requires room { length self.old + 16 ≤ ROOM }
+        requires within { len ≤ 16 }
+        ensures bytes { self.new ≡ self.old ++ take len bytes }
+        ensures len { length self.new ≡ length self.old + len }
     {
         let at = self.len;
         let all = &mut self.bytes[..];
-        all[at..at + 8].copy_from_slice(&rank);
-        all[at + len] = end;
-        self.len = at + len + 1;
+        all[at..at + 16].copy_from_slice(&bytes);
+        self.len = at + len;
     }
 
     /// Adds two hexadecimal digits for each byte.

@@ -8,21 +8,22 @@ use crate::gathering::Outgoing;
 use dgt_values::{Piece, Position, Square};
 use std::marker::Model;
 
-// The text of a rank. Contracts see its bytes, of which there are at most eight.
+// The text of a rank, of at most eight bytes, and a slash behind it. Contracts see the text.
 #[derive(Drop)]
 struct RankText {
-    bytes: [u8; 8],
+    bytes: [u8; 16],
     len: usize,
 }
 
 impl Model for RankText {
-    ghost use Rattle.std.specs.Prelude.{◌≡◌, ◌≤◌, ℕ, List, length, take};
+    ghost use Rattle.std.specs.Prelude.{◌≡◌, ◌+◌, ◌≤◌, ◌++◌, ℕ, List, codes, length, take};
 
     ghost Value = { List ℕ };
 
     ghost view = { λ rank. take rank.len rank.bytes };
 
-    ghost invariant = { λ rank. (length rank.bytes ≡ 8) × (rank.len ≤ 8) };
+    ghost invariant = { λ rank. (length rank.bytes ≡ 16) × (rank.len ≤ 8)
+        × (take (rank.len + 1) rank.bytes ≡ take rank.len rank.bytes ++ codes "/") };
 }
 
 impl RankText {
@@ -31,7 +32,7 @@ impl RankText {
         ensures { result ≡ rank_text_after 0 rank.now }
     {
         let mut text = RankText {
-            bytes: [0; 8],
+            bytes: [b'/'; 16],
             len: 0,
         };
         text.form(rank);
@@ -56,6 +57,7 @@ impl RankText {
             self.bytes[len - 1] = last;
             was_empty = empty;
         }
+        self.bytes[len] = b'/';
         self.len = len;
     }
 }
@@ -130,13 +132,14 @@ impl Picture {
 
     /// Adds its placement and a line feed.
     pub(crate) fn push<const ROOM: usize>(&self, text: &mut Outgoing<ROOM>)
-        requires { length text.old + 72 ≤ ROOM }
+        requires { length text.old + 80 ≤ ROOM }
         ensures { text.new ≡ text.old ++ (placement_text self.now ++ codes "\n") }
     {
         for rank in &self.ranks[..7] {
-            text.push_rank(rank.bytes, rank.len, b'/');
+            text.push_front(rank.bytes, rank.len + 1);
         }
         let last = &self.ranks[7];
-        text.push_rank(last.bytes, last.len, b'\n');
+        text.push_front(last.bytes, last.len);
+        text.push(b"\n");
     }
 }

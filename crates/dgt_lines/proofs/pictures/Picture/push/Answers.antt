@@ -1,4 +1,4 @@
-use Rattle.std.proofs.Common.{◌≡◌, ◌++◌, ◌∷◌, ◌∙◌, [], ap, append_assoc, sym, take}
+use Rattle.std.proofs.Common.{◌≡◌, ◌++◌, ◌∷◌, ◌∙◌, [], ap, append_assoc, take}
 use Rattle.std.proofs.lemmas.List.{take_all}
 use Rattle.dgt_values.specs.Board.{pieces_of}
 use Rattle.dgt_values.specs.Placement.{placement_text}
@@ -16,8 +16,9 @@ returns g c =
     ap (λ l. ended ++ l) c.last.view_is
     ∙ placement_ended ranks (pieces_of c.self.inside.position) _ c.self.invariant
     ∙ ap placement_text c.self.view_is in
-    c.push_rank-2.ensures.bytes
-    ∙ ap (λ l. l ++ (last ++ 10 ∷ []))
-    (c.loop-rank.invariant.written ∙ ap (λ l. text ++ ended_ranks l) seven)
-    ∙ append_assoc text ended _
-    ∙ ap (λ l. text ++ l) (sym (append_assoc ended last (10 ∷ [])) ∙ ap (λ l. l ++ 10 ∷ []) placement)
+    c.push.ensures.bytes
+    ∙ ap (λ l. l ++ 10 ∷ [])
+    (c.push_front-2.ensures.bytes
+    ∙ ap (λ l. l ++ last) (c.loop-rank.invariant.written ∙ ap (λ l. text ++ ended_ranks l) seven)
+    ∙ append_assoc text ended last ∙ ap (λ l. text ++ l) placement)
+    ∙ append_assoc text _ (10 ∷ [])
