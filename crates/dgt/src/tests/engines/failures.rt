@@ -8,9 +8,11 @@ use crate::tests::engines::troubles::Trouble::{Flush, Read, Room, Turns};
 use crate::tests::engines::troubles::{Trial, Trouble};
 use crate::tests::engines::{FIELD, FIELD_LINE, START};
 use dgt_decode::Event;
+use dgt_link::World;
 use dgt_message::{BodyFault, Message};
 use dgt_text::{Bytes, Device, RunFault, Source, monitor, picture, serve, simulate, write_event};
 use dgt_values::{Body, Piece, SevenBit, Square};
+use std::alloc::Global;
 use std::process::Abort;
 use std::test::Fail;
 
@@ -201,72 +203,84 @@ fn the_line_of_one_event(rt: HostRuntime) -> Result<(), Fail> {
 
 #[test]
 fn readers_and_writers_of_std_that_fail(rt: HostRuntime) -> Result<(), Fail> {
-    let mut board = new_board()?;
     let mut world = new_world(rt.alloc())?;
-    let mut sink = Recorder::new();
+    assert_writes_fail(&rt, &mut world)?;
+    assert_reads_fail(&rt, &mut world)
+}
+
+fn assert_writes_fail(rt: &impl Abort, world: &mut World) -> Result<(), Fail> {
     let event = Event::Stray(0x05);
-    let answers = [
-        write_event(&mut Device::new(Broken), 1, &event),
-        monitor(&mut Bytes::new(FIELD), &mut Device::new(Broken), 10),
-        picture(&mut Bytes::new(START), &mut Device::new(Broken), 10),
-        serve(
-            &mut board,
-            &mut Bytes::new(&[0x4d]),
-            &mut Device::new(Broken),
-            10,
-        ),
-        simulate(
-            &mut world,
-            &mut Bytes::new(b"send\n"),
-            &mut Device::new(Broken),
-            10,
-        ),
-    ];
-    assert_eq!(rt; answers, [WRITE_FAILED; 5]);
-    let answers = [
-        monitor(&mut Device::new(Broken), &mut sink, 10),
-        picture(&mut Device::new(Broken), &mut sink, 10),
-        serve(&mut new_board()?, &mut Device::new(Broken), &mut sink, 10),
-        simulate(&mut world, &mut Device::new(Broken), &mut sink, 10),
-    ];
-    assert_eq!(rt; answers, [READ_FAILED; 4]);
+    let answer = write_event(&mut Device::new(Broken), 1, &event);
+    assert_eq!(rt; answer, WRITE_FAILED);
+    let answer = monitor(&mut Bytes::new(FIELD), &mut Device::new(Broken), 10);
+    assert_eq!(rt; answer, WRITE_FAILED);
+    let answer = picture(&mut Bytes::new(START), &mut Device::new(Broken), 10);
+    assert_eq!(rt; answer, WRITE_FAILED);
+    let mut board = new_board()?;
+    let mut version = Bytes::new(&[0x4d]);
+    let answer = serve(&mut board, &mut version, &mut Device::new(Broken), 10);
+    assert_eq!(rt; answer, WRITE_FAILED);
+    let mut script = Bytes::new(b"send\n");
+    let answer = simulate(world, &mut script, &mut Device::new(Broken), 10);
+    assert_eq!(rt; answer, WRITE_FAILED);
+    Ok(())
+}
+
+fn assert_reads_fail(rt: &impl Abort, world: &mut World) -> Result<(), Fail> {
+    let mut sink = Recorder::new();
+    let answer = monitor(&mut Device::new(Broken), &mut sink, 10);
+    assert_eq!(rt; answer, READ_FAILED);
+    let answer = picture(&mut Device::new(Broken), &mut sink, 10);
+    assert_eq!(rt; answer, READ_FAILED);
+    let mut board = new_board()?;
+    let answer = serve(&mut board, &mut Device::new(Broken), &mut sink, 10);
+    assert_eq!(rt; answer, READ_FAILED);
+    let answer = simulate(world, &mut Device::new(Broken), &mut sink, 10);
+    assert_eq!(rt; answer, READ_FAILED);
     assert_eq!(rt; sink.taken(), b"".as_slice());
+    Ok(())
+}
+
+// These move a byte at a call; the limit tells that a call that was made again is one read.
+
+fn assert_monitor_interrupted(rt: &impl Abort, times: u32) {
+    let mut reader = Device::new(Trickle::new(FIELD, times));
+    let mut taken = Trickle::new(&[], times);
+    let answer = monitor(&mut reader, &mut Device::new(&mut taken), 6);
+    assert_eq!(rt; answer, Ok(()));
+    assert_eq!(rt; taken.taken.as_slice(), FIELD_LINE);
+    assert_eq!(rt; taken.flushes, 5);
+}
+
+fn assert_serve_interrupted(rt: &impl Abort, times: u32) -> Result<(), Fail> {
+    let mut board = new_board()?;
+    let mut reader = Device::new(Trickle::new(&[0x4d, 0x42], times));
+    let mut taken = Trickle::new(&[], times);
+    let answer = serve(&mut board, &mut reader, &mut Device::new(&mut taken), 3);
+    assert_eq!(rt; answer, Ok(()));
+    let sent = taken.taken.as_slice();
+    assert!(rt; sent.starts_with(VERSION) && sent.ends_with(START));
+    assert_eq!(rt; sent.len(), VERSION.len() + START.len());
+    assert_eq!(rt; taken.flushes, 3);
+    Ok(())
+}
+
+fn assert_simulate_interrupted(rt: &impl Abort, alloc: Global, times: u32) -> Result<(), Fail> {
+    let mut world = new_world(alloc)?;
+    let mut reader = Device::new(Trickle::new(b"send\nsned\n", times));
+    let mut taken = Trickle::new(&[], times);
+    let answer = simulate(&mut world, &mut reader, &mut Device::new(&mut taken), 11);
+    assert_eq!(rt; answer, Err(RunFault::BadLine { line: 2, at: 0 }));
+    assert_eq!(rt; taken.taken.as_slice(), b"nothing\n".as_slice());
     Ok(())
 }
 
 #[test]
 fn readers_and_writers_of_std_that_are_interrupted(rt: HostRuntime) -> Result<(), Fail> {
-    // a byte at a call; the limit tells that a call that was made again is one read
     for times in [0, 1, 3] {
-        let mut reader = Device::new(Trickle::new(FIELD, times));
-        let mut taken = Trickle::new(&[], times);
-        let answer = monitor(&mut reader, &mut Device::new(&mut taken), 6);
-        assert_eq!(rt; answer, Ok(()));
-        assert_eq!(rt; taken.taken.as_slice(), FIELD_LINE);
-        assert_eq!(rt; taken.flushes, 5);
-
-        let mut reader = Device::new(Trickle::new(&[0x4d, 0x42], times));
-        let mut taken = Trickle::new(&[], times);
-        let answer = serve(
-            &mut new_board()?,
-            &mut reader,
-            &mut Device::new(&mut taken),
-            3,
-        );
-        assert_eq!(rt; answer, Ok(()));
-        let sent = taken.taken.as_slice();
-        assert!(rt; sent.starts_with(VERSION) && sent.ends_with(START));
-        assert_eq!(rt;
-            (sent.len(), taken.flushes),
-            (VERSION.len() + START.len(), 3)
-        );
-
-        let mut world = new_world(rt.alloc())?;
-        let mut reader = Device::new(Trickle::new(b"send\nsned\n", times));
-        let mut taken = Trickle::new(&[], times);
-        let answer = simulate(&mut world, &mut reader, &mut Device::new(&mut taken), 11);
-        assert_eq!(rt; answer, Err(RunFault::BadLine { line: 2, at: 0 }));
-        assert_eq!(rt; taken.taken.as_slice(), b"nothing\n".as_slice());
+        assert_monitor_interrupted(&rt, times);
+        assert_serve_interrupted(&rt, times)?;
+        assert_simulate_interrupted(&rt, rt.alloc(), times)?;
     }
     Ok(())
 }

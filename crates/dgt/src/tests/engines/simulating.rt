@@ -108,6 +108,28 @@ fn a_last_line_needs_no_line_feed(rt: HostRuntime) -> Result<(), Fail> {
     assert_simulated(&rt, rt.alloc(), b"send\nsend", TWO_SENDS)
 }
 
+// The script, read in pieces of several lengths, ends in this fault behind these lines.
+fn assert_bad_line(
+    rt: &impl Abort,
+    alloc: Global,
+    script: &[u8],
+    lines: &[u8],
+    fault: RunFault,
+) -> Result<(), Fail> {
+    for step in [1, 7, 64] {
+        let mut world = new_world(alloc)?;
+        let mut source = Lender::new(script, step);
+        let mut sink = Recorder::new();
+        assert_eq!(rt;
+            simulate(&mut world, &mut source, &mut sink, 1000),
+            Err(fault)
+        );
+        assert_eq!(rt; sink.taken(), lines);
+        assert!(rt; sink.flushed);
+    }
+    Ok(())
+}
+
 #[test]
 fn bad_lines(rt: HostRuntime) -> Result<(), Fail> {
     let long = [b'a'; 520];
@@ -126,16 +148,13 @@ fn bad_lines(rt: HostRuntime) -> Result<(), Fail> {
         (&long[..519], b"", 1, 0),
     ];
     for (script, lines, line, at) in rows {
-        for step in [1, 7, 64] {
-            let mut world = new_world(rt.alloc())?;
-            let mut sink = Recorder::new();
-            assert_eq!(rt;
-                simulate(&mut world, &mut Lender::new(script, step), &mut sink, 1000),
-                Err(RunFault::BadLine { line, at })
-            );
-            assert_eq!(rt; sink.taken(), lines);
-            assert!(rt; sink.flushed);
-        }
+        assert_bad_line(
+            &rt,
+            rt.alloc(),
+            script,
+            lines,
+            RunFault::BadLine { line, at },
+        )?;
     }
     Ok(())
 }

@@ -3,7 +3,7 @@
 use crate::tests::engines::devices::{Lender, Recorder};
 use crate::tests::engines::serving::{BATTERY, SERIAL, TRADEMARK, VERSION, ZERO_TIMES, new_board};
 use crate::tests::engines::simulating::{NEW_LINES, new_world};
-use crate::tests::engines::troubles::{TROUBLES, Text, Trial};
+use crate::tests::engines::troubles::{TROUBLES, Text, Trial, Trouble};
 use crate::tests::engines::{FIELD, START, START_LINE};
 use dgt_board::{Board, Polled};
 use dgt_link::World;
@@ -31,27 +31,55 @@ impl Teller {
     }
 }
 
-fn sweep_telling(rt: &impl Abort, teller: Teller, text: Text<'_>) -> Result<(), Fail> {
-    let input = text.input()?;
+// A run over a source and a sink in which something fails.
+trait Run {
+    // Makes one run, at most `step` bytes in a read and in a write, looks at all that it leaves,
+    // and tells whether it met its trouble.
+    fn meets(&self, rt: &impl Abort, step: usize, trial: Trial) -> Result<bool, Fail>;
+}
+
+// Makes a run with the trouble at each place in turn, up to one that is behind its end.
+fn sweep_places<R: Run>(
+    rt: &impl Abort,
+    run: &R,
+    step: usize,
+    trouble: Trouble,
+) -> Result<(), Fail> {
+    for at in trouble.first()..1000 {
+        if !run.meets(rt, step, Trial { trouble, at })? {
+            return Ok(());
+        }
+    }
+    assert!(rt; false, "each run met its trouble");
+    Ok(())
+}
+
+fn sweep<R: Run>(rt: &impl Abort, run: &R) -> Result<(), Fail> {
     for step in STEPS {
         for trouble in TROUBLES {
-            let mut met = true;
-            for at in trouble.first()..1000 {
-                let trial = Trial { trouble, at };
-                let (mut source, mut sink, limit) = trial.ends(input.as_slice(), step);
-                sink.step = step;
-                let answer = teller.run(&mut source, &mut sink, limit);
-                met = trial.is_met(rt, &source, &sink, answer, Ok(()));
-                let is_torn = met && trouble.tears();
-                text.assert_written(rt, &source, &sink, is_torn)?;
-                if !met {
-                    break;
-                }
-            }
-            assert!(rt; !met);
+            sweep_places(rt, run, step, trouble)?;
         }
     }
     Ok(())
+}
+
+#[derive(Drop)]
+struct Telling<'a> {
+    teller: Teller,
+    text: Text<'a>,
+}
+
+impl Run for Telling<'_> {
+    fn meets(&self, rt: &impl Abort, step: usize, trial: Trial) -> Result<bool, Fail> {
+        let input = self.text.input()?;
+        let (mut source, mut sink, limit) = trial.ends(input.as_slice(), step);
+        sink.step = step;
+        let answer = self.teller.run(&mut source, &mut sink, limit);
+        let is_met = trial.is_met(rt, &source, &sink, answer, Ok(()));
+        let is_torn = is_met && trial.trouble.tears();
+        self.text.assert_written(rt, &source, &sink, is_torn)?;
+        Ok(is_met)
+    }
 }
 
 #[test]
@@ -79,7 +107,9 @@ fn a_monitor_meets_each_trouble_at_each_place(rt: HostRuntime) -> Result<(), Fai
         (&[], b""),
     ];
     for (rows, last) in rows {
-        sweep_telling(&rt, Teller::Monitor, Text { rows, last })?;
+        let text = Text { rows, last };
+        let teller = Teller::Monitor;
+        sweep(&rt, &Telling { teller, text })?;
     }
     Ok(())
 }
@@ -103,7 +133,8 @@ fn a_picture_meets_each_trouble_at_each_place(rt: HostRuntime) -> Result<(), Fai
         rows: &rows,
         last: b"",
     };
-    sweep_telling(&rt, Teller::Picture, text)
+    let teller = Teller::Picture;
+    sweep(&rt, &Telling { teller, text })
 }
 
 // Lets the board send at most so many messages, and answers how many more it may.
@@ -143,35 +174,56 @@ fn assert_same_board(rt: &impl Abort, board: &Board, other: &Board) {
     assert!(rt; *board.clock() == *other.clock());
 }
 
-fn sweep_serve(rt: &impl Abort, asked: &[u8], text: Text<'_>) -> Result<(), Fail> {
-    let input = text.input()?;
-    for step in STEPS {
-        for trouble in TROUBLES {
-            let mut met = true;
-            for at in trouble.first()..1000 {
-                let mut board = board_after(asked, &[], 0)?;
-                let trial = Trial { trouble, at };
-                let (mut source, mut sink, limit) = trial.ends(input.as_slice(), step);
-                sink.step = step;
-                let answer = serve(&mut board, &mut source, &mut sink, limit);
-                met = trial.is_met(rt, &source, &sink, answer, Ok(()));
-                let is_torn = met && trouble.tears();
-                text.assert_written(rt, &source, &sink, is_torn)?;
-                let (came, most) = if is_torn {
-                    text.torn_at(sink.taken().len())
-                } else {
-                    (source.given, 1000)
-                };
-                let bytes = input.as_slice().get(..came).ok_or("too many bytes came")?;
-                assert_same_board(rt, &board, &board_after(asked, bytes, most)?);
-                if !met {
-                    break;
-                }
-            }
-            assert!(rt; !met);
-        }
+#[derive(Drop)]
+struct Serving<'a> {
+    asked: &'a [u8],
+    text: Text<'a>,
+}
+
+// How many bytes the board took, and how many messages it sent at most.
+fn taken_and_sent(
+    text: Text<'_>,
+    source: &Lender<'_>,
+    sink: &Recorder,
+    is_torn: bool,
+) -> (usize, usize) {
+    if is_torn {
+        text.torn_at(sink.taken().len())
+    } else {
+        (source.given, 1000)
     }
-    Ok(())
+}
+
+impl Serving<'_> {
+    // The board is as one that took so many bytes, and sent at most so many messages.
+    fn assert_left(
+        &self,
+        rt: &impl Abort,
+        board: &Board,
+        came: usize,
+        most: usize,
+    ) -> Result<(), Fail> {
+        let input = self.text.input()?;
+        let bytes = input.as_slice().get(..came).ok_or("too many bytes came")?;
+        assert_same_board(rt, board, &board_after(self.asked, bytes, most)?);
+        Ok(())
+    }
+}
+
+impl Run for Serving<'_> {
+    fn meets(&self, rt: &impl Abort, step: usize, trial: Trial) -> Result<bool, Fail> {
+        let input = self.text.input()?;
+        let mut board = board_after(self.asked, &[], 0)?;
+        let (mut source, mut sink, limit) = trial.ends(input.as_slice(), step);
+        sink.step = step;
+        let answer = serve(&mut board, &mut source, &mut sink, limit);
+        let is_met = trial.is_met(rt, &source, &sink, answer, Ok(()));
+        let is_torn = is_met && trial.trouble.tears();
+        self.text.assert_written(rt, &source, &sink, is_torn)?;
+        let (came, most) = taken_and_sent(self.text, &source, &sink, is_torn);
+        self.assert_left(rt, &board, came, most)?;
+        Ok(is_met)
+    }
 }
 
 #[test]
@@ -203,7 +255,8 @@ fn a_served_board_meets_each_trouble_at_each_place(rt: HostRuntime) -> Result<()
         (b"", &[]),
     ];
     for (asked, rows) in rows {
-        sweep_serve(&rt, asked, Text { rows, last: b"" })?;
+        let text = Text { rows, last: b"" };
+        sweep(&rt, &Serving { asked, text })?;
     }
     Ok(())
 }
@@ -246,40 +299,43 @@ fn lines_ended(text: Text<'_>, source: &Lender<'_>) -> usize {
     lines
 }
 
-fn sweep_simulate(
-    rt: &impl Abort,
+#[derive(Drop)]
+struct Playing<'a> {
     alloc: Global,
-    text: Text<'_>,
+    text: Text<'a>,
     whole: Result<(), RunFault>,
-) -> Result<(), Fail> {
-    let input = text.input()?;
-    for step in STEPS {
-        for trouble in TROUBLES {
-            let mut met = true;
-            for at in trouble.first()..1000 {
-                let mut world = new_world(alloc)?;
-                let trial = Trial { trouble, at };
-                let (mut source, mut sink, limit) = trial.ends(input.as_slice(), step);
-                sink.step = step;
-                let answer = simulate(&mut world, &mut source, &mut sink, limit);
-                met = trial.is_met(rt, &source, &sink, answer, whole);
-                let is_torn = met && trouble.tears();
-                text.assert_written(rt, &source, &sink, is_torn)?;
-                let (came, begun) = text.torn_at(sink.taken().len());
-                let lines = if is_torn && came < input.len() {
-                    begun
-                } else {
-                    lines_ended(text, &source)
-                };
-                assert_same_world(rt, &world, &world_after(alloc, text, lines)?);
-                if !met {
-                    break;
-                }
-            }
-            assert!(rt; !met);
-        }
+}
+
+// How many lines of a text of so many bytes were played.
+fn lines_played(
+    text: Text<'_>,
+    length: usize,
+    source: &Lender<'_>,
+    sink: &Recorder,
+    is_torn: bool,
+) -> usize {
+    let (came, begun) = text.torn_at(sink.taken().len());
+    if is_torn && came < length {
+        begun
+    } else {
+        lines_ended(text, source)
     }
-    Ok(())
+}
+
+impl Run for Playing<'_> {
+    fn meets(&self, rt: &impl Abort, step: usize, trial: Trial) -> Result<bool, Fail> {
+        let input = self.text.input()?;
+        let mut world = new_world(self.alloc)?;
+        let (mut source, mut sink, limit) = trial.ends(input.as_slice(), step);
+        sink.step = step;
+        let answer = simulate(&mut world, &mut source, &mut sink, limit);
+        let is_met = trial.is_met(rt, &source, &sink, answer, self.whole);
+        let is_torn = is_met && trial.trouble.tears();
+        self.text.assert_written(rt, &source, &sink, is_torn)?;
+        let lines = lines_played(self.text, input.len(), &source, &sink, is_torn);
+        assert_same_world(rt, &world, &world_after(self.alloc, self.text, lines)?);
+        Ok(is_met)
+    }
 }
 
 #[test]
@@ -313,7 +369,8 @@ fn a_script_meets_each_trouble_at_each_place(rt: HostRuntime) -> Result<(), Fail
         (&[], NEW_LINES, Ok(())),
     ];
     for (rows, last, whole) in rows {
-        sweep_simulate(&rt, rt.alloc(), Text { rows, last }, whole)?;
+        let (alloc, text) = (rt.alloc(), Text { rows, last });
+        sweep(&rt, &Playing { alloc, text, whole })?;
     }
     Ok(())
 }
