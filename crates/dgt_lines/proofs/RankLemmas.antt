@@ -189,6 +189,7 @@ module _ (rank : List Piece) (i len last : ℕ) (bytes whole : List ℕ) (inside
     where
       e : len ≡ len + 1 - 1
       e = omega arith
+
       go : (was_empty empty : Bool) → RankSoFar (take len bytes) was_empty last i (drop i rank) whole
           → (empty && was_empty) ≡ false → (empty ≡ true → get_or rank i Empty ≡ Empty)
           → (get_or rank i Empty ≡ Empty → empty ≡ true)
