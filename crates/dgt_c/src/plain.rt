@@ -1,0 +1,100 @@
+//! Names of squares, letters of pieces, placements and segments.
+
+ghost use Rattle.std.specs.Prelude.{◌≡◌, ◌≢◌, ◌≤◌, ◌<◌, ◌∷◌, ◌++◌, [], ℕ, List, false, map, IsTrue};
+ghost use Rattle.dgt_values.specs.declared.pieces.Piece.{Piece};
+ghost use Rattle.dgt_values.specs.Board.{piece_code, piece_letter, square_name};
+ghost use Rattle.dgt_values.specs.Placement.{placement_text};
+ghost use Rattle.dgt_values.specs.Segment.{IsShownBy};
+ghost use Rattle.dgt_c.specs.Starting.{ArePieces};
+ghost use Rattle.dgt_c.specs.Slices.{with_text};
+
+use crate::checking::read_position;
+use crate::copying::put_placement;
+use dgt_values::{Piece, Square, segment};
+
+/// What stands for no piece, no square and no segments.
+pub const NONE: u8 = 255;
+
+/// The letter of a piece by its code, or 0.
+#[unsafe(no_mangle)]
+pub extern "C" fn dgt_piece_letter(piece: u8) -> u8
+    ensures letter { (put : Piece) → piece_code put ≡ piece → result ≡ piece_letter put }
+    ensures none { 16 ≤ piece → result ≡ 0 }
+{
+    dgt_values::laws::one_piece_a_code();
+    match Piece::from_code(piece) {
+        Ok(piece) => piece.letter() as u8,
+        Err(_) => 0,
+    }
+}
+
+/// The code of a piece by its letter, or 255.
+#[unsafe(no_mangle)]
+pub extern "C" fn dgt_piece_code(letter: u8) -> u8
+    ensures code { result ≢ NONE →
+        (put : Piece) × (piece_letter put ≡ letter) × (result ≡ piece_code put) }
+    ensures none { result ≡ NONE → (put : Piece) → piece_letter put ≢ letter }
+{
+    match Piece::from_letter(char::from(letter)) {
+        Ok(piece) => piece.code(),
+        Err(_) => NONE,
+    }
+}
+
+/// Writes the name of a square and a zero. False where there is no such square, and then the slice
+/// stays.
+#[unsafe(no_mangle)]
+pub extern "C" fn dgt_square_name(square: u8, name: &mut [u8; 3]) -> bool
+    ensures named { square < 64 → IsTrue result × (name.new ≡ square_name square ++ 0 ∷ []) }
+    ensures none { 64 ≤ square → (result ≡ false) × (name.new ≡ name.old) }
+{
+    let Ok(square) = Square::from_index(square) else {
+        return false;
+    };
+    let [file, rank] = square.name();
+    *name = [file, rank, 0];
+    true
+}
+
+/// The number of the square whose name has this file and this rank, or 255.
+#[unsafe(no_mangle)]
+pub extern "C" fn dgt_square_number(file: u8, rank: u8) -> u8
+    ensures square { result ≢ NONE →
+        (result < 64) × (square_name result ≡ file ∷ rank ∷ []) }
+    ensures none { result ≡ NONE →
+        (square : ℕ) → square < 64 → square_name square ≢ file ∷ rank ∷ [] }
+{
+    match (file, rank) {
+        (b'a'..=b'h', b'1'..=b'8') => 8 * (b'8' - rank) + (file - b'a'),
+        _ => NONE,
+    }
+}
+
+/// Writes the placement of the pieces with these codes, and a zero. False where one of them is the
+/// code of none, and then the slice stays.
+#[unsafe(no_mangle)]
+pub extern "C" fn dgt_placement(pieces: &[u8; 64], text: &mut [u8; 72]) -> bool
+    ensures written { IsTrue result → (stand : List Piece) × (map piece_code stand ≡ pieces.now)
+        × (text.new ≡ with_text (placement_text stand) text.old) }
+    ensures none { result ≡ false → ¬ (ArePieces pieces.now) × (text.new ≡ text.old) }
+{
+    match read_position(pieces) {
+        Some(position) => {
+            put_placement(&position, text);
+            true
+        }
+        None => false,
+    }
+}
+
+/// The segments that show a digit, a space or a hyphen, or 255.
+#[unsafe(no_mangle)]
+pub extern "C" fn dgt_segment(character: u8) -> u8
+    ensures shown { result ≢ NONE → IsShownBy character result }
+    ensures none { result ≡ NONE → (byte : ℕ) → ¬ (IsShownBy character byte) }
+{
+    match segment(char::from(character)) {
+        Ok(byte) => byte,
+        Err(_) => NONE,
+    }
+}
