@@ -1,5 +1,5 @@
 -- What C is told of a piece that a decoder is fed, or a host hears.
-use Rattle.std.specs.Prelude.{◌≡◌, ◌↔◌, ℕ, List, Option, Bool, false, IsTrue}
+use Rattle.std.specs.Prelude.{◌≡◌, ◌↔◌, ℕ, List, Option, Bool, true, false, IsTrue}
 use Rattle.dgt_decode.specs.Grammar.{Event}
 use Rattle.dgt_decode.specs.Feeding.{FirstEvent}
 use Rattle.dgt_host.specs.Host.{HostView, IsUnasked}
@@ -13,10 +13,14 @@ pub record Telling : Type 0 where
   pub old : List ℕ
   pub new : List ℕ
 
+abbrev pub flag : Bool → ℕ
+flag true = 1
+flag false = 0
+
 -- This event is told, and its body was copied into the slice, as much of it as there is room for.
 abbrev pub Tells : Option Event → Bool → Telling → Type 0
 Tells event unasked told =
-    (told.event ≡ record (event_told event) { unasked = unasked })
+    (told.event ≡ record (event_told event) { unasked = flag unasked })
     × (told.new ≡ overwritten told.old (body_said event))
 
 -- the first event that the piece makes is told, if it makes one

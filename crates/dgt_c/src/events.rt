@@ -59,7 +59,7 @@ pub const FAULT_BAD_READING: u8 = 4;
 #[derive(Clone, Copy)]
 pub struct DgtEvent {
     pub kind: u8,
-    pub unasked: bool,
+    pub unasked: u8,
     pub code: u8,
     pub square: u8,
     pub piece: u8,
@@ -80,7 +80,7 @@ pub struct DgtEvent {
 /// That nothing was made known.
 pub const NOTHING: DgtEvent = DgtEvent {
     kind: EVENT_NONE,
-    unasked: false,
+    unasked: 0,
     code: 0,
     square: 0,
     piece: 0,

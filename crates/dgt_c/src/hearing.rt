@@ -3,11 +3,24 @@
 ghost use Rattle.std.specs.Prelude.{◌≡◌, ◌≤◌, ◌<◌, length, take};
 ghost use Rattle.dgt_decode.specs.Feeding.{event_content_if_any};
 ghost use Rattle.dgt_host.specs.Host.{host_after, new_host};
-ghost use Rattle.dgt_c.specs.Hearing.{Hears};
+ghost use Rattle.dgt_c.specs.Hearing.{Hears, flag};
+ghost use Rattle.dgt_c.specs.Told.{event_told};
 
 use crate::copying::overwrite;
 use crate::events::{DgtEvent, body_of, event_told};
 use crate::host::DgtHost;
+use dgt_decode::Event;
+
+// What is told of an event, and of whether it was not asked for.
+fn heard_told(event: &Option<Event<'_>>, unasked: bool) -> DgtEvent
+    ensures { result ≡
+        record (event_told (event_content_if_any event.now)) { unasked = flag unasked } }
+{
+    DgtEvent {
+        unasked: if unasked { 1 } else { 0 },
+        ..event_told(event)
+    }
+}
 
 /// Uses bytes up to and including the first that makes an event, or all of them, and answers how
 /// many. The event is told, and its body copied, as much of it as there is room for.
@@ -26,10 +39,7 @@ pub extern "C" fn dgt_host_hear(
     ensures progress { 0 < length bytes.now → 0 < result }
 {
     let heard = host.get().hear(bytes);
-    *event = DgtEvent {
-        unasked: heard.unasked,
-        ..event_told(&heard.event)
-    };
+    *event = heard_told(&heard.event, heard.unasked);
     overwrite(body_of(&heard.event), body);
     heard.used
 }

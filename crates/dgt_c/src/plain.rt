@@ -1,15 +1,10 @@
-//! Names of squares, letters of pieces, placements and segments.
+//! Names of squares, letters of pieces, and segments.
 
-ghost use Rattle.std.specs.Prelude.{◌≡◌, ◌≢◌, ◌≤◌, ◌<◌, ◌∷◌, ◌++◌, [], ℕ, List, false, map, IsTrue};
+ghost use Rattle.std.specs.Prelude.{◌≡◌, ◌≢◌, ◌≤◌, ◌<◌, ◌∷◌, ◌++◌, [], ℕ, false, IsTrue};
 ghost use Rattle.dgt_values.specs.declared.pieces.Piece.{Piece};
 ghost use Rattle.dgt_values.specs.Board.{piece_code, piece_letter, square_name};
-ghost use Rattle.dgt_values.specs.Placement.{placement_text};
 ghost use Rattle.dgt_values.specs.Segment.{IsShownBy};
-ghost use Rattle.dgt_c.specs.Starting.{ArePieces};
-ghost use Rattle.dgt_c.specs.Slices.{with_text};
 
-use crate::checking::read_position;
-use crate::copying::put_placement;
 use dgt_values::{Piece, Square, segment};
 
 /// What stands for no piece, no square and no segments.
@@ -67,23 +62,6 @@ pub extern "C" fn dgt_square_number(file: u8, rank: u8) -> u8
     match (file, rank) {
         (b'a'..=b'h', b'1'..=b'8') => 8 * (b'8' - rank) + (file - b'a'),
         _ => NONE,
-    }
-}
-
-/// Writes the placement of the pieces with these codes, and a zero. False where one of them is the
-/// code of none, and then the slice stays.
-#[unsafe(no_mangle)]
-pub extern "C" fn dgt_placement(pieces: &[u8; 64], text: &mut [u8; 72]) -> bool
-    ensures written { IsTrue result → (stand : List Piece) × (map piece_code stand ≡ pieces.now)
-        × (text.new ≡ with_text (placement_text stand) text.old) }
-    ensures none { result ≡ false → ¬ (ArePieces pieces.now) × (text.new ≡ text.old) }
-{
-    match read_position(pieces) {
-        Some(position) => {
-            put_placement(&position, text);
-            true
-        }
-        None => false,
     }
 }
 
