@@ -21,7 +21,7 @@ def square_number(name: str) -> int:
     """The number of a square, from a8, which is 0, to h1, which is 63."""
     try:
         return _SQUARE_NUMBERS[name]
-    except KeyError:
+    except (KeyError, TypeError):
         raise BadValue(f"no square: {name!r}") from None
 
 
