@@ -72,7 +72,8 @@ def pictures(line: int):
 def main() -> None:
     if len(sys.argv) < 2:
         raise SystemExit(__doc__)
-    engine = sys.argv[2] if len(sys.argv) > 2 else shutil.which("stockfish")
+    path = os.environ.get("PATH", "") + ":/usr/games"
+    engine = sys.argv[2] if len(sys.argv) > 2 else shutil.which("stockfish", path=path)
     if not engine:
         raise SystemExit("no engine: install one, as stockfish, or name it")
     line = os.open(sys.argv[1], os.O_RDWR | os.O_NOCTTY)
