@@ -1,7 +1,8 @@
 //! How a handle and its board lie in memory of C's.
 
+ghost use Rattle.std.specs.Prelude.{◌≡◌};
 ghost use Rattle.std.specs.Borrow.{sem};
-ghost use Rattle.dgt_c.specs.BoardPlace.{HasRoom, IsNew};
+ghost use Rattle.dgt_c.specs.BoardPlace.{HasRoom, IsNew, room_size};
 
 use crate::board::DgtBoard;
 use crate::plain_board::plain_board;
@@ -34,6 +35,8 @@ pub unsafe extern "C" fn dgt_board_init(board: *mut DgtBoard)
 
 /// How many bytes a `dgt_board` takes.
 #[unsafe(no_mangle)]
-pub extern "C" fn dgt_board_size() -> usize {
+pub extern "C" fn dgt_board_size() -> usize
+    ensures { result ≡ room_size }
+{
     std::mem::size_of::<BoardPlace>()
 }

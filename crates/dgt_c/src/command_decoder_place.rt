@@ -1,7 +1,8 @@
 //! How a handle and its reader of commands lie in memory of C's.
 
+ghost use Rattle.std.specs.Prelude.{◌≡◌};
 ghost use Rattle.std.specs.Borrow.{sem};
-ghost use Rattle.dgt_c.specs.CommandDecoderPlace.{HasRoom, IsNew};
+ghost use Rattle.dgt_c.specs.CommandDecoderPlace.{HasRoom, IsNew, room_size};
 
 use crate::command_decoder::DgtCommandDecoder;
 use dgt_command::CommandDecoder;
@@ -32,6 +33,8 @@ pub unsafe extern "C" fn dgt_command_decoder_init(command_decoder: *mut DgtComma
 
 /// How many bytes a `dgt_command_decoder` takes.
 #[unsafe(no_mangle)]
-pub extern "C" fn dgt_command_decoder_size() -> usize {
+pub extern "C" fn dgt_command_decoder_size() -> usize
+    ensures { result ≡ room_size }
+{
     std::mem::size_of::<CommandDecoderPlace>()
 }

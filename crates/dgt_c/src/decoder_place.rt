@@ -1,7 +1,8 @@
 //! How a handle and its decoder lie in memory of C's.
 
+ghost use Rattle.std.specs.Prelude.{◌≡◌};
 ghost use Rattle.std.specs.Borrow.{sem};
-ghost use Rattle.dgt_c.specs.DecoderPlace.{HasRoom, IsNew};
+ghost use Rattle.dgt_c.specs.DecoderPlace.{HasRoom, IsNew, room_size};
 
 use crate::decoder::DgtDecoder;
 use dgt_decode::Decoder;
@@ -32,6 +33,8 @@ pub unsafe extern "C" fn dgt_decoder_init(decoder: *mut DgtDecoder)
 
 /// How many bytes a `dgt_decoder` takes.
 #[unsafe(no_mangle)]
-pub extern "C" fn dgt_decoder_size() -> usize {
+pub extern "C" fn dgt_decoder_size() -> usize
+    ensures { result ≡ room_size }
+{
     std::mem::size_of::<DecoderPlace>()
 }

@@ -7,7 +7,7 @@ ghost use Rattle.dgt_c.specs.Hearing.{Feeds};
 
 use crate::copying::overwrite;
 use crate::decoder::DgtDecoder;
-use crate::events::{DgtEvent, body_of, event_told};
+use crate::events::{DgtEvent, body_of, tell};
 
 /// Uses bytes up to and including the first that makes an event, or all of them, and answers how
 /// many. The event is told, and its body copied, as much of it as there is room for.
@@ -27,7 +27,7 @@ pub extern "C" fn dgt_decoder_feed(
     ensures progress { 0 < length bytes.now → 0 < result }
 {
     let fed = decoder.get().feed(bytes);
-    *event = event_told(&fed.event);
+    tell(&fed.event, event);
     overwrite(body_of(&fed.event), body);
     fed.used
 }

@@ -117,114 +117,105 @@ fn serial_numbers(serial: &[SevenBit; 5]) -> [u8; 5]
     [a.get(), b.get(), c.get(), d.get(), e.get()]
 }
 
-fn carried_told(kind: u8, code: u8, body: Body<'_>) -> DgtEvent
-    ensures { result ≡ record NOTHING {
+// Each struct is written where it lies for C: to copy one takes longer than to write it.
+fn tell_carried(kind: u8, code: u8, body: Body<'_>, out: &mut DgtEvent)
+    ensures { out.new ≡ record out.old {
       kind = kind;
       code = code;
       body_len = length (body_bytes body.entry);
     } }
 {
-    DgtEvent {
-        kind,
-        code,
-        body_len: body.bytes().len(),
-        ..NOTHING
-    }
+    out.kind = kind;
+    out.code = code;
+    out.body_len = body.bytes().len();
 }
 
-fn message_told(message: &Message<'_>) -> DgtEvent
-    ensures { result ≡ message_told (content message.now) }
+fn tell_message(message: &Message<'_>, out: &mut DgtEvent)
+    requires { out.old ≡ NOTHING }
+    ensures { out.new ≡ message_told (content message.now) }
 {
     match message {
-        Message::Dump(position) => DgtEvent {
-            kind: EVENT_DUMP,
-            pieces: piece_codes(position),
-            ..NOTHING
-        },
-        Message::Field { square, piece } => DgtEvent {
-            kind: EVENT_FIELD,
-            square: square.index(),
-            piece: piece.code(),
-            ..NOTHING
-        },
-        Message::Times(times) => DgtEvent {
-            kind: EVENT_TIMES,
-            clock: times_told(*times),
-            ..NOTHING
-        },
-        Message::NoClock(absence) => DgtEvent {
-            kind: EVENT_NO_CLOCK,
-            clock: absence_told(*absence),
-            ..NOTHING
-        },
-        Message::Ack(answer) => DgtEvent {
-            kind: EVENT_ACK,
-            ack: answer.ack,
-            ack_status: answer.status.get(),
-            ..NOTHING
-        },
-        Message::Serial(serial) => DgtEvent {
-            kind: EVENT_SERIAL,
-            serial: serial_numbers(serial),
-            ..NOTHING
-        },
-        Message::Version { main, sub } => DgtEvent {
-            kind: EVENT_VERSION,
-            main_number: main.get(),
-            sub_number: sub.get(),
-            ..NOTHING
-        },
+        Message::Dump(position) => {
+            out.kind = EVENT_DUMP;
+            out.pieces = piece_codes(position);
+        }
+        Message::Field { square, piece } => {
+            out.kind = EVENT_FIELD;
+            out.square = square.index();
+            out.piece = piece.code();
+        }
+        Message::Times(times) => {
+            out.kind = EVENT_TIMES;
+            out.clock = times_told(*times);
+        }
+        Message::NoClock(absence) => {
+            out.kind = EVENT_NO_CLOCK;
+            out.clock = absence_told(*absence);
+        }
+        Message::Ack(answer) => {
+            out.kind = EVENT_ACK;
+            out.ack = answer.ack;
+            out.ack_status = answer.status.get();
+        }
+        Message::Serial(serial) => {
+            out.kind = EVENT_SERIAL;
+            out.serial = serial_numbers(serial);
+        }
+        Message::Version { main, sub } => {
+            out.kind = EVENT_VERSION;
+            out.main_number = main.get();
+            out.sub_number = sub.get();
+        }
         Message::Trademark(body) => {
-            carried_told(EVENT_TRADEMARK, KnownCode::Trademark.number(), *body)
+            tell_carried(EVENT_TRADEMARK, KnownCode::Trademark.number(), *body, out);
         }
-        Message::Battery(body) => carried_told(EVENT_BATTERY, KnownCode::Battery.number(), *body),
+        Message::Battery(body) => {
+            tell_carried(EVENT_BATTERY, KnownCode::Battery.number(), *body, out);
+        }
         Message::LongSerial(body) => {
-            carried_told(EVENT_LONG_SERIAL, KnownCode::LongSerial.number(), *body)
+            tell_carried(
+                EVENT_LONG_SERIAL,
+                KnownCode::LongSerial.number(),
+                *body,
+                out,
+            );
         }
-        Message::Other { code, body } => carried_told(EVENT_OTHER, code.get().get(), *body),
+        Message::Other { code, body } => tell_carried(EVENT_OTHER, code.get().get(), *body, out),
     }
 }
 
-fn refused_told(code: u8, fault: BodyFault) -> DgtEvent
-    ensures { result ≡ refused_told code fault }
+fn tell_refused(code: u8, fault: BodyFault, out: &mut DgtEvent)
+    requires { out.old ≡ NOTHING }
+    ensures { out.new ≡ refused_told code fault }
 {
-    let (fault, at) = match fault {
+    out.kind = EVENT_REFUSED;
+    out.code = code;
+    (out.fault, out.at) = match fault {
         BodyFault::WrongSize => (FAULT_WRONG_SIZE, 0),
         BodyFault::BadPiece { at } => (FAULT_BAD_PIECE, at),
         BodyFault::BadSquare { at } => (FAULT_BAD_SQUARE, at),
         BodyFault::BadReading { at } => (FAULT_BAD_READING, at),
     };
-    DgtEvent {
-        kind: EVENT_REFUSED,
-        code,
-        fault,
-        at,
-        ..NOTHING
-    }
 }
 
-/// What C is told of an event, or that there is none.
-pub(crate) fn event_told(event: &Option<Event<'_>>) -> DgtEvent
-    ensures { result ≡ event_told (event_content_if_any event.now) }
+/// Tells an event, or that there is none.
+pub(crate) fn tell(event: &Option<Event<'_>>, out: &mut DgtEvent)
+    ensures { out.new ≡ event_told (event_content_if_any event.now) }
 {
+    *out = NOTHING;
     match event {
-        None => NOTHING,
-        Some(Event::Message(message)) => message_told(message),
-        Some(Event::Refused { code, fault }) => refused_told(code.get(), *fault),
-        Some(Event::Cut { have }) => DgtEvent {
-            kind: EVENT_CUT,
-            have: *have,
-            ..NOTHING
-        },
-        Some(Event::BadLength) => DgtEvent {
-            kind: EVENT_BAD_LENGTH,
-            ..NOTHING
-        },
-        Some(Event::Stray(byte)) => DgtEvent {
-            kind: EVENT_STRAY,
-            byte: *byte,
-            ..NOTHING
-        },
+        None => {}
+        Some(Event::Message(message)) => tell_message(message, out),
+        Some(Event::Refused { code, fault }) => tell_refused(code.get(), *fault, out),
+        Some(Event::Cut { have }) => {
+            out.kind = EVENT_CUT;
+            out.have = *have;
+        }
+        Some(Event::BadLength) => out.kind = EVENT_BAD_LENGTH,
+        Some(Event::Stray(byte)) => {
+            out.kind = EVENT_STRAY;
+            out.byte = *byte;
+        }
     }
 }
 

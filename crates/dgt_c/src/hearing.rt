@@ -7,19 +7,17 @@ ghost use Rattle.dgt_c.specs.Hearing.{Hears, flag};
 ghost use Rattle.dgt_c.specs.Told.{event_told};
 
 use crate::copying::overwrite;
-use crate::events::{DgtEvent, body_of, event_told};
+use crate::events::{DgtEvent, body_of, tell};
 use crate::host::DgtHost;
 use dgt_decode::Event;
 
-// What is told of an event, and of whether it was not asked for.
-fn heard_told(event: &Option<Event<'_>>, unasked: bool) -> DgtEvent
-    ensures { result ≡
+// Tells an event, and whether it was not asked for.
+fn tell_heard(event: &Option<Event<'_>>, unasked: bool, out: &mut DgtEvent)
+    ensures { out.new ≡
         record (event_told (event_content_if_any event.now)) { unasked = flag unasked } }
 {
-    DgtEvent {
-        unasked: if unasked { 1 } else { 0 },
-        ..event_told(event)
-    }
+    tell(event, out);
+    out.unasked = if unasked { 1 } else { 0 };
 }
 
 /// Uses bytes up to and including the first that makes an event, or all of them, and answers how
@@ -39,7 +37,7 @@ pub extern "C" fn dgt_host_hear(
     ensures progress { 0 < length bytes.now → 0 < result }
 {
     let heard = host.get().hear(bytes);
-    *event = heard_told(&heard.event, heard.unasked);
+    tell_heard(&heard.event, heard.unasked, event);
     overwrite(body_of(&heard.event), body);
     heard.used
 }

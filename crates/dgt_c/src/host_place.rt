@@ -1,7 +1,8 @@
 //! How a handle and its host lie in memory of C's.
 
+ghost use Rattle.std.specs.Prelude.{◌≡◌};
 ghost use Rattle.std.specs.Borrow.{sem};
-ghost use Rattle.dgt_c.specs.HostPlace.{HasRoom, IsNew};
+ghost use Rattle.dgt_c.specs.HostPlace.{HasRoom, IsNew, room_size};
 
 use crate::host::DgtHost;
 use dgt_host::Host;
@@ -32,6 +33,8 @@ pub unsafe extern "C" fn dgt_host_init(host: *mut DgtHost)
 
 /// How many bytes a `dgt_host` takes.
 #[unsafe(no_mangle)]
-pub extern "C" fn dgt_host_size() -> usize {
+pub extern "C" fn dgt_host_size() -> usize
+    ensures { result ≡ room_size }
+{
     std::mem::size_of::<HostPlace>()
 }
