@@ -5,19 +5,19 @@
 //! C has a *handle*, an object of a stated size: a pointer, and behind it the room for what it
 //! points to. `DgtHost` is that pointer. Contracts see what the handle owns as its ghost field
 //! `inside`, which is what the crate below says of a host; `get` lends it. So each call carries the
-//! clauses of the call that it wraps, at `inside`: `dgt_host_hear` has those of `Host::hear`. That
-//! `at` stays says that the handle goes on pointing to its own room.
+//! clauses of the call that it wraps, at `inside`: `dgt_host_hear` has those of `Host::hear`. The
+//! clause `place` says that the handle goes on pointing to its own room.
 //!
-//! An enum can't cross to C, and neither can what a value lends. An event crosses as a struct, whose
-//! kind says which fields are set (`event_told`, `specs/Told.antt`), and its body as bytes that are
-//! copied into a slice of the caller's, as many as there is room for (`overwritten`,
+//! An enum can't cross to C, and neither can what a value lends. An event crosses as a struct,
+//! whose kind says which fields are set (`event_told`, `specs/Told.antt`), and its body as bytes
+//! that are copied into a slice of the caller's, as many as there is room for (`overwritten`,
 //! `specs/Slices.antt`). A result crosses as a status and a number. What C says is looked at: a
 //! clock, an identity and the codes of pieces are taken exactly where they are ones (`SaysClock`,
 //! `specs/Clocks.antt`; `IsIdentity`, `ArePieces`, `specs/Starting.antt`).
 //!
-//! `dgt_host_init` and its like make a handle in memory of C's, which holds nothing yet. Beyond them
-//! no call has a `requires`: what is left to a caller in C are the facts that a reference in Rust
-//! has by its type, as that it points to something, and that no other refers to it.
+//! `dgt_host_init` and its like make a handle in memory of C's, which holds nothing yet. Beyond
+//! them no call has a `requires`: what is left to a caller in C are the facts that a reference in
+//! Rust has by its type, as that it points to something, and that no other refers to it.
 #![tactic(auto)]
 
 mod board;
