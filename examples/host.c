@@ -21,7 +21,8 @@ static int open_line(const char *name) {
     int line = open(name, O_RDWR | O_NOCTTY);
     struct termios settings;
     if (line < 0 || tcgetattr(line, &settings) != 0) return line;
-    settings.c_iflag &= ~(tcflag_t)(IGNBRK | BRKINT | PARMRK | ISTRIP | INLCR | IGNCR | ICRNL | IXON);
+    settings.c_iflag &= ~(tcflag_t)(IGNBRK | BRKINT | PARMRK | ISTRIP);
+    settings.c_iflag &= ~(tcflag_t)(INLCR | IGNCR | ICRNL | IXON);
     settings.c_oflag &= ~(tcflag_t)OPOST;
     settings.c_lflag &= ~(tcflag_t)(ECHO | ECHONL | ICANON | ISIG | IEXTEN);
     settings.c_cflag &= ~(tcflag_t)(CSIZE | PARENB);

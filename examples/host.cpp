@@ -47,12 +47,14 @@ public:
     }
 
     /// Hears a piece of bytes, and hands on each event that it makes.
-    void hear(const std::uint8_t *bytes, std::size_t n, const std::function<void(const Heard &)> &tell) {
+    void hear(const std::uint8_t *bytes, std::size_t n,
+              const std::function<void(const Heard &)> &tell) {
         for (std::size_t at = 0; at < n;) {
             Heard heard{};
-            at += dgt_host_hear(&host_, bytes + at, n - at, &heard.event, body_.data(), body_.size());
-            if (heard.event.kind == DGT_NONE) continue;
-            heard.body.assign(body_.begin(), body_.begin() + static_cast<long>(heard.event.body_len));
+            dgt_event &event = heard.event;
+            at += dgt_host_hear(&host_, bytes + at, n - at, &event, body_.data(), body_.size());
+            if (event.kind == DGT_NONE) continue;
+            heard.body.assign(body_.data(), body_.data() + event.body_len);
             tell(heard);
         }
     }

@@ -479,13 +479,13 @@ void dgt_board_clock(dgt_board *board, dgt_clock *clock);
 char dgt_piece_letter(uint8_t piece);
 
 /* The piece with this letter, or DGT_NO_SUCH. */
-uint8_t dgt_piece_code(char letter);
+uint8_t dgt_piece_code(uint8_t letter);
 
 /* Writes a name as "e4". False, and nothing written, where square > 63. */
 bool dgt_square_name(uint8_t square, char name[3]);
 
 /* The square with this file, 'a' to 'h', and this rank, '1' to '8', or DGT_NO_SUCH. */
-uint8_t dgt_square_number(char file, char rank);
+uint8_t dgt_square_number(uint8_t file, uint8_t rank);
 
 /* Writes the placement of a FEN, with a zero at its end. False, and nothing written, where a piece
  * is above 15. */
@@ -503,7 +503,7 @@ dgt_parsed dgt_parse_placement(const char *text, size_t n, uint8_t pieces[64]);
 
 /* The segments of a digit, a space or a hyphen on the clock's display, or DGT_NO_SUCH. From bit 0
  * on: top, right top, right bottom, bottom, left bottom, left top, middle. */
-uint8_t dgt_segment(char character);
+uint8_t dgt_segment(uint8_t character);
 
 #ifdef __cplusplus
 }

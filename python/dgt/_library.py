@@ -4,7 +4,7 @@ from __future__ import annotations
 
 import ctypes
 import os
-from ctypes import POINTER, Structure, c_bool, c_char, c_size_t, c_uint8, c_void_p
+from ctypes import POINTER, Structure, c_bool, c_size_t, c_uint8, c_void_p
 from pathlib import Path
 
 MAX_BODY = 16380
@@ -112,7 +112,7 @@ _FUNCTIONS = {
     "dgt": {
         "placement": (c_bool, c_void_p, c_void_p),
         "parse_placement": (ParsedStruct, *_ROOM, c_void_p),
-        "segment": (c_uint8, c_char),
+        "segment": (c_uint8, c_uint8),
     },
 }
 

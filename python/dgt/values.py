@@ -36,7 +36,7 @@ def segment(character: str) -> int:
     """The segments that show a digit, a space or a hyphen on the clock."""
     if not isinstance(character, str) or len(character) != 1 or not character.isascii():
         raise BadValue(f"no segments: {character!r}")
-    shown = dgt.dgt_segment(character.encode())
+    shown = dgt.dgt_segment(ord(character))
     if shown == NO_SUCH:
         raise BadValue(f"no segments: {character!r}")
     return shown
