@@ -69,9 +69,12 @@ class Board(Handle):
         self._told = CommandStruct()
         self._word, self._word_at = writable(MAX_WORD)
         self._out, self._out_at = writable(MAX_SENT)
-        codes = (position or Position.start()).codes
-        shown = clock_struct(clock or Times())
-        said = (identity or Identity())._struct()
+        position = Position.start() if position is None else position
+        identity = Identity() if identity is None else identity
+        if not isinstance(position, Position) or not isinstance(identity, Identity):
+            raise TypeError("a board is made of a Position, a clock and an Identity")
+        codes, said = position.codes, identity._struct()
+        shown = clock_struct(Times() if clock is None else clock)
         status = dgt.dgt_board_start(self._at, (c_uint8 * 64).from_buffer_copy(codes), byref(shown),
                                      byref(said))
         if status != _STARTED:
