@@ -8,9 +8,13 @@ ghost use Rattle.dgt_c.specs.Slices.{overwritten, with_text};
 use dgt_values::Position;
 
 /// Writes as many of the bytes as there is room for to the front of the slice.
+#[inline(always)]
 pub(crate) fn overwrite(bytes: &[u8], out: &mut [u8])
     ensures { out.new ≡ overwritten out.old bytes.now }
 {
+    if bytes.is_empty() {
+        return;
+    }
     if bytes.len() <= out.len() {
         out[..bytes.len()].copy_from_slice(bytes);
     } else {

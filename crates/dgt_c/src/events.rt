@@ -117,7 +117,8 @@ fn serial_numbers(serial: &[SevenBit; 5]) -> [u8; 5]
     [a.get(), b.get(), c.get(), d.get(), e.get()]
 }
 
-// Each struct is written where it lies for C: to copy one takes longer than to write it.
+// Each struct is written where it lies for C: to copy one takes longer than to write it. What tells
+// an event is inlined, so that the event itself is not copied once more.
 fn tell_carried(kind: u8, code: u8, body: Body<'_>, out: &mut DgtEvent)
     ensures { out.new ≡ record out.old {
       kind = kind;
@@ -130,6 +131,7 @@ fn tell_carried(kind: u8, code: u8, body: Body<'_>, out: &mut DgtEvent)
     out.body_len = body.bytes().len();
 }
 
+#[inline(always)]
 fn tell_message(message: &Message<'_>, out: &mut DgtEvent)
     requires { out.old ≡ NOTHING }
     ensures { out.new ≡ message_told (content message.now) }
@@ -199,6 +201,7 @@ fn tell_refused(code: u8, fault: BodyFault, out: &mut DgtEvent)
 }
 
 /// Tells an event, or that there is none.
+#[inline(always)]
 pub(crate) fn tell(event: &Option<Event<'_>>, out: &mut DgtEvent)
     ensures { out.new ≡ event_told (event_content_if_any event.now) }
 {
@@ -220,6 +223,7 @@ pub(crate) fn tell(event: &Option<Event<'_>>, out: &mut DgtEvent)
 }
 
 /// The body of a message that is carried unread, and else no byte.
+#[inline(always)]
 pub(crate) fn body_of<'a>(event: &Option<Event<'a>>) -> &'a [u8]
     ensures { result.now ≡ body_said (event_content_if_any event.now) }
 {
