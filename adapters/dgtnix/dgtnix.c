@@ -45,6 +45,8 @@ static pthread_t reader;
 static int events[2] = {-1, -1}; /* a pipe: eboard reads [0] */
 static int stop = -1;            /* readable once the thread is to end */
 
+static char serial[8], version[16], trademark[128]; /* set before the thread starts */
+
 /* The reader's own, while it runs. */
 static line board;
 static game followed;
@@ -186,6 +188,9 @@ static bool start(const char *port) {
     if (!line_open(&board, name) || !hear_for(BOARD_WAIT, 0)) return false;
     line_ask_texts(&board);
     hear_for(TEXTS_WAIT, 3);
+    memcpy(serial, board.serial, sizeof serial);
+    memcpy(version, board.version, sizeof version);
+    memcpy(trademark, board.trademark, sizeof trademark);
     return open_pipe() && start_reader();
 }
 
@@ -218,10 +223,10 @@ PUBLIC int dgtnixClose(void) {
  * between whole and parts, which is a comma in many languages. */
 PUBLIC const char *dgtnixQueryString(int which) {
     switch (which) {
-    case SERIAL_TEXT: return board.serial;
+    case SERIAL_TEXT: return serial;
     case BUS_ADDRESS_TEXT: return "none";
-    case VERSION_TEXT: return board.version;
-    case TRADEMARK_TEXT: return board.trademark;
+    case VERSION_TEXT: return version;
+    case TRADEMARK_TEXT: return trademark;
     case DRIVER_TEXT: return "2";
     default: return "";
     }

@@ -211,6 +211,7 @@ static void tell(game *game, move *made) {
     memcpy(game->told, made->after, 64);
     memcpy(game->stood, game->now, 64);
     game->for_good = game->for_good || made->ends_for_good;
+    game->kings_off = false;
     game->reading = THE_SAME;
     game->due = 0;
 }
@@ -230,6 +231,7 @@ static int taken_back(const game *game) {
 
 static void take_back(game *game) {
     game->moves_made = taken_back(game);
+    game->kings_off = false;
     settle_here(game);
 }
 
@@ -265,13 +267,14 @@ static enum reading read_position(game *game) {
         return THE_SAME;
     }
     if (!has_kings(game, 1)) game->kings_off = true;
+    if (game->kings_off && !has_kings(game, 2)) return UNCLEAR;
     if (is_start(game->now) && (game->kings_off || game->for_good)) return NEW_GAME;
-    if (game->kings_off) return has_kings(game, 2) ? SET_UP : UNCLEAR;
     if (last_is_back(game)) return TAKEN_BACK;
-    if (find_move(game->told, game->now, &game->next)) return moves_on(game) ? UNCLEAR : A_MOVE;
+    if (find_move(game->told, game->now, &game->next) && !moves_on(game)) return A_MOVE;
     /* Only here: a real move may lead to an earlier position, too. */
     if (taken_back(game) >= 0) return TAKEN_BACK;
-    return is_start(game->now) ? NEW_GAME : UNCLEAR;
+    if (is_start(game->now)) return NEW_GAME;
+    return game->kings_off ? SET_UP : UNCLEAR;
 }
 
 /* A piece of the other side was taken up since the move was made that waits, and not for that move:

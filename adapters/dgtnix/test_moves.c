@@ -97,6 +97,7 @@ static const struct test_case {
      SEVENTH "d2d4"},
     {"set up anew, the kings last",
      "e2e4 e1. e8. e4. d8. d1. a8. 1500 e3P 1500 g3K g6k 1100 e3e4 g6g5", "e2e4 e3e4 g6g5"},
+    {"a king's move, with the other king adjusted", "e2e4 e7e5 e1. e8. e8k e2K", "e2e4 e7e5 e1e2"},
     {"both kings adjusted", "e1. e8. 1500 e1K e8k e2e4", "e2e4"},
 
     {"a turned board", "turned d7d5 d2d4 turned", "e2e4 e7e5"},
