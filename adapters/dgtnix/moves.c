@@ -183,19 +183,25 @@ static void turn(uint8_t turned[64], const uint8_t squares[64], bool is_turned) 
         turned[square] = squares[is_turned ? 63 - square : square];
 }
 
+/* Nothing has begun on the board. */
+static void forget(game *game) {
+    game->kings_off = game->is_early = false;
+    game->reading = THE_SAME;
+    game->due = 0;
+}
+
 /* What stands on the board is what was told. */
 static void settle_here(game *game) {
     memcpy(game->told, game->now, 64);
     memcpy(game->stood, game->now, 64);
-    game->reading = THE_SAME;
-    game->due = 0;
+    forget(game);
 }
 
 void game_begin(game *game, const uint8_t squares[64], int settle) {
     game->settle = settle;
     game->turned = is_turned(squares);
     game->moves_made = 0;
-    game->for_good = game->kings_off = false;
+    game->for_good = false;
     turn(game->now, squares, game->turned);
     settle_here(game);
 }
@@ -209,11 +215,9 @@ static void tell(game *game, move *made) {
     last->to = made->to;
     last->side = side_of(made->piece);
     memcpy(game->told, made->after, 64);
-    memcpy(game->stood, game->now, 64);
+    memcpy(game->stood, game->is_early ? made->after : game->now, 64);
     game->for_good = game->for_good || made->ends_for_good;
-    game->kings_off = false;
-    game->reading = THE_SAME;
-    game->due = 0;
+    forget(game);
 }
 
 /* The last move was taken back. */
@@ -231,16 +235,31 @@ static int taken_back(const game *game) {
 
 static void take_back(game *game) {
     game->moves_made = taken_back(game);
-    game->kings_off = false;
     settle_here(game);
 }
 
-/* The piece that moved last moves again, with no move of the other side between: it is being put
- * right or taken back. */
-static bool moves_on(const game *game) {
-    if (game->moves_made == 0) return false;
-    const past *last = &game->moves[game->moves_made - 1];
-    return last->to == game->next.from && last->side == side_of(game->next.piece);
+/* The side that has made the last move would make the next one, too. */
+static bool is_out_of_turn(const game *game) {
+    int made = game->moves_made;
+    return made > 0 && game->moves[made - 1].side == side_of(game->next.piece);
+}
+
+/* Another piece than the one that moved last; that one is being put right or taken back. */
+static bool is_another(const game *game) {
+    return game->moves[game->moves_made - 1].to != game->next.from;
+}
+
+/* A side has made its move on the board before that of the other side, which was known already, and
+ * that one follows now. It is told first, and then the early one. */
+static bool find_late_move(game *game) {
+    uint8_t without[64];
+    if (!game->is_early) return false;
+    for (int square = 0; square < 64; square++) {
+        bool is_of_early = game->told[square] != game->early.after[square];
+        if (is_of_early && game->now[square] != game->early.after[square]) return false;
+        without[square] = is_of_early ? game->told[square] : game->now[square];
+    }
+    return find_move(game->told, without, &game->next) && !is_out_of_turn(game);
 }
 
 /* A pawn that was told on its last rank has been changed for the piece that it becomes. */
@@ -263,18 +282,23 @@ static bool is_start(const uint8_t squares[64]) {
 
 static enum reading read_position(game *game) {
     if (same(game->now, game->told) || same(game->now, game->stood)) {
-        game->kings_off = false;
+        forget(game);
         return THE_SAME;
     }
     if (!has_kings(game, 1)) game->kings_off = true;
     if (game->kings_off && !has_kings(game, 2)) return UNCLEAR;
     if (is_start(game->now) && (game->kings_off || game->for_good)) return NEW_GAME;
     if (last_is_back(game)) return TAKEN_BACK;
-    if (find_move(game->told, game->now, &game->next) && !moves_on(game)) return A_MOVE;
+    if (find_move(game->told, game->now, &game->next)) {
+        if (!is_out_of_turn(game)) return A_MOVE;
+        game->is_early = is_another(game);
+        game->early = game->next;
+    }
     /* Only here: a real move may lead to an earlier position, too. */
     if (taken_back(game) >= 0) return TAKEN_BACK;
     if (is_start(game->now)) return NEW_GAME;
-    return game->kings_off ? SET_UP : UNCLEAR;
+    if (game->kings_off) return SET_UP;
+    return find_late_move(game) ? A_MOVE : UNCLEAR;
 }
 
 /* A piece of the other side was taken up since the move was made that waits, and not for that move:
@@ -297,13 +321,8 @@ static void begin_anew(game *game) {
     game_begin(game, board, game->settle);
 }
 
-bool game_see(game *game, const uint8_t squares[64], long long time, move *made) {
-    uint8_t now[64];
-    turn(now, squares, game->turned);
-    bool told = is_answered(game, now);
-    if (told) tell(game, made);
-    memcpy(game->now, now, 64);
-    follow_promotion(game);
+/* Looks what the position means, and for how long it must rest. */
+static void look(game *game, long long time) {
     game->reading = read_position(game);
     game->due = 0;
     if (game->reading == TAKEN_BACK) take_back(game);
@@ -313,16 +332,26 @@ bool game_see(game *game, const uint8_t squares[64], long long time, move *made)
         bool waits = game->next.may_castle && game->settle < CASTLING_WAIT;
         game->due = time + (waits ? CASTLING_WAIT : game->settle);
     }
+}
+
+bool game_see(game *game, const uint8_t squares[64], long long time, move *made) {
+    uint8_t now[64];
+    turn(now, squares, game->turned);
+    bool told = is_answered(game, now);
+    if (told) tell(game, made);
+    memcpy(game->now, now, 64);
+    follow_promotion(game);
+    look(game, time);
     return told;
 }
 
 bool game_wait(game *game, long long time, move *made) {
     if (game->due == 0 || time < game->due) return false;
-    game->due = 0;
-    if (game->reading == SET_UP) begin_anew(game);
-    if (game->reading != A_MOVE) return false;
-    tell(game, made);
-    return true;
+    bool is_move = game->reading == A_MOVE;
+    if (is_move) tell(game, made);
+    else begin_anew(game);
+    look(game, time - game->settle); /* what is left of it has rested, too */
+    return is_move;
 }
 
 void game_hold(game *game) {

@@ -59,6 +59,8 @@ typedef struct game {
     int moves_made;    /* how many of them are known */
     bool for_good;     /* some move since the beginning leads to no earlier position */
     bool kings_off;    /* both kings were taken off: something new is being set up */
+    bool is_early;     /* one side has moved, but it is the other side's turn: */
+    move early;        /* its move, which is told once the other side's is there */
     enum reading reading;
     move next;         /* where reading is A_MOVE */
     long long due;     /* when the position has rested that is waited for, or 0 */

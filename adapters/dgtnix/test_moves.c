@@ -35,6 +35,13 @@ static const struct test_case {
 
     {"two moves in quick succession", "e2. e4P e7. e5p", "e2e4 e7e5"},
     {"four of them", "e2. e4P e7. e5p g1. f3N b8. c6n", "e2e4 e7e5 g1f3 b8c6"},
+    {"the own move first, the other side's late", "e2e4 g1f3 900 e7e5 b8c6",
+     "e2e4 e7e5 g1f3 b8c6"},
+    {"castling first, the other side's move late", ITALIAN "d2d3 e1g1 900 f1. h1R 900 h1. f1R d7d6",
+     ITALIAN "d2d3 d7d6 e1g1"},
+    {"moved twice, and put back", "e2e4 d2d4 900 d4d2 e7e5 d2d4", "e2e4 e7e5 d2d4"},
+    {"moved twice, something else late", "e2e4 d2d4 g1f3 900 f3g1 e7e5 e5d4",
+     "e2e4 e7e5 d2d4 e5d4"},
     {"the same position again", "g1f3 g8f6 f3g1 f6g8 e2e4", "g1f3 g8f6 f3g1 f6g8 e2e4"},
 
     {"a capture, the taken piece off first", "e2e4 d7d5 d5. e4. d5P", "e2e4 d7d5 e4d5"},
