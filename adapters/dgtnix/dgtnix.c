@@ -1,8 +1,8 @@
 /* libdgtnix.so: the nine names that eboard looks for. README.md has what eboard does with them.
  *
  * One thread reads the board, and writes to a pipe what eboard reads. All names are called by one
- * thread of the program. Between the two threads stand a lock for what GetBoard shows, and the start
- * and the end of the thread for all else.
+ * thread of the program. Between the two threads stand a lock for what GetBoard shows, and the
+ * start and the end of the thread for all else.
  */
 #define _GNU_SOURCE
 #include "line.h"

@@ -156,7 +156,8 @@ static void hear(line *line, const dgt_event *event, const uint8_t *body, size_t
         line->texts++;
         break;
     case DGT_VERSION:
-        snprintf(line->version, sizeof line->version, "%d.%d", event->main_number, event->sub_number);
+        snprintf(line->version, sizeof line->version, "%d.%d", event->main_number,
+                 event->sub_number);
         line->texts++;
         break;
     case DGT_REFUSED:

@@ -308,8 +308,8 @@ static bool is_answered(const game *game, const uint8_t now[64]) {
     bool taken_up = false;
     if (game->reading != A_MOVE || find_move(game->told, now, &whole)) return false;
     for (int square = 0; square < 64; square++) {
-        enum side side = side_of(game->now[square]);
-        if (now[square] == 0 && side != NOBODY && side != side_of(game->next.piece)) taken_up = true;
+        enum side side = side_of(game->now[square]), mover = side_of(game->next.piece);
+        if (now[square] == 0 && side != NOBODY && side != mover) taken_up = true;
     }
     return taken_up;
 }

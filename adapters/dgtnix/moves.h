@@ -25,9 +25,9 @@ typedef struct move {
 } move;
 
 /* Finds the one move that leads from one position to the other, by its shape: pieces go as they
- * may, over empty squares, but nobody asks whose turn it is and whether a king is in check. The move
- * need not be whole: a king may have castled alone, and a pawn that was taken in passing may still
- * be there. */
+ * may, over empty squares, but nobody asks whose turn it is and whether a king is in check. The
+ * move need not be whole: a king may have castled alone, and a pawn that was taken in passing may
+ * still be there. */
 bool find_move(const uint8_t before[64], const uint8_t now[64], move *found);
 
 enum { REMEMBERED = 32 }; /* so many moves can be taken back */

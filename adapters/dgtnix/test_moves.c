@@ -139,7 +139,9 @@ static void pass(int milliseconds) {
     }
 }
 
-static uint8_t square_of(const char *name) { return (uint8_t)(8 * ('8' - name[1]) + name[0] - 'a'); }
+static uint8_t square_of(const char *name) {
+    return (uint8_t)(8 * ('8' - name[1]) + name[0] - 'a');
+}
 
 static void put(uint8_t square, uint8_t piece) {
     move made;
