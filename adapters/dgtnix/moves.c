@@ -103,7 +103,6 @@ static bool may_castle(const uint8_t before[64], int from, int to) {
 static void set_move(move *found, const uint8_t before[64], int from, int to, uint8_t becomes) {
     *found = (move){.from = (uint8_t)from, .to = (uint8_t)to, .piece = before[from]};
     found->becomes = becomes;
-    found->ends_for_good = kind_of(before[from]) == PAWN || before[to] != 0;
     found->may_castle = may_castle(before, from, to);
     memcpy(found->after, before, 64);
     found->after[from] = 0;
@@ -193,7 +192,6 @@ static void forget(game *game) {
 /* What stands on the board is what was told. */
 static void settle_here(game *game) {
     memcpy(game->told, game->now, 64);
-    memcpy(game->stood, game->now, 64);
     forget(game);
 }
 
@@ -201,7 +199,6 @@ void game_begin(game *game, const uint8_t squares[64], int settle) {
     game->settle = settle;
     game->turned = is_turned(squares);
     game->moves_made = 0;
-    game->for_good = false;
     turn(game->now, squares, game->turned);
     settle_here(game);
 }
@@ -215,15 +212,7 @@ static void tell(game *game, move *made) {
     last->to = made->to;
     last->side = side_of(made->piece);
     memcpy(game->told, made->after, 64);
-    memcpy(game->stood, game->is_early ? made->after : game->now, 64);
-    game->for_good = game->for_good || made->ends_for_good;
     forget(game);
-}
-
-/* The last move was taken back. */
-static bool last_is_back(const game *game) {
-    int made = game->moves_made;
-    return made > 0 && same(game->now, game->moves[made - 1].before);
 }
 
 /* Which of the moves, from the last one on, was taken back with all behind it, or -1. */
@@ -266,7 +255,7 @@ static bool find_late_move(game *game) {
 static void follow_promotion(game *game) {
     for (int square = 0; square < 64; square++)
         if (promotes(game->told[square], game->now[square], square))
-            game->told[square] = game->stood[square] = game->now[square];
+            game->told[square] = game->now[square];
 }
 
 static bool has_kings(const game *game, int least) {
@@ -281,44 +270,47 @@ static bool is_start(const uint8_t squares[64]) {
 }
 
 static enum reading read_position(game *game) {
-    if (same(game->now, game->told) || same(game->now, game->stood)) {
+    if (same(game->now, game->told)) {
         forget(game);
         return THE_SAME;
     }
     if (!has_kings(game, 1)) game->kings_off = true;
     if (game->kings_off && !has_kings(game, 2)) return UNCLEAR;
-    if (is_start(game->now) && (game->kings_off || game->for_good)) return NEW_GAME;
-    if (last_is_back(game)) return TAKEN_BACK;
     if (find_move(game->told, game->now, &game->next)) {
         if (!is_out_of_turn(game)) return A_MOVE;
         game->is_early = is_another(game);
         game->early = game->next;
     }
-    /* Only here: a real move may lead to an earlier position, too. */
+    /* Only here: a real move may lead to an earlier position, too, even to the first one. */
     if (taken_back(game) >= 0) return TAKEN_BACK;
     if (is_start(game->now)) return NEW_GAME;
     if (game->kings_off) return SET_UP;
     return find_late_move(game) ? A_MOVE : UNCLEAR;
 }
 
-/* A piece of the other side was taken up since the move was made that waits, and not for that move:
- * the answer to it begins. */
+/* A piece of the other side is taken up behind the move that waits: the answer to it begins, or the
+ * pawn goes that was taken in passing. */
 static bool is_answered(const game *game, const uint8_t now[64]) {
-    move whole;
-    bool taken_up = false;
-    if (game->reading != A_MOVE || find_move(game->told, now, &whole)) return false;
+    if (game->reading != A_MOVE) return false;
+    enum side mover = side_of(game->next.piece);
     for (int square = 0; square < 64; square++) {
-        enum side side = side_of(game->now[square]), mover = side_of(game->next.piece);
-        if (now[square] == 0 && side != NOBODY && side != mover) taken_up = true;
+        enum side side = side_of(game->now[square]);
+        if (now[square] == 0 && side != NOBODY && side != mover) return true;
     }
-    return taken_up;
+    return false;
 }
 
-/* Begins anew with what stands on the board, which may have been turned. */
-static void begin_anew(game *game) {
+/* Begins in the position in which a game begins, on a board that may have been turned. */
+static void begin_game(game *game) {
     uint8_t board[64];
     turn(board, game->now, game->turned);
     game_begin(game, board, game->settle);
+}
+
+/* Begins with what stands on the board, which lies as it lay. */
+static void begin_here(game *game) {
+    game->moves_made = 0;
+    settle_here(game);
 }
 
 /* Looks what the position means, and for how long it must rest. */
@@ -326,7 +318,7 @@ static void look(game *game, long long time) {
     game->reading = read_position(game);
     game->due = 0;
     if (game->reading == TAKEN_BACK) take_back(game);
-    if (game->reading == NEW_GAME) begin_anew(game);
+    if (game->reading == NEW_GAME) begin_game(game);
     if (game->reading == SET_UP) game->due = time + SET_UP_WAIT;
     if (game->reading == A_MOVE) {
         bool waits = game->next.may_castle && game->settle < CASTLING_WAIT;
@@ -349,7 +341,7 @@ bool game_wait(game *game, long long time, move *made) {
     if (game->due == 0 || time < game->due) return false;
     bool is_move = game->reading == A_MOVE;
     if (is_move) tell(game, made);
-    else begin_anew(game);
+    else begin_here(game);
     look(game, time - game->settle); /* what is left of it has rested, too */
     return is_move;
 }

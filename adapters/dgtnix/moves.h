@@ -17,11 +17,10 @@ enum side side_of(uint8_t piece);
 
 typedef struct move {
     uint8_t from, to;
-    uint8_t piece;      /* what stood on `from` */
-    uint8_t becomes;    /* what stands on `to` now: not the same where a pawn was promoted */
-    bool ends_for_good; /* a pawn moved, or a piece was taken: no later move leads back */
-    bool may_castle;    /* a rook stands beside its king as if both were about to castle */
-    uint8_t after[64];  /* the position behind the whole move */
+    uint8_t piece;     /* what stood on `from` */
+    uint8_t becomes;   /* what stands on `to` now: not the same where a pawn was promoted */
+    bool may_castle;   /* a rook stands beside its king as if both were about to castle */
+    uint8_t after[64]; /* the position behind the whole move */
 } move;
 
 /* Finds the one move that leads from one position to the other, by its shape: pieces go as they
@@ -52,19 +51,17 @@ enum reading {
  * and 2: where the board is turned, a1 of the game is h8 of the board. */
 typedef struct game {
     bool turned;
-    uint8_t told[64];  /* the position behind the last move that was told */
-    uint8_t stood[64]; /* what stood on the board when it was told, which may be half of it */
-    uint8_t now[64];   /* what stands on the board */
+    uint8_t told[64]; /* the position behind the last move that was told */
+    uint8_t now[64];  /* what stands on the board */
     past moves[REMEMBERED];
-    int moves_made;    /* how many of them are known */
-    bool for_good;     /* some move since the beginning leads to no earlier position */
-    bool kings_off;    /* both kings were taken off: something new is being set up */
-    bool is_early;     /* one side has moved, but it is the other side's turn: */
-    move early;        /* its move, which is told once the other side's is there */
+    int moves_made;   /* how many of them are known */
+    bool kings_off;   /* both kings were taken off: something new is being set up */
+    bool is_early;    /* one side has moved, but it is the other side's turn: */
+    move early;       /* its move, which is told once the other side's is there */
     enum reading reading;
-    move next;         /* where reading is A_MOVE */
-    long long due;     /* when the position has rested that is waited for, or 0 */
-    int settle;        /* for how long a position must rest */
+    move next;        /* where reading is A_MOVE */
+    long long due;    /* when the position has rested that is waited for, or 0 */
+    int settle;       /* for how long a position must rest */
 } game;
 
 /* Begins with what stands on the board. */

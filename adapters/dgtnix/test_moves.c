@@ -15,6 +15,9 @@ static const char LETTERS[] = ".PRNBKQprnbkq";
 static const char START[] = "rnbqkbnrpppppppp................................PPPPPPPPRNBQKBNR";
 
 #define ITALIAN "e2e4 e7e5 g1f3 b8c6 f1c4 f8c5 "
+#define QUEEN_IN_CORNER \
+    "h2h4 a7a6 h1h3 a6a5 g2g3 a5a4 f1g2 b7b6 g2d5 b6b5 e2e3 b5b4 d1e2 h7h6 e2f1 h6h5 " \
+    "f1g2 g7g6 g2h1 d7d6 g1f3 c7c6 "
 #define PASSING "e2e4 a7a6 e4e5 d7d5 "
 #define SEVENTH "h2h4 g7g5 h4g5 h7h6 g5h6 a7a6 h6h7 a6a5 "
 
@@ -27,10 +30,13 @@ static const struct test_case {
     {"slid over squares, slowly", "d2d4 a7a6 d1. d2Q 200 d2. d3Q", "d2d4 a7a6 d1d3"},
     {"no piece goes so", "e2. e5P 900 e5. e4P", "e2e4"},
     {"no piece jumps but a knight", "a1. a3R 900 a3. a1R g1f3", "g1f3"},
+    {"a knight goes round a corner", "g1. g4N 900 g4. g1N e2e4", "e2e4"},
+    {"a pawn goes far only at first", "e2e3 a7a6 e3. e5P 900 e5. e3P d2d4", "e2e3 a7a6 d2d4"},
 
     {"adjusted", "e2. 900 e2P", ""},
     {"two adjusted at once", "e2. d2. 900 e2P d2P", ""},
     {"another adjusted, before the move rests", "e2. e4P g1. g1N", "e2e4"},
+    {"not while another is off", "e2. a7. e4P 900 e4. a7p e2P d2d4", "d2d4"},
     {"knocked over and set right", "e7. d8. 500 d8q e7p e2e4", "e2e4"},
 
     {"two moves in quick succession", "e2. e4P e7. e5p", "e2e4 e7e5"},
@@ -47,6 +53,9 @@ static const struct test_case {
     {"a capture, the taken piece off first", "e2e4 d7d5 d5. e4. d5P", "e2e4 d7d5 e4d5"},
     {"a capture, the own piece off first", "e2e4 d7d5 e4. d5. d5P", "e2e4 d7d5 e4d5"},
     {"a capture, the one put over the other", "e2e4 d7d5 e4. d5P", "e2e4 d7d5 e4d5"},
+    {"no pawn takes before itself", "e2e4 e7e5 e5. e4. e5P 900 e5p e4P g1f3", "e2e4 e7e5 g1f3"},
+    {"a pawn takes beside another", "e2e4 a7a6 e4e5 d7d5 a2a3 d8d6 e5d6 e7d6",
+     "e2e4 a7a6 e4e5 d7d5 a2a3 d8d6 e5d6 e7d6"},
     {"a capture, thought over", "e2e4 d7d5 d5. 5000 e4. 5000 d5P", "e2e4 d7d5 e4d5"},
     {"nobody takes his own", "d1. d2. d2Q 900 d1Q d2P e2e4", "e2e4"},
 
@@ -60,9 +69,16 @@ static const struct test_case {
     {"castling, the rook first", ITALIAN "h1. f1R 1500 e1. 1500 g1K d7d6", ITALIAN "e1g1 d7d6"},
     {"a rook's move that looks like it", ITALIAN "h1. f1R 2100 d7d6", ITALIAN "h1f1 d7d6"},
     {"the same, and answered at once", ITALIAN "h1. f1R d7. d6p", ITALIAN "h1f1 d7d6"},
+    {"a queen's move is none that looks like it", QUEEN_IN_CORNER "h1. f1Q 400 f1. h1Q",
+     QUEEN_IN_CORNER "h1f1"},
     {"castling, Black's, long, the king first",
      "d2d4 d7d5 c1f4 c8f5 e2e3 b8c6 g1f3 d8d7 f1e2 e8. c8k 500 a8. d8r e1g1",
      "d2d4 d7d5 c1f4 c8f5 e2e3 b8c6 g1f3 d8d7 f1e2 e8c8 e1g1"},
+    {"half castled, and another adjusted", ITALIAN "e1. g1K 900 a2. 900 a2P 900 h1. f1R d7d6",
+     ITALIAN "e1g1 d7d6"},
+    {"a queen doesn't castle",
+     "e2e4 e7e5 e1e2 a7a6 d1e1 a6a5 e2d1 a5a4 f1e2 b7b6 g1f3 b6b5 e1g1 b5b4",
+     "e2e4 e7e5 e1e2 a7a6 d1e1 a6a5 e2d1 a5a4 f1e2 b7b6 g1f3 b6b5 e1g1 b5b4"},
     {"no castling over a piece", "e1. g1. g1K 900 g1. e1K g1N e2e4", "e2e4"},
 
     {"in passing, the taken pawn off last", PASSING "e5. d6P d5. g8f6", PASSING "e5d6 g8f6"},
@@ -70,6 +86,9 @@ static const struct test_case {
      PASSING "e5d6 g8f6"},
     {"in passing, the taken pawn off first", PASSING "d5. e5. d6P g8f6", PASSING "e5d6 g8f6"},
     {"in passing, both in hand", PASSING "e5. d5. d6P g8f6", PASSING "e5d6 g8f6"},
+    {"in passing, in no other rank",
+     "e2e3 d7d5 a2a3 d5d4 e3e4 a7a6 d4. e4. d5P 900 d5. e4P d4p g1f3",
+     "e2e3 d7d5 a2a3 d5d4 e3e4 a7a6 g1f3"},
     {"in passing, Black's", "h2h3 d7d5 h3h4 d5d4 e2e4 d4. e3p e4. a2a3",
      "h2h3 d7d5 h3h4 d5d4 e2e4 d4e3 a2a3"},
 
@@ -79,12 +98,14 @@ static const struct test_case {
      SEVENTH "h7g8Q b7b6"},
     {"promotion, the pawn left there", SEVENTH "g8. h7. g8P 900 g8. 900 g8Q b7b6",
      SEVENTH "h7g8 b7b6"},
+    {"no promotion before the last rank", "e2. e4Q 900 e4. e2P d2d4", "d2d4"},
     {"no piece but a pawn is promoted", "g1. f3B 900 f3. f3N", "g1f3"},
 
     {"taken back", "e2e4 e4e2 d2d4", "e2e4 d2d4"},
     {"taken back and made again", "e2e4 e4e2 e2e4 e7e5", "e2e4 e2e4 e7e5"},
     {"two moves taken back", "e2e4 e7e5 e5e7 e4e2 d2d4", "e2e4 e7e5 d2d4"},
-    {"two moves taken back at once", "e2e4 e7e5 e5. e4. e2P e7p d2d4", "e2e4 e7e5 d2d4"},
+    {"two moves taken back at once", "e2e4 e7e5 g1f3 b8c6 c6. f3. g1N b8n d2d4",
+     "e2e4 e7e5 g1f3 b8c6 d2d4"},
     {"a capture taken back", "e2e4 d7d5 e4d5 d5. e4P 900 d5p e4e5", "e2e4 d7d5 e4d5 e4e5"},
     {"a capture taken back, the taken one first", "e2e4 d7d5 e4d5 d5p 900 e4P e4e5",
      "e2e4 d7d5 e4d5 e4e5"},
@@ -95,6 +116,8 @@ static const struct test_case {
     {"half castling taken back", ITALIAN "e1. g1K 900 g1. e1K d2d3", ITALIAN "e1g1 d2d3"},
     {"a promotion taken back", SEVENTH "g8. h7. g8Q 900 g8. 900 h7P 900 g8n 900 h7. g8. g8R b7b6",
      SEVENTH "h7g8Q h7g8R b7b6"},
+    {"put elsewhere after all, and answered", "e2e3 e3. e4P 900 e7e5 900 e4. e3P d2d4",
+     "e2e3 e7e5 d2d4"},
     {"put elsewhere after all", "e2e3 e3. e4P 900 e4. e3P e7e5", "e2e3 e7e5"},
 
     {"set up again, piece by piece", "e2e4 e7e5 g1f3 f3g1 e4e2 e5e7 d2d4", "e2e4 e7e5 g1f3 d2d4"},
