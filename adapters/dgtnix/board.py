@@ -1,0 +1,155 @@
+#!/usr/bin/env python3
+"""A board on a pseudo-terminal, to try eboard on:
+
+    board.py LINK
+
+LINK becomes a symbolic link to the terminal that a host opens. What hands do is read from standard
+input, a line each:
+
+    e2 .      what stands on e2 is taken off
+    e4 P      a piece is put on e4 (PRNBKQ white, prnbkq black)
+    e2e4      a whole move; what stands on e4 is taken off first
+    turn      the pieces of a new game are set up the other way round
+    raw 8e00  these bytes come from the port, whatever they are
+    gone      the board is unplugged
+    half      half of the next message is sent, and the board is unplugged
+    back      it is plugged in again
+    mute      it answers nothing from now on
+    quit
+
+It says on standard output which commands it was sent, and when it is ready.
+"""
+
+import os
+import pathlib
+import select
+import sys
+import time
+import tty
+
+sys.path.insert(0, str(pathlib.Path(__file__).resolve().parents[2] / "python"))
+import dgt
+
+FILES, RANKS = "abcdefgh", "87654321"
+START = "rnbqkbnrpppppppp................................PPPPPPPPRNBQKBNR"
+
+
+class Port:
+    """The board's end of a pseudo-terminal, and the link by which a host finds the other end."""
+
+    def __init__(self, link):
+        self.link = link
+        self.end = self.other = None
+
+    def plug(self):
+        self.end, self.other = os.openpty()
+        tty.setraw(self.other)
+        # Bytes that nobody reads are lost on a line, and don't stop the board.
+        os.set_blocking(self.end, False)
+        os.symlink(os.ttyname(self.other), self.link)
+
+    def unplug(self):
+        if self.end is None:
+            return
+        time.sleep(0.05)  # what was sent is read first
+        os.unlink(self.link)
+        os.close(self.end)
+        os.close(self.other)
+        self.end = self.other = None
+
+    def write(self, message):
+        try:
+            if self.end is not None:
+                os.write(self.end, message)
+        except BlockingIOError:
+            pass
+
+
+class Hands:
+    """The board, and what is done to it."""
+
+    def __init__(self, port):
+        self.port, self.board = port, dgt.Board()
+        self.squares = {file + rank: START[8 * number + place]
+                        for number, rank in enumerate(RANKS) for place, file in enumerate(FILES)}
+        self.is_mute = self.is_cut = False
+
+    def send(self, message):
+        if self.is_mute:
+            return
+        self.port.write(message[: len(message) // 2] if self.is_cut else message)
+        if self.is_cut:
+            self.is_cut = False
+            self.unplug()
+
+    def hear(self):
+        """Takes what the host asks for, and answers."""
+        asked = os.read(self.port.end, 4096)
+        for command in asked.replace(b"\0", b""):
+            print(f"asked {command:02x}", flush=True)
+        for message in self.board.answers(asked):
+            self.send(message)
+
+    def put(self, square, piece):
+        self.squares[square] = piece
+        self.board.change(square, piece)
+        for message in self.board.messages():
+            self.send(message)
+
+    def move(self, start, end):
+        piece = self.squares[start]
+        if self.squares[end] != ".":
+            self.put(end, ".")
+            time.sleep(0.1)
+        self.put(start, ".")
+        time.sleep(0.1)
+        self.put(end, piece)
+
+    def unplug(self):
+        self.port.unplug()
+        self.board.line_lost()
+
+    def obey(self, what, *rest):
+        match [what, *rest]:
+            case ["turn"]:
+                for square, piece in zip(self.squares, reversed(START)):
+                    self.put(square, piece)
+            case ["raw", text]:
+                self.port.write(bytes.fromhex(text))
+            case ["gone"]:
+                self.unplug()
+            case ["half"]:
+                self.is_cut = True
+            case ["back"]:
+                self.port.plug()
+            case ["mute"]:
+                self.is_mute = True
+            case [square, piece]:
+                self.put(square, piece)
+            case [move]:
+                self.move(move[:2], move[2:])
+
+
+def main():
+    port = Port(sys.argv[1])
+    hands, waiting = Hands(port), b""
+    port.plug()
+    print("ready", flush=True)
+    while True:
+        ready = select.select([0] if port.end is None else [0, port.end], [], [])[0]
+        if port.end in ready:
+            hands.hear()
+        if 0 in ready:
+            data = os.read(0, 4096)
+            *steps, waiting = (waiting + data).split(b"\n")
+            for step in steps:
+                if step == b"quit":
+                    return port.unplug()
+                if step:
+                    hands.obey(*step.decode().split())
+            if not data:
+                return port.unplug()
+
+
+if __name__ == "__main__":
+    main()

@@ -1,0 +1,273 @@
+/* libdgtnix.so: the nine names that eboard looks for. README.md has what eboard does with them.
+ *
+ * One thread reads the board, and writes to a pipe what eboard reads. All names are called by one
+ * thread of the program. Between the two threads stand a lock for what GetBoard shows, and the
+ * start and the end of the thread for all else.
+ */
+#define _GNU_SOURCE
+#include "line.h"
+#include "moves.h"
+
+#include <errno.h>
+#include <fcntl.h>
+#include <poll.h>
+#include <pthread.h>
+#include <signal.h>
+#include <stdio.h>
+#include <stdlib.h>
+#include <string.h>
+#include <sys/eventfd.h>
+#include <unistd.h>
+
+#define PUBLIC __attribute__((visibility("default")))
+
+enum { SERIAL_TEXT = 0x1f00, BUS_ADDRESS_TEXT, VERSION_TEXT, TRADEMARK_TEXT, DRIVER_TEXT };
+
+enum {
+    CLICK = 1,         /* the event "a piece was lifted", which eboard takes for a click */
+    SETTLE = 300,      /* for how long a move rests before it is told */
+    BOARD_WAIT = 3000, /* for all squares, at the start */
+    TEXTS_WAIT = 700   /* for the texts, which a board needn't have */
+};
+
+PUBLIC int dgtnix_errno = 0;
+PUBLIC const char *dgtnixQueryString(int which);
+PUBLIC int dgtnixSetOption(unsigned long option, unsigned value);
+PUBLIC int dgtnixInit(const char *port);
+PUBLIC int dgtnixClose(void);
+PUBLIC const char *dgtnixGetBoard(void);
+PUBLIC const char *dgtnixToPrintableBoard(const char *squares);
+PUBLIC int dgtnixTestBoard(const char *squares);
+PUBLIC int dgtnixGetClockData(void);
+
+static bool running;
+static pthread_t reader;
+static int events[2] = {-1, -1}; /* a pipe: eboard reads [0] */
+static int stop = -1;            /* readable once the thread is to end */
+
+static char serial[8], version[16], trademark[128]; /* set before the thread starts */
+
+/* The reader's own, while it runs. */
+static line board;
+static game followed;
+static bool begun;
+static enum { BY_THE_BOARD, PLAYS_WHITE, PLAYS_BLACK, PLAYS_BOTH } plays;
+static int settle;
+
+static pthread_mutex_t lock = PTHREAD_MUTEX_INITIALIZER;
+static char shown[65]; /* under the lock: what stands on the board, as GetBoard tells it */
+
+/* ---- What eboard is told */
+
+/* The side that eboard's player has. Where nobody has said it, it is the one that has the board's
+ * own first rank before it. */
+static enum side player(void) {
+    if (plays == PLAYS_WHITE) return WHITE;
+    if (plays == PLAYS_BLACK) return BLACK;
+    return followed.turned ? BLACK : WHITE;
+}
+
+/* eboard takes each event for a click on its window's board, which it has turned where the player
+ * has Black; but it thinks that the squares come from a board that is turned, too. */
+static void set_click(uint8_t event[4], uint8_t square, uint8_t piece) {
+    if (player() == BLACK) square = (uint8_t)(63 - square);
+    event[0] = CLICK;
+    event[1] = (uint8_t)('A' + square % 8);
+    event[2] = (uint8_t)(8 - square / 8);
+    event[3] = (uint8_t)dgt_piece_letter(piece);
+}
+
+/* Two clicks are a move. They go in one write, which the pipe takes whole or not at all. */
+static void tell(const move *made) {
+    uint8_t clicks[8];
+    if (plays != PLAYS_BOTH && side_of(made->piece) != player()) return;
+    set_click(clicks, made->from, made->piece);
+    set_click(clicks + 4, made->to, made->becomes);
+    ssize_t written = write(events[1], clicks, sizeof clicks);
+    (void)written;
+}
+
+static void see(const uint8_t pieces[64]) {
+    move made;
+    pthread_mutex_lock(&lock);
+    for (int square = 0; square < 64; square++)
+        shown[square] = pieces[square] ? dgt_piece_letter(pieces[square]) : ' ';
+    pthread_mutex_unlock(&lock);
+    if (!begun) game_begin(&followed, pieces, settle);
+    else if (game_see(&followed, pieces, line_now(), &made)) tell(&made);
+    begun = true;
+}
+
+/* ---- The thread */
+
+/* For how long nothing is to be done but read, or -1 for ever. */
+static int spare_time(void) {
+    long long until = board.sure ? followed.due : board.again, left = until - line_now();
+    if (until == 0) return -1;
+    return left < 0 ? 0 : (int)left;
+}
+
+static void *read_board(void *unused) {
+    for (;;) {
+        struct pollfd waits[2] = {{stop, POLLIN, 0}, {board.port, POLLIN, 0}};
+        poll(waits, board.port < 0 ? 1 : 2, spare_time());
+        if (waits[0].revents) return unused;
+        if (board.port >= 0 && waits[1].revents) line_read(&board, see);
+        move made;
+        if (!board.sure) game_hold(&followed);
+        else if (game_wait(&followed, line_now(), &made)) tell(&made);
+        line_keep(&board);
+    }
+}
+
+/* The program's signals stay with its own thread. */
+static bool start_reader(void) {
+    sigset_t all, kept;
+    sigfillset(&all);
+    pthread_sigmask(SIG_BLOCK, &all, &kept);
+    errno = pthread_create(&reader, NULL, read_board, NULL);
+    running = errno == 0;
+    pthread_sigmask(SIG_SETMASK, &kept, NULL);
+    return running;
+}
+
+/* ---- Start and end */
+
+static void read_settings(void) {
+    const char *side = getenv("DGT_SIDE"), *wait = getenv("DGT_SETTLE");
+    plays = BY_THE_BOARD;
+    if (side && strcmp(side, "white") == 0) plays = PLAYS_WHITE;
+    if (side && strcmp(side, "black") == 0) plays = PLAYS_BLACK;
+    if (side && strcmp(side, "both") == 0) plays = PLAYS_BOTH;
+    settle = wait ? atoi(wait) : 0;
+    if (settle <= 0 || settle > 60000) settle = SETTLE;
+}
+
+/* Reads the board until it has told all squares, or so many texts. False, with the reason in errno,
+ * where it doesn't in time. */
+static bool hear_for(int milliseconds, int texts) {
+    long long end = line_now() + milliseconds;
+    while (texts > 0 ? board.texts < texts : !board.sure) {
+        long long left = end - line_now();
+        struct pollfd waits = {board.port, POLLIN, 0};
+        errno = board.port < 0 ? ENODEV : ETIMEDOUT;
+        if (board.port < 0 || left <= 0) return false;
+        int wait = left < 50 ? (int)left : 50; /* so that it is asked again in time */
+        if (poll(&waits, 1, wait) > 0) line_read(&board, see);
+        if (board.port >= 0) line_keep(&board);
+    }
+    return true;
+}
+
+static void close_all(void) {
+    int *descriptors[] = {&events[0], &events[1], &stop};
+    for (int each = 0; each < 3; each++) {
+        if (*descriptors[each] >= 0) close(*descriptors[each]);
+        *descriptors[each] = -1;
+    }
+    line_close(&board);
+}
+
+/* The descriptors stay in this process, and the thread never waits for eboard to read. */
+static bool open_pipe(void) {
+    if (pipe2(events, O_CLOEXEC) != 0) return false;
+    if (fcntl(events[1], F_SETFL, O_NONBLOCK) != 0) return false;
+    stop = eventfd(0, EFD_CLOEXEC);
+    return stop >= 0;
+}
+
+static bool start(const char *port) {
+    static char name[4096];
+    if (strlen(port) >= sizeof name) {
+        errno = ENAMETOOLONG;
+        return false;
+    }
+    strcpy(name, port);
+    begun = false;
+    read_settings();
+    if (!line_open(&board, name) || !hear_for(BOARD_WAIT, 0)) return false;
+    line_ask_texts(&board);
+    hear_for(TEXTS_WAIT, 3);
+    memcpy(serial, board.serial, sizeof serial);
+    memcpy(version, board.version, sizeof version);
+    memcpy(trademark, board.trademark, sizeof trademark);
+    return open_pipe() && start_reader();
+}
+
+/* Answers the descriptor to read, or -1 with the reason in dgtnix_errno. */
+PUBLIC int dgtnixInit(const char *port) {
+    if (running || !port) {
+        dgtnix_errno = running ? EBUSY : EINVAL;
+        return -1;
+    }
+    if (start(port)) return events[0];
+    dgtnix_errno = errno;
+    close_all();
+    return -1;
+}
+
+/* eboard unloads the library right after this: the thread has ended, and no descriptor is left. */
+PUBLIC int dgtnixClose(void) {
+    const uint64_t one = 1;
+    if (!running) return 0;
+    if (write(stop, &one, sizeof one) != sizeof one) return -1;
+    pthread_join(reader, NULL);
+    running = false;
+    close_all();
+    return 0;
+}
+
+/* ---- What eboard asks */
+
+/* The driver's version must be 1.8137 at least, as the user's locale reads it: it has no mark
+ * between whole and parts, which is a comma in many languages. */
+PUBLIC const char *dgtnixQueryString(int which) {
+    switch (which) {
+    case SERIAL_TEXT: return serial;
+    case BUS_ADDRESS_TEXT: return "none";
+    case VERSION_TEXT: return version;
+    case TRADEMARK_TEXT: return trademark;
+    case DRIVER_TEXT: return "2";
+    default: return "";
+    }
+}
+
+/* 64 squares from a8 to h1, with a blank where nothing stands, and a zero. */
+PUBLIC const char *dgtnixGetBoard(void) {
+    static char copy[65];
+    pthread_mutex_lock(&lock);
+    memcpy(copy, shown, sizeof copy);
+    pthread_mutex_unlock(&lock);
+    return copy;
+}
+
+/* A line for each rank: 128 characters, of which eboard prints at most 249. */
+PUBLIC const char *dgtnixToPrintableBoard(const char *squares) {
+    static char text[2 * 64 + 1];
+    for (int square = 0; square < 64; square++) {
+        text[2 * square] = squares[square] == ' ' ? '.' : squares[square];
+        text[2 * square + 1] = square % 8 == 7 ? '\n' : ' ';
+    }
+    return text;
+}
+
+/* 1 where the same stands on the board, which may be turned. The 64 squares have no zero behind. */
+PUBLIC int dgtnixTestBoard(const char *squares) {
+    const char *stands = dgtnixGetBoard();
+    bool upright = true, turned = true;
+    for (int square = 0; square < 64; square++) {
+        upright = upright && stands[square] == squares[square];
+        turned = turned && stands[63 - square] == squares[square];
+    }
+    return upright || turned;
+}
+
+/* eboard looks for this name, and never calls it. */
+PUBLIC int dgtnixGetClockData(void) { return 0; }
+
+/* eboard asks for messages for a developer; there are none. */
+PUBLIC int dgtnixSetOption(unsigned long option, unsigned value) {
+    (void)option;
+    (void)value;
+    return 0;
+}

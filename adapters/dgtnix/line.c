@@ -1,0 +1,187 @@
+#define _GNU_SOURCE
+#include "line.h"
+
+#include <errno.h>
+#include <fcntl.h>
+#include <poll.h>
+#include <stdio.h>
+#include <string.h>
+#include <termios.h>
+#include <time.h>
+#include <unistd.h>
+
+enum {
+    SHORTLY = 100, /* after a fault: what came with it is read first */
+    AGAIN = 1000,  /* between two questions, and between two looks for the port */
+    PATIENCE = 500 /* with a port that takes no bytes */
+};
+
+long long line_now(void) {
+    struct timespec time;
+    clock_gettime(CLOCK_MONOTONIC, &time);
+    return time.tv_sec * 1000LL + time.tv_nsec / 1000000;
+}
+
+/* ---- The port */
+
+/* 9600 bits a second, eight bits, no parity, one stop bit, and no byte changed on its way. */
+static bool set_up(int port) {
+    struct termios settings;
+    if (tcgetattr(port, &settings) != 0) return false;
+    cfmakeraw(&settings);
+    settings.c_cflag |= CLOCAL | CREAD;
+    settings.c_cflag &= ~(tcflag_t)(CSTOPB | CRTSCTS);
+    cfsetispeed(&settings, B9600);
+    cfsetospeed(&settings, B9600);
+    return tcsetattr(port, TCSANOW, &settings) == 0;
+}
+
+/* Programs that eboard starts, as an engine, must not have the port too: O_CLOEXEC. */
+static int open_port(const char *name) {
+    int port = open(name, O_RDWR | O_NOCTTY | O_NONBLOCK | O_CLOEXEC);
+    if (port < 0) return -1;
+    if (set_up(port)) {
+        tcflush(port, TCIOFLUSH);
+        return port;
+    }
+    int kept = errno;
+    close(port);
+    errno = kept;
+    return -1;
+}
+
+static bool write_all(int port, const uint8_t *bytes, size_t n) {
+    long long end = line_now() + PATIENCE;
+    while (n > 0) {
+        ssize_t wrote = write(port, bytes, n);
+        if (wrote > 0) {
+            bytes += wrote;
+            n -= (size_t)wrote;
+        } else if (wrote < 0 && errno != EAGAIN && errno != EINTR) {
+            return false;
+        } else {
+            struct pollfd waits = {port, POLLOUT, 0};
+            long long left = end - line_now();
+            if (left <= 0 || poll(&waits, 1, (int)left) < 0) return false;
+        }
+    }
+    return true;
+}
+
+/* The port is gone, and with it what was under way. It is looked for from now on. */
+static void lose(line *line) {
+    line_close(line);
+    dgt_host_line_lost(&line->host);
+    line->sure = false;
+    line->again = line_now() + AGAIN;
+}
+
+/* ---- What is asked */
+
+static void ask_all(line *line) {
+    uint8_t out[DGT_RESTART_LENGTH];
+    dgt_sent sent = dgt_host_restart(&line->host, out, sizeof out);
+    if (sent.status == DGT_TOO_MANY) { /* it has never answered */
+        dgt_host_line_lost(&line->host);
+        sent = dgt_host_restart(&line->host, out, sizeof out);
+    }
+    line->sure = false;
+    line->again = line_now() + AGAIN;
+    if (!write_all(line->port, out, sent.bytes)) lose(line);
+}
+
+void line_ask_texts(line *line) {
+    static const uint8_t codes[] = {DGT_SEND_SERIAL, DGT_SEND_TRADEMARK, DGT_SEND_VERSION};
+    for (size_t each = 0; each < sizeof codes && line->port >= 0; each++) {
+        uint8_t out[1];
+        dgt_sent sent = dgt_host_send(&line->host, codes[each], out, sizeof out);
+        if (sent.status == DGT_SENT && !write_all(line->port, out, sent.bytes)) lose(line);
+    }
+}
+
+bool line_open(line *line, const char *name) {
+    *line = (struct line){.name = name, .port = -1, .serial = "unknown", .version = "unknown",
+                          .trademark = "unknown"};
+    if (!dgt_host_new(&line->host)) {
+        errno = ELIBBAD;
+        return false;
+    }
+    line->port = open_port(name);
+    if (line->port < 0) return false;
+    ask_all(line);
+    return true;
+}
+
+void line_keep(line *line) {
+    if (line->sure || line_now() < line->again) return;
+    if (line->port < 0) line->port = open_port(line->name);
+    if (line->port >= 0) ask_all(line);
+    else line->again = line_now() + AGAIN;
+}
+
+void line_close(line *line) {
+    if (line->port >= 0) close(line->port);
+    line->port = -1;
+}
+
+/* ---- What is heard */
+
+static void keep_text(char *text, size_t room, const uint8_t *body, size_t length) {
+    size_t at = 0;
+    for (; at < length && at + 1 < room; at++)
+        text[at] = body[at] > ' ' && body[at] < 127 ? (char)body[at] : ' ';
+    text[at] = '\0';
+}
+
+/* The picture has changed: it is shown where it can be trusted. */
+static void show(line *line, seen *seen) {
+    uint8_t pieces[64];
+    if (line->sure && dgt_host_picture(&line->host, pieces)) seen(pieces);
+}
+
+static void hear(line *line, const dgt_event *event, const uint8_t *body, size_t room, seen *seen) {
+    size_t length = event->body_len < room ? event->body_len : room;
+    switch (event->kind) {
+    case DGT_DUMP:
+        line->sure = true;
+        show(line, seen);
+        break;
+    case DGT_FIELD: show(line, seen); break;
+    case DGT_SERIAL:
+        keep_text(line->serial, sizeof line->serial, event->serial, sizeof event->serial);
+        line->texts++;
+        break;
+    case DGT_TRADEMARK:
+        keep_text(line->trademark, sizeof line->trademark, body, length);
+        line->texts++;
+        break;
+    case DGT_VERSION:
+        snprintf(line->version, sizeof line->version, "%d.%d", event->main_number,
+                 event->sub_number);
+        line->texts++;
+        break;
+    case DGT_REFUSED:
+    case DGT_CUT:
+    case DGT_BAD_LENGTH:
+    case DGT_STRAY: /* bytes were lost or spoilt, and a change of a square perhaps with them */
+        if (line->sure) line->again = line_now() + SHORTLY;
+        line->sure = false;
+        break;
+    default: break;
+    }
+}
+
+void line_read(line *line, seen *seen) {
+    uint8_t bytes[256], body[128];
+    dgt_event event;
+    ssize_t got = read(line->port, bytes, sizeof bytes);
+    if (got < 0 && (errno == EAGAIN || errno == EINTR)) return;
+    if (got <= 0) {
+        lose(line);
+        return;
+    }
+    for (size_t at = 0; at < (size_t)got;) {
+        at += dgt_host_hear(&line->host, bytes + at, (size_t)got - at, &event, body, sizeof body);
+        hear(line, &event, body, sizeof body, seen);
+    }
+}

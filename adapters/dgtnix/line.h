@@ -1,0 +1,37 @@
+/* A board on a serial port: asked for all that it shows, and heard. Times are in milliseconds. */
+#ifndef LINE_H
+#define LINE_H
+
+#include "dgt.h"
+
+typedef struct line {
+    const char *name;    /* of the port */
+    int port;            /* its descriptor, or -1 while the port is lost */
+    dgt_host host;       /* hears the bytes */
+    bool sure;           /* nothing was lost or spoilt since all squares were told */
+    long long again;     /* where it isn't: when to ask again, or to look for the port again */
+    int texts;           /* how many of the texts below were told */
+    char serial[8], version[16], trademark[128];
+} line;
+
+/* Called with all squares, each time that they have changed or were all told. */
+typedef void seen(const uint8_t pieces[64]);
+
+long long line_now(void);
+
+/* Opens the port, and asks the board for all its squares and for each change. False, with the
+ * reason in errno, where the port can't be opened. */
+bool line_open(line *line, const char *name);
+
+/* Reads what has come, and calls `seen` where the board is known by it. */
+void line_read(line *line, seen *seen);
+
+/* Asks again, or looks for the port again, where it is time for that. */
+void line_keep(line *line);
+
+/* Asks for the serial number, the version and the trademark. */
+void line_ask_texts(line *line);
+
+void line_close(line *line);
+
+#endif

@@ -1,0 +1,225 @@
+/* What hands do on a board, and the moves that are told of it.
+ *
+ * A hand's steps: `e2.` takes what stands on e2 off, `e4P` puts a white pawn on e4 (p would be a
+ * black one), and a number lets so many milliseconds pass. `e2e4` is a whole move: a piece on e4 is
+ * taken off first, and it rests behind it. Between two steps pass 60 ms; a move is told when it has
+ * rested for 300. Squares are the board's own, and the moves that are told are the game's.
+ */
+#include "moves.h"
+
+#include <stdio.h>
+#include <stdlib.h>
+#include <string.h>
+
+static const char LETTERS[] = ".PRNBKQprnbkq";
+static const char START[] = "rnbqkbnrpppppppp................................PPPPPPPPRNBQKBNR";
+
+#define ITALIAN "e2e4 e7e5 g1f3 b8c6 f1c4 f8c5 "
+#define QUEEN_IN_CORNER \
+    "h2h4 a7a6 h1h3 a6a5 g2g3 a5a4 f1g2 b7b6 g2d5 b6b5 e2e3 b5b4 d1e2 h7h6 e2f1 h6h5 " \
+    "f1g2 g7g6 g2h1 d7d6 g1f3 c7c6 "
+#define PASSING "e2e4 a7a6 e4e5 d7d5 "
+#define SEVENTH "h2h4 g7g5 h4g5 h7h6 g5h6 a7a6 h6h7 a6a5 "
+
+static const struct test_case {
+    const char *name, *steps, *told;
+} CASES[] = {
+    {"a quiet move", "e2. e4P", "e2e4"},
+    {"it is not told before it rests", "e2. e4P 200 e4. e2P", ""},
+    {"slid over squares", "e2. e3P e3. e4P", "e2e4"},
+    {"slid over squares, slowly", "d2d4 a7a6 d1. d2Q 200 d2. d3Q", "d2d4 a7a6 d1d3"},
+    {"no piece goes so", "e2. e5P 900 e5. e4P", "e2e4"},
+    {"no piece jumps but a knight", "a1. a3R 900 a3. a1R g1f3", "g1f3"},
+    {"a knight goes round a corner", "g1. g4N 900 g4. g1N e2e4", "e2e4"},
+    {"a pawn goes far only at first", "e2e3 a7a6 e3. e5P 900 e5. e3P d2d4", "e2e3 a7a6 d2d4"},
+
+    {"adjusted", "e2. 900 e2P", ""},
+    {"two adjusted at once", "e2. d2. 900 e2P d2P", ""},
+    {"another adjusted, before the move rests", "e2. e4P g1. g1N", "e2e4"},
+    {"not while another is off", "e2. a7. e4P 900 e4. a7p e2P d2d4", "d2d4"},
+    {"knocked over and set right", "e7. d8. 500 d8q e7p e2e4", "e2e4"},
+
+    {"two moves in quick succession", "e2. e4P e7. e5p", "e2e4 e7e5"},
+    {"four of them", "e2. e4P e7. e5p g1. f3N b8. c6n", "e2e4 e7e5 g1f3 b8c6"},
+    {"the own move first, the other side's late", "e2e4 g1f3 900 e7e5 b8c6",
+     "e2e4 e7e5 g1f3 b8c6"},
+    {"castling first, the other side's move late", ITALIAN "d2d3 e1g1 900 f1. h1R 900 h1. f1R d7d6",
+     ITALIAN "d2d3 d7d6 e1g1"},
+    {"moved twice, and put back", "e2e4 d2d4 900 d4d2 e7e5 d2d4", "e2e4 e7e5 d2d4"},
+    {"moved twice, something else late", "e2e4 d2d4 g1f3 900 f3g1 e7e5 e5d4",
+     "e2e4 e7e5 d2d4 e5d4"},
+    {"the same position again", "g1f3 g8f6 f3g1 f6g8 e2e4", "g1f3 g8f6 f3g1 f6g8 e2e4"},
+
+    {"a capture, the taken piece off first", "e2e4 d7d5 d5. e4. d5P", "e2e4 d7d5 e4d5"},
+    {"a capture, the own piece off first", "e2e4 d7d5 e4. d5. d5P", "e2e4 d7d5 e4d5"},
+    {"a capture, the one put over the other", "e2e4 d7d5 e4. d5P", "e2e4 d7d5 e4d5"},
+    {"no pawn takes before itself", "e2e4 e7e5 e5. e4. e5P 900 e5p e4P g1f3", "e2e4 e7e5 g1f3"},
+    {"a pawn takes beside another", "e2e4 a7a6 e4e5 d7d5 a2a3 d8d6 e5d6 e7d6",
+     "e2e4 a7a6 e4e5 d7d5 a2a3 d8d6 e5d6 e7d6"},
+    {"a capture, thought over", "e2e4 d7d5 d5. 5000 e4. 5000 d5P", "e2e4 d7d5 e4d5"},
+    {"nobody takes his own", "d1. d2. d2Q 900 d1Q d2P e2e4", "e2e4"},
+
+    {"castling, the king first", ITALIAN "e1. g1K h1. f1R d7d6",
+     ITALIAN "e1g1 d7d6"},
+    {"castling, the king first, the rook late", ITALIAN "e1. g1K 900 h1. 900 f1R d7d6",
+     ITALIAN "e1g1 d7d6"},
+    {"castling, both in hand", ITALIAN "e1. h1. g1K f1R d7d6", ITALIAN "e1g1 d7d6"},
+    {"castling, both in hand, the rook put first", ITALIAN "h1. e1. f1R g1K d7d6",
+     ITALIAN "e1g1 d7d6"},
+    {"castling, the rook first", ITALIAN "h1. f1R 1500 e1. 1500 g1K d7d6", ITALIAN "e1g1 d7d6"},
+    {"a rook's move that looks like it", ITALIAN "h1. f1R 2100 d7d6", ITALIAN "h1f1 d7d6"},
+    {"the same, and answered at once", ITALIAN "h1. f1R d7. d6p", ITALIAN "h1f1 d7d6"},
+    {"a queen's move is none that looks like it", QUEEN_IN_CORNER "h1. f1Q 400 f1. h1Q",
+     QUEEN_IN_CORNER "h1f1"},
+    {"castling, Black's, long, the king first",
+     "d2d4 d7d5 c1f4 c8f5 e2e3 b8c6 g1f3 d8d7 f1e2 e8. c8k 500 a8. d8r e1g1",
+     "d2d4 d7d5 c1f4 c8f5 e2e3 b8c6 g1f3 d8d7 f1e2 e8c8 e1g1"},
+    {"half castled, and another adjusted", ITALIAN "e1. g1K 900 a2. 900 a2P 900 h1. f1R d7d6",
+     ITALIAN "e1g1 d7d6"},
+    {"a queen doesn't castle",
+     "e2e4 e7e5 e1e2 a7a6 d1e1 a6a5 e2d1 a5a4 f1e2 b7b6 g1f3 b6b5 e1g1 b5b4",
+     "e2e4 e7e5 e1e2 a7a6 d1e1 a6a5 e2d1 a5a4 f1e2 b7b6 g1f3 b6b5 e1g1 b5b4"},
+    {"no castling over a piece", "e1. g1. g1K 900 g1. e1K g1N e2e4", "e2e4"},
+
+    {"in passing, the taken pawn off last", PASSING "e5. d6P d5. g8f6", PASSING "e5d6 g8f6"},
+    {"in passing, the taken pawn off late", PASSING "e5. d6P 900 d5. 900 g8f6",
+     PASSING "e5d6 g8f6"},
+    {"in passing, the taken pawn off first", PASSING "d5. e5. d6P g8f6", PASSING "e5d6 g8f6"},
+    {"in passing, both in hand", PASSING "e5. d5. d6P g8f6", PASSING "e5d6 g8f6"},
+    {"in passing, in no other rank",
+     "e2e3 d7d5 a2a3 d5d4 e3e4 a7a6 d4. e4. d5P 900 d5. e4P d4p g1f3",
+     "e2e3 d7d5 a2a3 d5d4 e3e4 a7a6 g1f3"},
+    {"in passing, Black's", "h2h3 d7d5 h3h4 d5d4 e2e4 d4. e3p e4. a2a3",
+     "h2h3 d7d5 h3h4 d5d4 e2e4 d4e3 a2a3"},
+
+    {"promotion", SEVENTH "g8. h7. g8Q b7b6", SEVENTH "h7g8Q b7b6"},
+    {"promotion to a knight", SEVENTH "h7. g8. g8N b7b6", SEVENTH "h7g8N b7b6"},
+    {"promotion, the pawn put there first", SEVENTH "g8. h7. g8P g8. g8Q b7b6",
+     SEVENTH "h7g8Q b7b6"},
+    {"promotion, the pawn left there", SEVENTH "g8. h7. g8P 900 g8. 900 g8Q b7b6",
+     SEVENTH "h7g8 b7b6"},
+    {"no promotion before the last rank", "e2. e4Q 900 e4. e2P d2d4", "d2d4"},
+    {"no piece but a pawn is promoted", "g1. f3B 900 f3. f3N", "g1f3"},
+
+    {"taken back", "e2e4 e4e2 d2d4", "e2e4 d2d4"},
+    {"taken back and made again", "e2e4 e4e2 e2e4 e7e5", "e2e4 e2e4 e7e5"},
+    {"two moves taken back", "e2e4 e7e5 e5e7 e4e2 d2d4", "e2e4 e7e5 d2d4"},
+    {"two moves taken back at once", "e2e4 e7e5 g1f3 b8c6 c6. f3. g1N b8n d2d4",
+     "e2e4 e7e5 g1f3 b8c6 d2d4"},
+    {"a capture taken back", "e2e4 d7d5 e4d5 d5. e4P 900 d5p e4e5", "e2e4 d7d5 e4d5 e4e5"},
+    {"a capture taken back, the taken one first", "e2e4 d7d5 e4d5 d5p 900 e4P e4e5",
+     "e2e4 d7d5 e4d5 e4e5"},
+    {"castling taken back", ITALIAN "e1. g1K h1. f1R 900 g1. e1K 900 f1. h1R d2d3",
+     ITALIAN "e1g1 d2d3"},
+    {"castling taken back, the rook first", ITALIAN "e1. g1K h1. f1R 900 f1. h1R 900 g1. e1K d2d3",
+     ITALIAN "e1g1 d2d3"},
+    {"half castling taken back", ITALIAN "e1. g1K 900 g1. e1K d2d3", ITALIAN "e1g1 d2d3"},
+    {"a promotion taken back", SEVENTH "g8. h7. g8Q 900 g8. 900 h7P 900 g8n 900 h7. g8. g8R b7b6",
+     SEVENTH "h7g8Q h7g8R b7b6"},
+    {"put elsewhere after all, and answered", "e2e3 e3. e4P 900 e7e5 900 e4. e3P d2d4",
+     "e2e3 e7e5 d2d4"},
+    {"put elsewhere after all", "e2e3 e3. e4P 900 e4. e3P e7e5", "e2e3 e7e5"},
+
+    {"set up again, piece by piece", "e2e4 e7e5 g1f3 f3g1 e4e2 e5e7 d2d4", "e2e4 e7e5 g1f3 d2d4"},
+    {"set up again, a piece that goes home by a move", "e2e4 g8f6 e4. e2P 900 f6g8 d2d4",
+     "e2e4 g8f6 d2d4"},
+    {"set up again, from a heap", SEVENTH "h8. g8. h7. a5. h8r g8n 900 h7p a7p 900 g7p h2P d2d4",
+     SEVENTH "d2d4"},
+    {"set up anew, the kings last",
+     "e2e4 e1. e8. e4. d8. d1. a8. 1500 e3P 1500 g3K g6k 1100 e3e4 g6g5", "e2e4 e3e4 g6g5"},
+    {"a king's move, with the other king adjusted", "e2e4 e7e5 e1. e8. e8k e2K", "e2e4 e7e5 e1e2"},
+    {"both kings adjusted", "e1. e8. 1500 e1K e8k e2e4", "e2e4"},
+
+    {"a turned board", "turned d7d5 d2d4 turned", "e2e4 e7e5"},
+    {"turned between two games", "e2e4 turned d7d5", "e2e4 e2e4"},
+    {"a castling on a turned board",
+     "turned d7d5 d2d4 b8c6 g1f3 c8f5 c1f4 d8. b8K 900 a8. c8R e2e3", ITALIAN "e1g1 d7d6"},
+    {"what is nobody's", "e2. e4X 900 e4. e2P d2d4", "d2d4"},
+};
+
+static game followed;
+static uint8_t squares[64];
+static long long now;
+static char told[512];
+
+static void tell(const move *made) {
+    const uint8_t ends[2] = {made->from, made->to};
+    char text[8] = "", *end = text;
+    if (told[0] != '\0') *end++ = ' ';
+    for (int each = 0; each < 2; each++) {
+        *end++ = (char)('a' + ends[each] % 8);
+        *end++ = (char)('8' - ends[each] / 8);
+    }
+    if (made->becomes != made->piece) *end++ = LETTERS[made->becomes];
+    strcat(told, text);
+}
+
+static void pass(int milliseconds) {
+    move made;
+    for (; milliseconds > 0; milliseconds -= 10) {
+        now += 10;
+        if (game_wait(&followed, now, &made)) tell(&made);
+    }
+}
+
+static uint8_t square_of(const char *name) {
+    return (uint8_t)(8 * ('8' - name[1]) + name[0] - 'a');
+}
+
+static void put(uint8_t square, uint8_t piece) {
+    move made;
+    squares[square] = piece;
+    if (game_see(&followed, squares, now, &made)) tell(&made);
+    pass(60);
+}
+
+static uint8_t piece_of(char letter) {
+    const char *at = strchr(LETTERS, letter);
+    return at ? (uint8_t)(at - LETTERS) : 13;
+}
+
+/* The board is turned by its owner, with the pieces in the position in which a game begins. */
+static void set_up_turned(void) {
+    move made;
+    for (int square = 0; square < 64; square++) squares[square] = piece_of(START[63 - square]);
+    if (game_see(&followed, squares, now, &made)) tell(&made);
+    pass(400);
+}
+
+static void make(const char *step) {
+    size_t length = strlen(step);
+    if (strcmp(step, "turned") == 0) {
+        set_up_turned();
+    } else if (step[0] >= '0' && step[0] <= '9') {
+        pass(atoi(step));
+    } else if (length == 3) {
+        put(square_of(step), piece_of(step[2]));
+    } else {
+        uint8_t from = square_of(step), to = square_of(step + 2), piece = squares[from];
+        if (squares[to] != 0) put(to, 0);
+        put(from, 0);
+        put(to, piece);
+        pass(400);
+    }
+}
+
+static bool passes(const struct test_case *tried) {
+    char steps[256];
+    now = 1000;
+    told[0] = '\0';
+    for (int square = 0; square < 64; square++) squares[square] = piece_of(START[square]);
+    game_begin(&followed, squares, 300);
+    snprintf(steps, sizeof steps, "%s", tried->steps);
+    for (char *step = strtok(steps, " "); step; step = strtok(NULL, " ")) make(step);
+    pass(2500);
+    if (strcmp(told, tried->told) == 0) return true;
+    printf("%s: told '%s' in place of '%s'\n", tried->name, told, tried->told);
+    return false;
+}
+
+int main(void) {
+    size_t all = sizeof CASES / sizeof *CASES, wrong = 0;
+    for (size_t index = 0; index < all; index++) wrong += !passes(&CASES[index]);
+    printf("test_moves: %zu cases, %zu wrong\n", all, wrong);
+    return wrong != 0;
+}

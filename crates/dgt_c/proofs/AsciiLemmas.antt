@@ -1,0 +1,91 @@
+-- Placements are ASCII, so that a text is none from its first other byte on.
+use Rattle.std.proofs.Common.{◌≡◌, ℕ, ◌+◌, ◌<◌, ◌≤◌, List, [], ◌∷◌, ◌++◌, length, take, lit<, arith, inl, inr}
+use Rattle.std.proofs.lemmas.Bool.{cases_lt}
+use Rattle.std.proofs.lemmas.List.{append-nil, get_or-take, get_or_append_left, get_or_past, length-take, length-take-le, take-take, take_all}
+use Rattle.std.proofs.lemmas.Str.{IsAscii-append}
+use Rattle.std.proofs.lemmas.Str.Ascii.{IsAscii-cons, IsAscii-nil}
+use Rattle.std.specs.List.{join_with_byte}
+use Rattle.std.specs.Prelude.{slice_index}
+use Rattle.std.specs.Str.{IsAscii}
+use Rattle.dgt_values.specs.declared.pieces.Piece.{Piece}
+use Rattle.dgt_values.specs.declared.pieces.Piece.TheVariants.{Empty}
+use Rattle.dgt_values.specs.Board.{piece_letter}
+use Rattle.dgt_values.specs.Placement.{AreRanks, BeginsPlacement, IsFirstBadOffset, IsPlacement, IsRank, MeansSquares}
+
+letter-ascii : (piece : Piece) → piece_letter piece < 128
+letter-ascii Empty = lit< tt
+letter-ascii _ = lit< tt
+
+byte-ascii : (byte : ℕ) (squares : List Piece) → MeansSquares byte squares → byte < 128
+byte-ascii byte squares (inl run) = omega (arith, run.digit, run.at_most_eight)
+byte-ascii byte squares (inr letter) = rw letter.letter (letter-ascii letter.piece)
+
+rank-ascii : (rank : List ℕ) (squares : List Piece) → IsRank rank squares → IsAscii rank
+rank-ascii [] squares h = IsAscii-nil
+rank-ascii (byte ∷ bytes) squares (first, rest, means, is_rank, same) =
+    IsAscii-cons byte bytes (byte-ascii byte first means) (rank-ascii bytes rest is_rank)
+
+ranks-ascii : (ranks : List (List ℕ)) (pieces : List Piece) → AreRanks ranks pieces → IsAscii (join_with_byte 47 ranks)
+ranks-ascii [] pieces h = IsAscii-nil
+ranks-ascii (rank ∷ []) pieces (squares, rest, eight, is_rank, others, same) = rank-ascii rank squares is_rank
+ranks-ascii (rank ∷ next ∷ ranks) pieces (squares, rest, eight, is_rank, others, same) =
+    let behind = ranks-ascii (next ∷ ranks) rest others in
+    IsAscii-append rank (47 ∷ join_with_byte 47 (next ∷ ranks)) (rank-ascii rank squares is_rank)
+    (IsAscii-cons 47 (join_with_byte 47 (next ∷ ranks)) (lit< tt) behind)
+
+placement-ascii : (text : List ℕ) (pieces : List Piece) → IsPlacement text pieces → IsAscii text
+placement-ascii text pieces h = rw h.joined (ranks-ascii h.ranks pieces h.each)
+
+-- bytes up to the first that is no ASCII
+pub ascii_front : (text : List ℕ) (end : ℕ) → end ≤ length text
+    → ((k : ℕ) → k < end → slice_index text k < 128) → IsAscii (take end text)
+ascii_front text end h low = λ i. elim (cases_lt i end) [
+  | inl within ↦ rw (get_or-take end text i 0 within) (low i within)
+  | inr behind ↦
+      let past : length (take end text) ≤ i = rw (length-take-le end text h) behind in
+      rw (get_or_past (take end text) i 0 past) (lit< tt)
+]
+
+-- no placement begins with bytes up to one that is no ASCII
+no_longer : (text : List ℕ) (at : ℕ) → at < length text → 128 ≤ slice_index text at
+    → ¬ (BeginsPlacement (take (at + 1) text))
+no_longer text at h top (more, pieces, placed) =
+    let low = placement-ascii (take (at + 1) text ++ more) pieces placed at in
+    let long : at < length (take (at + 1) text) = omega (arith, length-take (at + 1) text) in
+    let front = get_or_append_left (take (at + 1) text) more 0 at long in
+    let same = get_or-take (at + 1) text at 0 (omega arith) in
+    let below : slice_index text at < 128 = rw (front, same) at low in
+    absurd (omega (arith, below, top))
+
+-- a placement and then a byte that is no ASCII
+pub bad_behind : (text : List ℕ) (end : ℕ) (pieces : List Piece) → end < length text → 128 ≤ slice_index text end
+    → IsPlacement (take end text) pieces → IsFirstBadOffset text end
+bad_behind text end pieces h top placed = record {
+  within = omega (arith, h);
+  begins = ([], pieces, rw (append-nil (take end text)) placed);
+  no_longer = λ within. no_longer text end h top;
+  too_short = λ same. absurd (omega (arith, h, same));
+}
+
+-- what is bad up to a byte that is no ASCII, or up to the end, is so in the whole
+pub bad_in_front : (text : List ℕ) (end at : ℕ) → end ≤ length text
+    → (end < length text → 128 ≤ slice_index text end) → IsFirstBadOffset (take end text) at → IsFirstBadOffset text at
+bad_in_front text end at h top bad =
+    let long : length (take end text) ≡ end = length-take-le end text h in
+    let within : at ≤ end = omega (arith, bad.within, long) in
+    record {
+      within = omega (arith, within, h);
+      begins = rw (take-take at end text within) at bad.begins;
+      no_longer = λ shorter. elim (cases_lt at end) [
+        | inl inside ↦
+            let first : at < length (take end text) = omega (arith, inside, long) in
+            rw (take-take (at + 1) end text (omega (arith, inside))) at (bad.no_longer first)
+        | inr behind ↦
+            let same : at ≡ end = omega (arith, behind, within) in
+            no_longer text at shorter (rw same (top (omega (arith, same, shorter))))
+      ];
+      too_short = λ all.
+          let whole : take end text ≡ text = take_all end text (omega (arith, all, within)) in
+          let last : at ≡ length (take end text) = omega (arith, all, within, h, long) in
+          rw whole at (bad.too_short last);
+    }

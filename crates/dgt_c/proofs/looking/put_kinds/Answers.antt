@@ -1,0 +1,12 @@
+use Rattle.std.proofs.Common.{arith, ◌<◌, length}
+use Rattle.dgt_values.specs.declared.kinds.Kind.TheVariants.{Dump}
+use Rattle.dgt_c.specs.Kinds.{asking_code}
+use Rattle.dgt_c.proofs.Codes.{one_more_in_front}
+use Rattle.dgt_c.proofs.looking.put_kinds.Goals as goal
+
+pub loop-index-preserved : goal.loop-index-preserved
+loop-index-preserved c =
+    let within : c.loop-index.index < length c.args.kinds.now = omega arith in
+    let room : c.loop-index.index < length c.args.codes.now = omega arith in
+    rw (c.asking_code.ensures, c.loop-index.invariant)
+    (one_more_in_front asking_code _ _ _ Dump within room)

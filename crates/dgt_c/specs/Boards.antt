@@ -1,0 +1,43 @@
+-- What C is told of a board.
+use Rattle.std.specs.Prelude.{◌≡◌, ℕ, List, take, Option, None, true, false}
+use Rattle.dgt_command.specs.Content.{EventContent}
+use Rattle.dgt_board.specs.declared.modes.Mode.{Mode}
+use Rattle.dgt_board.specs.declared.sending.Polled.{Polled}
+use Rattle.dgt_board.specs.Sending.{next_message}
+use Rattle.dgt_board.specs.View.{BoardView, HasTaken, Polls, after_bytes}
+use Rattle.dgt_c.specs.Commands.{CommandTelling, TellsCommand}
+use Rattle.dgt_c.specs.Reading.{ReadsWord}
+use Rattle.dgt_c.specs.declared.board_calls.DgtPolled.{DgtPolled}
+use Rattle.dgt_c.specs.declared.board_calls.DgtTaken.{DgtTaken}
+use Rattle.dgt_c.specs.declared.board_calls.TheConstants.{POLLED_NEED_ROOM, POLLED_NOTHING, POLLED_WROTE}
+
+abbrev pub mode_number : Mode → ℕ
+mode_number Mode.Idle = 0
+mode_number Mode.Update = 1
+mode_number Mode.UpdateBoard = 2
+mode_number Mode.UpdateNice = 3
+
+-- The board used so many bytes, up to and including the first that completes a word, or all of
+-- them, and the word is told.
+abbrev pub TakesBytes : BoardView → List ℕ → ℕ → CommandTelling → BoardView → Type 0
+TakesBytes before piece used told after =
+    (event : Option EventContent) × ReadsWord before.partial piece used event
+    × TellsCommand event told × (after ≡ after_bytes before (take used piece) event)
+    × HasTaken before (take used piece) after
+
+-- It did so, or was busy, and then nothing is told or changes.
+abbrev pub Takes : BoardView → List ℕ → DgtTaken → CommandTelling → BoardView → Type 0
+Takes before piece taken told after =
+    (taken.busy ≡ false → TakesBytes before piece taken.used told after)
+    × (taken.busy ≡ true → (taken.used ≡ 0) × TellsCommand None told × (after ≡ before))
+
+abbrev pub polled_told : Polled → DgtPolled
+polled_told Polled.Nothing = record { status = POLLED_NOTHING; bytes = 0 }
+polled_told (Polled.Wrote bytes) = record { status = POLLED_WROTE; bytes = bytes }
+polled_told (Polled.NeedRoom bytes) = record { status = POLLED_NEED_ROOM; bytes = bytes }
+
+-- the struct says what polling answers: the board before and after, the slice before and after
+abbrev pub PollsTold : DgtPolled → BoardView → BoardView → List ℕ → List ℕ → Type 0
+PollsTold told before after old new =
+    (polled : Polled) × Polls polled (next_message before.state) before after old new
+    × (told ≡ polled_told polled)

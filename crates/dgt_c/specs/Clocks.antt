@@ -1,0 +1,56 @@
+-- What C is told of a clock, and tells of one.
+use Rattle.std.specs.Prelude.{◌≡◌, replicate, Option, Some, None}
+use Rattle.dgt_message.specs.Clock.{Absence, AreTimes, ClockState, IsAbsence, Time, Times, absence_of, time_of, times_of}
+use Rattle.dgt_c.specs.declared.clocks.DgtClock.{DgtClock}
+use Rattle.dgt_c.specs.declared.clocks.DgtTime.{DgtTime}
+use Rattle.dgt_c.specs.declared.clocks.TheConstants.{CLOCK_NONE, CLOCK_TIMES, UNKNOWN_CLOCK}
+
+abbrev pub time_told : Time → DgtTime
+time_told time = record {
+  hours = time.hours;
+  minutes = time.minutes;
+  seconds = time.seconds;
+  flags = time.flags;
+}
+
+-- where nothing is said of a time
+abbrev pub no_time : DgtTime
+no_time = time_told (time_of 0 0 0 0)
+
+-- the struct that tells this clock
+abbrev pub clock_told : ClockState → DgtClock
+clock_told (ClockState.times readings) = record {
+  kind = CLOCK_TIMES;
+  status = readings.status;
+  raw = replicate 6 0;
+  first = time_told readings.first;
+  second = time_told readings.second;
+}
+clock_told (ClockState.no_clock absence) = record {
+  kind = CLOCK_NONE;
+  status = absence.status;
+  raw = absence.raw;
+  first = no_time;
+  second = no_time;
+}
+
+-- the same, or that none was told
+abbrev pub clock_if_told : Option ClockState → DgtClock
+clock_if_told None = UNKNOWN_CLOCK
+clock_if_told (Some clock) = clock_told clock
+
+abbrev pub time_in : DgtTime → Time
+time_in told = time_of told.hours told.minutes told.seconds told.flags
+
+abbrev pub times_in : DgtClock → Times
+times_in told = times_of (time_in told.first) (time_in told.second) told.status
+
+abbrev pub absence_in : DgtClock → Absence
+absence_in told = absence_of told.raw told.status
+
+-- C says this clock, whose values are in their ranges
+abbrev pub SaysClock : DgtClock → ClockState → Type 0
+SaysClock said (ClockState.times readings) =
+    (said.kind ≡ CLOCK_TIMES) × AreTimes readings × (readings ≡ times_in said)
+SaysClock said (ClockState.no_clock absence) =
+    (said.kind ≡ CLOCK_NONE) × IsAbsence absence × (absence ≡ absence_in said)

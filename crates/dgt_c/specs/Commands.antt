@@ -1,0 +1,46 @@
+-- What C is told of a word of a host: a struct, whose kind says which fields are set, and the bytes
+-- of a command.
+use Rattle.std.specs.Prelude.{◌≡◌, ℕ, List, [], length, Option, Some, None}
+use Rattle.dgt_command.specs.Content.{CommandContent, EventContent, Read, BadSize, BadStart, BadEnd, Stray}
+use Rattle.dgt_command.specs.Spelling.{command_code, command_spelling}
+use Rattle.dgt_c.specs.Slices.{overwritten}
+use Rattle.dgt_c.specs.declared.commands.DgtCommand.{DgtCommand}
+use Rattle.dgt_c.specs.declared.commands.TheConstants.{NO_COMMAND, COMMAND_READ, COMMAND_BAD_SIZE, COMMAND_BAD_START, COMMAND_BAD_END, COMMAND_STRAY}
+
+-- the id of a clock message
+abbrev pub id_of : CommandContent → ℕ
+id_of (CommandContent.ClockMessage message) = message.id
+id_of _ = 0
+
+abbrev pub read_told : CommandContent → DgtCommand
+read_told command = record NO_COMMAND {
+  kind = COMMAND_READ;
+  code = command_code command;
+  id = id_of command;
+  word_len = length (command_spelling command);
+}
+
+-- the struct that tells this command or fault, or that there is none
+abbrev pub command_told : Option EventContent → DgtCommand
+command_told None = NO_COMMAND
+command_told (Some (Read command)) = read_told command
+command_told (Some BadSize) = record NO_COMMAND { kind = COMMAND_BAD_SIZE }
+command_told (Some BadStart) = record NO_COMMAND { kind = COMMAND_BAD_START }
+command_told (Some BadEnd) = record NO_COMMAND { kind = COMMAND_BAD_END }
+command_told (Some (Stray byte)) = record NO_COMMAND { kind = COMMAND_STRAY; byte = byte }
+
+-- the bytes of a command
+abbrev pub word_said : Option EventContent → List ℕ
+word_said (Some (Read command)) = command_spelling command
+word_said _ = []
+
+-- What is told of a piece: a struct, and a slice before and after.
+pub record CommandTelling : Type 0 where
+  pub command : DgtCommand
+  pub old : List ℕ
+  pub new : List ℕ
+
+-- This is told, and the bytes of a command were copied, as many as there is room for.
+abbrev pub TellsCommand : Option EventContent → CommandTelling → Type 0
+TellsCommand event told =
+    (told.command ≡ command_told event) × (told.new ≡ overwritten told.old (word_said event))

@@ -1,0 +1,10 @@
+-- What is written into slices of C's.
+use Rattle.std.specs.Prelude.{ℕ, ◌+◌, List, ◌∷◌, ◌++◌, length, drop, take}
+
+-- a slice after as many of these bytes as it has room for were written to its front
+abbrev pub overwritten : List ℕ → List ℕ → List ℕ
+overwritten old bytes = take (length old) bytes ++ drop (length bytes) old
+
+-- a slice after a text and a zero were written to its front
+abbrev pub with_text : List ℕ → List ℕ → List ℕ
+with_text text old = text ++ 0 ∷ drop (length text + 1) old

@@ -1,0 +1,72 @@
+-- What C is told of an event: a struct, whose kind says which fields are set, and the bytes of a
+-- body that is carried unread.
+use Rattle.std.specs.Prelude.{ℕ, List, [], length, map, Option, Some, None}
+use Rattle.dgt_values.specs.Board.{piece_code}
+use Rattle.dgt_message.specs.declared.known.KnownCode.{KnownCode}
+use Rattle.dgt_message.specs.declared.viewing.BodyFault.{BodyFault}
+use Rattle.dgt_message.specs.Clock.{ClockState}
+use Rattle.dgt_message.specs.Code.{known_with}
+use Rattle.dgt_message.specs.Content.{Content}
+use Rattle.dgt_decode.specs.Grammar.{Event, Message, Refused, Cut, BadLength, Stray}
+use Rattle.dgt_c.specs.Clocks.{clock_told}
+use Rattle.dgt_c.specs.declared.events.DgtEvent.{DgtEvent}
+use Rattle.dgt_c.specs.declared.events.TheConstants.{NOTHING, EVENT_DUMP, EVENT_FIELD, EVENT_TIMES, EVENT_NO_CLOCK, EVENT_ACK, EVENT_SERIAL, EVENT_TRADEMARK, EVENT_VERSION, EVENT_BATTERY, EVENT_LONG_SERIAL, EVENT_OTHER, EVENT_REFUSED, EVENT_CUT, EVENT_BAD_LENGTH, EVENT_STRAY, FAULT_WRONG_SIZE, FAULT_BAD_PIECE, FAULT_BAD_SQUARE, FAULT_BAD_READING}
+
+-- the kind of a message whose body is carried unread
+abbrev pub carried_kind : Option KnownCode → ℕ
+carried_kind (Some KnownCode.Trademark) = EVENT_TRADEMARK
+carried_kind (Some KnownCode.Battery) = EVENT_BATTERY
+carried_kind (Some KnownCode.LongSerial) = EVENT_LONG_SERIAL
+carried_kind _ = EVENT_OTHER
+
+abbrev pub message_told : Content → DgtEvent
+message_told (Content.dump pieces) =
+    record NOTHING { kind = EVENT_DUMP; pieces = map piece_code pieces }
+message_told (Content.field square piece) =
+    record NOTHING { kind = EVENT_FIELD; square = square; piece = piece_code piece }
+message_told (Content.times readings) =
+    record NOTHING { kind = EVENT_TIMES; clock = clock_told (ClockState.times readings) }
+message_told (Content.no_clock absence) =
+    record NOTHING { kind = EVENT_NO_CLOCK; clock = clock_told (ClockState.no_clock absence) }
+message_told (Content.ack answer) =
+    record NOTHING { kind = EVENT_ACK; ack = answer.ack; ack_status = answer.status }
+message_told (Content.serial digits) = record NOTHING { kind = EVENT_SERIAL; serial = digits }
+message_told (Content.version main sub) =
+    record NOTHING { kind = EVENT_VERSION; main_number = main; sub_number = sub }
+message_told (Content.carried code body) =
+    record NOTHING { kind = carried_kind (known_with code); code = code; body_len = length body }
+
+abbrev pub fault_number : BodyFault → ℕ
+fault_number BodyFault.WrongSize = FAULT_WRONG_SIZE
+fault_number (BodyFault.BadPiece at) = FAULT_BAD_PIECE
+fault_number (BodyFault.BadSquare at) = FAULT_BAD_SQUARE
+fault_number (BodyFault.BadReading at) = FAULT_BAD_READING
+
+-- the place of a fault in the body, where it has one
+abbrev pub fault_place : BodyFault → ℕ
+fault_place BodyFault.WrongSize = 0
+fault_place (BodyFault.BadPiece at) = at
+fault_place (BodyFault.BadSquare at) = at
+fault_place (BodyFault.BadReading at) = at
+
+abbrev pub refused_told : ℕ → BodyFault → DgtEvent
+refused_told code fault = record NOTHING {
+  kind = EVENT_REFUSED;
+  code = code;
+  fault = fault_number fault;
+  at = fault_place fault;
+}
+
+-- the struct that tells this event, or that there is none
+abbrev pub event_told : Option Event → DgtEvent
+event_told None = NOTHING
+event_told (Some (Message said)) = message_told said
+event_told (Some (Refused code fault)) = refused_told code fault
+event_told (Some (Cut have)) = record NOTHING { kind = EVENT_CUT; have = have }
+event_told (Some BadLength) = record NOTHING { kind = EVENT_BAD_LENGTH }
+event_told (Some (Stray byte)) = record NOTHING { kind = EVENT_STRAY; byte = byte }
+
+-- the body of a message that is carried unread
+abbrev pub body_said : Option Event → List ℕ
+body_said (Some (Message (Content.carried code body))) = body
+body_said _ = []

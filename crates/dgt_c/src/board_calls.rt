@@ -1,0 +1,189 @@
+//! What C asks of a board.
+
+ghost use Rattle.std.specs.Prelude.{◌≡◌, ◌≤◌, ◌<◌, ◌↔◌, length, false, IsTrue, IsSome, map};
+ghost use Rattle.dgt_values.specs.Board.{piece_code, pieces_of};
+ghost use Rattle.dgt_values.specs.declared.pieces.Piece.{Piece};
+ghost use Rattle.dgt_message.specs.Clock.{ClockState};
+ghost use Rattle.dgt_board.specs.State.{after_change, after_hand_clock};
+ghost use Rattle.dgt_board.specs.Sending.{next_message};
+ghost use Rattle.dgt_board.specs.View.{view_after_line_lost};
+ghost use Rattle.dgt_c.specs.Clocks.{SaysClock, clock_told};
+ghost use Rattle.dgt_c.specs.Boards.{PollsTold, Takes, mode_number};
+
+use crate::board::DgtBoard;
+use crate::clocks::{DgtClock, clock_told, read_clock};
+use crate::commands::{DgtCommand, NO_COMMAND, tell_command};
+use crate::events::piece_codes;
+use dgt_board::{Mode, Polled};
+use dgt_values::{Piece, Square};
+
+pub const POLLED_NOTHING: u8 = 0;
+
+pub const POLLED_WROTE: u8 = 1;
+
+pub const POLLED_NEED_ROOM: u8 = 2;
+
+/// How a taking went, as dgt.h says it.
+#[repr(C)]
+#[derive(Clone, Copy)]
+pub struct DgtTaken {
+    pub busy: bool,
+    pub used: usize,
+}
+
+/// How a poll went, as dgt.h says it.
+#[repr(C)]
+#[derive(Clone, Copy)]
+pub struct DgtPolled {
+    pub status: u8,
+    pub bytes: usize,
+}
+
+/// Puts a piece on a square, or takes one off. False where there is no such square or piece.
+#[unsafe(no_mangle)]
+pub extern "C" fn dgt_board_change(board: &mut DgtBoard, square: u8, piece: u8) -> bool
+    ensures place { board.new.at ≡ board.old.at }
+    ensures done { IsTrue result → (put : Piece) × (piece_code put ≡ piece) × (square < 64)
+        × (board.new.inside ≡
+        record board.old.inside { state = after_change board.old.inside.state square put }) }
+    ensures refused { result ≡ false →
+        (board.new.inside ≡ board.old.inside) × (square < 64 → 16 ≤ piece) }
+{
+    let Ok(square) = Square::from_index(square) else {
+        return false;
+    };
+    let Ok(piece) = Piece::from_code(piece) else {
+        return false;
+    };
+    board.get().change(square, piece);
+    true
+}
+
+/// Sets what the clock shows. False where no clock shows that.
+#[unsafe(no_mangle)]
+pub extern "C" fn dgt_board_hand_clock(board: &mut DgtBoard, clock: &DgtClock) -> bool
+    ensures place { board.new.at ≡ board.old.at }
+    ensures done { IsTrue result → (shown : ClockState) × SaysClock clock.now shown
+        × (board.new.inside ≡
+        record board.old.inside { state = after_hand_clock board.old.inside.state shown }) }
+    ensures refused { result ≡ false → (board.new.inside ≡ board.old.inside)
+        × ((shown : ClockState) → ¬ (SaysClock clock.now shown)) }
+{
+    match read_clock(clock) {
+        Some(clock) => {
+            board.get().hand_clock(clock);
+            true
+        }
+        None => false,
+    }
+}
+
+/// The line is lost: the board forgets what was said on it.
+#[unsafe(no_mangle)]
+pub extern "C" fn dgt_board_line_lost(board: &mut DgtBoard)
+    ensures place { board.new.at ≡ board.old.at }
+    ensures lost { board.new.inside ≡ view_after_line_lost board.old.inside }
+{
+    board.get().line_lost();
+}
+
+/// Uses bytes up to and including the first that completes a command or shows a fault, or all of
+/// them. What it is is told, and the bytes of a command copied, as many as there is room for.
+#[unsafe(no_mangle)]
+pub extern "C" fn dgt_board_take(
+    board: &mut DgtBoard,
+    bytes: &[u8],
+    command: &mut DgtCommand,
+    word: &mut [u8],
+) -> DgtTaken
+    ensures place { board.new.at ≡ board.old.at }
+    ensures busy { IsTrue result.busy ↔ (length board.old.inside.state.owed ≡ 8) }
+    ensures within { result.used ≤ length bytes.now }
+    ensures takes { Takes board.old.inside bytes.now result
+        (record { command = command.new; old = word.old; new = word.new }) board.new.inside }
+    ensures progress { result.busy ≡ false → 0 < length bytes.now → 0 < result.used }
+{
+    match board.get().take(bytes) {
+        Ok(taken) => {
+            *command = tell_command(&taken.event, word);
+            DgtTaken {
+                busy: false,
+                used: taken.used,
+            }
+        }
+        Err(_) => {
+            *command = NO_COMMAND;
+            DgtTaken {
+                busy: true,
+                used: 0,
+            }
+        }
+    }
+}
+
+/// Writes the next message into the front of the slice, and takes it for sent.
+#[unsafe(no_mangle)]
+pub extern "C" fn dgt_board_poll(board: &mut DgtBoard, out: &mut [u8]) -> DgtPolled
+    ensures place { board.new.at ≡ board.old.at }
+    ensures polls { PollsTold result board.old.inside board.new.inside out.old out.new }
+{
+    match board.get().poll(out) {
+        Polled::Nothing => DgtPolled {
+            status: POLLED_NOTHING,
+            bytes: 0,
+        },
+        Polled::Wrote(bytes) => DgtPolled {
+            status: POLLED_WROTE,
+            bytes,
+        },
+        Polled::NeedRoom(bytes) => DgtPolled {
+            status: POLLED_NEED_ROOM,
+            bytes,
+        },
+    }
+}
+
+/// Whether there is anything to send.
+#[unsafe(no_mangle)]
+pub extern "C" fn dgt_board_owes(board: &mut DgtBoard) -> bool
+    ensures place { board.new.at ≡ board.old.at }
+    ensures same { board.new.inside ≡ board.old.inside }
+    ensures owes { IsTrue result ↔ IsSome (next_message board.old.inside.state) }
+{
+    board.get().owes()
+}
+
+/// What the board tells unasked.
+#[unsafe(no_mangle)]
+pub extern "C" fn dgt_board_mode(board: &mut DgtBoard) -> u8
+    ensures place { board.new.at ≡ board.old.at }
+    ensures same { board.new.inside ≡ board.old.inside }
+    ensures mode { result ≡ mode_number board.old.inside.state.mode }
+{
+    match board.get().mode() {
+        Mode::Idle => 0,
+        Mode::Update => 1,
+        Mode::UpdateBoard => 2,
+        Mode::UpdateNice => 3,
+    }
+}
+
+/// The codes of the pieces on the squares.
+#[unsafe(no_mangle)]
+pub extern "C" fn dgt_board_position(board: &mut DgtBoard, pieces: &mut [u8; 64])
+    ensures place { board.new.at ≡ board.old.at }
+    ensures same { board.new.inside ≡ board.old.inside }
+    ensures pieces { pieces.new ≡ map piece_code board.old.inside.state.squares }
+{
+    *pieces = piece_codes(board.get().position());
+}
+
+/// What the clock shows.
+#[unsafe(no_mangle)]
+pub extern "C" fn dgt_board_clock(board: &mut DgtBoard, clock: &mut DgtClock)
+    ensures place { board.new.at ≡ board.old.at }
+    ensures same { board.new.inside ≡ board.old.inside }
+    ensures clock { clock.new ≡ clock_told board.old.inside.state.clock }
+{
+    *clock = clock_told(board.get().clock());
+}

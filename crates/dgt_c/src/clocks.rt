@@ -1,0 +1,169 @@
+//! What C is told of a clock, and tells of one.
+
+ghost use Rattle.std.specs.Prelude.{◌≡◌, ◌≤◌, ◌<◌, length, map, MatchOption};
+ghost use Rattle.dgt_values.specs.Bytes.{AreSevenBit, number};
+ghost use Rattle.dgt_message.specs.Clock.{AreTimes, ClockState, IsAbsence, IsTime};
+ghost use Rattle.dgt_message.specs.Content.{absence_seen, clock_seen, status_code, time_seen, times_seen};
+ghost use Rattle.dgt_c.specs.Clocks.{SaysClock, absence_in, clock_told, time_in, time_told, times_in};
+
+use crate::checking::are_seven_bit;
+use dgt_message::{Clock, NoClock, Reading, Status, Times};
+use dgt_values::SevenBit;
+
+/// No clock was told.
+pub const CLOCK_UNKNOWN: u8 = 0;
+
+/// The clock shows the times of both players.
+pub const CLOCK_TIMES: u8 = 1;
+
+/// No clock is connected.
+pub const CLOCK_NONE: u8 = 2;
+
+/// The time of one player, as dgt.h says it.
+#[repr(C)]
+#[derive(Clone, Copy)]
+pub struct DgtTime {
+    pub hours: u8,
+    pub minutes: u8,
+    pub seconds: u8,
+    pub flags: u8,
+}
+
+/// What a clock tells, as dgt.h says it.
+#[repr(C)]
+#[derive(Clone, Copy)]
+pub struct DgtClock {
+    pub kind: u8,
+    pub status: u8,
+    pub raw: [u8; 6],
+    pub first: DgtTime,
+    pub second: DgtTime,
+}
+
+const NO_TIME: DgtTime = DgtTime {
+    hours: 0,
+    minutes: 0,
+    seconds: 0,
+    flags: 0,
+};
+
+/// That no clock was told.
+pub const UNKNOWN_CLOCK: DgtClock = DgtClock {
+    kind: CLOCK_UNKNOWN,
+    status: 0,
+    raw: [0; 6],
+    first: NO_TIME,
+    second: NO_TIME,
+};
+
+fn time_told(reading: Reading) -> DgtTime
+    ensures { result ≡ time_told (time_seen reading) }
+{
+    DgtTime {
+        hours: reading.hours(),
+        minutes: reading.minutes(),
+        seconds: reading.seconds(),
+        flags: reading.flags(),
+    }
+}
+
+/// The times of both players.
+pub(crate) fn times_told(times: Times) -> DgtClock
+    ensures { result ≡ clock_told (ClockState.times (times_seen times)) }
+{
+    DgtClock {
+        kind: CLOCK_TIMES,
+        status: times.status().code().get(),
+        raw: [0; 6],
+        first: time_told(times.first()),
+        second: time_told(times.second()),
+    }
+}
+
+/// That there is no clock.
+pub(crate) fn absence_told(absence: NoClock) -> DgtClock
+    ensures { result ≡ clock_told (ClockState.no_clock (absence_seen absence)) }
+{
+    let [a, b, c, d, e, f] = absence.raw();
+    DgtClock {
+        kind: CLOCK_NONE,
+        status: absence.status().code().get(),
+        raw: [a.get(), b.get(), c.get(), d.get(), e.get(), f.get()],
+        first: NO_TIME,
+        second: NO_TIME,
+    }
+}
+
+/// What a clock tells.
+pub(crate) fn clock_told(clock: &Clock) -> DgtClock
+    ensures { result ≡ clock_told (clock_seen clock.now) }
+{
+    match clock {
+        Clock::Times(times) => times_told(*times),
+        Clock::NoClock(absence) => absence_told(*absence),
+    }
+}
+
+fn read_time(time: DgtTime) -> Option<Reading>
+    ensures { MatchOption result (¬ (IsTime (time_in time)))
+        (λ reading. (time_seen reading ≡ time_in time) × IsTime (time_in time)) }
+{
+    Reading::new(time.hours, time.minutes, time.seconds, time.flags).ok()
+}
+
+fn read_status(status: u8) -> Option<Status>
+    ensures { MatchOption result (128 ≤ status)
+        (λ read. (status_code read ≡ status) × (status < 128)) }
+{
+    let code = SevenBit::try_from(status).ok()?;
+    Some(Status::new(code))
+}
+
+fn read_raw(raw: [u8; 6]) -> Option<[SevenBit; 6]>
+    ensures { MatchOption result (¬ (AreSevenBit raw))
+        (λ read. (map number read ≡ raw) × AreSevenBit raw) }
+{
+    if !are_seven_bit(&raw) {
+        return None;
+    }
+    let [a, b, c, d, e, f] = raw;
+    Some([
+        SevenBit::from_small(a),
+        SevenBit::from_small(b),
+        SevenBit::from_small(c),
+        SevenBit::from_small(d),
+        SevenBit::from_small(e),
+        SevenBit::from_small(f),
+    ])
+}
+
+fn read_times(clock: &DgtClock) -> Option<Times>
+    ensures { let times = times_in clock.now in MatchOption result (¬ (AreTimes times))
+        (λ read. (times_seen read ≡ times) × AreTimes times) }
+{
+    let first = read_time(clock.first)?;
+    let second = read_time(clock.second)?;
+    let status = read_status(clock.status)?;
+    Times::new(first, second, status).ok()
+}
+
+fn read_absence(clock: &DgtClock) -> Option<NoClock>
+    ensures { let absence = absence_in clock.now in MatchOption result (¬ (IsAbsence absence))
+        (λ read. (absence_seen read ≡ absence) × IsAbsence absence) }
+{
+    let raw = read_raw(clock.raw)?;
+    let status = read_status(clock.status)?;
+    NoClock::new(raw, status).ok()
+}
+
+/// The clock that C says, where it is one.
+pub(crate) fn read_clock(clock: &DgtClock) -> Option<Clock>
+    ensures { MatchOption result ((shown : ClockState) → ¬ (SaysClock clock.now shown))
+        (λ read. SaysClock clock.now (clock_seen read)) }
+{
+    match clock.kind {
+        CLOCK_TIMES => Some(Clock::Times(read_times(clock)?)),
+        CLOCK_NONE => Some(Clock::NoClock(read_absence(clock)?)),
+        _ => None,
+    }
+}

@@ -1,0 +1,34 @@
+//! Bytes copied into slices of C's.
+
+ghost use Rattle.std.specs.Prelude.{◌≡◌};
+ghost use Rattle.dgt_values.specs.Board.{pieces_of};
+ghost use Rattle.dgt_values.specs.Placement.{placement_text};
+ghost use Rattle.dgt_c.specs.Slices.{overwritten, with_text};
+
+use dgt_values::Position;
+
+/// Writes as many of the bytes as there is room for to the front of the slice.
+#[inline(always)]
+pub(crate) fn overwrite(bytes: &[u8], out: &mut [u8])
+    ensures { out.new ≡ overwritten out.old bytes.now }
+{
+    if bytes.is_empty() {
+        return;
+    }
+    if bytes.len() <= out.len() {
+        out[..bytes.len()].copy_from_slice(bytes);
+    } else {
+        out.copy_from_slice(&bytes[..out.len()]);
+    }
+}
+
+/// Writes the placement of a position and a zero to the front of the slice.
+pub(crate) fn put_placement(position: &Position, text: &mut [u8; 72])
+    ensures { text.new ≡ with_text (placement_text (pieces_of position.now)) text.old }
+{
+    let placement = position.placement();
+    let bytes = placement.as_bytes();
+    let len = bytes.len();
+    text[..len].copy_from_slice(bytes);
+    text[len] = 0;
+}

@@ -1,0 +1,237 @@
+//! What C is told of an event.
+
+ghost use Rattle.std.specs.Prelude.{◌≡◌, length, map};
+ghost use Rattle.dgt_values.specs.Board.{piece_code, pieces_of};
+ghost use Rattle.dgt_values.specs.Bytes.{body_bytes, number};
+ghost use Rattle.dgt_message.specs.Content.{content};
+ghost use Rattle.dgt_decode.specs.Feeding.{event_content_if_any};
+ghost use Rattle.dgt_c.specs.Told.{body_said, event_told, message_told, refused_told};
+
+use crate::clocks::{DgtClock, UNKNOWN_CLOCK, absence_told, times_told};
+use dgt_decode::Event;
+use dgt_message::{BodyFault, KnownCode, Message};
+use dgt_values::{Body, Position, SevenBit};
+
+pub const EVENT_NONE: u8 = 0;
+
+pub const EVENT_DUMP: u8 = 1;
+
+pub const EVENT_FIELD: u8 = 2;
+
+pub const EVENT_TIMES: u8 = 3;
+
+pub const EVENT_NO_CLOCK: u8 = 4;
+
+pub const EVENT_ACK: u8 = 5;
+
+pub const EVENT_SERIAL: u8 = 6;
+
+pub const EVENT_TRADEMARK: u8 = 7;
+
+pub const EVENT_VERSION: u8 = 8;
+
+pub const EVENT_BATTERY: u8 = 9;
+
+pub const EVENT_LONG_SERIAL: u8 = 10;
+
+pub const EVENT_OTHER: u8 = 11;
+
+pub const EVENT_REFUSED: u8 = 12;
+
+pub const EVENT_CUT: u8 = 13;
+
+pub const EVENT_BAD_LENGTH: u8 = 14;
+
+pub const EVENT_STRAY: u8 = 15;
+
+pub const FAULT_NONE: u8 = 0;
+
+pub const FAULT_WRONG_SIZE: u8 = 1;
+
+pub const FAULT_BAD_PIECE: u8 = 2;
+
+pub const FAULT_BAD_SQUARE: u8 = 3;
+
+pub const FAULT_BAD_READING: u8 = 4;
+
+/// An event, as dgt.h says it.
+#[repr(C)]
+#[derive(Clone, Copy)]
+pub struct DgtEvent {
+    pub kind: u8,
+    pub unasked: u8,
+    pub code: u8,
+    pub square: u8,
+    pub piece: u8,
+    pub main_number: u8,
+    pub sub_number: u8,
+    pub byte: u8,
+    pub fault: u8,
+    pub ack_status: u8,
+    pub ack: [u8; 4],
+    pub serial: [u8; 5],
+    pub clock: DgtClock,
+    pub pieces: [u8; 64],
+    pub have: usize,
+    pub at: usize,
+    pub body_len: usize,
+}
+
+/// That nothing was made known.
+pub const NOTHING: DgtEvent = DgtEvent {
+    kind: EVENT_NONE,
+    unasked: 0,
+    code: 0,
+    square: 0,
+    piece: 0,
+    main_number: 0,
+    sub_number: 0,
+    byte: 0,
+    fault: FAULT_NONE,
+    ack_status: 0,
+    ack: [0; 4],
+    serial: [0; 5],
+    clock: UNKNOWN_CLOCK,
+    pieces: [0; 64],
+    have: 0,
+    at: 0,
+    body_len: 0,
+};
+
+/// The codes of the pieces of a position.
+pub(crate) fn piece_codes(position: &Position) -> [u8; 64]
+    ensures { result ≡ map piece_code (pieces_of position.now) }
+{
+    let pieces = position.pieces();
+    let mut codes = [0; 64];
+    for (index, piece) in pieces.iter().enumerate() {
+        codes[index] = piece.code();
+    }
+    codes
+}
+
+fn serial_numbers(serial: &[SevenBit; 5]) -> [u8; 5]
+    ensures { result ≡ map number serial.now }
+{
+    let [a, b, c, d, e] = serial;
+    [a.get(), b.get(), c.get(), d.get(), e.get()]
+}
+
+// Each struct is written where it lies for C: to copy one takes longer than to write it. What tells
+// an event is inlined, so that the event itself is not copied once more.
+fn tell_carried(kind: u8, code: u8, body: Body<'_>, out: &mut DgtEvent)
+    ensures { out.new ≡ record out.old {
+      kind = kind;
+      code = code;
+      body_len = length (body_bytes body.entry);
+    } }
+{
+    out.kind = kind;
+    out.code = code;
+    out.body_len = body.bytes().len();
+}
+
+#[inline(always)]
+fn tell_message(message: &Message<'_>, out: &mut DgtEvent)
+    requires { out.old ≡ NOTHING }
+    ensures { out.new ≡ message_told (content message.now) }
+{
+    match message {
+        Message::Dump(position) => {
+            out.kind = EVENT_DUMP;
+            out.pieces = piece_codes(position);
+        }
+        Message::Field { square, piece } => {
+            out.kind = EVENT_FIELD;
+            out.square = square.index();
+            out.piece = piece.code();
+        }
+        Message::Times(times) => {
+            out.kind = EVENT_TIMES;
+            out.clock = times_told(*times);
+        }
+        Message::NoClock(absence) => {
+            out.kind = EVENT_NO_CLOCK;
+            out.clock = absence_told(*absence);
+        }
+        Message::Ack(answer) => {
+            out.kind = EVENT_ACK;
+            out.ack = answer.ack;
+            out.ack_status = answer.status.get();
+        }
+        Message::Serial(serial) => {
+            out.kind = EVENT_SERIAL;
+            out.serial = serial_numbers(serial);
+        }
+        Message::Version { main, sub } => {
+            out.kind = EVENT_VERSION;
+            out.main_number = main.get();
+            out.sub_number = sub.get();
+        }
+        Message::Trademark(body) => {
+            tell_carried(EVENT_TRADEMARK, KnownCode::Trademark.number(), *body, out);
+        }
+        Message::Battery(body) => {
+            tell_carried(EVENT_BATTERY, KnownCode::Battery.number(), *body, out);
+        }
+        Message::LongSerial(body) => {
+            tell_carried(
+                EVENT_LONG_SERIAL,
+                KnownCode::LongSerial.number(),
+                *body,
+                out,
+            );
+        }
+        Message::Other { code, body } => tell_carried(EVENT_OTHER, code.get().get(), *body, out),
+    }
+}
+
+fn tell_refused(code: u8, fault: BodyFault, out: &mut DgtEvent)
+    requires { out.old ≡ NOTHING }
+    ensures { out.new ≡ refused_told code fault }
+{
+    out.kind = EVENT_REFUSED;
+    out.code = code;
+    (out.fault, out.at) = match fault {
+        BodyFault::WrongSize => (FAULT_WRONG_SIZE, 0),
+        BodyFault::BadPiece { at } => (FAULT_BAD_PIECE, at),
+        BodyFault::BadSquare { at } => (FAULT_BAD_SQUARE, at),
+        BodyFault::BadReading { at } => (FAULT_BAD_READING, at),
+    };
+}
+
+/// Tells an event, or that there is none.
+#[inline(always)]
+pub(crate) fn tell(event: &Option<Event<'_>>, out: &mut DgtEvent)
+    ensures { out.new ≡ event_told (event_content_if_any event.now) }
+{
+    *out = NOTHING;
+    match event {
+        None => {}
+        Some(Event::Message(message)) => tell_message(message, out),
+        Some(Event::Refused { code, fault }) => tell_refused(code.get(), *fault, out),
+        Some(Event::Cut { have }) => {
+            out.kind = EVENT_CUT;
+            out.have = *have;
+        }
+        Some(Event::BadLength) => out.kind = EVENT_BAD_LENGTH,
+        Some(Event::Stray(byte)) => {
+            out.kind = EVENT_STRAY;
+            out.byte = *byte;
+        }
+    }
+}
+
+/// The body of a message that is carried unread, and else no byte.
+#[inline(always)]
+pub(crate) fn body_of<'a>(event: &Option<Event<'a>>) -> &'a [u8]
+    ensures { result.now ≡ body_said (event_content_if_any event.now) }
+{
+    match event {
+        Some(Event::Message(Message::Trademark(body))) => body.bytes(),
+        Some(Event::Message(Message::Battery(body))) => body.bytes(),
+        Some(Event::Message(Message::LongSerial(body))) => body.bytes(),
+        Some(Event::Message(Message::Other { body, .. })) => body.bytes(),
+        _ => &[],
+    }
+}

@@ -1,0 +1,61 @@
+//! A host, a decoder, a reader of commands and a board for programs in C, and by it for programs in
+//! other languages. The header is `include/dgt.h`, which says of each call what it does and what a
+//! caller owes; `lib/build` makes the archive and the shared object.
+//!
+//! C has a *handle*, an object of a stated size: a pointer, and behind it the room for what it
+//! points to. `DgtHost` is that pointer. Contracts see what the handle owns as its ghost field
+//! `inside`, which is what the crate below says of a host; `get` lends it. So each call carries the
+//! clauses of the call that it wraps, at `inside`: `dgt_host_hear` has those of `Host::hear`. The
+//! clause `place` says that the handle goes on pointing to its own room.
+//!
+//! An enum can't cross to C, and neither can what a value lends. An event crosses as a struct,
+//! whose kind says which fields are set (`event_told`, `specs/Told.antt`), and its body as bytes
+//! that are copied into a slice of the caller's, as many as there is room for (`overwritten`,
+//! `specs/Slices.antt`). A result crosses as a status and a number. What C says is looked at: a
+//! clock, an identity and the codes of pieces are taken exactly where they are ones (`SaysClock`,
+//! `specs/Clocks.antt`; `IsIdentity`, `ArePieces`, `specs/Starting.antt`).
+//!
+//! `dgt_host_init` and its like make a handle in memory of C's, which holds nothing yet. Beyond
+//! them no call has a `requires`: what is left to a caller in C are the facts that a reference in
+//! Rust has by its type, as that it points to something, and that no other refers to it.
+#![tactic(auto)]
+
+mod board;
+mod board_calls;
+mod board_place;
+mod checking;
+mod clocks;
+mod command_decoder;
+mod command_decoder_place;
+mod command_decoding;
+mod commands;
+mod copying;
+mod decoder;
+mod decoder_place;
+mod decoding;
+mod events;
+mod hearing;
+mod host;
+mod host_place;
+mod looking;
+mod placements;
+mod plain;
+mod plain_board;
+mod sending;
+mod starting;
+
+pub use board::DgtBoard;
+pub use board_calls::{DgtPolled, DgtTaken};
+pub use board_place::BoardPlace;
+pub use clocks::{DgtClock, DgtTime};
+pub use command_decoder::DgtCommandDecoder;
+pub use command_decoder_place::CommandDecoderPlace;
+pub use commands::DgtCommand;
+pub use decoder::DgtDecoder;
+pub use decoder_place::DecoderPlace;
+pub use events::DgtEvent;
+pub use host::DgtHost;
+pub use host_place::HostPlace;
+pub use placements::DgtParsed;
+pub use sending::DgtSent;
+pub use starting::{DgtBody, DgtIdentity};

@@ -1,0 +1,102 @@
+//! What C asks of what a host knows.
+
+ghost use Rattle.std.specs.Prelude.{◌≡◌, ◌↔◌, ◌≤◌, ◌++◌, length, drop, map, IsTrue, IsSome, MatchOption};
+ghost use Rattle.dgt_values.specs.Board.{piece_code, pieces_of};
+ghost use Rattle.dgt_values.specs.Placement.{placement_text};
+ghost use Rattle.dgt_c.specs.Clocks.{clock_if_told};
+ghost use Rattle.dgt_c.specs.Kinds.{asking_code};
+ghost use Rattle.dgt_c.specs.Slices.{with_text};
+
+use crate::clocks::{DgtClock, UNKNOWN_CLOCK, clock_told};
+use crate::copying::put_placement;
+use crate::events::piece_codes;
+use crate::host::DgtHost;
+use dgt_host::MAX_AWAITED;
+use dgt_values::Kind;
+
+/// The codes of the pieces on the board, where they are known; else the slice stays.
+#[unsafe(no_mangle)]
+pub extern "C" fn dgt_host_picture(host: &mut DgtHost, pieces: &mut [u8; 64]) -> bool
+    ensures place { host.new.at ≡ host.old.at }
+    ensures same { host.new.inside ≡ host.old.inside }
+    ensures known { IsTrue result ↔ IsSome host.old.inside.picture }
+    ensures pieces { MatchOption host.old.inside.picture (pieces.new ≡ pieces.old)
+        (λ picture. pieces.new ≡ map piece_code picture) }
+{
+    match host.get().picture() {
+        Some(position) => {
+            *pieces = piece_codes(position);
+            true
+        }
+        None => false,
+    }
+}
+
+/// The placement of the pieces and a zero, where they are known; else the slice stays.
+#[unsafe(no_mangle)]
+pub extern "C" fn dgt_host_placement(host: &mut DgtHost, text: &mut [u8; 72]) -> bool
+    ensures place { host.new.at ≡ host.old.at }
+    ensures same { host.new.inside ≡ host.old.inside }
+    ensures known { IsTrue result ↔ IsSome host.old.inside.picture }
+    ensures text { MatchOption host.old.inside.picture (text.new ≡ text.old)
+        (λ picture. text.new ≡ with_text (placement_text picture) text.old) }
+{
+    match host.get().picture() {
+        Some(position) => {
+            put_placement(position, text);
+            true
+        }
+        None => false,
+    }
+}
+
+/// What was told last of the clock.
+#[unsafe(no_mangle)]
+pub extern "C" fn dgt_host_clock(host: &mut DgtHost, clock: &mut DgtClock)
+    ensures place { host.new.at ≡ host.old.at }
+    ensures same { host.new.inside ≡ host.old.inside }
+    ensures clock { clock.new ≡ clock_if_told host.old.inside.clock }
+{
+    *clock = match host.get().clock() {
+        Some(told) => clock_told(told),
+        None => UNKNOWN_CLOCK,
+    };
+}
+
+// The byte of the command that asks for a reply of this kind.
+fn asking_code(kind: Kind) -> u8
+    ensures { result ≡ asking_code kind }
+{
+    match kind {
+        Kind::Dump => 0x42,
+        Kind::Serial => 0x45,
+        Kind::Trademark => 0x47,
+        Kind::Version => 0x4d,
+        Kind::Battery => 0x4c,
+        Kind::LongSerial => 0x55,
+    }
+}
+
+// Writes the bytes of the commands that ask for these kinds to the front of the slice.
+fn put_kinds(kinds: &[Kind], codes: &mut [u8; MAX_AWAITED])
+    requires { length kinds.now ≤ MAX_AWAITED }
+    ensures { codes.new ≡ map asking_code kinds.now ++ drop (length kinds.now) codes.old }
+{
+    for (index, kind) in kinds.iter().enumerate() {
+        codes[index] = asking_code(*kind);
+    }
+}
+
+/// How many replies are awaited. The bytes of the commands that asked for them stand at the front
+/// of the slice, in their order.
+#[unsafe(no_mangle)]
+pub extern "C" fn dgt_host_awaited(host: &mut DgtHost, codes: &mut [u8; 16]) -> usize
+    ensures place { host.new.at ≡ host.old.at }
+    ensures same { host.new.inside ≡ host.old.inside }
+    ensures length { result ≡ length host.old.inside.awaited }
+    ensures codes { codes.new ≡ map asking_code host.old.inside.awaited ++ drop result codes.old }
+{
+    let kinds = host.get().awaited();
+    put_kinds(kinds, codes);
+    kinds.len()
+}

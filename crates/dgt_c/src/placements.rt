@@ -1,0 +1,89 @@
+//! Positions as text.
+
+ghost use Rattle.std.specs.Prelude.{◌≡◌, ◌≤◌, ◌<◌, ℕ, List, false, length, map, slice_index, IsTrue};
+ghost use Rattle.dgt_values.specs.declared.pieces.Piece.{Piece};
+ghost use Rattle.dgt_values.specs.Board.{piece_code};
+ghost use Rattle.dgt_values.specs.Placement.{IsFirstBadOffset, IsPlacement, ParsesPlacement, placement_text};
+ghost use Rattle.dgt_c.specs.Starting.{ArePieces};
+ghost use Rattle.dgt_c.specs.Slices.{with_text};
+
+use crate::checking::read_position;
+use crate::copying::put_placement;
+use crate::events::piece_codes;
+use dgt_values::{BadPlacement, Position};
+
+/// What a text is read as, as dgt.h says it.
+#[repr(C)]
+#[derive(Clone, Copy)]
+pub struct DgtParsed {
+    pub ok: bool,
+    pub at: usize,
+}
+
+/// Writes the placement of the pieces with these codes, and a zero. False where one of them is the
+/// code of none, and then the slice stays.
+#[unsafe(no_mangle)]
+pub extern "C" fn dgt_placement(pieces: &[u8; 64], text: &mut [u8; 72]) -> bool
+    ensures written { IsTrue result → (stand : List Piece) × (map piece_code stand ≡ pieces.now)
+        × (text.new ≡ with_text (placement_text stand) text.old) }
+    ensures none { result ≡ false → ¬ (ArePieces pieces.now) × (text.new ≡ text.old) }
+{
+    match read_position(pieces) {
+        Some(position) => {
+            put_placement(&position, text);
+            true
+        }
+        None => false,
+    }
+}
+
+// The offset of the first byte that is no ASCII, or the length.
+fn ascii_len(text: &[u8]) -> usize
+    ensures within { result ≤ length text.now }
+    ensures before { (k : ℕ) → k < result → slice_index text.now k < 128 }
+    ensures there { result < length text.now → 128 ≤ slice_index text.now result }
+{
+    for (index, byte) in text.iter().enumerate() {
+        if *byte >= 128 {
+            return index;
+        }
+    }
+    text.len()
+}
+
+// The position of a placement. A byte that is no ASCII stands in none.
+fn parse_text(text: &[u8]) -> Result<Position, BadPlacement>
+    ensures { ParsesPlacement text.now result }
+{
+    let end = ascii_len(text);
+    let front = match std::str::from_utf8(&text[..end]) {
+        Ok(front) => front,
+        Err(_) => unreachable!(),
+    };
+    match Position::parse_placement(front) {
+        Err(bad) => Err(bad),
+        Ok(_) if end < text.len() => Err(BadPlacement { at: end }),
+        Ok(position) => Ok(position),
+    }
+}
+
+/// Reads a placement. Where the text is none, the slice stays, and the offset is told from which on
+/// it is none.
+#[unsafe(no_mangle)]
+pub extern "C" fn dgt_parse_placement(text: &[u8], pieces: &mut [u8; 64]) -> DgtParsed
+    ensures read { IsTrue result.ok → (stand : List Piece) × IsPlacement text.now stand
+        × (pieces.new ≡ map piece_code stand) × (result.at ≡ 0) }
+    ensures refused { result.ok ≡ false →
+        IsFirstBadOffset text.now result.at × (pieces.new ≡ pieces.old) }
+{
+    match parse_text(text) {
+        Ok(position) => {
+            *pieces = piece_codes(&position);
+            DgtParsed { ok: true, at: 0 }
+        }
+        Err(bad) => DgtParsed {
+            ok: false,
+            at: bad.at,
+        },
+    }
+}

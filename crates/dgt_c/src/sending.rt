@@ -1,0 +1,160 @@
+//! What C has a host send.
+
+ghost use Rattle.std.specs.Prelude.{◌≡◌, ◌≢◌, ◌≤◌, ◌<◌, ◌+◌, ◌++◌, ◌∷◌, [], Some, None, length};
+ghost use Rattle.dgt_command.specs.Content.{CommandContent, kind_of_command};
+ghost use Rattle.dgt_command.specs.Spelling.{command_spelling};
+ghost use Rattle.dgt_command.specs.declared.carried.TheConstants.{MAX_LED_BYTES, MAX_PAYLOAD};
+ghost use Rattle.dgt_values.specs.declared.kinds.Kind.TheVariants as kind;
+ghost use Rattle.dgt_host.specs.Host.{follow_bytes, restart_bytes};
+ghost use Rattle.dgt_c.specs.Sent.{Refuses, SendsTold, sent_told};
+
+use crate::host::DgtHost;
+use dgt_command::{Command, LedBytes, MAX_PAYLOAD, MAX_WORD, view_command};
+use dgt_host::{Host, SendFault};
+
+pub const SENT: u8 = 0;
+
+pub const SENT_TOO_MANY: u8 = 1;
+
+pub const SENT_NO_ROOM: u8 = 2;
+
+pub const SENT_NO_COMMAND: u8 = 3;
+
+/// How a sending went, as dgt.h says it.
+#[repr(C)]
+#[derive(Clone, Copy)]
+pub struct DgtSent {
+    pub status: u8,
+    pub bytes: usize,
+}
+
+/// That there is no such command.
+pub const NO_SUCH_COMMAND: DgtSent = DgtSent {
+    status: SENT_NO_COMMAND,
+    bytes: 0,
+};
+
+fn sent_told(outcome: Result<usize, SendFault>) -> DgtSent
+    ensures { result ≡ sent_told outcome }
+{
+    match outcome {
+        Ok(bytes) => DgtSent {
+            status: SENT,
+            bytes,
+        },
+        Err(SendFault::TooMany) => DgtSent {
+            status: SENT_TOO_MANY,
+            bytes: 0,
+        },
+        Err(SendFault::NoRoom { need }) => DgtSent {
+            status: SENT_NO_ROOM,
+            bytes: need,
+        },
+    }
+}
+
+/// Asks for all squares, and for each change from then on.
+#[unsafe(no_mangle)]
+pub extern "C" fn dgt_host_follow(host: &mut DgtHost, out: &mut [u8]) -> DgtSent
+    ensures place { host.new.at ≡ host.old.at }
+    ensures sends { SendsTold (record { kind = Some kind.Dump; bytes = follow_bytes })
+        host.old.inside host.new.inside out.old out.new result }
+{
+    sent_told(host.get().follow(out))
+}
+
+/// The same, behind zeros that end whatever command the board is in the middle of.
+#[unsafe(no_mangle)]
+pub extern "C" fn dgt_host_restart(host: &mut DgtHost, out: &mut [u8]) -> DgtSent
+    ensures place { host.new.at ≡ host.old.at }
+    ensures sends { SendsTold (record { kind = Some kind.Dump; bytes = restart_bytes })
+        host.old.inside host.new.inside out.old out.new result }
+{
+    sent_told(host.get().restart(out))
+}
+
+// Sends the command that is spelled so, if there is one.
+fn send_word(host: &mut Host, word: &[u8], out: &mut [u8]) -> DgtSent
+    ensures sends { (said : CommandContent) → word.now ≡ command_spelling said →
+        SendsTold (record { kind = kind_of_command said; bytes = word.now })
+        host.old host.new out.old out.new result }
+    ensures refused { ((said : CommandContent) → word.now ≢ command_spelling said) →
+        Refuses host.old host.new out.old out.new result }
+{
+    dgt_command::laws::spellings_tell_commands();
+    match view_command(word) {
+        Some(command) => sent_told(host.send(&command, out)),
+        None => NO_SUCH_COMMAND,
+    }
+}
+
+/// Sends the command that is this byte alone, if one is.
+#[unsafe(no_mangle)]
+pub extern "C" fn dgt_host_send(host: &mut DgtHost, code: u8, out: &mut [u8]) -> DgtSent
+    ensures place { host.new.at ≡ host.old.at }
+    ensures sends { (said : CommandContent) → code ∷ [] ≡ command_spelling said →
+        SendsTold (record { kind = kind_of_command said; bytes = code ∷ [] })
+        host.old.inside host.new.inside out.old out.new result }
+    ensures refused { ((said : CommandContent) → code ∷ [] ≢ command_spelling said) →
+        Refuses host.old.inside host.new.inside out.old out.new result }
+{
+    send_word(host.get(), &[code], out)
+}
+
+/// Lights these LEDs.
+#[unsafe(no_mangle)]
+pub extern "C" fn dgt_host_send_leds(host: &mut DgtHost, leds: &[u8], out: &mut [u8]) -> DgtSent
+    ensures place { host.new.at ≡ host.old.at }
+    ensures sends { length leds.now ≤ MAX_LED_BYTES →
+        SendsTold (record { kind = None; bytes = command_spelling (CommandContent.Leds leds.now) })
+        host.old.inside host.new.inside out.old out.new result }
+    ensures refused { MAX_LED_BYTES < length leds.now →
+        Refuses host.old.inside host.new.inside out.old out.new result }
+{
+    match LedBytes::new(leds) {
+        Ok(leds) => sent_told(host.get().send(&Command::Leds(leds), out)),
+        Err(_) => NO_SUCH_COMMAND,
+    }
+}
+
+// Fills the slice with the clock message of this id that carries these bytes.
+fn spell_clock(id: u8, payload: &[u8], out: &mut [u8])
+    requires short { length payload.now ≤ MAX_PAYLOAD }
+    requires fits { length out.old ≡ length payload.now + 5 }
+    ensures { out.new ≡ command_spelling
+        (CommandContent.ClockMessage (record { id = id; payload = payload.now })) }
+{
+    let (head, tail) = out.split_at_mut(4);
+    head.copy_from_slice(&[0x2b, payload.len() as u8 + 3, 0x03, id]);
+    let (body, end) = tail.split_at_mut(payload.len());
+    body.copy_from_slice(payload);
+    end.copy_from_slice(&[0x00]);
+}
+
+/// Sends the clock message of this id that carries these bytes.
+#[unsafe(no_mangle)]
+pub extern "C" fn dgt_host_send_clock(
+    host: &mut DgtHost,
+    id: u8,
+    payload: &[u8],
+    out: &mut [u8],
+) -> DgtSent
+    ensures place { host.new.at ≡ host.old.at }
+    ensures sends { length payload.now ≤ MAX_PAYLOAD →
+        SendsTold (record {
+          kind = None;
+          bytes = command_spelling
+              (CommandContent.ClockMessage (record { id = id; payload = payload.now }));
+        })
+        host.old.inside host.new.inside out.old out.new result }
+    ensures refused { MAX_PAYLOAD < length payload.now →
+        Refuses host.old.inside host.new.inside out.old out.new result }
+{
+    if payload.len() > MAX_PAYLOAD {
+        return NO_SUCH_COMMAND;
+    }
+    let mut room = [0; MAX_WORD];
+    let word = &mut room[..payload.len() + 5];
+    spell_clock(id, payload, word);
+    send_word(host.get(), word, out)
+}

@@ -1,0 +1,90 @@
+/* Follows a board on a serial line, and writes where its pieces stand after each change:
+ *
+ *     cc -I include examples/host.c -L lib/out -l:libdgt.a -o host && ./host /dev/ttyUSB0
+ *
+ * It ends when the line does, or when nothing has come for as many seconds as a second argument
+ * says. */
+#define _XOPEN_SOURCE 700
+#define _DEFAULT_SOURCE
+#include "dgt.h"
+
+#include <fcntl.h>
+#include <poll.h>
+#include <stdio.h>
+#include <stdlib.h>
+#include <string.h>
+#include <termios.h>
+#include <unistd.h>
+
+/* Opens a serial line: 9600 bits a second, eight bits, no parity, raw. */
+static int open_line(const char *name) {
+    int line = open(name, O_RDWR | O_NOCTTY);
+    struct termios settings;
+    if (line < 0 || tcgetattr(line, &settings) != 0) return line;
+    settings.c_iflag &= ~(tcflag_t)(IGNBRK | BRKINT | PARMRK | ISTRIP);
+    settings.c_iflag &= ~(tcflag_t)(INLCR | IGNCR | ICRNL | IXON);
+    settings.c_oflag &= ~(tcflag_t)OPOST;
+    settings.c_lflag &= ~(tcflag_t)(ECHO | ECHONL | ICANON | ISIG | IEXTEN);
+    settings.c_cflag &= ~(tcflag_t)(CSIZE | PARENB);
+    settings.c_cflag |= CS8 | CLOCAL | CREAD;
+    cfsetispeed(&settings, B9600);
+    cfsetospeed(&settings, B9600);
+    return tcsetattr(line, TCSANOW, &settings) == 0 ? line : -1;
+}
+
+static int write_all(int line, const uint8_t *bytes, size_t n) {
+    while (n > 0) {
+        ssize_t wrote = write(line, bytes, n);
+        if (wrote <= 0) return -1;
+        bytes += wrote;
+        n -= (size_t)wrote;
+    }
+    return 0;
+}
+
+/* Writes where the pieces stand, where that has changed. */
+static void show(dgt_host *host, char shown[DGT_PLACEMENT_ROOM]) {
+    char text[DGT_PLACEMENT_ROOM];
+    if (dgt_host_placement(host, text) && strcmp(text, shown) != 0) {
+        puts(text);
+        fflush(stdout);
+        strcpy(shown, text);
+    }
+}
+
+/* Hears a piece of bytes, and tells what is wrong with them. */
+static void hear(dgt_host *host, const uint8_t *piece, size_t n, char shown[DGT_PLACEMENT_ROOM]) {
+    uint8_t body[DGT_MAX_BODY];
+    dgt_event event;
+    for (size_t at = 0; at < n;) {
+        at += dgt_host_hear(host, piece + at, n - at, &event, body, sizeof body);
+        if (event.kind == DGT_DUMP || event.kind == DGT_FIELD) show(host, shown);
+        if (event.kind == DGT_TRADEMARK)
+            fprintf(stderr, "board: %.*s\n", (int)event.body_len, (const char *)body);
+        if (event.kind >= DGT_REFUSED) fprintf(stderr, "bytes that are no message\n");
+    }
+}
+
+int main(int count, char **words) {
+    if (count < 2) return fprintf(stderr, "usage: host LINE [SECONDS]\n"), 2;
+    int timeout = count > 2 ? 1000 * atoi(words[2]) : -1;
+    static dgt_host host;
+    if (!dgt_host_new(&host)) return fprintf(stderr, "this library has another header\n"), 1;
+    int line = open_line(words[1]);
+    if (line < 0) return perror(words[1]), 1;
+
+    uint8_t out[DGT_RESTART_LENGTH + 1], piece[256];
+    dgt_sent asked = dgt_host_restart(&host, out, sizeof out);
+    dgt_sent more = dgt_host_send(&host, DGT_SEND_TRADEMARK, out + asked.bytes, 1);
+    if (write_all(line, out, asked.bytes + more.bytes) != 0) return perror(words[1]), 1;
+
+    char shown[DGT_PLACEMENT_ROOM] = "";
+    struct pollfd polled = {line, POLLIN, 0};
+    while (poll(&polled, 1, timeout) > 0) {
+        ssize_t n = read(line, piece, sizeof piece);
+        if (n <= 0) break;
+        hear(&host, piece, (size_t)n, shown);
+    }
+    close(line);
+    return 0;
+}

@@ -1,0 +1,143 @@
+"""Simulated DGT boards on pseudo-terminals: each has a path in place of its serial port."""
+
+import os
+import pathlib
+import pty
+import select
+import threading
+import time
+import tty
+
+START = bytes.fromhex(
+    "08090a0c0b0a0908" + "07" * 8 + "00" * 32 + "01" * 8 + "0203040605040302"
+)
+LETTERS = ".PRNBKQprnbkqXYZ"
+# The first moves of a game, as squares: from and to, twice where white castles.
+GAME = """e2e4 e7e5 g1f3 b8c6 f1b5 a7a6 b5a4 g8f6 e1g1h1f1 f8e7 f1e1 b7b5 a4b3 d7d6""".split()
+
+
+def square(name):
+    """The number of a square: a8 is 0, b8 is 1, h1 is 63."""
+    return 8 * (8 - int(name[1])) + "abcdefgh".index(name[0])
+
+
+def placement(codes):
+    """The first field of a FEN of these 64 piece codes."""
+    ranks = ("".join(LETTERS[code] for code in codes[at : at + 8]) for at in range(0, 64, 8))
+    text = "/".join(ranks)
+    for count in range(8, 0, -1):
+        text = text.replace("." * count, str(count))
+    return text
+
+
+class Board:
+    """A board: it answers the byte 42 by all its squares, and tells each change once 44 came."""
+
+    def __init__(self, path):
+        self.path = pathlib.Path(path)
+        self.codes = bytearray(START)
+        self.lock = threading.Lock()
+        self.said = []  # of each message: the bytes so far, the time, and where the pieces stand
+        self.asked = []  # the times at which all squares were asked for
+        self.moves = 0
+        self.is_on = True
+        self.ends = ()
+        self.plug()
+
+    def plug(self):
+        """The port comes."""
+        master, port = pty.openpty()
+        # As a serial port that is no terminal: what is sent to it isn't sent back.
+        tty.setraw(port)
+        # Where no host reads, what the board says is lost, and the board goes on.
+        os.set_blocking(master, False)
+        with self.lock:
+            self.ends, self.count, self.tells = (master, port), 0, False
+        self.path.unlink(missing_ok=True)
+        self.path.symlink_to(os.ttyname(port))
+
+    def unplug(self):
+        """The port goes."""
+        with self.lock:
+            self.path.unlink(missing_ok=True)
+            for end in self.ends:
+                os.close(end)
+            self.ends = ()
+
+    def write(self, message):
+        self.count += len(message)
+        self.said.append((self.count, time.time(), placement(self.codes)))
+        self.send(message)
+
+    def send(self, sent):
+        try:
+            os.write(self.ends[0], sent)
+        except BlockingIOError:
+            pass  # nobody reads, and the port's buffer is full
+
+    def garble(self, noise):
+        """Any bytes in place of messages, a few at a time."""
+        for at in range(0, len(noise), 512):
+            with self.lock:
+                self.send(noise[at : at + 512])
+            time.sleep(0.01)
+
+    def put(self, name, code):
+        """A piece is put on a square, or taken from it. Told if somebody listens."""
+        with self.lock:
+            self.codes[square(name)] = code
+            if self.ends and self.is_on and self.tells:
+                self.write(bytes([0x8E, 0, 5, square(name), code]))
+
+    def answer(self):
+        """Answers what has come from the host."""
+        with self.lock:
+            for byte in os.read(self.ends[0], 1000) if self.ends else b"":
+                if not self.is_on:
+                    pass
+                elif byte == 0x44:
+                    self.tells = True
+                elif byte == 0x42:
+                    self.asked.append(time.time())
+                    self.write(b"\x86\x00\x43" + self.codes)
+
+    def play(self):
+        """Plays its next move, forth through the game and then back."""
+        turn = self.moves % (2 * len(GAME))
+        self.moves += 1
+        move = GAME[turn] if turn < len(GAME) else GAME[2 * len(GAME) - 1 - turn]
+        for at in range(0, len(move), 4):
+            old, new = move[at : at + 2], move[at + 2 : at + 4]
+            old, new = (old, new) if turn < len(GAME) else (new, old)
+            code = self.codes[square(old)]
+            self.put(old, 0)
+            time.sleep(0.1)
+            self.put(new, code)
+
+
+class Boards(list):
+    """Boards that are answered for by a thread."""
+
+    def __init__(self, folder, count):
+        super().__init__(Board(pathlib.Path(folder, f"port{n}")) for n in range(1, count + 1))
+        self.open = True
+        self.thread = threading.Thread(target=self.answer, daemon=True)
+        self.thread.start()
+
+    def answer(self):
+        while self.open:
+            masters = {ends[0]: board for board in self if (ends := board.ends)}
+            poll = select.poll()
+            for master in masters:
+                poll.register(master, select.POLLIN)
+            for master, _ in poll.poll(100):
+                try:
+                    masters[master].answer()
+                except OSError:
+                    pass  # unplugged meanwhile
+
+    def close(self):
+        self.open = False
+        self.thread.join()
+        for board in self:
+            board.unplug()

@@ -1,0 +1,139 @@
+"""What the trials run beside each other: a broker, boards that are told to it, and the page."""
+
+import os
+import pathlib
+import shutil
+import signal
+import socket
+import subprocess
+import tempfile
+import time
+
+import boards
+import chromium
+
+EXAMPLES = pathlib.Path(__file__).resolve().parent.parent
+PYTHON = "/usr/bin/python3"  # Debian's, which has Debian's modules
+ALIVE = "/usr/sbin:" + os.environ["PATH"]  # Debian has the broker in /usr/sbin
+MODULE = "import paho.mqtt.client"
+
+
+def missing():
+    """The packages of Debian whose programs aren't here."""
+    packages = {"mosquitto": "mosquitto", "mosquitto-clients": "mosquitto_pub"}
+    found = [name for name, program in packages.items() if not shutil.which(program, path=ALIVE)]
+    quiet = {"stdout": subprocess.DEVNULL, "stderr": subprocess.DEVNULL}
+    if not shutil.which(PYTHON) or subprocess.run([PYTHON, "-c", MODULE], **quiet).returncode:
+        found.append("python3-paho-mqtt")
+    return found + ([] if chromium.find() else ["chromium"])
+
+
+def free_port():
+    with socket.socket() as found:
+        found.bind(("127.0.0.1", 0))
+        return found.getsockname()[1]
+
+
+def is_open(port):
+    """Somebody listens at this port of the machine."""
+    with socket.socket() as tried:
+        return tried.connect_ex(("127.0.0.1", port)) == 0
+
+
+def family(pid):
+    """A process and all below it."""
+    found = [pid]
+    for parent in found:
+        try:
+            tasks = pathlib.Path(f"/proc/{parent}/task").iterdir()
+            found += [int(n) for task in tasks for n in (task / "children").read_text().split()]
+        except OSError:
+            pass  # it has ended meanwhile
+    return found
+
+
+def alive(pids):
+    """Those of these processes that haven't ended."""
+    return [pid for pid in pids if os.path.exists(f"/proc/{pid}/exe")]
+
+
+def holds(what, seconds=20):
+    """Waits until this holds, and says whether it did in time."""
+    end = time.monotonic() + seconds
+    while not what():
+        if time.monotonic() > end:
+            return False
+        time.sleep(0.05)
+    return True
+
+
+class Room:
+    """A folder, and what was started in it."""
+
+    def __enter__(self):
+        self.folder = tempfile.TemporaryDirectory(ignore_cleanup_errors=True)
+        self.path = pathlib.Path(self.folder.name)
+        self.runs, self.boards = [], None
+        self.broker_port, self.page_port = free_port(), free_port()
+        self.url = f"http://127.0.0.1:{self.page_port}/"
+        self.log = open(self.path / "log", "ab")
+        self.browser = None
+        return self
+
+    def __exit__(self, *_):
+        if self.browser:
+            self.browser.close()
+        for ran in reversed(self.runs):
+            ran.terminate()
+        for ran in reversed(self.runs):
+            self.stop(ran)
+        if self.boards:
+            self.boards.close()
+        self.log.close()
+        self.folder.cleanup()
+
+    def start(self, *words, **environment):
+        how = {"stdin": subprocess.DEVNULL, "stdout": self.log, "stderr": self.log}
+        environment = {**os.environ, "PATH": ALIVE, **environment}
+        ran = subprocess.Popen([*map(str, words)], env=environment, cwd=self.path, **how)
+        self.runs.append(ran)
+        return ran
+
+    def stop(self, ran):
+        """Ends a run as a user does, and answers which of its processes stayed behind."""
+        if ran.poll() is not None:
+            return []
+        below = family(ran.pid)
+        ran.terminate()
+        try:
+            ran.wait(20)
+        except subprocess.TimeoutExpired:
+            pass
+        left = alive(below)
+        for pid in left:
+            os.kill(pid, signal.SIGKILL)
+        ran.wait()
+        return left
+
+    def start_broker(self):
+        text = f"listener {self.broker_port} 127.0.0.1\nallow_anonymous true\n"
+        (self.path / "broker.conf").write_text(text)
+        self.broker = self.start("mosquitto", "-c", "broker.conf")
+        if not holds(lambda: is_open(self.broker_port)):
+            raise RuntimeError("the broker doesn't start")
+
+    def make_boards(self, count):
+        self.boards = boards.Boards(self.path, count)
+
+    def broadcast(self, name, seconds=30):
+        """Has a board told to the broker, under its number."""
+        words = [self.boards[name - 1].path, name, "-h", "127.0.0.1", "-p", self.broker_port]
+        return self.start(EXAMPLES / "broadcast", *words, BROADCAST_SECONDS=str(seconds))
+
+    def serve(self):
+        words = ["--broker", "127.0.0.1", "--broker-port", self.broker_port]
+        return self.start(EXAMPLES / "page" / "serve", *words, "--port", self.page_port)
+
+    def open_page(self, first=""):
+        self.browser = chromium.Chromium()
+        self.browser.open(self.url, first)

@@ -1,0 +1,511 @@
+/*
+ * dgt.h: a host, a decoder, a reader of commands and a board for the DGT electronic chess board.
+ *
+ * Nothing here opens a line, takes memory or waits. You read bytes from the serial line and hand
+ * them in, in pieces of any length; you write out what a call wrote into your buffer. All memory is
+ * yours. A host that follows a board:
+ *
+ *     static dgt_host host;                         // 16 KB
+ *     uint8_t out[DGT_RESTART_LENGTH], body[DGT_MAX_BODY];
+ *     dgt_event event;
+ *     if (!dgt_host_new(&host)) return 1;           // the library is another than this header's
+ *     dgt_sent sent = dgt_host_restart(&host, out, sizeof out);
+ *     write(line, out, sent.bytes);
+ *     while ((n = read(line, piece, sizeof piece)) > 0)
+ *         for (size_t at = 0; at < n;) {
+ *             at += dgt_host_hear(&host, piece + at, n - at, &event, body, sizeof body);
+ *             if (event.kind == DGT_FIELD) ...
+ *         }
+ *
+ * THE LIBRARY IS PROVED; WHAT FOLLOWS IS YOUR PART. Where you keep it, no call reads or writes
+ * outside the memory that it is given, fails to return, or does other than is said here, whatever
+ * the bytes are. Where you don't, nothing is promised, and nothing is tested when the program runs.
+ *
+ *  - No pointer is null, also where its length is 0 (pass any address then). A length is at most
+ *    2^63 - 1, and so many bytes may be read or written there. An array parameter has its stated
+ *    length. What a call reads is initialised.
+ *  - A handle is a dgt_host, a dgt_decoder, a dgt_command_decoder or a dgt_board. It is made by its
+ *    _new or its _init before any other call. Afterwards it is not copied and not moved, neither by
+ *    assignment nor by memcpy or realloc: it points into itself. Don't touch its members. There is
+ *    nothing to free: stop using it, and its memory is yours again.
+ *  - The arguments of one call don't overlap: not a slice and a struct, not a slice and the handle.
+ *  - Two calls with the same handle never run at once: neither in two threads without a lock
+ *    between them, nor in a signal handler. Different handles are independent. A handle goes to
+ *    another thread under a lock, or by starting or joining that thread.
+ *
+ * Calls that only look still take a handle that is not const: for the time of the call it is theirs
+ * alone. What a struct or a slice holds before a call that writes it is overwritten, and may be
+ * uninitialised; a slice keeps what stands behind the bytes that are written.
+ *
+ * Squares are numbered rank by rank from 8 down: a8 is 0, b8 is 1, h8 is 7, a7 is 8 and h1 is 63.
+ * Pieces are numbered as on the line: 0 is none; 1 to 6 white and 7 to 12 black pawn, rook, knight,
+ * bishop, king and queen; 13 to 15 are three extra pieces without a meaning.
+ */
+#ifndef DGT_H
+#define DGT_H
+
+#include <stdbool.h>
+#include <stddef.h>
+#include <stdint.h>
+
+#ifdef __cplusplus
+extern "C" {
+#endif
+
+/* ---- Limits. */
+
+#define DGT_MAX_BODY 16380      /* the most bytes of a message's body */
+#define DGT_MAX_WORD 257        /* the most bytes of a command */
+#define DGT_MAX_PAYLOAD 252     /* the most bytes that a clock message carries */
+#define DGT_MAX_LEDS 255        /* the most bytes that an LED frame carries */
+#define DGT_MAX_AWAITED 16      /* the most replies that a host awaits */
+#define DGT_RESTART_LENGTH 257  /* how many bytes dgt_host_restart writes */
+#define DGT_MAX_OWED 8          /* the most replies that a board owes */
+#define DGT_MAX_SENT 67         /* the most bytes that dgt_board_poll writes */
+#define DGT_MAX_KEPT 64         /* the most bytes of a trademark, a battery body or a long serial
+                                   number that a board keeps */
+#define DGT_PLACEMENT_ROOM 72   /* room for each placement and the zero at its end */
+
+/* ---- Handles. Their members are the library's. */
+
+/* How many bytes they take, as dgt_host_size() and its like answer, and _new compares. */
+#define DGT_HOST_SIZE 16520
+#define DGT_DECODER_SIZE 16416
+#define DGT_COMMAND_DECODER_SIZE 288
+#define DGT_BOARD_SIZE 712
+
+typedef struct dgt_host {
+    void *at_;
+    uint64_t room_[(DGT_HOST_SIZE - 8) / 8];
+} dgt_host;
+
+typedef struct dgt_decoder {
+    void *at_;
+    uint64_t room_[(DGT_DECODER_SIZE - 8) / 8];
+} dgt_decoder;
+
+typedef struct dgt_command_decoder {
+    void *at_;
+    uint64_t room_[(DGT_COMMAND_DECODER_SIZE - 8) / 8];
+} dgt_command_decoder;
+
+typedef struct dgt_board {
+    void *at_;
+    uint64_t room_[(DGT_BOARD_SIZE - 8) / 8];
+} dgt_board;
+
+/* ---- What a clock tells. */
+
+/* The time of one player. */
+typedef struct dgt_time {
+    uint8_t hours;   /* 0 to 9 */
+    uint8_t minutes; /* 0 to 59 */
+    uint8_t seconds; /* 0 to 59 */
+    uint8_t flags;   /* 0 to 7, carried: D4 to D6 of the byte of the hours */
+} dgt_time;
+
+/* dgt_clock.kind */
+enum {
+    DGT_CLOCK_UNKNOWN = 0, /* nothing was told: all else is 0 */
+    DGT_CLOCK_TIMES = 1,   /* the times of both players, and the status; raw is 0 */
+    DGT_CLOCK_NONE = 2     /* no clock is connected: raw and the status; the times are 0 */
+};
+
+/* The bits of a clock's status. */
+enum {
+    DGT_STATUS_RUNNING = 0x01,
+    DGT_STATUS_LEVER = 0x02,
+    DGT_STATUS_BATTERY_LOW = 0x04,
+    DGT_STATUS_BLACK_TURN = 0x08,
+    DGT_STATUS_WHITE_TURN = 0x10,
+    DGT_STATUS_ABSENT = 0x20 /* set where the kind is DGT_CLOCK_NONE, and only there */
+};
+
+typedef struct dgt_clock {
+    uint8_t kind;
+    uint8_t status; /* 0 to 127 */
+    uint8_t raw[6]; /* each 0 to 127; the low four bits of raw[0] and raw[3] are not 0a */
+    dgt_time first;
+    dgt_time second;
+} dgt_clock;
+
+/* ---- What a board's bytes make known. */
+
+/* dgt_event.kind, and which members it sets. The other members are 0. */
+enum {
+    DGT_NONE = 0,         /* nothing yet: all bytes were used */
+    DGT_DUMP = 1,         /* all squares were told: pieces */
+    DGT_FIELD = 2,        /* one square was told: square, piece */
+    DGT_TIMES = 3,        /* the clock's times: clock */
+    DGT_NO_CLOCK = 4,     /* no clock is connected: clock */
+    DGT_ACK = 5,          /* the answer to a message for the clock: ack, ack_status */
+    DGT_SERIAL = 6,       /* the serial number: serial */
+    DGT_TRADEMARK = 7,    /* the trademark: code, body_len, and the body */
+    DGT_VERSION = 8,      /* the version of the board's program: main_number, sub_number */
+    DGT_BATTERY = 9,      /* the state of the battery: code, body_len, and the body */
+    DGT_LONG_SERIAL = 10, /* the long serial number: code, body_len, and the body */
+    DGT_OTHER = 11,       /* a message that is carried unread: code, body_len, and the body */
+    DGT_REFUSED = 12,     /* a whole message whose body says nothing: code, fault, at */
+    DGT_CUT = 13,         /* a message was cut off by the next, whose first byte this is: have */
+    DGT_BAD_LENGTH = 14,  /* the length of a message is less than that of its header, 3 */
+    DGT_STRAY = 15        /* a byte in no message: byte */
+};
+
+/* dgt_event.fault */
+enum {
+    DGT_NO_FAULT = 0,
+    DGT_WRONG_SIZE = 1,  /* the body has not the size of its code */
+    DGT_BAD_PIECE = 2,   /* the byte of the body at `at` is no piece */
+    DGT_BAD_SQUARE = 3,  /* it is no square */
+    DGT_BAD_READING = 4  /* it has a digit that the times of a clock never have */
+};
+
+typedef struct dgt_event {
+    uint8_t kind;
+    uint8_t unasked;     /* told by a host alone: 1 where the message answers what was not the
+                            first asked, else 0 */
+    uint8_t code;        /* of the message, 0 to 127 */
+    uint8_t square;
+    uint8_t piece;
+    uint8_t main_number; /* 0 to 127 */
+    uint8_t sub_number;  /* 0 to 127 */
+    uint8_t byte;        /* 0 to 127 */
+    uint8_t fault;
+    uint8_t ack_status;  /* 0 to 127 */
+    uint8_t ack[4];
+    uint8_t serial[5];   /* each 0 to 127 */
+    dgt_clock clock;
+    uint8_t pieces[64];
+    size_t have;         /* how many bytes of the message had come, at least 1 */
+    size_t at;           /* the place in the body, from 0 on */
+    size_t body_len;     /* how many bytes the body has, also where not all were copied */
+} dgt_event;
+
+/* ---- What a host's bytes tell. */
+
+/* dgt_command.kind, and which members it sets. The other members are 0. */
+enum {
+    DGT_NO_WORD = 0,   /* nothing yet: all bytes were used */
+    DGT_COMMAND = 1,   /* a command: code, id of a clock message, word_len, and the word */
+    DGT_BAD_SIZE = 2,  /* the second byte of a clock message, its size, is below 3 */
+    DGT_BAD_START = 3, /* the third byte of a clock message isn't 03 */
+    DGT_BAD_END = 4,   /* the last byte of a clock message isn't 00 */
+    DGT_STRAY_BYTE = 5 /* a byte that begins no command: byte */
+};
+
+/* The first byte of each command, dgt_command.code. */
+enum {
+    DGT_SEND_CLOCK_MESSAGE = 0x2b, /* word[3] is the id, and word[4] to word[word_len - 2] what
+                                      the message carries */
+    DGT_SEND_RESET = 0x40,         /* go to the idle mode */
+    DGT_SEND_CLOCK = 0x41,         /* send the clock's times */
+    DGT_SEND_DUMP = 0x42,          /* send all squares */
+    DGT_SEND_UPDATE = 0x43,        /* from now on send each change, and the clock's times */
+    DGT_SEND_UPDATE_BOARD = 0x44,  /* from now on send each change */
+    DGT_SEND_SERIAL = 0x45,        /* send the serial number */
+    DGT_SEND_TRADEMARK = 0x47,     /* send the trademark */
+    DGT_SEND_UPDATE_NICE = 0x4b,   /* from now on send each change, and the times as they change */
+    DGT_SEND_BATTERY = 0x4c,       /* send the state of the battery */
+    DGT_SEND_VERSION = 0x4d,       /* send the version */
+    DGT_SEND_LONG_SERIAL = 0x55,   /* send the long serial number */
+    DGT_SEND_LEDS = 0x60           /* word[2] to word[word_len - 1] are the LEDs' bytes */
+};
+
+/* The ids of clock messages, and what they carry. */
+enum {
+    DGT_ID_DISPLAY = 0x01,     /* segments of the places 3, 2, 1, 6, 5, 4 from the left, dots,
+                                     beep: 8 bytes */
+    DGT_ID_ICONS = 0x02,       /* any bytes */
+    DGT_ID_END = 0x03,         /* nothing: show the times again */
+    DGT_ID_BUTTON = 0x08,      /* nothing */
+    DGT_ID_VERSION = 0x09,     /* nothing: the answer is a DGT_ACK */
+    DGT_ID_SET_AND_RUN = 0x0a, /* hours, minutes, seconds left and right, control: 7 bytes */
+    DGT_ID_BEEP = 0x0b,        /* the duration: 1 byte */
+    DGT_ID_TEXT = 0x0c         /* eight letters and beep: 9 bytes */
+};
+
+typedef struct dgt_command {
+    uint8_t kind;
+    uint8_t code;
+    uint8_t id;
+    uint8_t byte;
+    size_t word_len; /* how many bytes the command has, also where not all were copied */
+} dgt_command;
+
+/* ---- A host: asks a board, and keeps a picture of it from what it hears. */
+
+/* How many bytes a dgt_host takes, by the library that is linked. */
+size_t dgt_host_size(void);
+
+/* Makes the memory at `host`, of dgt_host_size() bytes and aligned to 8, a host that knows nothing
+ * and awaits nothing. */
+void dgt_host_init(dgt_host *host);
+
+/* The same; false, and nothing done, where this header is not of the library that is linked. */
+static inline bool dgt_host_new(dgt_host *host) {
+    if (dgt_host_size() != sizeof *host) return false;
+    dgt_host_init(host);
+    return true;
+}
+
+/* Uses bytes up to and including the first that makes an event, or all of them, and answers how
+ * many: at least 1 where n > 0. `event` tells the event, and as much of its body as there is room
+ * for is written to the front of `body`. A message changes what the host knows: a dump sets the
+ * picture, a field one square of a picture that is known, and what is told of the clock the clock.
+ * The first awaited reply is then awaited no longer; another one is `unasked`. Call again with the
+ * bytes that are left. */
+size_t dgt_host_hear(dgt_host *host, const uint8_t *bytes, size_t n, dgt_event *event,
+                     uint8_t *body, size_t room);
+
+/* The status of a dgt_sent. */
+enum {
+    DGT_SENT = 0,      /* `bytes` bytes stand at the front of the buffer: write them to the line */
+    DGT_TOO_MANY = 1,  /* 16 replies are awaited already: nothing changed, and bytes is 0 */
+    DGT_NO_ROOM = 2,   /* the buffer has less than `bytes` bytes: nothing changed */
+    DGT_NO_COMMAND = 3 /* there is no such command: nothing changed, and bytes is 0 */
+};
+
+typedef struct dgt_sent {
+    uint8_t status;
+    size_t bytes;
+} dgt_sent;
+
+/* Asks for each change from now on, and for all squares: writes 44 42. A dump is awaited then.
+ * DGT_TOO_MANY goes before DGT_NO_ROOM, here and below. */
+dgt_sent dgt_host_follow(dgt_host *host, uint8_t *out, size_t n);
+
+/* The same behind 255 zeros, which end whatever command the board is in the middle of: writes
+ * DGT_RESTART_LENGTH bytes. For a line on which another program may have talked to the board. */
+dgt_sent dgt_host_restart(dgt_host *host, uint8_t *out, size_t n);
+
+/* Sends the command that is the byte `code` alone, DGT_SEND_RESET to DGT_SEND_LONG_SERIAL. A reply
+ * is awaited then of a dump, a serial number, a trademark, a battery state, a version and a long
+ * serial number. DGT_NO_COMMAND goes before all else. */
+dgt_sent dgt_host_send(dgt_host *host, uint8_t code, uint8_t *out, size_t n);
+
+/* Sends the message with this id and this payload to the clock. DGT_NO_COMMAND where the payload
+ * has more than DGT_MAX_PAYLOAD bytes. */
+dgt_sent dgt_host_send_clock(dgt_host *host, uint8_t id, const uint8_t *payload, size_t payload_len,
+                             uint8_t *out, size_t n);
+
+/* Sends an LED frame. DGT_NO_COMMAND where it has more than DGT_MAX_LEDS bytes. */
+dgt_sent dgt_host_send_leds(dgt_host *host, const uint8_t *leds, size_t leds_len, uint8_t *out,
+                            size_t n);
+
+/* The pieces on the squares, by their numbers. False, and nothing written, until a dump was heard.
+ */
+bool dgt_host_picture(dgt_host *host, uint8_t pieces[64]);
+
+/* The same as the placement of a FEN, with a zero at its end. */
+bool dgt_host_placement(dgt_host *host, char text[DGT_PLACEMENT_ROOM]);
+
+/* What the board told last of its clock. */
+void dgt_host_clock(dgt_host *host, dgt_clock *clock);
+
+/* How many replies are awaited. The codes of the commands that ask for them, as DGT_SEND_DUMP,
+ * stand at the front of `codes`, the next one first. */
+size_t dgt_host_awaited(dgt_host *host, uint8_t codes[DGT_MAX_AWAITED]);
+
+/* How many bytes were heard of a message that is not finished. */
+size_t dgt_host_unread(dgt_host *host);
+
+/* The line is lost, and what was under way on it: the host is as new. Follow the board again once
+ * the line is back. */
+void dgt_host_line_lost(dgt_host *host);
+
+/* ---- A decoder: tells the events of a board's bytes, and keeps no picture. */
+
+size_t dgt_decoder_size(void);
+void dgt_decoder_init(dgt_decoder *decoder);
+
+static inline bool dgt_decoder_new(dgt_decoder *decoder) {
+    if (dgt_decoder_size() != sizeof *decoder) return false;
+    dgt_decoder_init(decoder);
+    return true;
+}
+
+/* As dgt_host_hear. `unasked` is false. */
+size_t dgt_decoder_feed(dgt_decoder *decoder, const uint8_t *bytes, size_t n, dgt_event *event,
+                        uint8_t *body, size_t room);
+
+/* How many bytes have come of a message that is not finished. */
+size_t dgt_decoder_rest(dgt_decoder *decoder);
+
+/* The same, at the end of the bytes. The decoder is as new then. */
+size_t dgt_decoder_finish(dgt_decoder *decoder);
+
+/* Makes it as new. */
+void dgt_decoder_reset(dgt_decoder *decoder);
+
+/* ---- A reader of commands: tells the commands in a host's bytes. */
+
+size_t dgt_command_decoder_size(void);
+void dgt_command_decoder_init(dgt_command_decoder *decoder);
+
+static inline bool dgt_command_decoder_new(dgt_command_decoder *decoder) {
+    if (dgt_command_decoder_size() != sizeof *decoder) return false;
+    dgt_command_decoder_init(decoder);
+    return true;
+}
+
+/* Uses bytes up to and including the first that completes a command or shows a fault, or all of
+ * them, and answers how many: at least 1 where n > 0. `command` tells it, and as much of a
+ * command's word, its bytes from the first to the last, as there is room for is written to the
+ * front of `word`. */
+size_t dgt_command_decoder_feed(dgt_command_decoder *decoder, const uint8_t *bytes, size_t n,
+                                dgt_command *command, uint8_t *word, size_t room);
+
+/* How many bytes have come of a command that is not finished. */
+size_t dgt_command_decoder_rest(dgt_command_decoder *decoder);
+
+/* The same, at the end of the bytes. The reader is as new then. */
+size_t dgt_command_decoder_finish(dgt_command_decoder *decoder);
+
+/* Makes it as new. */
+void dgt_command_decoder_reset(dgt_command_decoder *decoder);
+
+/* ---- A board, as a host meets it on the line. */
+
+size_t dgt_board_size(void);
+
+/* A board in the position in which a game begins, with a clock that shows 0:00:00 twice, and the
+ * identity of a simulated board. */
+void dgt_board_init(dgt_board *board);
+
+static inline bool dgt_board_new(dgt_board *board) {
+    if (dgt_board_size() != sizeof *board) return false;
+    dgt_board_init(board);
+    return true;
+}
+
+/* Bytes of a body, each below 128: `len` of them, at most 64, at the front of `bytes`. */
+typedef struct dgt_body {
+    size_t len;
+    uint8_t bytes[DGT_MAX_KEPT];
+} dgt_body;
+
+/* What a board tells of itself. */
+typedef struct dgt_identity {
+    uint8_t serial[5];     /* each 0 to 127 */
+    uint8_t main_number;   /* 0 to 127 */
+    uint8_t sub_number;    /* 0 to 127 */
+    uint8_t clock_version; /* of the clock: the main number in the high, the sub number in the low
+                              four bits */
+    dgt_body trademark;
+    dgt_body battery;
+    dgt_body long_serial;
+} dgt_identity;
+
+/* What dgt_board_start answers. */
+enum {
+    DGT_STARTED = 0,
+    DGT_START_BAD_PIECES = 1,   /* a number above 15 */
+    DGT_START_BAD_CLOCK = 2,    /* a member of the clock is out of its range, or its kind is
+                                   neither DGT_CLOCK_TIMES nor DGT_CLOCK_NONE */
+    DGT_START_BAD_IDENTITY = 3  /* a member of the identity is out of its range */
+};
+
+/* Makes the board anew, with these pieces, this clock and this identity: idle, with its squares
+ * told and its clock not, and with nothing owed. Where something is out of its range, the first of
+ * the three is told, and nothing changes. */
+uint8_t dgt_board_start(dgt_board *board, const uint8_t pieces[64], const dgt_clock *clock,
+                        const dgt_identity *identity);
+
+/* Puts a piece, or 0 for none, on a square. False, and nothing changed, where square > 63 or
+ * piece > 15. */
+bool dgt_board_change(dgt_board *board, uint8_t square, uint8_t piece);
+
+/* Sets what the clock shows. False, and nothing changed, where a member is out of its range. */
+bool dgt_board_hand_clock(dgt_board *board, const dgt_clock *clock);
+
+/* The line is lost, and what was under way on it: the board keeps its squares, its clock and its
+ * identity, and is else as new. */
+void dgt_board_line_lost(dgt_board *board);
+
+typedef struct dgt_taken {
+    bool busy;   /* eight replies are owed, so poll first: nothing was used, and nothing changed */
+    size_t used; /* how many bytes were used: at least 1 where it isn't busy and n > 0 */
+} dgt_taken;
+
+/* Uses bytes up to and including the first that completes a command or shows a fault, or all of
+ * them. A command has its effect, and is told as dgt_command_decoder_feed does; where the board is
+ * busy, DGT_NO_WORD is told. */
+dgt_taken dgt_board_take(dgt_board *board, const uint8_t *bytes, size_t n, dgt_command *command,
+                         uint8_t *word, size_t room);
+
+/* The status of a dgt_polled. */
+enum {
+    DGT_NOTHING = 0,  /* nothing is to be sent, and bytes is 0 */
+    DGT_WROTE = 1,    /* `bytes` bytes at the front of the buffer are a message: write them to the
+                         line */
+    DGT_NEED_ROOM = 2 /* the next message takes `bytes` bytes, and the buffer has fewer: nothing
+                         changed */
+};
+
+typedef struct dgt_polled {
+    uint8_t status;
+    size_t bytes;
+} dgt_polled;
+
+/* Writes the next message that is to be sent, and takes it for sent: the owed replies in their
+ * order, then the squares that differ from what was told, then the clock. DGT_MAX_SENT bytes are
+ * room for each. */
+dgt_polled dgt_board_poll(dgt_board *board, uint8_t *out, size_t n);
+
+/* Whether there is anything to send. */
+bool dgt_board_owes(dgt_board *board);
+
+/* What dgt_board_mode answers: what the board tells unasked. */
+enum {
+    DGT_MODE_IDLE = 0,
+    DGT_MODE_UPDATE = 1,       /* each changed square, and the clock each time that it is handed */
+    DGT_MODE_UPDATE_BOARD = 2, /* each changed square */
+    DGT_MODE_UPDATE_NICE = 3   /* each changed square, and the clock where it changed */
+};
+
+uint8_t dgt_board_mode(dgt_board *board);
+
+/* The pieces on the squares, by their numbers. */
+void dgt_board_position(dgt_board *board, uint8_t pieces[64]);
+
+/* What the clock shows. */
+void dgt_board_clock(dgt_board *board, dgt_clock *clock);
+
+/* ---- Plain helpers. */
+
+#define DGT_NO_SUCH 255 /* no piece, no square, no segments */
+
+/* "PRNBKQ" white, "prnbkq" black, '.' none, 'X' 'Y' 'Z' extra pieces; 0 where piece > 15. */
+char dgt_piece_letter(uint8_t piece);
+
+/* The piece with this letter, or DGT_NO_SUCH. */
+uint8_t dgt_piece_code(uint8_t letter);
+
+/* Writes a name as "e4". False, and nothing written, where square > 63. */
+bool dgt_square_name(uint8_t square, char name[3]);
+
+/* The square with this file, 'a' to 'h', and this rank, '1' to '8', or DGT_NO_SUCH. */
+uint8_t dgt_square_number(uint8_t file, uint8_t rank);
+
+/* Writes the placement of a FEN, with a zero at its end. False, and nothing written, where a piece
+ * is above 15. */
+bool dgt_placement(const uint8_t pieces[64], char text[DGT_PLACEMENT_ROOM]);
+
+typedef struct dgt_parsed {
+    bool ok;
+    size_t at; /* where it is not ok: the offset of the first byte with which the text no longer
+                  begins any placement, or its length where it is only too short; else 0 */
+} dgt_parsed;
+
+/* Reads the placement of a FEN. Two digits may stand side by side. Where it is not ok, nothing is
+ * written. */
+dgt_parsed dgt_parse_placement(const char *text, size_t n, uint8_t pieces[64]);
+
+/* The segments of a digit, a space or a hyphen on the clock's display, or DGT_NO_SUCH. From bit 0
+ * on: top, right top, right bottom, bottom, left bottom, left top, middle. */
+uint8_t dgt_segment(uint8_t character);
+
+#ifdef __cplusplus
+}
+#endif
+#endif

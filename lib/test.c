@@ -1,0 +1,274 @@
+/* Makes each call of dgt.h once at least, with memory of exactly the stated size, which is filled
+ * with rubbish before. Exits with 1 and tells the first thing that is not as dgt.h says, or 0. */
+#include "dgt.h"
+
+#include <stdio.h>
+#include <stdlib.h>
+#include <string.h>
+
+#define CHECK(holds)                                              \
+    do {                                                          \
+        if (!(holds)) {                                           \
+            fprintf(stderr, "line %d: %s\n", __LINE__, #holds);   \
+            exit(1);                                              \
+        }                                                         \
+    } while (0)
+
+#define BYTES(...) (const uint8_t[]){__VA_ARGS__}, sizeof((const uint8_t[]){__VA_ARGS__})
+
+static void *room(size_t n) {
+    void *memory = malloc(n > 0 ? n : 1);
+    CHECK(memory);
+    memset(memory, 0xa5, n);
+    return memory;
+}
+
+/* Bytes in a block of their own, so that a read past them is seen. */
+static uint8_t *copy(const void *bytes, size_t n) {
+    uint8_t *copied = room(n);
+    memcpy(copied, bytes, n);
+    return copied;
+}
+
+static dgt_event heard;
+static uint8_t body[8];
+
+/* Has a host hear bytes that make one event, with room for so many bytes of its body. */
+static void hear_one(dgt_host *host, const uint8_t *bytes, size_t n, size_t body_room) {
+    uint8_t *given = copy(bytes, n), *out = room(body_room);
+    dgt_event *event = room(sizeof *event);
+    CHECK(dgt_host_hear(host, given, n, event, out, body_room) == n);
+    heard = *event;
+    memcpy(body, out, body_room < sizeof body ? body_room : sizeof body);
+    free(given), free(out), free(event);
+}
+
+/* Has a host hear all that a board has to send. */
+static void pass_on(dgt_board *board, dgt_host *host) {
+    uint8_t *line = room(DGT_MAX_SENT);
+    for (;;) {
+        bool owes = dgt_board_owes(board);
+        dgt_polled polled = dgt_board_poll(board, line, DGT_MAX_SENT);
+        CHECK(owes == (polled.status == DGT_WROTE));
+        if (!owes) break;
+        hear_one(host, line, polled.bytes, 0);
+    }
+    free(line);
+}
+
+/* What a host sends is taken by a board, command by command. */
+static void bring(dgt_board *board, const uint8_t *bytes, size_t n) {
+    uint8_t *given = copy(bytes, n), *word = room(DGT_MAX_WORD);
+    dgt_command command;
+    for (size_t at = 0; at < n;) {
+        dgt_taken taken = dgt_board_take(board, given + at, n - at, &command, word, DGT_MAX_WORD);
+        CHECK(!taken.busy && taken.used > 0 && command.kind == DGT_COMMAND);
+        CHECK(command.word_len == taken.used && !memcmp(word, given + at, taken.used));
+        at += taken.used;
+    }
+    free(given), free(word);
+}
+
+static void host_and_board(void) {
+    dgt_host *host = room(dgt_host_size());
+    dgt_board *board = room(dgt_board_size());
+    CHECK(dgt_host_new(host) && dgt_board_new(board));
+    uint8_t pieces[64], out[DGT_RESTART_LENGTH], codes[DGT_MAX_AWAITED];
+    char *text = room(DGT_PLACEMENT_ROOM);
+    dgt_clock clock;
+    CHECK(!dgt_host_picture(host, pieces) && !dgt_host_placement(host, text));
+    dgt_host_clock(host, &clock);
+    CHECK(clock.kind == DGT_CLOCK_UNKNOWN && dgt_host_awaited(host, codes) == 0);
+
+    dgt_sent sent = dgt_host_restart(host, out, DGT_RESTART_LENGTH - 1);
+    CHECK(sent.status == DGT_NO_ROOM && sent.bytes == DGT_RESTART_LENGTH);
+    sent = dgt_host_restart(host, out, sizeof out);
+    CHECK(sent.status == DGT_SENT && sent.bytes == sizeof out && out[254] == 0 && out[255] == 0x44);
+    dgt_host_line_lost(host);
+    sent = dgt_host_follow(host, out, 2);
+    CHECK(sent.status == DGT_SENT && sent.bytes == 2 && !memcmp(out, "\x44\x42", 2));
+    CHECK(dgt_host_awaited(host, codes) == 1 && codes[0] == DGT_SEND_DUMP);
+    bring(board, out, 2);
+    CHECK(dgt_board_mode(board) == DGT_MODE_UPDATE_BOARD);
+    CHECK(dgt_board_change(board, 52, 0) && dgt_board_change(board, 36, 1));
+    CHECK(!dgt_board_change(board, 64, 1) && !dgt_board_change(board, 0, 16));
+    dgt_polled polled = dgt_board_poll(board, out, 66);
+    CHECK(polled.status == DGT_NEED_ROOM && polled.bytes == 67);
+    pass_on(board, host);
+    CHECK(dgt_host_placement(host, text));
+    CHECK(!strcmp(text, "rnbqkbnr/pppppppp/8/8/4P3/8/PPPP1PPP/RNBQKBNR"));
+    CHECK(dgt_host_picture(host, pieces) && pieces[36] == 1 && pieces[52] == 0 && pieces[0] == 8);
+    dgt_board_position(board, pieces);
+    CHECK(dgt_placement(pieces, text) && !strncmp(text, "rnbqkbnr/pppppppp/8/8/4P3/8", 27));
+
+    clock = (dgt_clock){DGT_CLOCK_TIMES, 9, {0}, {1, 2, 3, 4}, {5, 6, 7, 0}};
+    CHECK(dgt_board_hand_clock(board, &clock));
+    clock.first.hours = 10;
+    CHECK(!dgt_board_hand_clock(board, &clock));
+    sent = dgt_host_send(host, DGT_SEND_CLOCK, out, 1);
+    CHECK(sent.status == DGT_SENT);
+    bring(board, out, 1);
+    pass_on(board, host);
+    CHECK(heard.kind == DGT_TIMES && heard.clock.first.flags == 4 && heard.clock.status == 9);
+    dgt_host_clock(host, &clock);
+    CHECK(!memcmp(&clock, &heard.clock, sizeof clock) && clock.second.seconds == 7);
+    dgt_board_clock(board, &clock);
+    CHECK(!memcmp(&clock, &heard.clock, sizeof clock));
+
+    sent = dgt_host_send_clock(host, DGT_ID_VERSION, out, 0, out + 1, 5);
+    CHECK(sent.status == DGT_SENT && sent.bytes == 5);
+    bring(board, out + 1, 5);
+    pass_on(board, host);
+    CHECK(heard.kind == DGT_ACK && !memcmp(heard.ack, "\x10\x09\x14\x00", 4));
+    uint8_t leds[DGT_MAX_LEDS + 1] = {1};
+    CHECK(dgt_host_send_leds(host, leds, sizeof leds, out, sizeof out).status == DGT_NO_COMMAND);
+    sent = dgt_host_send_leds(host, leds, DGT_MAX_LEDS, out, sizeof out);
+    CHECK(sent.status == DGT_SENT && sent.bytes == DGT_MAX_WORD && out[2] == 1);
+    bring(board, out, sent.bytes);
+    CHECK(dgt_host_send_clock(host, 1, leds, 253, out, sizeof out).status == DGT_NO_COMMAND);
+    CHECK(dgt_host_send(host, 0x46, out, sizeof out).status == DGT_NO_COMMAND);
+    for (int i = 0; i < 16; i++)
+        CHECK(dgt_host_send(host, DGT_SEND_VERSION, out, 1).status == DGT_SENT);
+    CHECK(dgt_host_send(host, DGT_SEND_VERSION, out, 0).status == DGT_TOO_MANY);
+    CHECK(dgt_host_send(host, DGT_SEND_RESET, out, 0).status == DGT_NO_ROOM);
+
+    for (int i = 0; i < DGT_MAX_OWED; i++) bring(board, BYTES(DGT_SEND_SERIAL));
+    dgt_command command;
+    dgt_taken taken = dgt_board_take(board, BYTES(DGT_SEND_SERIAL), &command, out, 0);
+    CHECK(taken.busy && taken.used == 0 && command.kind == DGT_NO_WORD);
+    dgt_board_line_lost(board);
+    CHECK(!dgt_board_owes(board) && dgt_board_mode(board) == DGT_MODE_IDLE);
+    free(host), free(board), free(text);
+}
+
+static void start(void) {
+    dgt_board *board = room(dgt_board_size());
+    dgt_board_init(board);
+    uint8_t pieces[64] = {12, [63] = 6};
+    dgt_clock clock = {DGT_CLOCK_NONE, DGT_STATUS_ABSENT, {1, 2, 3, 4, 5, 6}, {0}, {0}};
+    dgt_identity identity = {{1, 2, 3, 4, 5}, 6, 7, 8, {64, {9}}, {0, {0}}, {1, {127}}};
+    CHECK(dgt_board_start(board, pieces, &clock, &identity) == DGT_STARTED);
+    uint8_t line[DGT_MAX_SENT];
+    bring(board, BYTES(DGT_SEND_TRADEMARK, DGT_SEND_CLOCK));
+    dgt_polled polled = dgt_board_poll(board, line, sizeof line);
+    CHECK(polled.bytes == 67 && line[0] == 0x92 && line[3] == 9);
+    polled = dgt_board_poll(board, line, sizeof line);
+    CHECK(polled.bytes == 10 && !memcmp(line, "\x8d\0\x0a\1\2\3\4\5\6\x20", 10));
+    identity.trademark.len = 65;
+    CHECK(dgt_board_start(board, pieces, &clock, &identity) == DGT_START_BAD_IDENTITY);
+    clock.raw[3] = 0x0a;
+    CHECK(dgt_board_start(board, pieces, &clock, &identity) == DGT_START_BAD_CLOCK);
+    pieces[7] = 16;
+    CHECK(dgt_board_start(board, pieces, &clock, &identity) == DGT_START_BAD_PIECES);
+    dgt_board_position(board, pieces);
+    CHECK(pieces[0] == 12 && pieces[7] == 0 && pieces[63] == 6);
+    free(board);
+}
+
+static void events(void) {
+    dgt_host *host = room(dgt_host_size());
+    CHECK(dgt_host_new(host));
+    hear_one(host, BYTES(0x92, 0, 6, 'D', 'G', 'T'), 2);
+    CHECK(heard.kind == DGT_TRADEMARK && heard.unasked == 1 && heard.code == 0x12);
+    CHECK(heard.body_len == 3 && !memcmp(body, "DG", 2));
+    hear_one(host, BYTES(0x93, 0, 5, 1, 3), 0);
+    CHECK(heard.kind == DGT_VERSION && heard.main_number == 1 && heard.sub_number == 3);
+    hear_one(host, BYTES(0x91, 0, 8, 1, 2, 3, 4, 5), 0);
+    CHECK(heard.kind == DGT_SERIAL && !memcmp(heard.serial, "\1\2\3\4\5", 5));
+    hear_one(host, BYTES(0xa0, 0, 4, 0x64), 8);
+    CHECK(heard.kind == DGT_BATTERY && heard.body_len == 1 && body[0] == 0x64 && body[1] == 0xa5);
+    hear_one(host, BYTES(0xa2, 0, 4, 1), 1);
+    CHECK(heard.kind == DGT_LONG_SERIAL && body[0] == 1);
+    hear_one(host, BYTES(0x85, 0, 3), 1);
+    CHECK(heard.kind == DGT_OTHER && heard.code == 5 && heard.body_len == 0);
+    hear_one(host, BYTES(0x8e, 0, 5, 64, 0), 0);
+    CHECK(heard.kind == DGT_REFUSED && heard.code == 0x0e);
+    CHECK(heard.fault == DGT_BAD_SQUARE && heard.at == 0);
+    hear_one(host, BYTES(0x8e, 0, 5, 63, 16), 0);
+    CHECK(heard.fault == DGT_BAD_PIECE && heard.at == 1);
+    hear_one(host, BYTES(0x91, 0, 3), 0);
+    CHECK(heard.fault == DGT_WRONG_SIZE);
+    hear_one(host, BYTES(0x8d, 0, 10, 0, 0, 0, 0, 0x60, 0, 0), 0);
+    CHECK(heard.fault == DGT_BAD_READING && heard.at == 4);
+    hear_one(host, BYTES(0x8d, 0, 10, 1, 2, 3, 4, 5, 6, 0x20), 0);
+    CHECK(heard.kind == DGT_NO_CLOCK && heard.clock.raw[5] == 6 && heard.clock.status == 0x20);
+    hear_one(host, BYTES(0x31), 0);
+    CHECK(heard.kind == DGT_STRAY && heard.byte == 0x31);
+    hear_one(host, BYTES(0x86, 0, 2), 0);
+    CHECK(heard.kind == DGT_BAD_LENGTH);
+    hear_one(host, BYTES(0x86, 0, 67, 1, 2, 0x86), 0);
+    CHECK(heard.kind == DGT_CUT && heard.have == 5 && dgt_host_unread(host) == 1);
+    hear_one(host, BYTES(0), 0);
+    CHECK(heard.kind == DGT_NONE && dgt_host_unread(host) == 2);
+    hear_one(host, body, 0, 0);
+    CHECK(heard.kind == DGT_NONE);
+    free(host);
+}
+
+static void decoders(void) {
+    dgt_decoder *decoder = room(dgt_decoder_size());
+    CHECK(dgt_decoder_new(decoder));
+    dgt_event event;
+    uint8_t out[4];
+    CHECK(dgt_decoder_feed(decoder, BYTES(0x8e, 0, 5, 36, 1, 7), &event, out, 4) == 5);
+    CHECK(event.kind == DGT_FIELD && event.square == 36 && event.piece == 1 && !event.unasked);
+    CHECK(dgt_decoder_feed(decoder, BYTES(0x8e, 0), &event, out, 4) == 2 && event.kind == DGT_NONE);
+    CHECK(dgt_decoder_rest(decoder) == 2 && dgt_decoder_finish(decoder) == 2);
+    CHECK(dgt_decoder_finish(decoder) == 0);
+    CHECK(dgt_decoder_feed(decoder, BYTES(0x8e, 0), &event, out, 4) == 2);
+    dgt_decoder_reset(decoder);
+    CHECK(dgt_decoder_rest(decoder) == 0);
+    free(decoder);
+
+    dgt_command_decoder *reader = room(dgt_command_decoder_size());
+    CHECK(dgt_command_decoder_new(reader));
+    dgt_command command;
+    CHECK(dgt_command_decoder_feed(reader, BYTES(0x2b, 4, 3, 0x0b, 9, 0, 7), &command, out, 4) == 6);
+    CHECK(command.kind == DGT_COMMAND && command.code == 0x2b && command.id == DGT_ID_BEEP);
+    CHECK(command.word_len == 6 && !memcmp(out, "\x2b\4\3\x0b", 4));
+    CHECK(dgt_command_decoder_feed(reader, BYTES(0x46), &command, out, 4) == 1);
+    CHECK(command.kind == DGT_STRAY_BYTE && command.byte == 0x46);
+    CHECK(dgt_command_decoder_feed(reader, BYTES(0x2b, 2), &command, out, 4) == 2);
+    CHECK(command.kind == DGT_BAD_SIZE);
+    CHECK(dgt_command_decoder_feed(reader, BYTES(0x2b, 3, 4), &command, out, 4) == 3);
+    CHECK(command.kind == DGT_BAD_START);
+    CHECK(dgt_command_decoder_feed(reader, BYTES(0x2b, 3, 3, 9, 1), &command, out, 4) == 5);
+    CHECK(command.kind == DGT_BAD_END);
+    CHECK(dgt_command_decoder_feed(reader, BYTES(0x60, 5), &command, out, 4) == 2);
+    CHECK(dgt_command_decoder_rest(reader) == 2 && dgt_command_decoder_finish(reader) == 2);
+    dgt_command_decoder_reset(reader);
+    CHECK(dgt_command_decoder_rest(reader) == 0);
+    free(reader);
+}
+
+static void helpers(void) {
+    char name[3];
+    CHECK(dgt_piece_letter(11) == 'k' && dgt_piece_letter(16) == 0);
+    CHECK(dgt_piece_code('k') == 11 && dgt_piece_code('x') == DGT_NO_SUCH);
+    CHECK(dgt_square_name(36, name) && !strcmp(name, "e4") && !dgt_square_name(64, name));
+    CHECK(dgt_square_number('e', '4') == 36 && dgt_square_number('i', '4') == DGT_NO_SUCH);
+    CHECK(dgt_segment('8') == 0x7f && dgt_segment('x') == DGT_NO_SUCH);
+    uint8_t pieces[64];
+    char text[DGT_PLACEMENT_ROOM];
+    dgt_parsed parsed = dgt_parse_placement("8/8/8/8/8/8/8/K6k", 17, pieces);
+    CHECK(parsed.ok && parsed.at == 0 && pieces[56] == 5 && pieces[63] == 11);
+    CHECK(dgt_placement(pieces, text) && !strcmp(text, "8/8/8/8/8/8/8/K6k"));
+    parsed = dgt_parse_placement("8/8/8/8/8/8/8/K6\xff", 17, pieces);
+    CHECK(!parsed.ok && parsed.at == 16);
+    parsed = dgt_parse_placement("8/8", 3, pieces);
+    CHECK(!parsed.ok && parsed.at == 3 && pieces[63] == 11);
+    pieces[0] = 16;
+    CHECK(!dgt_placement(pieces, text));
+}
+
+int main(void) {
+    CHECK(sizeof(dgt_host) == dgt_host_size() && sizeof(dgt_decoder) == dgt_decoder_size());
+    CHECK(sizeof(dgt_board) == dgt_board_size());
+    CHECK(sizeof(dgt_command_decoder) == dgt_command_decoder_size());
+    host_and_board();
+    start();
+    events();
+    decoders();
+    helpers();
+    return 0;
+}

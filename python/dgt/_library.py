@@ -1,0 +1,134 @@
+"""The shared library, and the structs of dgt.h."""
+
+from __future__ import annotations
+
+import ctypes
+import os
+from ctypes import POINTER, Structure, c_bool, c_size_t, c_uint8, c_void_p
+from pathlib import Path
+
+MAX_BODY = 16380
+MAX_WORD = 257
+MAX_AWAITED = 16
+RESTART_LENGTH = 257
+MAX_SENT = 67
+MAX_KEPT = 64
+PLACEMENT_ROOM = 72
+NO_SUCH = 255
+
+
+class TimeStruct(Structure):
+    _fields_ = [(name, c_uint8) for name in ("hours", "minutes", "seconds", "flags")]
+
+
+class ClockStruct(Structure):
+    _fields_ = [("kind", c_uint8), ("status", c_uint8), ("raw", c_uint8 * 6),
+                ("first", TimeStruct), ("second", TimeStruct)]
+
+
+class EventStruct(Structure):
+    _fields_ = [(name, c_uint8) for name in (
+        "kind", "unasked", "code", "square", "piece", "main_number", "sub_number", "byte", "fault",
+        "ack_status")] + [
+        ("ack", c_uint8 * 4), ("serial", c_uint8 * 5), ("clock", ClockStruct),
+        ("pieces", c_uint8 * 64), ("have", c_size_t), ("at", c_size_t), ("body_len", c_size_t)]
+
+
+class CommandStruct(Structure):
+    _fields_ = [(name, c_uint8) for name in ("kind", "code", "id", "byte")] + [
+        ("word_len", c_size_t)]
+
+
+class SentStruct(Structure):
+    _fields_ = [("status", c_uint8), ("bytes", c_size_t)]
+
+
+class TakenStruct(Structure):
+    _fields_ = [("busy", c_bool), ("used", c_size_t)]
+
+
+class PolledStruct(Structure):
+    _fields_ = [("status", c_uint8), ("bytes", c_size_t)]
+
+
+class ParsedStruct(Structure):
+    _fields_ = [("ok", c_bool), ("at", c_size_t)]
+
+
+class BodyStruct(Structure):
+    _fields_ = [("len", c_size_t), ("bytes", c_uint8 * MAX_KEPT)]
+
+
+class IdentityStruct(Structure):
+    _fields_ = [("serial", c_uint8 * 5), ("main_number", c_uint8), ("sub_number", c_uint8),
+                ("clock_version", c_uint8), ("trademark", BodyStruct), ("battery", BodyStruct),
+                ("long_serial", BodyStruct)]
+
+
+_ROOM = (c_void_p, c_size_t)
+_HANDLE = {
+    "size": (c_size_t,),
+    "init": (None, c_void_p),
+}
+_FUNCTIONS = {
+    "dgt_host": _HANDLE | {
+        "hear": (c_size_t, c_void_p, *_ROOM, c_void_p, *_ROOM),
+        "follow": (SentStruct, c_void_p, *_ROOM),
+        "restart": (SentStruct, c_void_p, *_ROOM),
+        "send": (SentStruct, c_void_p, c_uint8, *_ROOM),
+        "send_clock": (SentStruct, c_void_p, c_uint8, *_ROOM, *_ROOM),
+        "send_leds": (SentStruct, c_void_p, *_ROOM, *_ROOM),
+        "picture": (c_bool, c_void_p, c_void_p),
+        "placement": (c_bool, c_void_p, c_void_p),
+        "clock": (None, c_void_p, POINTER(ClockStruct)),
+        "awaited": (c_size_t, c_void_p, c_void_p),
+        "unread": (c_size_t, c_void_p),
+        "line_lost": (None, c_void_p),
+    },
+    "dgt_decoder": _HANDLE | {
+        "feed": (c_size_t, c_void_p, *_ROOM, c_void_p, *_ROOM),
+        "rest": (c_size_t, c_void_p),
+        "finish": (c_size_t, c_void_p),
+        "reset": (None, c_void_p),
+    },
+    "dgt_command_decoder": _HANDLE | {
+        "feed": (c_size_t, c_void_p, *_ROOM, POINTER(CommandStruct), *_ROOM),
+        "rest": (c_size_t, c_void_p),
+        "finish": (c_size_t, c_void_p),
+        "reset": (None, c_void_p),
+    },
+    "dgt_board": _HANDLE | {
+        "start": (c_uint8, c_void_p, c_void_p, POINTER(ClockStruct), POINTER(IdentityStruct)),
+        "change": (c_bool, c_void_p, c_uint8, c_uint8),
+        "hand_clock": (c_bool, c_void_p, POINTER(ClockStruct)),
+        "line_lost": (None, c_void_p),
+        "take": (TakenStruct, c_void_p, *_ROOM, POINTER(CommandStruct), *_ROOM),
+        "poll": (PolledStruct, c_void_p, *_ROOM),
+        "owes": (c_bool, c_void_p),
+        "mode": (c_uint8, c_void_p),
+        "position": (None, c_void_p, c_void_p),
+        "clock": (None, c_void_p, POINTER(ClockStruct)),
+    },
+    "dgt": {
+        "placement": (c_bool, c_void_p, c_void_p),
+        "parse_placement": (ParsedStruct, *_ROOM, c_void_p),
+        "segment": (c_uint8, c_uint8),
+    },
+}
+
+
+def _load() -> ctypes.CDLL:
+    """The library beside this file, or else that of the source tree, or else the system's."""
+    here = Path(__file__).resolve().parent
+    named = os.environ.get("DGT_LIBRARY")
+    places = [here / "libdgt.so", here.parent.parent / "lib" / "out" / "libdgt.so"]
+    found = [str(place) for place in places if place.exists()]
+    library = ctypes.CDLL(named or (found + ["libdgt.so.0"])[0])
+    for prefix, functions in _FUNCTIONS.items():
+        for name, (result, *parameters) in functions.items():
+            function = getattr(library, f"{prefix}_{name}")
+            function.restype, function.argtypes = result, parameters
+    return library
+
+
+dgt = _load()

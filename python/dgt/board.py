@@ -1,0 +1,162 @@
+"""A board, as a host meets it on the line."""
+
+from __future__ import annotations
+
+from collections.abc import Iterator
+from ctypes import byref, c_uint8
+from dataclasses import dataclass
+from enum import IntEnum
+from typing import Any
+
+from ._handle import Handle, readable, writable
+from ._library import (MAX_KEPT, MAX_SENT, MAX_WORD, BodyStruct, ClockStruct, CommandStruct,
+                       IdentityStruct, dgt)
+from .commands import Word, read_word
+from .errors import BadValue, Busy
+from .values import Clock, Position, Times, byte, clock_struct, piece_code, read_clock
+from .values import square_number
+
+_STARTED = 0
+_WROTE = 1
+
+
+class Mode(IntEnum):
+    """What a board tells unasked."""
+
+    IDLE = 0
+    UPDATE = 1
+    UPDATE_BOARD = 2
+    UPDATE_NICE = 3
+
+
+@dataclass(frozen=True, slots=True)
+class Identity:
+    """What a board tells of itself. Each byte of the serial number and of the bodies is below 128,
+    and a body has at most 64 bytes."""
+
+    serial: bytes = b"00001"
+    trademark: bytes = b"SIMULATED BOARD"
+    main: int = 1
+    sub: int = 3
+    battery: bytes = b"\x64"
+    clock_version: int = 0x14
+    long_serial: bytes = b"0000000001"
+
+    def _struct(self) -> IdentityStruct:
+        if not isinstance(self.serial, bytes) or len(self.serial) != 5:
+            raise BadValue(f"a serial number is five bytes: {self.serial!r}")
+        return IdentityStruct(
+            (c_uint8 * 5)(*self.serial), byte(self.main, "a version"), byte(self.sub, "a version"),
+            byte(self.clock_version, "a version"), _body(self.trademark), _body(self.battery),
+            _body(self.long_serial))
+
+
+def _body(body: bytes) -> BodyStruct:
+    if not isinstance(body, bytes) or len(body) > MAX_KEPT:
+        raise BadValue(f"no body of at most {MAX_KEPT} bytes: {body!r}")
+    return BodyStruct(len(body), (c_uint8 * MAX_KEPT)(*body))
+
+
+class Board(Handle):
+    """A board: what stands on its squares, its clock, and what it has still to tell. It owns no
+    line: hand it what comes from the host, and write what it gives to the line."""
+
+    _prefix = "dgt_board"
+
+    def __init__(self, position: Position | None = None, clock: Clock | None = None,
+                 identity: Identity | None = None) -> None:
+        super().__init__()
+        self._told = CommandStruct()
+        self._word, self._word_at = writable(MAX_WORD)
+        self._out, self._out_at = writable(MAX_SENT)
+        position = Position.start() if position is None else position
+        identity = Identity() if identity is None else identity
+        if not isinstance(position, Position) or not isinstance(identity, Identity):
+            raise TypeError("a board is made of a Position, a clock and an Identity")
+        codes, said = position.codes, identity._struct()
+        shown = clock_struct(Times() if clock is None else clock)
+        status = dgt.dgt_board_start(self._at, (c_uint8 * 64).from_buffer_copy(codes), byref(shown),
+                                     byref(said))
+        if status != _STARTED:
+            what = {1: "position", 2: "clock", 3: "identity"}[status]
+            raise BadValue(f"the {what} of a board is out of its range")
+
+    def change(self, square: str, piece: str) -> None:
+        """Puts the piece with this letter on a square, or takes one off with a dot."""
+        number, code = square_number(square), piece_code(piece)
+        with self._lock:
+            dgt.dgt_board_change(self._open(), number, code)
+
+    def hand_clock(self, clock: Clock) -> None:
+        """Sets what the clock shows."""
+        shown = clock_struct(clock)
+        with self._lock:
+            if not dgt.dgt_board_hand_clock(self._open(), byref(shown)):
+                raise BadValue(f"no clock shows this: {clock!r}")
+
+    def take(self, piece: Any) -> tuple[int, Word | None]:
+        """Uses bytes of the host up to and including the first that completes a command or shows a
+        fault, or all of them: how many, and the command or fault. `Busy` where the board owes
+        eight replies."""
+        held, address = readable(piece)
+        with self._lock:
+            taken = dgt.dgt_board_take(self._open(), address, len(held), byref(self._told),
+                                       self._word_at, MAX_WORD)
+            if taken.busy:
+                raise Busy("the board owes eight replies")
+            word = read_word(self._told, self._word) if self._told.kind else None
+        return taken.used, word
+
+    def poll(self) -> bytes | None:
+        """The next message that is to be sent, where there is one. It is taken for sent."""
+        with self._lock:
+            polled = dgt.dgt_board_poll(self._open(), self._out_at, MAX_SENT)
+            return bytes(self._out[:polled.bytes]) if polled.status == _WROTE else None
+
+    def messages(self) -> Iterator[bytes]:
+        """All messages that are to be sent, one after another."""
+        while (message := self.poll()) is not None:
+            yield message
+
+    def answers(self, piece: Any) -> Iterator[bytes]:
+        """Takes all of a host's bytes, and gives the messages that they ask for, one after
+        another."""
+        held, _ = readable(piece)
+        at = 0
+        while at < len(held):
+            at += self.take(held[at:])[0]
+            yield from self.messages()
+
+    @property
+    def owes(self) -> bool:
+        """Whether there is anything to send."""
+        with self._lock:
+            return dgt.dgt_board_owes(self._open())
+
+    @property
+    def mode(self) -> Mode:
+        """What the board tells unasked."""
+        with self._lock:
+            return Mode(dgt.dgt_board_mode(self._open()))
+
+    @property
+    def position(self) -> Position:
+        """What stands on the squares."""
+        codes = (c_uint8 * 64)()
+        with self._lock:
+            dgt.dgt_board_position(self._open(), codes)
+        return Position(bytes(codes))
+
+    @property
+    def clock(self) -> Clock:
+        """What the clock shows."""
+        shown = ClockStruct()
+        with self._lock:
+            dgt.dgt_board_clock(self._open(), byref(shown))
+        return read_clock(shown)
+
+    def line_lost(self) -> None:
+        """The line is lost: the board keeps its squares, its clock and its identity, and is else
+        as new."""
+        with self._lock:
+            dgt.dgt_board_line_lost(self._open())

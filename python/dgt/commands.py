@@ -1,0 +1,101 @@
+"""What the bytes of a host tell, and what a host asks for."""
+
+from __future__ import annotations
+
+from dataclasses import dataclass
+from enum import IntEnum
+
+from ._library import CommandStruct
+
+
+class Ask(IntEnum):
+    """The commands of one byte."""
+
+    RESET = 0x40
+    CLOCK = 0x41
+    DUMP = 0x42
+    UPDATE = 0x43
+    UPDATE_BOARD = 0x44
+    SERIAL = 0x45
+    TRADEMARK = 0x47
+    UPDATE_NICE = 0x4B
+    BATTERY = 0x4C
+    VERSION = 0x4D
+    LONG_SERIAL = 0x55
+
+
+class ClockId(IntEnum):
+    """The ids of clock messages."""
+
+    DISPLAY = 0x01
+    ICONS = 0x02
+    END = 0x03
+    BUTTON = 0x08
+    VERSION = 0x09
+    SET_AND_RUN = 0x0A
+    BEEP = 0x0B
+    TEXT = 0x0C
+
+
+@dataclass(frozen=True, slots=True)
+class Asked:
+    """A command of one byte."""
+
+    ask: Ask
+
+
+@dataclass(frozen=True, slots=True)
+class ClockMessage:
+    """A message to the clock."""
+
+    id: int
+    payload: bytes
+
+
+@dataclass(frozen=True, slots=True)
+class Leds:
+    """An LED frame."""
+
+    leds: bytes
+
+
+@dataclass(frozen=True, slots=True)
+class BadSize:
+    """The second byte of a clock message, its size, is below 3."""
+
+
+@dataclass(frozen=True, slots=True)
+class BadStart:
+    """The third byte of a clock message isn't 03."""
+
+
+@dataclass(frozen=True, slots=True)
+class BadEnd:
+    """The last byte of a clock message isn't 00."""
+
+
+@dataclass(frozen=True, slots=True)
+class StrayByte:
+    """A byte that begins no command."""
+
+    byte: int
+
+
+Command = Asked | ClockMessage | Leds
+Word = Command | BadSize | BadStart | BadEnd | StrayByte
+
+_COMMAND, _BAD_SIZE, _BAD_START, _BAD_END, _STRAY = range(1, 6)
+_CLOCK_MESSAGE, _LEDS = 0x2B, 0x60
+
+
+def read_word(told: CommandStruct, word: bytearray) -> Word:
+    """The command or fault that the library tells, where it tells one."""
+    if told.kind == _COMMAND:
+        if told.code == _CLOCK_MESSAGE:
+            return ClockMessage(told.id, bytes(word[4:told.word_len - 1]))
+        if told.code == _LEDS:
+            return Leds(bytes(word[2:told.word_len]))
+        return Asked(Ask(told.code))
+    if told.kind == _STRAY:
+        return StrayByte(told.byte)
+    return {_BAD_SIZE: BadSize, _BAD_START: BadStart, _BAD_END: BadEnd}[told.kind]()

@@ -1,0 +1,116 @@
+"""The host of a board."""
+
+from __future__ import annotations
+
+from collections.abc import Callable, Iterator
+from ctypes import byref, c_char, c_uint8
+from typing import Any
+
+from ._handle import readable, writable
+from ._library import (MAX_AWAITED, MAX_WORD, PLACEMENT_ROOM, RESTART_LENGTH, ClockStruct,
+                       SentStruct, dgt)
+from .commands import Ask, ClockId
+from .decoder import EventReader
+from .errors import NoSuchCommand, TooManyAwaited
+from .events import Event
+from .values import Clock, Position, byte, read_clock
+
+_SENT, _TOO_MANY, _NO_ROOM, _NO_COMMAND = range(4)
+
+
+class Host(EventReader):
+    """Asks a board, and keeps a picture of it from what it hears. It owns no line: write what it
+    gives to the line, and have it hear what comes from there, in pieces of any length."""
+
+    _prefix, _feed_name = "dgt_host", "hear"
+
+    def __init__(self) -> None:
+        super().__init__()
+        self._out, self._out_at = writable(max(RESTART_LENGTH, MAX_WORD))
+
+    def hear(self, piece: Any) -> list[Event]:
+        """The events that a piece of bytes makes. A message changes what the host knows."""
+        return self._all(piece)
+
+    def hear_each(self, piece: Any) -> Iterator[Event]:
+        """The same one after another. A byte is heard once the event before it was taken, so that
+        the host's picture is that behind the event."""
+        return self._each(*readable(piece))
+
+    def _sent(self, send: Callable[[int], SentStruct]) -> bytes:
+        with self._lock:
+            sent = send(self._open())
+            if sent.status == _SENT:
+                return bytes(self._out[:sent.bytes])
+        if sent.status == _TOO_MANY:
+            raise TooManyAwaited("16 replies are awaited already")
+        raise NoSuchCommand("there is no such command")
+
+    def follow(self) -> bytes:
+        """What asks for each change from now on, and for all squares."""
+        return self._sent(lambda at: dgt.dgt_host_follow(at, self._out_at, len(self._out)))
+
+    def restart(self) -> bytes:
+        """The same behind zeros that end whatever command the board is in the middle of."""
+        return self._sent(lambda at: dgt.dgt_host_restart(at, self._out_at, len(self._out)))
+
+    def send(self, ask: Ask | int) -> bytes:
+        """The command of one byte."""
+        code = byte(ask, "a command")
+        return self._sent(lambda at: dgt.dgt_host_send(at, code, self._out_at, len(self._out)))
+
+    def send_clock(self, id: ClockId | int, payload: Any = b"") -> bytes:
+        """A message to the clock."""
+        number = byte(id, "an id")
+        held, address = readable(payload)
+        return self._sent(lambda at: dgt.dgt_host_send_clock(
+            at, number, address, len(held), self._out_at, len(self._out)))
+
+    def send_leds(self, leds: Any) -> bytes:
+        """An LED frame."""
+        held, address = readable(leds)
+        return self._sent(lambda at: dgt.dgt_host_send_leds(
+            at, address, len(held), self._out_at, len(self._out)))
+
+    @property
+    def picture(self) -> Position | None:
+        """What stands on the board, where a dump was heard."""
+        codes = (c_uint8 * 64)()
+        with self._lock:
+            known = dgt.dgt_host_picture(self._open(), codes)
+        return Position(bytes(codes)) if known else None
+
+    @property
+    def placement(self) -> str | None:
+        """The same as the first field of a FEN."""
+        text = (c_char * PLACEMENT_ROOM)()
+        with self._lock:
+            known = dgt.dgt_host_placement(self._open(), text)
+        return text.value.decode() if known else None
+
+    @property
+    def clock(self) -> Clock | None:
+        """What the board told last of its clock, where it told of it."""
+        told = ClockStruct()
+        with self._lock:
+            dgt.dgt_host_clock(self._open(), byref(told))
+        return read_clock(told)
+
+    @property
+    def awaited(self) -> list[Ask]:
+        """The questions whose replies are awaited, the next one first."""
+        codes = (c_uint8 * MAX_AWAITED)()
+        with self._lock:
+            count = dgt.dgt_host_awaited(self._open(), codes)
+        return [Ask(code) for code in codes[:count]]
+
+    @property
+    def unread(self) -> int:
+        """How many bytes were heard of a message that is not finished."""
+        with self._lock:
+            return dgt.dgt_host_unread(self._open())
+
+    def line_lost(self) -> None:
+        """The line is lost, and what was under way on it: the host is as new."""
+        with self._lock:
+            dgt.dgt_host_line_lost(self._open())
