@@ -14,14 +14,19 @@ import chromium
 
 EXAMPLES = pathlib.Path(__file__).resolve().parent.parent
 PYTHON = "/usr/bin/python3"  # Debian's, which has Debian's modules
-ALIVE = "/usr/sbin:" + os.environ["PATH"]  # Debian has the broker in /usr/sbin
+# Debian has the broker in /usr/sbin, and eboard in /usr/games.
+ALIVE = "/usr/sbin:/usr/games:" + os.environ["PATH"]
 MODULE = "import paho.mqtt.client"
 
 
+def absent(packages):
+    """Which of these packages of Debian aren't here, each known by a program."""
+    return [name for name, program in packages.items() if not shutil.which(program, path=ALIVE)]
+
+
 def missing():
-    """The packages of Debian whose programs aren't here."""
-    packages = {"mosquitto": "mosquitto", "mosquitto-clients": "mosquitto_pub"}
-    found = [name for name, program in packages.items() if not shutil.which(program, path=ALIVE)]
+    """The packages of Debian that the page needs and that aren't here."""
+    found = absent({"mosquitto": "mosquitto", "mosquitto-clients": "mosquitto_pub"})
     quiet = {"stdout": subprocess.DEVNULL, "stderr": subprocess.DEVNULL}
     if not shutil.which(PYTHON) or subprocess.run([PYTHON, "-c", MODULE], **quiet).returncode:
         found.append("python3-paho-mqtt")
