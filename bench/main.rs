@@ -10,6 +10,7 @@ mod world;
 // A slice crosses as a pointer and a length.
 unsafe extern "C" {
     fn dgt_bench_decode(bytes: *const u8, len: usize, most: usize) -> u64;
+    fn dgt_bench_hear(bytes: *const u8, len: usize) -> u64;
     fn dgt_bench_monitor(bytes: *const u8, len: usize) -> u64;
 }
 
@@ -94,6 +95,8 @@ fn main() {
         || unsafe { dgt_bench_decode(black_box(longest.as_ptr()), longest.len(), LONGEST) },
         || plain::copies(black_box(&longest), LONGEST),
     );
+    let (hear, _) = timed(|| unsafe { dgt_bench_hear(black_box(fields.as_ptr()), fields.len()) });
+    println!("Host::hear, fields: {:.1} ns each", hear * 1e3 / LINES as f64);
     compare_monitor("monitor, fields", LINES as usize, &fields);
     compare_monitor("monitor, dumps", 10_000, &dumps);
     compare_monitor("monitor, longest messages", 200, &longest);
