@@ -8,7 +8,7 @@
  *     static dgt_host host;                         // 16 KB
  *     uint8_t out[DGT_RESTART_LENGTH], body[DGT_MAX_BODY];
  *     dgt_event event;
- *     if (!dgt_host_new(&host)) return 1;           // the library is another than this header's
+ *     if (!dgt_host_new(&host)) return 1;           // the library has another size for it
  *     dgt_sent sent = dgt_host_restart(&host, out, sizeof out);
  *     write(line, out, sent.bytes);
  *     while ((n = read(line, piece, sizeof piece)) > 0)
@@ -21,21 +21,22 @@
  * outside the memory that it is given, fails to return, or does other than is said here, whatever
  * the bytes are. Where you don't, nothing is promised, and nothing is tested when the program runs.
  *
- *  - No pointer is null, also where its length is 0 (pass any address then). A length is at most
- *    2^63 - 1, and so many bytes may be read or written there. An array parameter has its stated
- *    length. What a call reads is initialised.
+ *  - No pointer is null, also where its length is 0 (pass any address then), and each is aligned as
+ *    its type is. A length is at most 2^63 - 1, and so many bytes may be read or written there. An
+ *    array parameter has its stated length. What a call reads is initialised.
  *  - A handle is a dgt_host, a dgt_decoder, a dgt_command_decoder or a dgt_board. It is made by its
  *    _new or its _init before any other call. Afterwards it is not copied and not moved, neither by
  *    assignment nor by memcpy or realloc: it points into itself. Don't touch its members. There is
  *    nothing to free: stop using it, and its memory is yours again.
  *  - The arguments of one call don't overlap: not a slice and a struct, not a slice and the handle.
+ *    Until it returns, nobody else writes what it is handed, or reads what it writes.
  *  - Two calls with the same handle never run at once: neither in two threads without a lock
  *    between them, nor in a signal handler. Different handles are independent. A handle goes to
  *    another thread under a lock, or by starting or joining that thread.
  *
  * Calls that only look still take a handle that is not const: for the time of the call it is theirs
- * alone. What a struct or a slice holds before a call that writes it is overwritten, and may be
- * uninitialised; a slice keeps what stands behind the bytes that are written.
+ * alone. A struct or a slice that a call writes may hold anything before; a slice keeps what stands
+ * behind the bytes that are written.
  *
  * Squares are numbered rank by rank from 8 down: a8 is 0, b8 is 1, h8 is 7, a7 is 8 and h1 is 63.
  * Pieces are numbered as on the line: 0 is none; 1 to 6 white and 7 to 12 black pawn, rook, knight,
@@ -121,6 +122,7 @@ enum {
     DGT_STATUS_ABSENT = 0x20 /* set where the kind is DGT_CLOCK_NONE, and only there */
 };
 
+/* Where it is handed in, members that its kind doesn't set are not looked at. */
 typedef struct dgt_clock {
     uint8_t kind;
     uint8_t status; /* 0 to 127 */
@@ -241,7 +243,8 @@ size_t dgt_host_size(void);
  * and awaits nothing. */
 void dgt_host_init(dgt_host *host);
 
-/* The same; false, and nothing done, where this header is not of the library that is linked. */
+/* The same; false, and nothing done, where the library that is linked has another size for it than
+ * this header. */
 static inline bool dgt_host_new(dgt_host *host) {
     if (dgt_host_size() != sizeof *host) return false;
     dgt_host_init(host);
@@ -315,20 +318,25 @@ void dgt_host_line_lost(dgt_host *host);
 
 /* ---- A decoder: tells the events of a board's bytes, and keeps no picture. */
 
+/* How many bytes a dgt_decoder takes, by the library that is linked. */
 size_t dgt_decoder_size(void);
+
+/* Makes the memory at `decoder`, of dgt_decoder_size() bytes and aligned to 8, a decoder that holds
+ * nothing. */
 void dgt_decoder_init(dgt_decoder *decoder);
 
+/* The same; false, and nothing done, where the sizes differ, as with dgt_host_new. */
 static inline bool dgt_decoder_new(dgt_decoder *decoder) {
     if (dgt_decoder_size() != sizeof *decoder) return false;
     dgt_decoder_init(decoder);
     return true;
 }
 
-/* As dgt_host_hear. `unasked` is false. */
+/* As dgt_host_hear, without what a host knows. `unasked` is 0. */
 size_t dgt_decoder_feed(dgt_decoder *decoder, const uint8_t *bytes, size_t n, dgt_event *event,
                         uint8_t *body, size_t room);
 
-/* How many bytes have come of a message that is not finished. */
+/* How many bytes have come of a message that is not finished: at most 16382. */
 size_t dgt_decoder_rest(dgt_decoder *decoder);
 
 /* The same, at the end of the bytes. The decoder is as new then. */
@@ -339,9 +347,14 @@ void dgt_decoder_reset(dgt_decoder *decoder);
 
 /* ---- A reader of commands: tells the commands in a host's bytes. */
 
+/* How many bytes a dgt_command_decoder takes, by the library that is linked. */
 size_t dgt_command_decoder_size(void);
+
+/* Makes the memory at `decoder`, of dgt_command_decoder_size() bytes and aligned to 8, a reader
+ * that holds nothing. */
 void dgt_command_decoder_init(dgt_command_decoder *decoder);
 
+/* The same; false, and nothing done, where the sizes differ, as with dgt_host_new. */
 static inline bool dgt_command_decoder_new(dgt_command_decoder *decoder) {
     if (dgt_command_decoder_size() != sizeof *decoder) return false;
     dgt_command_decoder_init(decoder);
@@ -355,7 +368,7 @@ static inline bool dgt_command_decoder_new(dgt_command_decoder *decoder) {
 size_t dgt_command_decoder_feed(dgt_command_decoder *decoder, const uint8_t *bytes, size_t n,
                                 dgt_command *command, uint8_t *word, size_t room);
 
-/* How many bytes have come of a command that is not finished. */
+/* How many bytes have come of a command that is not finished: at most 256. */
 size_t dgt_command_decoder_rest(dgt_command_decoder *decoder);
 
 /* The same, at the end of the bytes. The reader is as new then. */
@@ -366,12 +379,15 @@ void dgt_command_decoder_reset(dgt_command_decoder *decoder);
 
 /* ---- A board, as a host meets it on the line. */
 
+/* How many bytes a dgt_board takes, by the library that is linked. */
 size_t dgt_board_size(void);
 
-/* A board in the position in which a game begins, with a clock that shows 0:00:00 twice, and the
- * identity of a simulated board. */
+/* Makes the memory at `board`, of dgt_board_size() bytes and aligned to 8, a board in the position
+ * in which a game begins, with a clock that shows 0:00:00 twice, and the identity of a simulated
+ * board. */
 void dgt_board_init(dgt_board *board);
 
+/* The same; false, and nothing done, where the sizes differ, as with dgt_host_new. */
 static inline bool dgt_board_new(dgt_board *board) {
     if (dgt_board_size() != sizeof *board) return false;
     dgt_board_init(board);
@@ -400,8 +416,8 @@ typedef struct dgt_identity {
 enum {
     DGT_STARTED = 0,
     DGT_START_BAD_PIECES = 1,   /* a number above 15 */
-    DGT_START_BAD_CLOCK = 2,    /* a member of the clock is out of its range, or its kind is
-                                   neither DGT_CLOCK_TIMES nor DGT_CLOCK_NONE */
+    DGT_START_BAD_CLOCK = 2,    /* a member that the clock's kind sets is out of its range, or the
+                                   kind is neither DGT_CLOCK_TIMES nor DGT_CLOCK_NONE */
     DGT_START_BAD_IDENTITY = 3  /* a member of the identity is out of its range */
 };
 
@@ -415,7 +431,8 @@ uint8_t dgt_board_start(dgt_board *board, const uint8_t pieces[64], const dgt_cl
  * piece > 15. */
 bool dgt_board_change(dgt_board *board, uint8_t square, uint8_t piece);
 
-/* Sets what the clock shows. False, and nothing changed, where a member is out of its range. */
+/* Sets what the clock shows. False, and nothing changed, where dgt_board_start would answer
+ * DGT_START_BAD_CLOCK. */
 bool dgt_board_hand_clock(dgt_board *board, const dgt_clock *clock);
 
 /* The line is lost, and what was under way on it: the board keeps its squares, its clock and its
@@ -448,8 +465,9 @@ typedef struct dgt_polled {
 } dgt_polled;
 
 /* Writes the next message that is to be sent, and takes it for sent: the owed replies in their
- * order, then the squares that differ from what was told, then the clock. DGT_MAX_SENT bytes are
- * room for each. */
+ * order, then, where the mode asks for them, the squares that differ from what was told, then the
+ * clock where it is to be told. DGT_MAX_SENT bytes are room for each. With no call in between that
+ * changes the board, DGT_NOTHING comes after at most 73 messages. */
 dgt_polled dgt_board_poll(dgt_board *board, uint8_t *out, size_t n);
 
 /* Whether there is anything to send. */
@@ -463,6 +481,7 @@ enum {
     DGT_MODE_UPDATE_NICE = 3   /* each changed square, and the clock where it changed */
 };
 
+/* The mode, one of these. */
 uint8_t dgt_board_mode(dgt_board *board);
 
 /* The pieces on the squares, by their numbers. */

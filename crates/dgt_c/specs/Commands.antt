@@ -5,7 +5,7 @@ use Rattle.dgt_command.specs.Content.{CommandContent, EventContent, Read, BadSiz
 use Rattle.dgt_command.specs.Spelling.{command_code, command_spelling}
 use Rattle.dgt_c.specs.Slices.{overwritten}
 use Rattle.dgt_c.specs.declared.commands.DgtCommand.{DgtCommand}
-use Rattle.dgt_c.specs.declared.commands.TheConstants.{NO_COMMAND, COMMAND_READ, COMMAND_BAD_SIZE, COMMAND_BAD_START, COMMAND_BAD_END, COMMAND_STRAY}
+use Rattle.dgt_c.specs.declared.commands.TheConstants.{NO_WORD, COMMAND_READ, COMMAND_BAD_SIZE, COMMAND_BAD_START, COMMAND_BAD_END, COMMAND_STRAY}
 
 -- the id of a clock message
 abbrev pub id_of : CommandContent → ℕ
@@ -13,7 +13,7 @@ id_of (CommandContent.ClockMessage message) = message.id
 id_of _ = 0
 
 abbrev pub read_told : CommandContent → DgtCommand
-read_told command = record NO_COMMAND {
+read_told command = record NO_WORD {
   kind = COMMAND_READ;
   code = command_code command;
   id = id_of command;
@@ -22,12 +22,12 @@ read_told command = record NO_COMMAND {
 
 -- the struct that tells this command or fault, or that there is none
 abbrev pub command_told : Option EventContent → DgtCommand
-command_told None = NO_COMMAND
+command_told None = NO_WORD
 command_told (Some (Read command)) = read_told command
-command_told (Some BadSize) = record NO_COMMAND { kind = COMMAND_BAD_SIZE }
-command_told (Some BadStart) = record NO_COMMAND { kind = COMMAND_BAD_START }
-command_told (Some BadEnd) = record NO_COMMAND { kind = COMMAND_BAD_END }
-command_told (Some (Stray byte)) = record NO_COMMAND { kind = COMMAND_STRAY; byte = byte }
+command_told (Some BadSize) = record NO_WORD { kind = COMMAND_BAD_SIZE }
+command_told (Some BadStart) = record NO_WORD { kind = COMMAND_BAD_START }
+command_told (Some BadEnd) = record NO_WORD { kind = COMMAND_BAD_END }
+command_told (Some (Stray byte)) = record NO_WORD { kind = COMMAND_STRAY; byte = byte }
 
 -- the bytes of a command
 abbrev pub word_said : Option EventContent → List ℕ

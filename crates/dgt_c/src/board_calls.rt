@@ -1,20 +1,21 @@
 //! What C asks of a board.
 
-ghost use Rattle.std.specs.Prelude.{◌≡◌, ◌≤◌, ◌<◌, ◌↔◌, length, false, IsTrue, IsSome, map};
-ghost use Rattle.dgt_values.specs.Board.{piece_code, pieces_of};
+ghost use Rattle.std.specs.Prelude.{◌≡◌, ◌≤◌, ◌<◌, ◌↔◌, ◌+◌, length, false, IsTrue, IsSome, IfSome, map};
+ghost use Rattle.dgt_values.specs.Board.{piece_code};
 ghost use Rattle.dgt_values.specs.declared.pieces.Piece.{Piece};
 ghost use Rattle.dgt_message.specs.Clock.{ClockState};
+ghost use Rattle.dgt_message.specs.Spelling.{spelling};
 ghost use Rattle.dgt_board.specs.State.{after_change, after_hand_clock};
-ghost use Rattle.dgt_board.specs.Sending.{next_message};
+ghost use Rattle.dgt_board.specs.Sending.{left_to_send, next_message};
 ghost use Rattle.dgt_board.specs.View.{view_after_line_lost};
 ghost use Rattle.dgt_c.specs.Clocks.{SaysClock, clock_told};
 ghost use Rattle.dgt_c.specs.Boards.{PollsTold, Takes, mode_number};
 
 use crate::board::DgtBoard;
 use crate::clocks::{DgtClock, clock_told, read_clock};
-use crate::commands::{DgtCommand, NO_COMMAND, tell_command};
+use crate::commands::{DgtCommand, NO_WORD, tell_command};
 use crate::events::piece_codes;
-use dgt_board::{Mode, Polled};
+use dgt_board::{MAX_SENT, Mode, Polled};
 use dgt_values::{Piece, Square};
 
 pub const POLLED_NOTHING: u8 = 0;
@@ -112,7 +113,7 @@ pub extern "C" fn dgt_board_take(
             }
         }
         Err(_) => {
-            *command = NO_COMMAND;
+            *command = NO_WORD;
             DgtTaken {
                 busy: true,
                 used: 0,
@@ -126,6 +127,15 @@ pub extern "C" fn dgt_board_take(
 pub extern "C" fn dgt_board_poll(board: &mut DgtBoard, out: &mut [u8]) -> DgtPolled
     ensures place { board.new.at ≡ board.old.at }
     ensures polls { PollsTold result board.old.inside board.new.inside out.old out.new }
+    ensures short { IfSome (next_message board.old.inside.state)
+        (λ message. length (spelling message) ≤ MAX_SENT) }
+    ensures falls { result.status ≡ POLLED_WROTE →
+        left_to_send board.new.inside.state < left_to_send board.old.inside.state }
+    ensures nothing { (result.status ≡ POLLED_NOTHING)
+        ↔ (left_to_send board.old.inside.state ≡ 0) }
+    ensures bound { left_to_send board.old.inside.state
+        ≤ length board.old.inside.state.owed + 65 }
+    ensures room { result.status ≡ POLLED_NEED_ROOM → length out.old < MAX_SENT }
 {
     match board.get().poll(out) {
         Polled::Nothing => DgtPolled {

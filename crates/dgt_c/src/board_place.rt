@@ -15,9 +15,8 @@ pub struct BoardPlace {
     inside: Board,
 }
 
-/// Makes a board in the position in which a game begins, with
-/// the clock and the identity of the board of the program `dgt`. There is room for a
-/// `dgt_board` where `board` points.
+/// Makes a board in the position in which a game begins, with the clock and the identity of the
+/// board of the program `dgt`. There is room for a `dgt_board` where `board` points.
 #[unsafe(no_mangle)]
 pub unsafe extern "C" fn dgt_board_init(board: *mut DgtBoard)
     requires* { sem 𝓛 (HasRoom board) }

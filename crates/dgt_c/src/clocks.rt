@@ -1,6 +1,6 @@
 //! What C is told of a clock, and tells of one.
 
-ghost use Rattle.std.specs.Prelude.{◌≡◌, ◌≤◌, ◌<◌, length, map, MatchOption};
+ghost use Rattle.std.specs.Prelude.{◌≡◌, ◌≤◌, ◌<◌, map, MatchOption};
 ghost use Rattle.dgt_values.specs.Bytes.{AreSevenBit, number};
 ghost use Rattle.dgt_message.specs.Clock.{AreTimes, ClockState, IsAbsence, IsTime};
 ghost use Rattle.dgt_message.specs.Content.{absence_seen, clock_seen, status_code, time_seen, times_seen};

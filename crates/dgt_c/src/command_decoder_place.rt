@@ -14,8 +14,8 @@ pub struct CommandDecoderPlace {
     inside: CommandDecoder,
 }
 
-/// Makes a reader of commands that holds nothing. There is room for a
-/// `dgt_command_decoder` where `command_decoder` points.
+/// Makes a reader of commands that holds nothing. There is room for a `dgt_command_decoder` where
+/// `command_decoder` points.
 #[unsafe(no_mangle)]
 pub unsafe extern "C" fn dgt_command_decoder_init(command_decoder: *mut DgtCommandDecoder)
     requires* { sem 𝓛 (HasRoom command_decoder) }

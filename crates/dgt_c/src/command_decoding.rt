@@ -1,11 +1,12 @@
 //! What C asks of a reader of commands.
 
-ghost use Rattle.std.specs.Prelude.{◌≡◌, ◌≤◌, ◌<◌, [], length, option_map};
-ghost use Rattle.dgt_command.specs.Content.{command_event_content};
+ghost use Rattle.std.specs.Prelude.{◌≡◌, ◌≤◌, ◌<◌, [], length};
+ghost use Rattle.dgt_command.specs.Words.{IsPartial};
 ghost use Rattle.dgt_c.specs.Reading.{Reads};
 
 use crate::command_decoder::DgtCommandDecoder;
 use crate::commands::{DgtCommand, tell_command};
+use dgt_command::MAX_WORD;
 
 /// Uses bytes up to and including the first that completes a command or shows a fault, or all of
 /// them, and answers how many. What it is is told, and the bytes of a command copied, as many as
@@ -35,6 +36,8 @@ pub extern "C" fn dgt_command_decoder_rest(command_decoder: &mut DgtCommandDecod
     ensures place { command_decoder.new.at ≡ command_decoder.old.at }
     ensures same { command_decoder.new.inside ≡ command_decoder.old.inside }
     ensures length { result ≡ length command_decoder.old.inside }
+    ensures unfinished { IsPartial command_decoder.old.inside }
+    ensures limit { result < MAX_WORD }
 {
     command_decoder.get().partial()
 }

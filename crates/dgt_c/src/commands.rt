@@ -33,7 +33,7 @@ pub struct DgtCommand {
 }
 
 /// That no word was completed.
-pub const NO_COMMAND: DgtCommand = DgtCommand {
+pub const NO_WORD: DgtCommand = DgtCommand {
     kind: COMMAND_NONE,
     code: 0,
     id: 0,
@@ -80,24 +80,24 @@ pub(crate) fn tell_command(event: &Option<CommandEvent<'_>>, out: &mut [u8]) -> 
         ≡ overwritten out.old (word_said (option_map command_event_content event.now)) }
 {
     match event {
-        None => NO_COMMAND,
+        None => NO_WORD,
         Some(CommandEvent::Command(command)) => tell_read(command, out),
         Some(CommandEvent::BadSize) => DgtCommand {
             kind: COMMAND_BAD_SIZE,
-            ..NO_COMMAND
+            ..NO_WORD
         },
         Some(CommandEvent::BadStart) => DgtCommand {
             kind: COMMAND_BAD_START,
-            ..NO_COMMAND
+            ..NO_WORD
         },
         Some(CommandEvent::BadEnd) => DgtCommand {
             kind: COMMAND_BAD_END,
-            ..NO_COMMAND
+            ..NO_WORD
         },
         Some(CommandEvent::Stray(byte)) => DgtCommand {
             kind: COMMAND_STRAY,
             byte: *byte,
-            ..NO_COMMAND
+            ..NO_WORD
         },
     }
 }

@@ -14,8 +14,7 @@ pub struct DecoderPlace {
     inside: Decoder,
 }
 
-/// Makes a decoder that has read nothing. There is room for a
-/// `dgt_decoder` where `decoder` points.
+/// Makes a decoder that has read nothing. There is room for a `dgt_decoder` where `decoder` points.
 #[unsafe(no_mangle)]
 pub unsafe extern "C" fn dgt_decoder_init(decoder: *mut DgtDecoder)
     requires* { sem 𝓛 (HasRoom decoder) }

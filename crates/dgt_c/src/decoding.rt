@@ -1,13 +1,13 @@
 //! What C asks of a decoder.
 
 ghost use Rattle.std.specs.Prelude.{◌≡◌, ◌≤◌, ◌<◌, ◌++◌, [], length, take};
-ghost use Rattle.dgt_decode.specs.Feeding.{event_content_if_any};
 ghost use Rattle.dgt_decode.specs.Grammar.{open_message};
 ghost use Rattle.dgt_c.specs.Hearing.{Feeds};
 
 use crate::copying::overwrite;
 use crate::decoder::DgtDecoder;
 use crate::events::{DgtEvent, body_of, tell};
+use dgt_decode::MAX_TOTAL;
 
 /// Uses bytes up to and including the first that makes an event, or all of them, and answers how
 /// many. The event is told, and its body copied, as much of it as there is room for.
@@ -38,6 +38,8 @@ pub extern "C" fn dgt_decoder_rest(decoder: &mut DgtDecoder) -> usize
     ensures place { decoder.new.at ≡ decoder.old.at }
     ensures same { decoder.new.inside ≡ decoder.old.inside }
     ensures length { result ≡ length decoder.old.inside }
+    ensures unfinished { open_message decoder.old.inside ≡ decoder.old.inside }
+    ensures limit { result < MAX_TOTAL }
 {
     decoder.get().rest()
 }

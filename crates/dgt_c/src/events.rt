@@ -3,6 +3,7 @@
 ghost use Rattle.std.specs.Prelude.{◌≡◌, length, map};
 ghost use Rattle.dgt_values.specs.Board.{piece_code, pieces_of};
 ghost use Rattle.dgt_values.specs.Bytes.{body_bytes, number};
+ghost use Rattle.dgt_message.specs.Code.{known_number};
 ghost use Rattle.dgt_message.specs.Content.{content};
 ghost use Rattle.dgt_decode.specs.Feeding.{event_content_if_any};
 ghost use Rattle.dgt_c.specs.Told.{body_said, event_told, message_told, refused_told};
@@ -131,6 +132,16 @@ fn tell_carried(kind: u8, code: u8, body: Body<'_>, out: &mut DgtEvent)
     out.body_len = body.bytes().len();
 }
 
+fn tell_known(kind: u8, code: KnownCode, body: Body<'_>, out: &mut DgtEvent)
+    ensures { out.new ≡ record out.old {
+      kind = kind;
+      code = known_number code;
+      body_len = length (body_bytes body.entry);
+    } }
+{
+    tell_carried(kind, code.number(), body, out);
+}
+
 #[inline(always)]
 fn tell_message(message: &Message<'_>, out: &mut DgtEvent)
     requires { out.old ≡ NOTHING }
@@ -168,20 +179,14 @@ fn tell_message(message: &Message<'_>, out: &mut DgtEvent)
             out.main_number = main.get();
             out.sub_number = sub.get();
         }
-        Message::Trademark(body) => {
-            tell_carried(EVENT_TRADEMARK, KnownCode::Trademark.number(), *body, out);
-        }
-        Message::Battery(body) => {
-            tell_carried(EVENT_BATTERY, KnownCode::Battery.number(), *body, out);
-        }
-        Message::LongSerial(body) => {
-            tell_carried(
-                EVENT_LONG_SERIAL,
-                KnownCode::LongSerial.number(),
-                *body,
-                out,
-            );
-        }
+        Message::Trademark(body) => tell_known(EVENT_TRADEMARK, KnownCode::Trademark, *body, out),
+        Message::Battery(body) => tell_known(EVENT_BATTERY, KnownCode::Battery, *body, out),
+        Message::LongSerial(body) => tell_known(
+            EVENT_LONG_SERIAL,
+            KnownCode::LongSerial,
+            *body,
+            out,
+        ),
         Message::Other { code, body } => tell_carried(EVENT_OTHER, code.get().get(), *body, out),
     }
 }

@@ -2,6 +2,7 @@
 
 ghost use Rattle.std.specs.Prelude.{◌≡◌, ◌≤◌, ◌<◌, length, take};
 ghost use Rattle.dgt_decode.specs.Feeding.{event_content_if_any};
+ghost use Rattle.dgt_decode.specs.Grammar.{open_message};
 ghost use Rattle.dgt_host.specs.Host.{host_after, new_host};
 ghost use Rattle.dgt_c.specs.Hearing.{Hears, flag};
 ghost use Rattle.dgt_c.specs.Told.{event_told};
@@ -58,6 +59,7 @@ pub extern "C" fn dgt_host_unread(host: &mut DgtHost) -> usize
     ensures place { host.new.at ≡ host.old.at }
     ensures same { host.new.inside ≡ host.old.inside }
     ensures length { result ≡ length host.old.inside.unread }
+    ensures all_open { open_message host.old.inside.unread ≡ host.old.inside.unread }
 {
     host.get().unread()
 }

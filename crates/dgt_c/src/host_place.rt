@@ -14,8 +14,8 @@ pub struct HostPlace {
     inside: Host,
 }
 
-/// Makes a host that knows nothing yet and awaits nothing. There is room for a
-/// `dgt_host` where `host` points.
+/// Makes a host that knows nothing yet and awaits nothing. There is room for a `dgt_host` where
+/// `host` points.
 #[unsafe(no_mangle)]
 pub unsafe extern "C" fn dgt_host_init(host: *mut DgtHost)
     requires* { sem 𝓛 (HasRoom host) }

@@ -1,7 +1,7 @@
 //! What C asks of what a host knows.
 
 ghost use Rattle.std.specs.Prelude.{◌≡◌, ◌↔◌, ◌≤◌, ◌++◌, length, drop, map, IsTrue, IsSome, MatchOption};
-ghost use Rattle.dgt_values.specs.Board.{piece_code, pieces_of};
+ghost use Rattle.dgt_values.specs.Board.{piece_code};
 ghost use Rattle.dgt_values.specs.Placement.{placement_text};
 ghost use Rattle.dgt_c.specs.Clocks.{clock_if_told};
 ghost use Rattle.dgt_c.specs.Kinds.{asking_code};
@@ -94,6 +94,7 @@ pub extern "C" fn dgt_host_awaited(host: &mut DgtHost, codes: &mut [u8; 16]) -> 
     ensures place { host.new.at ≡ host.old.at }
     ensures same { host.new.inside ≡ host.old.inside }
     ensures length { result ≡ length host.old.inside.awaited }
+    ensures at_most { result ≤ MAX_AWAITED }
     ensures codes { codes.new ≡ map asking_code host.old.inside.awaited ++ drop result codes.old }
 {
     let kinds = host.get().awaited();

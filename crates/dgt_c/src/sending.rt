@@ -1,6 +1,6 @@
 //! What C has a host send.
 
-ghost use Rattle.std.specs.Prelude.{◌≡◌, ◌≢◌, ◌≤◌, ◌<◌, ◌+◌, ◌++◌, ◌∷◌, [], Some, None, length};
+ghost use Rattle.std.specs.Prelude.{◌≡◌, ◌≢◌, ◌≤◌, ◌<◌, ◌+◌, ◌∷◌, [], Some, None, length};
 ghost use Rattle.dgt_command.specs.Content.{CommandContent, kind_of_command};
 ghost use Rattle.dgt_command.specs.Spelling.{command_spelling};
 ghost use Rattle.dgt_command.specs.declared.carried.TheConstants.{MAX_LED_BYTES, MAX_PAYLOAD};

@@ -8,7 +8,7 @@ use Rattle.dgt_message.specs.Content.Content.{dump, field, times, no_clock, ack,
 use Rattle.dgt_message.specs.declared.message.Message as code_message
 use Rattle.dgt_decode.specs.Grammar.{Event, Message, Refused, Cut, BadLength, Stray, Placed, at_place, events, open_message}
 use Rattle.dgt_decode.specs.Feeding.{event_content}
-use Rattle.dgt_decode.specs.Laws.{EventsAppend}
+use Rattle.dgt_decode.specs.Laws.{PiecesAdd}
 use Rattle.dgt_decode.specs.declared.event.Event as code
 use Rattle.dgt_decode.specs.declared.event.Event.TheVariants as code_events
 use Rattle.dgt_lines.specs.Lines.{events_after}
@@ -37,18 +37,18 @@ picture_lines-append before xs ys =
 
 -- ---- bytes, and a piece after them
 
-pub pictures_text-append : EventsAppend → (bytes piece : List ℕ)
+pub pictures_text-append : PiecesAdd → (bytes piece : List ℕ)
     → pictures_text (bytes ++ piece) ≡ pictures_text bytes ++ picture_lines (picture_told bytes)
     (events_after (open_message bytes) (length bytes) piece)
-pictures_text-append more bytes piece =
-    ap (picture_lines None) (more bytes piece)
+pictures_text-append pieces bytes piece =
+    ap (picture_lines None) (pieces.behind bytes piece)
     ∙ picture_lines-append None (events bytes) (events_after (open_message bytes) (length bytes) piece)
 
-pub picture_told-append : EventsAppend → (bytes piece : List ℕ)
+pub picture_told-append : PiecesAdd → (bytes piece : List ℕ)
     → picture_told (bytes ++ piece) ≡ picture_after_events (picture_told bytes)
     (events_after (open_message bytes) (length bytes) piece)
-picture_told-append more bytes piece =
-    ap (picture_after_events None) (more bytes piece)
+picture_told-append pieces bytes piece =
+    ap (picture_after_events None) (pieces.behind bytes piece)
     ∙ picture_after-append None (events bytes) (events_after (open_message bytes) (length bytes) piece)
 
 -- ---- one event more, behind which the picture is `after`

@@ -6,4 +6,5 @@ pub mod Marks
 pub mod Writing
 pub mod Device
 -- for bodies alone
+pub mod InPieces
 pub mod Wording

@@ -12,6 +12,7 @@ use Rattle.dgt_message.specs.Content.{Content}
 use Rattle.dgt_message.specs.Content.Content.{dump, field, times, no_clock, ack, serial, version, carried}
 use Rattle.dgt_message.specs.Clock.{Time}
 use Rattle.dgt_decode.specs.Grammar.{Event, Message, Refused, Cut, BadLength, Stray, Placed, events, events_behind, open_message}
+use Rattle.dgt_decode.specs.Feeding.{piece_events}
 
 -- ---- Numbers and bytes
 
@@ -103,7 +104,7 @@ lines bytes = flat_map placed_line (events bytes)
 
 -- the events of a piece that comes after so many bytes, of which these are an unfinished message
 abbrev pub events_after : List ℕ → ℕ → List ℕ → List Placed
-events_after held offset piece = events_behind (offset - length held) (events (held ++ piece))
+events_after held offset piece = events_behind offset (piece_events held piece)
 
 -- and their lines
 abbrev pub lines_after : List ℕ → ℕ → List ℕ → List ℕ

@@ -1,15 +1,17 @@
 //! What holds of lines and of writes as such. Nothing here runs: each function stands for the facts
 //! that its contract states.
 
-ghost use Rattle.std.specs.Prelude.{◌≡◌, ◌≤◌, ◌++◌, ℕ, List, length};
+ghost use Rattle.std.specs.Prelude.{◌≡◌, ◌++◌, ℕ, List, length};
 ghost use Rattle.dgt_values.specs.Equality.{EqualIsSame};
 ghost use Rattle.dgt_decode.specs.Grammar.{open_message};
+ghost use Rattle.dgt_lines.specs.InPieces.{InPieces};
 ghost use Rattle.dgt_lines.specs.Lines.{events_after, lines, lines_after};
 ghost use Rattle.dgt_lines.specs.Pictures.{LastLineIsPicture, picture_after_events, picture_lines, picture_told, pictures_text};
 ghost use Rattle.dgt_lines.specs.Writing.{InARow};
 
 use crate::ends::{Failed, Sink};
 use crate::faults::RunFault;
+use dgt_decode::laws;
 
 /// Two values are equal, as `==` answers, exactly where they are the same.
 pub fn equal_is_same()
@@ -23,13 +25,11 @@ pub fn writes_in_a_row<W: Sink>()
 {}
 
 /// The lines of bytes in a row are those of the first ones, and then those of the piece after them.
-/// The message that is unfinished is a part of what came.
 pub fn lines_append()
-    ensures lines { (bytes piece : List ℕ) → lines (bytes ++ piece)
+    ensures { (bytes piece : List ℕ) → lines (bytes ++ piece)
         ≡ lines bytes ++ lines_after (open_message bytes) (length bytes) piece }
-    ensures unfinished { (bytes : List ℕ) → length (open_message bytes) ≤ length bytes }
 {
-    dgt_decode::laws::events_append();
+    laws::pieces_in_a_row();
 }
 
 /// The lines that show the board, of bytes in a row, are those of the first ones, and then those of
@@ -42,7 +42,7 @@ pub fn pictures_append()
         ≡ picture_after_events (picture_told bytes)
         (events_after (open_message bytes) (length bytes) piece) }
 {
-    dgt_decode::laws::events_append();
+    laws::pieces_in_a_row();
 }
 
 /// The last line that shows the board has the placement of the picture after all messages. Where
@@ -50,3 +50,13 @@ pub fn pictures_append()
 pub fn last_line_is_picture()
     ensures { LastLineIsPicture }
 {}
+
+// What comes in pieces is decoded as if it had come whole.
+pub(crate) fn in_pieces()
+    ensures { InPieces }
+{
+    laws::pieces_in_a_row();
+    laws::places_add();
+    laws::open_append();
+    laws::open_is_quiet();
+}

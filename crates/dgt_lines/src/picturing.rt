@@ -13,9 +13,10 @@ ghost use Rattle.dgt_lines.specs.Writing.{Gathers, Writes};
 use crate::ends::Sink;
 use crate::faults::RunFault;
 use crate::gathering::Outgoing;
+use crate::laws;
 use crate::lines::{field, push_offset};
 use crate::pictures::Picture;
-use dgt_decode::{Event, Found, Framer, laws};
+use dgt_decode::{Event, Found, Framer};
 use dgt_message::Message;
 
 /// Room for the lines of placements of 4,096 bytes of field updates: 820 lines of at most 81 bytes,
@@ -133,7 +134,6 @@ pub fn write_pictures<W: Sink>(
 ) -> Result<(), RunFault>
     requires empty { outgoing.old ≡ [] }
     requires fits { offset + length piece.now < 2 ^ 64 }
-    requires held { length (open_message framer.old) ≤ offset }
     ensures output { Writes W.Sink writer.old writer.new result
         (picture_lines picture.old (events_after (open_message framer.old) offset piece.now)) }
     ensures shown { OnOk result (picture.new ≡ picture_after_events picture.old
@@ -142,8 +142,7 @@ pub fn write_pictures<W: Sink>(
         open_message (open_message framer.old ++ piece.now)) }
     ensures empty { OnOk result (outgoing.new ≡ []) }
 {
-    laws::events_append();
-    laws::open_append();
+    laws::in_pieces();
     let mut at = 0;
     while at < piece.len() {
         let advanced = framer.advance(&piece[at..]);

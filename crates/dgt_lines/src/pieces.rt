@@ -8,8 +8,9 @@ ghost use Rattle.dgt_lines.specs.Writing.{Writes};
 use crate::ends::Sink;
 use crate::faults::RunFault;
 use crate::gathering::{Outgoing, flush};
+use crate::laws;
 use crate::lines::{put_found, write_unfinished};
-use dgt_decode::{Framer, laws};
+use dgt_decode::Framer;
 
 /// Room for the lines of 4,096 bytes of field updates: 820 lines of at most 32 bytes.
 pub const LINES_ROOM: usize = 32768;
@@ -28,15 +29,13 @@ pub fn write_lines<W: Sink>(
 ) -> Result<(), RunFault>
     requires empty { outgoing.old ≡ [] }
     requires fits { offset + length piece.now < 2 ^ 64 }
-    requires held { length (open_message framer.old) ≤ offset }
     ensures output { Writes W.Sink writer.old writer.new result
         (lines_after (open_message framer.old) offset piece.now) }
     ensures framed { OnOk result (open_message framer.new ≡
         open_message (open_message framer.old ++ piece.now)) }
     ensures empty { OnOk result (outgoing.new ≡ []) }
 {
-    laws::events_append();
-    laws::open_append();
+    laws::in_pieces();
     let mut at = 0;
     while at < piece.len() {
         let advanced = framer.advance(&piece[at..]);

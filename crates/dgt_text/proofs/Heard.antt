@@ -56,11 +56,6 @@ module _ {T : Type 0} {W : Sink T} where
     counted = refl;
   }
 
-  pub heard_bound : ((s : List ℕ) → length (open_message s) ≤ length s) → (c d : T) (held : List ℕ) (offset : ℕ)
-      (bytes : List ℕ) → Heard W c d held offset bytes → length held ≤ offset
-  heard_bound short_open c d held offset bytes h = let short = short_open bytes in let e = h.counted in
-      let l = ap length h.decoded in omega arith
-
   -- a piece, its lines and a flush
   pub heard_more : InARow W → LinesAppend → OpenAppend → (c d d' d'' : T) (held held' : List ℕ) (offset n : ℕ)
       (bytes piece : List ℕ) → Heard W c d held offset bytes → length piece ≡ n

@@ -66,12 +66,6 @@ module _ {T : Type 0} {W : Sink T} where
     counted = refl;
   }
 
-  pub pictured_bound : ((s : List ℕ) → length (open_message s) ≤ length s) → (c d : T) (held : List ℕ) (offset : ℕ)
-      (picture : Option (List Piece)) (bytes : List ℕ) → Pictured W c d held offset picture bytes
-      → length held ≤ offset
-  pictured_bound short_open c d held offset picture bytes h = let short = short_open bytes in let e = h.counted in
-      let l = ap length h.decoded in omega arith
-
   -- a piece, its lines and a flush
   pub pictured_more : InARow W → PicturesAppend → ToldAppend → OpenAppend → (c d d' d'' : T)
       (held held' : List ℕ) (offset n : ℕ) (picture picture' : Option (List Piece)) (bytes piece : List ℕ)

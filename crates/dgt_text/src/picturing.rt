@@ -33,7 +33,6 @@ pub fn picture<R: Source, W: Sink>(
     ensures in_turns { RunsInTurns R.Source W.Sink (change reader.old reader.new)
         (change writer.old writer.new) limit result }
 {
-    dgt_lines::laws::lines_append();
     dgt_lines::laws::writes_in_a_row::<W>();
     dgt_lines::laws::pictures_append();
     dgt_decode::laws::open_append();

@@ -1,6 +1,5 @@
-use Rattle.dgt_lines.proofs.EventLemmas.{open_short}
 use Rattle.dgt_lines.proofs.PieceLemmas.{lines-append}
 use Rattle.dgt_lines.proofs.laws.lines_append.Goals as goal
 
 pub returns : goal.returns
-returns c = record { lines = lines-append c.events_append.ensures; unfinished = open_short }
+returns c = lines-append c.pieces_in_a_row.ensures.add

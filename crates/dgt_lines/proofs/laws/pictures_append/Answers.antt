@@ -3,6 +3,6 @@ use Rattle.dgt_lines.proofs.laws.pictures_append.Goals as goal
 
 pub returns : goal.returns
 returns c = record {
-  lines = pictures_text-append c.events_append.ensures;
-  picture = picture_told-append c.events_append.ensures;
+  lines = pictures_text-append c.pieces_in_a_row.ensures.add;
+  picture = picture_told-append c.pieces_in_a_row.ensures.add;
 }

@@ -4,22 +4,20 @@ use Rattle.dgt_decode.specs.Feeding.{event_found_in}
 use Rattle.dgt_decode.specs.Grammar.{open_message}
 use Rattle.dgt_lines.specs.Lines.{events_after}
 use Rattle.dgt_lines.specs.Pictures.{picture_lines}
-use Rattle.dgt_lines.proofs.EventLemmas.{advance_event, advance_none, events_after-none, events_after-rest, feed_bound, feed_open, open-open}
+use Rattle.dgt_lines.proofs.EventLemmas.{advance_event, advance_none, events_after-none, events_after-rest, feed_bound, feed_open}
 use Rattle.dgt_lines.proofs.GatherLemmas.{gathered_none, gathered_then, gathered_exit, gathered_out}
 use Rattle.dgt_lines.proofs.PictureLemmas.{behind_more, lines_more, lines_whole}
 use Rattle.dgt_lines.proofs.picturing.write_pictures.Goals as goal
 
 pub loop-at-init : goal.loop-at-init
 loop-at-init g c =
-    let again = open-open c.open_append.ensures c.args.framer.now in
-    let none = events_after-none c.events_append.ensures c.open_append.ensures
-    (open_message c.args.framer.now) c.args.offset again in
+    let none = events_after-none c.in_pieces.ensures c.args.framer.now c.args.offset in
     record {
       bound = omega arith;
       output = rw (none, c.requires.empty)
           (gathered_none g.W.Sink [] c.args.writer.now);
       shown = rw none refl;
-      framed = again ∙ ap open_message (sym (append-nil (open_message c.args.framer.now)));
+      framed = sym (c.in_pieces.ensures.quiet.no_bytes c.args.framer.now).1;
     }
 
 pub loop-at-preserved-in-Continue-1 : goal.loop-at-preserved-in-Continue-1
@@ -28,9 +26,9 @@ loop-at-preserved-in-Continue-1 g c =
     let place = c.args.offset + (c.loop-at.at + c.advance-advanced.result.used) in
     let event = event_found_in c.advance-advanced.new.self c.in-Some.found in
     let front = events_after held c.args.offset (take c.loop-at.at c.args.piece.now) in
-    let e = advance_event c.events_append.ensures c.open_append.ensures held c.args.piece.now
-    (open_message c.loop-at.framer) c.args.offset c.loop-at.at c.advance-advanced.result.used event
-    c.requires.held c.loop-at.invariant.bound c.loop-at.invariant.framed
+    let e = advance_event c.in_pieces.ensures c.args.framer.now c.args.offset c.args.piece.now
+    (open_message c.loop-at.framer) c.loop-at.at c.advance-advanced.result.used c.loop-at.invariant.framed event
+    c.loop-at.invariant.bound
     (rw c.in-Some.is at c.advance-advanced.ensures.first).1 in
     record {
       bound = feed_bound c.args.piece.now c.loop-at.at c.advance-advanced.result.used c.loop-at.invariant.bound
@@ -44,8 +42,8 @@ loop-at-preserved-in-Continue-1 g c =
       shown = rw e
           (behind_more c.args.picture.now _ c.hear_found.new.picture front place event c.loop-at.invariant.shown
           c.in_ok-hear_found.ensures.shown);
-      framed = feed_open c.events_append.ensures c.open_append.ensures held c.args.piece.now _ _ c.loop-at.at
-          c.advance-advanced.result.used c.loop-at.invariant.framed c.advance-advanced.ensures.held;
+      framed = feed_open c.in_pieces.ensures c.args.framer.now c.args.offset c.args.piece.now _ c.loop-at.at
+          c.advance-advanced.result.used c.loop-at.invariant.framed _ c.advance-advanced.ensures.held;
     }
 
 pub returns-in_err-hear_found-clause-output : goal.returns-in_err-hear_found-clause-output
@@ -54,13 +52,13 @@ returns-in_err-hear_found-clause-output g c =
     let place = c.args.offset + (c.loop-at.at + c.advance-advanced.result.used) in
     let event = event_found_in c.advance-advanced.new.self c.in-Some.found in
     let front = events_after held c.args.offset (take c.loop-at.at c.args.piece.now) in
-    let e = advance_event c.events_append.ensures c.open_append.ensures held c.args.piece.now
-    (open_message c.loop-at.framer) c.args.offset c.loop-at.at c.advance-advanced.result.used event
-    c.requires.held c.loop-at.invariant.bound c.loop-at.invariant.framed
+    let e = advance_event c.in_pieces.ensures c.args.framer.now c.args.offset c.args.piece.now
+    (open_message c.loop-at.framer) c.loop-at.at c.advance-advanced.result.used c.loop-at.invariant.framed event
+    c.loop-at.invariant.bound
     (rw c.in-Some.is at c.advance-advanced.ensures.first).1 in
     let all = rw e at
-    (events_after-rest c.events_append.ensures c.open_append.ensures held c.args.piece.now c.args.offset
-    (c.loop-at.at + c.advance-advanced.result.used) c.requires.held) in
+    (events_after-rest c.in_pieces.ensures c.args.framer.now c.args.offset c.args.piece.now
+    (c.loop-at.at + c.advance-advanced.result.used)) in
     let whole = lines_whole c.args.picture.now _ c.hear_found.new.picture front place event c.loop-at.invariant.shown
     c.in_err-hear_found.ensures.shown _ _ all in
     gathered_exit _ _ _ _ _ _ _ _ _ _ _ c.loop-at.invariant.output whole c.from_residual.ensures.1
@@ -68,10 +66,9 @@ returns-in_err-hear_found-clause-output g c =
 
 pub loop-at-preserved : goal.loop-at-preserved
 loop-at-preserved g c =
-    let e = advance_none c.events_append.ensures c.open_append.ensures
-    (open_message c.args.framer.now) c.args.piece.now (open_message c.loop-at.framer) c.args.offset c.loop-at.at
-    c.advance-advanced.result.used
-    c.requires.held c.loop-at.invariant.bound c.loop-at.invariant.framed
+    let e = advance_none c.in_pieces.ensures c.args.framer.now c.args.offset c.args.piece.now
+    (open_message c.loop-at.framer) c.loop-at.at c.advance-advanced.result.used c.loop-at.invariant.framed
+    c.loop-at.invariant.bound
     (rw c.in_default.is at c.advance-advanced.ensures.first).0
     (rw c.in_default.is at c.advance-advanced.ensures.first).1 in
     record {
@@ -79,9 +76,8 @@ loop-at-preserved g c =
           c.advance-advanced.ensures.within;
       output = rw e c.loop-at.invariant.output;
       shown = rw e c.loop-at.invariant.shown;
-      framed = feed_open c.events_append.ensures c.open_append.ensures
-          (open_message c.args.framer.now) c.args.piece.now _ _ c.loop-at.at c.advance-advanced.result.used
-          c.loop-at.invariant.framed c.advance-advanced.ensures.held;
+      framed = feed_open c.in_pieces.ensures c.args.framer.now c.args.offset c.args.piece.now _ c.loop-at.at
+          c.advance-advanced.result.used c.loop-at.invariant.framed _ c.advance-advanced.ensures.held;
     }
 
 pub returns-clause-output : goal.returns-clause-output

@@ -4,23 +4,17 @@ use Rattle.dgt_decode.specs.Feeding.{event_found_in}
 use Rattle.dgt_lines.specs.Lines.{lines_after}
 use Rattle.dgt_decode.specs.Grammar.{open_message}
 use Rattle.dgt_lines.proofs.GatherLemmas.{gathered_none, gathered_then, gathered_exit, gathered_out}
-use Rattle.dgt_lines.proofs.EventLemmas.{open-open, feed_bound, feed_open}
+use Rattle.dgt_lines.proofs.EventLemmas.{feed_bound, feed_open}
 use Rattle.dgt_lines.proofs.PieceLemmas.{lines_after-none, feed_line, feed_none, feed_whole}
 use Rattle.dgt_lines.proofs.pieces.write_lines.Goals as goal
 
 pub loop-at-init : goal.loop-at-init
-loop-at-init g c =
-    let again = open-open c.open_append.ensures c.args.framer.now in
-    record {
-      bound = omega arith;
-      output = rw (
-        lines_after-none c.events_append.ensures c.open_append.ensures
-            (open_message c.args.framer.now) c.args.offset again,
-        c.requires.empty,
-      )
-          (gathered_none g.W.Sink [] c.args.writer.now);
-      framed = again ∙ ap open_message (sym (append-nil (open_message c.args.framer.now)));
-    }
+loop-at-init g c = record {
+  bound = omega arith;
+  output = rw (lines_after-none c.in_pieces.ensures c.args.framer.now c.args.offset, c.requires.empty)
+      (gathered_none g.W.Sink [] c.args.writer.now);
+  framed = sym (c.in_pieces.ensures.quiet.no_bytes c.args.framer.now).1;
+}
 
 pub loop-at-preserved-in-Continue-1 : goal.loop-at-preserved-in-Continue-1
 loop-at-preserved-in-Continue-1 g c = record {
@@ -31,22 +25,20 @@ loop-at-preserved-in-Continue-1 g c = record {
       gathered_then _ _ _ _ _ _ _
       (lines_after (open_message c.args.framer.now) c.args.offset (take c.loop-at.at c.args.piece.now)) _
       c.loop-at.invariant.output c.in_ok-put_found.ensures in
-      let e = feed_line c.events_append.ensures c.open_append.ensures (open_message c.args.framer.now) c.args.piece.now
-      (open_message c.loop-at.framer) c.args.offset c.loop-at.at c.advance-advanced.result.used
-      (event_found_in c.advance-advanced.new.self c.in-Some.found) c.requires.held c.loop-at.invariant.bound
-      c.loop-at.invariant.framed
+      let e = feed_line c.in_pieces.ensures c.args.framer.now c.args.offset c.args.piece.now
+      (open_message c.loop-at.framer) c.loop-at.at c.advance-advanced.result.used c.loop-at.invariant.framed
+      (event_found_in c.advance-advanced.new.self c.in-Some.found) c.loop-at.invariant.bound
       (rw c.in-Some.is at c.advance-advanced.ensures.first).1 in
       rw e step;
-  framed = feed_open c.events_append.ensures c.open_append.ensures (open_message c.args.framer.now) c.args.piece.now _
-      _ c.loop-at.at c.advance-advanced.result.used c.loop-at.invariant.framed c.advance-advanced.ensures.held;
+  framed = feed_open c.in_pieces.ensures c.args.framer.now c.args.offset c.args.piece.now _ c.loop-at.at
+      c.advance-advanced.result.used c.loop-at.invariant.framed _ c.advance-advanced.ensures.held;
 }
 
 pub returns-in_err-put_found-clause-output : goal.returns-in_err-put_found-clause-output
 returns-in_err-put_found-clause-output g c =
-    let e = feed_whole c.events_append.ensures c.open_append.ensures (open_message c.args.framer.now) c.args.piece.now
-    (open_message c.loop-at.framer) c.args.offset c.loop-at.at c.advance-advanced.result.used
-    (event_found_in c.advance-advanced.new.self c.in-Some.found) c.requires.held c.loop-at.invariant.bound
-    c.loop-at.invariant.framed
+    let e = feed_whole c.in_pieces.ensures c.args.framer.now c.args.offset c.args.piece.now
+    (open_message c.loop-at.framer) c.loop-at.at c.advance-advanced.result.used c.loop-at.invariant.framed
+    (event_found_in c.advance-advanced.new.self c.in-Some.found) c.loop-at.invariant.bound
     (rw c.in-Some.is at c.advance-advanced.ensures.first).1 in
     gathered_exit _ _ _ _ _ _ _ _ _ _ _ c.loop-at.invariant.output e c.from_residual.ensures.1
     c.in_err-put_found.ensures
@@ -56,14 +48,14 @@ loop-at-preserved g c = record {
   bound = feed_bound c.args.piece.now c.loop-at.at c.advance-advanced.result.used c.loop-at.invariant.bound
       c.advance-advanced.ensures.within;
   output =
-      let e = feed_none c.events_append.ensures c.open_append.ensures (open_message c.args.framer.now) c.args.piece.now
-      (open_message c.loop-at.framer) c.args.offset c.loop-at.at c.advance-advanced.result.used c.requires.held
-      c.loop-at.invariant.bound c.loop-at.invariant.framed
+      let e = feed_none c.in_pieces.ensures c.args.framer.now c.args.offset c.args.piece.now
+      (open_message c.loop-at.framer) c.loop-at.at c.advance-advanced.result.used c.loop-at.invariant.framed
+      c.loop-at.invariant.bound
       (rw c.in_default.is at c.advance-advanced.ensures.first).0
       (rw c.in_default.is at c.advance-advanced.ensures.first).1 in
       rw e c.loop-at.invariant.output;
-  framed = feed_open c.events_append.ensures c.open_append.ensures (open_message c.args.framer.now) c.args.piece.now _
-      _ c.loop-at.at c.advance-advanced.result.used c.loop-at.invariant.framed c.advance-advanced.ensures.held;
+  framed = feed_open c.in_pieces.ensures c.args.framer.now c.args.offset c.args.piece.now _ c.loop-at.at
+      c.advance-advanced.result.used c.loop-at.invariant.framed _ c.advance-advanced.ensures.held;
 }
 
 pub returns-clause-output : goal.returns-clause-output

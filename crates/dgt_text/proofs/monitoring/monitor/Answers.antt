@@ -1,7 +1,7 @@
 use Rattle.std.proofs.Common.{[], Err, append-nil, arith}
 use Rattle.std.proofs.lemmas.List.{length-take-le}
 use Rattle.dgt_text.proofs.TurnLemmas.{no_read, next_read}
-use Rattle.dgt_text.proofs.Heard.{heard_none, open_new, heard_bound, heard_more, heard_stopped, heard_end}
+use Rattle.dgt_text.proofs.Heard.{heard_none, open_new, heard_more, heard_stopped, heard_end}
 use Rattle.dgt_text.proofs.monitoring.monitor.Goals as goal
 
 pub loop-init : goal.loop-init
@@ -17,17 +17,14 @@ returns-then-given-eq0-clause-output g c =
     heard_end c.writes_in_a_row.ensures _ _ _ c.loop.invariant.in_turns c.loop.invariant.heard
     (rw c.if-given-eq0.true at c.in-Ok.ensures.bytes.0) c.write_end.ensures.output
 
-pub write_lines-requires-clause-held : goal.write_lines-requires-clause-held
-write_lines-requires-clause-held g c = heard_bound c.lines_append.ensures.unfinished _ _ _ _ _ c.loop.invariant.heard
-
 pub returns-in_err-write_lines-clause-output : goal.returns-in_err-write_lines-clause-output
 returns-in_err-write_lines-clause-output g c =
-    heard_stopped c.writes_in_a_row.ensures c.lines_append.ensures.lines _ _ _ _ _ c.loop.invariant.in_turns
+    heard_stopped c.writes_in_a_row.ensures c.lines_append.ensures _ _ _ _ _ c.loop.invariant.in_turns
     c.loop.invariant.heard c.in-Ok.ensures.bytes.0 c.from_residual.ensures.1 c.in_err-write_lines.ensures.output
 
 pub returns-in_err-flush-clause-output : goal.returns-in_err-flush-clause-output
 returns-in_err-flush-clause-output g c =
-    heard_stopped c.writes_in_a_row.ensures c.lines_append.ensures.lines _ _ _ _ _ c.loop.invariant.in_turns
+    heard_stopped c.writes_in_a_row.ensures c.lines_append.ensures _ _ _ _ _ c.loop.invariant.in_turns
     c.loop.invariant.heard c.in-Ok.ensures.bytes.0 c.from_residual-in_err-flush.ensures.1
     (rw append-nil at (c.writes_in_a_row.ensures.writes _ _ _ _ [] (Err _) c.in_ok-write_lines.ensures.output
     c.in_err-flush.ensures.output))
@@ -40,7 +37,7 @@ loop-preserved g c =
       in_turns = next_read c.loop.invariant.in_turns c.loop-test.true _ _ read.bound read.bytes.0 read.not_refused
           read.no_end read.counted read.in_time c.if-given-eq0.false wrote.output.kept wrote.output.in_time
           flushed.output flushed.flushed;
-      heard = heard_more c.writes_in_a_row.ensures c.lines_append.ensures.lines c.open_append.ensures _ _ _ _ _ _ _ _ _
+      heard = heard_more c.writes_in_a_row.ensures c.lines_append.ensures c.open_append.ensures _ _ _ _ _ _ _ _ _
           _ c.loop.invariant.heard (length-take-le c.in-Ok.given c.read_some.new.buffer read.bound)
           wrote.output flushed.output wrote.framed;
       empty = wrote.empty;

@@ -1,6 +1,6 @@
 use Rattle.std.proofs.Common.{[], Err, append-nil, arith}
 use Rattle.std.proofs.lemmas.List.{length-take-le}
-use Rattle.dgt_text.proofs.Pictured.{pictured_none, pictured_bound, pictured_more, pictured_stopped, pictured_end}
+use Rattle.dgt_text.proofs.Pictured.{pictured_none, pictured_more, pictured_stopped, pictured_end}
 use Rattle.dgt_text.proofs.TurnLemmas.{no_read, next_read}
 use Rattle.dgt_text.proofs.picturing.picture.Goals as goal
 
@@ -11,10 +11,6 @@ loop-init g c = record {
   empty = c.new-outgoing.ensures;
   short = omega arith;
 }
-
-pub write_pictures-requires-clause-held : goal.write_pictures-requires-clause-held
-write_pictures-requires-clause-held g c = pictured_bound c.lines_append.ensures.unfinished _ _ _ _ _ _
-    c.loop.invariant.pictured
 
 pub returns-then-given-eq0-clause-output : goal.returns-then-given-eq0-clause-output
 returns-then-given-eq0-clause-output g c = pictured_end _ (tt {0}) c.loop.invariant.in_turns c.loop.invariant.pictured
