@@ -3,30 +3,35 @@
  *     cc -I include examples/host.c -L lib/out -l:libdgt.a -o host && ./host /dev/ttyUSB0
  *
  * It ends when the line does, or when nothing has come for as many seconds as a second argument
- * says. */
+ * says, 1 to 1000000. */
 #define _XOPEN_SOURCE 700
 #define _DEFAULT_SOURCE
 #include "dgt.h"
 
 #include <fcntl.h>
 #include <poll.h>
+#include <stdbool.h>
 #include <stdio.h>
 #include <stdlib.h>
 #include <string.h>
 #include <termios.h>
 #include <unistd.h>
 
-/* Opens a serial line: 9600 bits a second, eight bits, no parity, raw. */
+/* Opens a serial line: 9600 bits a second, eight bits, no parity, one stop bit, no flow control,
+ * raw. Each read waits for a byte. What is no terminal is opened as it is. -1 where it can't be
+ * opened or set, with errno. */
 static int open_line(const char *name) {
     int line = open(name, O_RDWR | O_NOCTTY);
     struct termios settings;
     if (line < 0 || tcgetattr(line, &settings) != 0) return line;
-    settings.c_iflag &= ~(tcflag_t)(IGNBRK | BRKINT | PARMRK | ISTRIP);
-    settings.c_iflag &= ~(tcflag_t)(INLCR | IGNCR | ICRNL | IXON);
+    settings.c_iflag &= ~(tcflag_t)(IGNBRK | BRKINT | PARMRK | ISTRIP | INPCK);
+    settings.c_iflag &= ~(tcflag_t)(INLCR | IGNCR | ICRNL | IXON | IXOFF);
     settings.c_oflag &= ~(tcflag_t)OPOST;
     settings.c_lflag &= ~(tcflag_t)(ECHO | ECHONL | ICANON | ISIG | IEXTEN);
-    settings.c_cflag &= ~(tcflag_t)(CSIZE | PARENB);
+    settings.c_cflag &= ~(tcflag_t)(CSIZE | PARENB | CSTOPB | CRTSCTS);
     settings.c_cflag |= CS8 | CLOCAL | CREAD;
+    settings.c_cc[VMIN] = 1;
+    settings.c_cc[VTIME] = 0;
     cfsetispeed(&settings, B9600);
     cfsetospeed(&settings, B9600);
     return tcsetattr(line, TCSANOW, &settings) == 0 ? line : -1;
@@ -65,26 +70,43 @@ static void hear(dgt_host *host, const uint8_t *piece, size_t n, char shown[DGT_
     }
 }
 
+/* Hears a line until it ends, or nothing has come for so many milliseconds (for ever: -1). False
+ * where it can't be read, with errno. */
+static bool follow(dgt_host *host, int line, int timeout) {
+    char shown[DGT_PLACEMENT_ROOM] = "";
+    uint8_t piece[256];
+    for (;;) {
+        struct pollfd polled = {line, POLLIN, 0};
+        int ready = poll(&polled, 1, timeout);
+        if (ready <= 0) return ready == 0;
+        ssize_t n = read(line, piece, sizeof piece);
+        /* A terminal that was hung up has nothing more, and perhaps says so as EIO. */
+        if (n <= 0) return n == 0 || (polled.revents & POLLHUP);
+        hear(host, piece, (size_t)n, shown);
+    }
+}
+
+/* Reads a number of seconds, 1 to 1000000, as milliseconds. 0 where a text is something else. */
+static int milliseconds(const char *text) {
+    char *end;
+    long seconds = strtol(text, &end, 10);
+    return *end == '\0' && seconds >= 1 && seconds <= 1000000 ? 1000 * (int)seconds : 0;
+}
+
 int main(int count, char **words) {
-    if (count < 2) return fprintf(stderr, "usage: host LINE [SECONDS]\n"), 2;
-    int timeout = count > 2 ? 1000 * atoi(words[2]) : -1;
+    int timeout = count > 2 ? milliseconds(words[2]) : -1;
+    if (count < 2 || count > 3 || timeout == 0)
+        return fprintf(stderr, "usage: host LINE [SECONDS], from 1 to 1000000\n"), 2;
     static dgt_host host;
     if (!dgt_host_new(&host)) return fprintf(stderr, "this library has another header\n"), 1;
     int line = open_line(words[1]);
     if (line < 0) return perror(words[1]), 1;
 
-    uint8_t out[DGT_RESTART_LENGTH + 1], piece[256];
+    uint8_t out[DGT_RESTART_LENGTH + 1];
     dgt_sent asked = dgt_host_restart(&host, out, sizeof out);
     dgt_sent more = dgt_host_send(&host, DGT_SEND_TRADEMARK, out + asked.bytes, 1);
     if (write_all(line, out, asked.bytes + more.bytes) != 0) return perror(words[1]), 1;
-
-    char shown[DGT_PLACEMENT_ROOM] = "";
-    struct pollfd polled = {line, POLLIN, 0};
-    while (poll(&polled, 1, timeout) > 0) {
-        ssize_t n = read(line, piece, sizeof piece);
-        if (n <= 0) break;
-        hear(&host, piece, (size_t)n, shown);
-    }
+    if (!follow(&host, line, timeout)) return perror(words[1]), 1;
     close(line);
     return 0;
 }

@@ -3,10 +3,19 @@
 //
 //     c++ -std=c++17 -I include examples/host.cpp -L lib/out -l:libdgt.a -o host
 //     ./dgt ask dump version | ./dgt board | ./host
+//
+// Where a file is named, it first writes there what it asks the board for. On a serial line that
+// stty has set up, this is the line itself:
+//
+//     ./host /dev/ttyUSB0 </dev/ttyUSB0
 #include "dgt.h"
 
+#include <unistd.h>
+
 #include <array>
-#include <cstdio>
+#include <cstddef>
+#include <cstdint>
+#include <fstream>
 #include <functional>
 #include <iostream>
 #include <optional>
@@ -37,13 +46,15 @@ public:
     /// What asks for all squares, and for each change.
     Bytes restart() {
         Bytes out(DGT_RESTART_LENGTH);
-        return sent(dgt_host_restart(&host_, out.data(), out.size()), out);
+        keep_sent(out, dgt_host_restart(&host_, out.data(), out.size()));
+        return out;
     }
 
     /// A command of one byte, such as DGT_SEND_VERSION.
     Bytes send(std::uint8_t code) {
         Bytes out(1);
-        return sent(dgt_host_send(&host_, code, out.data(), out.size()), out);
+        keep_sent(out, dgt_host_send(&host_, code, out.data(), out.size()));
+        return out;
     }
 
     /// Hears a piece of bytes, and hands on each event that it makes.
@@ -67,10 +78,10 @@ public:
     }
 
 private:
-    static Bytes sent(dgt_sent sent, Bytes out) {
+    /// Cuts a buffer to what a call has written into it.
+    static void keep_sent(Bytes &out, dgt_sent sent) {
         if (sent.status != DGT_SENT) throw std::runtime_error("this can't be sent now");
         out.resize(sent.bytes);
-        return out;
     }
 
     dgt_host host_;
@@ -79,20 +90,32 @@ private:
 
 } // namespace dgt
 
-int main() {
+static bool write_all(const char *name, const dgt::Bytes &bytes) {
+    std::ofstream file(name, std::ios::binary);
+    file.write(reinterpret_cast<const char *>(bytes.data()), std::streamsize(bytes.size()));
+    return bool(file.flush());
+}
+
+static void show(dgt::Host &host, const dgt::Heard &heard) {
+    const dgt_event &event = heard.event;
+    if (event.kind == DGT_DUMP || event.kind == DGT_FIELD)
+        std::cout << host.placement().value_or("unknown") << std::endl;
+    else if (event.kind == DGT_VERSION)
+        std::cout << "version " << +event.main_number << '.' << +event.sub_number << std::endl;
+    else
+        std::cout << "kind " << +event.kind << ", body of " << heard.body.size() << std::endl;
+}
+
+int main(int count, char **words) {
     dgt::Host host;
-    host.restart();
-    std::array<std::uint8_t, 256> piece;
-    std::size_t n;
-    while ((n = std::fread(piece.data(), 1, piece.size(), stdin)) > 0) {
-        host.hear(piece.data(), n, [&](const dgt::Heard &heard) {
-            const dgt_event &event = heard.event;
-            if (event.kind == DGT_DUMP || event.kind == DGT_FIELD)
-                std::cout << host.placement().value_or("unknown") << '\n';
-            else if (event.kind == DGT_VERSION)
-                std::cout << "version " << +event.main_number << '.' << +event.sub_number << '\n';
-            else
-                std::cout << "kind " << +event.kind << ", body of " << heard.body.size() << '\n';
-        });
+    dgt::Bytes asked = host.restart();
+    for (std::uint8_t code : host.send(DGT_SEND_VERSION)) asked.push_back(code);
+    if (count > 1 && !write_all(words[1], asked)) {
+        std::cerr << words[1] << ": can't be written\n";
+        return 1;
     }
+    std::array<std::uint8_t, 256> piece;
+    for (ssize_t n; (n = read(STDIN_FILENO, piece.data(), piece.size())) > 0;)
+        host.hear(piece.data(), std::size_t(n),
+                  [&](const dgt::Heard &heard) { show(host, heard); });
 }

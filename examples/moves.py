@@ -4,8 +4,12 @@
     python3 examples/moves.py /dev/ttyUSB0 [ENGINE]
 
 The rules are those of a UCI engine that knows `go perft 1` and `d`, as Stockfish does. A move is
-told once the board shows the position behind it, so that pieces may be taken up in any order. It
-ends when the line does."""
+told once the board shows the position behind it, so that pieces may be taken up in any order. A
+rook's move that may be the first half of castling is told once it was answered, or at the end. A
+piece has to be lifted on its way: one that is slid is told on the first square that it may go to.
+
+A game begins with all pieces on their first squares; standard error tells how they stand when the
+board is first heard. It ends when the line does."""
 
 import os
 import pathlib
@@ -19,6 +23,8 @@ sys.path.insert(0, str(pathlib.Path(__file__).resolve().parent.parent / "python"
 import dgt
 
 START = "rnbqkbnr/pppppppp/8/8/8/8/PPPPPPPP/RNBQKBNR w KQkq - 0 1"
+# The move of a rook that castling may begin with, and the castling.
+HALVES = {"h1f1": "e1g1", "a1d1": "e1c1", "h8f8": "e8g8", "a8d8": "e8c8"}
 
 
 class Rules:
@@ -53,6 +59,26 @@ class Rules:
         return {fen.split()[0]: (move, fen) for move, fen in positions}
 
 
+def made(rules: Rules, placements):
+    """The moves of a game, from where the pieces stand after each change."""
+    moves = rules.moves(START)
+    half, answers = None, {}
+    for placement in placements:
+        if placement in answers:
+            yield half
+            moves, half, answers = answers, None, {}
+        if placement not in moves or moves[placement][0] == half:
+            continue
+        move, fen = moves[placement]
+        if HALVES.get(move) in [legal for legal, _ in moves.values()]:
+            half, answers = move, rules.moves(fen)
+        else:
+            yield move
+            moves, half, answers = rules.moves(fen), None, {}
+    if half and moves.get(placement, [None])[0] == half:
+        yield half
+
+
 def pictures(line: int):
     """Where the pieces stand after each change that a board tells, up to the end of the line."""
     host = dgt.Host()
@@ -65,6 +91,8 @@ def pictures(line: int):
         if not piece:
             return
         for event in host.hear_each(piece):
+            if isinstance(event, dgt.Dump):
+                print("the board shows", host.placement, file=sys.stderr, flush=True)
             if isinstance(event, (dgt.Dump, dgt.Field)) and host.placement:
                 yield host.placement
 
@@ -82,13 +110,8 @@ def main() -> None:
         settings = termios.tcgetattr(line)
         settings[4] = settings[5] = termios.B9600
         termios.tcsetattr(line, termios.TCSANOW, settings)
-    rules = Rules(engine)
-    next_moves = rules.moves(START)
-    for placement in pictures(line):
-        if placement in next_moves:
-            move, fen = next_moves[placement]
-            print(move, flush=True)
-            next_moves = rules.moves(fen)
+    for move in made(Rules(engine), pictures(line)):
+        print(move, flush=True)
 
 
 if __name__ == "__main__":
