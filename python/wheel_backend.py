@@ -4,15 +4,18 @@
 import base64
 import hashlib
 import pathlib
+import re
+import sys
 import sysconfig
-import tomllib
 import zipfile
 
 HERE = pathlib.Path(__file__).resolve().parent
 LIBRARY = HERE.parent / "lib" / "out" / "libdgt.so"
-PROJECT = tomllib.loads((HERE / "pyproject.toml").read_text())["project"]
+# Without tomllib, so that pip itself refuses a Python that is too old, and says so.
+PROJECT = dict(re.findall(r'^([\w-]+) = "(.*)"$', (HERE / "pyproject.toml").read_text(), re.M))
 NAMED = f"{PROJECT['name']}-{PROJECT['version']}"
-TAG = "py3-none-" + sysconfig.get_platform().replace("-", "_").replace(".", "_")
+# For the CPython that makes the wheel, since the package needs CPython.
+TAG = "cp{}{}-none-".format(*sys.version_info) + re.sub(r"[-.]", "_", sysconfig.get_platform())
 ABOUT = f"{NAMED}.dist-info"
 METADATA = f"""Metadata-Version: 2.1
 Name: {PROJECT['name']}

@@ -5,15 +5,19 @@ from __future__ import annotations
 
 import ctypes
 import threading
+from collections.abc import Callable
 from ctypes import c_char, c_uint64
-from typing import Any
+from typing import Any, NoReturn, Self, TypeVar
 
 from ._library import dgt
-from .errors import Closed
+from .errors import Closed, Nested
+
+_Answer = TypeVar("_Answer")
 
 
 def readable(piece: Any) -> tuple[bytes, int]:
-    """The bytes of an object that has some, and where they lie as long as they are kept."""
+    """The bytes of an object that has some, and where they lie as long as they are kept.
+    `TypeError` where it has none."""
     held = piece if type(piece) is bytes else bytes(memoryview(piece))
     return held, ctypes.cast(held, ctypes.c_void_p).value or 0
 
@@ -31,34 +35,57 @@ class Handle:
     _prefix: str
 
     def __init__(self) -> None:
+        # Other threads wait for the lock. The thread that holds it takes it once more, and is told
+        # by `_running` that a call is under way.
+        lock = threading.RLock()
+        if self.__dict__.setdefault("_lock", lock) is not lock:
+            raise RuntimeError(f"this {type(self).__name__} was made already")
+        self._running = False
         size = getattr(dgt, f"{self._prefix}_size")()
         self._room = (c_uint64 * ((size + 7) // 8))()
+        getattr(dgt, f"{self._prefix}_init")(self._room)
         self._at = ctypes.addressof(self._room)
-        self._lock = threading.Lock()
-        getattr(dgt, f"{self._prefix}_init")(self._at)
 
-    def _open(self) -> int:
-        """Where it lies. Called with the lock held."""
-        if not self._at:
-            raise Closed(f"this {type(self).__name__} is closed")
-        return self._at
+    def _call(self, use: Callable[..., _Answer], *arguments: Any) -> _Answer:
+        """What `use` answers to where the object lies and these arguments, while no other call
+        runs. `Nested` within a call of the same thread, `Closed` where it was closed."""
+        with self._lock:
+            if self._running or not self._at:
+                self._refuse()
+            self._running = True
+            try:
+                return use(self._at, *arguments)
+            finally:
+                self._running = False
+
+    def _refuse(self) -> NoReturn:
+        name = type(self).__name__
+        if self._running:
+            raise Nested(f"a call of this {name} is under way in this thread")
+        raise Closed(f"this {name} is closed")
+
+    def _check_open(self) -> None:
+        """`Closed` where it was closed."""
+        self._call(lambda at: None)
 
     def close(self) -> None:
-        """Ends it. Each later call raises `Closed`."""
+        """Ends it. Each later call raises `Closed`, but `close` and `with`, which do nothing then;
+        so does an iterator of before that has bytes left to read. A call that is under way goes on
+        to its end: in another thread `close` waits for it."""
         with self._lock:
             self._at = 0
 
-    def __enter__(self) -> Any:
+    def __enter__(self) -> Self:
         return self
 
     def __exit__(self, *_: object) -> None:
         self.close()
 
-    def __reduce__(self) -> Any:
+    def __reduce__(self) -> NoReturn:
         raise TypeError(f"a {type(self).__name__} can't be copied")
 
-    def __copy__(self) -> Any:
-        return self.__reduce__()
+    def __copy__(self) -> NoReturn:
+        self.__reduce__()
 
-    def __deepcopy__(self, _: object) -> Any:
-        return self.__reduce__()
+    def __deepcopy__(self, _: object) -> NoReturn:
+        self.__reduce__()

@@ -4,6 +4,7 @@ from __future__ import annotations
 
 import ctypes
 import os
+import sys
 from ctypes import POINTER, Structure, c_bool, c_size_t, c_uint8, c_void_p
 from pathlib import Path
 
@@ -65,6 +66,9 @@ class IdentityStruct(Structure):
                 ("long_serial", BodyStruct)]
 
 
+# How many bytes a handle takes, as dgt.h has it.
+_SIZES = {"dgt_host": 16520, "dgt_decoder": 16416, "dgt_command_decoder": 288, "dgt_board": 712}
+
 _ROOM = (c_void_p, c_size_t)
 _HANDLE = {
     "size": (c_size_t,),
@@ -117,18 +121,43 @@ _FUNCTIONS = {
 }
 
 
-def _load() -> ctypes.CDLL:
-    """The library beside this file, or else that of the source tree, or else the system's."""
+def _place() -> str:
+    """Where the library lies: what DGT_LIBRARY names, or else that beside this file, or else that
+    of the source tree, or else the system's."""
     here = Path(__file__).resolve().parent
-    named = os.environ.get("DGT_LIBRARY")
     places = [here / "libdgt.so", here.parent.parent / "lib" / "out" / "libdgt.so"]
     found = [str(place) for place in places if place.exists()]
-    library = ctypes.CDLL(named or (found + ["libdgt.so.0"])[0])
+    return os.environ.get("DGT_LIBRARY") or (found + ["libdgt.so.0"])[0]
+
+
+def _load() -> ctypes.CDLL:
+    """The library. `ImportError` where there is none, or it is not this package's, or Python is
+    not CPython, on which it relies for where the bytes of an object lie."""
+    if sys.implementation.name != "cpython":
+        raise ImportError(f"the package dgt needs CPython: this is {sys.implementation.name}")
+    place = _place()
+    try:
+        library = ctypes.CDLL(place)
+    except OSError as fault:
+        raise ImportError(f"the library of the package dgt can't be loaded: {fault}. lib/build "
+                          "makes it, and DGT_LIBRARY names one in another place") from fault
+    another = f"{place} is another library than that of the package dgt"
+    try:
+        _declare(library)
+    except AttributeError as fault:
+        raise ImportError(f"{another}: {fault}") from fault
+    sizes = {prefix: getattr(library, f"{prefix}_size")() for prefix in _SIZES}
+    if sizes != _SIZES:
+        raise ImportError(f"{another}: its sizes are {sizes}, and not {_SIZES}")
+    return library
+
+
+def _declare(library: ctypes.CDLL) -> None:
+    """Says of each function what it takes and answers."""
     for prefix, functions in _FUNCTIONS.items():
         for name, (result, *parameters) in functions.items():
             function = getattr(library, f"{prefix}_{name}")
             function.restype, function.argtypes = result, parameters
-    return library
 
 
 dgt = _load()

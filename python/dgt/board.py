@@ -13,8 +13,8 @@ from ._library import (MAX_KEPT, MAX_SENT, MAX_WORD, BodyStruct, ClockStruct, Co
                        IdentityStruct, dgt)
 from .commands import Word, read_word
 from .errors import BadValue, Busy
-from .values import Clock, Position, Times, byte, clock_struct, piece_code, read_clock
-from .values import square_number
+from .values import (Clock, Position, Times, byte, clock_struct, piece_code, plain_bytes,
+                     read_clock, square_number)
 
 _STARTED = 0
 _WROTE = 1
@@ -43,18 +43,20 @@ class Identity:
     long_serial: bytes = b"0000000001"
 
     def _struct(self) -> IdentityStruct:
-        if not isinstance(self.serial, bytes) or len(self.serial) != 5:
+        serial = plain_bytes(self.serial)
+        if serial is None or len(serial) != 5:
             raise BadValue(f"a serial number is five bytes: {self.serial!r}")
         return IdentityStruct(
-            (c_uint8 * 5)(*self.serial), byte(self.main, "a version"), byte(self.sub, "a version"),
+            (c_uint8 * 5)(*serial), byte(self.main, "a version"), byte(self.sub, "a version"),
             byte(self.clock_version, "a version"), _body(self.trademark), _body(self.battery),
             _body(self.long_serial))
 
 
 def _body(body: bytes) -> BodyStruct:
-    if not isinstance(body, bytes) or len(body) > MAX_KEPT:
+    plain = plain_bytes(body)
+    if plain is None or len(plain) > MAX_KEPT:
         raise BadValue(f"no body of at most {MAX_KEPT} bytes: {body!r}")
-    return BodyStruct(len(body), (c_uint8 * MAX_KEPT)(*body))
+    return BodyStruct(len(plain), (c_uint8 * MAX_KEPT)(*plain))
 
 
 class Board(Handle):
@@ -73,90 +75,94 @@ class Board(Handle):
         identity = Identity() if identity is None else identity
         if not isinstance(position, Position) or not isinstance(identity, Identity):
             raise TypeError("a board is made of a Position, a clock and an Identity")
-        codes, said = position.codes, identity._struct()
+        pieces = (c_uint8 * 64).from_buffer_copy(position.codes)
+        said = identity._struct()
         shown = clock_struct(Times() if clock is None else clock)
-        status = dgt.dgt_board_start(self._at, (c_uint8 * 64).from_buffer_copy(codes), byref(shown),
-                                     byref(said))
+        status = self._call(dgt.dgt_board_start, pieces, byref(shown), byref(said))
         if status != _STARTED:
             what = {1: "position", 2: "clock", 3: "identity"}[status]
             raise BadValue(f"the {what} of a board is out of its range")
 
     def change(self, square: str, piece: str) -> None:
-        """Puts the piece with this letter on a square, or takes one off with a dot."""
-        number, code = square_number(square), piece_code(piece)
-        with self._lock:
-            dgt.dgt_board_change(self._open(), number, code)
+        """Puts the piece with this letter on a square, or takes one off with a dot. `BadValue`
+        where there is no such square or piece."""
+        self._call(dgt.dgt_board_change, square_number(square), piece_code(piece))
 
     def hand_clock(self, clock: Clock) -> None:
-        """Sets what the clock shows."""
+        """Sets what the clock shows. `BadValue` where a time or another part of it is out of its
+        range, `TypeError` where it is no clock."""
         shown = clock_struct(clock)
-        with self._lock:
-            if not dgt.dgt_board_hand_clock(self._open(), byref(shown)):
-                raise BadValue(f"no clock shows this: {clock!r}")
+        if not self._call(dgt.dgt_board_hand_clock, byref(shown)):
+            raise BadValue(f"no clock shows this: {clock!r}")
 
     def take(self, piece: Any) -> tuple[int, Word | None]:
         """Uses bytes of the host up to and including the first that completes a command or shows a
         fault, or all of them: how many, and the command or fault. `Busy` where the board owes
         eight replies."""
         held, address = readable(piece)
-        with self._lock:
-            taken = dgt.dgt_board_take(self._open(), address, len(held), byref(self._told),
-                                       self._word_at, MAX_WORD)
-            if taken.busy:
-                raise Busy("the board owes eight replies")
-            word = read_word(self._told, self._word) if self._told.kind else None
-        return taken.used, word
+        return self._call(self._taken, address, len(held))
+
+    def _taken(self, at: int, address: int, size: int) -> tuple[int, Word | None]:
+        taken = dgt.dgt_board_take(at, address, size, byref(self._told), self._word_at, MAX_WORD)
+        if taken.busy:
+            raise Busy("the board owes eight replies")
+        return taken.used, read_word(self._told, self._word) if self._told.kind else None
 
     def poll(self) -> bytes | None:
         """The next message that is to be sent, where there is one. It is taken for sent."""
-        with self._lock:
-            polled = dgt.dgt_board_poll(self._open(), self._out_at, MAX_SENT)
-            return bytes(self._out[:polled.bytes]) if polled.status == _WROTE else None
+        return self._call(self._polled)
+
+    def _polled(self, at: int) -> bytes | None:
+        polled = dgt.dgt_board_poll(at, self._out_at, MAX_SENT)
+        return bytes(self._out[:polled.bytes]) if polled.status == _WROTE else None
 
     def messages(self) -> Iterator[bytes]:
         """All messages that are to be sent, one after another."""
-        while (message := self.poll()) is not None:
-            yield message
+        self._check_open()
+        return iter(self.poll, None)
 
     def answers(self, piece: Any) -> Iterator[bytes]:
-        """Takes all of a host's bytes, and gives the messages that they ask for, one after
-        another."""
+        """Takes all of a host's bytes, and gives the messages that they ask for, one after another,
+        behind those that the board owes already. A command is taken once the messages before it
+        were."""
         held, _ = readable(piece)
+        self._check_open()
+        return self._answered(held)
+
+    def _answered(self, held: bytes) -> Iterator[bytes]:
         at = 0
         while at < len(held):
-            at += self.take(held[at:])[0]
+            try:
+                at += self.take(held[at:at + MAX_WORD])[0]
+            except Busy:
+                pass  # until the messages that are owed were sent
             yield from self.messages()
 
     @property
     def owes(self) -> bool:
         """Whether there is anything to send."""
-        with self._lock:
-            return dgt.dgt_board_owes(self._open())
+        return self._call(dgt.dgt_board_owes)
 
     @property
     def mode(self) -> Mode:
         """What the board tells unasked."""
-        with self._lock:
-            return Mode(dgt.dgt_board_mode(self._open()))
+        return Mode(self._call(dgt.dgt_board_mode))
 
     @property
     def position(self) -> Position:
         """What stands on the squares."""
         codes = (c_uint8 * 64)()
-        with self._lock:
-            dgt.dgt_board_position(self._open(), codes)
+        self._call(dgt.dgt_board_position, codes)
         return Position(bytes(codes))
 
     @property
     def clock(self) -> Clock:
         """What the clock shows."""
         shown = ClockStruct()
-        with self._lock:
-            dgt.dgt_board_clock(self._open(), byref(shown))
+        self._call(dgt.dgt_board_clock, byref(shown))
         return read_clock(shown)
 
     def line_lost(self) -> None:
         """The line is lost: the board keeps its squares, its clock and its identity, and is else
         as new."""
-        with self._lock:
-            dgt.dgt_board_line_lost(self._open())
+        self._call(dgt.dgt_board_line_lost)

@@ -27,25 +27,37 @@ class EventReader(Handle):
 
     def _all(self, piece: Any) -> list[Event]:
         held, address = readable(piece)
-        end = address + len(held)
+        return self._call(self._events, address, address + len(held))
+
+    def _events(self, at: int, address: int, end: int) -> list[Event]:
         events: list[Event] = []
         append, feed, told = events.append, self._feed, self._told
         told_at, body_at = self._told_at, self._body_at
-        with self._lock:
-            at = self._open()
-            while address < end:
-                address += feed(at, address, end - address, told_at, body_at, MAX_BODY)
-                if told.kind:
-                    append(read_event(told, self._body))
+        while address < end:
+            address += feed(at, address, end - address, told_at, body_at, MAX_BODY)
+            if told.kind:
+                append(read_event(told, self._body))
         return events
 
-    def _each(self, held: bytes, address: int) -> Iterator[Event]:
+    def _each(self, piece: Any) -> Iterator[Event]:
+        held = readable(piece)
+        self._check_open()
+        return self._steps(*held)
+
+    def _steps(self, held: bytes, address: int) -> Iterator[Event]:
         end = address + len(held)
+        feed, told, told_at, body_at = self._feed, self._told, self._told_at, self._body_at
         while address < end:
+            # As `_call` does it; to call that for each event would take half as long again.
             with self._lock:
-                address += self._feed(self._open(), address, end - address, self._told_at,
-                                      self._body_at, MAX_BODY)
-                event = read_event(self._told, self._body) if self._told.kind else None
+                if self._running or not self._at:
+                    self._refuse()
+                self._running = True
+                try:
+                    address += feed(self._at, address, end - address, told_at, body_at, MAX_BODY)
+                    event = read_event(told, self._body) if told.kind else None
+                finally:
+                    self._running = False
             if event is not None:
                 yield event
 
@@ -61,23 +73,20 @@ class Decoder(EventReader):
 
     def feed_each(self, piece: Any) -> Iterator[Event]:
         """The same one after another. A byte is read once the event before it was taken."""
-        return self._each(*readable(piece))
+        return self._each(piece)
 
     @property
     def rest(self) -> int:
         """How many bytes have come of a message that is not finished."""
-        with self._lock:
-            return dgt.dgt_decoder_rest(self._open())
+        return self._call(dgt.dgt_decoder_rest)
 
     def finish(self) -> int:
         """The same, at the end of the bytes. The decoder is as new then."""
-        with self._lock:
-            return dgt.dgt_decoder_finish(self._open())
+        return self._call(dgt.dgt_decoder_finish)
 
     def reset(self) -> None:
         """Makes the decoder as new."""
-        with self._lock:
-            dgt.dgt_decoder_reset(self._open())
+        self._call(dgt.dgt_decoder_reset)
 
 
 class CommandDecoder(Handle):
@@ -93,45 +102,45 @@ class CommandDecoder(Handle):
     def feed(self, piece: Any) -> list[Word]:
         """The commands and faults that a piece of bytes makes."""
         held, address = readable(piece)
-        end = address + len(held)
+        return self._call(self._words, address, address + len(held))
+
+    def _words(self, at: int, address: int, end: int) -> list[Word]:
         words: list[Word] = []
-        with self._lock:
-            self._open()
-            while address < end:
-                address += self._step(address, end)
-                if self._told.kind:
-                    words.append(read_word(self._told, self._word))
+        while address < end:
+            used, word = self._step(at, address, end)
+            address += used
+            if word is not None:
+                words.append(word)
         return words
 
     def feed_each(self, piece: Any) -> Iterator[Word]:
         """The same one after another. A byte is read once the word before it was taken."""
-        return self._each(*readable(piece))
+        held = readable(piece)
+        self._check_open()
+        return self._steps(*held)
 
-    def _each(self, held: bytes, address: int) -> Iterator[Word]:
+    def _steps(self, held: bytes, address: int) -> Iterator[Word]:
         end = address + len(held)
         while address < end:
-            with self._lock:
-                address += self._step(address, end)
-                word = read_word(self._told, self._word) if self._told.kind else None
+            used, word = self._call(self._step, address, end)
+            address += used
             if word is not None:
                 yield word
 
-    def _step(self, address: int, end: int) -> int:
-        return dgt.dgt_command_decoder_feed(self._open(), address, end - address,
-                                            byref(self._told), self._word_at, MAX_WORD)
+    def _step(self, at: int, address: int, end: int) -> tuple[int, Word | None]:
+        used = dgt.dgt_command_decoder_feed(at, address, end - address, byref(self._told),
+                                            self._word_at, MAX_WORD)
+        return used, read_word(self._told, self._word) if self._told.kind else None
 
     @property
     def rest(self) -> int:
         """How many bytes have come of a command that is not finished."""
-        with self._lock:
-            return dgt.dgt_command_decoder_rest(self._open())
+        return self._call(dgt.dgt_command_decoder_rest)
 
     def finish(self) -> int:
         """The same, at the end of the bytes. The reader is as new then."""
-        with self._lock:
-            return dgt.dgt_command_decoder_finish(self._open())
+        return self._call(dgt.dgt_command_decoder_finish)
 
     def reset(self) -> None:
         """Makes the reader as new."""
-        with self._lock:
-            dgt.dgt_command_decoder_reset(self._open())
+        self._call(dgt.dgt_command_decoder_reset)

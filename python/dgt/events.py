@@ -130,17 +130,16 @@ _FIELDS = [[Field(square, letter) for letter in LETTERS] for square in SQUARES]
 _Maker = Callable[[EventStruct, bytearray], Event]
 
 
-def _carried(kind: type) -> _Maker:
+def _carried(kind: Callable[[bytes, bool], Event]) -> _Maker:
     return lambda told, body: kind(bytes(body[:told.body_len]), bool(told.unasked))
 
 
 # The event of each kind, from 1 on.
-_MAKERS: tuple[_Maker | None, ...] = (
-    None,
+_MAKERS: tuple[_Maker, ...] = (
     lambda told, body: Dump(Position(bytes(told.pieces)), bool(told.unasked)),
     lambda told, body: _FIELDS[told.square][told.piece],
-    lambda told, body: read_clock(told.clock, bool(told.unasked)),
-    lambda told, body: read_clock(told.clock, bool(told.unasked)),
+    lambda told, body: read_clock(told.clock),
+    lambda told, body: read_clock(told.clock),
     lambda told, body: Ack(bytes(told.ack), told.ack_status),
     lambda told, body: Serial(bytes(told.serial), bool(told.unasked)),
     _carried(Trademark),
@@ -156,5 +155,5 @@ _MAKERS: tuple[_Maker | None, ...] = (
 
 
 def read_event(told: EventStruct, body: bytearray) -> Event:
-    """The event that the library tells, where it tells one."""
-    return _MAKERS[told.kind](told, body)
+    """The event that the library tells, where it tells one: the kind is not 0."""
+    return _MAKERS[told.kind - 1](told, body)

@@ -35,82 +35,78 @@ class Host(EventReader):
     def hear_each(self, piece: Any) -> Iterator[Event]:
         """The same one after another. A byte is heard once the event before it was taken, so that
         the host's picture is that behind the event."""
-        return self._each(*readable(piece))
+        return self._each(piece)
 
-    def _sent(self, send: Callable[[int], SentStruct]) -> bytes:
-        with self._lock:
-            sent = send(self._open())
-            if sent.status == _SENT:
-                return bytes(self._out[:sent.bytes])
+    def _sent(self, send: Callable[..., SentStruct], *what: int) -> bytes:
+        return self._call(self._send, send, what)
+
+    def _send(self, at: int, send: Callable[..., SentStruct], what: tuple[int, ...]) -> bytes:
+        sent = send(at, *what, self._out_at, len(self._out))
         if sent.status == _TOO_MANY:
             raise TooManyAwaited("16 replies are awaited already")
-        raise NoSuchCommand("there is no such command")
+        if sent.status != _SENT:
+            raise NoSuchCommand("there is no such command")
+        return bytes(self._out[:sent.bytes])
 
     def follow(self) -> bytes:
-        """What asks for each change from now on, and for all squares."""
-        return self._sent(lambda at: dgt.dgt_host_follow(at, self._out_at, len(self._out)))
+        """What asks for each change from now on, and for all squares. `TooManyAwaited` where no
+        further reply can be awaited."""
+        return self._sent(dgt.dgt_host_follow)
 
     def restart(self) -> bytes:
         """The same behind zeros that end whatever command the board is in the middle of."""
-        return self._sent(lambda at: dgt.dgt_host_restart(at, self._out_at, len(self._out)))
+        return self._sent(dgt.dgt_host_restart)
 
     def send(self, ask: Ask | int) -> bytes:
-        """The command of one byte."""
-        code = byte(ask, "a command")
-        return self._sent(lambda at: dgt.dgt_host_send(at, code, self._out_at, len(self._out)))
+        """The command of one byte. `BadValue` where it is no byte, `NoSuchCommand` where it is none
+        of `Ask`, `TooManyAwaited` where it asks for a reply and no further one can be awaited."""
+        return self._sent(dgt.dgt_host_send, byte(ask, "a command"))
 
     def send_clock(self, id: ClockId | int, payload: Any = b"") -> bytes:
-        """A message to the clock."""
+        """A message to the clock. `BadValue` where the id is no byte, `NoSuchCommand` where the
+        payload has more than 252 bytes, `TypeError` where it has none."""
         number = byte(id, "an id")
         held, address = readable(payload)
-        return self._sent(lambda at: dgt.dgt_host_send_clock(
-            at, number, address, len(held), self._out_at, len(self._out)))
+        return self._sent(dgt.dgt_host_send_clock, number, address, len(held))
 
     def send_leds(self, leds: Any) -> bytes:
-        """An LED frame."""
+        """An LED frame, of at most 255 bytes. `NoSuchCommand` where it has more."""
         held, address = readable(leds)
-        return self._sent(lambda at: dgt.dgt_host_send_leds(
-            at, address, len(held), self._out_at, len(self._out)))
+        return self._sent(dgt.dgt_host_send_leds, address, len(held))
 
     @property
     def picture(self) -> Position | None:
         """What stands on the board, where a dump was heard."""
         codes = (c_uint8 * 64)()
-        with self._lock:
-            known = dgt.dgt_host_picture(self._open(), codes)
+        known = self._call(dgt.dgt_host_picture, codes)
         return Position(bytes(codes)) if known else None
 
     @property
     def placement(self) -> str | None:
         """The same as the first field of a FEN."""
         text = (c_char * PLACEMENT_ROOM)()
-        with self._lock:
-            known = dgt.dgt_host_placement(self._open(), text)
+        known = self._call(dgt.dgt_host_placement, text)
         return text.value.decode() if known else None
 
     @property
     def clock(self) -> Clock | None:
         """What the board told last of its clock, where it told of it."""
         told = ClockStruct()
-        with self._lock:
-            dgt.dgt_host_clock(self._open(), byref(told))
-        return read_clock(told)
+        self._call(dgt.dgt_host_clock, byref(told))
+        return read_clock(told) if told.kind else None
 
     @property
     def awaited(self) -> list[Ask]:
         """The questions whose replies are awaited, the next one first."""
         codes = (c_uint8 * MAX_AWAITED)()
-        with self._lock:
-            count = dgt.dgt_host_awaited(self._open(), codes)
+        count = self._call(dgt.dgt_host_awaited, codes)
         return [Ask(code) for code in codes[:count]]
 
     @property
     def unread(self) -> int:
         """How many bytes were heard of a message that is not finished."""
-        with self._lock:
-            return dgt.dgt_host_unread(self._open())
+        return self._call(dgt.dgt_host_unread)
 
     def line_lost(self) -> None:
         """The line is lost, and what was under way on it: the host is as new."""
-        with self._lock:
-            dgt.dgt_host_line_lost(self._open())
+        self._call(dgt.dgt_host_line_lost)

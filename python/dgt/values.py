@@ -15,10 +15,12 @@ SQUARES = tuple(f"{file}{rank}" for rank in "87654321" for file in "abcdefgh")
 """The name of each square by its number."""
 
 _SQUARE_NUMBERS = {name: number for number, name in enumerate(SQUARES)}
+_PIECE_CODES = {letter: code for code, letter in enumerate(LETTERS)}
 
 
 def square_number(name: str) -> int:
-    """The number of a square, from a8, which is 0, to h1, which is 63."""
+    """The number of a square, from a8, which is 0, to h1, which is 63. `BadValue` where there is
+    no square of this name."""
     try:
         return _SQUARE_NUMBERS[name]
     except (KeyError, TypeError):
@@ -26,20 +28,26 @@ def square_number(name: str) -> int:
 
 
 def piece_code(letter: str) -> int:
-    """The code of a piece, from 0 to 15."""
-    if not isinstance(letter, str) or len(letter) != 1 or letter not in LETTERS:
-        raise BadValue(f"no piece: {letter!r}")
-    return LETTERS.index(letter)
+    """The code of a piece, from 0 to 15. `BadValue` where no piece has this letter."""
+    try:
+        return _PIECE_CODES[letter]
+    except (KeyError, TypeError):
+        raise BadValue(f"no piece: {letter!r}") from None
 
 
 def segment(character: str) -> int:
-    """The segments that show a digit, a space or a hyphen on the clock."""
-    if not isinstance(character, str) or len(character) != 1 or not character.isascii():
-        raise BadValue(f"no segments: {character!r}")
-    shown = dgt.dgt_segment(ord(character))
+    """The segments that show a digit, a space or a hyphen on the clock, from 0 to 127. `BadValue`
+    where it is none of these."""
+    known = isinstance(character, str) and str.__len__(character) == 1 and str.isascii(character)
+    shown: int = dgt.dgt_segment(ord(character)) if known else NO_SUCH
     if shown == NO_SUCH:
         raise BadValue(f"no segments: {character!r}")
     return shown
+
+
+def plain_bytes(held: object) -> bytes | None:
+    """The bytes of a `bytes`, whatever methods its own class has; `None` where it is none."""
+    return bytes.__getitem__(held, slice(None)) if isinstance(held, bytes) else None
 
 
 @dataclass(frozen=True, slots=True)
@@ -50,17 +58,17 @@ class Position:
     """The code of the piece on each square, by the square's number."""
 
     def __post_init__(self) -> None:
-        codes = self.codes
-        if not isinstance(codes, bytes) or len(codes) != 64 or max(codes) > 15:
+        codes = plain_bytes(self.codes)
+        if codes is None or len(codes) != 64 or max(codes) > 15:
             raise BadValue("a position is 64 bytes, each from 0 to 15")
+        object.__setattr__(self, "codes", codes)
 
     @classmethod
     def parse(cls, placement: str) -> Position:
-        """The position of the first field of a FEN."""
-        text = placement.encode()
+        """The position of the first field of a FEN. `BadPlacement` where the text is none."""
+        text = str.encode(placement, errors="replace")
         codes = (c_uint8 * 64)()
-        held = (c_char * max(1, len(text))).from_buffer_copy(text or b"\0")
-        parsed = dgt.dgt_parse_placement(held, len(text), codes)
+        parsed = dgt.dgt_parse_placement(text, len(text), codes)
         if not parsed.ok:
             raise BadPlacement(parsed.at)
         return cls(bytes(codes))
@@ -114,13 +122,31 @@ class Times:
     first: Time = Time()
     second: Time = Time()
     status: int = 0
-    unasked: bool = False
 
-    running = property(lambda self: bool(self.status & 0x01), doc="Whether the clock runs.")
-    lever = property(lambda self: bool(self.status & 0x02), doc="The position of the lever.")
-    battery_low = property(lambda self: bool(self.status & 0x04), doc="Its battery is low.")
-    black_turn = property(lambda self: bool(self.status & 0x08), doc="It is black's turn.")
-    white_turn = property(lambda self: bool(self.status & 0x10), doc="It is white's turn.")
+    @property
+    def running(self) -> bool:
+        """Whether the clock runs."""
+        return bool(self.status & 0x01)
+
+    @property
+    def lever(self) -> bool:
+        """The position of the lever."""
+        return bool(self.status & 0x02)
+
+    @property
+    def battery_low(self) -> bool:
+        """Whether its battery is low."""
+        return bool(self.status & 0x04)
+
+    @property
+    def black_turn(self) -> bool:
+        """Whether it is black's turn."""
+        return bool(self.status & 0x08)
+
+    @property
+    def white_turn(self) -> bool:
+        """Whether it is white's turn."""
+        return bool(self.status & 0x10)
 
 
 @dataclass(frozen=True, slots=True)
@@ -129,30 +155,28 @@ class NoClock:
 
     raw: bytes = bytes(6)
     status: int = 0x20
-    unasked: bool = False
 
 
 Clock = Times | NoClock
 
-_UNKNOWN, _TIMES, _NONE = range(3)
+_TIMES, _NONE = 1, 2
 
 
-def read_clock(told: ClockStruct, unasked: bool = False) -> Clock | None:
-    """The clock that the library tells, or `None` where none was told."""
-    if told.kind == _TIMES:
-        first, second = (Time(each.hours, each.minutes, each.seconds, each.flags)
-                         for each in (told.first, told.second))
-        return Times(first, second, told.status, unasked)
+def read_clock(told: ClockStruct) -> Clock:
+    """The clock that the library tells, where it tells one: the kind is not 0."""
     if told.kind == _NONE:
-        return NoClock(bytes(told.raw), told.status, unasked)
-    return None
+        return NoClock(bytes(told.raw), told.status)
+    first, second = (Time(each.hours, each.minutes, each.seconds, each.flags)
+                     for each in (told.first, told.second))
+    return Times(first, second, told.status)
 
 
 def byte(number: int, what: str) -> int:
-    """The number, which a byte must hold."""
-    if not isinstance(number, int) or not 0 <= number <= 255:
+    """The number, from 0 to 255. `BadValue` where it is none, which tells `what` should be."""
+    plain = int.__index__(number) if isinstance(number, int) else -1
+    if not 0 <= plain <= 255:
         raise BadValue(f"{what} is no byte: {number!r}")
-    return number
+    return plain
 
 
 def _time_struct(time: Time) -> TimeStruct:
@@ -161,12 +185,14 @@ def _time_struct(time: Time) -> TimeStruct:
 
 
 def clock_struct(clock: Clock) -> ClockStruct:
-    """The clock for the library, which looks at its ranges."""
+    """The clock for the library, which looks at its ranges. `TypeError` where it is none, and
+    `BadValue` where something in it is no byte, or `raw` is not six bytes."""
     if isinstance(clock, Times):
         return ClockStruct(_TIMES, byte(clock.status, "a status"), (c_uint8 * 6)(),
                            _time_struct(clock.first), _time_struct(clock.second))
     if isinstance(clock, NoClock):
-        if not isinstance(clock.raw, bytes) or len(clock.raw) != 6:
+        raw = plain_bytes(clock.raw)
+        if raw is None or len(raw) != 6:
             raise BadValue(f"no six bytes: {clock.raw!r}")
-        return ClockStruct(_NONE, byte(clock.status, "a status"), (c_uint8 * 6)(*clock.raw))
+        return ClockStruct(_NONE, byte(clock.status, "a status"), (c_uint8 * 6)(*raw))
     raise TypeError(f"no clock: {clock!r}")
