@@ -63,10 +63,10 @@ static void hear(dgt_host *host, const uint8_t *piece, size_t n, char shown[DGT_
     dgt_event event;
     for (size_t at = 0; at < n;) {
         at += dgt_host_hear(host, piece + at, n - at, &event, body, sizeof body);
-        if (event.kind == DGT_DUMP || event.kind == DGT_FIELD) show(host, shown);
-        if (event.kind == DGT_TRADEMARK)
+        if (event.kind == DGT_EVENT_DUMP || event.kind == DGT_EVENT_FIELD) show(host, shown);
+        if (event.kind == DGT_EVENT_TRADEMARK)
             fprintf(stderr, "board: %.*s\n", (int)event.body_len, (const char *)body);
-        if (event.kind >= DGT_REFUSED) fprintf(stderr, "bytes that are no message\n");
+        if (event.kind >= DGT_EVENT_REFUSED) fprintf(stderr, "bytes that are no message\n");
     }
 }
 

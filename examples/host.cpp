@@ -64,7 +64,7 @@ public:
             Heard heard{};
             dgt_event &event = heard.event;
             at += dgt_host_hear(&host_, bytes + at, n - at, &event, body_.data(), body_.size());
-            if (event.kind == DGT_NONE) continue;
+            if (event.kind == DGT_EVENT_NONE) continue;
             heard.body.assign(body_.data(), body_.data() + event.body_len);
             tell(heard);
         }
@@ -98,9 +98,9 @@ static bool write_all(const char *name, const dgt::Bytes &bytes) {
 
 static void show(dgt::Host &host, const dgt::Heard &heard) {
     const dgt_event &event = heard.event;
-    if (event.kind == DGT_DUMP || event.kind == DGT_FIELD)
+    if (event.kind == DGT_EVENT_DUMP || event.kind == DGT_EVENT_FIELD)
         std::cout << host.placement().value_or("unknown") << std::endl;
-    else if (event.kind == DGT_VERSION)
+    else if (event.kind == DGT_EVENT_VERSION)
         std::cout << "version " << +event.main_number << '.' << +event.sub_number << std::endl;
     else
         std::cout << "kind " << +event.kind << ", body of " << heard.body.size() << std::endl;

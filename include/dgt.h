@@ -14,7 +14,7 @@
  *     while ((n = read(line, piece, sizeof piece)) > 0)
  *         for (size_t at = 0; at < n;) {
  *             at += dgt_host_hear(&host, piece + at, n - at, &event, body, sizeof body);
- *             if (event.kind == DGT_FIELD) ...
+ *             if (event.kind == DGT_EVENT_FIELD) ...
  *         }
  *
  * THE LIBRARY IS PROVED; WHAT FOLLOWS IS YOUR PART. Where you keep it, no call reads or writes
@@ -135,22 +135,22 @@ typedef struct dgt_clock {
 
 /* dgt_event.kind, and which members it sets. The other members are 0. */
 enum {
-    DGT_NONE = 0,         /* nothing yet: all bytes were used */
-    DGT_DUMP = 1,         /* all squares were told: pieces */
-    DGT_FIELD = 2,        /* one square was told: square, piece */
-    DGT_TIMES = 3,        /* the clock's times: clock */
-    DGT_NO_CLOCK = 4,     /* no clock is connected: clock */
-    DGT_ACK = 5,          /* the answer to a message for the clock: ack, ack_status */
-    DGT_SERIAL = 6,       /* the serial number: serial */
-    DGT_TRADEMARK = 7,    /* the trademark: code, body_len, and the body */
-    DGT_VERSION = 8,      /* the version of the board's program: main_number, sub_number */
-    DGT_BATTERY = 9,      /* the state of the battery: code, body_len, and the body */
-    DGT_LONG_SERIAL = 10, /* the long serial number: code, body_len, and the body */
-    DGT_OTHER = 11,       /* a message that is carried unread: code, body_len, and the body */
-    DGT_REFUSED = 12,     /* a whole message whose body says nothing: code, fault, at */
-    DGT_CUT = 13,         /* a message was cut off by the next, whose first byte this is: have */
-    DGT_BAD_LENGTH = 14,  /* the length of a message is less than that of its header, 3 */
-    DGT_STRAY = 15        /* a byte in no message: byte */
+    DGT_EVENT_NONE = 0,         /* nothing yet: all bytes were used */
+    DGT_EVENT_DUMP = 1,         /* all squares were told: pieces */
+    DGT_EVENT_FIELD = 2,        /* one square was told: square, piece */
+    DGT_EVENT_TIMES = 3,        /* the clock's times: clock */
+    DGT_EVENT_NO_CLOCK = 4,     /* no clock is connected: clock */
+    DGT_EVENT_ACK = 5,          /* the answer to a message for the clock: ack, ack_status */
+    DGT_EVENT_SERIAL = 6,       /* the serial number: serial */
+    DGT_EVENT_TRADEMARK = 7,    /* the trademark: code, body_len, and the body */
+    DGT_EVENT_VERSION = 8,      /* the version of the board's program: main_number, sub_number */
+    DGT_EVENT_BATTERY = 9,      /* the state of the battery: code, body_len, and the body */
+    DGT_EVENT_LONG_SERIAL = 10, /* the long serial number: code, body_len, and the body */
+    DGT_EVENT_OTHER = 11,       /* a message that is carried unread: code, body_len, and the body */
+    DGT_EVENT_REFUSED = 12,     /* a whole message whose body says nothing: code, fault, at */
+    DGT_EVENT_CUT = 13,         /* a message was cut off by the next, which begins here: have */
+    DGT_EVENT_BAD_LENGTH = 14,  /* the length of a message is less than that of its header, 3 */
+    DGT_EVENT_STRAY = 15        /* a byte in no message: byte */
 };
 
 /* dgt_event.fault */
@@ -220,7 +220,7 @@ enum {
     DGT_ID_ICONS = 0x02,       /* any bytes */
     DGT_ID_END = 0x03,         /* nothing: show the times again */
     DGT_ID_BUTTON = 0x08,      /* nothing */
-    DGT_ID_VERSION = 0x09,     /* nothing: the answer is a DGT_ACK */
+    DGT_ID_VERSION = 0x09,     /* nothing: the answer is a DGT_EVENT_ACK */
     DGT_ID_SET_AND_RUN = 0x0a, /* hours, minutes, seconds left and right, control: 7 bytes */
     DGT_ID_BEEP = 0x0b,        /* the duration: 1 byte */
     DGT_ID_TEXT = 0x0c         /* eight letters and beep: 9 bytes */

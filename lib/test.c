@@ -109,7 +109,7 @@ static void host_and_board(void) {
     CHECK(sent.status == DGT_SENT);
     bring(board, out, 1);
     pass_on(board, host);
-    CHECK(heard.kind == DGT_TIMES && heard.clock.first.flags == 4 && heard.clock.status == 9);
+    CHECK(heard.kind == DGT_EVENT_TIMES && heard.clock.first.flags == 4 && heard.clock.status == 9);
     dgt_host_clock(host, &clock);
     CHECK(!memcmp(&clock, &heard.clock, sizeof clock) && clock.second.seconds == 7);
     dgt_board_clock(board, &clock);
@@ -119,7 +119,7 @@ static void host_and_board(void) {
     CHECK(sent.status == DGT_SENT && sent.bytes == 5);
     bring(board, out + 1, 5);
     pass_on(board, host);
-    CHECK(heard.kind == DGT_ACK && !memcmp(heard.ack, "\x10\x09\x14\x00", 4));
+    CHECK(heard.kind == DGT_EVENT_ACK && !memcmp(heard.ack, "\x10\x09\x14\x00", 4));
     uint8_t leds[DGT_MAX_LEDS + 1] = {1};
     CHECK(dgt_host_send_leds(host, leds, sizeof leds, out, sizeof out).status == DGT_NO_COMMAND);
     sent = dgt_host_send_leds(host, leds, DGT_MAX_LEDS, out, sizeof out);
@@ -169,20 +169,21 @@ static void events(void) {
     dgt_host *host = room(dgt_host_size());
     CHECK(dgt_host_new(host));
     hear_one(host, BYTES(0x92, 0, 6, 'D', 'G', 'T'), 2);
-    CHECK(heard.kind == DGT_TRADEMARK && heard.unasked == 1 && heard.code == 0x12);
+    CHECK(heard.kind == DGT_EVENT_TRADEMARK && heard.unasked == 1 && heard.code == 0x12);
     CHECK(heard.body_len == 3 && !memcmp(body, "DG", 2));
     hear_one(host, BYTES(0x93, 0, 5, 1, 3), 0);
-    CHECK(heard.kind == DGT_VERSION && heard.main_number == 1 && heard.sub_number == 3);
+    CHECK(heard.kind == DGT_EVENT_VERSION && heard.main_number == 1 && heard.sub_number == 3);
     hear_one(host, BYTES(0x91, 0, 8, 1, 2, 3, 4, 5), 0);
-    CHECK(heard.kind == DGT_SERIAL && !memcmp(heard.serial, "\1\2\3\4\5", 5));
+    CHECK(heard.kind == DGT_EVENT_SERIAL && !memcmp(heard.serial, "\1\2\3\4\5", 5));
     hear_one(host, BYTES(0xa0, 0, 4, 0x64), 8);
-    CHECK(heard.kind == DGT_BATTERY && heard.body_len == 1 && body[0] == 0x64 && body[1] == 0xa5);
+    CHECK(heard.kind == DGT_EVENT_BATTERY && heard.body_len == 1 && body[0] == 0x64 &&
+          body[1] == 0xa5);
     hear_one(host, BYTES(0xa2, 0, 4, 1), 1);
-    CHECK(heard.kind == DGT_LONG_SERIAL && body[0] == 1);
+    CHECK(heard.kind == DGT_EVENT_LONG_SERIAL && body[0] == 1);
     hear_one(host, BYTES(0x85, 0, 3), 1);
-    CHECK(heard.kind == DGT_OTHER && heard.code == 5 && heard.body_len == 0);
+    CHECK(heard.kind == DGT_EVENT_OTHER && heard.code == 5 && heard.body_len == 0);
     hear_one(host, BYTES(0x8e, 0, 5, 64, 0), 0);
-    CHECK(heard.kind == DGT_REFUSED && heard.code == 0x0e);
+    CHECK(heard.kind == DGT_EVENT_REFUSED && heard.code == 0x0e);
     CHECK(heard.fault == DGT_BAD_SQUARE && heard.at == 0);
     hear_one(host, BYTES(0x8e, 0, 5, 63, 16), 0);
     CHECK(heard.fault == DGT_BAD_PIECE && heard.at == 1);
@@ -191,17 +192,18 @@ static void events(void) {
     hear_one(host, BYTES(0x8d, 0, 10, 0, 0, 0, 0, 0x60, 0, 0), 0);
     CHECK(heard.fault == DGT_BAD_READING && heard.at == 4);
     hear_one(host, BYTES(0x8d, 0, 10, 1, 2, 3, 4, 5, 6, 0x20), 0);
-    CHECK(heard.kind == DGT_NO_CLOCK && heard.clock.raw[5] == 6 && heard.clock.status == 0x20);
+    CHECK(heard.kind == DGT_EVENT_NO_CLOCK && heard.clock.raw[5] == 6 &&
+          heard.clock.status == 0x20);
     hear_one(host, BYTES(0x31), 0);
-    CHECK(heard.kind == DGT_STRAY && heard.byte == 0x31);
+    CHECK(heard.kind == DGT_EVENT_STRAY && heard.byte == 0x31);
     hear_one(host, BYTES(0x86, 0, 2), 0);
-    CHECK(heard.kind == DGT_BAD_LENGTH);
+    CHECK(heard.kind == DGT_EVENT_BAD_LENGTH);
     hear_one(host, BYTES(0x86, 0, 67, 1, 2, 0x86), 0);
-    CHECK(heard.kind == DGT_CUT && heard.have == 5 && dgt_host_unread(host) == 1);
+    CHECK(heard.kind == DGT_EVENT_CUT && heard.have == 5 && dgt_host_unread(host) == 1);
     hear_one(host, BYTES(0), 0);
-    CHECK(heard.kind == DGT_NONE && dgt_host_unread(host) == 2);
+    CHECK(heard.kind == DGT_EVENT_NONE && dgt_host_unread(host) == 2);
     hear_one(host, body, 0, 0);
-    CHECK(heard.kind == DGT_NONE);
+    CHECK(heard.kind == DGT_EVENT_NONE);
     free(host);
 }
 
@@ -211,8 +213,10 @@ static void decoders(void) {
     dgt_event event;
     uint8_t out[4];
     CHECK(dgt_decoder_feed(decoder, BYTES(0x8e, 0, 5, 36, 1, 7), &event, out, 4) == 5);
-    CHECK(event.kind == DGT_FIELD && event.square == 36 && event.piece == 1 && !event.unasked);
-    CHECK(dgt_decoder_feed(decoder, BYTES(0x8e, 0), &event, out, 4) == 2 && event.kind == DGT_NONE);
+    CHECK(event.kind == DGT_EVENT_FIELD && event.square == 36 && event.piece == 1 &&
+          !event.unasked);
+    CHECK(dgt_decoder_feed(decoder, BYTES(0x8e, 0), &event, out, 4) == 2 &&
+          event.kind == DGT_EVENT_NONE);
     CHECK(dgt_decoder_rest(decoder) == 2 && dgt_decoder_finish(decoder) == 2);
     CHECK(dgt_decoder_finish(decoder) == 0);
     CHECK(dgt_decoder_feed(decoder, BYTES(0x8e, 0), &event, out, 4) == 2);
@@ -223,7 +227,8 @@ static void decoders(void) {
     dgt_command_decoder *reader = room(dgt_command_decoder_size());
     CHECK(dgt_command_decoder_new(reader));
     dgt_command command;
-    CHECK(dgt_command_decoder_feed(reader, BYTES(0x2b, 4, 3, 0x0b, 9, 0, 7), &command, out, 4) == 6);
+    CHECK(dgt_command_decoder_feed(reader, BYTES(0x2b, 4, 3, 0x0b, 9, 0, 7), &command, out,
+          4) == 6);
     CHECK(command.kind == DGT_COMMAND && command.code == 0x2b && command.id == DGT_ID_BEEP);
     CHECK(command.word_len == 6 && !memcmp(out, "\x2b\4\3\x0b", 4));
     CHECK(dgt_command_decoder_feed(reader, BYTES(0x46), &command, out, 4) == 1);
