@@ -14,6 +14,9 @@ input, a line each:
     gone      the board is unplugged
     half      half of the next message is sent, and the board is unplugged
     back      it is plugged in again
+    off       it is switched off and on, and the port stays open
+    lose      the next message is lost on the way
+    curt      it answers with all its squares alone from now on
     mute      it answers nothing from now on
     quit
 
@@ -32,6 +35,7 @@ import dgt
 
 FILES, RANKS = "abcdefgh", "87654321"
 START = "rnbqkbnrpppppppp................................PPPPPPPPRNBQKBNR"
+SQUARES = {0x86, 0x8E}  # how the messages begin that tell squares: all of them, and one
 
 
 class Port:
@@ -72,10 +76,13 @@ class Hands:
         self.port, self.board = port, dgt.Board()
         self.squares = {file + rank: START[8 * number + place]
                         for number, rank in enumerate(RANKS) for place, file in enumerate(FILES)}
-        self.is_mute = self.is_cut = False
+        self.is_mute = self.is_curt = self.is_cut = self.is_lost = False
 
     def send(self, message):
-        if self.is_mute:
+        if self.is_mute or (self.is_curt and message[0] not in SQUARES):
+            return
+        if self.is_lost:
+            self.is_lost = False
             return
         self.port.write(message[: len(message) // 2] if self.is_cut else message)
         if self.is_cut:
@@ -122,6 +129,12 @@ class Hands:
                 self.is_cut = True
             case ["back"]:
                 self.port.plug()
+            case ["off"]:
+                self.board.line_lost()
+            case ["lose"]:
+                self.is_lost = True
+            case ["curt"]:
+                self.is_curt = True
             case ["mute"]:
                 self.is_mute = True
             case [square, piece]:

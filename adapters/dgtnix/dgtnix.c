@@ -51,7 +51,7 @@ static char serial[8], version[16], trademark[128]; /* set before the thread sta
 static line board;
 static game followed;
 static bool begun;
-static enum { BY_THE_BOARD, PLAYS_WHITE, PLAYS_BLACK, PLAYS_BOTH } plays;
+static enum plays plays;
 static int settle;
 
 static pthread_mutex_t lock = PTHREAD_MUTEX_INITIALIZER;
@@ -59,18 +59,10 @@ static char shown[65]; /* under the lock: what stands on the board, as GetBoard 
 
 /* ---- What eboard is told */
 
-/* The side that eboard's player has. Where nobody has said it, it is the one that has the board's
- * own first rank before it. */
-static enum side player(void) {
-    if (plays == PLAYS_WHITE) return WHITE;
-    if (plays == PLAYS_BLACK) return BLACK;
-    return followed.turned ? BLACK : WHITE;
-}
-
 /* eboard takes each event for a click on its window's board, which it has turned where the player
  * has Black; but it thinks that the squares come from a board that is turned, too. */
 static void set_click(uint8_t event[4], uint8_t square, uint8_t piece) {
-    if (player() == BLACK) square = (uint8_t)(63 - square);
+    if (game_player(&followed) == BLACK) square = (uint8_t)(63 - square);
     event[0] = CLICK;
     event[1] = (uint8_t)('A' + square % 8);
     event[2] = (uint8_t)(8 - square / 8);
@@ -80,7 +72,7 @@ static void set_click(uint8_t event[4], uint8_t square, uint8_t piece) {
 /* Two clicks are a move. They go in one write, which the pipe takes whole or not at all. */
 static void tell(const move *made) {
     uint8_t clicks[8];
-    if (plays != PLAYS_BOTH && side_of(made->piece) != player()) return;
+    if (!game_wants(&followed, side_of(made->piece))) return;
     set_click(clicks, made->from, made->piece);
     set_click(clicks + 4, made->to, made->becomes);
     ssize_t written = write(events[1], clicks, sizeof clicks);
@@ -93,17 +85,18 @@ static void see(const uint8_t pieces[64]) {
     for (int square = 0; square < 64; square++)
         shown[square] = pieces[square] ? dgt_piece_letter(pieces[square]) : ' ';
     pthread_mutex_unlock(&lock);
-    if (!begun) game_begin(&followed, pieces, settle);
+    if (!begun) game_begin(&followed, pieces, plays, settle);
     else if (game_see(&followed, pieces, line_now(), &made)) tell(&made);
     begun = true;
 }
 
 /* ---- The thread */
 
-/* For how long nothing is to be done but read, or -1 for ever. */
+/* For how long nothing is to be done but read. */
 static int spare_time(void) {
-    long long until = board.sure ? followed.due : board.again, left = until - line_now();
-    if (until == 0) return -1;
+    long long until = board.again;
+    if (board.sure && followed.due != 0 && followed.due < until) until = followed.due;
+    long long left = until - line_now();
     return left < 0 ? 0 : (int)left;
 }
 
@@ -185,13 +178,13 @@ static bool start(const char *port) {
     strcpy(name, port);
     begun = false;
     read_settings();
-    if (!line_open(&board, name) || !hear_for(BOARD_WAIT, 0)) return false;
+    if (!open_pipe() || !line_open(&board, name) || !hear_for(BOARD_WAIT, 0)) return false;
     line_ask_texts(&board);
     hear_for(TEXTS_WAIT, 3);
     memcpy(serial, board.serial, sizeof serial);
     memcpy(version, board.version, sizeof version);
     memcpy(trademark, board.trademark, sizeof trademark);
-    return open_pipe() && start_reader();
+    return start_reader();
 }
 
 /* Answers the descriptor to read, or -1 with the reason in dgtnix_errno. */

@@ -13,6 +13,7 @@
 enum {
     SHORTLY = 100, /* after a fault: what came with it is read first */
     AGAIN = 1000,  /* between two questions, and between two looks for the port */
+    CHECK = 10000, /* between two questions while nothing seems to be wrong */
     PATIENCE = 500 /* with a port that takes no bytes */
 };
 
@@ -62,7 +63,8 @@ static bool write_all(int port, const uint8_t *bytes, size_t n) {
         } else {
             struct pollfd waits = {port, POLLOUT, 0};
             long long left = end - line_now();
-            if (left <= 0 || poll(&waits, 1, (int)left) < 0) return false;
+            if (left <= 0) return false;
+            if (poll(&waits, 1, (int)left) < 0 && errno != EINTR) return false;
         }
     }
     return true;
@@ -90,6 +92,16 @@ static void ask_all(line *line) {
     if (!write_all(line->port, out, sent.bytes)) lose(line);
 }
 
+/* Asks once more for each change and all squares, so that what was spoilt or lost without a trace
+ * comes right, and a board that was switched off and on tells its changes again. */
+static void check(line *line) {
+    uint8_t out[2];
+    dgt_sent sent = dgt_host_follow(&line->host, out, sizeof out);
+    line->again = line_now() + CHECK;
+    if (sent.status != DGT_SENT) ask_all(line); /* it has not answered for long */
+    else if (!write_all(line->port, out, sent.bytes)) lose(line);
+}
+
 void line_ask_texts(line *line) {
     static const uint8_t codes[] = {DGT_SEND_SERIAL, DGT_SEND_TRADEMARK, DGT_SEND_VERSION};
     for (size_t each = 0; each < sizeof codes && line->port >= 0; each++) {
@@ -113,10 +125,11 @@ bool line_open(line *line, const char *name) {
 }
 
 void line_keep(line *line) {
-    if (line->sure || line_now() < line->again) return;
+    if (line_now() < line->again) return;
     if (line->port < 0) line->port = open_port(line->name);
-    if (line->port >= 0) ask_all(line);
-    else line->again = line_now() + AGAIN;
+    if (line->port < 0) line->again = line_now() + AGAIN;
+    else if (line->sure) check(line);
+    else ask_all(line);
 }
 
 void line_close(line *line) {
@@ -144,6 +157,7 @@ static void hear(line *line, const dgt_event *event, const uint8_t *body, size_t
     switch (event->kind) {
     case DGT_DUMP:
         line->sure = true;
+        line->again = line_now() + CHECK;
         show(line, seen);
         break;
     case DGT_FIELD: show(line, seen); break;

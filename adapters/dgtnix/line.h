@@ -9,7 +9,7 @@ typedef struct line {
     int port;            /* its descriptor, or -1 while the port is lost */
     dgt_host host;       /* hears the bytes */
     bool sure;           /* nothing was lost or spoilt since all squares were told */
-    long long again;     /* where it isn't: when to ask again, or to look for the port again */
+    long long again;     /* when to ask again, or to look for the port again */
     int texts;           /* how many of the texts below were told */
     char serial[8], version[16], trademark[128];
 } line;

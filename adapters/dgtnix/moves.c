@@ -182,9 +182,15 @@ static void turn(uint8_t turned[64], const uint8_t squares[64], bool is_turned) 
         turned[square] = squares[is_turned ? 63 - square : square];
 }
 
+static bool is_start(const uint8_t squares[64]) {
+    uint8_t turned[64];
+    turn(turned, squares, true);
+    return same(squares, START) || same(turned, START);
+}
+
 /* Nothing has begun on the board. */
 static void forget(game *game) {
-    game->kings_off = game->is_early = false;
+    game->kings_off = game->is_early = game->is_held = false;
     game->reading = THE_SAME;
     game->due = 0;
 }
@@ -195,24 +201,58 @@ static void settle_here(game *game) {
     forget(game);
 }
 
-void game_begin(game *game, const uint8_t squares[64], int settle) {
+void game_begin(game *game, const uint8_t squares[64], enum plays plays, int settle) {
+    game->plays = plays;
     game->settle = settle;
     game->turned = is_turned(squares);
-    game->moves_made = 0;
+    game->moves_made = game->moves_told = 0;
     turn(game->now, squares, game->turned);
     settle_here(game);
 }
 
-static void tell(game *game, move *made) {
-    *made = game->next;
+enum side game_player(const game *game) {
+    if (game->plays == PLAYS_WHITE) return WHITE;
+    if (game->plays == PLAYS_BLACK) return BLACK;
+    return game->turned ? BLACK : WHITE;
+}
+
+bool game_wants(const game *game, enum side side) {
+    return game->plays == PLAYS_BOTH || side == game_player(game);
+}
+
+/* The position from which a move leads. */
+static const uint8_t *before_move(const game *game, const move *move) {
+    return move->corrects ? game->moves[game->moves_made - 1].before : game->told;
+}
+
+/* The move that was taken back here is made again, perhaps with another promotion. */
+static bool is_made_again(const game *game, const move *made) {
+    const past *taken = &game->moves[game->moves_made];
+    return game->moves_made < game->moves_told && taken->from == made->from
+           && taken->to == made->to;
+}
+
+static void remember(game *game, const move *made) {
     if (game->moves_made == REMEMBERED)
         memmove(game->moves, game->moves + 1, sizeof *game->moves * --game->moves_made);
     past *last = &game->moves[game->moves_made++];
     memcpy(last->before, game->told, 64);
+    last->from = made->from;
     last->to = made->to;
     last->side = side_of(made->piece);
+    game->moves_told = game->moves_made;
+}
+
+/* The game goes on by this move. False where it was told before. */
+static bool tell(game *game, const move *which, move *made) {
+    *made = *which;
+    if (made->corrects) memcpy(game->told, game->moves[--game->moves_made].before, 64);
+    bool again = is_made_again(game, made);
+    if (again) game->moves_made++;
+    else remember(game, made);
     memcpy(game->told, made->after, 64);
     forget(game);
+    return !again;
 }
 
 /* Which of the moves, from the last one on, was taken back with all behind it, or -1. */
@@ -222,8 +262,10 @@ static int taken_back(const game *game) {
     return -1;
 }
 
+/* In the position in which a game begins this may be another game, of which nothing was told. */
 static void take_back(game *game) {
     game->moves_made = taken_back(game);
+    if (is_start(game->now)) game->moves_told = game->moves_made;
     settle_here(game);
 }
 
@@ -251,6 +293,17 @@ static bool find_late_move(game *game) {
     return find_move(game->told, without, &game->next) && !is_out_of_turn(game);
 }
 
+/* The other side's move was put on a wrong square, or half of its castling alone was there, and it
+ * is put right now. A move that the program has made can't be put right. */
+static bool find_correction(game *game) {
+    if (game->moves_made == 0) return false;
+    const past *last = &game->moves[game->moves_made - 1];
+    if (game_wants(game, last->side)) return false;
+    if (!find_move(last->before, game->now, &game->next)) return false;
+    game->next.corrects = true;
+    return side_of(game->next.piece) == last->side && !same(game->next.after, game->told);
+}
+
 /* A pawn that was told on its last rank has been changed for the piece that it becomes. */
 static void follow_promotion(game *game) {
     for (int square = 0; square < 64; square++)
@@ -261,12 +314,6 @@ static void follow_promotion(game *game) {
 static bool has_kings(const game *game, int least) {
     return (memchr(game->now, piece_of(WHITE, KING), 64) != NULL)
            + (memchr(game->now, piece_of(BLACK, KING), 64) != NULL) >= least;
-}
-
-static bool is_start(const uint8_t squares[64]) {
-    uint8_t turned[64];
-    turn(turned, squares, true);
-    return same(squares, START) || same(turned, START);
 }
 
 static enum reading read_position(game *game) {
@@ -285,7 +332,14 @@ static enum reading read_position(game *game) {
     if (taken_back(game) >= 0) return TAKEN_BACK;
     if (is_start(game->now)) return NEW_GAME;
     if (game->kings_off) return SET_UP;
-    return find_late_move(game) ? A_MOVE : UNCLEAR;
+    return find_late_move(game) || find_correction(game) ? A_MOVE : UNCLEAR;
+}
+
+/* The piece that moves may be about to slide on, and to take what stands there. */
+static bool may_go_on(const game *game, int square) {
+    const move *next = &game->next;
+    const uint8_t *before = before_move(game, next);
+    return before[next->to] == 0 && reaches(before, next->from, square, true);
 }
 
 /* A piece of the other side is taken up behind the move that waits: the answer to it begins, or the
@@ -295,21 +349,36 @@ static bool is_answered(const game *game, const uint8_t now[64]) {
     enum side mover = side_of(game->next.piece);
     for (int square = 0; square < 64; square++) {
         enum side side = side_of(game->now[square]);
-        if (now[square] == 0 && side != NOBODY && side != mover) return true;
+        bool is_up = now[square] == 0 && side != NOBODY && side != mover;
+        if (is_up && !may_go_on(game, square)) return true;
     }
     return false;
+}
+
+/* The hand goes on from the move that waits: by the answer to it, or by the same piece. */
+static void hold_next(game *game) {
+    if (game->reading != A_MOVE) return;
+    game->held = game->next;
+    game->is_held = true;
+}
+
+/* The other side has answered the move that waited, whichever piece it took up first. */
+static bool is_held_answered(const game *game) {
+    move answer;
+    return game->is_held && find_move(game->held.after, game->now, &answer)
+           && side_of(answer.piece) != side_of(game->held.piece);
 }
 
 /* Begins in the position in which a game begins, on a board that may have been turned. */
 static void begin_game(game *game) {
     uint8_t board[64];
     turn(board, game->now, game->turned);
-    game_begin(game, board, game->settle);
+    game_begin(game, board, game->plays, game->settle);
 }
 
 /* Begins with what stands on the board, which lies as it lay. */
 static void begin_here(game *game) {
-    game->moves_made = 0;
+    game->moves_made = game->moves_told = 0;
     settle_here(game);
 }
 
@@ -329,21 +398,23 @@ static void look(game *game, long long time) {
 bool game_see(game *game, const uint8_t squares[64], long long time, move *made) {
     uint8_t now[64];
     turn(now, squares, game->turned);
-    bool told = is_answered(game, now);
-    if (told) tell(game, made);
+    if (game->due != 0 && same(now, game->now)) return false;
+    bool told = false;
+    if (is_answered(game, now)) told = tell(game, &game->next, made);
+    else hold_next(game);
     memcpy(game->now, now, 64);
     follow_promotion(game);
+    if (is_held_answered(game)) told = tell(game, &game->held, made);
     look(game, time);
     return told;
 }
 
 bool game_wait(game *game, long long time, move *made) {
     if (game->due == 0 || time < game->due) return false;
-    bool is_move = game->reading == A_MOVE;
-    if (is_move) tell(game, made);
-    else begin_here(game);
+    bool is_move = game->reading == A_MOVE, told = is_move && tell(game, &game->next, made);
+    if (!is_move) begin_here(game);
     look(game, time - game->settle); /* what is left of it has rested, too */
-    return is_move;
+    return told;
 }
 
 void game_hold(game *game) {

@@ -20,6 +20,7 @@ typedef struct move {
     uint8_t piece;     /* what stood on `from` */
     uint8_t becomes;   /* what stands on `to` now: not the same where a pawn was promoted */
     bool may_castle;   /* a rook stands beside its king as if both were about to castle */
+    bool corrects;     /* it stands in place of the last move */
     uint8_t after[64]; /* the position behind the whole move */
 } move;
 
@@ -33,7 +34,7 @@ enum { REMEMBERED = 32 }; /* so many moves can be taken back */
 
 typedef struct past {
     uint8_t before[64]; /* the position before the move */
-    uint8_t to;         /* where the piece went that moved */
+    uint8_t from, to;   /* where the piece stood that moved, and where it went */
     enum side side;     /* whose it was */
 } past;
 
@@ -47,31 +48,47 @@ enum reading {
     UNCLEAR
 };
 
+/* Whose moves the program wants that follows the game. It shows the moves of the other side, which
+ * are then made on the board, too. */
+enum plays { BY_THE_BOARD, PLAYS_WHITE, PLAYS_BLACK, PLAYS_BOTH };
+
 /* A game as it is followed. All squares in it are the game's, in which White begins on the ranks 1
  * and 2: where the board is turned, a1 of the game is h8 of the board. */
 typedef struct game {
+    enum plays plays;
     bool turned;
     uint8_t told[64]; /* the position behind the last move that was told */
     uint8_t now[64];  /* what stands on the board */
     past moves[REMEMBERED];
     int moves_made;   /* how many of them are known */
+    int moves_told;   /* with those behind them that were taken back: at least as many */
     bool kings_off;   /* both kings were taken off: something new is being set up */
     bool is_early;    /* one side has moved, but it is the other side's turn: */
     move early;       /* its move, which is told once the other side's is there */
+    bool is_held;     /* a move waited, and the hand went on before it had rested: */
+    move held;        /* it is told if what follows is the answer to it */
     enum reading reading;
     move next;        /* where reading is A_MOVE */
     long long due;    /* when the position has rested that is waited for, or 0 */
     int settle;       /* for how long a position must rest */
 } game;
 
-/* Begins with what stands on the board. */
-void game_begin(game *game, const uint8_t squares[64], int settle);
+/* Begins with what stands on the board. `settle` is from 1 to 60000. */
+void game_begin(game *game, const uint8_t squares[64], enum plays plays, int settle);
 
-/* The board shows another position. True where it shows that the move that was waiting is finished:
- * `made` is that move. */
+/* The side that the program's player has. Where nobody has said it, or both, it is the one that has
+ * the board's own first rank before it. */
+enum side game_player(const game *game);
+
+/* The program wants this side's moves. */
+bool game_wants(const game *game, enum side side);
+
+/* The board shows a position, which may be the same once more. True where it shows that the move
+ * that was waiting is finished: `made` is that move, of either side. A move that was taken back and
+ * is made again is told once, unless the position in which a game begins was reached. */
 bool game_see(game *game, const uint8_t squares[64], long long time, move *made);
 
-/* Time has passed. True where a move has rested for long enough: `made` is that move. */
+/* Time has passed. True where a move has rested for long enough: `made` is that move, as above. */
 bool game_wait(game *game, long long time, move *made);
 
 /* Nothing is waited for until the next position is seen. */

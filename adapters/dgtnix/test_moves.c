@@ -2,8 +2,10 @@
  *
  * A hand's steps: `e2.` takes what stands on e2 off, `e4P` puts a white pawn on e4 (p would be a
  * black one), and a number lets so many milliseconds pass. `e2e4` is a whole move: a piece on e4 is
- * taken off first, and it rests behind it. Between two steps pass 60 ms; a move is told when it has
- * rested for 300. Squares are the board's own, and the moves that are told are the game's.
+ * taken off first, and it rests behind it. `seen` shows the same position once more, `black` says
+ * that the player has Black, and `both` that both sides' moves are wanted. Between two steps pass
+ * 60 ms; a move is told when it has rested for 300. Squares are the board's own, and the moves that
+ * are told are the game's, those of both sides.
  */
 #include "moves.h"
 
@@ -18,6 +20,7 @@ static const char START[] = "rnbqkbnrpppppppp................................PPP
 #define QUEEN_IN_CORNER \
     "h2h4 a7a6 h1h3 a6a5 g2g3 a5a4 f1g2 b7b6 g2d5 b6b5 e2e3 b5b4 d1e2 h7h6 e2f1 h6h5 " \
     "f1g2 g7g6 g2h1 d7d6 g1f3 c7c6 "
+#define BISHOP "e2e4 e7e5 f1c4 g8f6 d2d3 "
 #define PASSING "e2e4 a7a6 e4e5 d7d5 "
 #define SEVENTH "h2h4 g7g5 h4g5 h7h6 g5h6 a7a6 h6h7 a6a5 "
 
@@ -28,6 +31,7 @@ static const struct test_case {
     {"it is not told before it rests", "e2. e4P 200 e4. e2P", ""},
     {"slid over squares", "e2. e3P e3. e4P", "e2e4"},
     {"slid over squares, slowly", "d2d4 a7a6 d1. d2Q 200 d2. d3Q", "d2d4 a7a6 d1d3"},
+    {"seen once more while it rests", "e2. e4P 200 seen e4. e2P", "e2e4"},
     {"no piece goes so", "e2. e5P 900 e5. e4P", "e2e4"},
     {"no piece jumps but a knight", "a1. a3R 900 a3. a1R g1f3", "g1f3"},
     {"a knight goes round a corner", "g1. g4N 900 g4. g1N e2e4", "e2e4"},
@@ -57,6 +61,20 @@ static const struct test_case {
     {"a pawn takes beside another", "e2e4 a7a6 e4e5 d7d5 a2a3 d8d6 e5d6 e7d6",
      "e2e4 a7a6 e4e5 d7d5 a2a3 d8d6 e5d6 e7d6"},
     {"a capture, thought over", "e2e4 d7d5 d5. 5000 e4. 5000 d5P", "e2e4 d7d5 e4d5"},
+    {"a capture, taken at once, the taken one off first", "e2e4 d7d5 d5. e4. d5P d5. d8. d5q b1c3",
+     "e2e4 d7d5 e4d5 d8d5 b1c3"},
+    {"a capture, taken at once, the taker up first", "e2e4 d7d5 e4. d5. d5P d8. d5. d5q b1c3",
+     "e2e4 d7d5 e4d5 d8d5 b1c3"},
+    {"a quiet move, taken at once, the taken one off first", "g1f3 e7e6 f3. g5N g5. d8. g5q",
+     "g1f3 e7e6 f3g5 d8g5"},
+    {"a quiet move, taken at once along its way", "h2h4 g7g5 h4g5 h7h6 h1. h4R h6. g5. g5p a2a3",
+     "h2h4 g7g5 h4g5 h7h6 h1h4 h6g5 a2a3"},
+    {"slid up to what it takes", "h2h4 g7g5 h4g5 a7a6 h1. h5R h5. h6R h7. h6. h7R a6a5",
+     "h2h4 g7g5 h4g5 a7a6 h1h7 a6a5"},
+    {"slid up to it, and it moves off at once", "h2h4 g7g5 h4g5 h7h6 h1. h5R h6. g5. g5p",
+     "h2h4 g7g5 h4g5 h7h6 h1h5 h6g5"},
+    {"slid up to it, and back", "h2h4 g7g5 h4g5 a7a6 h1. h5R h5. h6R h7. h6. h1R h7p a2a3",
+     "h2h4 g7g5 h4g5 a7a6 a2a3"},
     {"nobody takes his own", "d1. d2. d2Q 900 d1Q d2P e2e4", "e2e4"},
 
     {"castling, the king first", ITALIAN "e1. g1K h1. f1R d7d6",
@@ -102,7 +120,18 @@ static const struct test_case {
     {"no piece but a pawn is promoted", "g1. f3B 900 f3. f3N", "g1f3"},
 
     {"taken back", "e2e4 e4e2 d2d4", "e2e4 d2d4"},
-    {"taken back and made again", "e2e4 e4e2 e2e4 e7e5", "e2e4 e2e4 e7e5"},
+    {"the first move, taken back and made again", "e2e4 e4e2 e2e4 e7e5", "e2e4 e2e4 e7e5"},
+    {"taken back and made again", "e2e4 e7e5 g1f3 f3g1 g1f3 b8c6", "e2e4 e7e5 g1f3 b8c6"},
+    {"taken back, made again and answered at once", "e2e4 e7e5 g1f3 f3g1 g1. f3N b8. c6n f1c4",
+     "e2e4 e7e5 g1f3 b8c6 f1c4"},
+    {"two taken back and made again", "e2e4 e7e5 g1f3 b8c6 c6b8 f3g1 g1f3 b8c6 f1c4",
+     "e2e4 e7e5 g1f3 b8c6 f1c4"},
+    {"two taken back, and another made again", "e2e4 e7e5 g1f3 b8c6 c6b8 f3g1 g1f3 d7d6 f1c4",
+     "e2e4 e7e5 g1f3 b8c6 d7d6 f1c4"},
+    {"taken back, another made, and then it", "e2e4 e7e5 g1f3 f3g1 b1c3 c3b1 g1f3",
+     "e2e4 e7e5 g1f3 b1c3 g1f3"},
+    {"another game with the same moves", "e2e4 e7e5 e5e7 e4e2 e2e4 e7e5 g1f3",
+     "e2e4 e7e5 e2e4 e7e5 g1f3"},
     {"two moves taken back", "e2e4 e7e5 e5e7 e4e2 d2d4", "e2e4 e7e5 d2d4"},
     {"two moves taken back at once", "e2e4 e7e5 g1f3 b8c6 c6. f3. g1N b8n d2d4",
      "e2e4 e7e5 g1f3 b8c6 d2d4"},
@@ -115,10 +144,36 @@ static const struct test_case {
      ITALIAN "e1g1 d2d3"},
     {"half castling taken back", ITALIAN "e1. g1K 900 g1. e1K d2d3", ITALIAN "e1g1 d2d3"},
     {"a promotion taken back", SEVENTH "g8. h7. g8Q 900 g8. 900 h7P 900 g8n 900 h7. g8. g8R b7b6",
-     SEVENTH "h7g8Q h7g8R b7b6"},
+     SEVENTH "h7g8Q b7b6"},
+    {"a promotion taken back with its answer, and both made again",
+     SEVENTH "h7. g8. g8Q 900 b7b6 b6b7 g8. 900 h7P 900 g8n 900 h7. g8. g8R b7b6 g1f3",
+     SEVENTH "h7g8Q b7b6 g1f3"},
     {"put elsewhere after all, and answered", "e2e3 e3. e4P 900 e7e5 900 e4. e3P d2d4",
      "e2e3 e7e5 d2d4"},
     {"put elsewhere after all", "e2e3 e3. e4P 900 e4. e3P e7e5", "e2e3 e7e5"},
+
+    {"the other side's, slid on late", "e2e4 e7e6 e6e5 g1f3", "e2e4 e7e6 e7e5 g1f3"},
+    {"the other side's, put right by a leap", "e2e4 b8a6 a6c6 g1f3", "e2e4 b8a6 b8c6 g1f3"},
+    {"the same, and answered at once", "e2e4 b8a6 a6. c6n g1. f3N b7b6",
+     "e2e4 b8a6 b8c6 g1f3 b7b6"},
+    {"put right, and taken at once", "d2d4 e7e6 e6. e5p e5. d4. e5P a7a6",
+     "d2d4 e7e6 e7e5 d4e5 a7a6"},
+    {"put right, slid up to what it takes", "e2e4 d7d5 e4d5 d8d6 d6. d7q d5. d7. d5q b1c3",
+     "e2e4 d7d5 e4d5 d8d6 d8d5 b1c3"},
+    {"put right twice, and taken back", "e2e4 e7e6 e6e5 e5e6 e6e7 d7d5",
+     "e2e4 e7e6 e7e5 e7e6 d7d5"},
+    {"put right, but not behind the answer", "e2e4 b8a6 g1f3 a6c6 900 c6a6 b7b6",
+     "e2e4 b8a6 g1f3 b7b6"},
+    {"the other side's castling, the rook long before",
+     BISHOP "f8c5 b1c3 h8. f8r 2500 e8. g8k c1e3", BISHOP "f8c5 b1c3 h8f8 e8g8 c1e3"},
+    {"the other side's castling, the rook long after",
+     BISHOP "f8c5 b1c3 e8. g8k 2500 h8. f8r c1e3", BISHOP "f8c5 b1c3 e8g8 c1e3"},
+    {"in passing by the other side, the pawn off late",
+     "a2a3 d7d5 a3a4 d5d4 e2e4 d4. e3p 2500 e4. d2e3",
+     "a2a3 d7d5 a3a4 d5d4 e2e4 d4e3 d2e3"},
+    {"White's, where Black plays", "black e2e3 e3e4 e7e6 e6e5 900 e5e6 d2d4",
+     "e2e3 e2e4 e7e6 d2d4"},
+    {"nobody's, where both are wanted", "both e2e4 e7e6 e6e5 900 e5e6 d2d4", "e2e4 e7e6 d2d4"},
 
     {"set up again, piece by piece", "e2e4 e7e5 g1f3 f3g1 e4e2 e5e7 d2d4", "e2e4 e7e5 g1f3 d2d4"},
     {"set up again, a piece that goes home by a move", "e2e4 g8f6 e4. e2P 900 f6g8 d2d4",
@@ -162,15 +217,20 @@ static void pass(int milliseconds) {
     }
 }
 
+/* The board shows what stands on it. */
+static void show(void) {
+    move made;
+    if (game_see(&followed, squares, now, &made)) tell(&made);
+    pass(60);
+}
+
 static uint8_t square_of(const char *name) {
     return (uint8_t)(8 * ('8' - name[1]) + name[0] - 'a');
 }
 
 static void put(uint8_t square, uint8_t piece) {
-    move made;
     squares[square] = piece;
-    if (game_see(&followed, squares, now, &made)) tell(&made);
-    pass(60);
+    show();
 }
 
 static uint8_t piece_of(char letter) {
@@ -180,16 +240,26 @@ static uint8_t piece_of(char letter) {
 
 /* The board is turned by its owner, with the pieces in the position in which a game begins. */
 static void set_up_turned(void) {
-    move made;
     for (int square = 0; square < 64; square++) squares[square] = piece_of(START[63 - square]);
-    if (game_see(&followed, squares, now, &made)) tell(&made);
+    show();
     pass(400);
+}
+
+/* The same position, in a game with another player. */
+static void begin_for(enum plays plays) {
+    game_begin(&followed, squares, plays, 300);
 }
 
 static void make(const char *step) {
     size_t length = strlen(step);
     if (strcmp(step, "turned") == 0) {
         set_up_turned();
+    } else if (strcmp(step, "seen") == 0) {
+        show();
+    } else if (strcmp(step, "black") == 0) {
+        begin_for(PLAYS_BLACK);
+    } else if (strcmp(step, "both") == 0) {
+        begin_for(PLAYS_BOTH);
     } else if (step[0] >= '0' && step[0] <= '9') {
         pass(atoi(step));
     } else if (length == 3) {
@@ -208,7 +278,7 @@ static bool passes(const struct test_case *tried) {
     now = 1000;
     told[0] = '\0';
     for (int square = 0; square < 64; square++) squares[square] = piece_of(START[square]);
-    game_begin(&followed, squares, 300);
+    begin_for(BY_THE_BOARD);
     snprintf(steps, sizeof steps, "%s", tried->steps);
     for (char *step = strtok(steps, " "); step; step = strtok(NULL, " ")) make(step);
     pass(2500);
