@@ -155,29 +155,29 @@ static void show(line *line, seen *seen) {
 static void hear(line *line, const dgt_event *event, const uint8_t *body, size_t room, seen *seen) {
     size_t length = event->body_len < room ? event->body_len : room;
     switch (event->kind) {
-    case DGT_DUMP:
+    case DGT_EVENT_DUMP:
         line->sure = true;
         line->again = line_now() + CHECK;
         show(line, seen);
         break;
-    case DGT_FIELD: show(line, seen); break;
-    case DGT_SERIAL:
+    case DGT_EVENT_FIELD: show(line, seen); break;
+    case DGT_EVENT_SERIAL:
         keep_text(line->serial, sizeof line->serial, event->serial, sizeof event->serial);
         line->texts++;
         break;
-    case DGT_TRADEMARK:
+    case DGT_EVENT_TRADEMARK:
         keep_text(line->trademark, sizeof line->trademark, body, length);
         line->texts++;
         break;
-    case DGT_VERSION:
+    case DGT_EVENT_VERSION:
         snprintf(line->version, sizeof line->version, "%d.%d", event->main_number,
                  event->sub_number);
         line->texts++;
         break;
-    case DGT_REFUSED:
-    case DGT_CUT:
-    case DGT_BAD_LENGTH:
-    case DGT_STRAY: /* bytes were lost or spoilt, and a change of a square perhaps with them */
+    case DGT_EVENT_REFUSED:
+    case DGT_EVENT_CUT:
+    case DGT_EVENT_BAD_LENGTH:
+    case DGT_EVENT_STRAY: /* bytes were lost or spoilt, and a change of a square perhaps with them */
         if (line->sure) line->again = line_now() + SHORTLY;
         line->sure = false;
         break;
