@@ -177,7 +177,7 @@ static void hear(line *line, const dgt_event *event, const uint8_t *body, size_t
     case DGT_EVENT_REFUSED:
     case DGT_EVENT_CUT:
     case DGT_EVENT_BAD_LENGTH:
-    case DGT_EVENT_STRAY: /* bytes were lost or spoilt, and a change of a square perhaps with them */
+    case DGT_EVENT_STRAY: /* bytes were lost or spoilt, and a change of a square perhaps, too */
         if (line->sure) line->again = line_now() + SHORTLY;
         line->sure = false;
         break;
