@@ -2,7 +2,6 @@
 mod asking;
 mod boards;
 mod commands;
-mod engines;
 mod helps;
 mod scripts;
 

@@ -34,6 +34,3 @@ pub use identities::{Identity, MAX_KEPT_BODY, TooLong};
 pub use modes::Mode;
 pub use sending::{MAX_SENT, Polled};
 pub use state::MAX_OWED;
-
-#[cfg(test)]
-mod tests;

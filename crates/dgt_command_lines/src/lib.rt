@@ -12,8 +12,6 @@
 pub mod laws;
 mod lines;
 mod pieces;
-#[cfg(test)]
-mod tests;
 mod wording;
 
 pub use lines::write_command;

@@ -68,8 +68,6 @@ mod hearing;
 mod host;
 pub mod laws;
 mod sending;
-#[cfg(test)]
-mod tests;
 
 pub use dgt_command::Command;
 pub use dgt_decode::Event;

@@ -26,8 +26,6 @@ mod picturing;
 mod pieces;
 mod slice_source;
 mod std_device;
-#[cfg(test)]
-mod tests;
 mod wording;
 
 pub use ends::{Failed, Sink, Source};

@@ -22,8 +22,6 @@ mod acts;
 pub mod laws;
 mod line;
 mod moving;
-#[cfg(test)]
-mod tests;
 mod world;
 
 pub use acts::{Act, Outcome};

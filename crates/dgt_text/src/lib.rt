@@ -20,8 +20,6 @@ mod monitoring;
 mod picturing;
 mod serving;
 mod simulating;
-#[cfg(test)]
-mod tests;
 
 pub use commanding::commands;
 pub use dgt_command_lines::write_command;

@@ -24,8 +24,6 @@ mod positions;
 mod refusals;
 mod segments;
 mod squares;
-#[cfg(test)]
-mod tests;
 
 pub use bodies::{Body, MAX_BODY};
 pub use bytes::SevenBit;

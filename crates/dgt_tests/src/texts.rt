@@ -1,9 +1,9 @@
 //! Each engine once.
 
-use crate::{Bytes, Device, monitor, serve, simulate};
 use dgt_board::{Board, Identity};
 use dgt_link::World;
 use dgt_message::{Clock, Reading, Status, Times};
+use dgt_text::{Bytes, Device, monitor, serve, simulate};
 use dgt_values::{Body, Position, SevenBit};
 use std::test::Fail;
 

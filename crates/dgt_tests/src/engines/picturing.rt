@@ -1,8 +1,8 @@
 //! The pictures of worked messages.
 
-use crate::tests::engines::devices::{CallCounter, Lender, Recorder};
-use crate::tests::engines::serving::VERSION;
-use crate::tests::engines::{FIELD, START};
+use crate::engines::devices::{CallCounter, Lender, Recorder};
+use crate::engines::serving::VERSION;
+use crate::engines::{FIELD, START};
 use arrayvec::ArrayVec;
 use dgt_text::{Bytes, Device, picture};
 use std::process::Abort;

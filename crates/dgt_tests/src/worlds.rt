@@ -1,10 +1,10 @@
 //! Worlds, by the worked conversations.
 
-use crate::Act::*;
-use crate::Outcome::*;
-use crate::{Act, Outcome, World, WorldFault};
 use dgt_board::{Identity, Mode};
 use dgt_command::{ClockCommand, Command, LedBytes};
+use dgt_link::Act::*;
+use dgt_link::Outcome::*;
+use dgt_link::{Act, Outcome, World, WorldFault};
 use dgt_message::{Clock, Reading, Status, Times};
 use dgt_values::{Body, Kind, Piece, Position, SevenBit, Square};
 use std::alloc::Global;

@@ -1,12 +1,12 @@
 //! Worked runs that fail, and readers and writers of the standard library that do.
 
-use crate::tests::engines::devices::{Broken, Lender, Recorder, Trickle, Zeros};
-use crate::tests::engines::picturing::{AGAIN_LINE, PLACEMENT_LINE, joined};
-use crate::tests::engines::serving::{VERSION, new_board};
-use crate::tests::engines::simulating::new_world;
-use crate::tests::engines::troubles::Trouble::{Flush, Read, Room, Turns};
-use crate::tests::engines::troubles::{Trial, Trouble};
-use crate::tests::engines::{FIELD, FIELD_LINE, START};
+use crate::engines::devices::{Broken, Lender, Recorder, Trickle, Zeros};
+use crate::engines::picturing::{AGAIN_LINE, PLACEMENT_LINE, joined};
+use crate::engines::serving::{VERSION, new_board};
+use crate::engines::simulating::new_world;
+use crate::engines::troubles::Trouble::{Flush, Read, Room, Turns};
+use crate::engines::troubles::{Trial, Trouble};
+use crate::engines::{FIELD, FIELD_LINE, START};
 use dgt_decode::Event;
 use dgt_link::World;
 use dgt_message::{BodyFault, Message};

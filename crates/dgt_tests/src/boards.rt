@@ -1,6 +1,6 @@
 //! Boards on the line, by the worked conversations.
 
-use super::*;
+use dgt_board::{Board, Busy, Identity, MAX_OWED, MAX_SENT, Mode, Polled, TooLong};
 use dgt_command::{ClockCommand, Command, CommandDecoder, CommandEvent};
 use dgt_message::{Clock, NoClock, Reading, Status, Times};
 use dgt_values::{Body, Piece, Position, SevenBit, Square};

@@ -1,7 +1,7 @@
 //! What a board answers on the line.
 
-use crate::tests::engines::START;
-use crate::tests::engines::devices::{Lender, Recorder};
+use crate::engines::START;
+use crate::engines::devices::{Lender, Recorder};
 use dgt_board::{Board, Identity};
 use dgt_message::{Clock, Reading, Status, Times};
 use dgt_text::{RunFault, serve};

@@ -1,6 +1,6 @@
 //! What fails in a run, and what a run should leave behind then.
 
-use crate::tests::engines::devices::{Lender, Recorder};
+use crate::engines::devices::{Lender, Recorder};
 use arrayvec::ArrayVec;
 use dgt_text::RunFault;
 use std::process::Abort;

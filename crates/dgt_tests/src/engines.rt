@@ -10,7 +10,7 @@ mod simulating;
 mod sweeps;
 mod troubles;
 
-use crate::tests::engines::devices::{CallCounter, Lender, Recorder};
+use crate::engines::devices::{CallCounter, Lender, Recorder};
 use dgt_text::{Bytes, Device, Failed, LineFault, RunFault, monitor};
 use std::process::Abort;
 use std::test::Fail;

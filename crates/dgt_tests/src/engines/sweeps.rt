@@ -1,10 +1,10 @@
 //! Runs in which something fails, at each place where it can.
 
-use crate::tests::engines::devices::{Lender, Recorder};
-use crate::tests::engines::serving::{BATTERY, SERIAL, TRADEMARK, VERSION, ZERO_TIMES, new_board};
-use crate::tests::engines::simulating::{NEW_LINES, new_world};
-use crate::tests::engines::troubles::{TROUBLES, Text, Trial, Trouble};
-use crate::tests::engines::{FIELD, START, START_LINE};
+use crate::engines::devices::{Lender, Recorder};
+use crate::engines::serving::{BATTERY, SERIAL, TRADEMARK, VERSION, ZERO_TIMES, new_board};
+use crate::engines::simulating::{NEW_LINES, new_world};
+use crate::engines::troubles::{TROUBLES, Text, Trial, Trouble};
+use crate::engines::{FIELD, START, START_LINE};
 use dgt_board::{Board, Polled};
 use dgt_link::World;
 use dgt_text::{RunFault, monitor, picture, read_act, serve, simulate};

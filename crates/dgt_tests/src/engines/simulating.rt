@@ -1,6 +1,6 @@
 //! Scripts that are played.
 
-use crate::tests::engines::devices::{Lender, Recorder};
+use crate::engines::devices::{Lender, Recorder};
 use dgt_board::Identity;
 use dgt_link::World;
 use dgt_message::{Clock, Reading, Status, Times};

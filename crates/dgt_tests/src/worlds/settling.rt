@@ -3,10 +3,10 @@
 use super::{
     DISPLAY, E4_PLAYED, NO_E2, START, following, rests_at, running_clock, times, world_of,
 };
-use crate::Act::*;
-use crate::{Act, World};
 use dgt_board::Mode;
 use dgt_command::{Command, LedBytes};
+use dgt_link::Act::*;
+use dgt_link::{Act, Outcome, World};
 use dgt_message::Clock;
 use dgt_values::{Piece, Square};
 use std::alloc::Global;
@@ -272,7 +272,7 @@ fn worlds_of_drawn_acts_settle(rt: HostRuntime) -> Result<(), Fail> {
             for _ in 0..4 {
                 for _ in 0..turns {
                     let act = drawn_act(drawn(&mut state), &clocks)?;
-                    if world.step(act) == crate::Outcome::Done {
+                    if world.step(act) == Outcome::Done {
                         asked = asked.after(act);
                     }
                 }

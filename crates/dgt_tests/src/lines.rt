@@ -1,6 +1,6 @@
 //! Sources and sinks of the standard library, and lines.
 
-use crate::RunFault;
+use dgt_lines::RunFault;
 use std::test::Fail;
 
 #[test]

@@ -1,6 +1,6 @@
-use crate::{Heard, Host, Kind, SendFault};
 use dgt_command::Command;
 use dgt_decode::{Decoder, Event};
+use dgt_host::{Heard, Host, Kind, SendFault};
 use dgt_message::{Clock, Message};
 use dgt_values::{Piece, Position, Square};
 use std::alloc::{AllocError, Global};

@@ -1,7 +1,7 @@
 //! Lines of commands and faults.
 
-use crate::write_command;
 use dgt_command::{CommandEvent, view_command};
+use dgt_command_lines::write_command;
 use dgt_lines::Device;
 use std::alloc::Global;
 use std::test::Fail;

@@ -1,8 +1,8 @@
 //! The engine of a host's bytes, in pieces and where something fails.
 
-use crate::tests::engines::devices::{Lender, Recorder};
-use crate::tests::engines::troubles::Trouble::{Flush, Read, Room, Turns};
-use crate::tests::engines::troubles::{Trial, Trouble};
+use crate::engines::devices::{Lender, Recorder};
+use crate::engines::troubles::Trouble::{Flush, Read, Room, Turns};
+use crate::engines::troubles::{Trial, Trouble};
 use dgt_text::{RunFault, commands};
 
 const WRITE_FAILED: Result<(), RunFault> = Err(RunFault::WriteFailed);

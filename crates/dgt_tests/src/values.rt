@@ -1,6 +1,9 @@
 //! The tables of the protocol, and texts that are read and written.
 
-use super::*;
+use dgt_values::{
+    BadPlacement, Body, BodyError, Known, NoPiece, NoRoom, NoSegment, NoSquare, NotSevenBit, Piece,
+    Position, SevenBit, Square, TooMuch, segment,
+};
 use std::test::Fail;
 
 const START: &str = "rnbqkbnr/pppppppp/8/8/8/8/PPPPPPPP/RNBQKBNR";
