@@ -1,5 +1,5 @@
-//! The libraries' tests, by their public calls alone: worked rows and conversations, and engines
-//! over sources and sinks that fail where a test wants them to.
+//! The libraries' tests, by their public calls alone: examples with the bytes and texts that they
+//! come to, and engines over sources and sinks that fail where a test wants them to.
 //!
 //! They are a crate of their own since a crate with tests is proved twice, with them and without.
 //! What only a crate itself can call is tested there: the searches and the framer of dgt_decode,
