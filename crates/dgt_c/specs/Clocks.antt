@@ -39,18 +39,18 @@ abbrev pub clock_if_told : Option ClockState → DgtClock
 clock_if_told None = UNKNOWN_CLOCK
 clock_if_told (Some clock) = clock_told clock
 
-abbrev pub time_in : DgtTime → Time
-time_in told = time_of told.hours told.minutes told.seconds told.flags
+abbrev pub time_said : DgtTime → Time
+time_said told = time_of told.hours told.minutes told.seconds told.flags
 
-abbrev pub times_in : DgtClock → Times
-times_in told = times_of (time_in told.first) (time_in told.second) told.status
+abbrev pub times_said : DgtClock → Times
+times_said told = times_of (time_said told.first) (time_said told.second) told.status
 
-abbrev pub absence_in : DgtClock → Absence
-absence_in told = absence_of told.raw told.status
+abbrev pub absence_said : DgtClock → Absence
+absence_said told = absence_of told.raw told.status
 
 -- C says this clock, whose values are in their ranges
 abbrev pub SaysClock : DgtClock → ClockState → Type 0
 SaysClock said (ClockState.times readings) =
-    (said.kind ≡ CLOCK_TIMES) × AreTimes readings × (readings ≡ times_in said)
+    (said.kind ≡ CLOCK_TIMES) × AreTimes readings × (readings ≡ times_said said)
 SaysClock said (ClockState.no_clock absence) =
-    (said.kind ≡ CLOCK_NONE) × IsAbsence absence × (absence ≡ absence_in said)
+    (said.kind ≡ CLOCK_NONE) × IsAbsence absence × (absence ≡ absence_said said)

@@ -18,18 +18,18 @@ flag true = 1
 flag false = 0
 
 -- This event is told, and its body was copied into the slice, as much of it as there is room for.
-abbrev pub Tells : Option Event → Bool → Telling → Type 0
-Tells event unasked told =
+abbrev pub TellsEvent : Option Event → Bool → Telling → Type 0
+TellsEvent event unasked told =
     (told.event ≡ record (event_told event) { unasked = flag unasked })
     × (told.new ≡ overwritten told.old (body_said event))
 
 -- the first event that the piece makes is told, if it makes one
 abbrev pub Feeds : List ℕ → List ℕ → ℕ → Telling → Type 0
 Feeds held piece used told =
-    (event : Option Event) × FirstEvent held piece used event × Tells event false told
+    (event : Option Event) × FirstEvent held piece used event × TellsEvent event false told
 
 -- the same, with whether the event is a message that was not asked for
-abbrev pub Hears : HostView → List ℕ → ℕ → Telling → Type 0
-Hears host piece used told =
+abbrev pub HearsTold : HostView → List ℕ → ℕ → Telling → Type 0
+HearsTold host piece used told =
     (event : Option Event) × (unasked : Bool) × FirstEvent host.unread piece used event
-    × (IsTrue unasked ↔ IsUnasked host.awaited event) × Tells event unasked told
+    × (IsTrue unasked ↔ IsUnasked host.awaited event) × TellsEvent event unasked told

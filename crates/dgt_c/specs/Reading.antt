@@ -12,7 +12,7 @@ ReadsWord held piece used (Some event) = IsWord event (held ++ take used piece)
 ReadsWord held piece used None = (used ≡ length piece) × IsPartial (held ++ piece)
 
 -- what is held after a piece, where the first word that it completes is told
-abbrev pub Reads : List ℕ → List ℕ → ℕ → CommandTelling → List ℕ → Type 0
-Reads held piece used told after =
+abbrev pub FeedsWords : List ℕ → List ℕ → ℕ → CommandTelling → List ℕ → Type 0
+FeedsWords held piece used told after =
     (event : Option EventContent) × ReadsWord held piece used event × TellsCommand event told
     × (after ≡ rest_after event (held ++ take used piece))

@@ -18,6 +18,6 @@ SendsTold request before after old new told =
     × (told ≡ sent_told outcome)
 
 -- there is no such command, and nothing changes
-abbrev pub Refuses : HostView → HostView → List ℕ → List ℕ → DgtSent → Type 0
-Refuses before after old new told =
+abbrev pub RefusesCommand : HostView → HostView → List ℕ → List ℕ → DgtSent → Type 0
+RefusesCommand before after old new told =
     (told ≡ NO_SUCH_COMMAND) × (after ≡ before) × (new ≡ old)

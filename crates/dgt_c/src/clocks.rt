@@ -4,7 +4,7 @@ ghost use Rattle.std.specs.Prelude.{◌≡◌, ◌≤◌, ◌<◌, map, MatchOpt
 ghost use Rattle.dgt_values.specs.Bytes.{AreSevenBit, number};
 ghost use Rattle.dgt_message.specs.Clock.{AreTimes, ClockState, IsAbsence, IsTime};
 ghost use Rattle.dgt_message.specs.Content.{absence_seen, clock_seen, status_code, time_seen, times_seen};
-ghost use Rattle.dgt_c.specs.Clocks.{SaysClock, absence_in, clock_told, time_in, time_told, times_in};
+ghost use Rattle.dgt_c.specs.Clocks.{SaysClock, absence_said, clock_told, time_said, time_told, times_said};
 
 use crate::checking::are_seven_bit;
 use dgt_message::{Clock, NoClock, Reading, Status, Times};
@@ -105,8 +105,8 @@ pub(crate) fn clock_told(clock: &Clock) -> DgtClock
 }
 
 fn read_time(time: DgtTime) -> Option<Reading>
-    ensures { MatchOption result (¬ (IsTime (time_in time)))
-        (λ reading. (time_seen reading ≡ time_in time) × IsTime (time_in time)) }
+    ensures { MatchOption result (¬ (IsTime (time_said time)))
+        (λ reading. (time_seen reading ≡ time_said time) × IsTime (time_said time)) }
 {
     Reading::new(time.hours, time.minutes, time.seconds, time.flags).ok()
 }
@@ -138,7 +138,7 @@ fn read_raw(raw: [u8; 6]) -> Option<[SevenBit; 6]>
 }
 
 fn read_times(clock: &DgtClock) -> Option<Times>
-    ensures { let times = times_in clock.now in MatchOption result (¬ (AreTimes times))
+    ensures { let times = times_said clock.now in MatchOption result (¬ (AreTimes times))
         (λ read. (times_seen read ≡ times) × AreTimes times) }
 {
     let first = read_time(clock.first)?;
@@ -148,7 +148,7 @@ fn read_times(clock: &DgtClock) -> Option<Times>
 }
 
 fn read_absence(clock: &DgtClock) -> Option<NoClock>
-    ensures { let absence = absence_in clock.now in MatchOption result (¬ (IsAbsence absence))
+    ensures { let absence = absence_said clock.now in MatchOption result (¬ (IsAbsence absence))
         (λ read. (absence_seen read ≡ absence) × IsAbsence absence) }
 {
     let raw = read_raw(clock.raw)?;

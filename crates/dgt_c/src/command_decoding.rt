@@ -2,7 +2,7 @@
 
 ghost use Rattle.std.specs.Prelude.{◌≡◌, ◌≤◌, ◌<◌, [], length};
 ghost use Rattle.dgt_command.specs.Words.{IsPartial};
-ghost use Rattle.dgt_c.specs.Reading.{Reads};
+ghost use Rattle.dgt_c.specs.Reading.{FeedsWords};
 
 use crate::command_decoder::DgtCommandDecoder;
 use crate::commands::{DgtCommand, tell_command};
@@ -20,7 +20,7 @@ pub extern "C" fn dgt_command_decoder_feed(
 ) -> usize
     ensures place { command_decoder.new.at ≡ command_decoder.old.at }
     ensures within { result ≤ length bytes.now }
-    ensures reads { Reads command_decoder.old.inside bytes.now result
+    ensures reads { FeedsWords command_decoder.old.inside bytes.now result
         (record { command = command.new; old = word.old; new = word.new })
         command_decoder.new.inside }
     ensures progress { 0 < length bytes.now → 0 < result }

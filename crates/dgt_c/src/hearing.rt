@@ -4,7 +4,7 @@ ghost use Rattle.std.specs.Prelude.{◌≡◌, ◌≤◌, ◌<◌, length, take}
 ghost use Rattle.dgt_decode.specs.Feeding.{event_content_if_any};
 ghost use Rattle.dgt_decode.specs.Grammar.{open_message};
 ghost use Rattle.dgt_host.specs.Host.{host_after, new_host};
-ghost use Rattle.dgt_c.specs.Hearing.{Hears, flag};
+ghost use Rattle.dgt_c.specs.Hearing.{HearsTold, flag};
 ghost use Rattle.dgt_c.specs.Told.{event_told};
 
 use crate::copying::overwrite;
@@ -34,7 +34,7 @@ pub extern "C" fn dgt_host_hear(
     ensures place { host.new.at ≡ host.old.at }
     ensures after { host.new.inside ≡ host_after host.old.inside (take result bytes.now) }
     ensures within { result ≤ length bytes.now }
-    ensures hears { Hears host.old.inside bytes.now result
+    ensures hears { HearsTold host.old.inside bytes.now result
         (record { event = event.new; old = body.old; new = body.new }) }
     ensures progress { 0 < length bytes.now → 0 < result }
 {

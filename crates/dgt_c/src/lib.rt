@@ -5,8 +5,9 @@
 //! C has a *handle*, an object of a stated size: a pointer, and behind it the room for what it
 //! points to. `DgtHost` is that pointer. Contracts see what the handle owns as its ghost field
 //! `inside`, which is what the crate below says of a host; `get` lends it. So each call carries the
-//! clauses of the call that it wraps, at `inside`: `dgt_host_hear` has those of `Host::hear`. The
-//! clause `place` says that the handle goes on pointing to its own room.
+//! clauses of the call that it wraps, at `inside`, but those that follow from another one or from a
+//! type: `dgt_host_hear` has those of `Host::hear`. `dgt_board_poll` doesn't repeat that the board
+//! was one before. The clause `place` says that the handle goes on pointing to its own room.
 //!
 //! An enum can't cross to C, and neither can what a value lends. An event crosses as a struct,
 //! whose kind says which fields are set (`event_told`, `specs/Told.antt`), and its body as bytes

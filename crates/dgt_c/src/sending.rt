@@ -6,7 +6,7 @@ ghost use Rattle.dgt_command.specs.Spelling.{command_spelling};
 ghost use Rattle.dgt_command.specs.declared.carried.TheConstants.{MAX_LED_BYTES, MAX_PAYLOAD};
 ghost use Rattle.dgt_values.specs.declared.kinds.Kind.TheVariants as kind;
 ghost use Rattle.dgt_host.specs.Host.{follow_bytes, restart_bytes};
-ghost use Rattle.dgt_c.specs.Sent.{Refuses, SendsTold, sent_told};
+ghost use Rattle.dgt_c.specs.Sent.{RefusesCommand, SendsTold, sent_told};
 
 use crate::host::DgtHost;
 use dgt_command::{Command, LedBytes, MAX_PAYLOAD, MAX_WORD, view_command};
@@ -79,7 +79,7 @@ fn send_word(host: &mut Host, word: &[u8], out: &mut [u8]) -> DgtSent
         SendsTold (record { kind = kind_of_command said; bytes = word.now })
         host.old host.new out.old out.new result }
     ensures refused { ((said : CommandContent) → word.now ≢ command_spelling said) →
-        Refuses host.old host.new out.old out.new result }
+        RefusesCommand host.old host.new out.old out.new result }
 {
     dgt_command::laws::spellings_tell_commands();
     match view_command(word) {
@@ -96,7 +96,7 @@ pub extern "C" fn dgt_host_send(host: &mut DgtHost, code: u8, out: &mut [u8]) ->
         SendsTold (record { kind = kind_of_command said; bytes = code ∷ [] })
         host.old.inside host.new.inside out.old out.new result }
     ensures refused { ((said : CommandContent) → code ∷ [] ≢ command_spelling said) →
-        Refuses host.old.inside host.new.inside out.old out.new result }
+        RefusesCommand host.old.inside host.new.inside out.old out.new result }
 {
     send_word(host.get(), &[code], out)
 }
@@ -109,7 +109,7 @@ pub extern "C" fn dgt_host_send_leds(host: &mut DgtHost, leds: &[u8], out: &mut 
         SendsTold (record { kind = None; bytes = command_spelling (CommandContent.Leds leds.now) })
         host.old.inside host.new.inside out.old out.new result }
     ensures refused { MAX_LED_BYTES < length leds.now →
-        Refuses host.old.inside host.new.inside out.old out.new result }
+        RefusesCommand host.old.inside host.new.inside out.old out.new result }
 {
     match LedBytes::new(leds) {
         Ok(leds) => sent_told(host.get().send(&Command::Leds(leds), out)),
@@ -148,7 +148,7 @@ pub extern "C" fn dgt_host_send_clock(
         })
         host.old.inside host.new.inside out.old out.new result }
     ensures refused { MAX_PAYLOAD < length payload.now →
-        Refuses host.old.inside host.new.inside out.old out.new result }
+        RefusesCommand host.old.inside host.new.inside out.old out.new result }
 {
     if payload.len() > MAX_PAYLOAD {
         return NO_SUCH_COMMAND;

@@ -9,7 +9,7 @@ use Rattle.std.specs.Prelude.{Bool, true, false, slice_index, if◌then◌else�
 use Rattle.dgt_command.specs.Content.{CommandContent, ClockMessage, Leds, EventContent, Read, BadSize, BadStart, Stray}
 use Rattle.dgt_command.specs.Spelling.{AreBytes, command_spelling, SpellsCommand}
 use Rattle.dgt_command.specs.Lengths.{word_length}
-use Rattle.dgt_command.specs.Words.{BeginsNoCommand, HasForm, IsWord, IsPartial, Divides, IsNoise, IsNoiseList}
+use Rattle.dgt_command.specs.Words.{BeginsNoCommand, HasForm, IsPartial, Divides, IsNoise, IsNoiseList}
 use Rattle.dgt_command.specs.Laws.{EachDividesOnce, NoWordBeginsAPart, NoWordBeginsAnother, CommandsAreReadBack, ZerosSettleTheReader, DivisionsAppend, FrontsDivideFirst}
 use Rattle.dgt_command.proofs.WordLemmas.{body_length, form_length, same_word, begins, clock_word}
 use Rattle.dgt_command.proofs.CodeLemmas.{no_command}

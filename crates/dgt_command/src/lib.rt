@@ -26,8 +26,6 @@ mod framer;
 mod ids;
 pub mod laws;
 mod lengths;
-#[cfg(test)]
-mod plain;
 mod questions;
 mod viewing;
 mod writing;
@@ -42,6 +40,3 @@ pub use ids::KnownId;
 pub use questions::kind_of_command;
 pub use viewing::view_command;
 pub use writing::{clock_id, encode, length};
-
-#[cfg(test)]
-mod tests;

@@ -56,8 +56,8 @@ text_word payload =
     else bytes_text payload
 
 -- any clock message, by its id and the bytes that it carries
-abbrev pub carried_words : ℕ → List ℕ → List (List ℕ)
-carried_words id payload = codes "clockmessage" ∷ byte_text id ∷ bytes_text payload ∷ []
+abbrev pub raw_words : ℕ → List ℕ → List (List ℕ)
+raw_words id payload = codes "clockmessage" ∷ byte_text id ∷ bytes_text payload ∷ []
 
 -- one with a case of its own
 abbrev pub known_words : KnownId → List ℕ → List (List ℕ)
@@ -72,13 +72,13 @@ known_words KnownId.Text payload = codes "text" ∷ text_word payload ∷ []
 
 abbrev pub words_with : Option KnownId → ℕ → List ℕ → List (List ℕ)
 words_with (Some known) id payload = known_words known payload
-words_with None id payload = carried_words id payload
+words_with None id payload = raw_words id payload
 
 abbrev pub clock_words : ClockContent → List (List ℕ)
 clock_words message =
     if has_own_case message.id (length message.payload)
     then words_with (id_with message.id) message.id message.payload
-    else carried_words message.id message.payload
+    else raw_words message.id message.payload
 
 abbrev pub command_text : CommandContent → List ℕ
 command_text Reset = codes "reset"

@@ -4,13 +4,14 @@ use Rattle.std.specs.List.{position_or_len}
 use Rattle.dgt_decode.specs.declared.event.Found.TheVariants as found
 use Rattle.std.proofs.lemmas.List.{length-take, take-take}
 use Rattle.std.proofs.lemmas.List.Sums.{prefix_len-le-length}
-use Rattle.dgt_decode.specs.Grammar.{IsSevenBit, has_top_bit, events, open_message, announced_total}
+use Rattle.dgt_decode.specs.Grammar.{has_top_bit, events, open_message, announced_total}
 use Rattle.dgt_decode.specs.Feeding.{IsWholeMessage, at_place_if_any, event_found_in}
 use Rattle.dgt_decode.specs.Taking.{Begins, FramesFront, IsKept}
 use Rattle.dgt_decode.proofs.Steps.{Gives, first-begins, next-short, next-waits}
 use Rattle.dgt_decode.proofs.Feeds.{first_of_run}
 use Rattle.dgt_decode.proofs.Framing.{after, tells-after}
 use Rattle.dgt_decode.proofs.Runs.{seven-before, seven-take}
+use Rattle.dgt_decode.proofs.SevenBit.{SevenByRecursion, are_seven, by_recursion}
 
 -- so many bytes at the front are a header and a run of its body
 pub record IsBeginning (total : ℕ) (rest : List ℕ) (used : ℕ) : Type 0 where
@@ -18,7 +19,7 @@ pub record IsBeginning (total : ℕ) (rest : List ℕ) (used : ℕ) : Type 0 whe
   pub within : used ≤ length rest
   pub fits : used ≤ total
   pub short : total ≤ 16383
-  pub seven : IsSevenBit (take (used - 3) (drop 3 rest))
+  pub seven : SevenByRecursion (take (used - 3) (drop 3 rest))
 
 -- these are those before the next set top bit behind the header
 pub beginning : (total run : ℕ) (rest : List ℕ) → Begins total rest
@@ -28,6 +29,7 @@ beginning total run [] begins is = absurd (omega (arith, begins.enough))
 beginning total run (b ∷ []) begins is = absurd (omega (arith, begins.enough))
 beginning total run (b ∷ h ∷ []) begins is = absurd (omega (arith, begins.enough))
 beginning total run (b ∷ h ∷ l ∷ more) begins is =
+    let header = by_recursion (h ∷ l ∷ []) begins.header in
     let missing = min (length (b ∷ h ∷ l ∷ more)) total - 3 in
     let wanted = take missing more in
     let up_to : run ≤ length wanted = omega (arith, is, prefix_len-le-length (λ x. not (has_top_bit x)) wanted) in
@@ -38,13 +40,13 @@ beginning total run (b ∷ h ∷ l ∷ more) begins is =
       header = omega arith;
       within = omega (arith, up_to, long, begins.large);
       fits = omega (arith, up_to, long, begins.large);
-      short = omega (arith, begins.is, begins.header.0, begins.header.1.0);
+      short = omega (arith, begins.is, header.0, header.1.0);
       seven = rw less (rw (← front, is) (seven-before wanted));
     }
 
 -- before the last of them there is no event
-early : (b h l n total : ℕ) (more : List ℕ) → Gives (b ∷ h ∷ []) [] (b ∷ h ∷ []) → l < 128 → IsSevenBit (take n more)
-    → n ≤ length more → 3 + n ≤ total
+early : (b h l n total : ℕ) (more : List ℕ) → Gives (b ∷ h ∷ []) [] (b ∷ h ∷ []) → l < 128
+    → SevenByRecursion (take n more) → n ≤ length more → 3 + n ≤ total
     → total ≡ announced_total (b ∷ h ∷ l ∷ more) → events (take (suc (suc n)) (b ∷ h ∷ l ∷ more)) ≡ []
 early b h l zero total more two low seven within fits is = two.told
 early b h l (suc n) total [] two low seven within fits is = absurd (omega (arith, within))
@@ -55,7 +57,7 @@ early b h l (suc n) total (x ∷ more) two low seven within fits is =
     fewer : take n (take (suc n) (x ∷ more)) ≡ take n (x ∷ more)
     fewer = take-take n (suc n) (x ∷ more) (omega arith)
 
-    shorter : IsSevenBit (take n (x ∷ more))
+    shorter : SevenByRecursion (take n (x ∷ more))
     shorter = rw (← fewer) (seven-take n (take (suc n) (x ∷ more)) seven)
 
 -- A message that begins is whole where none of it is missing then, and tells nothing otherwise.
@@ -74,20 +76,21 @@ frames-beginning kept (b ∷ h ∷ l ∷ more) total (suc (suc (suc n))) none be
     let body = take n more in
     let count : length body ≡ n = omega (arith, length-take n more, run.within) in
     let is_n : used - 3 ≡ n = omega arith in
-    let seven : IsSevenBit body = rw is_n at run.seven in
-    let two = next-short (b ∷ []) (h ∷ []) (first-begins b begins.first).leaves (omega arith) (begins.header.0, tt)
+    let header = by_recursion (h ∷ l ∷ []) begins.header in
+    let seven : SevenByRecursion body = rw is_n at run.seven in
+    let two = next-short (b ∷ []) (h ∷ []) (first-begins b begins.first).leaves (omega arith) (header.0, tt)
     (omega arith) in
     let left = total - used in
     let all : announced_total (b ∷ h ∷ l ∷ body) ≡ length (b ∷ h ∷ l ∷ body) + left =
     omega (arith, begins.is, count, run.fits) in
     let t = tells-after (b ∷ h ∷ []) (l ∷ body) left two.leaves (omega arith) (omega arith)
-    (begins.header.1.0, seven) all in
+    (header.1.0, seven) all in
     let long : 2 + length (l ∷ body) ≡ 0 + length (b ∷ h ∷ l ∷ body) = omega arith in
     let less : length (b ∷ h ∷ l ∷ body) - 1 ≡ suc (suc n) = omega (arith, count) in
     let front : take (length (b ∷ h ∷ l ∷ body) - 1) (b ∷ h ∷ l ∷ body) ≡ take (suc (suc n)) (b ∷ h ∷ l ∷ more) =
     ap (λ m. take m (b ∷ h ∷ l ∷ body)) less ∙ take-take (suc (suc n)) used (b ∷ h ∷ l ∷ more) (omega arith) in
     let quiet : events (take (length (b ∷ h ∷ l ∷ body) - 1) (b ∷ h ∷ l ∷ body)) ≡ [] =
-    ap (λ x. events x) front ∙ early b h l n total more two begins.header.1.0 seven (omega (arith, run.within))
+    ap (λ x. events x) front ∙ early b h l n total more two header.1.0 seven (omega (arith, run.within))
     (omega (arith, run.fits)) begins.is in (
       record {
         some = omega arith;
@@ -119,10 +122,11 @@ frames-whole kept (b ∷ h ∷ l ∷ more) (suc (suc (suc n))) none within whole
     let total = suc (suc (suc n)) in
     let rest = b ∷ h ∷ l ∷ more in
     let is : total ≡ announced_total rest = omega (arith, whole.whole, length-take total rest, within) in
+    let later = by_recursion (h ∷ l ∷ take n more) whole.later in
     let begins : Begins total rest =
     record {
       first = whole.first;
-      header = (whole.later.0, (whole.later.1.0, tt));
+      header = are_seven (h ∷ l ∷ []) (later.0, (later.1.0, tt));
       enough = omega arith;
       is = is;
       large = omega arith;
@@ -133,8 +137,8 @@ frames-whole kept (b ∷ h ∷ l ∷ more) (suc (suc (suc n))) none within whole
       header = omega arith;
       within = within;
       fits = omega arith;
-      short = omega (arith, is, whole.later.0, whole.later.1.0);
-      seven = rw behind whole.later.1.1;
+      short = omega (arith, is, later.0, later.1.0);
+      seven = rw behind later.1.1;
     } in
     let none_left : total - total ≡ 0 = omega arith in
     rw none_left at (frames-beginning kept rest total total none begins all).0

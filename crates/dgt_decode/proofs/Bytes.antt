@@ -2,11 +2,12 @@
 use Rattle.std.proofs.Common.{◌≡◌, ℕ, zero, suc, ◌<◌, ◌≤◌, Bool, true, false, cond, List, [], ◌∷◌, ◌++◌, length, get_or, None, refl, subst, arith}
 use Rattle.std.proofs.lemmas.List.{append-nil, get_or_append_left}
 use Rattle.std.proofs.lemmas.Bool.{leb-true}
-use Rattle.dgt_decode.specs.Grammar.{IsSevenBit, events, has_top_bit, lead, segments, announced_total, verdict, open_message}
+use Rattle.dgt_decode.specs.Grammar.{events, has_top_bit, lead, segments, announced_total, verdict, open_message}
 use Rattle.dgt_decode.proofs.Verdicts.{Stage, short, waits, bad, whole, stage_of, verdict-bad, verdict-whole}
-use Rattle.dgt_decode.proofs.More.{IsAlone, IsSevenBit-lead}
+use Rattle.dgt_decode.proofs.More.{IsAlone, lead-is_seven}
 use Rattle.dgt_decode.proofs.Open.{IsOpen-open, events-of_open}
 use Rattle.dgt_decode.proofs.Steps.{IsHeld, IsHeld-open, alone_held}
+use Rattle.dgt_decode.proofs.SevenBit.{SevenByRecursion}
 
 -- no bytes are held as they are
 pub nothing_held : IsHeld []
@@ -24,19 +25,20 @@ quiet_open s = rw (append-nil (open_message s)) (events-of_open (open_message s)
 -- ---- what is held begins a message, and has room for one more byte
 
 -- each of seven-bit bytes, and the zero behind their end, is below 128
-IsSevenBit-get : (bytes : List ℕ) (i : ℕ) → IsSevenBit bytes → get_or bytes i 0 < 128
-IsSevenBit-get [] i h = omega arith
-IsSevenBit-get (b ∷ bytes) zero h = h.0
-IsSevenBit-get (b ∷ bytes) (suc i) h = IsSevenBit-get bytes i h.1
+seven-get : (bytes : List ℕ) (i : ℕ) → SevenByRecursion bytes → get_or bytes i 0 < 128
+seven-get [] i h = omega arith
+seven-get (b ∷ bytes) zero h = h.0
+seven-get (b ∷ bytes) (suc i) h = seven-get bytes i h.1
 
 -- one segment begins with a set top bit, and goes on seven-bit
-pub IsAlone-parts : (b : ℕ) (bytes : List ℕ) → IsAlone (b ∷ bytes) → (128 ≤ b) × IsSevenBit bytes
+pub IsAlone-parts : (b : ℕ) (bytes : List ℕ) → IsAlone (b ∷ bytes) → (128 ≤ b) × SevenByRecursion bytes
 IsAlone-parts b bytes alone = go (has_top_bit b) refl alone.no_lead alone.one
   where
     go : (t : Bool) → has_top_bit b ≡ t → cond t [] (b ∷ lead bytes) ≡ []
-        → cond t ((b ∷ lead bytes) ∷ segments bytes) (segments bytes) ≡ (b ∷ bytes) ∷ [] → (128 ≤ b) × IsSevenBit bytes
+        → cond t ((b ∷ lead bytes) ∷ segments bytes) (segments bytes) ≡ (b ∷ bytes) ∷ []
+        → (128 ≤ b) × SevenByRecursion bytes
     go true e f g = let same : lead bytes ≡ bytes = cc in
-        (leb-true 128 b e, subst (λ (x : List ℕ). IsSevenBit x) same (IsSevenBit-lead bytes))
+        (leb-true 128 b e, subst (λ (x : List ℕ). SevenByRecursion x) same (lead-is_seven bytes))
     go false e f g = absurd cc
 
 -- what is held begins with a set top bit
@@ -53,7 +55,7 @@ pub held_total : (held : List ℕ) → IsHeld held → 0 < length held → annou
 held_total [] h some = absurd (omega arith)
 held_total (b ∷ held) h some =
     let seven = (IsAlone-parts b held (alone_held (b ∷ held) h some).0).1 in
-    omega (arith, IsSevenBit-get held 0 seven, IsSevenBit-get held 1 seven)
+    omega (arith, seven-get held 0 seven, seven-get held 1 seven)
 
 -- what is held is shorter than the longest total
 pub held_room : (held : List ℕ) → IsHeld held → length held < 16383

@@ -6,49 +6,54 @@ use Rattle.std.proofs.lemmas.Bool.{le-leb, leb-true, eq-eqb, ne_eqb, cases_lt}
 use Rattle.std.proofs.Math.Seq.{drop-cons, drop-length}
 use Rattle.dgt_decode.specs.declared.event.Event.{Event as CodeEvent}
 use Rattle.dgt_decode.specs.declared.event.Event.TheVariants as code_events
-use Rattle.dgt_decode.specs.Grammar.{IsSevenBit, Event, BadLength, Stray, Placed, at_place, message_event, announced_total, events_behind, strays, has_top_bit, lead, segments, verdict, segment_events, unfinished_part, cut_of, cut_before, segments_events, events}
+use Rattle.dgt_decode.specs.Grammar.{Event, BadLength, Stray, Placed, at_place, message_event, announced_total, events_behind, strays, has_top_bit, lead, segments, verdict, segment_events, unfinished_part, cut_of, cut_before, segments_events, events}
 use Rattle.dgt_decode.specs.Feeding.{event_content}
 use Rattle.dgt_decode.specs.Laws.{IsSegment}
 use Rattle.dgt_decode.specs.Taking.{placed_content}
 use Rattle.dgt_decode.proofs.Verdicts.{verdict-bad, verdict-waits, verdict-whole}
 use Rattle.dgt_decode.proofs.Places.{events_behind-append, events_behind-events_behind, events_behind-zero, strays-append}
 use Rattle.dgt_decode.proofs.Cuts.{lead-append, segments-append}
-use Rattle.dgt_decode.proofs.More.{IsSevenBit-lead, lead-seven, segments-seven}
+use Rattle.dgt_decode.proofs.More.{lead-is_seven, lead-seven, segments-seven}
+use Rattle.dgt_decode.proofs.SevenBit.{SevenByRecursion, are_seven}
 
 -- ---- The lead
 
 -- the lead is a seven-bit front, and the lead of the rest
-lead_split : (bytes : List ℕ) (i : ℕ) → IsSevenBit (take i bytes) → lead bytes ≡ take i bytes ++ lead (drop i bytes)
+lead_split : (bytes : List ℕ) (i : ℕ) → SevenByRecursion (take i bytes)
+    → lead bytes ≡ take i bytes ++ lead (drop i bytes)
 lead_split bytes i seven =
     ap (λ (x : List ℕ). lead x) (sym (take-append-drop i bytes))
     ∙ lead-append (take i bytes) (drop i bytes)
     ∙ rw (lead-seven (take i bytes) seven, segments-seven (take i bytes) seven) refl
 
 -- the lead ends where the first byte with a set top bit stands
-pub lead_here : (bytes : List ℕ) (i : ℕ) → i < length bytes → 128 ≤ get_or bytes i 0 → IsSevenBit (take i bytes)
+pub lead_here : (bytes : List ℕ) (i : ℕ) → i < length bytes → 128 ≤ get_or bytes i 0 → SevenByRecursion (take i bytes)
     → take i bytes ≡ lead bytes
 lead_here bytes i within top seven =
     let next : lead (drop i bytes) ≡ [] = rw (drop-cons bytes i 0 within, le-leb 128 (get_or bytes i 0) top) refl in
     sym (lead_split bytes i seven ∙ rw next (append-nil (take i bytes)))
 
 -- with no such byte it is the whole
-pub lead_all : (bytes : List ℕ) (i : ℕ) → i ≡ length bytes → IsSevenBit (take i bytes)
+pub lead_all : (bytes : List ℕ) (i : ℕ) → i ≡ length bytes → SevenByRecursion (take i bytes)
     → take (length bytes) bytes ≡ lead bytes
 lead_all bytes i end seven =
-    let all : IsSevenBit (take (length bytes) bytes) = subst (λ (n : ℕ). IsSevenBit (take n bytes)) end seven in
+    let all : SevenByRecursion (take (length bytes) bytes)
+    = subst (λ (n : ℕ). SevenByRecursion (take n bytes)) end seven in
     sym (lead_split bytes (length bytes) all ∙ rw (drop-length bytes) (append-nil (take (length bytes) bytes)))
 
 -- behind the lead stands a byte with a set top bit, or none
 pub lead_stops : (bytes : List ℕ) (i : ℕ) → take i bytes ≡ lead bytes → lead (drop i bytes) ≡ []
 lead_stops bytes i is =
-    let seven : IsSevenBit (take i bytes) = subst (λ (x : List ℕ). IsSevenBit x) (sym is) (IsSevenBit-lead bytes) in
+    let seven : SevenByRecursion (take i bytes)
+    = subst (λ (x : List ℕ). SevenByRecursion x) (sym is) (lead-is_seven bytes) in
     append_cancel_left (take i bytes) (lead (drop i bytes)) []
     (sym (lead_split bytes i seven) ∙ sym is ∙ sym (append-nil (take i bytes)))
 
 -- the segments stand behind the lead
 segments_behind : (bytes : List ℕ) (i : ℕ) → take i bytes ≡ lead bytes → segments bytes ≡ segments (drop i bytes)
 segments_behind bytes i is =
-    let seven : IsSevenBit (take i bytes) = subst (λ (x : List ℕ). IsSevenBit x) (sym is) (IsSevenBit-lead bytes) in
+    let seven : SevenByRecursion (take i bytes)
+    = subst (λ (x : List ℕ). SevenByRecursion x) (sym is) (lead-is_seven bytes) in
     ap (λ (x : List ℕ). segments x) (sym (take-append-drop i bytes))
     ∙ segments-append (take i bytes) (drop i bytes)
     ∙ rw (segments-seven (take i bytes) seven) refl
@@ -215,7 +220,7 @@ next_segment bytes start count told h more is within =
 -- it is a segment
 pub IsSegment-next : (bytes : List ℕ) (start count : ℕ) (segment : List ℕ) → IsNext bytes start count segment
     → IsSegment segment
-IsSegment-next bytes start count segment n = rw n.is (n.top, IsSevenBit-lead (drop (start + 1) bytes))
+IsSegment-next bytes start count segment n = rw n.is (n.top, are_seven _ (lead-is_seven (drop (start + 1) bytes)))
 
 -- places of the next events are counted from the start of the whole
 regrouped : (told a c e : List Placed) (start n end : ℕ) → start + n ≡ end

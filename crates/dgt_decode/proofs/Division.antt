@@ -3,11 +3,12 @@ use Rattle.std.proofs.Common.{◌≡◌, ℕ, Bool, true, false, cond, List, [],
 use Rattle.std.specs.List.{AllByRecursion, concat}
 use Rattle.std.proofs.lemmas.List.{append-nil}
 use Rattle.std.proofs.lemmas.Bool.{leb-true}
-use Rattle.dgt_decode.specs.Grammar.{IsSevenBit, Placed, events_behind, strays, has_top_bit, lead, segments, verdict, segment_events, unfinished_part, cut_of, segments_events, open_segment, events, open_message}
+use Rattle.dgt_decode.specs.Grammar.{Placed, events_behind, strays, has_top_bit, lead, segments, verdict, segment_events, unfinished_part, cut_of, segments_events, open_segment, events, open_message}
 use Rattle.dgt_decode.specs.Laws.{CutsInto, IsSegment}
 use Rattle.dgt_decode.proofs.Cuts.{lead-append, segments-append}
 use Rattle.dgt_decode.proofs.Feeds.{nil_left}
-use Rattle.dgt_decode.proofs.More.{IsAlone, IsAlone-from, IsSevenBit-lead, lead-seven, segments-seven}
+use Rattle.dgt_decode.proofs.More.{IsAlone, IsAlone-from, lead-is_seven, lead-seven, segments-seven}
+use Rattle.dgt_decode.proofs.SevenBit.{SevenByRecursion, are_seven, by_recursion}
 
 -- the parts in a row are the list
 pub whole : (s : List ℕ) → s ≡ lead s ++ concat (segments s)
@@ -26,13 +27,13 @@ are_segments (b ∷ s) = go (has_top_bit b) refl (are_segments s)
   where
     go : (t : Bool) → has_top_bit b ≡ t → AllByRecursion IsSegment (segments s)
         → AllByRecursion IsSegment (cond t ((b ∷ lead s) ∷ segments s) (segments s))
-    go true e h = ((leb-true 128 b e, IsSevenBit-lead s), h)
+    go true e h = ((leb-true 128 b e, are_seven (lead s) (lead-is_seven s)), h)
     go false e h = h
 
 -- a segment is one segment by the cut
 IsAlone-segment : (g : List ℕ) → IsSegment g → IsAlone g
 IsAlone-segment [] h = absurd h
-IsAlone-segment (b ∷ g) h = IsAlone-from b g h.0 h.1
+IsAlone-segment (b ∷ g) h = IsAlone-from b g h.0 (by_recursion g h.1)
 
 -- segments in a row have no lead
 lead-parts : (parts : List (List ℕ)) → AllByRecursion IsSegment parts → lead (concat parts) ≡ []
@@ -49,28 +50,34 @@ segments-parts (g ∷ parts) h =
     rw (segments-append g (concat parts), alone.one, lead-parts parts h.1, append-nil g, segments-parts parts h.1) refl
 
 -- a seven-bit front is the lead
-lead-divided : (front : List ℕ) (parts : List (List ℕ)) → IsSevenBit front → AllByRecursion IsSegment parts
+lead-divided : (front : List ℕ) (parts : List (List ℕ)) → SevenByRecursion front → AllByRecursion IsSegment parts
     → lead (front ++ concat parts) ≡ front
 lead-divided front parts seven h =
     rw (lead-append front (concat parts), lead-seven front seven, segments-seven front seven, lead-parts parts h)
     (append-nil front)
 
 -- and the segments behind it are the segments
-segments-divided : (front : List ℕ) (parts : List (List ℕ)) → IsSevenBit front → AllByRecursion IsSegment parts
+segments-divided : (front : List ℕ) (parts : List (List ℕ)) → SevenByRecursion front → AllByRecursion IsSegment parts
     → segments (front ++ concat parts) ≡ parts
 segments-divided front parts seven h =
     rw (segments-append front (concat parts), segments-seven front seven) (segments-parts parts h)
 
 -- the cut is a division
 pub cut_divides : (s : List ℕ) → CutsInto (lead s) (segments s) s
-cut_divides s = record { front_is = IsSevenBit-lead s; parts_are = are_segments s; in_a_row = sym (whole s) }
+cut_divides s =
+    record {
+      front_is = are_seven (lead s) (lead-is_seven s);
+      parts_are = are_segments s;
+      in_a_row = sym (whole s);
+    }
 
 -- and the only one
 pub one_cut : (s front : List ℕ) (parts : List (List ℕ)) → CutsInto front parts s → (front ≡ lead s)
     × (parts ≡ segments s)
 one_cut s front parts d = (
-  sym (lead-divided front parts d.front_is d.parts_are) ∙ ap (λ (x : List ℕ). lead x) d.in_a_row,
-  sym (segments-divided front parts d.front_is d.parts_are) ∙ ap (λ (x : List ℕ). segments x) d.in_a_row,
+  sym (lead-divided front parts (by_recursion front d.front_is) d.parts_are) ∙ ap (λ (x : List ℕ). lead x) d.in_a_row,
+  sym (segments-divided front parts (by_recursion front d.front_is) d.parts_are)
+      ∙ ap (λ (x : List ℕ). segments x) d.in_a_row,
 )
 
 -- ---- bytes without an event

@@ -7,7 +7,7 @@ use Rattle.dgt_decode.specs.declared.event.Found.{Found}
 use Rattle.dgt_decode.specs.declared.event.Found.TheVariants as found
 use Rattle.dgt_decode.specs.declared.framer.FramerState.{FramerState}
 use Rattle.dgt_decode.specs.declared.framer.FramerState.TheVariants.{Hunting, Head, Body, Whole}
-use Rattle.dgt_decode.specs.Grammar.{IsSevenBit, BadLength, Cut, Stray, at_place, message_event, announced_total, events, open_message}
+use Rattle.dgt_decode.specs.Grammar.{BadLength, Cut, Stray, at_place, message_event, announced_total, events, open_message}
 use Rattle.dgt_decode.specs.Feeding.{IsWholeMessage, at_place_if_any, event_found_in}
 use Rattle.dgt_decode.specs.Taking.{Frames, IsKept}
 use Rattle.dgt_decode.proofs.Verdicts.{announced_total-append}
@@ -16,6 +16,7 @@ use Rattle.dgt_decode.proofs.Wholes.{whole_open}
 use Rattle.dgt_decode.proofs.Feeds.{first_of_run}
 use Rattle.dgt_decode.proofs.Steps.{IsHeld, IsHeld-open, IsAlone-more, alone_held, first-begins, first-stray, next-begins, next-short, next-bad, next-waits, next-whole}
 use Rattle.dgt_decode.proofs.Bytes.{IsAlone-parts, nothing_held, quiet_open, held_begins_more, held_room}
+use Rattle.dgt_decode.proofs.SevenBit.{SevenByRecursion, are_seven}
 
 -- ---- What is open
 
@@ -129,20 +130,20 @@ abbrev pub after : ℕ → FramerState × Option Found
 after left = if left == 0 then (Whole, Some found.Message) else (Body left, None)
 
 -- bytes of one segment are seven-bit from the second on
-later_seven : (g : List ℕ) → IsAlone g → IsSevenBit (drop 1 g)
+later_seven : (g : List ℕ) → IsAlone g → SevenByRecursion (drop 1 g)
 later_seven [] alone = tt
 later_seven (b ∷ bytes) alone = (IsAlone-parts b bytes alone).1
 
 -- what seven-bit bytes of a message make known
-pub record Tells (kept run : List ℕ) (what : Option Found) : Type 0 where
+pub record TellsRun (kept run : List ℕ) (what : Option Found) : Type 0 where
   pub told : events (kept ++ run) ≡ at_place_if_any (length kept + length run)
       (option_map (event_found_in (kept ++ run)) what)
   pub message : what ≡ Some found.Message → IsWholeMessage (kept ++ run)
 
 -- they end it where none is left, and tell nothing otherwise
-pub tells-after : (kept run : List ℕ) (left : ℕ) → IsHeld kept → 2 ≤ length kept → 0 < length run → IsSevenBit run
+pub tells-after : (kept run : List ℕ) (left : ℕ) → IsHeld kept → 2 ≤ length kept → 0 < length run → SevenByRecursion run
     → announced_total (kept ++ run) ≡ length (kept ++ run) + left
-    → Tells kept run (after left).1 × IsKept (after left).0 (kept ++ run)
+    → TellsRun kept run (after left).1 × IsKept (after left).0 (kept ++ run)
 tells-after kept run zero h two more seven all =
     let some : 0 < length kept = omega arith in
     let count : length (kept ++ run) ≡ length kept + length run = length-append kept run in
@@ -154,7 +155,7 @@ tells-after kept run zero h two more seven all =
     IsWholeMessage
     (kept ++ run) = record {
       first = held_begins_more kept run h some;
-      later = later_seven (kept ++ run) alone;
+      later = are_seven (drop 1 (kept ++ run)) (later_seven (kept ++ run) alone);
       long = long;
       whole = same;
     } in (

@@ -1,3 +1,4 @@
+pub mod SevenBit
 pub mod Places
 pub mod Cuts
 pub mod Verdicts

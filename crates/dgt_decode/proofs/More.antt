@@ -2,10 +2,11 @@
 use Rattle.std.proofs.Common.{◌≡◌, ℕ, suc, ◌+◌, ◌-◌, ◌≤◌, Bool, true, false, cond, List, [], ◌∷◌, ◌++◌, length, drop, Option, Some, None, refl, sym, ap, ◌∙◌, append_assoc, arith}
 use Rattle.std.proofs.lemmas.List.{append-nil, length-append, drop-append-le, length-drop}
 use Rattle.std.proofs.lemmas.Bool.{le-leb, lt-leb, leb-true, leb-false}
-use Rattle.dgt_decode.specs.Grammar.{IsSevenBit, Placed, events_behind, strays, has_top_bit, lead, segments, verdict, unfinished_part, cut_of, cut_before, segments_events, open_segment, events, open_message}
+use Rattle.dgt_decode.specs.Grammar.{Placed, events_behind, strays, has_top_bit, lead, segments, verdict, unfinished_part, cut_of, cut_before, segments_events, open_segment, events, open_message}
 use Rattle.dgt_decode.proofs.Places.{events_behind-append, events_behind-events_behind, events_behind-zero, strays-append}
 use Rattle.dgt_decode.proofs.Cuts.{lead_with, segments_with, lead-append, segments-append}
 use Rattle.dgt_decode.proofs.Verdicts.{verdict-append}
+use Rattle.dgt_decode.proofs.SevenBit.{SevenByRecursion}
 
 -- a list that is one segment
 pub record IsAlone (g : List ℕ) : Type 0 where
@@ -18,26 +19,26 @@ AreAlone [] = Unit {0}
 AreAlone (g ∷ gs) = IsAlone g × AreAlone gs
 
 -- seven-bit bytes are all lead
-pub lead-seven : (bytes : List ℕ) → IsSevenBit bytes → lead bytes ≡ bytes
+pub lead-seven : (bytes : List ℕ) → SevenByRecursion bytes → lead bytes ≡ bytes
 lead-seven [] h = refl
 lead-seven (b ∷ bytes) h = rw (lt-leb 128 b h.0, lead-seven bytes h.1) refl
 
 -- and no segment
-pub segments-seven : (bytes : List ℕ) → IsSevenBit bytes → segments bytes ≡ []
+pub segments-seven : (bytes : List ℕ) → SevenByRecursion bytes → segments bytes ≡ []
 segments-seven [] h = refl
 segments-seven (b ∷ bytes) h = rw (lt-leb 128 b h.0) (segments-seven bytes h.1)
 
 -- the lead is seven-bit
-pub IsSevenBit-lead : (bytes : List ℕ) → IsSevenBit (lead bytes)
-IsSevenBit-lead [] = tt
-IsSevenBit-lead (b ∷ bytes) = go (has_top_bit b) refl (IsSevenBit-lead bytes)
+pub lead-is_seven : (bytes : List ℕ) → SevenByRecursion (lead bytes)
+lead-is_seven [] = tt
+lead-is_seven (b ∷ bytes) = go (has_top_bit b) refl (lead-is_seven bytes)
   where
-    go : (t : Bool) → has_top_bit b ≡ t → IsSevenBit (lead bytes) → IsSevenBit (cond t [] (b ∷ lead bytes))
+    go : (t : Bool) → has_top_bit b ≡ t → SevenByRecursion (lead bytes) → SevenByRecursion (cond t [] (b ∷ lead bytes))
     go true e h = tt
     go false e h = (leb-false 128 b e, h)
 
 -- a byte with a set top bit and seven-bit bytes are one segment
-pub IsAlone-from : (b : ℕ) (bytes : List ℕ) → 128 ≤ b → IsSevenBit bytes → IsAlone (b ∷ bytes)
+pub IsAlone-from : (b : ℕ) (bytes : List ℕ) → 128 ≤ b → SevenByRecursion bytes → IsAlone (b ∷ bytes)
 IsAlone-from b bytes top seven =
     record {
       no_lead = rw (le-leb 128 b top) refl;
@@ -51,7 +52,7 @@ AreAlone-segments (b ∷ bytes) = go (has_top_bit b) refl (AreAlone-segments byt
   where
     go : (t : Bool) → has_top_bit b ≡ t → AreAlone (segments bytes)
         → AreAlone (cond t ((b ∷ lead bytes) ∷ segments bytes) (segments bytes))
-    go true e h = (IsAlone-from b (lead bytes) (leb-true 128 b e) (IsSevenBit-lead bytes), h)
+    go true e h = (IsAlone-from b (lead bytes) (leb-true 128 b e) (lead-is_seven bytes), h)
     go false e h = h
 
 -- ---- how many bytes of segments stand before what they leave open

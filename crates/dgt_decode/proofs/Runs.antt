@@ -5,22 +5,23 @@ use Rattle.std.proofs.lemmas.Bool.{leb-false, lt-leb}
 use Rattle.std.proofs.lemmas.List.{length-append, length-take, take-take}
 use Rattle.std.proofs.lemmas.List.Sums.{prefix_len-le-length}
 use Rattle.dgt_decode.specs.declared.framer.FramerState.TheVariants.{Body}
-use Rattle.dgt_decode.specs.Grammar.{IsSevenBit, has_top_bit, announced_total}
+use Rattle.dgt_decode.specs.Grammar.{has_top_bit, announced_total}
 use Rattle.dgt_decode.specs.Taking.{FramesFront, IsKept}
 use Rattle.dgt_decode.proofs.Verdicts.{announced_total-append}
 use Rattle.dgt_decode.proofs.Steps.{next-waits}
 use Rattle.dgt_decode.proofs.Feeds.{first_of_run}
 use Rattle.dgt_decode.proofs.Framing.{after, tells-after}
+use Rattle.dgt_decode.proofs.SevenBit.{SevenByRecursion}
 
 -- ---- In a body
 
 -- the bytes before the first with a set top bit are seven-bit
-pub seven-before : (bytes : List ℕ) → IsSevenBit (take (position_or_len has_top_bit bytes) bytes)
+pub seven-before : (bytes : List ℕ) → SevenByRecursion (take (position_or_len has_top_bit bytes) bytes)
 seven-before [] = tt
 seven-before (b ∷ bytes) = go (has_top_bit b) refl (seven-before bytes)
   where
-    go : (t : Bool) → has_top_bit b ≡ t → IsSevenBit (take (position_or_len has_top_bit bytes) bytes)
-        → IsSevenBit (take (cond (not t) (1 + position_or_len has_top_bit bytes) 0) (b ∷ bytes))
+    go : (t : Bool) → has_top_bit b ≡ t → SevenByRecursion (take (position_or_len has_top_bit bytes) bytes)
+        → SevenByRecursion (take (cond (not t) (1 + position_or_len has_top_bit bytes) 0) (b ∷ bytes))
     go true e more = tt
     go false e more = let one_more : 1 + position_or_len has_top_bit bytes ≡ suc
         (position_or_len has_top_bit bytes) = omega arith in rw one_more (leb-false 128 b e, more)
@@ -35,7 +36,7 @@ pub record IsBodyRun (missing : ℕ) (rest : List ℕ) (used : ℕ) : Type 0 whe
   pub some : 0 < used
   pub within : used ≤ length rest
   pub fits : used ≤ missing
-  pub seven : IsSevenBit (take used rest)
+  pub seven : SevenByRecursion (take used rest)
 
 -- these are those before the next set top bit among as many as are missing
 pub body_run : (missing used : ℕ) (rest : List ℕ) → 0 < missing → 0 < length rest → get_or rest 0 0 < 128
@@ -56,7 +57,7 @@ body_run (suc more) used (b ∷ rest) room some seven is =
     }
 
 -- the front of seven-bit bytes is so
-pub seven-take : (n : ℕ) (bytes : List ℕ) → IsSevenBit bytes → IsSevenBit (take n bytes)
+pub seven-take : (n : ℕ) (bytes : List ℕ) → SevenByRecursion bytes → SevenByRecursion (take n bytes)
 seven-take zero bytes seven = tt
 seven-take (suc n) [] seven = tt
 seven-take (suc n) (b ∷ bytes) seven = (seven.0, seven-take n bytes seven.1)
@@ -74,7 +75,7 @@ frames-body_run kept rest left used is run =
     let t = tells-after kept bytes (left - used) is.0 (omega (arith, is.1)) (omega (arith, run.some)) run.seven all in
     let early = take (used - 1) rest in
     let front : take (used - 1) bytes ≡ early = take-take (used - 1) used rest (omega arith) in
-    let early_seven : IsSevenBit early = rw (← front) (seven-take (used - 1) bytes run.seven) in
+    let early_seven : SevenByRecursion early = rw (← front) (seven-take (used - 1) bytes run.seven) in
     let early_sum : length (kept ++ early) ≡ length kept + length early = length-append kept early in
     let waiting : length (kept ++ early) < announced_total
     (kept ++ early)

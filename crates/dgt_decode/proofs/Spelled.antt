@@ -3,7 +3,6 @@ use Rattle.std.proofs.Common.{◌≡◌, ℕ, ◌+◌, ◌-◌, List, [], ◌∷
 use Rattle.std.specs.Prelude.{slice_index}
 use Rattle.std.specs.List.{AllByRecursion}
 use Rattle.std.proofs.lemmas.List.{append-nil}
-use Rattle.std.proofs.lemmas.List.Elements.{recursion_from_All}
 use Rattle.std.proofs.Math.Seq.{drop-length}
 use Rattle.dgt_message.specs.Content.{Content, IsMessage}
 use Rattle.dgt_message.specs.Reading.{reading}
@@ -39,7 +38,7 @@ is_read reads m h =
     record {
       whole = record {
         first = omega (arith, h.header.code_is);
-        later = recursion_from_All _ _ h.header.seven_bit;
+        later = h.header.seven_bit;
         long = h.header.long_enough;
         whole = h.header.total_is;
       };

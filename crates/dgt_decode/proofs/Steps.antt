@@ -3,12 +3,13 @@ use Rattle.std.proofs.Common.{◌≡◌, ℕ, ◌+◌, ◌<◌, ◌≤◌, List,
 use Rattle.std.proofs.lemmas.List.{append-nil, length-append}
 use Rattle.std.proofs.lemmas.Bool.{le-leb, lt-leb, cases_lt}
 use Rattle.std.proofs.Math.Seq.{drop-length}
-use Rattle.dgt_decode.specs.Grammar.{IsSevenBit, Cut, BadLength, Stray, Placed, at_place, events_behind, lead, segments, announced_total, message_event, verdict, segment_events, unfinished_part, cut_of, events, open_message}
+use Rattle.dgt_decode.specs.Grammar.{Cut, BadLength, Stray, Placed, at_place, events_behind, lead, segments, announced_total, message_event, verdict, segment_events, unfinished_part, cut_of, events, open_message}
 use Rattle.dgt_decode.proofs.Places.{events_behind-zero}
 use Rattle.dgt_decode.proofs.Cuts.{lead-append, segments-append}
 use Rattle.dgt_decode.proofs.Verdicts.{verdict-short, verdict-bad, verdict-waits, verdict-whole, verdict-full, Stage, short, waits, bad, whole, stage_of, announced_total-append}
 use Rattle.dgt_decode.proofs.More.{IsAlone, IsAlone-from, lead-seven, segments-seven}
 use Rattle.dgt_decode.proofs.Open.{IsOpen, nothing, waiting, IsOpen-open, open-of_open, events-of_open, events-alone, open-alone}
+use Rattle.dgt_decode.proofs.SevenBit.{SevenByRecursion}
 
 -- a list that is held between two pieces
 abbrev pub IsHeld : List ℕ → Type 0
@@ -43,7 +44,7 @@ first-stray b seven = record { told = rw (lt-leb 128 b seven) refl; leaves = rw 
 -- ---- a message is held
 
 -- a segment goes on with seven-bit bytes
-pub IsAlone-more : (g run : List ℕ) → IsAlone g → IsSevenBit run → IsAlone (g ++ run)
+pub IsAlone-more : (g run : List ℕ) → IsAlone g → SevenByRecursion run → IsAlone (g ++ run)
 IsAlone-more g run alone seven =
     record {
       no_lead = rw (lead-append g run, alone.no_lead, alone.one) refl;
@@ -80,7 +81,7 @@ next-begins held b h some top =
     cut (x ∷ held) some = refl
 
 -- seven-bit bytes go on with it
-pub next-seven : (held run : List ℕ) → IsHeld held → 0 < length held → IsSevenBit run
+pub next-seven : (held run : List ℕ) → IsHeld held → 0 < length held → SevenByRecursion run
     → Gives (held ++ run) (segment_events (verdict (held ++ run)) (held ++ run))
     (unfinished_part (verdict (held ++ run)) (held ++ run))
 next-seven held run h some seven =
@@ -88,7 +89,7 @@ next-seven held run h some seven =
     record { told = events-alone (held ++ run) alone; leaves = open-alone (held ++ run) alone }
 
 -- so long as it is shorter than the header
-pub next-short : (held run : List ℕ) → IsHeld held → 0 < length held → IsSevenBit run → length (held ++ run) < 3
+pub next-short : (held run : List ℕ) → IsHeld held → 0 < length held → SevenByRecursion run → length (held ++ run) < 3
     → Gives (held ++ run) [] (held ++ run)
 next-short held run h some seven few =
     let gives = next-seven held run h some seven in
@@ -96,7 +97,7 @@ next-short held run h some seven few =
     record { told = gives.told ∙ rw e refl; leaves = gives.leaves ∙ rw e refl }
 
 -- so long as it is shorter than its total
-pub next-waits : (held run : List ℕ) → IsHeld held → 0 < length held → IsSevenBit run
+pub next-waits : (held run : List ℕ) → IsHeld held → 0 < length held → SevenByRecursion run
     → length (held ++ run) < announced_total (held ++ run)
     → Gives (held ++ run) [] (held ++ run)
 next-waits held run h some seven less =
@@ -105,7 +106,7 @@ next-waits held run h some seven less =
     record { told = gives.told ∙ rw e refl; leaves = gives.leaves ∙ rw e refl }
 
 -- where the header says too little
-pub next-bad : (held run : List ℕ) → IsHeld held → 0 < length held → IsSevenBit run → length (held ++ run) ≡ 3
+pub next-bad : (held run : List ℕ) → IsHeld held → 0 < length held → SevenByRecursion run → length (held ++ run) ≡ 3
     → announced_total (held ++ run) < 3
     → Gives (held ++ run) (at_place 3 BadLength ∷ []) []
 next-bad held run h some seven three small =
@@ -116,7 +117,7 @@ next-bad held run h some seven three small =
     record { told = gives.told ∙ rw (e, none) refl; leaves = gives.leaves ∙ rw e refl }
 
 -- where the total is reached
-pub next-whole : (held run : List ℕ) → IsHeld held → 0 < length held → IsSevenBit run → 3 ≤ length (held ++ run)
+pub next-whole : (held run : List ℕ) → IsHeld held → 0 < length held → SevenByRecursion run → 3 ≤ length (held ++ run)
     → announced_total (held ++ run) ≡ length (held ++ run)
     → Gives (held ++ run) (at_place (length (held ++ run)) (message_event (held ++ run)) ∷ []) []
 next-whole held run h some seven long same =

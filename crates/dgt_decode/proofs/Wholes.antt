@@ -1,21 +1,22 @@
 -- The bytes of one message, and no more.
 use Rattle.std.proofs.Common.{◌≡◌, ◌≤◌, ℕ, List, [], ◌∷◌, length, drop, Some, refl, ◌∙◌, arith}
 use Rattle.std.specs.Prelude.{slice_index}
-use Rattle.dgt_decode.specs.Grammar.{IsSevenBit, at_place, message_event, verdict, open_message}
+use Rattle.dgt_decode.specs.Grammar.{at_place, message_event, verdict, open_message}
 use Rattle.dgt_decode.specs.Feeding.{IsWholeMessage}
 use Rattle.dgt_decode.proofs.Verdicts.{verdict-full}
 use Rattle.dgt_decode.proofs.More.{IsAlone, IsAlone-from}
 use Rattle.dgt_decode.proofs.Open.{open-alone}
+use Rattle.dgt_decode.proofs.SevenBit.{SevenByRecursion, by_recursion}
 
 -- a first byte with its top bit set, and later ones without
-IsAlone-begin : (bytes : List ℕ) → 3 ≤ length bytes → 128 ≤ slice_index bytes 0 → IsSevenBit (drop 1 bytes)
+IsAlone-begin : (bytes : List ℕ) → 3 ≤ length bytes → 128 ≤ slice_index bytes 0 → SevenByRecursion (drop 1 bytes)
     → IsAlone bytes
 IsAlone-begin [] long top seven = absurd (omega arith)
 IsAlone-begin (b ∷ bytes) long top seven = IsAlone-from b bytes top seven
 
 -- they are one segment
 pub IsAlone-whole : (g : List ℕ) → IsWholeMessage g → IsAlone g
-IsAlone-whole g w = IsAlone-begin g w.long w.first w.later
+IsAlone-whole g w = IsAlone-begin g w.long w.first (by_recursion (drop 1 g) w.later)
 
 -- its message ends at its end
 pub verdict-of_whole : (g : List ℕ) → IsWholeMessage g → verdict g ≡ Some (at_place (length g) (message_event g))

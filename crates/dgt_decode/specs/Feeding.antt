@@ -1,14 +1,14 @@
 -- What a reader that holds an unfinished message does with a piece: it uses the bytes up to and
 -- including the first one that makes an event.
 use Rattle.std.specs.Prelude.{◌≡◌, ℕ, ◌+◌, ◌<◌, ◌≤◌, List, [], ◌∷◌, ◌++◌, length, map, ◌-◌, drop, take, slice_index, option_map, Option, Some, None}
-use Rattle.dgt_values.specs.Bytes.{number}
+use Rattle.dgt_values.specs.Bytes.{number, AreSevenBit}
 use Rattle.dgt_message.specs.Content.{content}
 use Rattle.dgt_decode.specs.declared.decoder.Fed.{Fed}
 use Rattle.dgt_decode.specs.declared.event.Event as code
 use Rattle.dgt_decode.specs.declared.event.Event.TheVariants as code_events
 use Rattle.dgt_decode.specs.declared.event.Found.{Found}
 use Rattle.dgt_decode.specs.declared.event.Found.TheVariants as found
-use Rattle.dgt_decode.specs.Grammar.{Event, Message, Refused, Cut, BadLength, Stray, Placed, IsSevenBit, announced_total, at_place, events, message_event}
+use Rattle.dgt_decode.specs.Grammar.{Event, Message, Refused, Cut, BadLength, Stray, Placed, announced_total, at_place, events, message_event}
 
 -- Used is the least number of the piece's bytes with which there is an event, and this is it.
 -- With none the whole piece is used.
@@ -55,6 +55,6 @@ at_place_if_any place (Some event) = at_place place event ∷ []
 -- the bytes of one message, and no more
 pub record IsWholeMessage (bytes : List ℕ) : Type 0 where
   pub first : 128 ≤ slice_index bytes 0
-  pub later : IsSevenBit (drop 1 bytes)
+  pub later : AreSevenBit (drop 1 bytes)
   pub long : 3 ≤ length bytes
   pub whole : announced_total bytes ≡ length bytes

@@ -2,16 +2,11 @@
 -- part before the first cut is the lead, the others are segments. Bytes of the lead are stray. A
 -- segment begins with a header of three bytes, which says how long the message is; bytes of the
 -- segment behind its message are stray.
-use Rattle.std.specs.Prelude.{ℕ, ◌+◌, ◌-◌, ◌<◌, Bool, List, [], ◌∷◌, ◌++◌, length, take, drop, Option, Some, None, Result, Ok, Err, nat_lt, nat_le, slice_index, if◌then◌else◌}
-use Rattle.std.specs.List.{AllByRecursion}
+use Rattle.std.specs.Prelude.{ℕ, ◌+◌, ◌-◌, Bool, List, [], ◌∷◌, ◌++◌, length, take, drop, Option, Some, None, Result, Ok, Err, nat_lt, nat_le, slice_index, if◌then◌else◌}
 use Rattle.dgt_message.specs.declared.viewing.BodyFault.{BodyFault}
 use Rattle.dgt_message.specs.Content.{Content}
 use Rattle.dgt_message.specs.Reading.{reading}
 use Rattle.dgt_message.specs.Spelling.{total}
-
--- all members below 128
-abbrev pub IsSevenBit : List ℕ → Type 0
-IsSevenBit bytes = AllByRecursion (λ b. b < 128) bytes
 
 -- what a byte makes known
 pub data Event : Type 0 where

@@ -1,19 +1,20 @@
 -- What the laws of the grammar speak of, and those that proofs above take as they stand.
 use Rattle.std.specs.Prelude.{◌≡◌, ℕ, ◌+◌, ◌-◌, ◌≤◌, List, [], ◌∷◌, ◌++◌, length, take, Option}
 use Rattle.std.specs.List.{AllByRecursion, flat_map, concat}
+use Rattle.dgt_values.specs.Bytes.{AreSevenBit}
 use Rattle.dgt_message.specs.Content.{Content, IsMessage}
 use Rattle.dgt_message.specs.Spelling.{spelling}
-use Rattle.dgt_decode.specs.Grammar.{Message, IsSevenBit, Event, Placed, at_place, events_behind, cut_of, events, open_message}
+use Rattle.dgt_decode.specs.Grammar.{Message, Event, Placed, at_place, events_behind, cut_of, events, open_message}
 use Rattle.dgt_decode.specs.Feeding.{FirstEvent, at_place_if_any, piece_events}
 
 -- a byte with a set top bit, and seven-bit bytes behind it
 abbrev pub IsSegment : List ℕ → Type 0
 IsSegment [] = ⊥
-IsSegment (b ∷ bytes) = (128 ≤ b) × IsSevenBit bytes
+IsSegment (b ∷ bytes) = (128 ≤ b) × AreSevenBit bytes
 
 -- these are a seven-bit front and segments, and in a row they are the list
 pub record CutsInto (front : List ℕ) (parts : List (List ℕ)) (s : List ℕ) : Type 0 where
-  pub front_is : IsSevenBit front
+  pub front_is : AreSevenBit front
   pub parts_are : AllByRecursion IsSegment parts
   pub in_a_row : front ++ concat parts ≡ s
 

@@ -1,11 +1,12 @@
 -- What a framer keeps, and what it does with one byte or with a run of bytes.
 use Rattle.std.specs.Prelude.{◌≡◌, ℕ, ◌+◌, ◌<◌, ◌≤◌, List, [], ◌++◌, length, take, drop, slice_index, option_map, Option, Some}
+use Rattle.dgt_values.specs.Bytes.{AreSevenBit}
 use Rattle.dgt_decode.specs.declared.event.Event.{Event as CodeEvent}
 use Rattle.dgt_decode.specs.declared.event.Found.{Found}
 use Rattle.dgt_decode.specs.declared.event.Found.TheVariants as found
 use Rattle.dgt_decode.specs.declared.framer.FramerState.{FramerState}
 use Rattle.dgt_decode.specs.declared.framer.FramerState.TheVariants.{Hunting, Head, Body, Whole}
-use Rattle.dgt_decode.specs.Grammar.{IsSevenBit, Placed, announced_total, at_place, open_message}
+use Rattle.dgt_decode.specs.Grammar.{Placed, announced_total, at_place, open_message}
 use Rattle.dgt_decode.specs.Feeding.{FirstEvent, IsWholeMessage, event_content, event_found_in}
 
 -- how far the bytes that are kept have come, by the framer's state
@@ -35,7 +36,7 @@ pub record FramesFront (kept rest : List ℕ) (used : ℕ) (new : List ℕ) (wha
 -- A message of so many bytes begins with the first of these, and all of its header has come.
 pub record Begins (total : ℕ) (bytes : List ℕ) : Type 0 where
   pub first : 128 ≤ slice_index bytes 0
-  pub header : IsSevenBit (take 2 (drop 1 bytes))
+  pub header : AreSevenBit (take 2 (drop 1 bytes))
   pub enough : 3 ≤ length bytes
   pub is : total ≡ announced_total bytes
   pub large : 3 ≤ total

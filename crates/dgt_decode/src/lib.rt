@@ -12,6 +12,9 @@
 //! However the bytes are cut into pieces, the events are those of the bytes in a row
 //! (`laws::in_any_pieces`), and after any bytes messages are read whole again (`laws::recovery`).
 //!
+//! [`plain`] computes all events of a list of bytes at once, by the grammar itself. It is slow, and
+//! there to compare a reader with.
+//!
 //! Contracts see a decoder as the bytes of its unfinished message. `events` are the events of a
 //! list of bytes, each with its place, and `open_message` is what the list leaves unfinished
 //! (`specs/Grammar.antt`); `FirstEvent` is what one call does with a piece, and `piece_events` are
@@ -31,10 +34,7 @@ mod kept;
 mod lanes;
 pub mod laws;
 mod listening;
-#[cfg(test)]
-mod plain;
-#[cfg(test)]
-mod tests;
+pub mod plain;
 
 pub use decoder::{Decoder, Fed, Unfinished};
 pub use event::{Event, Found};

@@ -1,5 +1,6 @@
 //! All events of a list of bytes, in a plain and slow way: the list is cut before each byte with a
-//! set top bit, and each part is judged whole.
+//! set top bit, and each part is judged whole. A [`Decoder`](crate::Decoder) tells the same events
+//! without the list.
 
 ghost use Rattle.std.specs.Prelude.{◌≡◌, ◌≤◌, ◌<◌, ◌+◌, ◌^◌, [], ◌++◌, length, map, take, if◌then◌else◌, IfOk, IfSome, OnOk, option_map};
 ghost use Rattle.dgt_decode.specs.Grammar.{cut_of, events, events_behind, lead, segment_events, strays, unfinished_part, verdict};
@@ -87,7 +88,8 @@ fn push_segment<'a>(
     Ok(())
 }
 
-/// All events of the bytes, in order, with their places.
+/// All events of the bytes, in order, each with the number of bytes up to and including the one
+/// that makes it. Refused memory is `AllocError`.
 pub fn events_of(alloc: Global, bytes: &[u8]) -> Result<Vec<Told<'_>>, AllocError>
     ensures { IfOk result (λ told. map placed_content told.items ≡ events bytes.now) }
 {

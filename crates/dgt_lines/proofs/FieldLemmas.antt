@@ -2,6 +2,7 @@
 use Rattle.std.proofs.Common.{◌≡◌, ℕ, ◌<◌, List, [], ◌∷◌, Ok, ap, arith, drop, length, refl, slice_index}
 use Rattle.std.specs.Prelude.{◌↔◌}
 use Rattle.std.proofs.lemmas.List.Elements.{All-from_recursion}
+use Rattle.dgt_values.specs.Bytes.{AreSevenBit}
 use Rattle.dgt_values.specs.Board.{piece_code, square_number}
 use Rattle.dgt_values.specs.declared.pieces.Piece.{Piece}
 use Rattle.dgt_values.specs.declared.squares.Square.{Square}
@@ -9,7 +10,7 @@ use Rattle.dgt_message.specs.Content.{Content, IsCarried}
 use Rattle.dgt_message.specs.Content.Content.{field}
 use Rattle.dgt_message.specs.Spelling.{Fits}
 use Rattle.dgt_message.specs.Reading.{reading}
-use Rattle.dgt_decode.specs.Grammar.{IsSevenBit, Message, message_event, reading_event}
+use Rattle.dgt_decode.specs.Grammar.{Message, message_event, reading_event}
 
 -- a message that fits a code and a body is their reading
 abbrev pub IsRead : Type 0
@@ -28,12 +29,12 @@ field_read exact square piece s p small small' e f =
       spelled = rw (e, f) refl;
     }
 
-pub field_told : IsRead → (bytes : List ℕ) (square : Square) (piece : Piece) → IsSevenBit (drop 1 bytes)
+pub field_told : IsRead → (bytes : List ℕ) (square : Square) (piece : Piece) → AreSevenBit (drop 1 bytes)
     → length bytes ≡ 5 → slice_index bytes 0 ≡ 142
     → slice_index bytes 3 < 64 → square_number square ≡ slice_index bytes 3 → piece_code piece ≡ slice_index bytes 4
     → message_event bytes ≡ Message (field (square_number square) piece)
 field_told exact (a ∷ b ∷ c ∷ s ∷ p ∷ []) square piece seven five code small e f =
-    rw code (ap (reading_event 14) (field_read exact square piece s p small seven.1.1.1.0 e f))
+    rw code (ap (reading_event 14) (field_read exact square piece s p small (seven 3 0 (omega arith)) e f))
 field_told exact [] square piece seven five code small e f = absurd (omega arith)
 field_told exact (a ∷ []) square piece seven five code small e f = absurd (omega arith)
 field_told exact (a ∷ b ∷ []) square piece seven five code small e f = absurd (omega arith)

@@ -19,7 +19,7 @@ use Rattle.dgt_link.specs.Machine.{IsHostBreak, Move, MachineState, new_state, a
 use Rattle.dgt_link.specs.Sound.{IsSound, IsExact, coming_kinds, kind_of_event, kind_of_reply}
 use Rattle.dgt_link.proofs.Subsequences.{subsequence_at_end, subsequence_append, awaited_after-subsequence}
 use Rattle.dgt_link.proofs.Subsequences.{awaited_exactly, one_more, moved_over}
-use Rattle.dgt_link.proofs.Telling.{Tells, field_tells, clock_tells, reply_tells, reply_message-kind}
+use Rattle.dgt_link.proofs.Telling.{ToldIsHeard, field_tells, clock_tells, reply_tells, reply_message-kind}
 use Rattle.dgt_link.proofs.Telling.{clock_message-kind, picture_told, clock_told_of, clock_after_all-append}
 use Rattle.dgt_link.proofs.Telling.{followed_after, handed_or_told}
 use Rattle.dgt_command.specs.Words.{IsNoiseList}
@@ -41,7 +41,8 @@ send-kinds x owed message first =
     (filter_map kind_of_event x.down)
     ∙ ap (λ (owed : List Kind). filter_map kind_of x.up ++ (owed ++ filter_map kind_of_event x.down)) (sym first)
 
-send_sound : (x : MachineState) (owed : List Reply) (message : Content) → Tells (record x.board { owed = owed }) message
+send_sound : (x : MachineState) (owed : List Reply) (message : Content)
+    → ToldIsHeard (record x.board { owed = owed }) message
     → filter_map kind_of_reply x.board.owed ≡ cons_option (kind_of message) (filter_map kind_of_reply owed) → IsSound x
     → IsSound (after_told (owing x owed) message)
 send_sound x owed message tells first sound =
@@ -54,7 +55,8 @@ send_sound x owed message tells first sound =
       awaited = rw (send-kinds x owed message first) sound.awaited;
     }
 
-send_exact : (x : MachineState) (owed : List Reply) (message : Content) → Tells (record x.board { owed = owed }) message
+send_exact : (x : MachineState) (owed : List Reply) (message : Content)
+    → ToldIsHeard (record x.board { owed = owed }) message
     → filter_map kind_of_reply x.board.owed ≡ cons_option (kind_of message) (filter_map kind_of_reply owed) → IsExact x
     → IsExact (after_told (owing x owed) message)
 send_exact x owed message tells first exact =

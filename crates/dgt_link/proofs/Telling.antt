@@ -86,7 +86,7 @@ handed_or_told Mode.UpdateBoard told clock h = absurd (false≢true h)
 handed_or_told Mode.UpdateNice told clock h = owed_or_told told clock
 
 -- what the board counts as told after a message is what the host then has
-pub record Tells (board : BoardState) (message : Content) : Type 0 where
+pub record ToldIsHeard (board : BoardState) (message : Content) : Type 0 where
   pub squares : length board.squares ≡ 64 → length board.told_squares ≡ 64
       → length (told_squares_after board message) ≡ 64
   pub picture : picture_after (Some board.told_squares) message ≡ Some (told_squares_after board message)
@@ -96,7 +96,7 @@ pub record Tells (board : BoardState) (message : Content) : Type 0 where
   pub followed : (told_clock_after board message ≡ Some board.clock) ⊎
       ((told_clock_after board message ≡ board.told_clock) × (times_owed_after board message ≡ board.times_owed))
 
-pub field_tells : (board : BoardState) (square : ℕ) → Tells board (field_of board square)
+pub field_tells : (board : BoardState) (square : ℕ) → ToldIsHeard board (field_of board square)
 field_tells board square =
     record {
       squares = λ s t. length-set board.told_squares square _ ∙ t;
@@ -108,7 +108,7 @@ field_tells board square =
     }
 
 clock_message_tells : (board : BoardState) (clock : ClockState) → board.clock ≡ clock
-    → Tells board (clock_message clock)
+    → ToldIsHeard board (clock_message clock)
 clock_message_tells board (ClockState.times readings) e =
     record {
       squares = λ s t. t;
@@ -128,7 +128,7 @@ clock_message_tells board (ClockState.no_clock absence) e =
       followed = inl refl;
     }
 
-pub clock_tells : (board : BoardState) → Tells board (clock_message board.clock)
+pub clock_tells : (board : BoardState) → ToldIsHeard board (clock_message board.clock)
 clock_tells board = clock_message_tells board board.clock refl
 
 -- a message that tells nothing of squares and clock
@@ -139,7 +139,7 @@ pub record IsPlain (board : BoardState) (message : Content) : Type 0 where
   pub clock : (seen : Option ClockState) → clock_after seen message ≡ seen
   pub times_owed : times_owed_after board message ≡ board.times_owed
 
-plain_tells : (board : BoardState) (message : Content) → IsPlain board message → Tells board message
+plain_tells : (board : BoardState) (message : Content) → IsPlain board message → ToldIsHeard board message
 plain_tells board message plain =
     record {
       squares = λ s t. ap length plain.squares ∙ t;
@@ -150,7 +150,7 @@ plain_tells board message plain =
       followed = inr (plain.told_clock, plain.times_owed);
     }
 
-pub reply_tells : (board : BoardState) (reply : Reply) → Tells board (reply_message board reply)
+pub reply_tells : (board : BoardState) (reply : Reply) → ToldIsHeard board (reply_message board reply)
 reply_tells board (Reply.Of Kind.Dump) =
     record {
       squares = λ s t. s;
@@ -183,7 +183,7 @@ seen_after : (told told' : List Piece) (message : Content) → picture_after (So
 seen_after told told' message known unknown seen (inl e) = rw e unknown
 seen_after told told' message known unknown seen (inr e) = inr (rw e known)
 
-pub picture_told : (board : BoardState) (message : Content) → Tells board message
+pub picture_told : (board : BoardState) (message : Content) → ToldIsHeard board message
     → (picture : Option (List Piece)) (up : List Content)
     → IsUnknownOr (picture_after_all picture up) (Some board.told_squares)
     → IsUnknownOr (picture_after_all picture (up ++ message ∷ [])) (Some (told_squares_after board message))
@@ -198,7 +198,7 @@ clock_seen_after : (told told' : Option ClockState) (message : Content) → cloc
 clock_seen_after told told' message known unknown seen (inl e) = rw e unknown
 clock_seen_after told told' message known unknown seen (inr e) = inr (rw e known)
 
-pub clock_told_of : (board : BoardState) (message : Content) → Tells board message
+pub clock_told_of : (board : BoardState) (message : Content) → ToldIsHeard board message
     → (clock : Option ClockState) (up : List Content) → IsUnknownOr (clock_after_all clock up) board.told_clock
     → IsUnknownOr (clock_after_all clock (up ++ message ∷ [])) (told_clock_after board message)
 clock_told_of board message tells clock up h =
@@ -207,7 +207,7 @@ clock_told_of board message tells clock up h =
     (clock_after_all clock up) h)
 
 -- the clock that is followed is told, or telling it is owed
-pub followed_after : (board : BoardState) (message : Content) → Tells board message
+pub followed_after : (board : BoardState) (message : Content) → ToldIsHeard board message
     → IsTrue board.times_owed ⊎ (board.told_clock ≡ Some board.clock)
     → IsTrue (times_owed_after board message) ⊎ (told_clock_after board message ≡ Some board.clock)
 followed_after board message tells before = go tells.followed before

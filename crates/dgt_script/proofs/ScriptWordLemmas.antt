@@ -29,7 +29,7 @@ use Rattle.dgt_message.specs.Spelling.{Fits, times_bytes}
 use Rattle.dgt_command.specs.Content.{CommandContent, Read}
 use Rattle.dgt_command.specs.Laws.{SpellingsTellCommands, WordsAreShort}
 use Rattle.dgt_command.specs.Spelling.{command_in, SpellsCommand}
-use Rattle.dgt_script.specs.ScriptWords.{IsClockWord, IsCommandWord, IsCountWord, IsHexOf, IsPieceWord, IsSquareWord, Tells}
+use Rattle.dgt_script.specs.ScriptWords.{IsClockWord, IsCommandWord, IsCountWord, IsHexOf, IsPieceWord, IsSquareWord, TellsClock}
 
 -- ---- What a call answers
 
@@ -224,7 +224,7 @@ clock_not_faulty exact refused word bytes clock why e h r =
 -- what a message of these bytes tells of the clock is what the word tells
 pub clock_told : IsRead → (word bytes : List ℕ) (said : Content) (r : Option Clock) → decode_sized word 7 ≡ Ok bytes
     → Fits said (known_number KnownCode.Clock) bytes
-    → MatchOption r ((clock : ClockState) → ¬ (Tells said clock)) (λ clock. Tells said (clock_seen clock))
+    → MatchOption r ((clock : ClockState) → ¬ (TellsClock said clock)) (λ clock. TellsClock said (clock_seen clock))
     → MatchOption r ((clock : ClockState) → ¬ (IsClockWord word clock)) (λ clock. IsClockWord word (clock_seen clock))
 clock_told exact word bytes said None e f m =
     λ clock h. m clock (one_message exact clock said bytes (clock_fits word bytes clock e h) f)

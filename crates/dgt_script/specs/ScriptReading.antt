@@ -20,8 +20,8 @@ GoesWrongBefore kinds parts wrong = (bad : List (List ℕ)) × GoesWrong kinds p
     × (wrong.left ≡ length (words_text bad))
 
 -- the answer to the words behind the first one
-abbrev pub Reads : Verb → List (List ℕ) → Result Act Wrong → Type 0
-Reads verb parts answer =
+abbrev pub ReadsBehind : Verb → List (List ℕ) → Result Act Wrong → Type 0
+ReadsBehind verb parts answer =
     MatchResult answer (λ act. Asks (verb_text verb ∷ parts) (act_content act))
     (λ wrong. GoesWrongBefore (kinds_after verb) parts wrong)
 

@@ -41,8 +41,8 @@ abbrev pub IsHexOf : List ℕ → List ℕ → Type 0
 IsHexOf word bytes = decode_of word ≡ Ok bytes
 
 -- the message tells of this clock
-abbrev pub Tells : Content → ClockState → Type 0
-Tells said clock = clock_message clock ≡ said
+abbrev pub TellsClock : Content → ClockState → Type 0
+TellsClock said clock = clock_message clock ≡ said
 
 -- hexadecimal digits of the body of the message that tells of the clock
 pub record IsClockWord (word : List ℕ) (clock : ClockState) : Type 0 where

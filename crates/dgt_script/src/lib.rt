@@ -16,8 +16,6 @@ pub mod laws;
 mod script;
 mod script_lines;
 mod script_words;
-#[cfg(test)]
-mod tests;
 
 pub use closing::{outcome_text, write_closing};
 pub use cutting::len_before;

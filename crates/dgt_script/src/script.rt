@@ -4,7 +4,7 @@ ghost use Rattle.std.specs.Prelude.{◌≡◌, [], ◌∷◌, length, IfOk, IfEr
 ghost use Rattle.dgt_link.specs.Act.{act_content};
 ghost use Rattle.dgt_lines.specs.Lines.{words_text};
 ghost use Rattle.dgt_script.specs.Script.{bad_offset, words, AsksFor, IsBadAt};
-ghost use Rattle.dgt_script.specs.ScriptReading.{left_words, GoesWrongBefore, Reads, ReadsCount, ReadsLine};
+ghost use Rattle.dgt_script.specs.ScriptReading.{left_words, GoesWrongBefore, ReadsBehind, ReadsCount, ReadsLine};
 ghost use Rattle.dgt_script.specs.declared.script_words.Verb.TheVariants as verb;
 
 use crate::cutting::len_before;
@@ -96,7 +96,7 @@ fn read_words<'a>(line: &[u8], store: &'a mut [u8; MAX_WORD]) -> Result<Act<'a>,
 
 // Below, `rest` is what stands behind the first word and its space.
 fn change_line(rest: Option<&[u8]>) -> Result<Act<'static>, Wrong>
-    ensures { Reads verb.Change (left_words rest.entry) result }
+    ensures { ReadsBehind verb.Change (left_words rest.entry) result }
 {
     let (word, later) = next_word(rest)?;
     let Some(square) = square_word(word) else {
@@ -111,7 +111,7 @@ fn change_line(rest: Option<&[u8]>) -> Result<Act<'static>, Wrong>
 }
 
 fn clock_line(rest: Option<&[u8]>) -> Result<Act<'static>, Wrong>
-    ensures { Reads verb.Clock (left_words rest.entry) result }
+    ensures { ReadsBehind verb.Clock (left_words rest.entry) result }
 {
     let (word, last) = next_word(rest)?;
     let Some(clock) = clock_word(word) else {
@@ -122,7 +122,7 @@ fn clock_line(rest: Option<&[u8]>) -> Result<Act<'static>, Wrong>
 }
 
 fn host_line<'a>(rest: Option<&[u8]>, store: &'a mut [u8; MAX_WORD]) -> Result<Act<'a>, Wrong>
-    ensures { Reads verb.Host (left_words rest.entry) result }
+    ensures { ReadsBehind verb.Host (left_words rest.entry) result }
 {
     let (word, last) = next_word(rest)?;
     let Some(command) = command_word(word, store) else {

@@ -6,7 +6,7 @@ ghost use Rattle.dgt_values.specs.Board.{square_number};
 ghost use Rattle.dgt_message.specs.Content.{clock_seen, content};
 ghost use Rattle.dgt_message.specs.Clock.{ClockState};
 ghost use Rattle.dgt_command.specs.Content.{command_content, CommandContent};
-ghost use Rattle.dgt_script.specs.ScriptWords.{verb_text, IsClockWord, IsCommandWord, IsCountWord, IsPieceWord, IsSquareWord, Tells};
+ghost use Rattle.dgt_script.specs.ScriptWords.{verb_text, IsClockWord, IsCommandWord, IsCountWord, IsPieceWord, IsSquareWord, TellsClock};
 ghost use Rattle.dgt_script.specs.declared.script_words.Verb.{Verb};
 
 use dgt_command::{Command, MAX_WORD, view_command};
@@ -83,8 +83,8 @@ pub(crate) fn clock_word(word: &[u8]) -> Option<Clock>
 // The clock that a message tells of.
 fn clock_of(message: Message<'_>) -> Option<Clock>
     ensures { MatchOption result
-        ((clock : ClockState) → ¬ (Tells (content message.entry) clock))
-        (λ clock. Tells (content message.entry) (clock_seen clock)) }
+        ((clock : ClockState) → ¬ (TellsClock (content message.entry) clock))
+        (λ clock. TellsClock (content message.entry) (clock_seen clock)) }
 {
     match message {
         Message::Times(times) => Some(Clock::Times(times)),

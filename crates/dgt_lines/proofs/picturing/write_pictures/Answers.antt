@@ -1,4 +1,4 @@
-use Rattle.std.proofs.Common.{arith, ◌+◌, ◌∙◌, sym, ap, take, [], append-nil, refl}
+use Rattle.std.proofs.Common.{arith, ◌+◌, sym, take, [], refl}
 use Rattle.std.proofs.lemmas.List.{take_all}
 use Rattle.dgt_decode.specs.Feeding.{event_found_in}
 use Rattle.dgt_decode.specs.Grammar.{open_message}

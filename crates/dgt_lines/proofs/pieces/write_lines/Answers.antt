@@ -1,4 +1,4 @@
-use Rattle.std.proofs.Common.{arith, ◌∙◌, sym, ap, take, [], append-nil}
+use Rattle.std.proofs.Common.{arith, sym, take, []}
 use Rattle.std.proofs.lemmas.List.{take_all}
 use Rattle.dgt_decode.specs.Feeding.{event_found_in}
 use Rattle.dgt_lines.specs.Lines.{lines_after}

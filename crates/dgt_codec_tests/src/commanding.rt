@@ -2,7 +2,11 @@
 
 ghost use Rattle.std.specs.Prelude.{◌≤◌, length};
 
-use super::*;
+use crate::plain_commands;
+use dgt_command::{
+    AdvancedWord, ClockCommand, Command, CommandDecoder, CommandEvent, FoundWord, LedBytes,
+    Payload, RawClock, WordFramer, display, encode, length, view_command,
+};
 use dgt_values::{Known, NoRoom, NoSegment, TooMuch};
 use std::alloc::{AllocError, Global};
 use std::process::Abort;
@@ -148,14 +152,14 @@ fn is_spelled(bytes: &[u8], command: Command<'_>) -> bool {
         && is_read(bytes, &events, 0)
 }
 
-// The bytes, cut in two at this place, are read as the plain program says.
+// The bytes, cut in two at this place, are read as the plain reader says.
 fn assert_as_plain(
     rt: &impl Abort,
     alloc: Global,
     bytes: &[u8],
     cut: usize,
 ) -> Result<(), AllocError> {
-    let (events, rest) = plain::events_of(alloc, bytes)?;
+    let (events, rest) = plain_commands::events_of(alloc, bytes)?;
     assert!(rt; is_read_cut(bytes, cut, &events, rest), "{bytes:?} {cut}");
     Ok(())
 }

@@ -1,13 +1,9 @@
-//! The decoder, and the plain program beside it, over the same bytes.
+//! The decoder, and the plain reader beside it, over the same bytes.
 
 ghost use Rattle.std.specs.Prelude.{◌≡◌, ◌≤◌, ◌<◌, length};
 
-use crate::decoder::{Decoder, Unfinished};
-use crate::event::{Event, Found};
-use crate::framer::Framer;
-use crate::lanes::first_top;
-use crate::listening::Listener;
-use crate::plain::{self, Told};
+use dgt_decode::plain::{self, Told};
+use dgt_decode::{Decoder, Event, Found, Framer, Listener, Unfinished, first_top};
 use dgt_message::{BodyFault, Message, Reading};
 use dgt_values::SevenBit;
 use std::alloc::{AllocError, Global};
@@ -292,7 +288,7 @@ fn feed_as_told<'a, 'b>(
     left
 }
 
-/// The bytes in two pieces, cut at this place, come to what the plain program says of all of them.
+/// The bytes in two pieces, cut at this place, come to what the plain reader says of all of them.
 fn assert_as_plain(
     rt: &impl Abort,
     alloc: Global,
@@ -335,7 +331,7 @@ fn assert_lines(rt: &impl Abort, lines: &[String], told: &[&str]) {
 }
 
 #[test]
-fn each_row_by_the_plain_program(rt: HostRuntime) -> Result<(), Fail> {
+fn each_row_by_the_plain_reader(rt: HostRuntime) -> Result<(), Fail> {
     for row in &ROWS {
         assert_lines(&rt, &plain_lines(rt.alloc(), row.bytes)?, row.told);
     }

@@ -1,7 +1,6 @@
 //! Lines in pieces, and lines that are too long.
 
-use crate::cutting::len_before;
-use crate::script_lines::LineBuffer;
+use dgt_script::{LineBuffer, len_before};
 use std::process::Abort;
 
 // The line of three pieces.

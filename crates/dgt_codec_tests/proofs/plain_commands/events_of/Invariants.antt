@@ -1,5 +1,5 @@
 use Rattle.std.proofs.Common.{length, ◌-◌, ◌≤◌}
-use Rattle.dgt_command.proofs.plain.events_of.Given as goal
+use Rattle.dgt_codec_tests.proofs.plain_commands.events_of.Given as goal
 
 abbrev pub invariant-loop-length : goal.invariant-loop-length
 invariant-loop-length l = l.at ≤ length l.bytes

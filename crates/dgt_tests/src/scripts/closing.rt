@@ -1,12 +1,12 @@
 //! What is written of outcomes, and of worlds at the end.
 
-use crate::{outcome_text, write_closing};
 use arrayvec::ArrayVec;
 use dgt_board::Identity;
 use dgt_command::Command;
 use dgt_lines::{Device, RunFault};
 use dgt_link::{Act, Outcome, World};
 use dgt_message::{Clock, NoClock, Reading, Status, Times};
+use dgt_script::{outcome_text, write_closing};
 use dgt_values::{Body, Piece, Position, SevenBit, Square};
 use std::alloc::Global;
 use std::io;

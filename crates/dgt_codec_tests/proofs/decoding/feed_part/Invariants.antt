@@ -1,5 +1,5 @@
 use Rattle.std.proofs.Common.{◌-◌, ◌≤◌}
-use Rattle.dgt_decode.proofs.tests.feed_as_told.Given as goal
+use Rattle.dgt_codec_tests.proofs.decoding.feed_part.Given as goal
 
 abbrev pub invariant-loop-at : goal.invariant-loop-at
 invariant-loop-at g l = l.at ≤ l.to

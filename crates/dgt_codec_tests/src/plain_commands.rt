@@ -3,8 +3,7 @@
 
 ghost use Rattle.std.specs.Prelude.{◌≤◌, ◌<◌, length, IfSome};
 
-use crate::command::CommandEvent;
-use crate::viewing::view_command;
+use dgt_command::{CommandEvent, view_command};
 use std::alloc::{AllocError, Global};
 
 /// An event, and the number of bytes up to and including the last of its word.

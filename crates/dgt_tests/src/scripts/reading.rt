@@ -1,9 +1,9 @@
 //! Lines of a script: the acts that they ask for, and where they go wrong.
 
-use crate::{LineFault, read_act};
 use dgt_command::{ClockCommand, Command, LedBytes};
 use dgt_link::Act;
 use dgt_message::{Clock, Reading, Status, Times};
+use dgt_script::{LineFault, read_act};
 use dgt_values::{Piece, SevenBit, Square};
 use std::test::Fail;
 

@@ -1,0 +1,15 @@
+-- Seven-bit bytes as proofs go down a list, and as clauses say it.
+use Rattle.std.proofs.Common.{ℕ, ◌<◌, List}
+use Rattle.std.specs.List.{AllByRecursion}
+use Rattle.std.proofs.lemmas.List.Elements.{All-from_recursion, recursion_from_All}
+use Rattle.dgt_values.specs.Bytes.{AreSevenBit}
+
+-- the first is seven-bit, and so are the others
+abbrev pub SevenByRecursion : List ℕ → Type 0
+SevenByRecursion bytes = AllByRecursion (λ byte. byte < 128) bytes
+
+pub are_seven : (bytes : List ℕ) → SevenByRecursion bytes → AreSevenBit bytes
+are_seven bytes seven = All-from_recursion _ bytes seven
+
+pub by_recursion : (bytes : List ℕ) → AreSevenBit bytes → SevenByRecursion bytes
+by_recursion bytes seven = recursion_from_All _ bytes seven
