@@ -20,7 +20,8 @@ input, a line each:
     mute      it answers nothing from now on
     quit
 
-It says on standard output which commands it was sent, and when it is ready.
+It says on standard output which commands it was sent, and when it is ready: at the start, and once
+a line was obeyed.
 """
 
 import os
@@ -160,6 +161,7 @@ def main():
                     return port.unplug()
                 if step:
                     hands.obey(*step.decode().split())
+                    print("ready", flush=True)
             if not data:
                 return port.unplug()
 
