@@ -2,6 +2,7 @@
 use Rattle.std.proofs.Common.{arith, ◌≡◌, ◌≢◌, ◌↔◌, refl, ap, sym, subst, ◌∙◌, ◌==◌, ℕ, zero, suc, ◌+◌, ◌<◌, ◌≤◌, List, [], ◌∷◌, ◌++◌, map, Some, None, Bool, true, false, cond, not, length, drop, slice_get, length-append, get_or-set_same, get_or-set_other}
 use Rattle.std.proofs.lemmas.Bool.{eqb-true, eq-eqb, false≢true}
 use Rattle.std.proofs.lemmas.List.{length-map}
+use Rattle.std.proofs.lemmas.Option.{same_Some}
 use Rattle.std.proofs.lemmas.List.FromFn.{length-range_with_len}
 use Rattle.std.specs.Prelude.{filter}
 use Rattle.std.specs.List.{range_with_len}
@@ -221,10 +222,6 @@ unfolding every_square
 square_below true test at rest e = let below = first_below test 0 64 at rest e in omega (arith, below)
 square_below false test at rest e = cc
 
--- what two options hold is the same where they are
-some_same : {X : Type 0} (x y : X) → Some x ≡ Some y → x ≡ y
-some_same x y h = cc
-
 -- each message that is sent leaves less, also by the squares that the mode doesn't ask for
 pub next_lowers : (asks : Bool) (board : BoardState) (message : Content) → (updates board.mode ≡ true → asks ≡ true)
     → length board.told_squares ≡ 64 → next_message board ≡ Some message
@@ -243,12 +240,12 @@ next_lowers asks board message more all next = go board.owed (untold_squares boa
         → board.owed ≡ owed → untold_squares board ≡ squares → board.times_owed ≡ times
         → slice_get (pending owed squares times) 0 ≡ Some message → Lowers message
     go (reply ∷ rest) squares times e f g h =
-        subst Lowers (some_same (reply_message board reply) message h) (reply_lowers asks board reply rest e)
+        subst Lowers (same_Some (reply_message board reply) message h) (reply_lowers asks board reply rest e)
     go [] (square ∷ rest) times e f g h =
         let within : square < length board.told_squares =
         rw all (square_below (updates board.mode) (differs board) square rest f) in
-        subst Lowers (some_same (field_of board square) message h) (field_lowers asks board square rest more within e f)
-    go [] [] true e f g h = subst Lowers (some_same (clock_message board.clock) message h) (times_lower asks board e g)
+        subst Lowers (same_Some (field_of board square) message h) (field_lowers asks board square rest more within e f)
+    go [] [] true e f g h = subst Lowers (same_Some (clock_message board.clock) message h) (times_lower asks board e g)
     go [] [] false e f g h = cc
 
 -- so less is left to send
@@ -264,7 +261,7 @@ sending_lowers board message all next =
 first_mapped : (f : ℕ → Content) (xs : List ℕ) (others : List Content) (x : ℕ) → slice_get xs 0 ≡ Some x
     → slice_get (map f xs ++ others) 0 ≡ Some (f x)
 first_mapped f [] others x h = cc
-first_mapped f (y ∷ ys) others x h = ap Some (ap f (some_same y x h))
+first_mapped f (y ∷ ys) others x h = ap Some (ap f (same_Some y x h))
 
 no_first : {X : Type 0} (xs : List X) → slice_get xs 0 ≡ None → xs ≡ []
 no_first [] h = refl

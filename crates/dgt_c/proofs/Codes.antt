@@ -1,26 +1,8 @@
--- Lists of numbers that are written one by one.
-use Rattle.std.proofs.Common.{◌≡◌, ℕ, suc, ◌+◌, ◌<◌, ◌≤◌, refl, sym, ◌∙◌, List, ◌++◌, length, map, take, drop, set, get_or, arith, drop-cons}
-use Rattle.std.proofs.lemmas.List.{take_more, take_more_set, get_or-map, map-set, length-map, length-take, take_all}
+-- Lists of numbers that are written or read one by one.
+use Rattle.std.proofs.Common.{◌≡◌, ℕ, suc, ◌+◌, ◌<◌, refl, List, ◌++◌, length, map, take, drop, set, get_or, arith, drop-cons}
+use Rattle.std.proofs.lemmas.List.{take_more, take_more_set, map-set, length-map, length-take}
 use Rattle.std.proofs.lemmas.Grind.{common_steps}
 use Rattle.std.proofs.Math.Seq.{set-append_seam}
-
--- one more number is in its place
-pub one_more_written : {A : Type 0} (f : A → ℕ) (xs : List A) (ys : List ℕ) (i : ℕ) (d : A) → i < length xs
-    → i < length ys
-    → take i ys ≡ take i (map f xs) → take (i + 1) (set ys i (f (get_or xs i d))) ≡ take (i + 1) (map f xs)
-one_more_written f xs ys i d h k e =
-    let within : i < length (map f xs) = omega (arith, length-map xs f) in
-    let a = take_more_set ys i (f (get_or xs i d)) k in
-    let b = take_more (map f xs) i 0 within in
-    let v = get_or-map f xs i d 0 h in
-    rw (a, b, v, e) refl
-
--- all the numbers are in their places
-pub all_written : (xs ys : List ℕ) (n i : ℕ) → length xs ≡ n → length ys ≡ n → n ≤ i → take i xs ≡ take i ys → xs ≡ ys
-all_written xs ys n i h k m e =
-    let a : length xs ≤ i = omega arith in
-    let b : length ys ≤ i = omega arith in
-    sym (take_all i xs a) ∙ e ∙ take_all i ys b
 
 -- one more number stands in front of what was there
 pub one_more_in_front : {A : Type 0} (f : A → ℕ) (xs : List A) (old : List ℕ) (i : ℕ) (d : A) → i < length xs

@@ -14,7 +14,6 @@ ghost use Rattle.dgt_c.specs.Boards.{PollsTold, Takes, mode_number};
 use crate::board::DgtBoard;
 use crate::clocks::{DgtClock, clock_told, read_clock};
 use crate::commands::{DgtCommand, NO_WORD, tell_command};
-use crate::events::piece_codes;
 use dgt_board::{MAX_SENT, Mode, Polled};
 use dgt_values::{Piece, Square};
 
@@ -185,7 +184,7 @@ pub extern "C" fn dgt_board_position(board: &mut DgtBoard, pieces: &mut [u8; 64]
     ensures same { board.new.inside ≡ board.old.inside }
     ensures pieces { pieces.new ≡ map piece_code board.old.inside.state.squares }
 {
-    *pieces = piece_codes(board.get().position());
+    *pieces = board.get().position().codes();
 }
 
 /// What the clock shows.

@@ -1,7 +1,6 @@
 //! What C is told of an event.
 
 ghost use Rattle.std.specs.Prelude.{◌≡◌, length, map};
-ghost use Rattle.dgt_values.specs.Board.{piece_code, pieces_of};
 ghost use Rattle.dgt_values.specs.Bytes.{body_bytes, number};
 ghost use Rattle.dgt_message.specs.Code.{known_number};
 ghost use Rattle.dgt_message.specs.Content.{content};
@@ -11,7 +10,7 @@ ghost use Rattle.dgt_c.specs.Told.{body_said, event_told, message_told, refused_
 use crate::clocks::{DgtClock, UNKNOWN_CLOCK, absence_told, times_told};
 use dgt_decode::Event;
 use dgt_message::{BodyFault, KnownCode, Message};
-use dgt_values::{Body, Position, SevenBit};
+use dgt_values::{Body, SevenBit};
 
 pub const EVENT_NONE: u8 = 0;
 
@@ -99,18 +98,6 @@ pub const NOTHING: DgtEvent = DgtEvent {
     body_len: 0,
 };
 
-/// The codes of the pieces of a position.
-pub(crate) fn piece_codes(position: &Position) -> [u8; 64]
-    ensures { result ≡ map piece_code (pieces_of position.now) }
-{
-    let pieces = position.pieces();
-    let mut codes = [0; 64];
-    for (index, piece) in pieces.iter().enumerate() {
-        codes[index] = piece.code();
-    }
-    codes
-}
-
 fn serial_numbers(serial: &[SevenBit; 5]) -> [u8; 5]
     ensures { result ≡ map number serial.now }
 {
@@ -150,7 +137,7 @@ fn tell_message(message: &Message<'_>, out: &mut DgtEvent)
     match message {
         Message::Dump(position) => {
             out.kind = EVENT_DUMP;
-            out.pieces = piece_codes(position);
+            out.pieces = position.codes();
         }
         Message::Field { square, piece } => {
             out.kind = EVENT_FIELD;

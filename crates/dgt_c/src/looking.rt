@@ -9,7 +9,6 @@ ghost use Rattle.dgt_c.specs.Slices.{with_text};
 
 use crate::clocks::{DgtClock, UNKNOWN_CLOCK, clock_told};
 use crate::copying::put_placement;
-use crate::events::piece_codes;
 use crate::host::DgtHost;
 use dgt_host::MAX_AWAITED;
 use dgt_values::Kind;
@@ -25,7 +24,7 @@ pub extern "C" fn dgt_host_picture(host: &mut DgtHost, pieces: &mut [u8; 64]) ->
 {
     match host.get().picture() {
         Some(position) => {
-            *pieces = piece_codes(position);
+            *pieces = position.codes();
             true
         }
         None => false,

@@ -9,7 +9,6 @@ ghost use Rattle.dgt_c.specs.Slices.{with_text};
 
 use crate::checking::read_position;
 use crate::copying::put_placement;
-use crate::events::piece_codes;
 use dgt_values::{BadPlacement, Position};
 
 /// What a text is read as, as dgt.h says it.
@@ -78,7 +77,7 @@ pub extern "C" fn dgt_parse_placement(text: &[u8], pieces: &mut [u8; 64]) -> Dgt
 {
     match parse_text(text) {
         Ok(position) => {
-            *pieces = piece_codes(&position);
+            *pieces = position.codes();
             DgtParsed { ok: true, at: 0 }
         }
         Err(bad) => DgtParsed {

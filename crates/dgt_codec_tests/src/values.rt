@@ -91,7 +91,9 @@ fn pieces_have_codes_and_letters(rt: HostRuntime) {
 fn a_game_begins_with_these_codes(rt: HostRuntime) {
     let black = [0x08, 0x09, 0x0a, 0x0c, 0x0b, 0x0a, 0x09, 0x08];
     let white = [0x02, 0x03, 0x04, 0x06, 0x05, 0x04, 0x03, 0x02];
-    for (number, piece) in Position::start().pieces().iter().enumerate() {
+    let start = Position::start();
+    let codes = start.codes();
+    for (number, piece) in start.pieces().iter().enumerate() {
         let code = match number {
             0..8 => black[number],
             8..16 => 0x07,
@@ -100,6 +102,7 @@ fn a_game_begins_with_these_codes(rt: HostRuntime) {
             _ => white[number % 8],
         };
         assert_eq!(rt; piece.code(), code, "square {number}");
+        assert_eq!(rt; codes[number], code, "square {number}");
     }
 }
 

@@ -1,10 +1,11 @@
 -- A clock message of a known id, by the places of its payload.
 use Rattle.std.proofs.Common.{◌≡◌, ℕ, true, List, [], ◌∷◌, length, get_or, refl, sym, Some}
 use Rattle.std.proofs.lemmas.Bool.{eqb-true}
+use Rattle.std.proofs.lemmas.List.{nil_from_length}
 use Rattle.std.specs.Prelude.{IsTrue}
 use Rattle.dgt_command.specs.declared.ids.KnownId.{KnownId}
 use Rattle.dgt_command.specs.Ids.{has_own_case, has_size, id_with}
-use Rattle.dgt_command.proofs.ListLemmas.{none, one, seven, eight, nine}
+use Rattle.dgt_command.proofs.ListLemmas.{one, seven, eight, nine}
 
 -- the payload of a known id, by its places
 abbrev pub by_places : KnownId → List ℕ → List ℕ
@@ -27,7 +28,7 @@ all_places KnownId.SetAndRun p h = sym (seven p (eqb-true _ _ h))
 all_places KnownId.Beep p h = sym (one p (eqb-true _ _ h))
 all_places KnownId.Text p h = sym (nine p (eqb-true _ _ h))
 all_places KnownId.Icons p h = refl
-all_places _ p h = sym (none p (eqb-true _ _ h))
+all_places _ p h = sym (nil_from_length p (eqb-true _ _ h))
 
 -- the same, where the id is known and has so many bytes
 pub own_places : (known : KnownId) (id : ℕ) (p : List ℕ) → id_with id ≡ Some known → IsTrue (has_own_case id (length p))

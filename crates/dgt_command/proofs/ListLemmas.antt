@@ -1,10 +1,6 @@
 -- A list of so many members, by its places.
 use Rattle.std.proofs.Common.{◌≡◌, ℕ, List, [], ◌∷◌, length, get_or, refl, ap, arith}
 
-pub none : (xs : List ℕ) → length xs ≡ 0 → xs ≡ []
-none [] h = refl
-none (a ∷ xs) h = absurd (omega arith)
-
 pub one : (xs : List ℕ) → length xs ≡ 1 → xs ≡ get_or xs 0 0 ∷ []
 one (a ∷ []) h = refl
 one [] h = absurd (omega arith)

@@ -6,7 +6,7 @@ use Rattle.std.proofs.lemmas.Bool.{ne_eqb}
 use Rattle.std.specs.Prelude.{◌≢◌, flat_map, slice_set}
 use Rattle.std.specs.List.{join_with_byte}
 use Rattle.dgt_values.specs.declared.pieces.Piece.{Piece}
-use Rattle.dgt_values.specs.declared.pieces.Piece.TheVariants.{Empty, WhitePawn, WhiteRook, WhiteKnight, WhiteBishop, WhiteKing, WhiteQueen, BlackPawn, BlackRook, BlackKnight, BlackBishop, BlackKing, BlackQueen, FirstExtra, SecondExtra, ThirdExtra}
+use Rattle.dgt_values.specs.declared.pieces.Piece.TheVariants.{Empty}
 use Rattle.dgt_values.specs.Board.{piece_code, piece_letter}
 use Rattle.dgt_values.specs.Placement.{placement_text, rank_text_after, ranks_text, run_text}
 
@@ -18,21 +18,7 @@ letters_with = 49 ∷ 80 ∷ 82 ∷ 78 ∷ 66 ∷ 75 ∷ 81 ∷ 112 ∷ 114 ∷ 
 
 pub letter_of : (piece : Piece) → piece ≢ Empty → slice_index_or letters_with (piece_code piece) 0 ≡ piece_letter piece
 letter_of Empty h = absurd (h refl)
-letter_of WhitePawn h = refl
-letter_of WhiteRook h = refl
-letter_of WhiteKnight h = refl
-letter_of WhiteBishop h = refl
-letter_of WhiteKing h = refl
-letter_of WhiteQueen h = refl
-letter_of BlackPawn h = refl
-letter_of BlackRook h = refl
-letter_of BlackKnight h = refl
-letter_of BlackBishop h = refl
-letter_of BlackKing h = refl
-letter_of BlackQueen h = refl
-letter_of FirstExtra h = refl
-letter_of SecondExtra h = refl
-letter_of ThirdExtra h = refl
+letter_of _ h = refl
 
 pub one_more_empty : (rank : List Piece) (i empty : ℕ) → i < length rank → get_or rank i Empty ≡ Empty
     → rank_text_after empty (drop i rank) ≡ rank_text_after (empty + 1) (drop (i + 1) rank)
@@ -41,21 +27,7 @@ one_more_empty rank i empty h e = rw (add-one i, drop-cons rank i Empty h, e) re
 text_after_piece : (piece : Piece) (empty : ℕ) (pieces : List Piece) → piece ≢ Empty
     → rank_text_after empty (piece ∷ pieces) ≡ run_text empty ++ piece_letter piece ∷ rank_text_after 0 pieces
 text_after_piece Empty empty pieces h = absurd (h refl)
-text_after_piece WhitePawn empty pieces h = refl
-text_after_piece WhiteRook empty pieces h = refl
-text_after_piece WhiteKnight empty pieces h = refl
-text_after_piece WhiteBishop empty pieces h = refl
-text_after_piece WhiteKing empty pieces h = refl
-text_after_piece WhiteQueen empty pieces h = refl
-text_after_piece BlackPawn empty pieces h = refl
-text_after_piece BlackRook empty pieces h = refl
-text_after_piece BlackKnight empty pieces h = refl
-text_after_piece BlackBishop empty pieces h = refl
-text_after_piece BlackKing empty pieces h = refl
-text_after_piece BlackQueen empty pieces h = refl
-text_after_piece FirstExtra empty pieces h = refl
-text_after_piece SecondExtra empty pieces h = refl
-text_after_piece ThirdExtra empty pieces h = refl
+text_after_piece _ empty pieces h = refl
 
 -- a run of empty squares and a piece behind it are written
 pub one_more_piece : (rank : List Piece) (i empty : ℕ) (text front : List ℕ) → i < length rank

@@ -5,6 +5,7 @@ use Rattle.std.specs.List.{AllByRecursion, flat_map}
 use Rattle.std.proofs.lemmas.List.{append-nil}
 use Rattle.std.proofs.lemmas.Bool.{false≢true}
 use Rattle.std.proofs.lemmas.Bool.Decides.{leb_tells}
+use Rattle.std.proofs.lemmas.Option.{same_Some}
 use Rattle.dgt_message.specs.Content.{Content, IsMessage}
 use Rattle.dgt_message.specs.Spelling.{Spells, spelling}
 use Rattle.dgt_command.specs.Laws.{EachDividesOnce}
@@ -15,7 +16,7 @@ use Rattle.dgt_link.specs.View.{WorldView}
 use Rattle.dgt_link.specs.Machine.{MachineState}
 use Rattle.dgt_link.specs.Stands.{StandsFor}
 use Rattle.dgt_link.specs.Step.{Delivers, is_full, Becomes, Runs, Step}
-use Rattle.dgt_link.proofs.Lists.{IsShorter, Reaches, fronts, not_empty, some_same}
+use Rattle.dgt_link.proofs.Lists.{IsShorter, Reaches, fronts, not_empty}
 
 order : (a b : ℕ) → (a < b) ⊎ ((b < a) ⊎ (a ≡ b))
 order a b =
@@ -68,7 +69,7 @@ module _ (one_taking : (before after other : BoardView) (bytes : List ℕ) → H
   becomes_once (ActContent.ClockRead clock) world one other e f = e ∙ sym f
   becomes_once (ActContent.Host command) world one other e f = e.1 ∙ sym f.1
   becomes_once ActContent.BoardSend world one other (message, is_next, spells, e) (said, is_also, holds, f) =
-      let same : message ≡ said = some_same message said (sym is_next ∙ is_also) in
+      let same : message ≡ said = same_Some message said (sym is_next ∙ is_also) in
       rw (e, f, same) refl
   becomes_once (ActContent.ToBoard count) world one other first second = one_delivery count world one other first second
   becomes_once (ActContent.ToHost count) world one other e f = e ∙ sym f

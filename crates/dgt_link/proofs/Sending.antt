@@ -3,13 +3,13 @@ use Rattle.std.specs.Prelude.{slice_get}
 use Rattle.std.proofs.Common.{◌≡◌, refl, sym, ap, ◌∙◌, ◌⊎◌, inl, inr, ℕ, List, [], ◌∷◌, ◌++◌, Some, Bool, true, false}
 use Rattle.std.proofs.Common.{◌&&◌, cond, map, drop}
 use Rattle.std.proofs.lemmas.Bool.{cond-true, and_from}
+use Rattle.std.proofs.lemmas.Option.{same_Some}
 use Rattle.std.specs.Prelude.{filter}
 use Rattle.dgt_message.specs.Content.{Content, clock_message}
 use Rattle.dgt_board.specs.declared.replies.Reply.{Reply}
 use Rattle.dgt_board.specs.State.{BoardState, updates}
 use Rattle.dgt_board.specs.Sending.{after_sending, after_telling, clock_news, differs, every_square, field_of, next_message, reply_message, untold_squares}
 use Rattle.dgt_link.specs.Machine.{IsSending, Move, MachineState, after_move, after_reply, after_told}
-use Rattle.dgt_link.proofs.Lists.{some_same}
 
 -- what a message tells does not depend on the replies owed
 told_squares_after-owed : (board : BoardState) (owed : List Reply) (message : Content)
@@ -55,7 +55,7 @@ first_kept : (field : ℕ → Content) (test : ℕ → Bool) (square : ℕ) (res
     (message : Content) (passes : Bool)
     → test square ≡ passes → slice_get (map field (cond passes (square ∷ rest) rest) ++ others) 0 ≡ Some message
     → FirstField true field test message ⊎ (slice_get (map field rest ++ others) 0 ≡ Some message)
-first_kept field test square rest others message true e h = inl (square, refl, e, some_same (field square) message h)
+first_kept field test square rest others message true e h = inl (square, refl, e, same_Some (field square) message h)
 first_kept field test square rest others message false e h = inr h
 
 first_field : (asks : Bool) (field : ℕ → Content) (test : ℕ → Bool) (squares : List ℕ) (others : List Content)
@@ -70,7 +70,7 @@ first_field true field test (square ∷ squares) others message h =
 
 first_news : (owed : Bool) (news message : Content) → slice_get (cond owed (news ∷ []) []) 0 ≡ Some message
     → (owed ≡ true) × (news ≡ message)
-first_news true news message h = (refl, some_same news message h)
+first_news true news message h = (refl, same_Some news message h)
 first_news false news message h = cc
 
 tell_is_sent : (x : MachineState) (message : Content) → x.board.owed ≡ []
@@ -100,7 +100,7 @@ next_of x (first ∷ rest) message e h = (
   Move.Reply,
   tt,
   reply_is_sent x first rest x.board.owed e ∙ ap (sent_state x)
-      (some_same (reply_message x.board first) message h),
+      (same_Some (reply_message x.board first) message h),
 )
 next_of x [] message e h =
     elim (first_field (updates x.board.mode) (field_of x.board) (differs x.board) every_square

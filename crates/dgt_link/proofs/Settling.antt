@@ -3,9 +3,9 @@ use Rattle.std.proofs.Common.{arith, ◌≡◌, ◌≢◌, refl, sym, ap, subst,
 use Rattle.std.proofs.Common.{◌==◌, zero, suc, List, [], ◌∷◌, ◌++◌, Some, None, Bool, true, false, cond, Option, length}
 use Rattle.std.proofs.Common.{take, drop, replicate, append-nil}
 use Rattle.std.proofs.lemmas.List.{length-append, length-drop, length-take-le, drop_all, replicate_more}
-use Rattle.std.proofs.lemmas.Bool.{eqb-true, false≢true, ltb-false}
+use Rattle.std.proofs.lemmas.Bool.{eqb-true, false≢true, ltb-false, or_parts}
 use Rattle.std.proofs.Math.Nat.{mul-le-mul_left}
-use Rattle.std.specs.Prelude.{◌↔◌, ◌||◌, Contains, IsTrue, IsSome, nat_lt}
+use Rattle.std.specs.Prelude.{◌↔◌, Contains, IsTrue, IsSome, nat_lt}
 use Rattle.std.specs.List.{AllByRecursion, flat_map}
 use Rattle.dgt_values.specs.declared.pieces.Piece.{Piece}
 use Rattle.dgt_message.specs.Clock.{ClockState}
@@ -419,17 +419,13 @@ positive : (n : ℕ) → (n == 0) ≡ false → 0 < n
 positive zero h = absurd (false≢true (sym h))
 positive (suc n) h = omega arith
 
-neither : (a b : Bool) → (a || b) ≡ false → (a ≡ false) × (b ≡ false)
-neither true b h = absurd (false≢true (sym h))
-neither false b h = (refl, h)
-
 fits : (capacity needed : ℕ) → nat_lt capacity needed ≡ false → needed ≤ capacity
 fits capacity needed h = ltb-false capacity needed h
 
 hear_steps : (world after : WorldView) (count : ℕ) → moves_nothing count world.up ≡ false
     → Becomes (ActContent.ToHost count) world after → steps_left after < steps_left world
 hear_steps world after count some same =
-    let parts = neither (count == 0) (length world.up.bytes == 0) some in
+    let parts = or_parts (count == 0) (length world.up.bytes == 0) some in
     let counts = positive count parts.0 in
     let bytes = positive (length world.up.bytes) parts.1 in
     let less : length (drop count world.up.bytes) < length world.up.bytes

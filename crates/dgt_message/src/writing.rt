@@ -2,7 +2,7 @@
 
 ghost use Rattle.std.specs.Prelude.{◌≡◌, ◌≤◌, ◌<◌, ◌++◌, [], ◌∷◌, length, map};
 ghost use Rattle.dgt_values.specs.declared.bodies.TheConstants.{MAX_BODY};
-ghost use Rattle.dgt_values.specs.Board.{piece_code, pieces_of, square_number};
+ghost use Rattle.dgt_values.specs.Board.{square_number};
 ghost use Rattle.dgt_values.specs.Bytes.{number, AreSevenBit, WritesFront};
 ghost use Rattle.dgt_message.specs.Clock.{AreTimes, IsAbsence, IsAck, IsTime};
 ghost use Rattle.dgt_message.specs.Code.{known_number};
@@ -14,7 +14,7 @@ use crate::clock::{ACK_MARK, ClockAck, NoClock, Times};
 use crate::known::KnownCode;
 use crate::message::Message;
 use crate::readings::Reading;
-use dgt_values::{NoRoom, Piece, Position, SevenBit, Square};
+use dgt_values::{NoRoom, Piece, SevenBit, Square};
 
 /// How many bytes the message takes, its header of three bytes included: 3 to 16383.
 pub fn length(message: &Message<'_>) -> usize
@@ -36,7 +36,7 @@ pub fn encode(message: &Message<'_>, out: &mut [u8]) -> Result<usize, NoRoom>
     ensures in_range { IsMessage (content message.now) }
 {
     match message {
-        Message::Dump(position) => write_known(KnownCode::Dump, &piece_codes(position), out),
+        Message::Dump(position) => write_known(KnownCode::Dump, &position.codes(), out),
         Message::Field { square, piece } => encode_field(*square, *piece, out),
         Message::Times(times) => write_known(KnownCode::Clock, &times_bytes(*times), out),
         Message::NoClock(absence) => write_known(KnownCode::Clock, &absence_bytes(*absence), out),
@@ -109,18 +109,6 @@ fn write_whole(code: u8, body: &[u8], out: &mut [u8]) -> Result<usize, NoRoom>
     out[2] = (need % 128) as u8;
     out[3..need].copy_from_slice(body);
     Ok(need)
-}
-
-fn piece_codes(position: &Position) -> [u8; 64]
-    ensures codes { result ≡ map piece_code (pieces_of position.now) }
-    ensures len { length (pieces_of position.now) ≡ 64 }
-{
-    let pieces = position.pieces();
-    let mut codes = [0; 64];
-    for (index, piece) in pieces.iter().enumerate() {
-        codes[index] = piece.code();
-    }
-    codes
 }
 
 fn serial_bytes(serial: &[SevenBit; 5]) -> [u8; 5]

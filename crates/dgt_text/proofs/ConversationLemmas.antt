@@ -1,6 +1,7 @@
 -- Conversations of a board.
 use Rattle.std.proofs.Common.{◌≡◌, ℕ, ◌<◌, ◌≤◌, suc, zero, List, [], ◌∷◌, ◌++◌, Option, Some, None, refl, sym, ◌∙◌, ap, subst, length, arith, append_assoc, append-nil}
 use Rattle.std.proofs.Math.ListN.{length-set}
+use Rattle.std.proofs.lemmas.Option.{none-some, same_Some}
 use Rattle.dgt_message.specs.Content.{Content}
 use Rattle.dgt_message.specs.Spelling.{spelling}
 use Rattle.dgt_command.specs.Content.{EventContent}
@@ -194,12 +195,6 @@ each_is_answered divisions are_all_bytes lowers before bytes board are =
 
 -- ---- and in one way
 
-none_some : (message : Content) → None ≡ Some message → ⊥
-none_some message h = cc
-
-some_same : (one another : Content) → Some one ≡ Some another → one ≡ another
-some_same one another h = cc
-
 -- others are the steps, and then a conversation between the boards
 abbrev Continues : List Exchange → List Exchange → BoardState → BoardState → Type 0
 Continues steps others between after = (more : List Exchange) × (others ≡ steps ++ more) × Converses between more after
@@ -215,17 +210,17 @@ follows : (board between after : BoardState) (steps others : List Exchange) (eve
     → events_heard others ≡ events_heard steps ++ events → Continues steps others between after
 follows board between after [] others events p q settled is = (others, refl, subst (λ x. Converses x others after) p q)
 follows board between after (told message ∷ steps) [] events p q settled is =
-    absurd (none_some message (sym settled ∙ ap next_message (sym q) ∙ p.0))
+    absurd (none-some message (sym settled ∙ ap next_message (sym q) ∙ p.0))
 follows board between after (told message ∷ steps) (told later ∷ others) events p q settled is =
-    let same : later ≡ message = some_same later message (sym q.0 ∙ p.0) in
+    let same : later ≡ message = same_Some later message (sym q.0 ∙ p.0) in
     one_more (told message) (told later) steps others between after (ap told same)
     (follows (after_sending board message) between after steps others events p.1
     (subst (λ (m : Content). Converses (after_sending board m) others after) same q.1) settled is)
 follows board between after (told message ∷ steps) (heard event ∷ others) events p q settled is = absurd
-    (none_some message (sym q.0 ∙ p.0))
+    (none-some message (sym q.0 ∙ p.0))
 follows board between after (heard event ∷ steps) [] events p q settled is = absurd (cc)
 follows board between after (heard event ∷ steps) (told message ∷ others) events p q settled is = absurd
-    (none_some message (sym p.0 ∙ q.0))
+    (none-some message (sym p.0 ∙ q.0))
 follows board between after (heard event ∷ steps) (heard later ∷ others) events p q settled is =
     let same : later ≡ event = cc in
     let left : events_heard others ≡ events_heard steps ++ events = cc in
@@ -247,7 +242,7 @@ each_front_goes_on fronts before between after bytes steps others front answers 
 nothing_more : (board after : BoardState) (steps : List Exchange) → next_message board ≡ None
     → Converses board steps after → events_heard steps ≡ [] → (steps ≡ []) × (board ≡ after)
 nothing_more board after [] settled p none = (refl, p)
-nothing_more board after (told message ∷ steps) settled p none = absurd (none_some message (sym settled ∙ p.0))
+nothing_more board after (told message ∷ steps) settled p none = absurd (none-some message (sym settled ∙ p.0))
 nothing_more board after (heard event ∷ steps) settled p none = absurd (cc)
 
 pub each_is_answered_once : EachDividesOnce → EachIsAnsweredOnce

@@ -1,7 +1,7 @@
 //! What stands on each square.
 
-ghost use Rattle.std.specs.Prelude.{◌≡◌, ◌↔◌, ◌≢◌, ◌<◌, ℕ, length, replicate, IsTrue};
-ghost use Rattle.std.specs.Prelude.{slice_get, slice_index, slice_index_or, slice_set};
+ghost use Rattle.std.specs.Prelude.{◌≡◌, ◌↔◌, length, map, replicate, IsTrue};
+ghost use Rattle.std.specs.Prelude.{slice_get, slice_set};
 
 use crate::pieces::Piece;
 use crate::squares::Square;
@@ -101,12 +101,12 @@ impl Position {
         own.simd_ne(others).to_bitmask()
     }
 
-    // The codes of the pieces. They stand in memory just so, and the compiler makes no loop of it.
-    fn codes(&self) -> [u8; 64]
-        ensures codes { (square : ℕ) → square < 64 → slice_index result square
-            ≡ piece_code (slice_index_or (pieces_of self.now) square Piece.Empty) }
+    /// The codes of the pieces of all squares by the squares' numbers, as a dump carries them.
+    pub fn codes(&self) -> [u8; 64]
+        ensures codes { result ≡ map piece_code (pieces_of self.now) }
         ensures len { length (pieces_of self.now) ≡ 64 }
     {
+        // They stand in memory just so, and the compiler makes no loop of it.
         let mut codes = [0; 64];
         for square in 0..64 {
             codes[square] = self.pieces[square].code();
