@@ -4,6 +4,7 @@ pub mod Cuts
 pub mod Verdicts
 pub mod More
 pub mod Open
+pub mod Anew
 pub mod Wholes
 pub mod Spelled
 pub mod Steps

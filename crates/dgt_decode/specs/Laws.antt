@@ -65,6 +65,14 @@ pub record PiecesAdd : Type 0 where
       ≡ piece_events (open_message s) front
       ++ events_behind (length front) (piece_events (open_message (s ++ front)) rest)
 
+-- A byte with a set top bit begins anew, whatever came before: all that it does to it is to cut an
+-- unfinished message off.
+abbrev pub BeginsAnew : Type 0
+BeginsAnew = (s p : List ℕ) (b : ℕ) → 128 ≤ b →
+    (events (s ++ b ∷ p)
+    ≡ events s ++ events_behind (length s) (cut_of (open_message s) ++ events (b ∷ p)))
+    × (open_message (s ++ b ∷ p) ≡ open_message (b ∷ p))
+
 -- ---- Messages in a row
 
 -- a message, and bytes that are said to spell it

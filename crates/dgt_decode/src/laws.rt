@@ -8,7 +8,7 @@ ghost use Rattle.dgt_message.specs.Content.{Content, IsMessage};
 ghost use Rattle.dgt_message.specs.Spelling.{Spells, spelling};
 ghost use Rattle.dgt_decode.specs.Feeding.{FirstEvent, event_content, fed_content};
 ghost use Rattle.dgt_decode.specs.Grammar.{Event as EventSaid, Message, at_place, cut_of, events, events_behind, lead, open_message, segments};
-ghost use Rattle.dgt_decode.specs.Laws.{AreCalls, Call, CutsInto, EventsAppend, OpenAppend, OpenIsPart, OpenIsQuiet, PiecesAdd, PlacesAdd, QuietHeld, Sent, SpellingIsRead, arrivals, events_in_pieces, events_of_pieces, sent_bytes, used_bytes};
+ghost use Rattle.dgt_decode.specs.Laws.{AreCalls, BeginsAnew, Call, CutsInto, EventsAppend, OpenAppend, OpenIsPart, OpenIsQuiet, PiecesAdd, PlacesAdd, QuietHeld, Sent, SpellingIsRead, arrivals, events_in_pieces, events_of_pieces, sent_bytes, used_bytes};
 
 use crate::decoder::{Fed, Unfinished};
 use crate::event::{Event, Found};
@@ -80,6 +80,12 @@ pub fn open_is_quiet()
 /// An unfinished message is shorter than the longest message.
 pub fn open_is_short()
     ensures { (s : List ℕ) → length (open_message s) < MAX_TOTAL }
+{}
+
+/// A byte with a set top bit begins anew, whatever came before: all that it does to it is to cut an
+/// unfinished message off.
+pub fn begins_anew()
+    ensures { BeginsAnew }
 {}
 
 /// Whatever bytes came before, messages that are spelled one after another are read whole, each at

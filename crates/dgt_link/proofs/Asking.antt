@@ -40,7 +40,7 @@ requests-act (ActContent.ToHost bytes) moves (count, e) = rw e (requests-hears c
 requests-act ActContent.Break moves e = rw e refl
 requests-act ActContent.HostBreak moves (noise, is_noise, e) = rw e refl
 
-requests-step : (act : ActContent) (outcome : Outcome) (moves : List Move) → AreMovesOfStep act outcome moves
+pub requests-step : (act : ActContent) (outcome : Outcome) (moves : List Move) → AreMovesOfStep act outcome moves
     → flat_map requests moves ≡ act_requests outcome act
 requests-step act Outcome.Done moves are = requests-act act moves are
 requests-step act Outcome.Nothing moves e = rw e refl
@@ -106,7 +106,7 @@ sending_is_none P reply tell clock (Move.Tell square) sending = tell square
 sending_is_none P reply tell clock Move.TellClock sending = clock
 sending_is_none P reply tell clock _ none = absurd none
 
-act_is_no_break : (act : ActContent) (moves : List Move) → act ≢ ActContent.Break → AreMovesOfAct act moves
+pub act_is_no_break : (act : ActContent) (moves : List Move) → act ≢ ActContent.Break → AreMovesOfAct act moves
     → AllByRecursion (λ move. move ≢ Move.Break) moves
 act_is_no_break (ActContent.Change square piece) moves other e = rw e (λ f. cc, tt)
 act_is_no_break (ActContent.ClockRead clock) moves other e = rw e (λ f. cc, tt)

@@ -22,3 +22,8 @@ pub mod Halves
 pub mod Equal
 pub mod Settling
 pub mod SettlingMoves
+pub mod Behind
+pub mod Healing
+pub mod Rested
+pub mod Hoping
+pub mod Clocks

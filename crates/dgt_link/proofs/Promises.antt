@@ -25,7 +25,7 @@ use Rattle.dgt_link.proofs.Telling.{picture_after_all-append}
 
 -- ---- the mode that is coming
 
-last_mode-append : (before : Mode) (modes more : List Mode)
+pub last_mode-append : (before : Mode) (modes more : List Mode)
     → last_mode before (modes ++ more) ≡ last_mode (last_mode before modes) more
 last_mode-append before [] more = refl
 last_mode-append before (mode ∷ modes) more = last_mode-append mode modes more
@@ -97,7 +97,7 @@ reply_keeps_picture x [] e coming = coming
 reply_keeps_picture x (first ∷ rest) e coming = reply_comes x.board x.picture x.up first rest x.down (rw e at coming)
 
 -- the first command is taken
-effect_owes : (board : BoardState) (event : EventContent) (reply : Reply) → Contains board.owed reply
+pub effect_owes : (board : BoardState) (event : EventContent) (reply : Reply) → Contains board.owed reply
     → Contains (effect board event).owed reply
 effect_owes board (EventContent.Read command) reply h =
     Contains-append_left board.owed (replies_to board command) reply h
@@ -202,7 +202,7 @@ sent-mode : (x : MachineState) (message : Content) (test : Bool)
 sent-mode x message true = refl
 sent-mode x message false = refl
 
-noise-modes : (noise : List EventContent) → IsNoiseList noise → filter_map event_mode noise ≡ []
+pub noise-modes : (noise : List EventContent) → IsNoiseList noise → filter_map event_mode noise ≡ []
 noise-modes noise is_noise =
     nothing_of_noise event_mode (λ message. refl) (λ leds. refl) (refl, refl, refl) (λ byte. refl) noise is_noise
 
@@ -262,7 +262,7 @@ ask_comes_dump commands x command coming h = go (Contains-append_cases commands 
     go (inl before) = picture_keeps_coming x (Move.Ask command) (λ e. cc) (coming.picture before)
     go (inr now) = new (Contains-cons CommandContent.Dump command [] now)
 
-asked_anew-mode : (before : Mode) (commands : List CommandContent)
+pub asked_anew-mode : (before : Mode) (commands : List CommandContent)
     → Mode.UpdateBoard ≡ last_mode before (filter_map command_mode (commands_after commands (map Some commands_anew)))
 asked_anew-mode before commands =
     asked-mode (commands ++ CommandContent.UpdateBoard ∷ []) CommandContent.Dump before Mode.UpdateBoard

@@ -108,7 +108,7 @@ up_to_date board squares told nothing =
         map_empty (field_of board) (untold_squares board)
         (left_empty (map (field_of board) (untold_squares board)) (clock_news board) rest)
 
-quiet_up_to_date : (x : MachineState) → IsSound x → IsQuiet x → IsUpToDate x.board
+pub quiet_up_to_date : (x : MachineState) → IsSound x → IsQuiet x → IsUpToDate x.board
 quiet_up_to_date x sound quiet = up_to_date x.board sound.squares sound.told_squares quiet.pending
 
 -- the host's picture, where the mode asks for updates
@@ -130,14 +130,14 @@ known picture told some (inl none) = absurd (false≢true (ap is_some (sym none)
 known picture told some (inr same) = same
 
 -- at quiet a picture that was coming has come
-picture_has_come : (x : MachineState) → IsSound x → IsQuiet x → PictureIsComing x → IsSome x.picture
+pub picture_has_come : (x : MachineState) → IsSound x → IsQuiet x → PictureIsComing x → IsSome x.picture
 picture_has_come x sound quiet (inl seen) = rw quiet.up at seen
 picture_has_come x sound quiet (inr (inl owed)) =
     absurd (nothing_contained (Reply.Of Kind.Dump) (rw (quiet_up_to_date x sound quiet).owed at owed))
 picture_has_come x sound quiet (inr (inr asked)) =
     absurd (nothing_contained (EventContent.Read CommandContent.Dump) (rw quiet.down at asked))
 
-quiet_mode : (x : MachineState) → IsQuiet x → coming_mode x ≡ x.board.mode
+pub quiet_mode : (x : MachineState) → IsQuiet x → coming_mode x ≡ x.board.mode
 quiet_mode x quiet = rw quiet.down
 
 -- a promised state that is quiet has the board's squares as its picture
@@ -147,7 +147,8 @@ promised_picture x sound promised quiet =
     (quiet_picture x sound quiet (rw (quiet_mode x quiet) at promised.mode))
 
 -- the clock, in an exact state whose mode follows it
-told_clock : (owed : Bool) (told clock : Option ClockState) → owed ≡ false → IsTrue owed ⊎ (told ≡ clock) → told ≡ clock
+pub told_clock : (owed : Bool) (told clock : Option ClockState) → owed ≡ false → IsTrue owed ⊎ (told ≡ clock)
+    → told ≡ clock
 told_clock owed told clock none (inl owes) = absurd (false≢true (sym none ∙ owes))
 told_clock owed told clock none (inr same) = same
 

@@ -7,6 +7,8 @@ use Rattle.dgt_link.specs.declared.acts.Act.{Act}
 use Rattle.dgt_link.specs.declared.acts.Outcome.{Outcome}
 use Rattle.dgt_link.specs.Step.{Runs, Step, done_count}
 use Rattle.dgt_link.specs.View.{WorldView}
+use Rattle.dgt_link.specs.declared.faulty.FaultyAct.{FaultyAct}
+use Rattle.dgt_link.specs.Faults.{FaultyContent, FaultyRuns, FaultyStep, faulty_content}
 
 done_count-push : (outcomes : List Outcome) (outcome : Outcome)
     → done_count (outcomes ++ outcome ∷ []) ≡ done_count outcomes + done_count (outcome ∷ [])
@@ -46,4 +48,39 @@ has_run_more old now new acts done more index act outcome within e (outcomes, co
   omega (arith, done_count-push outcomes outcome, counted, one),
   rw (one_act_more acts index act within e, map-append act_content (take index acts) (act ∷ []))
       (run-push (map act_content (take index acts)) outcomes (act_content act) outcome old now new runs step),
+)
+
+-- ---- of a world at fault
+
+faulty_run-push : (acts : List FaultyContent) (outcomes : List Outcome) (act : FaultyContent) (outcome : Outcome)
+    (world between after : WorldView)
+    → FaultyRuns acts world outcomes between → FaultyStep act between outcome after
+    → FaultyRuns (acts ++ act ∷ []) world (outcomes ++ outcome ∷ []) after
+faulty_run-push [] [] act outcome world between after same step = (after, rw same at step, refl)
+faulty_run-push (first ∷ acts) (came ∷ outcomes) act outcome world between after (next, step, rest) last =
+    (next, step, faulty_run-push acts outcomes act outcome next between after rest last)
+faulty_run-push [] (came ∷ outcomes) act outcome world between after none step = absurd none
+faulty_run-push (first ∷ acts) [] act outcome world between after none step = absurd none
+
+abbrev pub HasRunFaulty : WorldView → WorldView → List FaultyAct → ℕ → Type 0
+HasRunFaulty old new acts done =
+    (outcomes : List Outcome) × (done ≡ done_count outcomes) × FaultyRuns (map faulty_content acts) old outcomes new
+
+one_faulty_more : (acts : List FaultyAct) (index : ℕ) (act : FaultyAct) → index < length acts
+    → act ≡ get_or acts index act
+    → take (index + 1) acts ≡ take index acts ++ act ∷ []
+one_faulty_more acts index act within e =
+    take_more acts index act within ∙ ap (λ (last : FaultyAct). take index acts ++ last ∷ []) (sym e)
+
+pub has_run_more_faulty : (old now new : WorldView) (acts : List FaultyAct) (done more index : ℕ) (act : FaultyAct)
+    (outcome : Outcome)
+    → index < length acts → act ≡ get_or acts index act → HasRunFaulty old now (take index acts) done
+    → FaultyStep (faulty_content act) now outcome new → more ≡ done_count (outcome ∷ [])
+    → HasRunFaulty old new (take (index + 1) acts) (done + more)
+has_run_more_faulty old now new acts done more index act outcome within e (outcomes, counted, runs) step one = (
+  outcomes ++ outcome ∷ [],
+  omega (arith, done_count-push outcomes outcome, counted, one),
+  rw (one_faulty_more acts index act within e, map-append faulty_content (take index acts) (act ∷ []))
+      (faulty_run-push (map faulty_content (take index acts)) outcomes (faulty_content act) outcome old now new runs
+      step),
 )

@@ -37,7 +37,7 @@ mode_after-append before (None ∷ asked) more = mode_after-append Mode.Idle ask
 mode_after-append before (Some command ∷ asked) more =
     mode_after-append (unwrap_or (command_mode command) before) asked more
 
-moves_come : (commands : List CommandContent) (x : MachineState) (moves : List Move) → IsComing commands x
+pub moves_come : (commands : List CommandContent) (x : MachineState) (moves : List Move) → IsComing commands x
     → IsComing (commands_after commands (flat_map requests moves)) (after_moves x moves)
 moves_come commands x [] coming = coming
 moves_come commands x (move ∷ moves) coming =

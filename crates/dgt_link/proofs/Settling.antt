@@ -99,7 +99,7 @@ run_same (act ∷ acts) world after (answer ∷ answers) all (between, step, run
 run_same [] world after (answer ∷ answers) all none = absurd none
 run_same (act ∷ acts) world after [] all none = absurd none
 
-settling_mode : (before : Mode) (act : ActContent) (answer : Outcome) → IsSettling act
+pub settling_mode : (before : Mode) (act : ActContent) (answer : Outcome) → IsSettling act
     → mode_after before (act_requests answer act) ≡ before
 settling_mode before ActContent.BoardSend Outcome.Done is = refl
 settling_mode before (ActContent.ToBoard count) Outcome.Done is = refl
@@ -115,7 +115,7 @@ settling_mode before act Outcome.Busy is = refl
 settling_mode before act Outcome.TooMany is = refl
 
 -- what settles is no break
-settling_no_break : (act : ActContent) → IsSettling act → act ≢ ActContent.Break
+pub settling_no_break : (act : ActContent) → IsSettling act → act ≢ ActContent.Break
 settling_no_break ActContent.Break none e = none
 settling_no_break ActContent.HostBreak none e = none
 settling_no_break (ActContent.Change square piece) none e = none
@@ -231,7 +231,8 @@ hear_works world after some same =
 
 -- nothing stays open of messages in a row
 module _ (reads : Reads) where
-  nothing_left_open : (messages : List Content) (bytes : List ℕ) → AreSpelled messages bytes → open_message bytes ≡ []
+  pub nothing_left_open : (messages : List Content) (bytes : List ℕ) → AreSpelled messages bytes
+      → open_message bytes ≡ []
   nothing_left_open [] bytes spelled = rw spelled.in_a_row nothing_open
   nothing_left_open (message ∷ messages) bytes spelled =
       let rest : open_message (flat_map spelling messages) ≡ []
@@ -273,7 +274,7 @@ hears world after answer some step =
     let step' = done_at (ActContent.ToHost (length world.up.bytes)) world after answer is_done step in
     (ActContent.ToHost (length world.up.bytes), tt, step', hear_works world after some step'.leaves)
 
-no_bytes : (bytes : List ℕ) → (length bytes == 0) ≡ true → bytes ≡ []
+pub no_bytes : (bytes : List ℕ) → (length bytes == 0) ≡ true → bytes ≡ []
 no_bytes [] h = refl
 no_bytes (byte ∷ bytes) h = absurd (let e = eqb-true (length (byte ∷ bytes)) 0 h in omega (arith, e))
 
@@ -286,17 +287,18 @@ some_or_none result (Some message) tells e = absurd (false≢true (sym e ∙ tel
 told_all : (world : WorldView) → IsWorld world → length world.board.state.told_squares ≡ 64
 told_all world is = rw is.stands.board is.stands.sound.told_squares
 
-pub sends : ((board : BoardState) (message : Content) → length board.told_squares ≡ 64 → next_message board
+pub sends_told : ((board : BoardState) (message : Content) → length board.told_squares ≡ 64 → next_message board
     ≡ Some message → backlog (after_sending board message) < backlog board)
-    → (world after : WorldView) (answer : Outcome) → IsWorld world → (length world.up.bytes == 0) ≡ true
+    → (world after : WorldView) (answer : Outcome) → length world.board.state.told_squares ≡ 64
+    → (length world.up.bytes == 0) ≡ true
     → IsSome (next_message world.board.state) → (world.up.bytes ≡ [] → answer ≢ Outcome.NoRoom)
     → Step ActContent.BoardSend world answer after → Moves world after
-sends falls world after answer is up some fits step = go (next_message world.board.state) refl some
+sends_told falls world after answer told up some fits step = go (next_message world.board.state) refl some
   where
     sent : answer ≡ Outcome.Done → Moves world after
     sent e =
         let step' = done_at ActContent.BoardSend world after answer e step in
-        (ActContent.BoardSend, tt, step', send_works falls world after (told_all world is) step'.leaves)
+        (ActContent.BoardSend, tt, step', send_works falls world after told step'.leaves)
 
     room : (message : Content) → next_message world.board.state ≡ Some message → (full : Bool)
         → overflows world.up (spelling message) ≡ full → answer ≡ Outcome.Done
@@ -307,19 +309,33 @@ sends falls world after answer is up some fits step = go (next_message world.boa
     go None e h = absurd (false≢true h)
     go (Some message) e h = sent (room message e (overflows world.up (spelling message)) refl)
 
+pub sends : ((board : BoardState) (message : Content) → length board.told_squares ≡ 64 → next_message board
+    ≡ Some message → backlog (after_sending board message) < backlog board)
+    → (world after : WorldView) (answer : Outcome) → IsWorld world → (length world.up.bytes == 0) ≡ true
+    → IsSome (next_message world.board.state) → (world.up.bytes ≡ [] → answer ≢ Outcome.NoRoom)
+    → Step ActContent.BoardSend world answer after → Moves world after
+sends falls world after answer is up some fits step =
+    sends_told falls world after answer (told_all world is) up some fits step
+
 module _ (short : WordsAreShort) (within : NoWordBeginsAPart) (rises : BacklogRises) where
-  pub takes : (world after : WorldView) (answer : Outcome) → IsWorld world → world.board.state.owed ≡ []
+  pub takes_partial : (world after : WorldView) (answer : Outcome) → IsPartial world.board.partial
+      → world.board.state.owed ≡ []
       → (length world.down.bytes == 0) ≡ false → Step (ActContent.ToBoard (length world.down.bytes)) world answer after
       → Moves world after
-  takes world after answer is none some step =
+  takes_partial world after answer partial none some step =
       let is_done : answer ≡ Outcome.Done = step.answers ∙ rw (some, none) refl in
       let step' = done_at (ActContent.ToBoard (length world.down.bytes)) world after answer is_done step in (
         ActContent.ToBoard (length world.down.bytes),
         tt,
         step',
         take_works short within rises world after
-            (length world.down.bytes) is.stands.partial step'.leaves,
+            (length world.down.bytes) partial step'.leaves,
       )
+
+  pub takes : (world after : WorldView) (answer : Outcome) → IsWorld world → world.board.state.owed ≡ []
+      → (length world.down.bytes == 0) ≡ false → Step (ActContent.ToBoard (length world.down.bytes)) world answer after
+      → Moves world after
+  takes world after answer is none some step = takes_partial world after answer is.stands.partial none some step
 
 pub rests : Reads → EachDividesOnce → (world : WorldView) → IsWorld world → (length world.up.bytes == 0) ≡ true
     → (length world.down.bytes == 0) ≡ true → next_message world.board.state ≡ None

@@ -86,7 +86,7 @@ tell_clock_first : (x : MachineState)
 tell_clock_first x = rw (clock_message-kind x.board.clock)
 
 -- what is asked for, or taken, keeps the kinds that come
-ask-kinds : (x : MachineState) (command : CommandContent)
+pub ask-kinds : (x : MachineState) (command : CommandContent)
     → coming_kinds (after_move x (Move.Ask command)) ≡ coming_kinds x ++ option_to_list (kind_of_command command)
 ask-kinds x command =
     ap (λ (down : List Kind). filter_map kind_of x.up ++ (filter_map kind_of_reply x.board.owed ++ down))
@@ -175,7 +175,7 @@ pub new_exact : (position : List Piece) (clock : ClockState) (identity : Identit
 new_exact position clock identity h =
     record { sound = new_sound position clock identity h; clock = refl; awaited = refl }
 
-noise-kinds : (noise : List EventContent) → IsNoiseList noise → filter_map kind_of_event noise ≡ []
+pub noise-kinds : (noise : List EventContent) → IsNoiseList noise → filter_map kind_of_event noise ≡ []
 noise-kinds noise is_noise =
     nothing_of_noise kind_of_event (λ message. refl) (λ leds. refl) (refl, refl, refl) (λ byte. refl) noise is_noise
 

@@ -50,10 +50,10 @@ moves-append x (move ∷ moves) more = moves-append (after_move x move) moves mo
 
 -- ---- the machine takes what the board took, and hears what the host heard
 
-abbrev taken_state : MachineState → List EventContent → List EventContent → MachineState
+abbrev pub taken_state : MachineState → List EventContent → List EventContent → MachineState
 taken_state x events left = record x { board = effects x.board events; down = left }
 
-takes : (events left : List EventContent) (x : MachineState) → x.down ≡ events ++ left
+pub takes : (events left : List EventContent) (x : MachineState) → x.down ≡ events ++ left
     → after_moves x (replicate (length events) Move.Take) ≡ taken_state x events left
 takes [] left x e = ap (λ (down : List EventContent). record x { down = down }) e
 takes (event ∷ events) left x e =
@@ -63,16 +63,17 @@ takes (event ∷ events) left x e =
     ∙ takes events left (record x { board = effect x.board event; down = events ++ left }) refl
 
 -- the host's part of a state
-abbrev with_host : MachineState → HostView → List Content → MachineState
+abbrev pub with_host : MachineState → HostView → List Content → MachineState
 with_host x host left =
     record x { picture = host.picture; host_clock = host.clock; awaited = host.awaited; up = left }
 
-record IsHostOf (host : HostView) (x : MachineState) : Type 0 where
+pub record IsHostOf (host : HostView) (x : MachineState) : Type 0 where
   pub picture : host.picture ≡ x.picture
   pub clock : host.clock ≡ x.host_clock
   pub awaited : host.awaited ≡ x.awaited
 
-hears : (messages left : List Content) (x : MachineState) (host : HostView) → x.up ≡ messages ++ left → IsHostOf host x
+pub hears : (messages left : List Content) (x : MachineState) (host : HostView) → x.up ≡ messages ++ left
+    → IsHostOf host x
     → after_moves x (replicate (length messages) Move.Hear) ≡ with_host x (host_after_messages host messages) left
 hears [] left x host e of = rw (← e, of.picture, of.clock, of.awaited) refl
 hears (message ∷ messages) left x host e of =
@@ -87,7 +88,7 @@ hears (message ∷ messages) left x host e of =
     })
 
 -- a front of a line, and what is left of it
-front_of : (held bytes : List ℕ) (count : ℕ) → held ++ bytes ≡ (held ++ take count bytes) ++ drop count bytes
+pub front_of : (held bytes : List ℕ) (count : ℕ) → held ++ bytes ≡ (held ++ take count bytes) ++ drop count bytes
 front_of held bytes count =
     ap (λ (line : List ℕ). held ++ line) (sym (take-append-drop count bytes)) ∙ sym
     (append_assoc held (take count bytes) (drop count bytes))
@@ -350,15 +351,15 @@ module _ (laws : Grammars) where
 
 -- ---- the lines keep their capacities
 
-record HasRooms (world after : WorldView) : Type 0 where
+pub record HasRooms (world after : WorldView) : Type 0 where
   pub up : after.up.capacity ≡ world.up.capacity
   pub down : after.down.capacity ≡ world.down.capacity
 
-same_rooms : (world after : WorldView) → after ≡ world → HasRooms world after
+pub same_rooms : (world after : WorldView) → after ≡ world → HasRooms world after
 same_rooms world after same =
     record { up = ap (λ (w : WorldView). w.up.capacity) same; down = ap (λ (w : WorldView). w.down.capacity) same }
 
-becomes_rooms : (act : ActContent) (world after : WorldView) → Becomes act world after → HasRooms world after
+pub becomes_rooms : (act : ActContent) (world after : WorldView) → Becomes act world after → HasRooms world after
 becomes_rooms (ActContent.Change square piece) world after same = rw same (record { up = refl; down = refl })
 becomes_rooms (ActContent.ClockRead clock) world after same = rw same (record { up = refl; down = refl })
 becomes_rooms (ActContent.Host command) world after (spells, same) = rw same (record { up = refl; down = refl })

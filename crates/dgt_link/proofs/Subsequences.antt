@@ -10,7 +10,8 @@ use Rattle.dgt_host.specs.Host.{awaited_after, is_same_kind}
 use Rattle.dgt_link.specs.Sound.{IsSubsequence}
 
 -- the second list may have more in front
-subsequence_later : {X : Type 0} (xs : List X) (y : X) (ys : List X) → IsSubsequence xs ys → IsSubsequence xs (y ∷ ys)
+pub subsequence_later : {X : Type 0} (xs : List X) (y : X) (ys : List X) → IsSubsequence xs ys
+    → IsSubsequence xs (y ∷ ys)
 subsequence_later [] y ys h = tt
 subsequence_later (x ∷ xs) y ys h = inr h
 

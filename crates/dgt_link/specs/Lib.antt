@@ -7,5 +7,8 @@ pub mod Sound
 pub mod Stands
 pub mod Promise
 pub mod Settling
+pub mod Faults
+pub mod Healing
+pub mod Clocks
 -- for bodies alone
 pub mod Work

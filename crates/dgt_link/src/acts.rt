@@ -1,5 +1,8 @@
 //! What is done to a world, and what comes of it.
 
+ghost use Rattle.std.specs.Prelude.{◌≡◌, ◌∷◌, ◌≤◌, []};
+ghost use Rattle.dgt_link.specs.Step.{done_count};
+
 use dgt_command::Command;
 use dgt_message::Clock;
 use dgt_values::{Piece, Square};
@@ -42,4 +45,15 @@ pub enum Outcome {
     Busy,
     /// The reply would have to be awaited, and the host awaits 16 already.
     TooMany,
+}
+
+/// One, if the act was done.
+pub(crate) fn count(outcome: Outcome) -> usize
+    ensures count { result ≡ done_count (outcome ∷ []) }
+    ensures at_most { result ≤ 1 }
+{
+    match outcome {
+        Outcome::Done => 1,
+        Outcome::Nothing | Outcome::NoRoom | Outcome::Busy | Outcome::TooMany => 0,
+    }
 }

@@ -19,10 +19,12 @@
 #![tactic(auto)]
 
 mod acts;
+mod faulty;
 pub mod laws;
 mod line;
 mod moving;
 mod world;
 
 pub use acts::{Act, Outcome};
+pub use faulty::{FaultyAct, FaultyWorld};
 pub use world::{MIN_DOWN, MIN_UP, World, WorldFault};

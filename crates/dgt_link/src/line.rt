@@ -46,6 +46,13 @@ impl Line {
         self.ring.is_empty()
     }
 
+    /// How many bytes the line takes at most.
+    pub fn capacity(&self) -> usize
+        ensures { result ≡ self.now.capacity }
+    {
+        self.ring.capacity()
+    }
+
     /// How many more bytes the line takes.
     pub fn room(&self) -> usize
         ensures { result + length self.now.bytes ≡ self.now.capacity }

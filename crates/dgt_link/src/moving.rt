@@ -4,13 +4,15 @@
 ghost use Rattle.std.specs.Prelude.{◌≡◌, ◌+◌, ◌<◌, ◌≤◌, [], Some, length, take};
 ghost use Rattle.dgt_values.specs.declared.kinds.Kind.{Kind};
 ghost use Rattle.dgt_command.specs.Content.{command_content};
+ghost use Rattle.dgt_command.specs.Spelling.{AreBytes};
 ghost use Rattle.dgt_board.specs.View.{HasTaken};
 ghost use Rattle.dgt_host.specs.Host.{host_after, new_host, host_awaiting, restart_bytes};
-ghost use Rattle.dgt_link.specs.Act.{ActContent};
-ghost use Rattle.dgt_link.specs.Step.{StaysOpen, Step};
-ghost use Rattle.dgt_link.specs.View.{WorldView, line_holding, without_first};
+ghost use Rattle.dgt_link.specs.Act.{ActContent, act_content};
+ghost use Rattle.dgt_link.specs.Faults.{FaultyContent, FaultyStep, holding_outcome};
+ghost use Rattle.dgt_link.specs.Step.{IfDone, StaysOpen, Step};
+ghost use Rattle.dgt_link.specs.View.{WorldView, line_holding, with_bytes, without_first};
 
-use crate::acts::Outcome;
+use crate::acts::{Act, Outcome};
 use crate::line::Line;
 use dgt_board::{Board, MAX_OWED, MAX_SENT, Polled};
 use dgt_command::{Command, MAX_WORD};
@@ -35,18 +37,96 @@ pub fn ask(host: &mut Host, line: &mut Line, command: &Command<'_>) -> Outcome
 }
 
 /// Both lines lose their bytes, and the host alone sees it: it is as new, and begins anew.
-pub fn restart(host: &mut Host, up: &mut Line, down: &mut Line)
+pub fn restart(host: &mut Host, from_board: &mut Line, down: &mut Line)
     requires { RESTART_LENGTH ≤ down.old.capacity }
     ensures host { host.new ≡ host_awaiting new_host (Some Kind.Dump) }
-    ensures up { up.new ≡ line_holding [] up.old.capacity }
+    ensures from_board { from_board.new ≡ line_holding [] from_board.old.capacity }
     ensures down { down.new ≡ line_holding restart_bytes down.old.capacity }
 {
-    host.line_lost();
-    up.clear();
+    from_board.clear();
     down.clear();
+    begin_anew(host, down);
+}
+
+/// The host loses the line and begins anew: it is as new, and what it sends comes behind what is in
+/// the line, where there is room.
+pub fn restart_behind(host: &mut Host, line: &mut Line) -> Outcome
+    ensures { (world : WorldView) → FaultyStep FaultyContent.Restart
+        (record world { host = host.old; down = line.old }) result
+        (record world { host = host.new; down = line.new }) }
+{
+    if line.room() < RESTART_LENGTH {
+        return Outcome::NoRoom;
+    }
+    begin_anew(host, line);
+    Outcome::Done
+}
+
+// The host is as new, and what it sends to begin anew comes behind what is in the line.
+fn begin_anew(host: &mut Host, line: &mut Line)
+    requires { length line.old.bytes + RESTART_LENGTH ≤ line.old.capacity }
+    ensures host { host.new ≡ host_awaiting new_host (Some Kind.Dump) }
+    ensures line { line.new ≡ with_bytes line.old restart_bytes }
+{
+    host.line_lost();
     let mut bytes = [0; RESTART_LENGTH];
     let count = host.restart(&mut bytes).unwrap();
-    down.push(&bytes[..count]);
+    line.push(&bytes[..count]);
+}
+
+/// The line comes to hold these bytes and no others, where they fit.
+pub fn hold(line: &mut Line, bytes: &[u8]) -> Outcome
+    ensures outcome { result ≡ holding_outcome line.old bytes.now }
+    ensures leaves { IfDone result (line.new ≡ line_holding bytes.now line.old.capacity)
+        (line.new ≡ line.old) }
+    ensures bytes { AreBytes bytes.now }
+{
+    if line.capacity() < bytes.len() {
+        return Outcome::NoRoom;
+    }
+    line.clear();
+    line.push(bytes);
+    Outcome::Done
+}
+
+/// Does an act of a world with these ends and these lines.
+pub fn act_on(
+    board: &mut Board,
+    host: &mut Host,
+    up: &mut Line,
+    down: &mut Line,
+    act: Act<'_>,
+) -> Outcome
+    requires { RESTART_LENGTH ≤ down.old.capacity }
+    ensures { Step (act_content act.entry)
+        (record { board = board.old; host = host.old; up = up.old; down = down.old }) result
+        (record { board = board.new; host = host.new; up = up.new; down = down.new }) }
+{
+    match act {
+        Act::Change(square, piece) => {
+            board.change(square, piece);
+            Outcome::Done
+        }
+        Act::ClockRead(clock) => {
+            board.hand_clock(clock);
+            Outcome::Done
+        }
+        Act::Host(command) => ask(host, down, &command),
+        Act::BoardSend => send_next(board, up),
+        Act::ToBoard(count) => to_board(board, down, count),
+        Act::ToHost(count) => to_host(host, up, count),
+        Act::Break => {
+            board.line_lost();
+            host.line_lost();
+            up.clear();
+            down.clear();
+            Outcome::Done
+        }
+        Act::HostBreak => {
+            restart(host, up, down);
+            Outcome::Done
+        }
+    }
 }
 
 /// The board sends its next message into the line.

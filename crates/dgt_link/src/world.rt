@@ -11,6 +11,7 @@ ghost use Rattle.dgt_board.specs.Sending.{backlog, next_message};
 ghost use Rattle.dgt_board.specs.State.{follows_clock, updates};
 ghost use Rattle.dgt_host.specs.Host.{picture_after_all};
 ghost use Rattle.dgt_link.specs.Act.{ActContent, act_content};
+ghost use Rattle.dgt_link.specs.Healing.{IsInStep};
 ghost use Rattle.dgt_link.specs.Stands.{StandsAfterRun, StandsAfterStep, IsExactWorld, StandsFor};
 ghost use Rattle.dgt_link.specs.Promise.{IsAskedBy, IsPromised, IsRestarted, PictureIsComing, act_requests, coming_mode, mode_after};
 ghost use Rattle.dgt_link.specs.Machine.{MachineState, new_state};
@@ -20,10 +21,11 @@ ghost use Rattle.dgt_link.specs.Sound.{IsExact, IsSound, IsUnknownOr};
 ghost use Rattle.dgt_link.specs.Step.{Runs, Step, done_count};
 ghost use Rattle.dgt_link.specs.View.{IsQuietWorld, new_world};
 
-use crate::acts::{Act, Outcome};
+use crate::acts::{Act, Outcome, count};
+use crate::faulty::FaultyWorld;
 use crate::laws;
 use crate::line::{Line, LineMemory};
-use crate::moving::{ask, restart, send_next, to_board, to_host};
+use crate::moving::{act_on, send_next};
 use dgt_board::{Board, Identity, MAX_SENT};
 use dgt_command::MAX_WORD;
 use dgt_host::{Host, RESTART_LENGTH};
@@ -81,17 +83,6 @@ impl Model for World {
       up = world.up;
       down = world.down;
     }) };
-}
-
-// One, if the act was done.
-fn count(outcome: Outcome) -> usize
-    ensures count { result ≡ done_count (outcome ∷ []) }
-    ensures at_most { result ≤ 1 }
-{
-    match outcome {
-        Outcome::Done => 1,
-        Outcome::Nothing | Outcome::NoRoom | Outcome::Busy | Outcome::TooMany => 0,
-    }
 }
 
 impl World {
@@ -153,35 +144,31 @@ impl World {
         }
     }
 
+    /// The same world, whose lines and whose board's power may be at fault from now on.
+    pub fn at_fault(self) -> FaultyWorld
+        ensures same { result ≡ self }
+        ensures in_step { IsInStep result }
+    {
+        laws::worlds_are_in_step();
+        FaultyWorld {
+            board: self.board,
+            host: self.host,
+            up: self.up,
+            down: self.down,
+        }
+    }
+
     fn act(&mut self, act: Act<'_>) -> Outcome
         ensures { Step (act_content act.entry) self.old result self.new }
     {
         laws::acts_keep();
-        match act {
-            Act::Change(square, piece) => {
-                self.board.change(square, piece);
-                Outcome::Done
-            }
-            Act::ClockRead(clock) => {
-                self.board.hand_clock(clock);
-                Outcome::Done
-            }
-            Act::Host(command) => ask(&mut self.host, &mut self.down, &command),
-            Act::BoardSend => self.send(),
-            Act::ToBoard(count) => to_board(&mut self.board, &mut self.down, count),
-            Act::ToHost(count) => to_host(&mut self.host, &mut self.up, count),
-            Act::Break => {
-                self.board.line_lost();
-                self.host.line_lost();
-                self.up.clear();
-                self.down.clear();
-                Outcome::Done
-            }
-            Act::HostBreak => {
-                restart(&mut self.host, &mut self.up, &mut self.down);
-                Outcome::Done
-            }
-        }
+        act_on(
+            &mut self.board,
+            &mut self.host,
+            &mut self.up,
+            &mut self.down,
+            act,
+        )
     }
 
     /// Does one act, and answers what came of it. What isn't `Done` changes nothing.

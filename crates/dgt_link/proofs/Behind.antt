@@ -1,0 +1,469 @@
+-- What an act leaves of a world that stands for a state behind garbage.
+use Rattle.std.proofs.Common.{◌≡◌, refl, sym, ap, ◌∙◌, ◌⊎◌, inl, inr, ℕ, ◌≤◌, List, [], ◌∷◌, ◌++◌, length, take, drop, replicate}
+use Rattle.std.proofs.Common.{Option, Some, None, false, append_assoc, option_to_list, arith}
+use Rattle.std.proofs.lemmas.List.{append-nil}
+use Rattle.std.proofs.lemmas.Grind.{flat_map-append}
+use Rattle.std.specs.List.{flat_map}
+use Rattle.dgt_values.specs.declared.pieces.Piece.{Piece}
+use Rattle.dgt_values.specs.declared.kinds.Kind.{Kind}
+use Rattle.dgt_message.specs.Content.{Content, IsMessage, kind_of}
+use Rattle.dgt_message.specs.Clock.{ClockState}
+use Rattle.dgt_message.specs.Spelling.{spelling}
+use Rattle.dgt_command.specs.Content.{CommandContent, kind_of_command}
+use Rattle.dgt_command.specs.Spelling.{command_spelling}
+use Rattle.dgt_board.specs.State.{BoardState, after_change, after_hand_clock, effects}
+use Rattle.dgt_board.specs.Sending.{after_sending, next_message}
+use Rattle.dgt_board.specs.View.{BoardView}
+use Rattle.dgt_decode.specs.Grammar.{Event, Message, Placed, cut_of, events, events_behind, open_message}
+use Rattle.dgt_decode.specs.Laws.{BeginsAnew}
+use Rattle.dgt_host.specs.Host.{HostView, awaited_after, clock_after, host_after, host_after_event, host_after_events, host_after_message, picture_after}
+use Rattle.dgt_link.specs.Faults.{is_break}
+use Rattle.dgt_link.specs.Act.{ActContent}
+use Rattle.dgt_link.specs.declared.acts.Outcome.{Outcome}
+use Rattle.dgt_link.specs.Machine.{MachineState, Move, after_moves}
+use Rattle.dgt_link.specs.Sound.{IsSound, IsSubsequence, IsUnknownOr, coming_kinds}
+use Rattle.dgt_link.specs.Step.{Becomes, Step, with_state}
+use Rattle.dgt_link.specs.View.{WorldView, without_first}
+use Rattle.dgt_link.specs.Healing.{AwaitsWhatComes, StandsBehind, StandsBehindAfter}
+use Rattle.dgt_link.proofs.Dividing.{divides_command}
+use Rattle.dgt_link.proofs.Hearing.{heard_front, host_after_messages}
+use Rattle.dgt_link.proofs.Lists.{IsShorter, Reaches, all_append, fronts, not_empty}
+use Rattle.dgt_link.proofs.Runs.{moves_sound}
+use Rattle.dgt_link.proofs.Sending.{next_is_sent}
+use Rattle.dgt_link.proofs.Soundness.{ask-kinds, move_sound}
+use Rattle.dgt_link.proofs.Subsequences.{awaited_after-subsequence, subsequence_append, subsequence_later}
+use Rattle.dgt_link.proofs.Standing.{Grammars, front_of, hears, taken_state, takes, with_host}
+
+-- ---- what a host knows that began with less
+
+-- what the one knows the other knows too
+record KnowsNoMore (known host : HostView) : Type 0 where
+  pub picture : IsUnknownOr known.picture host.picture
+  pub clock : IsUnknownOr known.clock host.clock
+
+unknown_picture : (seen : Option (List Piece)) (message : Content)
+    → IsUnknownOr (picture_after None message) (picture_after seen message)
+unknown_picture seen (Content.dump pieces) = inr refl
+unknown_picture seen (Content.field square piece) = inl refl
+unknown_picture seen _ = inl refl
+
+unknown_clock : (seen : Option ClockState) (message : Content)
+    → IsUnknownOr (clock_after None message) (clock_after seen message)
+unknown_clock seen (Content.times readings) = inr refl
+unknown_clock seen (Content.no_clock absence) = inr refl
+unknown_clock seen _ = inl refl
+
+picture_no_more : (known seen : Option (List Piece)) (message : Content) → IsUnknownOr known seen
+    → IsUnknownOr (picture_after known message) (picture_after seen message)
+picture_no_more known seen message (inl none) = rw none (unknown_picture seen message)
+picture_no_more known seen message (inr same) =
+    inr (ap (λ (p : Option (List Piece)). picture_after p message) same)
+
+clock_no_more : (known seen : Option ClockState) (message : Content) → IsUnknownOr known seen
+    → IsUnknownOr (clock_after known message) (clock_after seen message)
+clock_no_more known seen message (inl none) = rw none (unknown_clock seen message)
+clock_no_more known seen message (inr same) = inr (ap (λ (c : Option ClockState). clock_after c message) same)
+
+knows_no_more : (known host : HostView) (messages : List Content) → KnowsNoMore known host
+    → KnowsNoMore (host_after_messages known messages) (host_after_messages host messages)
+knows_no_more known host [] less = less
+knows_no_more known host (message ∷ messages) less =
+    knows_no_more (host_after_message known message) (host_after_message host message) messages (record {
+      picture = picture_no_more known.picture host.picture message less.picture;
+      clock = clock_no_more known.clock host.clock message less.clock;
+    })
+
+-- ---- what is awaited
+
+-- whatever is heard, what is awaited stays among the same kinds
+awaited_after_stays : (awaited : List Kind) (kind : Option Kind) (kinds : List Kind) → IsSubsequence awaited kinds
+    → IsSubsequence (awaited_after awaited kind) kinds
+awaited_after_stays awaited None kinds h = h
+awaited_after_stays awaited (Some kind) kinds h =
+    awaited_after-subsequence awaited (Some kind) kinds (subsequence_later awaited kind kinds h)
+
+event_awaits : (host : HostView) (event : Event) (kinds : List Kind) → IsSubsequence host.awaited kinds
+    → IsSubsequence (host_after_event host event).awaited kinds
+event_awaits host (Message said) kinds h = awaited_after_stays host.awaited (kind_of said) kinds h
+event_awaits host _ kinds h = h
+
+events_await : (host : HostView) (told : List Placed) (kinds : List Kind) → IsSubsequence host.awaited kinds
+    → IsSubsequence (host_after_events host told).awaited kinds
+events_await host [] kinds h = h
+events_await host (x ∷ told) kinds h =
+    events_await (host_after_event host x.event) told kinds (event_awaits host x.event kinds h)
+
+-- what is awaited after messages doesn't depend on what else is known
+same_awaited : (host other : HostView) (messages : List Content) → host.awaited ≡ other.awaited
+    → (host_after_messages host messages).awaited ≡ (host_after_messages other messages).awaited
+same_awaited host other [] e = e
+same_awaited host other (message ∷ messages) e =
+    same_awaited (host_after_message host message) (host_after_message other message) messages
+    (ap (λ (awaited : List Kind). awaited_after awaited (kind_of message)) e)
+
+-- the state whose host awaits this
+abbrev pub awaiting : MachineState → List Kind → MachineState
+awaiting x awaited = record x { awaited = awaited }
+
+pub awaiting_sound : (x : MachineState) (awaited : List Kind) → IsSound x → IsSubsequence awaited (coming_kinds x)
+    → IsSound (awaiting x awaited)
+awaiting_sound x awaited sound h =
+    record {
+      squares = sound.squares;
+      told_squares = sound.told_squares;
+      picture = sound.picture;
+      followed = sound.followed;
+      clock = sound.clock;
+      awaited = h;
+    }
+
+-- ---- garbage, and what begins behind it
+
+events_in_a_row : (host : HostView) (told more : List Placed)
+    → host_after_events host (told ++ more) ≡ host_after_events (host_after_events host told) more
+events_in_a_row host [] more = refl
+events_in_a_row host (x ∷ told) more = events_in_a_row (host_after_event host x.event) told more
+
+-- that a message is cut off tells nothing
+cut_tells_nothing : (host : HostView) (held : List ℕ) → host_after_events host (cut_of held) ≡ host
+cut_tells_nothing host [] = refl
+cut_tells_nothing host (b ∷ held) = refl
+
+same_behind : (front xs ys : List ℕ) → front ++ xs ≡ front ++ ys → xs ≡ ys
+same_behind [] xs ys e = e
+same_behind (b ∷ front) xs ys e = same_behind front xs ys cc
+
+-- what is written of messages begins with a byte with a set top bit
+first_has_top_bit : (messages : List Content) (b : ℕ) (rest : List ℕ) → flat_map spelling messages ≡ b ∷ rest → 128 ≤ b
+first_has_top_bit [] b rest e = cc
+first_has_top_bit (message ∷ messages) b rest e = omega (arith, first_same e)
+  where
+    first_same : {x y : ℕ} {xs ys : List ℕ} → x ∷ xs ≡ y ∷ ys → x ≡ y
+    first_same h = cc
+
+-- whatever the host made of garbage, behind it it hears what begins there
+behind_garbage : BeginsAnew
+    → ((host : HostView) (n : ℕ) (told : List Placed)
+    → host_after_events host (events_behind n told) ≡ host_after_events host told)
+    → (host : HostView) (garbage more : List ℕ) (b : ℕ) → 128 ≤ b
+    → host_after_events host (events (garbage ++ b ∷ more))
+    ≡ host_after_events (host_after_events host (events garbage)) (events (b ∷ more))
+behind_garbage anew places host garbage more b top =
+    let then : HostView = host_after_events host (events garbage) in
+    let cut : List Placed = cut_of (open_message garbage) in
+    ap (host_after_events host) (anew garbage more b top).0
+    ∙ events_in_a_row host (events garbage) (events_behind (length garbage) (cut ++ events (b ∷ more)))
+    ∙ places then (length garbage) (cut ++ events (b ∷ more))
+    ∙ events_in_a_row then cut (events (b ∷ more))
+    ∙ ap (λ (h : HostView). host_after_events h (events (b ∷ more))) (cut_tells_nothing then (open_message garbage))
+
+-- the host of a state
+abbrev host_of : MachineState → HostView
+host_of x = record { picture = x.picture; clock = x.host_clock; awaited = x.awaited; unread = [] }
+
+-- the world after its host has heard so many bytes
+abbrev heard_world : WorldView → ℕ → WorldView
+heard_world world count =
+    record world {
+      host = host_after world.host (take count world.up.bytes);
+      up = without_first world.up count;
+    }
+
+-- all that the host has of a message and then hears
+abbrev all_heard : WorldView → ℕ → List ℕ
+all_heard world count = world.host.unread ++ take count world.up.bytes
+
+-- only the board is another
+board_behind : (garbage : List ℕ) (world : WorldView) (x : MachineState) (state board : BoardState)
+    → StandsBehind garbage world x
+    → IsSound (record x { board = board }) → state ≡ board
+    → StandsBehind garbage (with_state world state) (record x { board = board })
+board_behind garbage world x state board stands sound same =
+    record {
+      sound = sound;
+      board = same;
+      picture = stands.picture;
+      clock = stands.clock;
+      unheard = stands.unheard;
+      are_messages = stands.are_messages;
+      up = stands.up;
+      down = stands.down;
+      partial = stands.partial;
+    }
+
+module _ (laws : Grammars) (anew : BeginsAnew) where
+  -- the host hears what begins with a message, and knew at least what the state's host knows
+  hear_true : (garbage more : List ℕ) (world : WorldView) (count : ℕ) (x : MachineState) (host : HostView)
+      → StandsBehind garbage world x → KnowsNoMore (host_of x) host
+      → (AwaitsWhatComes world x → IsSubsequence host.awaited (coming_kinds x))
+      → host_after_events world.host (events (all_heard world count)) ≡ host_after_events host (events more)
+      → open_message (all_heard world count) ≡ open_message more
+      → flat_map spelling x.up ≡ more ++ drop count world.up.bytes
+      → StandsBehindAfter (ActContent.ToHost count) Outcome.Done world x (heard_world world count)
+  hear_true garbage more world count x host stands less awaits told opened f =
+      let front = heard_front laws.reads more (drop count world.up.bytes) x.up
+      (record { are_messages = stands.are_messages; in_a_row = sym f }) in
+      let moves : List Move = replicate (length front.heard) Move.Hear in
+      let led : after_moves x moves ≡ with_host x (host_after_messages (host_of x) front.heard) front.left =
+      hears front.heard front.left x (host_of x) front.all (record { picture = refl; clock = refl; awaited = refl }) in
+      let known = knows_no_more (host_of x) host front.heard less in
+      let same : host_after_events world.host (events (all_heard world count))
+      ≡ host_after_messages host front.heard
+      = told ∙ front.host host in (
+        [],
+        moves,
+        (length front.heard, refl),
+        rw led
+            (record {
+              sound = rw led at (moves_sound x moves stands.sound);
+              board = stands.board;
+              picture = rw same known.picture;
+              clock = rw same known.clock;
+              unheard = inl refl;
+              are_messages = front.spelled.are_messages;
+              up = rw opened front.spelled.in_a_row;
+              down = stands.down;
+              partial = stands.partial;
+            }),
+        rw (led, same) (λ a.
+            let state_host : HostView = host_of (awaiting x host.awaited) in
+            let ran : after_moves (awaiting x host.awaited) moves
+            ≡ with_host (awaiting x host.awaited) (host_after_messages state_host front.heard) front.left =
+            hears front.heard front.left (awaiting x host.awaited) state_host front.all
+            (record { picture = refl; clock = refl; awaited = refl }) in
+            let sound : IsSound (with_host (awaiting x host.awaited) (host_after_messages state_host front.heard)
+            front.left)
+            = rw ran at (moves_sound (awaiting x host.awaited) moves
+            (awaiting_sound x host.awaited stands.sound (awaits a))) in
+            rw (same_awaited host state_host front.heard refl) sound.awaited),
+      )
+
+  -- the host hears garbage alone
+  hear_garbage : (garbage left : List ℕ) (world : WorldView) (count : ℕ) (x : MachineState)
+      → StandsBehind garbage world x → (x.picture ≡ None) × (x.host_clock ≡ None)
+      → drop count world.up.bytes ≡ left ++ flat_map spelling x.up
+      → StandsBehindAfter (ActContent.ToHost count) Outcome.Done world x (heard_world world count)
+  hear_garbage garbage left world count x stands unknown e = (
+    open_message (all_heard world count) ++ left,
+    [],
+    (0, refl),
+    record {
+      sound = stands.sound;
+      board = stands.board;
+      picture = inl unknown.0;
+      clock = inl unknown.1;
+      unheard = inr unknown;
+      are_messages = stands.are_messages;
+      up =
+          ap (λ (rest : List ℕ). open_message (all_heard world count) ++ rest) e
+          ∙ sym (append_assoc (open_message (all_heard world count)) left (flat_map spelling x.up));
+      down = stands.down;
+      partial = stands.partial;
+    },
+    λ a. events_await world.host (events (all_heard world count)) (coming_kinds x) a,
+  )
+
+  hear_behind : (garbage : List ℕ) (world : WorldView) (count : ℕ) (after : WorldView) (x : MachineState)
+      → StandsBehind garbage world x → Becomes (ActContent.ToHost count) world after
+      → StandsBehindAfter (ActContent.ToHost count) Outcome.Done world x after
+  hear_behind garbage world count after x stands same =
+      rw same (go (fronts (all_heard world count) rest garbage said whole) stands.unheard)
+    where
+      rest : List ℕ
+      rest = drop count world.up.bytes
+
+      said : List ℕ
+      said = flat_map spelling x.up
+
+      whole : all_heard world count ++ drop count world.up.bytes ≡ garbage ++ flat_map spelling x.up
+      whole = sym (front_of world.host.unread world.up.bytes count) ∙ stands.up
+
+      go : IsShorter (all_heard world count) garbage
+          ⊎ Reaches (all_heard world count) (drop count world.up.bytes) garbage (flat_map spelling x.up)
+          → (garbage ≡ []) ⊎ ((x.picture ≡ None) × (x.host_clock ≡ None))
+          → StandsBehindAfter (ActContent.ToHost count) Outcome.Done world x (heard_world world count)
+      go (inl (next, more, e)) (inl none) = absurd (not_empty (all_heard world count) next more (sym e ∙ none))
+      go (inl (next, more, e)) (inr unknown) =
+          hear_garbage garbage (next ∷ more) world count x stands unknown
+          (same_behind (all_heard world count) (drop count world.up.bytes) (next ∷ more ++ flat_map spelling x.up)
+          (whole ∙ ap (λ (g : List ℕ). g ++ flat_map spelling x.up) e
+          ∙ append_assoc (all_heard world count) (next ∷ more) (flat_map spelling x.up)))
+      go (inr (more, e, f)) (inl none) =
+          let is : all_heard world count ≡ more = e ∙ ap (λ (g : List ℕ). g ++ more) none in
+          hear_true garbage more world count x world.host stands
+          (record { picture = stands.picture; clock = stands.clock }) (λ a. a)
+          (ap (λ (bytes : List ℕ). host_after_events world.host (events bytes)) is)
+          (ap open_message is) f
+      go (inr ([], e, f)) (inr unknown) = hear_garbage garbage [] world count x stands unknown (sym f)
+      go (inr (b ∷ more, e, f)) (inr unknown) =
+          let top = first_has_top_bit x.up b (more ++ drop count world.up.bytes) f in
+          hear_true garbage (b ∷ more) world count x (host_after_events world.host (events garbage)) stands
+          (record { picture = inl unknown.0; clock = inl unknown.1 })
+          (λ a. events_await world.host (events garbage) (coming_kinds x) a)
+          (ap (λ (bytes : List ℕ). host_after_events world.host (events bytes)) e
+          ∙ behind_garbage anew laws.reads.places world.host garbage more b top)
+          (ap open_message e ∙ (anew garbage more b top).1) f
+
+  change_behind : (garbage : List ℕ) (world : WorldView) (square : ℕ) (piece : Piece) (after : WorldView)
+      (x : MachineState)
+      → StandsBehind garbage world x → Becomes (ActContent.Change square piece) world after
+      → StandsBehindAfter (ActContent.Change square piece) Outcome.Done world x after
+  change_behind garbage world square piece after x stands same = (
+    garbage,
+    Move.Change square piece ∷ [],
+    refl,
+    rw same
+        (board_behind garbage world x (after_change world.board.state square piece)
+        (after_change x.board square piece) stands
+        (move_sound x (Move.Change square piece) stands.sound)
+        (ap (λ (board : BoardState). after_change board square piece) stands.board)),
+    rw same (λ a. a),
+  )
+
+  clock_behind : (garbage : List ℕ) (world : WorldView) (clock : ClockState) (after : WorldView) (x : MachineState)
+      → StandsBehind garbage world x → Becomes (ActContent.ClockRead clock) world after
+      → StandsBehindAfter (ActContent.ClockRead clock) Outcome.Done world x after
+  clock_behind garbage world clock after x stands same = (
+    garbage,
+    Move.HandClock clock ∷ [],
+    refl,
+    rw same
+        (board_behind garbage world x (after_hand_clock world.board.state clock) (after_hand_clock x.board clock) stands
+        (move_sound x (Move.HandClock clock) stands.sound)
+        (ap (λ (board : BoardState). after_hand_clock board clock) stands.board)),
+    rw same (λ a. a),
+  )
+
+  ask_behind : (garbage : List ℕ) (world : WorldView) (command : CommandContent) (after : WorldView) (x : MachineState)
+      → StandsBehind garbage world x → Becomes (ActContent.Host command) world after
+      → StandsBehindAfter (ActContent.Host command) Outcome.Done world x after
+  ask_behind garbage world command after x stands (spells, same) = (
+    garbage,
+    Move.Ask command ∷ [],
+    refl,
+    rw same
+        (record {
+          sound = move_sound x (Move.Ask command) stands.sound;
+          board = stands.board;
+          picture = stands.picture;
+          clock = stands.clock;
+          unheard = stands.unheard;
+          are_messages = stands.are_messages;
+          up = stands.up;
+          down = rw (append_assoc world.board.partial world.down.bytes (command_spelling command)) at
+              (divides_command laws.nothing laws.divisions_append
+              (world.board.partial ++ world.down.bytes) x.down command stands.down spells);
+          partial = stands.partial;
+        }),
+    rw same (λ a. rw (ask-kinds x command)
+        (subsequence_append world.host.awaited (coming_kinds x) (option_to_list (kind_of_command command)) a)),
+  )
+
+  send_behind : (garbage : List ℕ) (world after : WorldView) (x : MachineState) → StandsBehind garbage world x
+      → Becomes ActContent.BoardSend world after → StandsBehindAfter ActContent.BoardSend Outcome.Done world x after
+  send_behind garbage world after x stands (message, is_next, spells, same) =
+      let by = next_is_sent x message (ap next_message (sym stands.board) ∙ is_next) in (
+        garbage,
+        by.0 ∷ [],
+        (by.0, by.1, refl),
+        rw (same, by.2)
+            (record {
+              sound = rw by.2 at (move_sound x by.0 stands.sound);
+              board = ap (λ (board : BoardState). after_sending board message) stands.board;
+              picture = stands.picture;
+              clock = stands.clock;
+              unheard = stands.unheard;
+              are_messages = all_append IsMessage x.up (message ∷ []) stands.are_messages (spells.is_message, tt);
+              up =
+                  sym (append_assoc world.host.unread world.up.bytes (spelling message))
+                  ∙ ap (λ (front : List ℕ). front ++ spelling message) stands.up
+                  ∙ append_assoc garbage (flat_map spelling x.up) (spelling message)
+                  ∙ ap (λ (behind : List ℕ). garbage ++ behind)
+                  (sym (flat_map-append spelling x.up (message ∷ [])
+                  ∙ ap (λ (last : List ℕ). flat_map spelling x.up ++ last) (append-nil (spelling message))));
+              down = stands.down;
+              partial = stands.partial;
+            }),
+        rw (same, by.2) (λ a.
+            let also = next_is_sent (awaiting x world.host.awaited) message
+            (ap next_message (sym stands.board) ∙ is_next) in
+            let sound : IsSound (record (awaiting x world.host.awaited) {
+              board = after_sending x.board message;
+              up = x.up ++ message ∷ [];
+            })
+            = rw also.2 at (move_sound (awaiting x world.host.awaited) also.0
+            (awaiting_sound x world.host.awaited stands.sound a)) in
+            sound.awaited),
+      )
+
+  take_behind : (garbage : List ℕ) (world : WorldView) (count : ℕ) (after : WorldView) (x : MachineState)
+      → StandsBehind garbage world x → Becomes (ActContent.ToBoard count) world after
+      → StandsBehindAfter (ActContent.ToBoard count) Outcome.Done world x after
+  take_behind garbage world count after x stands delivers =
+      let taken = delivers.taken in
+      let board : BoardView = delivers.board in
+      let front = laws.fronts_divide_first
+      (world.board.partial ++ take delivers.moved world.down.bytes)
+      (drop delivers.moved world.down.bytes) taken.events x.down board.partial [] taken.divided
+      (rw (front_of world.board.partial world.down.bytes delivers.moved) at stands.down) in
+      let moves : List Move = replicate (length taken.events) Move.Take in
+      let led : after_moves x moves ≡ taken_state x taken.events front.0 = takes taken.events front.0 x front.1 in (
+        garbage,
+        moves,
+        (length taken.events, refl),
+        rw (delivers.leaves, led)
+            (record {
+              sound = rw led at (moves_sound x moves stands.sound);
+              board = taken.state ∙ ap (λ (state : BoardState). effects state taken.events) stands.board;
+              picture = stands.picture;
+              clock = stands.clock;
+              unheard = stands.unheard;
+              are_messages = stands.are_messages;
+              up = stands.up;
+              down = front.2;
+              partial =
+                  laws.left (world.board.partial ++ take delivers.moved world.down.bytes) board.partial taken.events
+                  taken.divided;
+            }),
+        rw (delivers.leaves, led) (λ a.
+            let ran : after_moves (awaiting x world.host.awaited) moves
+            ≡ taken_state (awaiting x world.host.awaited) taken.events front.0
+            = takes taken.events front.0 (awaiting x world.host.awaited) front.1 in
+            let sound : IsSound (taken_state (awaiting x world.host.awaited) taken.events front.0)
+            = rw ran at (moves_sound (awaiting x world.host.awaited) moves
+            (awaiting_sound x world.host.awaited stands.sound a)) in
+            sound.awaited),
+      )
+
+  becomes_behind : (act : ActContent) (garbage : List ℕ) (world after : WorldView) (x : MachineState)
+      → is_break act ≡ false → StandsBehind garbage world x → Becomes act world after
+      → StandsBehindAfter act Outcome.Done world x after
+  becomes_behind (ActContent.Change square piece) garbage world after x other stands becomes =
+      change_behind garbage world square piece after x stands becomes
+  becomes_behind (ActContent.ClockRead clock) garbage world after x other stands becomes =
+      clock_behind garbage world clock after x stands becomes
+  becomes_behind (ActContent.Host command) garbage world after x other stands becomes =
+      ask_behind garbage world command after x stands becomes
+  becomes_behind ActContent.BoardSend garbage world after x other stands becomes =
+      send_behind garbage world after x stands becomes
+  becomes_behind (ActContent.ToBoard count) garbage world after x other stands becomes =
+      take_behind garbage world count after x stands becomes
+  becomes_behind (ActContent.ToHost count) garbage world after x other stands becomes =
+      hear_behind garbage world count after x stands becomes
+  becomes_behind ActContent.Break garbage world after x other stands becomes = cc
+  becomes_behind ActContent.HostBreak garbage world after x other stands becomes = cc
+
+  pub step_behind : (act : ActContent) (garbage : List ℕ) (world : WorldView) (answer : Outcome) (after : WorldView)
+      (x : MachineState)
+      → is_break act ≡ false → StandsBehind garbage world x → Step act world answer after
+      → StandsBehindAfter act answer world x after
+  step_behind act garbage world Outcome.Done after x other stands step =
+      becomes_behind act garbage world after x other stands step.leaves
+  step_behind act garbage world Outcome.Nothing after x other stands step =
+      (garbage, [], refl, rw step.leaves stands, rw step.leaves (λ a. a))
+  step_behind act garbage world Outcome.NoRoom after x other stands step =
+      (garbage, [], refl, rw step.leaves stands, rw step.leaves (λ a. a))
+  step_behind act garbage world Outcome.Busy after x other stands step =
+      (garbage, [], refl, rw step.leaves stands, rw step.leaves (λ a. a))
+  step_behind act garbage world Outcome.TooMany after x other stands step =
+      (garbage, [], refl, rw step.leaves stands, rw step.leaves (λ a. a))

@@ -1,0 +1,661 @@
+-- What a world at fault keeps, and how a host that begins anew, or asks for a dump, comes to know the board again.
+use Rattle.std.proofs.Common.{◌≡◌, refl, sym, ap, subst, ◌∙◌, inl, inr, ℕ, zero, suc, List, [], ◌∷◌, ◌++◌, length, drop, replicate, map}
+use Rattle.std.proofs.Common.{Option, Some, None, false, true, Bool, append_assoc, arith, rules}
+use Rattle.std.proofs.lemmas.Bool.{false≢true}
+use Rattle.std.proofs.lemmas.List.{append-nil}
+use Rattle.std.proofs.lemmas.List.Elements.{filter_map-append, Contains-append_right}
+use Rattle.std.specs.List.{cons_option, flat_map}
+use Rattle.std.specs.Prelude.{◌||◌, IsTrue, Contains, filter, filter_map}
+use Rattle.dgt_values.specs.declared.kinds.Kind.{Kind}
+use Rattle.dgt_message.specs.Content.{Content}
+use Rattle.dgt_message.specs.Spelling.{spelling}
+use Rattle.dgt_command.specs.Content.{CommandContent, EventContent}
+use Rattle.dgt_command.specs.Laws.{EachDividesOnce}
+use Rattle.dgt_command.specs.Spelling.{AreBytes, command_spelling}
+use Rattle.dgt_command.specs.Words.{Divides, IsNoiseList, IsPartial}
+use Rattle.dgt_board.specs.declared.modes.Mode.{Mode}
+use Rattle.dgt_board.specs.State.{BoardState, after_line_lost, command_mode, effects}
+use Rattle.dgt_board.specs.Sending.{pending_messages}
+use Rattle.dgt_board.specs.View.{BoardView}
+use Rattle.dgt_decode.specs.Laws.{BeginsAnew}
+use Rattle.dgt_host.specs.Host.{follow_bytes, restart_bytes}
+use Rattle.dgt_link.specs.Act.{ActContent}
+use Rattle.dgt_link.specs.declared.acts.Outcome.{Outcome}
+use Rattle.dgt_link.specs.Faults.{FaultyBecomes, FaultyContent, FaultyRuns, FaultyStep, is_break}
+use Rattle.dgt_link.specs.Healing.{AwaitsWhatComes, Counted, IsFaultyWorld, IsHealing, IsInStep, IsInTurn, IsSane, StandsBehind, counted_after, counted_after_all, is_no_dump, nothing_counted}
+use Rattle.dgt_link.specs.Machine.{MachineState, Move, after_move, after_moves, commands_anew, state_of_board}
+use Rattle.dgt_link.specs.Promise.{IsAsked, IsQuiet, act_requests, commands_after, event_mode, last_mode}
+use Rattle.dgt_link.specs.Sound.{IsSound, IsSubsequence, IsUnknownOr, coming_kinds, kind_of_event, kind_of_reply}
+use Rattle.dgt_link.specs.Stands.{IsWorld, StandsFor}
+use Rattle.dgt_link.specs.Step.{Becomes, Step}
+use Rattle.dgt_link.specs.View.{IsQuietWorld, WorldView}
+use Rattle.dgt_link.proofs.Asking.{requests-step}
+use Rattle.dgt_link.proofs.Behind.{awaiting, awaiting_sound, step_behind}
+use Rattle.dgt_link.proofs.Dividing.{anew_divides}
+use Rattle.dgt_link.proofs.Lists.{Contains-cons, nothing_contained, right_empty}
+use Rattle.dgt_link.proofs.Promises.{IsComing, asked_anew-mode, coming_promise, last_mode-append, noise-modes, nothing_asked}
+use Rattle.dgt_link.proofs.Quiet.{promised_picture, quiet_awaited}
+use Rattle.dgt_link.proofs.Resting.{nothing_first}
+use Rattle.dgt_link.proofs.Runs.{moves_come, moves_sound}
+use Rattle.dgt_link.proofs.Sending.{next_is_sent}
+use Rattle.dgt_link.proofs.Soundness.{move_sound, new_sound, noise-kinds}
+use Rattle.dgt_link.proofs.Subsequences.{subsequence_at_end}
+use Rattle.dgt_link.proofs.Standing.{Grammars, HasRooms, becomes_rooms, same_rooms, taken_state, takes}
+
+-- ---- bytes
+
+bytes_append : (xs ys : List ℕ) → AreBytes xs → AreBytes ys → AreBytes (xs ++ ys)
+bytes_append [] ys h k i = k i
+bytes_append (x ∷ xs) ys h k zero = h 0
+bytes_append (x ∷ xs) ys h k (suc i) = bytes_append xs ys (λ j. h (suc j)) k i
+
+bytes_drop : (count : ℕ) (xs : List ℕ) → AreBytes xs → AreBytes (drop count xs)
+bytes_drop zero xs h i = h i
+bytes_drop (suc count) [] h i = h i
+bytes_drop (suc count) (x ∷ xs) h i = bytes_drop count xs (λ j. h (suc j)) i
+
+no_bytes : AreBytes []
+no_bytes i = omega arith
+
+bytes_zeros : (count : ℕ) → AreBytes (replicate count 0)
+bytes_zeros zero i = omega arith
+bytes_zeros (suc count) zero = omega arith
+bytes_zeros (suc count) (suc i) = bytes_zeros count i
+
+bytes_follow : AreBytes (0x44 ∷ 0x42 ∷ [])
+bytes_follow = search rules
+
+bytes_restart : AreBytes restart_bytes
+bytes_restart = bytes_append (replicate 255 0) follow_bytes (bytes_zeros 255) bytes_follow
+
+-- ---- a world at fault stays sane
+
+-- a sound state's board is sound with nothing under way
+board_sound : (x : MachineState) → IsSound x → IsSound (state_of_board x.board)
+board_sound x sound =
+    record {
+      squares = sound.squares;
+      told_squares = sound.told_squares;
+      picture = inl refl;
+      followed = sound.followed;
+      clock = inl refl;
+      awaited = tt;
+    }
+
+-- and so with commands under way
+abbrev commanded_state : BoardState → List EventContent → MachineState
+commanded_state board events = record (state_of_board board) { down = events }
+
+commanded_sound : (board : BoardState) (events : List EventContent) → IsSound (state_of_board board)
+    → IsSound (commanded_state board events)
+commanded_sound board events sound =
+    record {
+      squares = sound.squares;
+      told_squares = sound.told_squares;
+      picture = inl refl;
+      followed = sound.followed;
+      clock = inl refl;
+      awaited = tt;
+    }
+
+effects_sound : (board : BoardState) (events : List EventContent) → IsSound (state_of_board board)
+    → IsSound (state_of_board (effects board events))
+effects_sound board events sound =
+    let x = commanded_state board events in
+    let moves : List Move = replicate (length events) Move.Take in
+    let led : after_moves x moves ≡ taken_state x events [] = takes events [] x (sym (append-nil events)) in
+    board_sound (taken_state x events []) (rw led at (moves_sound x moves (commanded_sound board events sound)))
+
+module _ (laws : Grammars) where
+  becomes_sane : (act : ActContent) (world after : WorldView) → IsSane world → Becomes act world after → IsSane after
+  becomes_sane (ActContent.Change square piece) world after sane same =
+      rw same
+      (record {
+        board = move_sound (state_of_board world.board.state) (Move.Change square piece) sane.board;
+        partial = sane.partial;
+        down = sane.down;
+      })
+  becomes_sane (ActContent.ClockRead clock) world after sane same =
+      rw same
+      (record {
+        board = move_sound (state_of_board world.board.state) (Move.HandClock clock) sane.board;
+        partial = sane.partial;
+        down = sane.down;
+      })
+  becomes_sane (ActContent.Host command) world after sane (spells, same) =
+      rw same
+      (record {
+        board = sane.board;
+        partial = sane.partial;
+        down = bytes_append world.down.bytes (command_spelling command) sane.down spells.are_bytes;
+      })
+  becomes_sane ActContent.BoardSend world after sane (message, is_next, spells, same) =
+      let x = state_of_board world.board.state in
+      let by = next_is_sent x message is_next in
+      let y = after_move x by.0 in
+      let sound : IsSound (state_of_board (after_move x by.0).board)
+      = board_sound (after_move x by.0) (move_sound x by.0 sane.board) in
+      rw same
+      (record {
+        board = rw by.2 at sound;
+        partial = sane.partial;
+        down = sane.down;
+      })
+  becomes_sane (ActContent.ToBoard count) world after sane delivers =
+      let taken = delivers.taken in
+      rw delivers.leaves
+      (record {
+        board = rw taken.state (effects_sound world.board.state taken.events sane.board);
+        partial = laws.left _ delivers.board.partial taken.events taken.divided;
+        down = bytes_drop delivers.moved world.down.bytes sane.down;
+      })
+  becomes_sane (ActContent.ToHost count) world after sane same =
+      rw same (record { board = sane.board; partial = sane.partial; down = sane.down })
+  becomes_sane ActContent.Break world after sane same =
+      rw same
+      (record {
+        board = new_sound world.board.state.squares world.board.state.clock world.board.state.identity
+            sane.board.squares;
+        partial = laws.nothing;
+        down = no_bytes;
+      })
+  becomes_sane ActContent.HostBreak world after sane same =
+      rw same (record { board = sane.board; partial = sane.partial; down = bytes_restart })
+
+  faulty_sane : (act : FaultyContent) (world after : WorldView) → IsSane world → FaultyBecomes act world after
+      → IsSane after
+  faulty_sane (FaultyContent.Plain act) world after sane becomes = becomes_sane act world after sane becomes
+  faulty_sane (FaultyContent.GarbleUp bytes) world after sane same =
+      rw same (record { board = sane.board; partial = sane.partial; down = sane.down })
+  faulty_sane (FaultyContent.GarbleDown bytes) world after sane (are, same) =
+      rw same (record { board = sane.board; partial = sane.partial; down = are })
+  faulty_sane FaultyContent.BoardLost world after sane same =
+      rw same
+      (record {
+        board = new_sound world.board.state.squares world.board.state.clock world.board.state.identity
+            sane.board.squares;
+        partial = laws.nothing;
+        down = sane.down;
+      })
+  faulty_sane FaultyContent.Restart world after sane same =
+      rw same
+      (record {
+        board = sane.board;
+        partial = sane.partial;
+        down = bytes_append world.down.bytes restart_bytes sane.down bytes_restart;
+      })
+
+  pub step_sane : (act : FaultyContent) (world : WorldView) (answer : Outcome) (after : WorldView) → IsSane world
+      → FaultyStep act world answer after → IsSane after
+  step_sane act world Outcome.Done after sane step = faulty_sane act world after sane step.leaves
+  step_sane act world Outcome.Nothing after sane step = rw step.leaves sane
+  step_sane act world Outcome.NoRoom after sane step = rw step.leaves sane
+  step_sane act world Outcome.Busy after sane step = rw step.leaves sane
+  step_sane act world Outcome.TooMany after sane step = rw step.leaves sane
+
+-- ---- what counts, and what stands behind it
+
+-- the world stands for a state behind garbage, and what was asked for comes to it
+pub record Follows (in_turn : Bool) (asked : List CommandContent) (world : WorldView) : Type 0 where
+  pub garbage : List ℕ
+  pub state : MachineState
+  pub stands : StandsBehind garbage world state
+  pub comes : IsComing asked state
+  pub awaits : IsTrue in_turn → AwaitsWhatComes world state
+
+-- what is kept
+pub record Holds (c : Counted) (world : WorldView) : Type 0 where
+  pub sane : IsSane world
+  pub follows : IsTrue c.in_step → Follows c.in_turn c.asked world
+
+pub follows_in_step : (in_turn : Bool) (asked : List CommandContent) (world : WorldView)
+    → Follows in_turn asked world → IsInStep world
+follows_in_step in_turn asked world f = record { garbage = f.garbage; state = f.state; stands = f.stands }
+
+-- nothing was asked for yet
+pub in_step_follows : (world : WorldView) → IsInStep world → Follows false [] world
+in_step_follows world is =
+    record {
+      garbage = is.garbage;
+      state = is.state;
+      stands = is.stands;
+      comes = nothing_asked is.state;
+      awaits = λ none. absurd (false≢true none);
+    }
+
+-- an act that is no break
+plain_follows : Grammars → BeginsAnew → (act : ActContent) (world : WorldView) (answer : Outcome) (after : WorldView)
+    (in_turn : Bool) (asked : List CommandContent)
+    → is_break act ≡ false → Follows in_turn asked world → Step act world answer after
+    → Follows in_turn (commands_after asked (act_requests answer act)) after
+plain_follows laws anew act world answer after in_turn asked other f step =
+    let reached = step_behind laws anew act f.garbage world answer after f.state other f.stands step in
+    record {
+      garbage = reached.0;
+      state = after_moves f.state reached.1;
+      stands = reached.3;
+      comes = rw (requests-step act answer reached.1 reached.2) at (moves_come asked f.state reached.1 f.comes);
+      awaits = λ turn. reached.4 (f.awaits turn);
+    }
+
+-- ---- the up line is at fault
+
+dump_is_out : (commands : List CommandContent) → Contains (filter is_no_dump commands) CommandContent.Dump → ⊥
+dump_is_out [] has = nothing_contained CommandContent.Dump has
+dump_is_out (CommandContent.Dump ∷ commands) has = dump_is_out commands has
+dump_is_out (command ∷ commands) has =
+    elim (Contains-cons CommandContent.Dump command (filter is_no_dump commands) has) [
+      | inl is ↦ cc
+      | inr later ↦ dump_is_out commands later
+    ]
+
+modes_stay : (commands : List CommandContent)
+    → filter_map command_mode (filter is_no_dump commands) ≡ filter_map command_mode commands
+modes_stay [] = refl
+modes_stay (CommandContent.Dump ∷ commands) = modes_stay commands
+modes_stay (command ∷ commands) = ap (cons_option (command_mode command)) (modes_stay commands)
+
+-- the messages under way are lost, and garbage is in their place
+pub garbled_stands : (bytes : List ℕ) (world after : WorldView) (garbage : List ℕ) (x : MachineState)
+    → StandsBehind garbage world x → FaultyBecomes (FaultyContent.GarbleUp bytes) world after
+    → StandsBehind (world.host.unread ++ bytes) after
+    (record x { up = []; picture = None; host_clock = None; awaited = [] })
+garbled_stands bytes world after garbage x stands same =
+    rw same
+    (record {
+      sound = record {
+        squares = stands.sound.squares;
+        told_squares = stands.sound.told_squares;
+        picture = inl refl;
+        followed = stands.sound.followed;
+        clock = inl refl;
+        awaited = tt;
+      };
+      board = stands.board;
+      picture = inl refl;
+      clock = inl refl;
+      unheard = inr (refl, refl);
+      are_messages = tt;
+      up = sym (append-nil (world.host.unread ++ bytes));
+      down = stands.down;
+      partial = stands.partial;
+    })
+
+garbled_follows : (in_turn : Bool) (asked : List CommandContent) (bytes : List ℕ) (world after : WorldView)
+    → Follows in_turn asked world
+    → FaultyBecomes (FaultyContent.GarbleUp bytes) world after → Follows false (filter is_no_dump asked) after
+garbled_follows in_turn asked bytes world after f same =
+    record {
+      garbage = world.host.unread ++ bytes;
+      state = record f.state { up = []; picture = None; host_clock = None; awaited = [] };
+      stands = garbled_stands bytes world after f.garbage f.state f.stands same;
+      comes = record {
+        picture = λ has. absurd (dump_is_out asked has);
+        before = f.comes.before;
+        mode = f.comes.mode ∙ sym (ap (last_mode f.comes.before) (modes_stay asked));
+      };
+      awaits = λ none. absurd (false≢true none);
+    }
+
+-- ---- a break, and a host that begins anew
+
+module _ (laws : Grammars) (once : EachDividesOnce)
+    (bytes_behind : (rest more : List ℕ) → IsPartial rest → AreBytes more → AreBytes (rest ++ more)) where
+  pub break_follows : (world after : WorldView) → IsSane world → Becomes ActContent.Break world after
+      → Follows true [] after
+  break_follows world after sane same =
+      rw same
+      (record {
+        garbage = [];
+        state = state_of_board (after_line_lost world.board.state);
+        stands = record {
+          sound = new_sound world.board.state.squares world.board.state.clock world.board.state.identity
+              sane.board.squares;
+          board = refl;
+          picture = inl refl;
+          clock = inl refl;
+          unheard = inl refl;
+          are_messages = tt;
+          up = refl;
+          down = (refl, laws.nothing);
+          partial = laws.nothing;
+        };
+        comes = nothing_asked (state_of_board (after_line_lost world.board.state));
+        awaits = λ turn. tt;
+      })
+
+  -- what comes to the board of a host that begins anew behind other commands
+  anew_mode : (before : Mode) (events noise : List EventContent) → IsNoiseList noise
+      → last_mode before (filter_map event_mode (events ++ (noise ++ map EventContent.Read commands_anew)))
+      ≡ Mode.UpdateBoard
+  anew_mode before events noise is_noise =
+      let anew = map EventContent.Read commands_anew in
+      ap (last_mode before) (filter_map-append event_mode events (noise ++ anew))
+      ∙ last_mode-append before (filter_map event_mode events) (filter_map event_mode (noise ++ anew))
+      ∙ ap (last_mode (last_mode before (filter_map event_mode events)))
+      (filter_map-append event_mode noise anew ∙ ap (λ (modes : List Mode). modes ++ Mode.UpdateBoard ∷ [])
+      (noise-modes noise is_noise))
+
+  anew_comes : (asked : List CommandContent) (board : BoardState) (events noise : List EventContent)
+      → IsNoiseList noise
+      → IsComing (commands_after asked (map Some commands_anew))
+      (commanded_state board (events ++ (noise ++ map EventContent.Read commands_anew)))
+  anew_comes asked board events noise is_noise =
+      record {
+        picture = λ has. inr (inr
+            (Contains-append_right events (noise ++ map EventContent.Read commands_anew)
+            (EventContent.Read CommandContent.Dump)
+            (Contains-append_right noise (map EventContent.Read commands_anew)
+            (EventContent.Read CommandContent.Dump) (1, omega arith, refl))));
+        before = Mode.Idle;
+        mode = anew_mode board.mode events noise is_noise ∙ asked_anew-mode Mode.Idle asked;
+      }
+
+  -- the dump that such a host awaits comes last
+  anew_awaits : (board : BoardState) (events noise : List EventContent) → IsNoiseList noise
+      → IsSubsequence (Kind.Dump ∷ [])
+      (coming_kinds (commanded_state board (events ++ (noise ++ map EventContent.Read commands_anew))))
+  anew_awaits board events noise is_noise =
+      let anew = map EventContent.Read commands_anew in
+      let owed : List Kind = filter_map kind_of_reply board.owed in
+      let kinds : filter_map kind_of_event (events ++ (noise ++ anew))
+      ≡ filter_map kind_of_event events ++ Kind.Dump ∷ []
+      = filter_map-append kind_of_event events (noise ++ anew)
+      ∙ ap (λ (rest : List Kind). filter_map kind_of_event events ++ rest)
+      (filter_map-append kind_of_event noise anew
+      ∙ ap (λ (first : List Kind). first ++ Kind.Dump ∷ []) (noise-kinds noise is_noise)) in
+      let all : owed ++ filter_map kind_of_event (events ++ (noise ++ anew))
+      ≡ (owed ++ filter_map kind_of_event events) ++ Kind.Dump ∷ []
+      = ap (λ (rest : List Kind). owed ++ rest) kinds
+      ∙ sym (append_assoc owed (filter_map kind_of_event events) (Kind.Dump ∷ [])) in
+      subst (λ (kinds : List Kind). IsSubsequence (Kind.Dump ∷ []) kinds) (sym all)
+      (subsequence_at_end (Kind.Dump ∷ []) (owed ++ filter_map kind_of_event events))
+
+  -- the restart bytes behind what leaves this rest
+  anew_divides_behind : (bytes : List ℕ) (events : List EventContent) (rest : List ℕ) → Divides bytes events rest
+      → (noise : List EventContent) × IsNoiseList noise
+      × Divides (bytes ++ restart_bytes) (events ++ (noise ++ map EventContent.Read commands_anew)) []
+  anew_divides_behind bytes events rest divides =
+      let noise = laws.zeros_settle rest (laws.left bytes rest events divides) in (
+        noise.0,
+        noise.1,
+        laws.divisions_append bytes restart_bytes events (noise.0 ++ map EventContent.Read commands_anew) rest []
+            divides
+            (rw (append_assoc rest (replicate 255 0) follow_bytes) at
+            (laws.divisions_append (rest ++ replicate 255 0) follow_bytes noise.0
+            (map EventContent.Read commands_anew) [] [] noise.2 (anew_divides laws.nothing))),
+      )
+
+  -- the host is as new, and its restart bytes come behind these, and then garbage to the host
+  anew_follows : (asked : List CommandContent) (world after : WorldView) (bytes up : List ℕ) → IsSane world
+      → AreBytes bytes → after.board ≡ world.board → after.down.bytes ≡ bytes ++ restart_bytes
+      → after.host.unread ++ after.up.bytes ≡ up → after.host.awaited ≡ Kind.Dump ∷ []
+      → Follows true (commands_after asked (map Some commands_anew)) after
+  anew_follows asked world after bytes up sane are board down heard awaited =
+      let divided = once.0 (world.board.partial ++ bytes)
+      (bytes_behind world.board.partial bytes sane.partial are) in
+      let anew = anew_divides_behind (world.board.partial ++ bytes) divided.0 divided.1 divided.2 in
+      let events : List EventContent = divided.0 ++ (anew.0 ++ map EventContent.Read commands_anew) in
+      record {
+        garbage = up;
+        state = commanded_state world.board.state
+            (divided.0 ++ (anew.0 ++ map EventContent.Read commands_anew));
+        stands = record {
+          sound = commanded_sound world.board.state
+              (divided.0 ++ (anew.0 ++ map EventContent.Read commands_anew)) sane.board;
+          board = ap (λ (b : BoardView). b.state) board;
+          picture = inl refl;
+          clock = inl refl;
+          unheard = inr (refl, refl);
+          are_messages = tt;
+          up = heard ∙ sym (append-nil up);
+          down = rw (board, down, ← append_assoc world.board.partial bytes restart_bytes) anew.2;
+          partial = rw board sane.partial;
+        };
+        comes = anew_comes asked world.board.state divided.0 anew.0 anew.1;
+        awaits = λ turn. rw awaited (anew_awaits world.board.state divided.0 anew.0 anew.1);
+      }
+
+  pub host_break_follows : (asked : List CommandContent) (world after : WorldView) → IsSane world
+      → Becomes ActContent.HostBreak world after → Follows true (commands_after asked (map Some commands_anew)) after
+  host_break_follows asked world after sane same =
+      rw same (anew_follows asked world _ [] [] sane no_bytes refl refl refl refl)
+
+  pub restart_follows : (asked : List CommandContent) (world after : WorldView) → IsSane world
+      → FaultyBecomes FaultyContent.Restart world after
+      → Follows true (commands_after asked (map Some commands_anew)) after
+  restart_follows asked world after sane same =
+      rw same (anew_follows asked world _ world.down.bytes world.up.bytes sane sane.down refl refl refl refl)
+
+-- ---- each act, and acts in order
+
+-- what isn't done
+unchanged : (c : Counted) (world after : WorldView) → after ≡ world → Holds c world → IsTrue c.in_step
+    → Follows c.in_turn c.asked after
+unchanged c world after same holds in_step = rw same (holds.follows in_step)
+
+pub plain_step : (act : ActContent) (world : WorldView) (answer : Outcome) (after : WorldView)
+    → FaultyStep (FaultyContent.Plain act) world answer after → Step act world answer after
+plain_step act world answer after step = record { answers = step.answers; leaves = step.leaves }
+
+pub faulty_step : (act : ActContent) (world : WorldView) (answer : Outcome) (after : WorldView)
+    → Step act world answer after → FaultyStep (FaultyContent.Plain act) world answer after
+faulty_step act world answer after step = record { answers = step.answers; leaves = step.leaves }
+
+module _ (laws : Grammars) (anew : BeginsAnew) (once : EachDividesOnce)
+    (bytes_behind : (rest more : List ℕ) → IsPartial rest → AreBytes more → AreBytes (rest ++ more)) where
+  breaks_after : (c : Counted) (world : WorldView) (answer : Outcome) (after : WorldView) → IsSane world
+      → Step ActContent.Break world answer after
+      → Follows true (commands_after c.asked (act_requests answer ActContent.Break)) after
+  breaks_after c world Outcome.Done after sane step = break_follows laws once bytes_behind world after sane step.leaves
+  breaks_after c world _ after sane step = let is = step.answers in cc
+
+  host_breaks_after : (c : Counted) (world : WorldView) (answer : Outcome) (after : WorldView) → IsSane world
+      → Step ActContent.HostBreak world answer after
+      → Follows true (commands_after c.asked (act_requests answer ActContent.HostBreak)) after
+  host_breaks_after c world Outcome.Done after sane step =
+      host_break_follows laws once bytes_behind c.asked world after sane step.leaves
+  host_breaks_after c world _ after sane step = let is = step.answers in cc
+
+  plain_after : (c : Counted) (act : ActContent) (world : WorldView) (answer : Outcome) (after : WorldView)
+      → Holds c world → Step act world answer after → IsTrue (is_break act || c.in_step)
+      → Follows (is_break act || c.in_turn) (commands_after c.asked (act_requests answer act)) after
+  plain_after c ActContent.Break world answer after holds step in_step =
+      breaks_after c world answer after holds.sane step
+  plain_after c ActContent.HostBreak world answer after holds step in_step =
+      host_breaks_after c world answer after holds.sane step
+  plain_after c act world answer after holds step in_step =
+      plain_follows laws anew act world answer after c.in_turn c.asked refl (holds.follows in_step) step
+
+  follows_after : (c : Counted) (act : FaultyContent) (world : WorldView) (answer : Outcome) (after : WorldView)
+      → Holds c world → FaultyStep act world answer after → IsTrue (counted_after c act answer).in_step
+      → Follows (counted_after c act answer).in_turn (counted_after c act answer).asked after
+  follows_after c (FaultyContent.Plain act) world answer after holds step in_step =
+      plain_after c act world answer after holds (plain_step act world answer after step) in_step
+  follows_after c (FaultyContent.GarbleUp bytes) world Outcome.Done after holds step in_step =
+      garbled_follows c.in_turn c.asked bytes world after (holds.follows in_step) step.leaves
+  follows_after c (FaultyContent.GarbleUp bytes) world _ after holds step in_step =
+      unchanged c world after step.leaves holds in_step
+  follows_after c (FaultyContent.GarbleDown bytes) world Outcome.Done after holds step in_step =
+      absurd (false≢true in_step)
+  follows_after c (FaultyContent.GarbleDown bytes) world _ after holds step in_step =
+      unchanged c world after step.leaves holds in_step
+  follows_after c FaultyContent.BoardLost world answer after holds step in_step = absurd (false≢true in_step)
+  follows_after c FaultyContent.Restart world Outcome.Done after holds step in_step =
+      restart_follows laws once bytes_behind c.asked world after holds.sane step.leaves
+  follows_after c FaultyContent.Restart world _ after holds step in_step =
+      unchanged c world after step.leaves holds in_step
+
+  pub step_holds : (c : Counted) (act : FaultyContent) (world : WorldView) (answer : Outcome) (after : WorldView)
+      → Holds c world → FaultyStep act world answer after → Holds (counted_after c act answer) after
+  step_holds c act world answer after holds step =
+      record {
+        sane = step_sane laws act world answer after holds.sane step;
+        follows = follows_after c act world answer after holds step;
+      }
+
+  pub run_holds : (acts : List FaultyContent) (world : WorldView) (answers : List Outcome) (after : WorldView)
+      (c : Counted)
+      → Holds c world → FaultyRuns acts world answers after → Holds (counted_after_all c acts answers) after
+  run_holds [] world [] after c holds same = rw same holds
+  run_holds (act ∷ acts) world (answer ∷ answers) after c holds (between, step, runs) =
+      run_holds acts between answers after (counted_after c act answer)
+      (step_holds c act world answer between holds step) runs
+  run_holds [] world (answer ∷ answers) after c holds none = absurd none
+  run_holds (act ∷ acts) world [] after c holds none = absurd none
+
+-- ---- what is known at the start
+
+pub sane_holds : (world : WorldView) → IsSane world → Holds (nothing_counted false) world
+sane_holds world sane = record { sane = sane; follows = λ none. absurd (false≢true none) }
+
+pub in_step_holds : (world : WorldView) → IsSane world → IsInStep world → Holds (nothing_counted true) world
+in_step_holds world sane is = record { sane = sane; follows = λ in_step. in_step_follows world is }
+
+-- ---- at quiet
+
+pub nothing_said : (messages : List Content) → flat_map spelling messages ≡ [] → messages ≡ []
+nothing_said [] e = refl
+nothing_said (message ∷ messages) e = cc
+
+pub quiet_behind : EachDividesOnce → (garbage : List ℕ) (world : WorldView) (x : MachineState)
+    → StandsBehind garbage world x → IsQuietWorld world → IsQuiet x
+quiet_behind once garbage world x stands (up, down, unread, partial, none) =
+    record {
+      up = nothing_said x.up (right_empty garbage (flat_map spelling x.up) (sym (rw (unread, up) at stands.up)));
+      down = (once.1 [] x.down [] [] [] (rw (partial, down) at stands.down) (refl, rw partial at stands.partial)).0;
+      pending = nothing_first (pending_messages x.board) (rw stands.board at none);
+    }
+
+-- what the state knows the host knows
+pub known_picture : {X : Type 0} (known seen : Option X) (x : X) → IsUnknownOr known seen → known ≡ Some x
+    → seen ≡ Some x
+known_picture known seen x (inl none) is = cc
+known_picture known seen x (inr same) is = sym same ∙ is
+
+pub healed_picture : EachDividesOnce → (in_turn : Bool) (asked : List CommandContent) (world : WorldView)
+    → Follows in_turn asked world → IsAsked asked → IsQuietWorld world
+    → world.host.picture ≡ Some world.board.state.squares
+healed_picture once in_turn asked world f asks quiet =
+    rw f.stands.board
+    (known_picture f.state.picture world.host.picture f.state.board.squares f.stands.picture
+    (promised_picture f.state f.stands.sound (coming_promise asked f.state f.comes asks)
+    (quiet_behind once f.garbage world f.state f.stands quiet)))
+
+pub healing_picture : EachDividesOnce → (c : Counted) (world : WorldView) → Holds c world → IsHealing c
+    → IsQuietWorld world → world.host.picture ≡ Some world.board.state.squares
+healing_picture once c world holds healing quiet =
+    healed_picture once c.in_turn c.asked world (holds.follows healing.in_step) healing.asked quiet
+
+-- nothing is awaited, where all that is awaited was still to come
+pub in_turn_awaits_nothing : EachDividesOnce → (c : Counted) (world : WorldView) → Holds c world → IsInTurn c
+    → IsQuietWorld world → world.host.awaited ≡ []
+in_turn_awaits_nothing once c world holds turn quiet =
+    let f = holds.follows turn.in_step in
+    let still = quiet_behind once f.garbage world f.state f.stands quiet in
+    quiet_awaited (awaiting f.state world.host.awaited)
+    (awaiting_sound f.state world.host.awaited f.stands.sound (f.awaits turn.in_turn))
+    (record { up = still.up; down = still.down; pending = still.pending })
+
+-- ---- a world with no fault
+
+bytes_left : (xs ys : List ℕ) → AreBytes (xs ++ ys) → AreBytes xs
+bytes_left [] ys h i = omega arith
+bytes_left (x ∷ xs) ys h zero = h 0
+bytes_left (x ∷ xs) ys h (suc i) = bytes_left xs ys (λ j. h (suc j)) i
+
+bytes_right : (xs ys : List ℕ) → AreBytes (xs ++ ys) → AreBytes ys
+bytes_right [] ys h i = h i
+bytes_right (x ∷ xs) ys h i = bytes_right xs ys (λ j. h (suc j)) i
+
+-- what divides is bytes
+divided_bytes : (bytes : List ℕ) (events : List EventContent) (rest : List ℕ) → Divides bytes events rest
+    → AreBytes bytes
+divided_bytes bytes [] rest (same, partial) =
+    rw same (bytes_left rest (partial.next ∷ partial.more) partial.word.are_bytes)
+divided_bytes bytes (event ∷ events) rest (word, after, is, same, divides) =
+    rw same (bytes_append word after is.are_bytes (divided_bytes after events rest divides))
+
+stands_behind : (world : WorldView) (x : MachineState) → StandsFor world x → StandsBehind [] world x
+stands_behind world x stands =
+    record {
+      sound = stands.sound;
+      board = stands.board;
+      picture = inr (sym stands.picture);
+      clock = inr (sym stands.clock);
+      unheard = inl refl;
+      are_messages = stands.up.are_messages;
+      up = stands.up.in_a_row;
+      down = stands.down;
+      partial = stands.partial;
+    }
+
+pub world_in_step : (world : WorldView) → IsWorld world → IsInStep world
+world_in_step world is =
+    record { garbage = []; state = is.state; stands = stands_behind world is.state is.stands }
+
+-- nothing comes to the board
+pub empty_in_step : (world : WorldView) → IsSane world → world.down.bytes ≡ [] → world.board.partial ≡ []
+    → IsInStep world
+empty_in_step world sane down partial =
+    record {
+      garbage = world.host.unread ++ world.up.bytes;
+      state = state_of_board world.board.state;
+      stands = record {
+        sound = sane.board;
+        board = refl;
+        picture = inl refl;
+        clock = inl refl;
+        unheard = inr (refl, refl);
+        are_messages = tt;
+        up = sym (append-nil (world.host.unread ++ world.up.bytes));
+        down = rw (partial, down) (refl, rw partial at sane.partial);
+        partial = sane.partial;
+      };
+    }
+
+world_is_sane : (world : WorldView) (x : MachineState) → StandsFor world x → IsSane world
+world_is_sane world x stands =
+    record {
+      board = rw stands.board (board_sound x stands.sound);
+      partial = stands.partial;
+      down =
+          bytes_right world.board.partial world.down.bytes
+          (divided_bytes (world.board.partial ++ world.down.bytes) x.down [] stands.down);
+    }
+
+pub world_is_faulty : (world : WorldView) → IsWorld world → IsFaultyWorld world
+world_is_faulty world is =
+    record {
+      sane = world_is_sane world is.state is.stands;
+      up_room = is.up_room;
+      down_room = is.down_room;
+    }
+
+-- ---- the lines keep their capacities
+
+faulty_rooms : (act : FaultyContent) (world after : WorldView) → FaultyBecomes act world after
+    → HasRooms world after
+faulty_rooms (FaultyContent.Plain act) world after becomes = becomes_rooms act world after becomes
+faulty_rooms (FaultyContent.GarbleUp bytes) world after same = rw same (record { up = refl; down = refl })
+faulty_rooms (FaultyContent.GarbleDown bytes) world after (are, same) = rw same (record { up = refl; down = refl })
+faulty_rooms FaultyContent.BoardLost world after same = rw same (record { up = refl; down = refl })
+faulty_rooms FaultyContent.Restart world after same = rw same (record { up = refl; down = refl })
+
+step_keeps_rooms : (act : FaultyContent) (world : WorldView) (answer : Outcome) (after : WorldView)
+    → FaultyStep act world answer after → HasRooms world after
+step_keeps_rooms act world Outcome.Done after step = faulty_rooms act world after step.leaves
+step_keeps_rooms act world Outcome.Nothing after step = same_rooms world after step.leaves
+step_keeps_rooms act world Outcome.NoRoom after step = same_rooms world after step.leaves
+step_keeps_rooms act world Outcome.Busy after step = same_rooms world after step.leaves
+step_keeps_rooms act world Outcome.TooMany after step = same_rooms world after step.leaves
+
+pub step_is_faulty : Grammars → (act : FaultyContent) (world after : WorldView) (answer : Outcome)
+    → IsFaultyWorld world → FaultyStep act world answer after → IsFaultyWorld after
+step_is_faulty laws act world after answer is step =
+    let rooms = step_keeps_rooms act world answer after step in
+    record {
+      sane = step_sane laws act world answer after is.sane step;
+      up_room = rw rooms.up is.up_room;
+      down_room = rw rooms.down is.down_room;
+    }

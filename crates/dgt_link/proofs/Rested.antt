@@ -1,0 +1,165 @@
+-- How a world comes to rest that was at fault, and that it is quiet then where it was promised to heal.
+use Rattle.std.proofs.Common.{◌≡◌, refl, sym, ap, ◌∙◌, ◌⊎◌, inl, inr, ℕ, List, [], ◌∷◌, ◌++◌, Option, Some, None, false, append_assoc, replicate}
+use Rattle.std.proofs.Common.{append-nil}
+use Rattle.std.proofs.lemmas.Bool.{false≢true}
+use Rattle.std.specs.List.{AllByRecursion, flat_map}
+use Rattle.std.specs.Prelude.{IsSome}
+use Rattle.dgt_values.specs.declared.pieces.Piece.{Piece}
+use Rattle.dgt_message.specs.Content.{Content, IsMessage}
+use Rattle.dgt_message.specs.Spelling.{spelling}
+use Rattle.dgt_command.specs.Laws.{EachDividesOnce}
+use Rattle.dgt_board.specs.Sending.{pending_messages}
+use Rattle.dgt_decode.specs.Grammar.{open_message}
+use Rattle.dgt_link.specs.Faults.{is_break}
+use Rattle.dgt_link.specs.Act.{ActContent}
+use Rattle.dgt_link.specs.declared.acts.Outcome.{Outcome}
+use Rattle.dgt_link.specs.Healing.{Counted, IsHealing, IsPromisedWorld, IsRestedWorld, StandsBehind, StandsBehindAfter}
+use Rattle.dgt_link.specs.Machine.{MachineState, after_moves}
+use Rattle.dgt_link.specs.Promise.{IsPromised, IsQuiet, coming_mode}
+use Rattle.dgt_link.specs.Settling.{IsSettling, SettlesIn}
+use Rattle.dgt_link.specs.Step.{Runs, Step}
+use Rattle.dgt_link.specs.View.{IsQuietWorld, WorldView}
+use Rattle.dgt_link.proofs.Asking.{mode-step, step_keeps_coming}
+use Rattle.dgt_link.proofs.Healing.{Holds, known_picture, nothing_said, quiet_behind}
+use Rattle.dgt_link.proofs.Hearing.{Reads}
+use Rattle.dgt_link.proofs.Lists.{right_empty}
+use Rattle.dgt_link.proofs.Promises.{coming_promise}
+use Rattle.dgt_link.proofs.Quiet.{picture_has_come, promised_picture}
+use Rattle.dgt_link.proofs.Resting.{nothing_first}
+use Rattle.dgt_link.proofs.Settling.{nothing_left_open, nothing_partial, settled_kept, settling_mode, settling_no_break}
+
+-- ---- what counts is promised
+
+pub healing_promised : (c : Counted) (world : WorldView) → Holds c world → IsHealing c → IsPromisedWorld world
+healing_promised c world holds healing =
+    let f = holds.follows healing.in_step in
+    record {
+      garbage = f.garbage;
+      state = f.state;
+      stands = f.stands;
+      promised = coming_promise c.asked f.state f.comes healing.asked;
+    }
+
+-- and a promised world that is quiet has the board's squares as its picture
+pub promised_at_quiet : EachDividesOnce → (world : WorldView) → IsPromisedWorld world → IsQuietWorld world
+    → world.host.picture ≡ Some world.board.state.squares
+promised_at_quiet once world is quiet =
+    rw is.stands.board
+    (known_picture is.state.picture world.host.picture is.state.board.squares is.stands.picture
+    (promised_picture is.state is.stands.sound is.promised
+    (quiet_behind once is.garbage world is.state is.stands quiet)))
+
+-- ---- what settles keeps the promise
+
+settling_is_plain : (act : ActContent) → IsSettling act → is_break act ≡ false
+settling_is_plain ActContent.BoardSend is = refl
+settling_is_plain (ActContent.ToBoard count) is = refl
+settling_is_plain (ActContent.ToHost count) is = refl
+settling_is_plain (ActContent.Change square piece) none = absurd none
+settling_is_plain (ActContent.ClockRead clock) none = absurd none
+settling_is_plain (ActContent.Host command) none = absurd none
+settling_is_plain ActContent.Break none = absurd none
+settling_is_plain ActContent.HostBreak none = absurd none
+
+module _ (behind : (act : ActContent) (garbage : List ℕ) (world : WorldView) (answer : Outcome) (after : WorldView)
+    (x : MachineState)
+    → is_break act ≡ false → StandsBehind garbage world x → Step act world answer after
+    → StandsBehindAfter act answer world x after) where
+  step_promised : (act : ActContent) (world : WorldView) (answer : Outcome) (after : WorldView) → IsSettling act
+      → IsPromisedWorld world → Step act world answer after → IsPromisedWorld after
+  step_promised act world answer after settling is step =
+      let reached = behind act is.garbage world answer after is.state (settling_is_plain act settling) is.stands step in
+      let mode : coming_mode (after_moves is.state reached.1) ≡ coming_mode is.state
+      = mode-step is.state act answer reached.1 reached.2 ∙ settling_mode (coming_mode is.state) act answer settling in
+      record {
+        garbage = reached.0;
+        state = after_moves is.state reached.1;
+        stands = reached.3;
+        promised = record {
+          picture =
+              step_keeps_coming is.state act answer reached.1 (settling_no_break act settling) reached.2
+              is.promised.picture;
+          mode = rw mode is.promised.mode;
+        };
+      }
+
+  run_promised : (acts : List ActContent) (world : WorldView) (answers : List Outcome) (after : WorldView)
+      → AllByRecursion IsSettling acts → IsPromisedWorld world → Runs acts world answers after → IsPromisedWorld after
+  run_promised [] world [] after all is same = rw same is
+  run_promised (act ∷ acts) world (answer ∷ answers) after all is (between, step, runs) =
+      run_promised acts between answers after all.1 (step_promised act world answer between all.0 is step) runs
+  run_promised [] world (answer ∷ answers) after all is none = absurd none
+  run_promised (act ∷ acts) world [] after all is none = absurd none
+
+  pub settled_promised : (count : ℕ) (old new : WorldView) → SettlesIn count old new → IsPromisedWorld old
+      → IsPromisedWorld new
+  settled_promised count old new settled is =
+      run_promised settled.acts old (replicate count Outcome.Done) new settled.settling is settled.run
+
+-- ---- at rest
+
+module _ (reads : Reads) where
+  -- nothing is left open of messages, whatever came before them
+  nothing_open_behind : (garbage : List ℕ) (message : Content) (messages : List Content)
+      → AllByRecursion IsMessage (message ∷ messages)
+      → open_message (garbage ++ flat_map spelling (message ∷ messages)) ≡ []
+  nothing_open_behind garbage message messages are =
+      ap open_message (sym (append_assoc garbage (spelling message) (flat_map spelling messages)))
+      ∙ reads.open_append (garbage ++ spelling message) (flat_map spelling messages)
+      ∙ ap (λ (held : List ℕ). open_message (held ++ flat_map spelling messages))
+      (reads.spelling garbage message are.0).1
+      ∙ nothing_left_open reads messages (flat_map spelling messages) (record {
+        are_messages = are.1;
+        in_a_row = refl;
+      })
+
+  -- what a host has unread has no whole message
+  none_unread : (unread garbage : List ℕ) (messages : List Content) → AllByRecursion IsMessage messages
+      → unread ≡ garbage ++ flat_map spelling messages → open_message unread ≡ unread → messages ≡ []
+  none_unread unread garbage [] are e held = refl
+  none_unread unread garbage (message ∷ messages) are e held =
+      let none : unread ≡ []
+      = sym held ∙ ap open_message e ∙ nothing_open_behind garbage message messages are in
+      nothing_said (message ∷ messages)
+      (right_empty garbage (flat_map spelling (message ∷ messages)) (sym e ∙ none))
+
+  known_has_no_garbage : {X : Type 0} (picture : Option X) (garbage : List ℕ) (other : Type 0)
+      → (garbage ≡ []) ⊎ ((picture ≡ None) × other) → IsSome picture → garbage ≡ []
+  known_has_no_garbage picture garbage other (inl none) some = none
+  known_has_no_garbage picture garbage other (inr unknown) some =
+      absurd (false≢true (rw unknown.0 at some))
+
+  rests_behind : EachDividesOnce → (garbage : List ℕ) (world : WorldView) (x : MachineState)
+      → StandsBehind garbage world x → IsPromised x → IsRestedWorld world
+      → open_message world.host.unread ≡ world.host.unread → IsQuietWorld world
+  rests_behind once garbage world x stands promised (up, down, none) held =
+      let all : world.host.unread ≡ garbage ++ flat_map spelling x.up
+      = sym (append-nil world.host.unread)
+      ∙ ap (λ (bytes : List ℕ). world.host.unread ++ bytes) (sym up) ∙ stands.up in
+      let silent : x.up ≡ [] = none_unread world.host.unread garbage x.up stands.are_messages all held in
+      let partial : world.board.partial ≡ []
+      = nothing_partial once x.down world.board.partial stands.partial (rw down at stands.down) in
+      let quiet : IsQuiet x = record {
+        up = silent;
+        down = (once.1 [] x.down [] [] [] (rw (partial, down) at stands.down) (refl, rw partial at stands.partial)).0;
+        pending = nothing_first (pending_messages x.board) (rw stands.board at none);
+      } in
+      let known = picture_has_come x stands.sound quiet promised.picture in
+      let clean : garbage ≡ []
+      = known_has_no_garbage x.picture garbage (x.host_clock ≡ None) stands.unheard known in (
+        up,
+        down,
+        all ∙ rw (clean, silent) refl,
+        partial,
+        none,
+      )
+
+  pub promised_rests : EachDividesOnce → (world : WorldView) → IsPromisedWorld world → IsRestedWorld world
+      → open_message world.host.unread ≡ world.host.unread → IsQuietWorld world
+  promised_rests once world is rested held =
+      rests_behind once is.garbage world is.state is.stands is.promised rested held
+
+pub settled_squares : (count : ℕ) (old new : WorldView) → SettlesIn count old new
+    → new.host.picture ≡ Some new.board.state.squares → new.host.picture ≡ Some old.board.state.squares
+settled_squares count old new settled is =
+    is ∙ ap (λ (squares : List Piece). Some squares) (settled_kept count old new settled).squares
