@@ -20,6 +20,7 @@
 
 mod acts;
 mod faulty;
+pub mod healing;
 pub mod laws;
 mod line;
 mod moving;

@@ -23,7 +23,7 @@ ghost use Rattle.dgt_link.specs.View.{IsQuietWorld, new_world};
 
 use crate::acts::{Act, Outcome, count};
 use crate::faulty::FaultyWorld;
-use crate::laws;
+use crate::{healing, laws};
 use crate::line::{Line, LineMemory};
 use crate::moving::{act_on, send_next};
 use dgt_board::{Board, Identity, MAX_SENT};
@@ -149,7 +149,7 @@ impl World {
         ensures same { result ≡ self }
         ensures in_step { IsInStep result }
     {
-        laws::worlds_are_in_step();
+        healing::worlds_are_in_step();
         FaultyWorld {
             board: self.board,
             host: self.host,

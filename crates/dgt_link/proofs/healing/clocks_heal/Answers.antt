@@ -1,5 +1,5 @@
 use Rattle.dgt_link.proofs.Clocks.{clock_asked_follows, clock_at_quiet, clock_promises, keeps_clock_following, keeps_clock_promised}
-use Rattle.dgt_link.proofs.laws.clocks_heal.Goals as goal
+use Rattle.dgt_link.proofs.healing.clocks_heal.Goals as goal
 
 pub returns : goal.returns
 returns c =

@@ -3,7 +3,7 @@ use Rattle.dgt_link.specs.Healing.{counted_after_all, nothing_counted}
 use Rattle.dgt_link.proofs.Healing.{follows_in_step, healing_picture, in_step_holds, in_turn_awaits_nothing, run_holds, sane_holds}
 use Rattle.dgt_link.proofs.Rested.{healing_promised}
 use Rattle.dgt_link.proofs.Standing.{Grammars}
-use Rattle.dgt_link.proofs.laws.faults_heal.Goals as goal
+use Rattle.dgt_link.proofs.healing.faults_heal.Goals as goal
 
 pub returns : goal.returns
 returns c =
