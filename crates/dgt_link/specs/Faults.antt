@@ -9,7 +9,7 @@ use Rattle.dgt_host.specs.Host.{host_awaiting, restart_bytes, without_awaited}
 use Rattle.dgt_link.specs.declared.acts.Outcome.{Outcome}
 use Rattle.dgt_link.specs.declared.faulty.FaultyAct.{FaultyAct}
 use Rattle.dgt_link.specs.declared.faulty.FaultyAct.TheVariants as faulty
-use Rattle.dgt_link.specs.Act.{ActContent, act_content}
+use Rattle.dgt_link.specs.Act.{ActContent, ActHasArrays, act_content}
 use Rattle.dgt_link.specs.Step.{Becomes, IfDone, outcome}
 use Rattle.dgt_link.specs.View.{LineContents, WorldView, line_holding, overflows, with_bytes}
 
@@ -33,6 +33,11 @@ faulty_content (faulty.GarbleUp bytes) = FaultyContent.GarbleUp bytes.now
 faulty_content (faulty.GarbleDown bytes) = FaultyContent.GarbleDown bytes.now
 faulty_content faulty.BoardLost = FaultyContent.BoardLost
 faulty_content faulty.Restart = FaultyContent.Restart
+
+-- the arrays of its command are as long as their types say
+abbrev pub FaultyActHasArrays : FaultyAct → Type 0
+FaultyActHasArrays (faulty.Plain act) = ActHasArrays act
+FaultyActHasArrays _ = Unit {0}
 
 -- the outcome of replacing a line's bytes: they have to fit
 abbrev pub holding_outcome : LineContents → List ℕ → Outcome

@@ -1,17 +1,20 @@
 //! How the picture and the clock of a host heal after faults of the lines and of the board's power.
 //! Nothing here runs: each function stands for the facts that its contract states.
 
-ghost use Rattle.std.specs.Prelude.{◌≡◌, ℕ, List, [], ◌∷◌, Some, None, IsTrue, false, true};
+ghost use Rattle.std.specs.Prelude.{◌≡◌, ◌≢◌, ℕ, List, [], ◌∷◌, Some, None, IsSome, IsTrue, false, true};
 ghost use Rattle.std.specs.List.{AllByRecursion};
 ghost use Rattle.dgt_command.specs.Content.{CommandContent};
 ghost use Rattle.dgt_decode.specs.Grammar.{open_message};
 ghost use Rattle.dgt_board.specs.State.{command_mode, follows_clock, updates};
 ghost use Rattle.dgt_board.specs.declared.modes.Mode.{Mode};
-ghost use Rattle.dgt_link.specs.Machine.{MachineState};
+ghost use Rattle.dgt_link.specs.Machine.{IsHostBreak, MachineState, Move};
+ghost use Rattle.dgt_link.specs.Reported.{IsReportedBy, WasReported};
+ghost use Rattle.dgt_host.specs.Host.{picture_after_all};
 ghost use Rattle.dgt_link.specs.Act.{ActContent};
+ghost use Rattle.dgt_link.specs.Sound.{IsSound};
 ghost use Rattle.dgt_link.specs.Stands.{IsWorld};
 ghost use Rattle.dgt_link.specs.declared.acts.Outcome.{Outcome};
-ghost use Rattle.dgt_link.specs.Step.{Step};
+ghost use Rattle.dgt_link.specs.Step.{Runs, Step};
 ghost use Rattle.dgt_link.specs.Settling.{SettlesIn};
 ghost use Rattle.dgt_link.specs.View.{IsQuietWorld, WorldView};
 ghost use Rattle.dgt_link.specs.Clocks.{IsClockFollowing, IsClockPromisedWorld, stops_clock};
@@ -225,4 +228,23 @@ pub fn clocks_heal()
 {
     acts_behind_garbage();
     dgt_command::laws::one_division();
+}
+
+/// Between the faults and quiet. From any world in step on, the world stands behind some garbage for
+/// a state that begins with no picture. Once that state knows a picture, by a dump that the board
+/// has sent since then, no garbage counts any more: the host's picture is what the board had
+/// reported when it sent the last message that was heard, and the messages under way make it what
+/// the board has reported by now.
+pub fn pictures_were_reported()
+    ensures moves { (x : MachineState) (moves : List Move) → IsSound x → x.up ≡ []
+        → AllByRecursion (λ move. (move ≢ Move.Break) × (¬ (IsHostBreak move))) moves
+        → WasReported x moves }
+    ensures acts { (acts : List ActContent) (world after : WorldView) (answers : List Outcome) →
+        AllByRecursion (λ act. is_break act ≡ false) acts → IsInStep world
+        → Runs acts world answers after → IsReportedBy acts answers after }
+    ensures known { (garbage : List ℕ) (world : WorldView) (x : MachineState) →
+        StandsBehind garbage world x → IsSome x.picture → (world.host.picture ≡ x.picture)
+        × (picture_after_all world.host.picture x.up ≡ Some world.board.state.told_squares) }
+{
+    acts_behind_garbage();
 }

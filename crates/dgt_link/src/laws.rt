@@ -21,13 +21,14 @@ ghost use Rattle.dgt_link.specs.Machine.{IsHostBreak, IsSending, MachineState, M
 ghost use Rattle.dgt_link.specs.Sound.{IsExact, IsSound, IsUnknownOr, coming_picture};
 ghost use Rattle.dgt_link.specs.Promise.{IsAsked, IsAskedBy, IsPromised, IsQuiet, IsRestarted, PictureIsComing, act_requests, coming_mode, commands_after, mode_after, requests};
 ghost use Rattle.dgt_link.specs.Act.{ActContent, act_content, ActHasArrays};
+ghost use Rattle.dgt_link.specs.Faults.{FaultyActHasArrays, faulty_content};
 ghost use Rattle.dgt_link.specs.Stands.{IsExactWorld, IsWorld, StandsAfterRun, StandsAfterStep, StandsFor};
 ghost use Rattle.dgt_link.specs.declared.acts.Outcome.{Outcome};
 ghost use Rattle.dgt_link.specs.Step.{Runs, Step, done_count};
 ghost use Rattle.dgt_link.specs.Settling.{IsSettling, IsSettlingMove, SettlesBy, SettlesIn, steps_left};
 ghost use Rattle.dgt_link.specs.View.{IsQuietWorld, WorldView};
 
-use crate::{Act, MIN_DOWN, MIN_UP, Outcome as ActOutcome, WorldFault};
+use crate::{Act, FaultyAct, MIN_DOWN, MIN_UP, Outcome as ActOutcome, WorldFault};
 
 /// The limits by their numbers.
 pub fn limits()
@@ -41,6 +42,8 @@ pub fn equal_is_same()
     ensures outcome { EqualIsSame ⟦<ActOutcome as PartialEq>⟧.eq }
     ensures world_fault { EqualIsSame ⟦<WorldFault as PartialEq>⟧.eq }
     ensures act { EqualIsSameReadOf ActHasArrays act_content ⟦<Act<'static> as PartialEq>⟧.eq }
+    ensures faulty_act { EqualIsSameReadOf FaultyActHasArrays faulty_content
+        ⟦<FaultyAct<'static> as PartialEq>⟧.eq }
 {
     dgt_message::laws::equal_is_same();
     dgt_command::laws::equal_is_same();

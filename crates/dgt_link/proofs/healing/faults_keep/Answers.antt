@@ -1,4 +1,4 @@
-use Rattle.dgt_link.proofs.Healing.{step_is_faulty}
+use Rattle.dgt_link.proofs.Counting.{step_is_faulty}
 use Rattle.dgt_link.proofs.Standing.{Grammars}
 use Rattle.dgt_link.proofs.healing.faults_keep.Goals as goal
 

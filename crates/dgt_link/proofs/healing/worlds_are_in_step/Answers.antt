@@ -1,4 +1,4 @@
-use Rattle.dgt_link.proofs.Healing.{empty_in_step, world_in_step, world_is_faulty}
+use Rattle.dgt_link.proofs.Counting.{empty_in_step, world_in_step, world_is_faulty}
 use Rattle.dgt_link.proofs.healing.worlds_are_in_step.Goals as goal
 
 pub returns-clause-in_step : goal.returns-clause-in_step
