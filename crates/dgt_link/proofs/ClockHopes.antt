@@ -1,5 +1,5 @@
 -- What each act does to the promise of a host's clock, and what counts for it after many.
-use Rattle.std.proofs.Common.{◌≡◌, refl, sym, ◌∙◌, ap, ◌⊎◌, inl, inr, ℕ, List, [], ◌∷◌, ◌++◌, Option, Some, None, true, false, replicate}
+use Rattle.std.proofs.Common.{◌≡◌, refl, sym, ◌∙◌, ap, inr, ℕ, List, [], ◌∷◌, ◌++◌, Some, None, false, replicate}
 use Rattle.std.specs.List.{AllByRecursion}
 use Rattle.std.specs.Prelude.{IsTrue, filter_map}
 use Rattle.dgt_command.specs.Content.{CommandContent}

@@ -5,7 +5,7 @@ use Rattle.std.proofs.lemmas.Bool.{false≢true}
 use Rattle.std.proofs.lemmas.List.{append-nil}
 use Rattle.std.proofs.lemmas.List.Elements.{filter_map-append, Contains-append_right, Contains-push_cases}
 use Rattle.std.specs.List.{cons_option, flat_map}
-use Rattle.std.specs.Prelude.{◌||◌, IsTrue, Contains, filter, filter_map}
+use Rattle.std.specs.Prelude.{IsTrue, Contains, filter, filter_map}
 use Rattle.dgt_values.specs.declared.kinds.Kind.{Kind}
 use Rattle.dgt_message.specs.Content.{Content}
 use Rattle.dgt_message.specs.Spelling.{spelling}

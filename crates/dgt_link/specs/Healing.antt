@@ -1,5 +1,5 @@
 -- When a host whose line or whose board's power failed can count on its picture again.
-use Rattle.std.specs.Prelude.{◌≡◌, ◌⊎◌, ℕ, ◌≤◌, List, [], ◌∷◌, ◌++◌, Some, None, Bool}
+use Rattle.std.specs.Prelude.{◌≡◌, ◌⊎◌, ℕ, ◌≤◌, List, [], ◌∷◌, ◌++◌, None, Bool}
 use Rattle.std.specs.Prelude.{false, true, ◌||◌, IsTrue, Contains, filter, filter_map, is_some}
 use Rattle.std.specs.List.{AllByRecursion, flat_map}
 use Rattle.dgt_message.specs.Content.{IsMessage}

@@ -21,7 +21,7 @@ ghost use Rattle.dgt_link.specs.Machine.{IsHostBreak, IsSending, MachineState, M
 ghost use Rattle.dgt_link.specs.Sound.{IsExact, IsSound, IsUnknownOr, coming_picture};
 ghost use Rattle.dgt_link.specs.Promise.{IsAsked, IsAskedBy, IsPromised, IsQuiet, IsRestarted, PictureIsComing, act_requests, coming_mode, commands_after, mode_after, requests};
 ghost use Rattle.dgt_link.specs.Act.{ActContent, act_content, ActHasArrays};
-ghost use Rattle.dgt_link.specs.Faults.{FaultyActHasArrays, faulty_content};
+ghost use Rattle.dgt_link.specs.Faults.{FaultyActHasArrays, FaultyContent, FaultyStep, faulty_content};
 ghost use Rattle.dgt_link.specs.Stands.{IsExactWorld, IsWorld, StandsAfterRun, StandsAfterStep, StandsFor};
 ghost use Rattle.dgt_link.specs.declared.acts.Outcome.{Outcome};
 ghost use Rattle.dgt_link.specs.Step.{Runs, Step, done_count};
@@ -161,7 +161,8 @@ pub fn worlds_stand_for_one_state()
     dgt_command::laws::one_division();
 }
 
-/// An act has one outcome and leaves one world, and so have acts in a row.
+/// An act has one outcome and leaves one world, and so have acts in a row, and acts and faults of a
+/// world whose lines and whose board's power may fail.
 pub fn acts_have_one_outcome()
     ensures one { (act : ActContent) (world after other : WorldView) (answer also : Outcome) →
         Step act world answer after → Step act world also other
@@ -170,6 +171,9 @@ pub fn acts_have_one_outcome()
         (answers others : List Outcome) →
         Runs acts world answers after → Runs acts world others other
         → (answers ≡ others) × (after ≡ other) }
+    ensures faulty { (act : FaultyContent) (world after other : WorldView) (answer also : Outcome) →
+        FaultyStep act world answer after → FaultyStep act world also other
+        → (answer ≡ also) × (after ≡ other) }
 {
     dgt_board::laws::one_taking();
 }
