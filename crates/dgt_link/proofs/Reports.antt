@@ -349,7 +349,8 @@ both_known : (known seen : Option (List Piece)) → IsSome known → IsUnknownOr
 both_known known seen some (inl none) = absurd (false≢true (ap is_some (sym none) ∙ some))
 both_known known seen some (inr same) = sym same
 
-still_known : (picture : Option (List Piece)) (up : List Content) → IsSome picture → IsSome (picture_after_all picture up)
+still_known : (picture : Option (List Piece)) (up : List Content) → IsSome picture
+    → IsSome (picture_after_all picture up)
 still_known picture [] some = some
 still_known picture (message ∷ up) some =
     still_known (picture_after picture message) up (picture_after_known picture message some)

@@ -1,4 +1,4 @@
--- A world whose lines and whose board's power may fail: its acts, their outcomes and what they leave.
+-- A world whose lines and whose board's power may fail: its acts, their outcomes, what they leave.
 use Rattle.std.specs.Prelude.{◌≡◌, ℕ, List, [], ◌∷◌, length, Some, Bool, false, true, if◌then◌else◌, nat_lt}
 use Rattle.std.specs.List.{AllByRecursion}
 use Rattle.dgt_values.specs.declared.kinds.Kind.{Kind}

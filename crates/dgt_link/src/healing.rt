@@ -230,9 +230,9 @@ pub fn clocks_heal()
     dgt_command::laws::one_division();
 }
 
-/// Between the faults and quiet. From any world in step on, the world stands behind some garbage for
-/// a state that begins with no picture. Once that state knows a picture, by a dump that the board
-/// has sent since then, no garbage counts any more: the host's picture is what the board had
+/// Between the faults and quiet. From any world in step on, the world stands behind some garbage
+/// for a state that begins with no picture. Once that state knows a picture, by a dump that the
+/// board has sent since then, no garbage counts any more: the host's picture is what the board had
 /// reported when it sent the last message that was heard, and the messages under way make it what
 /// the board has reported by now.
 pub fn pictures_were_reported()

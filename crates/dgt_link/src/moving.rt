@@ -1,5 +1,5 @@
-//! The acts on a board, a host and the lines between them. Each function makes the exact step of its
-//! act, in whatever world the board, the host or the line stands.
+//! The acts on a board, a host and the lines between them. Each function makes the exact step of
+//! its act, in whatever world the board, the host or the line stands.
 
 ghost use Rattle.std.specs.Prelude.{◌≡◌, ◌+◌, ◌<◌, ◌≤◌, [], Some, length, take};
 ghost use Rattle.dgt_values.specs.declared.kinds.Kind.{Kind};
