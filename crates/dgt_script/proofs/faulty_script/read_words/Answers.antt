@@ -11,12 +11,16 @@ returns-in_default c =
     let line = c.args.line.now in
     let cut = c.cut_word.result in (
       words line,
-      verb_refused faulty_text faulty_kinds (words line) (left_words cut.1) cut.0.now c.cut_word.ensures c.in_default.ensures,
+      verb_refused faulty_text faulty_kinds (words line) (left_words cut.1) cut.0.now c.cut_word.ensures
+          c.in_default.ensures,
       sym (length-words line),
     )
 
 pub returns : goal.returns
 returns c =
     let cut = c.cut_word.result in
-    line_read faulty_text faulty_kinds (λ parts act. AsksFaulty parts (faulty_content act)) (words c.args.line.now) (left_words cut.1) cut.0.now
-    c.in-Some.verb c.read_faulty_rest.result c.cut_word.ensures c.in-Some.ensures c.read_faulty_rest.ensures
+    let line = words c.args.line.now in
+    let later = left_words cut.1 in
+    let read = c.read_faulty_rest in
+    line_read faulty_text faulty_kinds (λ parts act. AsksFaulty parts (faulty_content act)) line later cut.0.now
+    c.in-Some.verb read.result c.cut_word.ensures c.in-Some.ensures read.ensures
