@@ -20,6 +20,7 @@ mod monitoring;
 mod picturing;
 mod serving;
 mod simulating;
+mod stage;
 
 pub use commanding::commands;
 pub use dgt_command_lines::write_command;
