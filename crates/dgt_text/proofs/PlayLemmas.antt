@@ -82,10 +82,21 @@ begins_after at_end bytes tail lines more e h (inr p) = inr (
   p.4,
 )
 
+-- ---- sinks
+
+-- a list that has a front and a rest of no byte is none
+front_none : (front rest : List ℕ) → [] ≡ front ++ rest → front ≡ []
+front_none [] rest h = refl
+front_none (b ∷ front) rest h = cc
+
+pub stopped_none : {S : Type 0} (W : Sink S) (a b : S) → Stopped W a b [] → Appends (W.written a) (W.written b) []
+stopped_none W a b p = subst (λ l. Appends (W.written a) (W.written b) l) (front_none p.front p.rest p.whole) p.appends
+
 module _ (rules : Rules) where
   -- ---- playing
 
-  pub plays_append : (w m l : WorldView) (ls ks : List (List ℕ)) (t u : List ℕ) → Plays rules w ls t m → Plays rules m ks u l
+  pub plays_append : (w m l : WorldView) (ls ks : List (List ℕ)) (t u : List ℕ) → Plays rules w ls t m
+      → Plays rules m ks u l
       → Plays rules w (ls ++ ks) (t ++ u) l
   plays_append w m l [] ks t u p q =
       subst (λ x. Plays rules w ks (x ++ u) l) (sym p.0) (subst (λ x. Plays rules x ks u l) (sym p.1) q)
@@ -137,7 +148,8 @@ module _ (rules : Rules) where
     out_is = refl;
   }
 
-  torn_after : (w m l : WorldView) (ls ks : List (List ℕ)) (t out : List ℕ) → Plays rules w ls t m → PlaysTorn rules m ks out l
+  torn_after : (w m l : WorldView) (ls ks : List (List ℕ)) (t out : List ℕ) → Plays rules w ls t m
+      → PlaysTorn rules m ks out l
       → PlaysTorn rules w (ls ++ ks) (t ++ out) l
   torn_after w m l ls ks t out p q = record {
     earlier = ls ++ q.earlier;
@@ -158,7 +170,8 @@ module _ (rules : Rules) where
 
   stops_after : (at_end : Bool) (e : RunFault) (w m l : WorldView) (number number' : ℕ) (bytes tail t out : List ℕ)
       (ls : List (List ℕ)) → bytes ≡ flat_map ended ls ++ tail → All HasNoFeed ls → number' ≡ number + length ls
-      → Plays rules w ls t m → Stops rules at_end (part number' tail m l) e out → Stops rules at_end (part number bytes w l) e (t ++ out)
+      → Plays rules w ls t m → Stops rules at_end (part number' tail m l) e out → Stops rules at_end
+      (part number bytes w l) e (t ++ out)
   stops_after at_end ReadFailed w m l number number' bytes tail t out ls e h n p s = absurd s
   stops_after at_end TooManyTurns w m l number number' bytes tail t out ls e h n p s = absurd s
   stops_after at_end WriteFailed w m l number number' bytes tail t out ls e h n p s =
@@ -175,7 +188,8 @@ module _ (rules : Rules) where
 
   all_after : (w m l : WorldView) (bytes tail rest t u : List ℕ) (ls ks : List (List ℕ)) → Plays rules w ls t m
       → Plays rules m (all_lines ks rest) u l → Plays rules w (all_lines (ls ++ ks) rest) (t ++ u) l
-  all_after w m l bytes tail rest t u ls ks p q = subst (λ x. Plays rules w x (t ++ u) l) (sym (all_lines-append ls ks rest))
+  all_after w m l bytes tail rest t u ls ks p q = subst (λ x. Plays rules w x (t ++ u) l)
+      (sym (all_lines-append ls ks rest))
       (plays_append w m l ls (all_lines ks rest) t u p q)
 
   simulated_after : {A : Type 0} (at_end : Bool) (r : Result A RunFault) (w m l : WorldView) (number number' : ℕ)
@@ -215,7 +229,8 @@ module _ (rules : Rules) where
   )
 
   stops_simulated : (at_end : Bool) (A : Type 0) (e : RunFault) (w l : WorldView) (number : ℕ) (bytes out : List ℕ)
-      → Stops rules at_end (part number bytes w l) e out → IsSimulatedFrom {A = A} rules at_end (part number bytes w l) (Err e) out
+      → Stops rules at_end (part number bytes w l) e out → IsSimulatedFrom {A = A} rules at_end (part number bytes w l)
+      (Err e) out
   stops_simulated at_end A WriteFailed w l number bytes out s = inl s
   stops_simulated at_end A (BadLine bad at) w l number bytes out s = s
   stops_simulated at_end A ReadFailed w l number bytes out s = absurd s
@@ -237,15 +252,7 @@ module _ (rules : Rules) where
       MatchResult r (λ _. PlaysOn rules W (part number bytes world last) old new line number')
       (λ fault. Took W old new (Stops rules at_end (part number bytes world last) fault))
 
-  -- a list that has a front and a rest of no byte is none
-  front_none : (front rest : List ℕ) → [] ≡ front ++ rest → front ≡ []
-  front_none [] rest h = refl
-  front_none (b ∷ front) rest h = cc
-
   module _ {S : Type 0} (W : Sink S) where
-    pub stopped_none : (a b : S) → Stopped W a b [] → Appends (W.written a) (W.written b) []
-    stopped_none a b p = subst (λ l. Appends (W.written a) (W.written b) l) (front_none p.front p.rest p.whole) p.appends
-
     -- the line of an outcome, or a front of it
     pub line_put : {A : Type 0} (at_end : Bool) (r : Result A RunFault) (w l : WorldView) (a b : S) (number : ℕ)
         (line bytes : List ℕ) (o : Outcome) → Writes W a b r (outcome_line o)
@@ -313,17 +320,20 @@ module _ (rules : Rules) where
     }
 
     on_whole : {w m : WorldView} {a b : S} {line : LineBuffer} {n n' : ℕ} (bytes : List ℕ)
-        (q : PlaysOn rules W (part n bytes w m) a b line n') (p : List ℕ) → bytes ++ p ≡ flat_map ended q.lines ++ (q.rest ++ p)
+        (q : PlaysOn rules W (part n bytes w m) a b line n') (p : List ℕ) → bytes ++ p ≡ flat_map ended q.lines ++
+        (q.rest ++ p)
     on_whole bytes q p = ap (λ l. l ++ p) q.cut.whole ∙ append_assoc (flat_map ended q.lines) q.rest p
 
     pub on_more : (w m l : WorldView) (a b c : S) (line line' : LineBuffer) (n n' n'' : ℕ) (bytes piece : List ℕ)
-        (q : PlaysOn rules W (part n bytes w m) a b line n') → PlaysOn rules W (part n' (q.rest ++ piece) m l) b c line' n''
+        (q : PlaysOn rules W (part n bytes w m) a b line n') → PlaysOn rules W
+        (part n' (q.rest ++ piece) m l) b c line' n''
         → PlaysOn rules W (part n (bytes ++ piece) w l) a c line' n''
     on_more w m l a b c line line' n n' n'' bytes piece q p = record {
       lines = q.lines ++ p.lines;
       rest = p.rest;
       text = q.text ++ p.text;
-      cut = cut_after (bytes ++ piece) (q.rest ++ piece) p.rest q.lines p.lines (on_whole bytes q piece) q.cut.each p.cut;
+      cut = cut_after (bytes ++ piece) (q.rest ++ piece) p.rest q.lines p.lines
+          (on_whole bytes q piece) q.cut.each p.cut;
       kept = p.kept;
       counted = let k = length-append q.lines p.lines in let i = q.counted in let j = p.counted in omega arith;
       plays = plays_append w m l q.lines p.lines q.text p.text q.plays p.plays;
@@ -377,7 +387,8 @@ module _ (rules : Rules) where
         → Took W a b (Stops rules at_end (part n bytes w l) e)
         → PlaysPiece W at_end w l a b line n n' r bytes
     piece_exit at_end (Ok x) e w l a b line n n' bytes k t = absurd k
-    piece_exit at_end (Err y) e w l a b line n n' bytes k t = subst (λ f. Took W a b (Stops rules at_end (part n bytes w l) f))
+    piece_exit at_end (Err y) e w l a b line n n' bytes k t = subst
+        (λ f. Took W a b (Stops rules at_end (part n bytes w l) f))
         (sym k) t
 
     -- ---- the end
@@ -389,11 +400,13 @@ module _ (rules : Rules) where
     end_exit at_end (Ok x) e w l a b n bytes k t = absurd k
     end_exit {A = A} at_end
         (Err y) e w l a b n bytes k t
-        = subst (λ f. let r : Result A RunFault = Err f in Took W a b (IsSimulatedFrom rules at_end (part n bytes w l) r))
+        = subst (λ f. let r : Result A RunFault = Err f in Took W a b
+        (IsSimulatedFrom rules at_end (part n bytes w l) r))
         (sym k) (t.0, t.1, stops_simulated at_end A e w l n bytes t.0 t.2)
 
     pub end_some : (w l : WorldView) (a b : S) (rest : List ℕ) → rest ≢ []
-        → Took W a b (λ out. Plays rules w (rest ∷ []) out l) → Took W a b (λ out. Plays rules w (all_lines [] rest) out l)
+        → Took W a b (λ out. Plays rules w (rest ∷ []) out l) → Took W a b
+        (λ out. Plays rules w (all_lines [] rest) out l)
     end_some w l a b [] n t = absurd (n refl)
     end_some w l a b (byte ∷ rest) n t = t
 
@@ -412,7 +425,8 @@ module _ (rules : Rules) where
       ([], rest, t.0, quiet, record { whole = refl; each = all_none; last = h }, t.2, k, refl),
     )
     end_closing {A = A} at_end (Err f) w l a b c n rest quiet e h t k p
-        = subst (λ g. let r : Result A RunFault = Err g in Took W a c (IsSimulatedFrom rules at_end (part n rest w l) r))
+        = subst (λ g. let r : Result A RunFault = Err g in Took W a c
+        (IsSimulatedFrom rules at_end (part n rest w l) r))
         (sym p.0) (
           t.0 ++ p.1.front,
           Appends-trans _ _ _ t.0 p.1.front t.1 p.1.appends,

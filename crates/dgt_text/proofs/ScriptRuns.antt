@@ -25,7 +25,8 @@ line_turns limit (Err ReadFailed) bytes f = absurd f
 line_turns limit (Err TooManyTurns) bytes f = absurd f
 
 -- what stops a run at a line is a fault of a line
-stop_line : {A : Type 0} (rules : Rules) (at_end : Bool) (r : Result A RunFault) (e : RunFault) (w l : WorldView) (n : ℕ)
+stop_line : {A : Type 0} (rules : Rules) (at_end : Bool) (r : Result A RunFault) (e : RunFault) (w l : WorldView)
+    (n : ℕ)
     (bytes out : List ℕ) → IsErrAnd r (λ y. y ≡ e) → Stops rules at_end (part n bytes w l) e out → IfErr r IsOfLine
 stop_line rules at_end (Ok x) e w l n bytes out k s = absurd k
 stop_line rules at_end (Err y) e w l n bytes out k s = subst IsOfLine (sym k) (go e s)
@@ -93,7 +94,7 @@ module _ (rules : Rules) {S T : Type 0} (R : Source S) (W : Sink T) where
   scripted_unflushed at_end limit r e a b c d d' w m line n bytes g q k s =
       scripted_stops at_end limit r e a b b c d d' w m m line n bytes [] g q (Consumes-nil (R.left b)) k
       (subst (λ f. Took W d d' (Stops rules at_end (part n (q.rest ++ []) m m) f)) (sym s.0)
-      ([], stopped_none rules W d d' s.1, ([], begins_none at_end (q.rest ++ []), torn_none rules m)))
+      ([], stopped_none W d d' s.1, ([], begins_none at_end (q.rest ++ []), torn_none rules m)))
 
   -- the closing lines of a quiet world whose host's picture is the board's position
   pub simulated_pictures : {A : Type 0} (at_end : Bool) (limit : ℕ) (r : Result A RunFault) (a b : S) (c d : T)

@@ -91,10 +91,12 @@ part number bytes world last =
 -- the part is played up to a refused write or a bad line
 abbrev pub Stops : Rules → Bool → Part → RunFault → List ℕ → Type 0
 Stops rules at_end p WriteFailed out =
-    (lines : List (List ℕ)) × BeginsWith at_end p.bytes lines × PlaysTorn rules p.world lines out p.last
+    (lines : List (List ℕ)) × BeginsWith at_end p.bytes lines
+    × PlaysTorn rules p.world lines out p.last
 Stops rules at_end p (BadLine bad_number at) out =
     (lines : List (List ℕ)) × (bad : List ℕ) × BeginsWith at_end p.bytes (lines ++ bad ∷ [])
-    × Plays rules p.world lines out p.last × rules.is_bad bad at × (bad_number ≡ p.number + length lines)
+    × Plays rules p.world lines out p.last × rules.is_bad bad at
+    × (bad_number ≡ p.number + length lines)
 Stops rules at_end p ReadFailed out = ⊥
 Stops rules at_end p TooManyTurns out = ⊥
 
@@ -115,7 +117,8 @@ IsSimulatedFrom rules at_end p (Ok _) out =
     × (IsTrue quiet ↔ IsQuietWorld p.last) × (out ≡ text ++ closing_lines p.last quiet)
 IsSimulatedFrom rules at_end p (Err ReadFailed) out = PlaysWhole rules p out
 IsSimulatedFrom rules at_end p (Err TooManyTurns) out = PlaysWhole rules p out
-IsSimulatedFrom rules at_end p (Err (BadLine number at)) out = Stops rules at_end p (BadLine number at) out
+IsSimulatedFrom rules at_end p (Err (BadLine number at)) out =
+    Stops rules at_end p (BadLine number at) out
 -- an outcome was refused, or at the end a part of the closing lines
 IsSimulatedFrom rules at_end p (Err WriteFailed) out =
     Stops rules at_end p WriteFailed out
@@ -163,8 +166,8 @@ Took W old new P = (out : List ℕ) × Appends (W.written old) (W.written new) o
 
 -- the lines that end in this part were played, what is after them is kept, and the next line has
 -- this number
-pub record PlaysOn {S : Type 0} (rules : Rules) (W : Sink S) (p : Part) (old new : S) (line : LineBuffer)
-    (next : ℕ) : Type 0 where
+pub record PlaysOn {S : Type 0} (rules : Rules) (W : Sink S) (p : Part) (old new : S)
+    (line : LineBuffer) (next : ℕ) : Type 0 where
   pub lines : List (List ℕ)
   pub rest : List ℕ
   pub text : List ℕ

@@ -115,7 +115,8 @@ fn play_end<S: Stage, W: Sink>(
 ) -> Result<(), RunFault>
     ensures played { (at_end : Bool) (rest : List ℕ) → IsTrue at_end → KeepsLine line.now rest
         → HasNoFeed rest → Took W.Sink writer.old writer.new
-        (IsSimulatedFrom S.rules at_end (part number rest (S.seen world.old) (S.seen world.new)) result) }
+        (IsSimulatedFrom S.rules at_end
+        (part number rest (S.seen world.old) (S.seen world.new)) result) }
     ensures faults { IfErr result IsOfLine }
     ensures sink_failed { W.failed writer.new ≡ sink_mark_after result (W.failed writer.old) }
     ensures in_time { W.failed writer.old ≡ false → W.late writer.new ≡ W.late writer.old }
@@ -182,7 +183,8 @@ pub fn simulate<R: Source, W: Sink>(
     // what was read, what was written of it, and which world is left
     ensures output { Ran R.Source W.Sink
         (change reader.old reader.new) (change writer.old writer.new)
-        (InTurns limit result (IsSimulated plain_rules (R.ended reader.new) result world.old world.new)) }
+        (InTurns limit result
+        (IsSimulated plain_rules (R.ended reader.new) result world.old world.new)) }
 
     // where updates and a dump were asked for, and the last line tells that all is quiet, the lines
     // of board and host tell one placement

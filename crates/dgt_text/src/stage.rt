@@ -38,7 +38,7 @@ pub(crate) trait Stage {
 }
 
 impl Stage for World {
-    ghost use Rattle.std.specs.Prelude.{inl, refl};
+    ghost use Rattle.std.proofs.Common.{inl, refl};
 
     ghost seen = { λ world. world };
 

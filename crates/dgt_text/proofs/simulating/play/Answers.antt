@@ -55,5 +55,6 @@ returns-in_err-flush-clause-output g c =
     let at_end = g.R.Source.ended c.read_some.new.self in
     scripted_unflushed g.S.Stage.rules g.R.Source g.W.Sink at_end c.args.limit _ _ _ _ _ _ _ _ _ _ _ _
     (Consumes-trans _ _ _ turns.bytes _ turns.given c.in-Ok.ensures.bytes.0)
-    (on_more g.S.Stage.rules g.W.Sink _ _ _ _ _ _ _ _ _ _ _ _ _ q (c.in_ok-play_piece.ensures.played at_end q.rest q.kept q.cut.last))
+    (on_more g.S.Stage.rules g.W.Sink _ _ _ _ _ _ _ _ _ _ _ _ _ q
+    (c.in_ok-play_piece.ensures.played at_end q.rest q.kept q.cut.last))
     c.from_residual-in_err-flush.ensures.1 c.in_err-flush.ensures.output

@@ -25,4 +25,4 @@ returns-in-Err-BadLine-clause-played g c = λ at_end whole bytes h b.
     (line_refused stage.rules g.W.Sink at_end c.refuse-in-Err-BadLine.result (stage.seen c.args.world.now)
     c.args.writer.now c.refuse-in-Err-BadLine.new.writer c.args.number _ whole bytes
     c.refuse-in-Err-BadLine.ensures.refused c.refuse-in-Err-BadLine.ensures.bytes
-    (rw short.0 at c.in-Err-BadLine.ensures.bad) b)
+    (let bad : stage.rules.is_bad whole _ = rw short.0 at c.in-Err-BadLine.ensures.bad in search rules) b)

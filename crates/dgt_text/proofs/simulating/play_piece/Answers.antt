@@ -10,7 +10,8 @@ loop-at-init g c = record {
   not_failed = refl;
   in_time = λ _. refl;
   played = λ rest h k. rw (append-nil rest)
-      (on_none g.S.Stage.rules g.W.Sink (g.S.Stage.seen c.args.world.now) c.args.writer.now c.args.line.now c.args.number.now rest h k);
+      (on_none g.S.Stage.rules g.W.Sink
+      (g.S.Stage.seen c.args.world.now) c.args.writer.now c.args.line.now c.args.number.now rest h k);
 }
 
 pub loop-at-preserved : goal.loop-at-preserved
@@ -24,7 +25,8 @@ loop-at-preserved g c =
       played = λ rest h k.
           let q = c.loop-at.invariant.played rest h k in
           rw (sym (held_bytes rest p i n))
-          (on_held g.S.Stage.rules g.W.Sink _ _ _ _ _ _ _ _ _ _ q c.len_before-end.ensures.before (c.add.ensures q.rest q.kept));
+          (on_held g.S.Stage.rules g.W.Sink _ _ _ _ _ _ _ _ _ _ q c.len_before-end.ensures.before
+          (c.add.ensures q.rest q.kept));
     }
 
 pub loop-at-preserved-then-at-piece : goal.loop-at-preserved-then-at-piece
