@@ -3,6 +3,8 @@ use Rattle.std.specs.Prelude.{◌≡◌, ◌+◌, ◌≤◌, ◌↔◌, ◌⊎�
 use Rattle.std.specs.Io.KnownBytes.{Appends}
 use Rattle.dgt_link.specs.Act.{ActContent}
 use Rattle.dgt_link.specs.declared.acts.Outcome.{Outcome}
+use Rattle.dgt_link.specs.Faults.{FaultyContent, FaultyStep}
+use Rattle.dgt_link.specs.Healing.{IsPromisedWorld}
 use Rattle.dgt_link.specs.Machine.{MachineState}
 use Rattle.dgt_link.specs.Promise.{IsPromised}
 use Rattle.dgt_link.specs.Stands.{StandsFor}
@@ -15,6 +17,7 @@ use Rattle.dgt_lines.specs.declared.faults.RunFault.TheVariants.{ReadFailed, Wri
 use Rattle.dgt_script.specs.declared.script_lines.LineBuffer.{LineBuffer}
 use Rattle.dgt_script.specs.Closing.{closing_lines, outcome_line}
 use Rattle.dgt_text.specs.Monitoring.{IsFront}
+use Rattle.dgt_script.specs.FaultyScript.{AsksForFaulty, IsBadAtFaulty}
 use Rattle.dgt_script.specs.Script.{AsksFor, IsBadAt}
 use Rattle.dgt_script.specs.ScriptLines.{HasNoFeed, IsCut, KeepsLine, ended}
 
@@ -48,6 +51,14 @@ plain_rules = record {
   does = λ line world outcome after.
       (act : ActContent) × AsksFor line act × Step act world outcome after;
   is_bad = IsBadAt;
+}
+
+-- the rules of a script whose lines and whose board's power may fail
+abbrev pub faulty_rules : Rules
+faulty_rules = record {
+  does = λ line world outcome after.
+      (act : FaultyContent) × AsksForFaulty line act × FaultyStep act world outcome after;
+  is_bad = IsBadAtFaulty;
 }
 
 -- ---- playing
@@ -150,6 +161,10 @@ EndsAlike world out =
 abbrev pub TellsPicture : WorldView → List ℕ → Type 0
 TellsPicture world out =
     (x : MachineState) → StandsFor world x → IsPromised x → IsQuietWorld world → EndsAlike world out
+
+-- if the world is promised and all is quiet, the text ends so
+abbrev pub TellsHealed : WorldView → List ℕ → Type 0
+TellsHealed world out = IsPromisedWorld world → IsQuietWorld world → EndsAlike world out
 
 -- ---- the engine's parts
 

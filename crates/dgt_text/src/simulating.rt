@@ -7,13 +7,13 @@ ghost use Rattle.dgt_lines.specs.Writing.{Writes};
 ghost use Rattle.dgt_script.specs.Closing.{closing_lines};
 ghost use Rattle.dgt_text.specs.Turns.{change, InTurns, Ran, sink_mark_after, RunsInTurns};
 ghost use Rattle.dgt_script.specs.ScriptLines.{HasNoFeed, KeepsLine};
-ghost use Rattle.dgt_text.specs.Simulating.{BeginsWith, IsOfLine, IsSimulated, IsSimulatedFrom, Plays, PlaysOn, Stops, TellsPicture, Took, part, plain_rules};
+ghost use Rattle.dgt_text.specs.Simulating.{BeginsWith, IsOfLine, IsSimulated, IsSimulatedFrom, Plays, PlaysOn, Stops, TellsHealed, TellsPicture, Took, faulty_rules, part, plain_rules};
 
 use crate::stage::Stage;
 use crate::{MAX_PIECE, laws};
 use dgt_lines::laws::writes_in_a_row;
 use dgt_lines::{RunFault, Sink, Source, flush, put};
-use dgt_link::World;
+use dgt_link::{FaultyWorld, World};
 use dgt_script::{LineBuffer, LineFault, MAX_LINE, len_before, outcome_text};
 
 // Flushes, and then refuses a line.
@@ -198,5 +198,37 @@ pub fn simulate<R: Source, W: Sink>(
 {
     laws::closing_lines_agree();
     dgt_link::laws::at_quiet_world();
+    play(world, reader, writer, limit)
+}
+
+/// Runs a script in a world whose lines and whose board's power may fail, in at most `limit` reads.
+///
+/// A line may ask for what [`simulate`] allows, or for a fault or a restart, as
+/// [`read_faulty_act`](crate::read_faulty_act) reads them. Outcomes, closing lines and errors are
+/// those of [`simulate`].
+pub fn simulate_faults<R: Source, W: Sink>(
+    world: &mut FaultyWorld,
+    reader: &mut R,
+    writer: &mut W,
+    limit: u32,
+) -> Result<(), RunFault>
+    // what was read, what was written of it, and which world is left
+    ensures output { Ran R.Source W.Sink
+        (change reader.old reader.new) (change writer.old writer.new)
+        (InTurns limit result
+        (IsSimulated faulty_rules (R.ended reader.new) result world.old world.new)) }
+
+    // if the world that is left is promised and quiet, the lines of board and host have one
+    // placement
+    ensures picture { Ran R.Source W.Sink
+        (change reader.old reader.new) (change writer.old writer.new)
+        (InTurns limit result (λ _ out. OnOk result (TellsHealed world.new out))) }
+
+    // how often it reads, when it stops, and which marks it leaves
+    ensures in_turns { RunsInTurns R.Source W.Sink (change reader.old reader.new)
+        (change writer.old writer.new) limit result }
+{
+    laws::closing_lines_agree();
+    dgt_link::laws::promised_worlds_heal();
     play(world, reader, writer, limit)
 }

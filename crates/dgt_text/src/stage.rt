@@ -5,12 +5,12 @@ ghost use Rattle.dgt_lines.specs.Writing.{Writes};
 ghost use Rattle.dgt_link.specs.View.{IsQuietWorld, WorldView};
 ghost use Rattle.dgt_script.specs.Closing.{closing_lines};
 ghost use Rattle.dgt_script.specs.Script.{bad_offset};
-ghost use Rattle.dgt_text.specs.Simulating.{Rules, plain_rules};
+ghost use Rattle.dgt_text.specs.Simulating.{Rules, faulty_rules, plain_rules};
 
 use dgt_command::MAX_WORD;
 use dgt_lines::{RunFault, Sink};
-use dgt_link::{Outcome, World};
-use dgt_script::{LineFault, read_act, write_closing};
+use dgt_link::{FaultyWorld, Outcome, World};
+use dgt_script::{LineFault, read_act, read_faulty_act, write_closing};
 
 /// A world, and the lines that its scripts may have.
 pub(crate) trait Stage {
@@ -53,6 +53,26 @@ impl Stage for World {
     }
 
     fn end<W: Sink>(&self, writer: &mut W) -> Result<(), RunFault> {
-        write_closing(self, writer)
+        write_closing(self.board(), self.host(), self.quiet(), writer)
+    }
+}
+
+impl Stage for FaultyWorld {
+    ghost use Rattle.std.proofs.Common.{inl, refl};
+
+    ghost seen = { λ world. world };
+
+    ghost rules = { faulty_rules };
+
+    ghost long_is_bad = { λ line long. inl (long, refl) };
+
+    fn play(&mut self, line: &[u8]) -> Result<Outcome, LineFault> {
+        let mut store = [0; MAX_WORD];
+        let act = read_faulty_act(line, &mut store)?;
+        Ok(self.step(act))
+    }
+
+    fn end<W: Sink>(&self, writer: &mut W) -> Result<(), RunFault> {
+        write_closing(self.board(), self.host(), self.quiet(), writer)
     }
 }

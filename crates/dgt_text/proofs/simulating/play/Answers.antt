@@ -35,7 +35,8 @@ returns-then-given-eq0-clause-output g c =
     let q = c.loop.invariant.played in
     let at_end = g.R.Source.ended c.read_some.new.self in
     let ends = c.in-Ok.ensures.end (c.if-given-eq0.true, omega (arith, c.read_some.auto.buffer)) in
-    scripted_ends g.S.Stage.rules g.R.Source g.W.Sink at_end c.args.limit _ _ _ _ _ _ _ _ _ _ _ _ turns.bytes [] turns.given q
+    scripted_ends g.S.Stage.rules g.R.Source g.W.Sink at_end c.args.limit _ _ _ _ _ _ _ _ _ _ _ _
+    turns.bytes [] turns.given q
     (rw c.if-given-eq0.true at c.in-Ok.ensures.bytes.0) c.play_end.ensures.faults
     (rw (append-nil q.rest) (c.play_end.ensures.played at_end q.rest ends q.kept q.cut.last))
 
@@ -44,7 +45,8 @@ returns-in_err-play_piece-clause-output g c =
     let turns = c.loop.invariant.in_turns in
     let q = c.loop.invariant.played in
     let at_end = g.R.Source.ended c.read_some.new.self in
-    scripted_stops g.S.Stage.rules g.R.Source g.W.Sink at_end c.args.limit _ _ _ _ _ _ _ _ _ _ _ _ _ turns.bytes _ turns.given q
+    scripted_stops g.S.Stage.rules g.R.Source g.W.Sink at_end c.args.limit _ _ _ _ _ _ _ _ _ _ _ _ _
+    turns.bytes _ turns.given q
     c.in-Ok.ensures.bytes.0 c.from_residual.ensures.1
     (c.in_err-play_piece.ensures.played at_end q.rest q.kept q.cut.last)
 
