@@ -203,9 +203,12 @@ pub fn simulate<R: Source, W: Sink>(
 
 /// Runs a script in a world whose lines and whose board's power may fail, in at most `limit` reads.
 ///
-/// A line may ask for what [`simulate`] allows, or for a fault or a restart, as
-/// [`read_faulty_act`](crate::read_faulty_act) reads them. Outcomes, closing lines and errors are
+/// A line asks for an act of [`simulate`], for a fault or for a restart, as
+/// [`read_faulty_act`](crate::read_faulty_act) reads it. Outcomes, closing lines and errors are
 /// those of [`simulate`].
+///
+/// If the world that is left is quiet and promised to heal, the closing lines of board and host
+/// have one placement. [`FaultyWorld::run`] says after which acts a world is promised to heal.
 pub fn simulate_faults<R: Source, W: Sink>(
     world: &mut FaultyWorld,
     reader: &mut R,
@@ -218,7 +221,7 @@ pub fn simulate_faults<R: Source, W: Sink>(
         (InTurns limit result
         (IsSimulated faulty_rules (R.ended reader.new) result world.old world.new)) }
 
-    // if the world that is left is promised and quiet, the lines of board and host have one
+    // if the world that is left is promised to heal and quiet, the lines of board and host have one
     // placement
     ensures picture { Ran R.Source W.Sink
         (change reader.old reader.new) (change writer.old writer.new)
