@@ -1,14 +1,11 @@
 -- A script divides into lines in one way, and is played in one way.
 use Rattle.std.proofs.Common.{◌≡◌, ◌≢◌, ℕ, List, [], ◌∷◌, ◌++◌, refl, sym, ◌∙◌, ap, subst, arith, append_assoc, suc, zero}
 use Rattle.std.specs.Prelude.{All, flat_map}
-use Rattle.dgt_link.specs.Act.{ActContent}
 use Rattle.dgt_link.specs.declared.acts.Outcome.{Outcome}
-use Rattle.dgt_link.specs.Step.{Step}
 use Rattle.dgt_link.specs.View.{WorldView}
 use Rattle.dgt_script.specs.Closing.{outcome_line}
-use Rattle.dgt_script.specs.Script.{AsksFor}
 use Rattle.dgt_script.specs.ScriptLines.{HasNoFeed, IsCut, ended}
-use Rattle.dgt_text.specs.Simulating.{Plays, Rules, plain_rules}
+use Rattle.dgt_text.specs.Simulating.{Plays, Rules}
 
 rest_of : {A : Type 0} (P : A → Type 0) (x : A) (xs : List A) → All P (x ∷ xs) → All P xs
 rest_of P x xs h k d b = h (suc k) d (omega arith)
@@ -71,14 +68,15 @@ module _ (rules : Rules)
       let more = plays_once q.1 ls p.2 q.2 l k (subst (λ x. Plays rules x ls p.2 l) step.1 p.5) q.5 in
       (p.4 ∙ ap (λ o. outcome_line o ++ p.2) step.0 ∙ ap (λ r. outcome_line q.0 ++ r) more.0 ∙ sym q.4, more.1)
 
--- a line of a plain script asks for one act, which has one outcome
-pub plain_once : ((line : List ℕ) (first second : ActContent) → AsksFor line first → AsksFor line second
-    → first ≡ second)
-    → ((act : ActContent) (world after other : WorldView) (answer also : Outcome) → Step act world answer after
-    → Step act world also other → (answer ≡ also) × (after ≡ other))
+-- a line asks for one act, which has one outcome
+pub acts_once : {A : Type 0} (asks : List ℕ → A → Type 0) (steps : A → WorldView → Outcome → WorldView → Type 0)
+    → ((line : List ℕ) (first second : A) → asks line first → asks line second → first ≡ second)
+    → ((act : A) (world after other : WorldView) (answer also : Outcome) → steps act world answer after
+    → steps act world also other → (answer ≡ also) × (after ≡ other))
     → (line : List ℕ) (world after other : WorldView) (answer also : Outcome)
-    → plain_rules.does line world answer after → plain_rules.does line world also other
+    → ((act : A) × asks line act × steps act world answer after)
+    → ((act : A) × asks line act × steps act world also other)
     → (answer ≡ also) × (after ≡ other)
-plain_once meaning one line w l k o v p q =
+acts_once asks steps meaning one line w l k o v p q =
     let same : p.0 ≡ q.0 = meaning line p.0 q.0 p.1 q.1 in
-    one q.0 w l k o v (subst (λ a. Step a w o l) same p.2) q.2
+    one q.0 w l k o v (subst (λ a. steps a w o l) same p.2) q.2

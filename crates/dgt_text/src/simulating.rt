@@ -232,6 +232,6 @@ pub fn simulate_faults<R: Source, W: Sink>(
         (change writer.old writer.new) limit result }
 {
     laws::closing_lines_agree();
-    dgt_link::laws::promised_worlds_heal();
+    dgt_link::healing::promised_worlds_heal();
     play(world, reader, writer, limit)
 }

@@ -6,5 +6,5 @@ returns g c = (
   c.quiet.result,
   c.quiet.ensures.quiet,
   c.write_closing.ensures c.args.self.now (sym c.board.ensures)
-      (sym c.host.ensures),
+      (sym c.host.ensures.host),
 )
