@@ -114,6 +114,10 @@ awaits_too_many host kind = is_some kind && nat_le MAX_AWAITED (length host.awai
 abbrev pub host_awaiting : HostView → Option Kind → HostView
 host_awaiting host kind = record host { awaited = host.awaited ++ option_to_list kind }
 
+-- the host that awaits nothing more
+abbrev pub without_awaited : HostView → HostView
+without_awaited host = record host { awaited = [] }
+
 -- what a host sends to follow the board: its changes are to be told, and first the whole of it
 abbrev pub follow_bytes : List ℕ
 follow_bytes = command_spelling UpdateBoard ++ command_spelling Dump

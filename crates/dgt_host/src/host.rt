@@ -9,7 +9,7 @@ ghost use Rattle.dgt_command.specs.Content.{command_content, kind_of_command};
 ghost use Rattle.dgt_command.specs.Spelling.{command_spelling, SpellsCommand};
 ghost use Rattle.dgt_decode.specs.Grammar.{open_message};
 ghost use Rattle.dgt_decode.specs.Feeding.{FirstEvent, event_content_if_any};
-ghost use Rattle.dgt_host.specs.Host.{IsUnasked, Sends, awaits_too_many, follow_bytes, host_after, new_host, restart_bytes};
+ghost use Rattle.dgt_host.specs.Host.{IsUnasked, Sends, awaits_too_many, follow_bytes, host_after, new_host, restart_bytes, without_awaited};
 
 use crate::hearing::{Heard, hear_event};
 use crate::sending::SendFault;
@@ -151,6 +151,18 @@ impl Host {
         self.picture = None;
         self.clock = None;
         self.awaited.clear();
+    }
+
+    /// Gives up all replies that are awaited. The picture, the clock and the unread bytes stay as
+    /// they are.
+    ///
+    /// After bytes were lost or altered some of these replies may never come. A reply that comes
+    /// all the same is then unasked. Call [`Host::restart`] next to ask again: the picture stays
+    /// known until the new dump replaces it.
+    pub fn give_up_awaited(&mut self)
+        ensures { self.new ≡ without_awaited self.old }
+    {
+        self.awaited = ArrayVec::new();
     }
 
     fn awaits_too_many(&self, kind: Option<Kind>) -> bool

@@ -1,5 +1,5 @@
 -- What keeps a clock coming, and that it is the board's at quiet.
-use Rattle.std.proofs.Common.{IsTrue, false, true, Bool, cond, ◌≡◌, ◌≢◌, refl, sym, ap, ◌∙◌, ◌⊎◌, inl, inr, ℕ, List, [], ◌∷◌, ◌++◌, Option, Some, None, ◌&&◌, arith}
+use Rattle.std.proofs.Common.{IsTrue, false, Bool, ◌≡◌, ◌≢◌, refl, sym, ap, ◌∙◌, ◌⊎◌, inl, inr, List, [], ◌∷◌, ◌++◌, Option, Some, None, ◌&&◌}
 use Rattle.std.proofs.lemmas.List.Elements.{Contains-append_left, Contains-push}
 use Rattle.std.proofs.lemmas.Bool.{cond_both, false≢true}
 use Rattle.std.specs.List.{AllByRecursion}
@@ -7,25 +7,19 @@ use Rattle.std.specs.Prelude.{IsSome, Contains, is_some}
 use Rattle.dgt_message.specs.Content.{Content, clock_message}
 use Rattle.dgt_message.specs.Clock.{ClockState}
 use Rattle.dgt_command.specs.Content.{CommandContent, EventContent}
-use Rattle.dgt_command.specs.Laws.{EachDividesOnce}
-use Rattle.dgt_board.specs.declared.modes.Mode.{Mode}
 use Rattle.dgt_board.specs.declared.replies.Reply.{Reply}
-use Rattle.dgt_board.specs.State.{BoardState, command_mode, effect, follows_clock, updates}
-use Rattle.dgt_board.specs.Sending.{differs, field_of, reply_message}
+use Rattle.dgt_board.specs.State.{BoardState, effect, follows_clock, updates}
+use Rattle.dgt_board.specs.Sending.{differs, field_of, reply_message, told_clock_after}
 use Rattle.dgt_host.specs.Host.{clock_after, clock_after_all}
-use Rattle.dgt_link.specs.Faults.{is_break}
 use Rattle.dgt_link.specs.Act.{ActContent}
 use Rattle.dgt_link.specs.declared.acts.Outcome.{Outcome}
-use Rattle.dgt_link.specs.Clocks.{ClockIsComing, IsClockFollowing, IsClockPromised, IsClockPromisedWorld, stops_clock}
-use Rattle.dgt_link.specs.Healing.{IsInStep, StandsBehind, StandsBehindAfter}
+use Rattle.dgt_link.specs.Clocks.{ClockIsComing, IsClockPromised}
+use Rattle.dgt_link.specs.Faults.{is_break}
 use Rattle.dgt_link.specs.Machine.{IsHostBreak, Move, MachineState, after_move, after_moves, after_told, after_take, after_reply, after_hear}
-use Rattle.dgt_link.specs.Promise.{IsQuiet, act_requests, coming_mode, mode_after}
+use Rattle.dgt_link.specs.Promise.{IsQuiet}
 use Rattle.dgt_link.specs.Sound.{IsSound, IsUnknownOr, coming_clock}
 use Rattle.dgt_link.specs.Stands.{AreMovesOfStep}
-use Rattle.dgt_link.specs.Step.{Step}
-use Rattle.dgt_link.specs.View.{IsQuietWorld, WorldView}
-use Rattle.dgt_link.proofs.Asking.{act_is_no_break, mode-step, step_is_other}
-use Rattle.dgt_link.proofs.Healing.{known_picture, quiet_behind}
+use Rattle.dgt_link.proofs.Asking.{act_is_no_break, step_is_other}
 use Rattle.dgt_link.proofs.Lists.{Contains-cons, nothing_contained}
 use Rattle.dgt_link.proofs.Promises.{effect_owes}
 use Rattle.dgt_link.proofs.Quiet.{quiet_mode, quiet_up_to_date, told_clock}
@@ -37,20 +31,39 @@ clock_after_known (Some clock) (Content.times readings) known = refl
 clock_after_known (Some clock) (Content.no_clock absence) known = refl
 clock_after_known (Some clock) _ known = refl
 
--- a clock that comes, by its three ways: under way, owed, asked for
-abbrev Comes : Option ClockState → List Reply → List EventContent → Type 0
-Comes seen owed down =
-    IsSome seen ⊎ (Contains owed Reply.Clock ⊎ Contains down (EventContent.Read CommandContent.Clock))
+-- a clock that comes, by its four ways: under way, owed, asked for, never reported
+abbrev Comes : Option ClockState → Option ClockState → List Reply → List EventContent → Type 0
+Comes seen told owed down =
+    IsSome seen ⊎ (Contains owed Reply.Clock
+    ⊎ (Contains down (EventContent.Read CommandContent.Clock) ⊎ (told ≡ None)))
 
-sent_comes : (clock : Option ClockState) (up : List Content) (message : Content) (owed : List Reply)
-    (down : List EventContent)
-    → Comes (clock_after_all clock up) owed down → Comes (clock_after_all clock (up ++ message ∷ [])) owed down
-sent_comes clock up message owed down (inl known) =
+-- a message that is sent makes the clock known or leaves what was reported of it
+sent_told : (board : BoardState) (seen : Option ClockState) (message : Content)
+    → IsSome (clock_after seen message) ⊎ (told_clock_after board message ≡ board.told_clock)
+sent_told board seen (Content.times readings) = inl refl
+sent_told board seen (Content.no_clock absence) = inl refl
+sent_told board seen _ = inr refl
+
+-- a message goes under way
+sent_comes : (board : BoardState) (clock : Option ClockState) (up : List Content) (message : Content)
+    (owed : List Reply) (down : List EventContent)
+    → Comes (clock_after_all clock up) board.told_clock owed down
+    → Comes (clock_after_all clock (up ++ message ∷ [])) (told_clock_after board message) owed down
+sent_comes board clock up message owed down (inl known) =
     inl
     (rw (clock_after_all-append clock up message) (clock_after_known (clock_after_all clock up) message known))
-sent_comes clock up message owed down (inr later) = inr later
+sent_comes board clock up message owed down (inr (inl owes)) = inr (inl owes)
+sent_comes board clock up message owed down (inr (inr (inl asked))) = inr (inr (inl asked))
+sent_comes board clock up message owed down (inr (inr (inr none))) =
+    go (sent_told board (clock_after_all clock up) message)
+  where
+    go : IsSome (clock_after (clock_after_all clock up) message)
+        ⊎ (told_clock_after board message ≡ board.told_clock)
+        → Comes (clock_after_all clock (up ++ message ∷ [])) (told_clock_after board message) owed down
+    go (inl known) = inl (rw (clock_after_all-append clock up message) known)
+    go (inr same) = inr (inr (inr (same ∙ none)))
 
--- what tells of the clock makes it known
+-- what reports the clock makes it known
 told_known : (seen : Option ClockState) (clock : ClockState) → IsSome (clock_after seen (clock_message clock))
 told_known seen (ClockState.times readings) = refl
 told_known seen (ClockState.no_clock absence) = refl
@@ -59,24 +72,26 @@ reading_known : (board : BoardState) (seen : Option ClockState) (owed : Reply) �
     → IsSome (clock_after seen (reply_message board owed))
 reading_known board seen owed e = rw e (told_known seen board.clock)
 
+-- the first owed reply goes under way
 reply_comes : (board : BoardState) (clock : Option ClockState) (up : List Content) (first : Reply)
     (rest : List Reply) (down : List EventContent)
-    → Comes (clock_after_all clock up) (first ∷ rest) down
-    → Comes (clock_after_all clock (up ++ reply_message board first ∷ [])) rest down
-reply_comes board clock up first rest down (inl known) =
-    inl
-    (rw (clock_after_all-append clock up (reply_message board first))
-    (clock_after_known (clock_after_all clock up) (reply_message board first) known))
+    → Comes (clock_after_all clock up) board.told_clock (first ∷ rest) down
+    → Comes (clock_after_all clock (up ++ reply_message board first ∷ []))
+    (told_clock_after board (reply_message board first)) rest down
 reply_comes board clock up first rest down (inr (inl owed)) = go (Contains-cons Reply.Clock first rest owed)
   where
     go : (first ≡ Reply.Clock) ⊎ Contains rest Reply.Clock
-        → Comes (clock_after_all clock (up ++ reply_message board first ∷ [])) rest down
+        → Comes (clock_after_all clock (up ++ reply_message board first ∷ []))
+        (told_clock_after board (reply_message board first)) rest down
     go (inl e) =
         inl
         (rw (clock_after_all-append clock up (reply_message board first))
         (reading_known board (clock_after_all clock up) first e))
     go (inr owed) = inr (inl owed)
-reply_comes board clock up first rest down (inr (inr asked)) = inr (inr asked)
+reply_comes board clock up first rest down (inl known) =
+    sent_comes board clock up (reply_message board first) rest down (inl known)
+reply_comes board clock up first rest down (inr (inr later)) =
+    sent_comes board clock up (reply_message board first) rest down (inr (inr later))
 
 reply_keeps : (x : MachineState) (owed : List Reply) → x.board.owed ≡ owed → ClockIsComing x
     → ClockIsComing (after_reply x owed)
@@ -87,17 +102,27 @@ clock_owed : (board : BoardState) (event : EventContent) → event ≡ EventCont
     → Contains (effect board event).owed Reply.Clock
 clock_owed board event e = rw e (Contains-push board.owed Reply.Clock)
 
+-- what is read reports nothing
+effect_told : (board : BoardState) (event : EventContent) → (effect board event).told_clock ≡ board.told_clock
+effect_told board (EventContent.Read command) = refl
+effect_told board EventContent.BadSize = refl
+effect_told board EventContent.BadStart = refl
+effect_told board EventContent.BadEnd = refl
+effect_told board (EventContent.Stray byte) = refl
+
 take_comes : (board : BoardState) (seen : Option ClockState) (event : EventContent) (rest : List EventContent)
-    → Comes seen board.owed (event ∷ rest) → Comes seen (effect board event).owed rest
+    → Comes seen board.told_clock board.owed (event ∷ rest)
+    → Comes seen (effect board event).told_clock (effect board event).owed rest
 take_comes board seen event rest (inl known) = inl known
 take_comes board seen event rest (inr (inl owed)) = inr (inl (effect_owes board event Reply.Clock owed))
-take_comes board seen event rest (inr (inr asked)) =
+take_comes board seen event rest (inr (inr (inl asked))) =
     go (Contains-cons (EventContent.Read CommandContent.Clock) event rest asked)
   where
     go : (event ≡ EventContent.Read CommandContent.Clock) ⊎ Contains rest (EventContent.Read CommandContent.Clock)
-        → Comes seen (effect board event).owed rest
+        → Comes seen (effect board event).told_clock (effect board event).owed rest
     go (inl e) = inr (inl (clock_owed board event e))
-    go (inr later) = inr (inr later)
+    go (inr later) = inr (inr (inl later))
+take_comes board seen event rest (inr (inr (inr none))) = inr (inr (inr (effect_told board event ∙ none)))
 
 take_keeps : (x : MachineState) (down : List EventContent) → x.down ≡ down → ClockIsComing x
     → ClockIsComing (after_take x down)
@@ -108,12 +133,13 @@ hear_keeps : (x : MachineState) (up : List Content) → x.up ≡ up → ClockIsC
 hear_keeps x [] e coming = coming
 hear_keeps x (message ∷ rest) e coming = rw e at coming
 
-ask_comes : (seen : Option ClockState) (owed : List Reply) (down more : List EventContent) → Comes seen owed down
-    → Comes seen owed (down ++ more)
-ask_comes seen owed down more (inl known) = inl known
-ask_comes seen owed down more (inr (inl owes)) = inr (inl owes)
-ask_comes seen owed down more (inr (inr asked)) =
-    inr (inr (Contains-append_left down more (EventContent.Read CommandContent.Clock) asked))
+ask_comes : (seen told : Option ClockState) (owed : List Reply) (down more : List EventContent)
+    → Comes seen told owed down → Comes seen told owed (down ++ more)
+ask_comes seen told owed down more (inl known) = inl known
+ask_comes seen told owed down more (inr (inl owes)) = inr (inl owes)
+ask_comes seen told owed down more (inr (inr (inl asked))) =
+    inr (inr (inl (Contains-append_left down more (EventContent.Read CommandContent.Clock) asked)))
+ask_comes seen told owed down more (inr (inr (inr none))) = inr (inr (inr none))
 
 -- only the breaks end it
 clock_keeps_coming : (x : MachineState) (move : Move) → move ≢ Move.Break → ¬ (IsHostBreak move) → ClockIsComing x
@@ -121,16 +147,18 @@ clock_keeps_coming : (x : MachineState) (move : Move) → move ≢ Move.Break �
 clock_keeps_coming x (Move.Change square piece) other also coming = coming
 clock_keeps_coming x (Move.HandClock clock) other also coming = coming
 clock_keeps_coming x (Move.Ask command) other also coming =
-    ask_comes (coming_clock x) x.board.owed x.down (EventContent.Read command ∷ []) coming
+    ask_comes (coming_clock x) x.board.told_clock x.board.owed x.down (EventContent.Read command ∷ []) coming
 clock_keeps_coming x Move.Take other also coming = take_keeps x x.down refl coming
 clock_keeps_coming x Move.Reply other also coming = reply_keeps x x.board.owed refl coming
 clock_keeps_coming x (Move.Tell square) other also coming =
     cond_both (updates x.board.mode && differs x.board square)
     (after_told x (field_of x.board square)) x ClockIsComing
-    (λ h. sent_comes x.host_clock x.up (field_of x.board square) x.board.owed x.down coming) (λ h. coming)
+    (λ h. sent_comes x.board x.host_clock x.up (field_of x.board square) x.board.owed x.down coming)
+    (λ h. coming)
 clock_keeps_coming x Move.TellClock other also coming =
     cond_both x.board.times_owed (after_told x (clock_message x.board.clock)) x ClockIsComing
-    (λ h. sent_comes x.host_clock x.up (clock_message x.board.clock) x.board.owed x.down coming) (λ h. coming)
+    (λ h. sent_comes x.board x.host_clock x.up (clock_message x.board.clock) x.board.owed x.down coming)
+    (λ h. coming)
 clock_keeps_coming x Move.Hear other also coming = hear_keeps x x.up refl coming
 clock_keeps_coming x Move.Break other also coming = absurd (other refl)
 clock_keeps_coming x (Move.HostBreak noise is_noise) other also coming = absurd (also tt)
@@ -141,7 +169,7 @@ moves_keep x [] others also coming = coming
 moves_keep x (move ∷ moves) others also coming =
     moves_keep (after_move x move) moves others.1 also.1 (clock_keeps_coming x move others.0 also.0 coming)
 
-step_is_no_break : (act : ActContent) (answer : Outcome) (moves : List Move) → act ≢ ActContent.Break
+pub step_is_no_break : (act : ActContent) (answer : Outcome) (moves : List Move) → act ≢ ActContent.Break
     → AreMovesOfStep act answer moves → AllByRecursion (λ move. move ≢ Move.Break) moves
 step_is_no_break act Outcome.Done moves other are = act_is_no_break act moves other are
 step_is_no_break act Outcome.Nothing moves other e = rw e tt
@@ -149,141 +177,57 @@ step_is_no_break act Outcome.NoRoom moves other e = rw e tt
 step_is_no_break act Outcome.Busy moves other e = rw e tt
 step_is_no_break act Outcome.TooMany moves other e = rw e tt
 
+pub no_break : (act : ActContent) → is_break act ≡ false
+    → (act ≢ ActContent.Break) × (act ≢ ActContent.HostBreak)
+no_break ActContent.Break other = cc
+no_break ActContent.HostBreak other = cc
+no_break (ActContent.Change square piece) other = (λ e. cc, λ e. cc)
+no_break (ActContent.ClockRead clock) other = (λ e. cc, λ e. cc)
+no_break (ActContent.Host command) other = (λ e. cc, λ e. cc)
+no_break ActContent.BoardSend other = (λ e. cc, λ e. cc)
+no_break (ActContent.ToBoard count) other = (λ e. cc, λ e. cc)
+no_break (ActContent.ToHost count) other = (λ e. cc, λ e. cc)
+
+-- an act that is no break keeps a clock coming
+pub step_keeps_clock : (x : MachineState) (act : ActContent) (answer : Outcome) (moves : List Move)
+    → is_break act ≡ false → AreMovesOfStep act answer moves → ClockIsComing x → ClockIsComing (after_moves x moves)
+step_keeps_clock x act answer moves other are coming =
+    moves_keep x moves (step_is_no_break act answer moves (no_break act other).0 are)
+    (step_is_other act answer moves (no_break act other).1 are) coming
+
+-- a reading that is asked for comes
+pub clock_is_asked : (x : MachineState) (moves : List Move)
+    → AreMovesOfStep (ActContent.Host CommandContent.Clock) Outcome.Done moves → ClockIsComing (after_moves x moves)
+clock_is_asked x moves e = rw e (inr (inr (inl (Contains-push x.down (EventContent.Read CommandContent.Clock)))))
+
 -- ---- at quiet
 
-clock_has_come : (x : MachineState) → IsSound x → IsQuiet x → ClockIsComing x → IsSome x.host_clock
-clock_has_come x sound quiet (inl seen) = rw quiet.up at seen
-clock_has_come x sound quiet (inr (inl owed)) =
+-- if the mode follows the clock and nothing is owed, the clock was reported
+reported : (owed : Bool) (told : Option ClockState) (clock : ClockState) → owed ≡ false → told ≡ None
+    → IsTrue owed ⊎ (told ≡ Some clock) → ⊥
+reported owed told clock settled none (inl owes) = false≢true (sym settled ∙ owes)
+reported owed told clock settled none (inr told_it) = cc
+
+clock_has_come : (x : MachineState) → IsSound x → IsQuiet x → IsTrue (follows_clock x.board.mode) → ClockIsComing x
+    → IsSome x.host_clock
+clock_has_come x sound quiet follows (inl seen) = rw quiet.up at seen
+clock_has_come x sound quiet follows (inr (inl owed)) =
     absurd (nothing_contained Reply.Clock (rw (quiet_up_to_date x sound quiet).owed at owed))
-clock_has_come x sound quiet (inr (inr asked)) =
+clock_has_come x sound quiet follows (inr (inr (inl asked))) =
     absurd (nothing_contained (EventContent.Read CommandContent.Clock) (rw quiet.down at asked))
+clock_has_come x sound quiet follows (inr (inr (inr none))) =
+    absurd (reported x.board.times_owed x.board.told_clock x.board.clock
+    (quiet_up_to_date x sound quiet).times_owed none (sound.followed follows))
 
 known_clock : (clock told : Option ClockState) → IsSome clock → IsUnknownOr clock told → clock ≡ told
 known_clock clock told some (inl none) = absurd (false≢true (ap is_some (sym none) ∙ some))
 known_clock clock told some (inr same) = same
 
-promised_clock : (x : MachineState) → IsSound x → IsClockPromised x → IsQuiet x → x.host_clock ≡ Some x.board.clock
+pub promised_clock : (x : MachineState) → IsSound x → IsClockPromised x → IsQuiet x
+    → x.host_clock ≡ Some x.board.clock
 promised_clock x sound promised quiet =
-    known_clock x.host_clock x.board.told_clock (clock_has_come x sound quiet promised.clock)
+    let follows : IsTrue (follows_clock x.board.mode) = rw (quiet_mode x quiet) at promised.mode in
+    known_clock x.host_clock x.board.told_clock (clock_has_come x sound quiet follows promised.clock)
     (rw quiet.up at sound.clock)
     ∙ told_clock x.board.times_owed x.board.told_clock (Some x.board.clock) (quiet_up_to_date x sound quiet).times_owed
-    (sound.followed (rw (quiet_mode x quiet) at promised.mode))
-
-pub clock_at_quiet : EachDividesOnce → (world : WorldView) → IsClockPromisedWorld world → IsQuietWorld world
-    → world.host.clock ≡ Some world.board.state.clock
-clock_at_quiet once world is quiet =
-    rw is.stands.board
-    (known_picture is.state.host_clock world.host.clock is.state.board.clock is.stands.clock
-    (promised_clock is.state is.stands.sound is.promised
-    (quiet_behind once is.garbage world is.state is.stands quiet)))
-
--- ---- acts
-
-command_stays : (before : Mode) (command : CommandContent) → stops_clock (ActContent.Host command) ≡ false
-    → IsTrue (follows_clock before) → IsTrue (follows_clock (mode_after before (Some command ∷ [])))
-command_stays before CommandContent.Reset going asks = cc
-command_stays before CommandContent.UpdateBoard going asks = cc
-command_stays before CommandContent.Update going asks = refl
-command_stays before CommandContent.UpdateNice going asks = refl
-command_stays before _ going asks = asks
-
-mode_stays : (before : Mode) (act : ActContent) (answer : Outcome) → stops_clock act ≡ false
-    → IsTrue (follows_clock before) → IsTrue (follows_clock (mode_after before (act_requests answer act)))
-mode_stays before (ActContent.Host command) Outcome.Done going asks = command_stays before command going asks
-mode_stays before ActContent.Break Outcome.Done going asks = cc
-mode_stays before ActContent.HostBreak Outcome.Done going asks = cc
-mode_stays before (ActContent.Change square piece) Outcome.Done going asks = asks
-mode_stays before (ActContent.ClockRead clock) Outcome.Done going asks = asks
-mode_stays before ActContent.BoardSend Outcome.Done going asks = asks
-mode_stays before (ActContent.ToBoard count) Outcome.Done going asks = asks
-mode_stays before (ActContent.ToHost count) Outcome.Done going asks = asks
-mode_stays before act Outcome.Nothing going asks = asks
-mode_stays before act Outcome.NoRoom going asks = asks
-mode_stays before act Outcome.Busy going asks = asks
-mode_stays before act Outcome.TooMany going asks = asks
-
-mode_is_set : (before mode : Mode) (command : CommandContent) → command_mode command ≡ Some mode
-    → IsTrue (follows_clock mode) → IsTrue (follows_clock (mode_after before (Some command ∷ [])))
-mode_is_set before mode command is asks = rw is asks
-
-plain : (act : ActContent) → stops_clock act ≡ false
-    → (is_break act ≡ false) × (act ≢ ActContent.Break) × (act ≢ ActContent.HostBreak)
-plain ActContent.Break other = cc
-plain ActContent.HostBreak other = cc
-plain (ActContent.Change square piece) other = (refl, λ e. cc, λ e. cc)
-plain (ActContent.ClockRead clock) other = (refl, λ e. cc, λ e. cc)
-plain (ActContent.Host command) other = (refl, λ e. cc, λ e. cc)
-plain ActContent.BoardSend other = (refl, λ e. cc, λ e. cc)
-plain (ActContent.ToBoard count) other = (refl, λ e. cc, λ e. cc)
-plain (ActContent.ToHost count) other = (refl, λ e. cc, λ e. cc)
-
-clock_is_asked : (x : MachineState) (moves : List Move)
-    → AreMovesOfStep (ActContent.Host CommandContent.Clock) Outcome.Done moves → ClockIsComing (after_moves x moves)
-clock_is_asked x moves e = rw e (inr (inr (Contains-push x.down (EventContent.Read CommandContent.Clock))))
-
-module _ (behind : (act : ActContent) (garbage : List ℕ) (world : WorldView) (answer : Outcome) (after : WorldView)
-    (x : MachineState)
-    → is_break act ≡ false → StandsBehind garbage world x → Step act world answer after
-    → StandsBehindAfter act answer world x after) where
-  pub clock_asked_follows : (command : CommandContent) (mode : Mode) (world after : WorldView)
-      → command_mode command ≡ Some mode → IsTrue (follows_clock mode) → IsInStep world
-      → Step (ActContent.Host command) world Outcome.Done after → IsClockFollowing after
-  clock_asked_follows command mode world after sets asks is step =
-      let reached = behind (ActContent.Host command) is.garbage world Outcome.Done after is.state refl is.stands step in
-      record {
-        garbage = reached.0;
-        state = after_moves is.state reached.1;
-        stands = reached.3;
-        mode =
-            rw (mode-step is.state (ActContent.Host command) Outcome.Done reached.1 reached.2)
-            (mode_is_set (coming_mode is.state) mode command sets asks);
-      }
-
-  pub keeps_clock_following : (act : ActContent) (world after : WorldView) (answer : Outcome)
-      → stops_clock act ≡ false → IsClockFollowing world → Step act world answer after → IsClockFollowing after
-  keeps_clock_following act world after answer going is step =
-      let reached = behind act is.garbage world answer after is.state (plain act going).0 is.stands step in
-      record {
-        garbage = reached.0;
-        state = after_moves is.state reached.1;
-        stands = reached.3;
-        mode =
-            rw (mode-step is.state act answer reached.1 reached.2)
-            (mode_stays (coming_mode is.state) act answer going is.mode);
-      }
-
-  pub clock_promises : (world after : WorldView) → IsClockFollowing world
-      → Step (ActContent.Host CommandContent.Clock) world Outcome.Done after → IsClockPromisedWorld after
-  clock_promises world after is step =
-      let reached = behind (ActContent.Host CommandContent.Clock) is.garbage world Outcome.Done after is.state refl
-      is.stands step in
-      record {
-        garbage = reached.0;
-        state = after_moves is.state reached.1;
-        stands = reached.3;
-        promised = record {
-          clock = clock_is_asked is.state reached.1 reached.2;
-          mode =
-              rw (mode-step is.state (ActContent.Host CommandContent.Clock) Outcome.Done reached.1 reached.2) is.mode;
-        };
-      }
-
-  pub keeps_clock_promised : (act : ActContent) (world after : WorldView) (answer : Outcome)
-      → stops_clock act ≡ false → IsClockPromisedWorld world → Step act world answer after
-      → IsClockPromisedWorld after
-  keeps_clock_promised act world after answer going is step =
-      let other = plain act going in
-      let reached = behind act is.garbage world answer after is.state other.0 is.stands step in
-      record {
-        garbage = reached.0;
-        state = after_moves is.state reached.1;
-        stands = reached.3;
-        promised = record {
-          clock =
-              moves_keep is.state reached.1 (step_is_no_break act answer reached.1 other.1 reached.2)
-              (step_is_other act answer reached.1 other.2 reached.2) is.promised.clock;
-          mode =
-              rw (mode-step is.state act answer reached.1 reached.2)
-              (mode_stays (coming_mode is.state) act answer going is.promised.mode);
-        };
-      }
+    (sound.followed follows)

@@ -1,5 +1,9 @@
 -- What the derived `==` says of acts.
-use Rattle.std.proofs.Common.{refl, rules}
+use Rattle.std.proofs.Common.{◌≡◌, ℕ, List, nat_eq, refl, rules}
+use Rattle.std.specs.Prelude.{◌↔◌, IsTrue}
+use Rattle.std.proofs.lemmas.Bool.Decides.{Decides-eqb}
+use Rattle.std.proofs.lemmas.Slice.Eq.{slice_eq-Decides}
+use lib.Pointwise.{pointwise}
 use Rattle.dgt_values.specs.Equality.{EqualIsSameRead, EqualIsSameReadOf}
 use Rattle.dgt_message.specs.Content.{clock_seen}
 use Rattle.dgt_message.specs.contracts.clock.ClockPartialEq.TheImpl as derived_clock
@@ -9,6 +13,9 @@ use Rattle.dgt_command.specs.contracts.command.CommandPartialEq.TheImpl as deriv
 use Rattle.dgt_link.specs.Act.{ActHasArrays, act_content}
 use Rattle.dgt_link.specs.declared.acts.Act.TheVariants as act
 use Rattle.dgt_link.specs.contracts.acts.ActPartialEq.TheImpl as derived
+use Rattle.dgt_link.specs.contracts.faulty.FaultyActPartialEq.TheImpl as derived_faulty
+use Rattle.dgt_link.specs.declared.faulty.FaultyAct.TheVariants as faulty
+use Rattle.dgt_link.specs.Faults.{FaultyActHasArrays, faulty_content}
 
 module _ (equal_clocks : EqualIsSameRead clock_seen (derived_clock.eq-value).it)
     (equal_commands : EqualIsSameReadOf CommandHasArrays command_content (derived_command.eq-value).it) where
@@ -34,3 +41,27 @@ module _ (equal_clocks : EqualIsSameRead clock_seen (derived_clock.eq-value).it)
   equal_acts (act.ToHost a) _ h k = (λ t. cc, λ e. cc)
   equal_acts act.Break _ h k = (λ t. cc, λ e. cc)
   equal_acts act.HostBreak _ h k = (λ t. cc, λ e. cc)
+
+-- ---- of a world whose lines and whose board may fail
+
+equal_bytes : (xs ys : List ℕ) → IsTrue (pointwise nat_eq xs ys) ↔ (xs ≡ ys)
+equal_bytes xs ys = slice_eq-Decides Decides-eqb xs ys _ refl
+
+module _ (equal : EqualIsSameReadOf ActHasArrays act_content (derived.eq-value).it) where
+  pub equal_faulty_acts : EqualIsSameReadOf FaultyActHasArrays faulty_content (derived_faulty.eq-value).it
+  equal_faulty_acts (faulty.Plain a) (faulty.Plain b) h k =
+      let same = equal a b h k in
+      (λ t. let done = same.0 t in cc, λ e. same.1 cc)
+  equal_faulty_acts (faulty.GarbleUp a) (faulty.GarbleUp b) h k =
+      let same = equal_bytes a.now b.now in
+      (λ t. let bytes = same.0 t in cc, λ e. same.1 cc)
+  equal_faulty_acts (faulty.GarbleDown a) (faulty.GarbleDown b) h k =
+      let same = equal_bytes a.now b.now in
+      (λ t. let bytes = same.0 t in cc, λ e. same.1 cc)
+  equal_faulty_acts faulty.BoardLost faulty.BoardLost h k = (λ _. refl, λ _. refl)
+  equal_faulty_acts faulty.Restart faulty.Restart h k = (λ _. refl, λ _. refl)
+  equal_faulty_acts (faulty.Plain a) _ h k = (λ t. cc, λ e. cc)
+  equal_faulty_acts (faulty.GarbleUp a) _ h k = (λ t. cc, λ e. cc)
+  equal_faulty_acts (faulty.GarbleDown a) _ h k = (λ t. cc, λ e. cc)
+  equal_faulty_acts faulty.BoardLost _ h k = (λ t. cc, λ e. cc)
+  equal_faulty_acts faulty.Restart _ h k = (λ t. cc, λ e. cc)

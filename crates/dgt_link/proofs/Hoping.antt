@@ -1,5 +1,5 @@
 -- What each act makes of a world's hope: that it is in step, that it follows, and that it is promised to heal.
-use Rattle.std.proofs.Common.{◌≡◌, ◌≢◌, refl, ℕ, List, [], ◌∷◌, ◌++◌, Some, None, true, false}
+use Rattle.std.proofs.Common.{◌≡◌, refl, ℕ, List, [], ◌∷◌, ◌++◌, Some, true, false}
 use Rattle.std.proofs.Common.{arith}
 use Rattle.std.specs.List.{AllByRecursion}
 use Rattle.std.specs.Prelude.{IsTrue}
@@ -18,7 +18,8 @@ use Rattle.dgt_link.specs.Promise.{act_requests, coming_mode, mode_after}
 use Rattle.dgt_link.specs.Step.{Step}
 use Rattle.dgt_link.specs.View.{WorldView}
 use Rattle.dgt_link.proofs.Asking.{dump_is_coming, mode-step, step_keeps_coming}
-use Rattle.dgt_link.proofs.Healing.{Follows, break_follows, follows_in_step, garbled_stands, host_break_follows, plain_step, restart_follows}
+use Rattle.dgt_link.proofs.Clocks.{no_break}
+use Rattle.dgt_link.proofs.Counting.{forgotten, Follows, break_follows, follows_in_step, garbled_stands, host_break_follows, plain_step, restart_follows}
 use Rattle.dgt_link.proofs.Promises.{coming_promise}
 use Rattle.dgt_link.proofs.Standing.{Grammars}
 
@@ -52,16 +53,6 @@ mode_stays before act Outcome.TooMany going asks = asks
 mode_is_set : (before mode : Mode) (command : CommandContent) → command_mode command ≡ Some mode
     → IsTrue (updates mode) → IsTrue (updates (mode_after before (Some command ∷ [])))
 mode_is_set before mode command is asks = rw is asks
-
-no_break : (act : ActContent) → is_break act ≡ false → act ≢ ActContent.Break
-no_break ActContent.Break other e = cc
-no_break ActContent.HostBreak other e = cc
-no_break (ActContent.Change square piece) other e = cc
-no_break (ActContent.ClockRead clock) other e = cc
-no_break (ActContent.Host command) other e = cc
-no_break ActContent.BoardSend other e = cc
-no_break (ActContent.ToBoard count) other e = cc
-no_break (ActContent.ToHost count) other e = cc
 
 promised_follows : (world : WorldView) → IsPromisedWorld world → IsFollowing world
 promised_follows world is =
@@ -104,7 +95,7 @@ module _ (behind : (act : ActContent) (garbage : List ℕ) (world : WorldView) (
         stands = reached.3;
         promised = record {
           picture =
-              step_keeps_coming is.state act answer reached.1 (no_break act other) reached.2 is.promised.picture;
+              step_keeps_coming is.state act answer reached.1 (no_break act other).0 reached.2 is.promised.picture;
           mode =
               rw (mode-step is.state act answer reached.1 reached.2)
               (mode_stays (coming_mode is.state) act answer going is.promised.mode);
@@ -164,9 +155,9 @@ module _ (behind : (act : ActContent) (garbage : List ℕ) (world : WorldView) (
     pub anew_heals : (act : FaultyContent) (world after : WorldView) → begins_anew act ≡ true → IsSane world
         → FaultyStep act world Outcome.Done after → IsPromisedWorld after
     anew_heals FaultyContent.Restart world after is sane step =
-        anew_promised true after (restart_follows laws once bytes_behind [] world after sane step.leaves)
+        anew_promised true after (restart_follows laws once bytes_behind world after sane step.leaves)
     anew_heals (FaultyContent.Plain ActContent.HostBreak) world after is sane step =
-        anew_promised true after (host_break_follows laws once bytes_behind [] world after sane step.leaves)
+        anew_promised true after (host_break_follows laws once bytes_behind world after sane step.leaves)
     anew_heals (FaultyContent.Plain act) world after is sane step = cc
     anew_heals _ world after is sane step = cc
 
@@ -177,7 +168,7 @@ module _ (behind : (act : ActContent) (garbage : List ℕ) (world : WorldView) (
     plain_in_step ActContent.Break world _ after sane is step = let a = step.answers in cc
     plain_in_step ActContent.HostBreak world Outcome.Done after sane is step =
         follows_in_step true (CommandContent.UpdateBoard ∷ CommandContent.Dump ∷ []) after
-        (host_break_follows laws once bytes_behind [] world after sane step.leaves)
+        (host_break_follows laws once bytes_behind world after sane step.leaves)
     plain_in_step ActContent.HostBreak world _ after sane is step = let a = step.answers in cc
     plain_in_step act world answer after sane is step = other_in_step act world answer after refl is step
 
@@ -187,7 +178,7 @@ module _ (behind : (act : ActContent) (garbage : List ℕ) (world : WorldView) (
     plain_following ActContent.Break world answer after going sane is step = cc
     plain_following ActContent.HostBreak world Outcome.Done after going sane is step =
         promised_follows after
-        (anew_promised true after (host_break_follows laws once bytes_behind [] world after sane step.leaves))
+        (anew_promised true after (host_break_follows laws once bytes_behind world after sane step.leaves))
     plain_following ActContent.HostBreak world _ after going sane is step = let a = step.answers in cc
     plain_following act world answer after going sane is step =
         other_following act world answer after refl going is step
@@ -197,7 +188,7 @@ module _ (behind : (act : ActContent) (garbage : List ℕ) (world : WorldView) (
         → IsPromisedWorld world → Step act world answer after → IsPromisedWorld after
     plain_promised ActContent.Break world answer after going sane is step = cc
     plain_promised ActContent.HostBreak world Outcome.Done after going sane is step =
-        anew_promised true after (host_break_follows laws once bytes_behind [] world after sane step.leaves)
+        anew_promised true after (host_break_follows laws once bytes_behind world after sane step.leaves)
     plain_promised ActContent.HostBreak world _ after going sane is step = let a = step.answers in cc
     plain_promised act world answer after going sane is step =
         other_promised act world answer after refl going is step
@@ -211,7 +202,7 @@ module _ (behind : (act : ActContent) (garbage : List ℕ) (world : WorldView) (
     keeps_in_step (FaultyContent.GarbleUp bytes) world after Outcome.Done keeps sane is step =
         record {
           garbage = world.host.unread ++ bytes;
-          state = record is.state { up = []; picture = None; host_clock = None; awaited = [] };
+          state = forgotten is.state;
           stands = garbled_stands bytes world after is.garbage is.state is.stands step.leaves;
         }
     keeps_in_step (FaultyContent.GarbleUp bytes) world after _ keeps sane is step = rw step.leaves is
@@ -219,7 +210,7 @@ module _ (behind : (act : ActContent) (garbage : List ℕ) (world : WorldView) (
     keeps_in_step FaultyContent.BoardLost world after answer keeps sane is step = cc
     keeps_in_step FaultyContent.Restart world after Outcome.Done keeps sane is step =
         follows_in_step true (CommandContent.UpdateBoard ∷ CommandContent.Dump ∷ []) after
-        (restart_follows laws once bytes_behind [] world after sane step.leaves)
+        (restart_follows laws once bytes_behind world after sane step.leaves)
     keeps_in_step FaultyContent.Restart world after _ keeps sane is step = rw step.leaves is
 
     pub keeps_following : (act : FaultyContent) (world after : WorldView) (answer : Outcome) → loses_step act ≡ false
@@ -230,7 +221,7 @@ module _ (behind : (act : ActContent) (garbage : List ℕ) (world : WorldView) (
     keeps_following (FaultyContent.GarbleUp bytes) world after Outcome.Done keeps going sane is step =
         record {
           garbage = world.host.unread ++ bytes;
-          state = record is.state { up = []; picture = None; host_clock = None; awaited = [] };
+          state = forgotten is.state;
           stands = garbled_stands bytes world after is.garbage is.state is.stands step.leaves;
           mode = is.mode;
         }

@@ -22,8 +22,10 @@ pub mod Halves
 pub mod Equal
 pub mod Settling
 pub mod SettlingMoves
+pub mod Clocks
 pub mod Behind
-pub mod Healing
+pub mod Counting
 pub mod Rested
 pub mod Hoping
-pub mod Clocks
+pub mod ClockHopes
+pub mod Reports

@@ -12,6 +12,7 @@ use Rattle.dgt_command.specs.Laws.{EachDividesOnce}
 use Rattle.dgt_board.specs.View.{BoardView, HasTaken}
 use Rattle.dgt_link.specs.Act.{ActContent}
 use Rattle.dgt_link.specs.declared.acts.Outcome.{Outcome}
+use Rattle.dgt_link.specs.Faults.{FaultyBecomes, FaultyContent, FaultyStep}
 use Rattle.dgt_link.specs.View.{WorldView}
 use Rattle.dgt_link.specs.Machine.{MachineState}
 use Rattle.dgt_link.specs.Stands.{StandsFor}
@@ -103,6 +104,35 @@ module _ (one_taking : (before after other : BoardView) (bytes : List ℕ) → H
   one_run [] world one other (answer ∷ answers) others none f = absurd none
   one_run (act ∷ acts) world one other [] others none f = absurd none
   one_run (act ∷ acts) world one other (answer ∷ answers) [] runs none = absurd none
+
+  -- ---- of a world whose lines and whose board's power may fail
+
+  faulty_becomes_once : (act : FaultyContent) (world one other : WorldView) → FaultyBecomes act world one
+      → FaultyBecomes act world other → one ≡ other
+  faulty_becomes_once (FaultyContent.Plain act) world one other e f = becomes_once act world one other e f
+  faulty_becomes_once (FaultyContent.GarbleUp bytes) world one other e f = e ∙ sym f
+  faulty_becomes_once (FaultyContent.GarbleDown bytes) world one other e f = e.1 ∙ sym f.1
+  faulty_becomes_once FaultyContent.BoardLost world one other e f = e ∙ sym f
+  faulty_becomes_once FaultyContent.Restart world one other e f = e ∙ sym f
+
+  faulty_left_once : (act : FaultyContent) (world one other : WorldView) (answer also : Outcome) → answer ≡ also
+      → FaultyStep act world answer one → FaultyStep act world also other → one ≡ other
+  faulty_left_once act world one other Outcome.Done Outcome.Done e first second =
+      faulty_becomes_once act world one other first.leaves second.leaves
+  faulty_left_once act world one other Outcome.Nothing Outcome.Nothing e first second =
+      first.leaves ∙ sym second.leaves
+  faulty_left_once act world one other Outcome.NoRoom Outcome.NoRoom e first second =
+      first.leaves ∙ sym second.leaves
+  faulty_left_once act world one other Outcome.Busy Outcome.Busy e first second = first.leaves ∙ sym second.leaves
+  faulty_left_once act world one other Outcome.TooMany Outcome.TooMany e first second =
+      first.leaves ∙ sym second.leaves
+  faulty_left_once act world one other _ _ e first second = cc
+
+  pub one_faulty_step : (act : FaultyContent) (world one other : WorldView) (answer also : Outcome)
+      → FaultyStep act world answer one → FaultyStep act world also other → (answer ≡ also) × (one ≡ other)
+  one_faulty_step act world one other answer also first second =
+      let same : answer ≡ also = first.answers ∙ sym second.answers in
+      (same, faulty_left_once act world one other answer also same first second)
 
 -- ---- one state
 

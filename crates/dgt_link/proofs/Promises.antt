@@ -45,7 +45,7 @@ effect-mode board (EventContent.Stray byte) = refl
 
 -- ---- a picture that is known, or coming, stays so
 
-picture_after_known : (seen : Option (List Piece)) (message : Content) → IsSome seen
+pub picture_after_known : (seen : Option (List Piece)) (message : Content) → IsSome seen
     → IsSome (picture_after seen message)
 picture_after_known None message known = absurd (false≢true known)
 picture_after_known (Some squares) (Content.dump pieces) known = refl

@@ -5,6 +5,7 @@ use Rattle.std.proofs.lemmas.Bool.{false≢true}
 use Rattle.std.specs.List.{AllByRecursion, flat_map}
 use Rattle.std.specs.Prelude.{IsSome}
 use Rattle.dgt_values.specs.declared.pieces.Piece.{Piece}
+use Rattle.dgt_message.specs.Clock.{ClockState}
 use Rattle.dgt_message.specs.Content.{Content, IsMessage}
 use Rattle.dgt_message.specs.Spelling.{spelling}
 use Rattle.dgt_command.specs.Laws.{EachDividesOnce}
@@ -20,7 +21,7 @@ use Rattle.dgt_link.specs.Settling.{IsSettling, SettlesIn}
 use Rattle.dgt_link.specs.Step.{Runs, Step}
 use Rattle.dgt_link.specs.View.{IsQuietWorld, WorldView}
 use Rattle.dgt_link.proofs.Asking.{mode-step, step_keeps_coming}
-use Rattle.dgt_link.proofs.Healing.{Holds, known_picture, nothing_said, quiet_behind}
+use Rattle.dgt_link.proofs.Counting.{Holds, known_picture, nothing_said, quiet_behind}
 use Rattle.dgt_link.proofs.Hearing.{Reads}
 use Rattle.dgt_link.proofs.Lists.{right_empty}
 use Rattle.dgt_link.proofs.Promises.{coming_promise}
@@ -163,3 +164,8 @@ pub settled_squares : (count : ℕ) (old new : WorldView) → SettlesIn count ol
     → new.host.picture ≡ Some new.board.state.squares → new.host.picture ≡ Some old.board.state.squares
 settled_squares count old new settled is =
     is ∙ ap (λ (squares : List Piece). Some squares) (settled_kept count old new settled).squares
+
+pub settled_clock : (count : ℕ) (old new : WorldView) → SettlesIn count old new
+    → new.host.clock ≡ Some new.board.state.clock → new.host.clock ≡ Some old.board.state.clock
+settled_clock count old new settled is =
+    is ∙ ap (λ (clock : ClockState). Some clock) (settled_kept count old new settled).clock

@@ -1,30 +1,30 @@
--- A world whose lines and whose board's power may fail: its acts, their outcomes and what they leave.
-use Rattle.std.specs.Prelude.{◌≡◌, List, [], ◌∷◌, Some, Bool, false, true, if◌then◌else◌, nat_lt, length, ℕ}
+-- A world whose lines and whose board's power may fail: its acts, their outcomes, what they leave.
+use Rattle.std.specs.Prelude.{◌≡◌, ℕ, List, [], ◌∷◌, length, Some, Bool, false, true, if◌then◌else◌, nat_lt}
 use Rattle.std.specs.List.{AllByRecursion}
 use Rattle.dgt_values.specs.declared.kinds.Kind.{Kind}
 use Rattle.dgt_command.specs.Content.{CommandContent}
 use Rattle.dgt_command.specs.Spelling.{AreBytes}
 use Rattle.dgt_board.specs.View.{view_after_line_lost}
-use Rattle.dgt_host.specs.Host.{host_awaiting, new_host, restart_bytes}
+use Rattle.dgt_host.specs.Host.{host_awaiting, restart_bytes, without_awaited}
 use Rattle.dgt_link.specs.declared.acts.Outcome.{Outcome}
 use Rattle.dgt_link.specs.declared.faulty.FaultyAct.{FaultyAct}
 use Rattle.dgt_link.specs.declared.faulty.FaultyAct.TheVariants as faulty
-use Rattle.dgt_link.specs.Act.{ActContent, act_content}
+use Rattle.dgt_link.specs.Act.{ActContent, ActHasArrays, act_content}
 use Rattle.dgt_link.specs.Step.{Becomes, IfDone, outcome}
 use Rattle.dgt_link.specs.View.{LineContents, WorldView, line_holding, overflows, with_bytes}
 
--- ---- what is done to a world at fault
+-- ---- acts and faults
 
 pub data FaultyContent : Type 0 where
-  -- an act that is no fault, or a break that both ends or the host alone see
+  -- an act of a world without faults
   Plain : (act : ActContent) → FaultyContent
-  -- what is under way to the host becomes these bytes
+  -- the bytes under way to the host are replaced by these
   GarbleUp : (bytes : List ℕ) → FaultyContent
-  -- what is under way to the board becomes these bytes
+  -- the bytes under way to the board are replaced by these
   GarbleDown : (bytes : List ℕ) → FaultyContent
-  -- the board alone is without power for a while
+  -- the board loses its power and gets it back; the lines keep their bytes
   BoardLost : FaultyContent
-  -- the host loses the line, and what it sends to begin anew comes behind what is under way
+  -- the host begins anew: it gives up what it awaits and appends its restart bytes to the down line
   Restart : FaultyContent
 
 abbrev pub faulty_content : FaultyAct → FaultyContent
@@ -34,7 +34,12 @@ faulty_content (faulty.GarbleDown bytes) = FaultyContent.GarbleDown bytes.now
 faulty_content faulty.BoardLost = FaultyContent.BoardLost
 faulty_content faulty.Restart = FaultyContent.Restart
 
--- a line that comes to hold these bytes, where they fit
+-- the arrays of its command are as long as their types say
+abbrev pub FaultyActHasArrays : FaultyAct → Type 0
+FaultyActHasArrays (faulty.Plain act) = ActHasArrays act
+FaultyActHasArrays _ = Unit {0}
+
+-- the outcome of replacing a line's bytes: they have to fit
 abbrev pub holding_outcome : LineContents → List ℕ → Outcome
 holding_outcome line bytes =
     if nat_lt line.capacity (length bytes) then Outcome.NoRoom else Outcome.Done
@@ -47,7 +52,7 @@ faulty_outcome FaultyContent.BoardLost world = Outcome.Done
 faulty_outcome FaultyContent.Restart world =
     if overflows world.down restart_bytes then Outcome.NoRoom else Outcome.Done
 
--- what is left where it is done
+-- what an act leaves if it is done
 abbrev pub FaultyBecomes : FaultyContent → WorldView → WorldView → Type 0
 FaultyBecomes (FaultyContent.Plain act) world after = Becomes act world after
 FaultyBecomes (FaultyContent.GarbleUp bytes) world after =
@@ -58,16 +63,17 @@ FaultyBecomes FaultyContent.BoardLost world after =
     after ≡ record world { board = view_after_line_lost world.board }
 FaultyBecomes FaultyContent.Restart world after =
     after ≡ record world {
-      host = host_awaiting new_host (Some Kind.Dump);
+      host = host_awaiting (without_awaited world.host) (Some Kind.Dump);
       down = with_bytes world.down restart_bytes;
     }
 
--- what isn't done changes nothing
+-- an act, its outcome and the world after it; an act that isn't done changes nothing
 pub record FaultyStep (act : FaultyContent) (world : WorldView) (answer : Outcome)
     (after : WorldView) : Type 0 where
   pub answers : answer ≡ faulty_outcome act world
   pub leaves : IfDone answer (FaultyBecomes act world after) (after ≡ world)
 
+-- acts in order, each with its outcome
 abbrev pub FaultyRuns : List FaultyContent → WorldView → List Outcome → WorldView → Type 0
 FaultyRuns [] world [] after = after ≡ world
 FaultyRuns (act ∷ acts) world (answer ∷ answers) after =
@@ -77,26 +83,26 @@ FaultyRuns _ world _ after = ⊥
 
 -- ---- kinds of acts
 
--- bytes are not those that were sent, or the board has no power
+-- bytes are lost or altered, or the board loses its power
 abbrev pub is_fault : FaultyContent → Bool
 is_fault (FaultyContent.GarbleUp bytes) = true
 is_fault (FaultyContent.GarbleDown bytes) = true
 is_fault FaultyContent.BoardLost = true
 is_fault _ = false
 
--- and that bears on what the board reads
+-- after it the board may read commands that the host didn't send, or has forgotten some
 abbrev pub loses_step : FaultyContent → Bool
 loses_step (FaultyContent.GarbleDown bytes) = true
 loses_step FaultyContent.BoardLost = true
 loses_step _ = false
 
--- after it the board is not to tell its changes
+-- after it the board no longer reports its changes
 abbrev pub stops : FaultyContent → Bool
 stops (FaultyContent.Plain (ActContent.Host CommandContent.Reset)) = true
 stops (FaultyContent.Plain ActContent.Break) = true
 stops _ = false
 
--- no act is a fault, and none ends the telling of changes
+-- no act is a fault, and after each the board goes on reporting its changes
 abbrev pub AreCalm : List FaultyContent → Type 0
 AreCalm = AllByRecursion (λ act. (is_fault act ≡ false) × (stops act ≡ false))
 
@@ -106,7 +112,7 @@ begins_anew FaultyContent.Restart = true
 begins_anew (FaultyContent.Plain ActContent.HostBreak) = true
 begins_anew _ = false
 
--- both ends lose the line, or the host alone: nothing is left on the lines
+-- both sides lose the line, or the host alone: nothing is left on the lines
 abbrev pub is_break : ActContent → Bool
 is_break ActContent.Break = true
 is_break ActContent.HostBreak = true

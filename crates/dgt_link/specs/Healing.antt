@@ -1,6 +1,6 @@
 -- When a host whose line or whose board's power failed can count on its picture again.
-use Rattle.std.specs.Prelude.{◌≡◌, ◌⊎◌, ℕ, ◌≤◌, List, [], ◌∷◌, ◌++◌, Some, None, Bool}
-use Rattle.std.specs.Prelude.{false, true, ◌||◌, IsTrue, map, filter}
+use Rattle.std.specs.Prelude.{◌≡◌, ◌⊎◌, ℕ, ◌≤◌, List, [], ◌∷◌, ◌++◌, None, Bool}
+use Rattle.std.specs.Prelude.{false, true, ◌||◌, IsTrue, Contains, filter, filter_map, is_some}
 use Rattle.std.specs.List.{AllByRecursion, flat_map}
 use Rattle.dgt_message.specs.Content.{IsMessage}
 use Rattle.dgt_message.specs.Spelling.{spelling}
@@ -8,37 +8,40 @@ use Rattle.dgt_command.specs.Content.{CommandContent}
 use Rattle.dgt_command.specs.Spelling.{AreBytes}
 use Rattle.dgt_command.specs.Words.{Divides, IsPartial}
 use Rattle.dgt_board.specs.Sending.{next_message}
-use Rattle.dgt_board.specs.State.{updates}
+use Rattle.dgt_board.specs.declared.modes.Mode.{Mode}
+use Rattle.dgt_board.specs.State.{command_mode, follows_clock, updates}
 use Rattle.dgt_link.specs.declared.acts.Outcome.{Outcome}
 use Rattle.dgt_link.specs.declared.world.TheConstants.{MIN_DOWN, MIN_UP}
 use Rattle.dgt_link.specs.Act.{ActContent}
 use Rattle.dgt_link.specs.Faults.{FaultyContent, is_break}
 use Rattle.dgt_link.specs.Machine.{MachineState, Move, after_moves, commands_anew, state_of_board}
-use Rattle.dgt_link.specs.Promise.{IsAsked, IsPromised, act_requests, coming_mode, commands_after}
+use Rattle.dgt_link.specs.Promise.{IsAsked, IsPromised, act_requests, coming_mode, commands_after, last_mode}
 use Rattle.dgt_link.specs.Sound.{IsSound, IsSubsequence, IsUnknownOr, coming_kinds}
 use Rattle.dgt_link.specs.Stands.{AreMovesOfStep}
 use Rattle.dgt_link.specs.View.{WorldView}
 
--- ---- what the host may count on
+-- ---- what counts of the acts that were done
 
--- whether the board reads the commands as they were sent, whether all replies that the host awaits
--- are still to come, and the commands that count
 pub record Counted : Type 0 where
-  pub in_step : Bool
-  pub in_turn : Bool
-  pub asked : List CommandContent
+  pub in_step : Bool  -- the board reads the commands as the host sent them
+  pub in_turn : Bool  -- each reply that the host awaits is still to come
+  pub asked : List CommandContent  -- the commands that count, in their order
 
--- of nothing
 abbrev pub nothing_counted : Bool → Counted
 nothing_counted in_step = record { in_step = in_step; in_turn = false; asked = [] }
 
-abbrev pub is_no_dump : CommandContent → Bool
-is_no_dump CommandContent.Dump = false
-is_no_dump _ = true
+-- what counts after the host began anew
+abbrev pub counted_anew : Counted
+counted_anew = record { in_step = true; in_turn = true; asked = commands_anew }
 
--- What still counts after an act. Where the up line was at fault, no dump that was asked for. Where
--- the down line was, or the board's power, nothing, until the host begins anew.
+abbrev pub sets_mode : CommandContent → Bool
+sets_mode command = is_some (command_mode command)
+
+-- What counts after an act. If the bytes under way to the host are replaced, replies may be lost,
+-- and only the commands that set a mode still count. If those under way to the board are replaced,
+-- or the board loses its power, nothing counts until the host begins anew.
 abbrev pub counted_after : Counted → FaultyContent → Outcome → Counted
+counted_after c (FaultyContent.Plain ActContent.HostBreak) answer = counted_anew
 counted_after c (FaultyContent.Plain act) answer =
     record {
       in_step = is_break act || c.in_step;
@@ -46,15 +49,10 @@ counted_after c (FaultyContent.Plain act) answer =
       asked = commands_after c.asked (act_requests answer act);
     }
 counted_after c (FaultyContent.GarbleUp bytes) Outcome.Done =
-    record { in_step = c.in_step; in_turn = false; asked = filter is_no_dump c.asked }
+    record { in_step = c.in_step; in_turn = false; asked = filter sets_mode c.asked }
 counted_after c (FaultyContent.GarbleDown bytes) Outcome.Done = nothing_counted false
 counted_after c FaultyContent.BoardLost answer = nothing_counted false
-counted_after c FaultyContent.Restart Outcome.Done =
-    record {
-      in_step = true;
-      in_turn = true;
-      asked = commands_after c.asked (map Some commands_anew);
-    }
+counted_after c FaultyContent.Restart Outcome.Done = counted_anew
 counted_after c _ answer = c
 
 abbrev pub counted_after_all : Counted → List FaultyContent → List Outcome → Counted
@@ -62,42 +60,48 @@ counted_after_all c (act ∷ acts) (answer ∷ answers) =
     counted_after_all (counted_after c act answer) acts answers
 counted_after_all c _ _ = c
 
--- what counts after acts, where it is known before them whether the board reads what was sent, and
--- nothing else
+-- what counts after these acts, if before them it is only known whether the board is in step
 abbrev pub counted_by : Bool → List FaultyContent → List Outcome → Counted
 counted_by in_step acts answers = counted_after_all (nothing_counted in_step) acts answers
 
 abbrev pub IsInStepBy : List FaultyContent → List Outcome → Type 0
 IsInStepBy acts answers = IsTrue (counted_by false acts answers).in_step
 
--- The board reads what was sent, a dump counts, and the last of the commands that count and set a
--- mode asks for updates.
+-- The board reads what was sent, a dump counts, and the last command that counts and sets a mode
+-- asks for updates.
 pub record IsHealing (c : Counted) : Type 0 where
   pub in_step : IsTrue c.in_step
   pub asked : IsAsked c.asked
 
--- The board reads what was sent, and all replies that the host awaits are still to come.
+-- The board reads what was sent, a reading of the clock counts, and the last command that counts
+-- and sets a mode asks for the clock's changes.
+pub record IsClockHealing (c : Counted) : Type 0 where
+  pub in_step : IsTrue c.in_step
+  pub asked : Contains c.asked CommandContent.Clock
+  pub mode : IsTrue (follows_clock (last_mode Mode.Idle (filter_map command_mode c.asked)))
+
+-- The board reads what was sent, and each reply that the host awaits is still to come.
 pub record IsInTurn (c : Counted) : Type 0 where
   pub in_step : IsTrue c.in_step
   pub in_turn : IsTrue c.in_turn
 
 -- ---- worlds
 
--- the board is sound, and what it has of a command is a part of one
+-- the board is sound, and what it has of a command is a proper prefix of some frame
 pub record IsSane (world : WorldView) : Type 0 where
   pub board : IsSound (state_of_board world.board.state)
   pub partial : IsPartial world.board.partial
   pub down : AreBytes world.down.bytes
 
--- and the longest message that a board sends and the longest command fit into its lines
+-- and its lines have room for the longest message that a board sends and the longest command
 pub record IsFaultyWorld (world : WorldView) : Type 0 where
   pub sane : IsSane world
   pub up_room : MIN_UP ≤ world.up.capacity
   pub down_room : MIN_DOWN ≤ world.down.capacity
 
--- The world stands for the state behind some garbage: what is under way to the host is garbage, and
--- behind it the state's messages. What the host knows is its own affair, until it has heard what
--- makes it known of the state too, behind all garbage.
+-- The world stands for the state behind some garbage: the bytes under way to the host are garbage
+-- and then the state's messages. The host may know anything while the state knows nothing. What the
+-- state knows, by messages after the garbage, the host knows too.
 pub record StandsBehind (garbage : List ℕ) (world : WorldView) (x : MachineState) : Type 0 where
   pub sound : IsSound x
   pub board : world.board.state ≡ x.board
@@ -109,7 +113,7 @@ pub record StandsBehind (garbage : List ℕ) (world : WorldView) (x : MachineSta
   pub down : Divides (world.board.partial ++ world.down.bytes) x.down []
   pub partial : IsPartial world.board.partial
 
--- there is such a state, and such garbage
+-- there are such a state and such garbage
 pub record IsInStep (world : WorldView) : Type 0 where
   pub garbage : List ℕ
   pub state : MachineState
@@ -119,22 +123,22 @@ pub record IsInStep (world : WorldView) : Type 0 where
 abbrev pub AwaitsWhatComes : WorldView → MachineState → Type 0
 AwaitsWhatComes world x = IsSubsequence world.host.awaited (coming_kinds x)
 
--- The world after an act that is no fault stands, behind some garbage, for a state to which the
--- act's moves lead from this one. What the host awaits stays among what comes.
+-- The world after an act stands, behind some garbage, for a state to which the act's moves lead
+-- from this one. What the host awaits stays among what comes.
 abbrev pub StandsBehindAfter : ActContent → Outcome → WorldView → MachineState → WorldView → Type 0
 StandsBehindAfter act answer world x after =
     (garbage : List ℕ) × (moves : List Move) × AreMovesOfStep act answer moves
     × StandsBehind garbage after (after_moves x moves)
     × (AwaitsWhatComes world x → AwaitsWhatComes after (after_moves x moves))
 
--- and the mode to come asks for updates
+-- there is such a state, whose mode to come asks for updates
 pub record IsFollowing (world : WorldView) : Type 0 where
   pub garbage : List ℕ
   pub state : MachineState
   pub stands : StandsBehind garbage world state
   pub mode : IsTrue (updates (coming_mode state))
 
--- and the state is promised
+-- there is such a state, and its picture is promised
 pub record IsPromisedWorld (world : WorldView) : Type 0 where
   pub garbage : List ℕ
   pub state : MachineState

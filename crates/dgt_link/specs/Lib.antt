@@ -10,5 +10,6 @@ pub mod Settling
 pub mod Faults
 pub mod Healing
 pub mod Clocks
+pub mod Reported
 -- for bodies alone
 pub mod Work

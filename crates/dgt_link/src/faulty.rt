@@ -1,48 +1,54 @@
-//! A world whose lines and whose board's power may be at fault.
+//! A world whose lines and whose board's power may fail.
 
-ghost use Rattle.std.specs.Prelude.{◌≡◌, ◌≢◌, ◌↔◌, ◌<◌, ◌≤◌, ◌+◌, ◌*◌, ◌^◌, List, [], Some, IsTrue};
-ghost use Rattle.std.specs.Prelude.{IsSome, map, length, false, true};
+ghost use Rattle.std.specs.Prelude.{◌≡◌, ◌≢◌, ◌↔◌, ◌<◌, ◌≤◌, ◌+◌, ◌*◌, ◌^◌, ℕ, List, [], Some, IsTrue};
+ghost use Rattle.std.specs.Prelude.{IsSome, None, map, length, false, true};
 ghost use Rattle.dgt_board.specs.Sending.{backlog, next_message};
+ghost use Rattle.dgt_board.specs.State.{command_mode, follows_clock, updates};
+ghost use Rattle.dgt_board.specs.declared.modes.Mode.{Mode};
 ghost use Rattle.dgt_command.specs.Content.{CommandContent};
 ghost use Rattle.dgt_decode.specs.Grammar.{open_message};
 ghost use Rattle.dgt_link.specs.Act.{ActContent};
 ghost use Rattle.dgt_link.specs.Settling.{IsSettling, SettlesIn};
 ghost use Rattle.dgt_link.specs.Work.{work_left};
 ghost use Rattle.dgt_link.specs.declared.acts.Outcome.{Outcome as Answer};
+ghost use Rattle.dgt_link.specs.Clocks.{IsClockFollowing, IsClockPromisedWorld, stops_clock};
 ghost use Rattle.dgt_link.specs.Faults.{FaultyContent, FaultyRuns, FaultyStep, begins_anew, faulty_content, is_fault, loses_step, stops};
-ghost use Rattle.dgt_link.specs.Healing.{IsFaultyWorld, IsFollowing, IsHealing, IsInStep, IsInStepBy, IsInTurn, IsPromisedWorld, IsRestedWorld, counted_by};
+ghost use Rattle.dgt_link.specs.Healing.{IsClockHealing, IsFaultyWorld, IsFollowing, IsHealing, IsInStep, IsInStepBy, IsInTurn, IsPromisedWorld, IsRestedWorld, StandsBehind, counted_by};
+ghost use Rattle.dgt_link.specs.Machine.{MachineState};
+ghost use Rattle.dgt_host.specs.Host.{picture_after_all};
 ghost use Rattle.dgt_link.specs.Step.{Step, done_count};
 ghost use Rattle.dgt_link.specs.View.{IsQuietWorld};
 
 use crate::acts::{Act, Outcome, count};
-use crate::laws;
+use crate::healing;
 use crate::line::Line;
 use crate::moving::{act_on, hold, restart_behind, send_next};
 use dgt_board::Board;
 use dgt_host::Host;
 use std::marker::Model;
 
-/// What is done to a world whose lines and whose board's power may be at fault.
-#[derive(Clone, Copy, Debug)]
+/// What happens to a world whose lines and whose board's power may fail.
+#[derive(Clone, Copy, Debug, PartialEq, Eq)]
 pub enum FaultyAct<'a> {
-    /// An act that is no fault, or a break that both ends or the host alone see.
+    /// An act of a [`crate::World`].
     Plain(Act<'a>),
-    /// What is under way to the host becomes these bytes: whatever was lost of it, repeated,
-    /// altered, put in or moved.
+    /// The bytes under way to the host are replaced by these: some were lost, repeated, altered,
+    /// inserted or moved.
     GarbleUp(&'a [u8]),
-    /// What is under way to the board becomes these bytes.
+    /// The bytes under way to the board are replaced by these.
     GarbleDown(&'a [u8]),
-    /// The board is without power for a while, and forgets all but its squares and its clock. The
-    /// lines keep their bytes.
+    /// The board loses its power and gets it back: what `line_lost` of a board says. The lines keep
+    /// their bytes.
     BoardLost,
-    /// The host begins anew: it is as new, and what `restart` of a host writes comes behind what is
-    /// in the down line. Nothing is taken out of either line.
+    /// The host begins anew: it gives up the replies that it awaits, keeps its picture, and appends
+    /// the 257 bytes of its `restart` to the down line. Both lines keep their bytes.
     Restart,
 }
 
-/// A world whose lines and whose board's power may be at fault. It takes no memory.
+/// A board, a host and two lines of bytes, of which the lines and the board's power may fail.
 ///
-/// Contracts see what they see of a [`crate::World`].
+/// It is made by [`crate::World::at_fault`] and takes no memory. Contracts see it as a
+/// [`crate::World`].
 #[derive(Drop)]
 pub struct FaultyWorld {
     pub(crate) board: Board,
@@ -52,7 +58,7 @@ pub struct FaultyWorld {
 }
 
 impl Model for FaultyWorld {
-    ghost use Rattle.dgt_link.specs.Healing.{IsFaultyWorld};
+    ghost use Rattle.dgt_link.specs.Healing.{IsClockHealing, IsFaultyWorld};
     ghost use Rattle.dgt_link.specs.View.{WorldView};
 
     ghost Value = { WorldView };
@@ -76,7 +82,7 @@ impl FaultyWorld {
     fn act(&mut self, act: FaultyAct<'_>) -> Outcome
         ensures { FaultyStep (faulty_content act.entry) self.old result self.new }
     {
-        laws::faults_keep();
+        healing::faults_keep();
         match act {
             FaultyAct::Plain(act) => act_on(
                 &mut self.board,
@@ -95,18 +101,23 @@ impl FaultyWorld {
         }
     }
 
-    /// Does one act, and answers what came of it. What isn't `Done` changes nothing.
+    /// Does one act and returns its outcome. An act that isn't `Done` changes nothing.
     ///
-    /// A `Plain` act comes to what [`crate::World::step`] says. `GarbleUp` and `GarbleDown` are
-    /// `NoRoom` where the line is too small for the bytes, and `Restart` where the down line has
-    /// not room for 257 bytes more. `BoardLost` is always `Done`.
+    /// A `Plain` act has the outcome that [`crate::World::step`] gives it. `GarbleUp` and
+    /// `GarbleDown` are `NoRoom` if the bytes don't fit into the line, and `Restart` is `NoRoom` if
+    /// the down line has room for fewer than 257 more bytes. `BoardLost` is always `Done`.
     pub fn step(&mut self, act: FaultyAct<'_>) -> Outcome
         ensures exact { FaultyStep (faulty_content act.entry) self.old result self.new }
         ensures unchanged { result ≢ Outcome.Done → self.new ≡ self.old }
+        // the picture: what promises that it heals, and what keeps that promise
         ensures anew { begins_anew (faulty_content act.entry) ≡ true → result ≡ Outcome.Done →
             IsPromisedWorld self.new }
         ensures in_step { loses_step (faulty_content act.entry) ≡ false → IsInStep self.old →
             IsInStep self.new }
+        ensures asked { (command : CommandContent) (mode : Mode) → faulty_content act.entry
+            ≡ FaultyContent.Plain (ActContent.Host command) → command_mode command ≡ Some mode →
+            IsTrue (updates mode) → result ≡ Outcome.Done → IsInStep self.old →
+            IsFollowing self.new }
         ensures following { loses_step (faulty_content act.entry) ≡ false →
             stops (faulty_content act.entry) ≡ false → IsFollowing self.old → IsFollowing self.new }
         ensures dump { faulty_content act.entry
@@ -115,19 +126,39 @@ impl FaultyWorld {
         ensures kept { is_fault (faulty_content act.entry) ≡ false →
             stops (faulty_content act.entry) ≡ false →
             IsPromisedWorld self.old → IsPromisedWorld self.new }
+        // and the clock
+        ensures clock_asked { (command : CommandContent) (mode : Mode) → faulty_content act.entry
+            ≡ FaultyContent.Plain (ActContent.Host command) → command_mode command ≡ Some mode →
+            IsTrue (follows_clock mode) → result ≡ Outcome.Done → IsInStep self.old →
+            IsClockFollowing self.new }
+        ensures clock_owed { (command : CommandContent) (mode : Mode) → faulty_content act.entry
+            ≡ FaultyContent.Plain (ActContent.Host command) → command_mode command ≡ Some mode →
+            IsTrue (follows_clock mode) → self.old.board.state.told_clock ≡ None →
+            result ≡ Outcome.Done → IsInStep self.old → IsClockPromisedWorld self.new }
+        ensures clock_following { loses_step (faulty_content act.entry) ≡ false →
+            stops_clock (faulty_content act.entry) ≡ false → IsClockFollowing self.old →
+            IsClockFollowing self.new }
+        ensures reading { faulty_content act.entry
+            ≡ FaultyContent.Plain (ActContent.Host CommandContent.Clock) → result ≡ Outcome.Done →
+            IsClockFollowing self.old → IsClockPromisedWorld self.new }
+        ensures clock_kept { is_fault (faulty_content act.entry) ≡ false →
+            stops_clock (faulty_content act.entry) ≡ false →
+            IsClockPromisedWorld self.old → IsClockPromisedWorld self.new }
     {
-        laws::steps_heal();
+        healing::clocks_heal();
+        healing::steps_heal();
         self.is_faulty();
         self.act(act)
     }
 
-    /// Does all acts in order, and answers how many were `Done`.
+    /// Does all acts in order and returns how many were `Done`.
     ///
-    /// Whatever was done before and whatever was at fault: where after the last of the faults the
-    /// host began anew, and the last command since then that sets a mode asks for updates, the
-    /// host's picture is the board's position once the world is quiet. Where the world was in step
-    /// before and the up line alone was at fault, a dump that was asked for after the last of these
-    /// faults is enough.
+    /// Whatever was done before and whatever failed: once the world is quiet, the host's picture is
+    /// the board's position if the host began anew after the last fault and the last command since
+    /// then that sets a mode asks for updates. If the world was in step before and only the up line
+    /// failed, a dump that was requested after the last of these faults is enough. The host's clock
+    /// is the board's if a reading was requested in place of the dump and the mode follows the
+    /// clock.
     pub fn run(&mut self, acts: &[FaultyAct<'_>]) -> usize
         ensures exact { (outcomes : List Answer) × (result ≡ done_count outcomes)
             × FaultyRuns (map faulty_content acts.now) self.old outcomes self.new }
@@ -143,21 +174,35 @@ impl FaultyWorld {
             FaultyRuns (map faulty_content acts.now) self.old outcomes self.new →
             IsHealing (counted_by false (map faulty_content acts.now) outcomes) →
             IsPromisedWorld self.new }
-        ensures dump_promised { IsInStep self.old → (outcomes : List Answer) →
-            FaultyRuns (map faulty_content acts.now) self.old outcomes self.new →
-            IsHealing (counted_by true (map faulty_content acts.now) outcomes) →
-            IsPromisedWorld self.new }
         ensures awaited { (outcomes : List Answer) →
             FaultyRuns (map faulty_content acts.now) self.old outcomes self.new →
             IsInTurn (counted_by false (map faulty_content acts.now) outcomes) →
             IsQuietWorld self.new → self.new.host.awaited ≡ [] }
+        ensures dump_promised { IsInStep self.old → (outcomes : List Answer) →
+            FaultyRuns (map faulty_content acts.now) self.old outcomes self.new →
+            IsHealing (counted_by true (map faulty_content acts.now) outcomes) →
+            IsPromisedWorld self.new }
         ensures dump_heals { IsInStep self.old → (outcomes : List Answer) →
             FaultyRuns (map faulty_content acts.now) self.old outcomes self.new →
             IsHealing (counted_by true (map faulty_content acts.now) outcomes) →
             IsQuietWorld self.new →
             self.new.host.picture ≡ Some self.new.board.state.squares }
+        ensures clock_promised { (outcomes : List Answer) →
+            FaultyRuns (map faulty_content acts.now) self.old outcomes self.new →
+            IsClockHealing (counted_by false (map faulty_content acts.now) outcomes) →
+            IsClockPromisedWorld self.new }
+        ensures reading_promised { IsInStep self.old → (outcomes : List Answer) →
+            FaultyRuns (map faulty_content acts.now) self.old outcomes self.new →
+            IsClockHealing (counted_by true (map faulty_content acts.now) outcomes) →
+            IsClockPromisedWorld self.new }
+        ensures clock_heals { (outcomes : List Answer) →
+            FaultyRuns (map faulty_content acts.now) self.old outcomes self.new →
+            IsClockHealing (counted_by false (map faulty_content acts.now) outcomes) →
+            IsQuietWorld self.new →
+            self.new.host.clock ≡ Some self.new.board.state.clock }
     {
-        laws::faults_heal();
+        healing::clocks_heal();
+        healing::faults_heal();
         self.is_faulty();
         self.act_all(acts)
     }
@@ -178,7 +223,7 @@ impl FaultyWorld {
         ensures exact { Step ActContent.BoardSend self.old result self.new }
         ensures room { self.old.up.bytes ≡ [] → result ≢ Outcome.NoRoom }
     {
-        laws::faults_keep();
+        healing::faults_keep();
         send_next(&mut self.board, &mut self.up)
     }
 
@@ -205,7 +250,7 @@ impl FaultyWorld {
         self.act(FaultyAct::Plain(Act::ToBoard(coming)))
     }
 
-    // Does one delivery or sending, where one can be done. Where none can, the world rests.
+    // Does one delivery or sending if one can be done. If none can, the world rests.
     fn settle_once(&mut self) -> bool
         ensures moved { IsTrue result → (act : ActContent) × IsSettling act
             × Step act self.old Outcome.Done self.new × (work_left self.new < work_left self.old) }
@@ -247,11 +292,12 @@ impl FaultyWorld {
         self.host.unread();
     }
 
-    /// Delivers what is under way and lets the board send what it has to tell, until both lines are
-    /// empty and the board has nothing to send, and answers how many acts that took.
+    /// Delivers what is under way and lets the board send what it has to send, until both lines are
+    /// empty and the board has nothing to send. Returns how many acts that took.
     ///
-    /// Where the world is promised to heal, it is quiet then, and the host's picture is the board's
-    /// position. Else the host may have unread bytes, and the board a part of a command.
+    /// A world that is promised to heal is quiet then, and the host's picture is the board's
+    /// position. In any other the host may still have unread bytes, and the board a part of a
+    /// command.
     pub fn settle(&mut self) -> u128
         ensures rested { IsRestedWorld self.new }
         ensures run { SettlesIn result self.old self.new }
@@ -264,8 +310,12 @@ impl FaultyWorld {
         ensures quiet { IsPromisedWorld self.old → IsQuietWorld self.new }
         ensures picture { IsPromisedWorld self.old →
             self.new.host.picture ≡ Some self.old.board.state.squares }
+        ensures clock_kept { IsClockPromisedWorld self.old → IsClockPromisedWorld self.new }
+        ensures clock { IsPromisedWorld self.old → IsClockPromisedWorld self.old →
+            self.new.host.clock ≡ Some self.old.board.state.clock }
     {
-        laws::promised_worlds_heal();
+        healing::promised_worlds_heal();
+        healing::clocks_heal();
         self.work();
         let mut done = 0;
         while self.settle_once() {
@@ -283,19 +333,22 @@ impl FaultyWorld {
         self.up.is_empty();
     }
 
-    /// Whether both lines are empty, the host has nothing unread, the board has no unfinished
-    /// command and owes nothing.
+    /// Returns whether both lines are empty, the host has nothing unread, and the board has no part
+    /// of a command and owes nothing.
     ///
-    /// If it is, the world is in step, whatever was at fault. Where it is promised to heal, the
-    /// host's picture is the board's position.
+    /// A quiet world is in step, whatever failed. If it is promised to heal, the host's picture is
+    /// the board's position, and if its clock is promised, the host's clock is the board's.
     pub fn quiet(&self) -> bool
         ensures quiet { IsTrue result ↔ IsQuietWorld self.now }
         ensures in_step { IsTrue result → IsInStep self.now }
         ensures picture { IsTrue result → IsPromisedWorld self.now →
             self.now.host.picture ≡ Some self.now.board.state.squares }
+        ensures clock { IsTrue result → IsClockPromisedWorld self.now →
+            self.now.host.clock ≡ Some self.now.board.state.clock }
     {
-        laws::promised_worlds_heal();
-        laws::worlds_are_in_step();
+        healing::promised_worlds_heal();
+        healing::worlds_are_in_step();
+        healing::clocks_heal();
         self.is_faulty();
         self.is_quiet()
     }
@@ -318,9 +371,32 @@ impl FaultyWorld {
     }
 
     /// The host.
+    ///
+    /// While garbage is under way its picture may be the garbage's. Once it has heard a dump after
+    /// the garbage, its picture is what the board had reported when it sent the last message that
+    /// was heard: the messages still under way make it what the board has reported by now.
     pub fn host(&self) -> &Host
-        ensures { result.now ≡ self.now.host }
+        ensures host { result.now ≡ self.now.host }
+        ensures reported { (garbage : List ℕ) (x : MachineState) → StandsBehind garbage self.now x →
+            IsSome x.picture → (self.now.host.picture ≡ x.picture)
+            × (picture_after_all self.now.host.picture x.up
+            ≡ Some self.now.board.state.told_squares) }
     {
+        healing::pictures_were_reported();
         &self.host
+    }
+
+    /// How many bytes are in the line from the board to the host.
+    pub fn up_len(&self) -> usize
+        ensures { result ≡ length self.now.up.bytes }
+    {
+        self.up.len()
+    }
+
+    /// How many bytes are in the line from the host to the board.
+    pub fn down_len(&self) -> usize
+        ensures { result ≡ length self.now.down.bytes }
+    {
+        self.down.len()
     }
 }

@@ -11,7 +11,7 @@ ghost use Rattle.dgt_message.specs.Content.{Content, kind_of};
 ghost use Rattle.dgt_message.specs.Clock.{ClockState};
 ghost use Rattle.dgt_command.specs.Content.{CommandContent, EventContent};
 ghost use Rattle.dgt_command.specs.Words.{IsNoiseList};
-ghost use Rattle.dgt_decode.specs.Grammar.{Event, open_message};
+ghost use Rattle.dgt_decode.specs.Grammar.{Event};
 ghost use Rattle.dgt_board.specs.declared.replies.Reply.{Reply};
 ghost use Rattle.dgt_board.specs.State.{IdentityContent, BoardState, command_mode, follows_clock, updates, effects};
 ghost use Rattle.dgt_board.specs.declared.modes.Mode.{Mode};
@@ -21,17 +21,14 @@ ghost use Rattle.dgt_link.specs.Machine.{IsHostBreak, IsSending, MachineState, M
 ghost use Rattle.dgt_link.specs.Sound.{IsExact, IsSound, IsUnknownOr, coming_picture};
 ghost use Rattle.dgt_link.specs.Promise.{IsAsked, IsAskedBy, IsPromised, IsQuiet, IsRestarted, PictureIsComing, act_requests, coming_mode, commands_after, mode_after, requests};
 ghost use Rattle.dgt_link.specs.Act.{ActContent, act_content, ActHasArrays};
+ghost use Rattle.dgt_link.specs.Faults.{FaultyActHasArrays, FaultyContent, FaultyStep, faulty_content};
 ghost use Rattle.dgt_link.specs.Stands.{IsExactWorld, IsWorld, StandsAfterRun, StandsAfterStep, StandsFor};
 ghost use Rattle.dgt_link.specs.declared.acts.Outcome.{Outcome};
 ghost use Rattle.dgt_link.specs.Step.{Runs, Step, done_count};
 ghost use Rattle.dgt_link.specs.Settling.{IsSettling, IsSettlingMove, SettlesBy, SettlesIn, steps_left};
 ghost use Rattle.dgt_link.specs.View.{IsQuietWorld, WorldView};
-ghost use Rattle.dgt_link.specs.Clocks.{IsClockFollowing, IsClockPromisedWorld, stops_clock};
-ghost use Rattle.dgt_link.specs.Faults.{AreCalm, begins_anew, is_fault, loses_step, stops, FaultyContent, FaultyRuns, FaultyStep, is_break};
-ghost use Rattle.dgt_link.specs.Healing.{IsFaultyWorld, IsFollowing, IsHealing, IsInStep, IsSane, StandsBehind, IsInStepBy, IsInTurn, IsPromisedWorld, IsRestedWorld, StandsBehindAfter, counted_by};
-ghost use Rattle.std.specs.Prelude.{false, true};
 
-use crate::{Act, MIN_DOWN, MIN_UP, Outcome as ActOutcome, WorldFault};
+use crate::{Act, FaultyAct, MIN_DOWN, MIN_UP, Outcome as ActOutcome, WorldFault};
 
 /// The limits by their numbers.
 pub fn limits()
@@ -45,6 +42,8 @@ pub fn equal_is_same()
     ensures outcome { EqualIsSame ⟦<ActOutcome as PartialEq>⟧.eq }
     ensures world_fault { EqualIsSame ⟦<WorldFault as PartialEq>⟧.eq }
     ensures act { EqualIsSameReadOf ActHasArrays act_content ⟦<Act<'static> as PartialEq>⟧.eq }
+    ensures faulty_act { EqualIsSameReadOf FaultyActHasArrays faulty_content
+        ⟦<FaultyAct<'static> as PartialEq>⟧.eq }
 {
     dgt_message::laws::equal_is_same();
     dgt_command::laws::equal_is_same();
@@ -162,7 +161,8 @@ pub fn worlds_stand_for_one_state()
     dgt_command::laws::one_division();
 }
 
-/// An act has one outcome and leaves one world, and so have acts in a row.
+/// An act has one outcome and leaves one world, and so have acts in a row, and acts and faults of a
+/// world whose lines and whose board's power may fail.
 pub fn acts_have_one_outcome()
     ensures one { (act : ActContent) (world after other : WorldView) (answer also : Outcome) →
         Step act world answer after → Step act world also other
@@ -171,6 +171,9 @@ pub fn acts_have_one_outcome()
         (answers others : List Outcome) →
         Runs acts world answers after → Runs acts world others other
         → (answers ≡ others) × (after ≡ other) }
+    ensures faulty { (act : FaultyContent) (world after other : WorldView) (answer also : Outcome) →
+        FaultyStep act world answer after → FaultyStep act world also other
+        → (answer ≡ also) × (after ≡ other) }
 {
     dgt_board::laws::one_taking();
 }
@@ -327,196 +330,4 @@ pub fn settling_ends()
     dgt_board::laws::bounded_backlog();
     dgt_command::laws::words_are_short();
     dgt_command::laws::parts_of_words();
-}
-
-/// An act that is no break, on a world that stands for a state behind garbage, leaves one that
-/// stands so for a state to which the act's moves lead. Garbage is heard by no move.
-pub fn acts_behind_garbage()
-    ensures { (act : ActContent) (garbage : List ℕ) (world : WorldView) (answer : Outcome)
-        (after : WorldView) (x : MachineState) → is_break act ≡ false
-        → StandsBehind garbage world x → Step act world answer after
-        → StandsBehindAfter act answer world x after }
-{
-    dgt_decode::laws::begins_anew();
-    dgt_decode::laws::events_append();
-    dgt_decode::laws::open_append();
-    dgt_decode::laws::quiet_held();
-    dgt_decode::laws::spelling_is_read();
-    dgt_host::laws::places_do_not_matter();
-    dgt_command::laws::divisions_append();
-    dgt_command::laws::fronts_divide_first();
-    dgt_command::laws::parts_of_words();
-    dgt_command::laws::zeros_settle_the_reader();
-}
-
-/// A world is sane, in step, and has room, until something is at fault. And whatever was at fault,
-/// one whose down line is empty, and whose board has no part of a command, is in step.
-pub fn worlds_are_in_step()
-    ensures empty { (world : WorldView) → IsSane world → world.down.bytes ≡ []
-        → world.board.partial ≡ [] → IsInStep world }
-    ensures in_step { (world : WorldView) → IsWorld world → IsInStep world }
-    ensures faulty { (world : WorldView) → IsWorld world → IsFaultyWorld world }
-{}
-
-/// Whatever is done to a sane world with room, it stays one.
-pub fn faults_keep()
-    ensures { (act : FaultyContent) (world after : WorldView) (answer : Outcome) →
-        IsFaultyWorld world → FaultyStep act world answer after → IsFaultyWorld after }
-{
-    dgt_decode::laws::events_append();
-    dgt_decode::laws::open_append();
-    dgt_decode::laws::quiet_held();
-    dgt_decode::laws::spelling_is_read();
-    dgt_host::laws::places_do_not_matter();
-    dgt_command::laws::divisions_append();
-    dgt_command::laws::fronts_divide_first();
-    dgt_command::laws::parts_of_words();
-    dgt_command::laws::zeros_settle_the_reader();
-}
-
-/// Whatever was done to the lines and to the board's power, sane worlds stay sane. Where after the
-/// last of the faults the host began anew, or the up line alone was at fault and a dump was asked
-/// for after that, and the last command since that sets a mode asks for updates, the host's picture
-/// is the board's squares once the world is quiet.
-pub fn faults_heal()
-    ensures sane { (acts : List FaultyContent) (world after : WorldView) (answers : List Outcome) →
-        IsSane world → FaultyRuns acts world answers after → IsSane after }
-    ensures in_step { (acts : List FaultyContent) (world after : WorldView)
-        (answers : List Outcome) → IsSane world → FaultyRuns acts world answers after
-        → IsInStepBy acts answers
-        → IsInStep after }
-    ensures heals { (acts : List FaultyContent) (world after : WorldView) (answers : List Outcome) →
-        IsSane world → FaultyRuns acts world answers after
-        → IsHealing (counted_by false acts answers)
-        → IsQuietWorld after → after.host.picture ≡ Some after.board.state.squares }
-    ensures promised { (acts : List FaultyContent) (world after : WorldView)
-        (answers : List Outcome) → IsSane world → FaultyRuns acts world answers after
-        → IsHealing (counted_by false acts answers) → IsPromisedWorld after }
-    ensures dump_promised { (acts : List FaultyContent) (world after : WorldView)
-        (answers : List Outcome) → IsSane world → IsInStep world
-        → FaultyRuns acts world answers after
-        → IsHealing (counted_by true acts answers) → IsPromisedWorld after }
-    ensures awaited { (acts : List FaultyContent) (world after : WorldView)
-        (answers : List Outcome) → IsSane world → FaultyRuns acts world answers after
-        → IsInTurn (counted_by false acts answers) → IsQuietWorld after
-        → after.host.awaited ≡ [] }
-    ensures dump_heals { (acts : List FaultyContent) (world after : WorldView)
-        (answers : List Outcome) → IsSane world → IsInStep world
-        → FaultyRuns acts world answers after
-        → IsHealing (counted_by true acts answers)
-        → IsQuietWorld after → after.host.picture ≡ Some after.board.state.squares }
-{
-    dgt_decode::laws::begins_anew();
-    dgt_decode::laws::events_append();
-    dgt_decode::laws::open_append();
-    dgt_decode::laws::quiet_held();
-    dgt_decode::laws::spelling_is_read();
-    dgt_host::laws::places_do_not_matter();
-    dgt_command::laws::divisions_append();
-    dgt_command::laws::fronts_divide_first();
-    dgt_command::laws::one_division();
-    dgt_command::laws::parts_of_words();
-    dgt_command::laws::zeros_settle_the_reader();
-}
-
-/// A promised world stays so while it comes to rest, is quiet once it rests, and has the board's
-/// squares as its picture then.
-pub fn promised_worlds_heal()
-    ensures kept { (count : ℕ) (world after : WorldView) → SettlesIn count world after
-        → IsPromisedWorld world → IsPromisedWorld after }
-    ensures quiet { (world : WorldView) → IsPromisedWorld world → IsRestedWorld world
-        → open_message world.host.unread ≡ world.host.unread → IsQuietWorld world }
-    ensures picture { (world : WorldView) → IsPromisedWorld world → IsQuietWorld world
-        → world.host.picture ≡ Some world.board.state.squares }
-{
-    acts_behind_garbage();
-    dgt_decode::laws::events_append();
-    dgt_decode::laws::open_append();
-    dgt_decode::laws::quiet_held();
-    dgt_decode::laws::spelling_is_read();
-    dgt_host::laws::places_do_not_matter();
-    dgt_command::laws::one_division();
-}
-
-/// What an act makes of a world's hope. Where the host begins anew, it is promised to heal. A fault
-/// of the up line leaves a world in step, and following; a dump that is asked for then promises it
-/// to heal. Only a fault, a break that both ends see, and a reset end that.
-pub fn steps_heal()
-    ensures anew { (act : FaultyContent) (world after : WorldView) → begins_anew act ≡ true
-        → IsSane world → FaultyStep act world Outcome.Done after → IsPromisedWorld after }
-    ensures in_step { (act : FaultyContent) (world after : WorldView) (answer : Outcome) →
-        loses_step act ≡ false → IsSane world → IsInStep world
-        → FaultyStep act world answer after → IsInStep after }
-    ensures asked { (command : CommandContent) (mode : Mode) (world after : WorldView) →
-        command_mode command ≡ Some mode → IsTrue (updates mode) → IsInStep world
-        → FaultyStep (FaultyContent.Plain (ActContent.Host command)) world Outcome.Done after
-        → IsFollowing after }
-    ensures following { (act : FaultyContent) (world after : WorldView) (answer : Outcome) →
-        loses_step act ≡ false → stops act ≡ false → IsSane world → IsFollowing world
-        → FaultyStep act world answer after → IsFollowing after }
-    ensures dump { (world after : WorldView) → IsFollowing world
-        → FaultyStep (FaultyContent.Plain (ActContent.Host CommandContent.Dump)) world Outcome.Done
-        after → IsPromisedWorld after }
-    ensures kept { (act : FaultyContent) (world after : WorldView) (answer : Outcome) →
-        is_fault act ≡ false → stops act ≡ false → IsSane world → IsPromisedWorld world
-        → FaultyStep act world answer after → IsPromisedWorld after }
-{
-    acts_behind_garbage();
-    dgt_decode::laws::events_append();
-    dgt_decode::laws::open_append();
-    dgt_decode::laws::quiet_held();
-    dgt_decode::laws::spelling_is_read();
-    dgt_host::laws::places_do_not_matter();
-    dgt_command::laws::divisions_append();
-    dgt_command::laws::fronts_divide_first();
-    dgt_command::laws::one_division();
-    dgt_command::laws::parts_of_words();
-    dgt_command::laws::zeros_settle_the_reader();
-}
-
-/// Whatever was done before and whatever was at fault: once the host has begun anew, and after that
-/// nothing is at fault, no reset is sent and no break comes that both ends see, the host's picture
-/// is the board's squares whenever the world is quiet. And so it is where the up line alone was at
-/// fault, a dump was asked for after that, and the board's mode to come asks for updates.
-pub fn calm_heals()
-    ensures restart { (acts later : List FaultyContent) (act : FaultyContent)
-        (world between begun after : WorldView) (answers others : List Outcome) →
-        IsSane world → FaultyRuns acts world answers between
-        → begins_anew act ≡ true → FaultyStep act between Outcome.Done begun
-        → AreCalm later → FaultyRuns later begun others after → IsQuietWorld after
-        → after.host.picture ≡ Some after.board.state.squares }
-    ensures dump { (acts later : List FaultyContent) (world between begun after : WorldView)
-        (answers others : List Outcome) →
-        AllByRecursion (λ act. (loses_step act ≡ false) × (stops act ≡ false)) acts
-        → IsSane world → IsFollowing world → FaultyRuns acts world answers between
-        → FaultyStep (FaultyContent.Plain (ActContent.Host CommandContent.Dump)) between
-        Outcome.Done begun → AreCalm later → FaultyRuns later begun others after
-        → IsQuietWorld after → after.host.picture ≡ Some after.board.state.squares }
-{
-    faults_heal();
-    promised_worlds_heal();
-    steps_heal();
-}
-
-/// The host's clock, whatever was at fault before: in a world in step, whose mode to come follows
-/// the clock, a reading that is asked for promises the clock, and only a break, a reset and a mode
-/// that doesn't follow it end that. It is the board's once the world is quiet.
-pub fn clocks_heal()
-    ensures asked { (command : CommandContent) (mode : Mode) (world after : WorldView) →
-        command_mode command ≡ Some mode → IsTrue (follows_clock mode) → IsInStep world
-        → Step (ActContent.Host command) world Outcome.Done after → IsClockFollowing after }
-    ensures following { (act : ActContent) (world after : WorldView) (answer : Outcome) →
-        stops_clock act ≡ false → IsClockFollowing world → Step act world answer after
-        → IsClockFollowing after }
-    ensures reading { (world after : WorldView) → IsClockFollowing world
-        → Step (ActContent.Host CommandContent.Clock) world Outcome.Done after
-        → IsClockPromisedWorld after }
-    ensures kept { (act : ActContent) (world after : WorldView) (answer : Outcome) →
-        stops_clock act ≡ false → IsClockPromisedWorld world → Step act world answer after
-        → IsClockPromisedWorld after }
-    ensures clock { (world : WorldView) → IsClockPromisedWorld world → IsQuietWorld world
-        → world.host.clock ≡ Some world.board.state.clock }
-{
-    acts_behind_garbage();
-    dgt_command::laws::one_division();
 }

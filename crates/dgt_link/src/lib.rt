@@ -1,25 +1,30 @@
 //! A DGT board, its host and the two lines of bytes between them, and what holds of the picture
 //! that the host keeps.
 //!
-//! A [`World`] owns both ends and both lines. [`World::step`] does one [`Act`] and tells its
-//! [`Outcome`]: a piece is put on a square, the clock is read, an end sends, bytes of a line are
-//! delivered, cut anywhere, or the line breaks and both ends see it, or the host alone, which
-//! begins anew. [`World::run`] does many. Once, since the last break that both saw, a dump was
-//! asked for, the last command that sets a mode asks for updates and the world is [`World::quiet`],
-//! the host's picture is the board's position, whatever was done before. A host that begins anew
-//! asks for both. [`World::settle`] delivers, and lets the board send, until the world is quiet,
-//! which it always becomes.
+//! A [`World`] owns the board, the host and both lines. [`World::step`] does one [`Act`] and
+//! returns its [`Outcome`]: a piece is put on a square, the clock is read, the host or the board
+//! sends, bytes of a line are delivered, cut anywhere, or the line breaks and both sides see it, or
+//! only the host, which begins anew. [`World::run`] does many acts. If since the last break that
+//! both saw a dump was requested, the last command that sets a mode asks for updates, and the world
+//! is [`World::quiet`], then the host's picture is the board's position, whatever was done before.
+//! A host that begins anew asks for both. [`World::settle`] delivers, and lets the board send,
+//! until the world is quiet, which it always becomes.
 //!
-//! Messages and commands are those of the DGT Electronic Board Protocol Description. Lines that
-//! neither lose nor alter a byte but where they break, and what an act is, are this project's own
-//! choice. Only [`World::new`] takes memory.
+//! The lines of a `World` lose bytes only by breaks. [`World::at_fault`] makes it a
+//! [`FaultyWorld`], in which any bytes under way may be replaced by any others and the board may
+//! lose its power. There the picture heals: once the host has begun anew after the last fault, the
+//! same holds as in a `World`, whatever failed before. [`healing`] has the theorem.
+//!
+//! Messages and commands are those of the DGT Electronic Board Protocol Description. What an act or
+//! a fault is, is this project's own choice. Only [`World::new`] takes memory.
 //!
 //! [`laws`] says what holds of the machine behind a world, in which whole messages and commands are
-//! under way, and what bytes have to do with it.
+//! under way, and how bytes relate to it.
 #![tactic(auto)]
 
 mod acts;
 mod faulty;
+pub mod healing;
 pub mod laws;
 mod line;
 mod moving;

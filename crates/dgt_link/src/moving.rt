@@ -1,5 +1,5 @@
-//! Bytes go into the lines and out of them. What does an act does its step, of whatever world has
-//! this end and this line.
+//! The acts on a board, a host and the lines between them. Each function makes the exact step of
+//! its act, in whatever world the board, the host or the line stands.
 
 ghost use Rattle.std.specs.Prelude.{◌≡◌, ◌+◌, ◌<◌, ◌≤◌, [], Some, length, take};
 ghost use Rattle.dgt_values.specs.declared.kinds.Kind.{Kind};
@@ -45,11 +45,12 @@ pub fn restart(host: &mut Host, from_board: &mut Line, down: &mut Line)
 {
     from_board.clear();
     down.clear();
+    host.line_lost();
     begin_anew(host, down);
 }
 
-/// The host loses the line and begins anew: it is as new, and what it sends comes behind what is in
-/// the line, where there is room.
+/// The host gives up what it awaits and begins anew: its restart bytes follow those in the line, if
+/// there is room.
 pub fn restart_behind(host: &mut Host, line: &mut Line) -> Outcome
     ensures { (world : WorldView) → FaultyStep FaultyContent.Restart
         (record world { host = host.old; down = line.old }) result
@@ -58,23 +59,24 @@ pub fn restart_behind(host: &mut Host, line: &mut Line) -> Outcome
     if line.room() < RESTART_LENGTH {
         return Outcome::NoRoom;
     }
+    host.give_up_awaited();
     begin_anew(host, line);
     Outcome::Done
 }
 
-// The host is as new, and what it sends to begin anew comes behind what is in the line.
+// A host that awaits nothing appends its restart bytes to the line.
 fn begin_anew(host: &mut Host, line: &mut Line)
-    requires { length line.old.bytes + RESTART_LENGTH ≤ line.old.capacity }
-    ensures host { host.new ≡ host_awaiting new_host (Some Kind.Dump) }
+    requires awaited { host.old.awaited ≡ [] }
+    requires room { length line.old.bytes + RESTART_LENGTH ≤ line.old.capacity }
+    ensures host { host.new ≡ host_awaiting host.old (Some Kind.Dump) }
     ensures line { line.new ≡ with_bytes line.old restart_bytes }
 {
-    host.line_lost();
     let mut bytes = [0; RESTART_LENGTH];
     let count = host.restart(&mut bytes).unwrap();
     line.push(&bytes[..count]);
 }
 
-/// The line comes to hold these bytes and no others, where they fit.
+/// Replaces the bytes of the line by these, if they fit.
 pub fn hold(line: &mut Line, bytes: &[u8]) -> Outcome
     ensures outcome { result ≡ holding_outcome line.old bytes.now }
     ensures leaves { IfDone result (line.new ≡ line_holding bytes.now line.old.capacity)
@@ -89,7 +91,7 @@ pub fn hold(line: &mut Line, bytes: &[u8]) -> Outcome
     Outcome::Done
 }
 
-/// Does an act of a world with these ends and these lines.
+/// Does an act of a world with this board, this host and these lines.
 pub fn act_on(
     board: &mut Board,
     host: &mut Host,

@@ -23,9 +23,9 @@ ghost use Rattle.dgt_link.specs.View.{IsQuietWorld, new_world};
 
 use crate::acts::{Act, Outcome, count};
 use crate::faulty::FaultyWorld;
-use crate::laws;
 use crate::line::{Line, LineMemory};
 use crate::moving::{act_on, send_next};
+use crate::{healing, laws};
 use dgt_board::{Board, Identity, MAX_SENT};
 use dgt_command::MAX_WORD;
 use dgt_host::{Host, RESTART_LENGTH};
@@ -144,12 +144,12 @@ impl World {
         }
     }
 
-    /// The same world, whose lines and whose board's power may be at fault from now on.
+    /// Returns the same world as one whose lines and whose board's power may fail.
     pub fn at_fault(self) -> FaultyWorld
         ensures same { result ≡ self }
         ensures in_step { IsInStep result }
     {
-        laws::worlds_are_in_step();
+        healing::worlds_are_in_step();
         FaultyWorld {
             board: self.board,
             host: self.host,

@@ -556,3 +556,18 @@ fn whole_pieces_at_once(rt: HostRuntime) -> Result<(), Fail> {
     assert_eq!(rt; host.unread(), 1);
     Ok(())
 }
+
+// A host gives up what it awaits, and keeps its picture and what it has heard of a message.
+#[test]
+fn awaited_replies_are_given_up(rt: HostRuntime) -> Result<(), Fail> {
+    let mut host = host_after(&rt, &[Command::Dump, Command::Version, Command::Serial]);
+    host.hear_all(&DUMP);
+    host.hear_all(&VERSION[..2]);
+    host.give_up_awaited();
+    assert!(rt; host.awaited().is_empty());
+    assert!(rt; is_start(&host));
+    assert_eq!(rt; host.unread(), 2);
+    let heard = host.hear(&VERSION[2..]);
+    assert!(rt; is_version(&heard) && heard.unasked);
+    Ok(())
+}

@@ -1,6 +1,6 @@
 use Rattle.std.proofs.Common.{◌≡◌, length, rules}
 use Rattle.dgt_link.specs.Act.{ActContent}
-use Rattle.dgt_link.proofs.Healing.{plain_step}
+use Rattle.dgt_link.proofs.Counting.{plain_step}
 use Rattle.dgt_link.proofs.faulty.FaultyWorld.hear_all.Goals as goal
 
 pub returns : goal.returns

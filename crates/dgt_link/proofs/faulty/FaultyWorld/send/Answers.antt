@@ -1,7 +1,7 @@
 use Rattle.dgt_link.specs.Act.{ActContent}
 use Rattle.dgt_link.specs.Faults.{FaultyContent}
 use Rattle.dgt_link.specs.View.{WorldView}
-use Rattle.dgt_link.proofs.Healing.{faulty_step}
+use Rattle.dgt_link.proofs.Counting.{faulty_step}
 use Rattle.dgt_link.proofs.faulty.FaultyWorld.send.Goals as goal
 
 pub invariant_of-self : goal.invariant_of-self

@@ -1,5 +1,5 @@
 use Rattle.std.proofs.Common.{arith, refl}
-use Rattle.dgt_link.proofs.Rested.{settled_squares}
+use Rattle.dgt_link.proofs.Rested.{settled_clock, settled_squares}
 use Rattle.dgt_link.proofs.Settling.{settled_kept, settled_more}
 use Rattle.dgt_link.proofs.faulty.FaultyWorld.settle.Goals as goal
 
@@ -53,4 +53,23 @@ returns-clause-picture c =
     c.loop-done.invariant.run promised in
     settled_squares c.loop-done.done c.args.self.now c.loop-done.self c.loop-done.invariant.run
     (c.promised_worlds_heal.ensures.picture c.loop-done.self still
+    (c.promised_worlds_heal.ensures.quiet c.loop-done.self still rests.0 (rw rests.1 at held))))
+
+pub returns-clause-clock_kept : goal.returns-clause-clock_kept
+returns-clause-clock_kept c =
+    let rests = c.loop-done-test.ensures.rests refl in
+    rw rests.1
+    (c.clocks_heal.ensures.settled c.loop-done.done c.args.self.now c.loop-done.self c.loop-done.invariant.run)
+
+pub returns-clause-clock : goal.returns-clause-clock
+returns-clause-clock c =
+    let rests = c.loop-done-test.ensures.rests refl in
+    let held = c.holds_open.ensures in
+    rw rests.1
+    (λ promised clock.
+    let still = c.promised_worlds_heal.ensures.kept c.loop-done.done c.args.self.now c.loop-done.self
+    c.loop-done.invariant.run promised in
+    settled_clock c.loop-done.done c.args.self.now c.loop-done.self c.loop-done.invariant.run
+    (c.clocks_heal.ensures.clock c.loop-done.self
+    (c.clocks_heal.ensures.settled c.loop-done.done c.args.self.now c.loop-done.self c.loop-done.invariant.run clock)
     (c.promised_worlds_heal.ensures.quiet c.loop-done.self still rests.0 (rw rests.1 at held))))

@@ -1,6 +1,6 @@
-use Rattle.dgt_link.proofs.Behind.{step_behind}
+use Rattle.dgt_link.proofs.Counting.{step_is_faulty}
 use Rattle.dgt_link.proofs.Standing.{Grammars}
-use Rattle.dgt_link.proofs.laws.acts_behind_garbage.Goals as goal
+use Rattle.dgt_link.proofs.healing.faults_keep.Goals as goal
 
 pub returns : goal.returns
 returns c =
@@ -18,4 +18,4 @@ returns c =
       nothing = c.parts_of_words.ensures.nothing;
       left = c.parts_of_words.ensures.left;
     } in
-    step_behind laws c.begins_anew.ensures
+    step_is_faulty laws

@@ -1,6 +1,6 @@
 use Rattle.dgt_link.specs.declared.acts.Outcome.{Outcome}
 use Rattle.dgt_link.proofs.Hoping.{calm_promised, run_following, sane_after}
-use Rattle.dgt_link.proofs.laws.calm_heals.Goals as goal
+use Rattle.dgt_link.proofs.healing.calm_heals.Goals as goal
 
 pub returns-clause-restart : goal.returns-clause-restart
 returns-clause-restart c =

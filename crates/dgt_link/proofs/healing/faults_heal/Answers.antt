@@ -1,9 +1,10 @@
 use Rattle.std.proofs.Common.{false, true}
 use Rattle.dgt_link.specs.Healing.{counted_after_all, nothing_counted}
-use Rattle.dgt_link.proofs.Healing.{follows_in_step, healing_picture, in_step_holds, in_turn_awaits_nothing, run_holds, sane_holds}
+use Rattle.dgt_link.proofs.Counting.{follows_in_step, healing_picture, in_step_holds, in_turn_awaits_nothing, run_holds, sane_holds}
+use Rattle.dgt_link.proofs.ClockHopes.{clock_healing_promised}
 use Rattle.dgt_link.proofs.Rested.{healing_promised}
 use Rattle.dgt_link.proofs.Standing.{Grammars}
-use Rattle.dgt_link.proofs.laws.faults_heal.Goals as goal
+use Rattle.dgt_link.proofs.healing.faults_heal.Goals as goal
 
 pub returns : goal.returns
 returns c =
@@ -53,4 +54,12 @@ returns c =
           healing_picture once (counted_after_all (nothing_counted true) acts answers) after
           (run_holds laws anew once behind acts world answers after (nothing_counted true)
           (in_step_holds world sane is) runs) healing quiet;
+      clock_promised = λ acts world after answers sane runs healing.
+          clock_healing_promised (counted_after_all (nothing_counted false) acts answers) after
+          (run_holds laws anew once behind acts world answers after (nothing_counted false) (sane_holds world sane)
+          runs) healing;
+      reading_promised = λ acts world after answers sane is runs healing.
+          clock_healing_promised (counted_after_all (nothing_counted true) acts answers) after
+          (run_holds laws anew once behind acts world answers after (nothing_counted true)
+          (in_step_holds world sane is) runs) healing;
     }

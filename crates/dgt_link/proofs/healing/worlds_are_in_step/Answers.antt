@@ -1,5 +1,5 @@
-use Rattle.dgt_link.proofs.Healing.{empty_in_step, world_in_step, world_is_faulty}
-use Rattle.dgt_link.proofs.laws.worlds_are_in_step.Goals as goal
+use Rattle.dgt_link.proofs.Counting.{empty_in_step, world_in_step, world_is_faulty}
+use Rattle.dgt_link.proofs.healing.worlds_are_in_step.Goals as goal
 
 pub returns-clause-in_step : goal.returns-clause-in_step
 returns-clause-in_step c = world_in_step

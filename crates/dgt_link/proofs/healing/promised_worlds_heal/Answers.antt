@@ -1,6 +1,6 @@
 use Rattle.dgt_link.proofs.Hearing.{Reads}
 use Rattle.dgt_link.proofs.Rested.{promised_at_quiet, promised_rests, settled_promised}
-use Rattle.dgt_link.proofs.laws.promised_worlds_heal.Goals as goal
+use Rattle.dgt_link.proofs.healing.promised_worlds_heal.Goals as goal
 
 pub returns-clause-kept : goal.returns-clause-kept
 returns-clause-kept c = settled_promised c.acts_behind_garbage.ensures

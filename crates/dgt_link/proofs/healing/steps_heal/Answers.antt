@@ -1,6 +1,6 @@
 use Rattle.dgt_link.proofs.Hoping.{anew_heals, asked_follows, dump_promises, keeps_following, keeps_in_step, keeps_promised}
 use Rattle.dgt_link.proofs.Standing.{Grammars}
-use Rattle.dgt_link.proofs.laws.steps_heal.Goals as goal
+use Rattle.dgt_link.proofs.healing.steps_heal.Goals as goal
 
 pub returns : goal.returns
 returns c =

@@ -3,9 +3,9 @@ use Rattle.std.proofs.Common.{◌≡◌, refl, sym, ap, subst, ◌∙◌, inl, i
 use Rattle.std.proofs.Common.{Option, Some, None, false, true, Bool, append_assoc, arith, rules}
 use Rattle.std.proofs.lemmas.Bool.{false≢true}
 use Rattle.std.proofs.lemmas.List.{append-nil}
-use Rattle.std.proofs.lemmas.List.Elements.{filter_map-append, Contains-append_right}
+use Rattle.std.proofs.lemmas.List.Elements.{filter_map-append, Contains-append_right, Contains-push_cases}
 use Rattle.std.specs.List.{cons_option, flat_map}
-use Rattle.std.specs.Prelude.{◌||◌, IsTrue, Contains, filter, filter_map}
+use Rattle.std.specs.Prelude.{IsTrue, Contains, filter, filter_map}
 use Rattle.dgt_values.specs.declared.kinds.Kind.{Kind}
 use Rattle.dgt_message.specs.Content.{Content}
 use Rattle.dgt_message.specs.Spelling.{spelling}
@@ -22,18 +22,20 @@ use Rattle.dgt_host.specs.Host.{follow_bytes, restart_bytes}
 use Rattle.dgt_link.specs.Act.{ActContent}
 use Rattle.dgt_link.specs.declared.acts.Outcome.{Outcome}
 use Rattle.dgt_link.specs.Faults.{FaultyBecomes, FaultyContent, FaultyRuns, FaultyStep, is_break}
-use Rattle.dgt_link.specs.Healing.{AwaitsWhatComes, Counted, IsFaultyWorld, IsHealing, IsInStep, IsInTurn, IsSane, StandsBehind, counted_after, counted_after_all, is_no_dump, nothing_counted}
+use Rattle.dgt_link.specs.Healing.{AwaitsWhatComes, Counted, IsFaultyWorld, IsHealing, IsInStep, IsInTurn, IsSane, StandsBehind, counted_after, counted_after_all, nothing_counted, sets_mode}
 use Rattle.dgt_link.specs.Machine.{MachineState, Move, after_move, after_moves, commands_anew, state_of_board}
 use Rattle.dgt_link.specs.Promise.{IsAsked, IsQuiet, act_requests, commands_after, event_mode, last_mode}
 use Rattle.dgt_link.specs.Sound.{IsSound, IsSubsequence, IsUnknownOr, coming_kinds, kind_of_event, kind_of_reply}
-use Rattle.dgt_link.specs.Stands.{IsWorld, StandsFor}
+use Rattle.dgt_link.specs.Stands.{AreMovesOfStep, IsWorld, StandsFor}
 use Rattle.dgt_link.specs.Step.{Becomes, Step}
 use Rattle.dgt_link.specs.View.{IsQuietWorld, WorldView}
 use Rattle.dgt_link.proofs.Asking.{requests-step}
+use Rattle.dgt_link.specs.Clocks.{ClockIsComing}
+use Rattle.dgt_link.proofs.Clocks.{clock_is_asked, step_keeps_clock}
 use Rattle.dgt_link.proofs.Behind.{awaiting, awaiting_sound, step_behind}
 use Rattle.dgt_link.proofs.Dividing.{anew_divides}
 use Rattle.dgt_link.proofs.Lists.{Contains-cons, nothing_contained, right_empty}
-use Rattle.dgt_link.proofs.Promises.{IsComing, asked_anew-mode, coming_promise, last_mode-append, noise-modes, nothing_asked}
+use Rattle.dgt_link.proofs.Promises.{IsComing, coming_promise, last_mode-append, noise-modes, nothing_asked}
 use Rattle.dgt_link.proofs.Quiet.{promised_picture, quiet_awaited}
 use Rattle.dgt_link.proofs.Resting.{nothing_first}
 use Rattle.dgt_link.proofs.Runs.{moves_come, moves_sound}
@@ -201,6 +203,7 @@ pub record Follows (in_turn : Bool) (asked : List CommandContent) (world : World
   pub state : MachineState
   pub stands : StandsBehind garbage world state
   pub comes : IsComing asked state
+  pub clock : Contains asked CommandContent.Clock → ClockIsComing state
   pub awaits : IsTrue in_turn → AwaitsWhatComes world state
 
 -- what is kept
@@ -220,8 +223,50 @@ in_step_follows world is =
       state = is.state;
       stands = is.stands;
       comes = nothing_asked is.state;
+      clock = λ has. absurd (nothing_contained CommandContent.Clock has);
       awaits = λ none. absurd (false≢true none);
     }
+
+-- a reading that was asked for comes, also if it was asked for just now
+asked_clock : (asked : List CommandContent) (command : CommandContent) (x : MachineState) (moves : List Move)
+    → AreMovesOfStep (ActContent.Host command) Outcome.Done moves
+    → (Contains asked CommandContent.Clock → ClockIsComing x)
+    → Contains (asked ++ command ∷ []) CommandContent.Clock → ClockIsComing (after_moves x moves)
+asked_clock asked command x moves are clock has =
+    elim (Contains-push_cases asked command CommandContent.Clock has) [
+      | inl earlier ↦
+          step_keeps_clock x (ActContent.Host command) Outcome.Done moves refl are (clock earlier)
+      | inr is ↦ clock_is_asked x moves (rw is at are)
+    ]
+
+clock_comes : (act : ActContent) (answer : Outcome) (x : MachineState) (moves : List Move)
+    (asked : List CommandContent)
+    → is_break act ≡ false → AreMovesOfStep act answer moves
+    → (Contains asked CommandContent.Clock → ClockIsComing x)
+    → Contains (commands_after asked (act_requests answer act)) CommandContent.Clock
+    → ClockIsComing (after_moves x moves)
+clock_comes (ActContent.Host command) Outcome.Done x moves asked other are clock has =
+    asked_clock asked command x moves are clock has
+clock_comes ActContent.Break Outcome.Done x moves asked other are clock has = cc
+clock_comes ActContent.HostBreak Outcome.Done x moves asked other are clock has = cc
+clock_comes (ActContent.Change square piece) Outcome.Done x moves asked other are clock has =
+    step_keeps_clock x (ActContent.Change square piece) Outcome.Done moves other are (clock has)
+clock_comes (ActContent.ClockRead reading) Outcome.Done x moves asked other are clock has =
+    step_keeps_clock x (ActContent.ClockRead reading) Outcome.Done moves other are (clock has)
+clock_comes ActContent.BoardSend Outcome.Done x moves asked other are clock has =
+    step_keeps_clock x ActContent.BoardSend Outcome.Done moves other are (clock has)
+clock_comes (ActContent.ToBoard count) Outcome.Done x moves asked other are clock has =
+    step_keeps_clock x (ActContent.ToBoard count) Outcome.Done moves other are (clock has)
+clock_comes (ActContent.ToHost count) Outcome.Done x moves asked other are clock has =
+    step_keeps_clock x (ActContent.ToHost count) Outcome.Done moves other are (clock has)
+clock_comes act Outcome.Nothing x moves asked other are clock has =
+    step_keeps_clock x act Outcome.Nothing moves other are (clock has)
+clock_comes act Outcome.NoRoom x moves asked other are clock has =
+    step_keeps_clock x act Outcome.NoRoom moves other are (clock has)
+clock_comes act Outcome.Busy x moves asked other are clock has =
+    step_keeps_clock x act Outcome.Busy moves other are (clock has)
+clock_comes act Outcome.TooMany x moves asked other are clock has =
+    step_keeps_clock x act Outcome.TooMany moves other are (clock has)
 
 -- an act that is no break
 plain_follows : Grammars → BeginsAnew → (act : ActContent) (world : WorldView) (answer : Outcome) (after : WorldView)
@@ -235,42 +280,83 @@ plain_follows laws anew act world answer after in_turn asked other f step =
       state = after_moves f.state reached.1;
       stands = reached.3;
       comes = rw (requests-step act answer reached.1 reached.2) at (moves_come asked f.state reached.1 f.comes);
+      clock = clock_comes act answer f.state reached.1 asked other reached.2 f.clock;
       awaits = λ turn. reached.4 (f.awaits turn);
     }
 
 -- ---- the up line is at fault
 
-dump_is_out : (commands : List CommandContent) → Contains (filter is_no_dump commands) CommandContent.Dump → ⊥
-dump_is_out [] has = nothing_contained CommandContent.Dump has
-dump_is_out (CommandContent.Dump ∷ commands) has = dump_is_out commands has
-dump_is_out (command ∷ commands) has =
-    elim (Contains-cons CommandContent.Dump command (filter is_no_dump commands) has) [
-      | inl is ↦ cc
-      | inr later ↦ dump_is_out commands later
+-- a command that sets no mode is not among those that do
+first_is_out : (other command : CommandContent) (commands : List CommandContent) → sets_mode other ≡ false
+    → sets_mode command ≡ true → (Contains (filter sets_mode commands) other → ⊥)
+    → Contains (command ∷ filter sets_mode commands) other → ⊥
+first_is_out other command commands none sets later has =
+    elim (Contains-cons other command (filter sets_mode commands) has) [
+      | inl is ↦ false≢true (sym none ∙ ap sets_mode (sym is) ∙ sets)
+      | inr more ↦ later more
     ]
 
-modes_stay : (commands : List CommandContent)
-    → filter_map command_mode (filter is_no_dump commands) ≡ filter_map command_mode commands
-modes_stay [] = refl
-modes_stay (CommandContent.Dump ∷ commands) = modes_stay commands
-modes_stay (command ∷ commands) = ap (cons_option (command_mode command)) (modes_stay commands)
+other_is_out : (other : CommandContent) → sets_mode other ≡ false → (commands : List CommandContent)
+    → Contains (filter sets_mode commands) other → ⊥
+other_is_out other none [] has = nothing_contained other has
+other_is_out other none (CommandContent.Reset ∷ commands) has =
+    first_is_out other CommandContent.Reset commands none refl (other_is_out other none commands) has
+other_is_out other none (CommandContent.Update ∷ commands) has =
+    first_is_out other CommandContent.Update commands none refl (other_is_out other none commands) has
+other_is_out other none (CommandContent.UpdateBoard ∷ commands) has =
+    first_is_out other CommandContent.UpdateBoard commands none refl (other_is_out other none commands) has
+other_is_out other none (CommandContent.UpdateNice ∷ commands) has =
+    first_is_out other CommandContent.UpdateNice commands none refl (other_is_out other none commands) has
+other_is_out other none (_ ∷ commands) has = other_is_out other none commands has
 
--- the messages under way are lost, and garbage is in their place
+modes_stay : (commands : List CommandContent)
+    → filter_map command_mode (filter sets_mode commands) ≡ filter_map command_mode commands
+modes_stay [] = refl
+modes_stay (CommandContent.Reset ∷ commands) = ap (cons_option (Some Mode.Idle)) (modes_stay commands)
+modes_stay (CommandContent.Update ∷ commands) = ap (cons_option (Some Mode.Update)) (modes_stay commands)
+modes_stay (CommandContent.UpdateBoard ∷ commands) = ap (cons_option (Some Mode.UpdateBoard)) (modes_stay commands)
+modes_stay (CommandContent.UpdateNice ∷ commands) = ap (cons_option (Some Mode.UpdateNice)) (modes_stay commands)
+modes_stay (_ ∷ commands) = modes_stay commands
+
+-- the state that knows nothing of what its board has sent
+abbrev pub forgotten : MachineState → MachineState
+forgotten x = record x { up = []; picture = None; host_clock = None; awaited = [] }
+
+forgotten_sound : (x : MachineState) → IsSound x → IsSound (forgotten x)
+forgotten_sound x sound =
+    record {
+      squares = sound.squares;
+      told_squares = sound.told_squares;
+      picture = inl refl;
+      followed = sound.followed;
+      clock = inl refl;
+      awaited = tt;
+    }
+
+-- all that is under way to the host may count as garbage
+pub forgotten_stands : (garbage : List ℕ) (world : WorldView) (x : MachineState) → StandsBehind garbage world x
+    → StandsBehind (world.host.unread ++ world.up.bytes) world (forgotten x)
+forgotten_stands garbage world x stands =
+    record {
+      sound = forgotten_sound x stands.sound;
+      board = stands.board;
+      picture = inl refl;
+      clock = inl refl;
+      unheard = inr (refl, refl);
+      are_messages = tt;
+      up = sym (append-nil (world.host.unread ++ world.up.bytes));
+      down = stands.down;
+      partial = stands.partial;
+    }
+
+-- what is under way to the host is replaced by garbage
 pub garbled_stands : (bytes : List ℕ) (world after : WorldView) (garbage : List ℕ) (x : MachineState)
     → StandsBehind garbage world x → FaultyBecomes (FaultyContent.GarbleUp bytes) world after
-    → StandsBehind (world.host.unread ++ bytes) after
-    (record x { up = []; picture = None; host_clock = None; awaited = [] })
+    → StandsBehind (world.host.unread ++ bytes) after (forgotten x)
 garbled_stands bytes world after garbage x stands same =
     rw same
     (record {
-      sound = record {
-        squares = stands.sound.squares;
-        told_squares = stands.sound.told_squares;
-        picture = inl refl;
-        followed = stands.sound.followed;
-        clock = inl refl;
-        awaited = tt;
-      };
+      sound = forgotten_sound x stands.sound;
       board = stands.board;
       picture = inl refl;
       clock = inl refl;
@@ -283,17 +369,18 @@ garbled_stands bytes world after garbage x stands same =
 
 garbled_follows : (in_turn : Bool) (asked : List CommandContent) (bytes : List ℕ) (world after : WorldView)
     → Follows in_turn asked world
-    → FaultyBecomes (FaultyContent.GarbleUp bytes) world after → Follows false (filter is_no_dump asked) after
+    → FaultyBecomes (FaultyContent.GarbleUp bytes) world after → Follows false (filter sets_mode asked) after
 garbled_follows in_turn asked bytes world after f same =
     record {
       garbage = world.host.unread ++ bytes;
-      state = record f.state { up = []; picture = None; host_clock = None; awaited = [] };
+      state = forgotten f.state;
       stands = garbled_stands bytes world after f.garbage f.state f.stands same;
       comes = record {
-        picture = λ has. absurd (dump_is_out asked has);
+        picture = λ has. absurd (other_is_out CommandContent.Dump refl asked has);
         before = f.comes.before;
         mode = f.comes.mode ∙ sym (ap (last_mode f.comes.before) (modes_stay asked));
       };
+      clock = λ has. absurd (other_is_out CommandContent.Clock refl asked has);
       awaits = λ none. absurd (false≢true none);
     }
 
@@ -321,6 +408,7 @@ module _ (laws : Grammars) (once : EachDividesOnce)
           partial = laws.nothing;
         };
         comes = nothing_asked (state_of_board (after_line_lost world.board.state));
+        clock = λ has. absurd (nothing_contained CommandContent.Clock has);
         awaits = λ turn. tt;
       })
 
@@ -336,11 +424,10 @@ module _ (laws : Grammars) (once : EachDividesOnce)
       (filter_map-append event_mode noise anew ∙ ap (λ (modes : List Mode). modes ++ Mode.UpdateBoard ∷ [])
       (noise-modes noise is_noise))
 
-  anew_comes : (asked : List CommandContent) (board : BoardState) (events noise : List EventContent)
+  anew_comes : (board : BoardState) (events noise : List EventContent)
       → IsNoiseList noise
-      → IsComing (commands_after asked (map Some commands_anew))
-      (commanded_state board (events ++ (noise ++ map EventContent.Read commands_anew)))
-  anew_comes asked board events noise is_noise =
+      → IsComing commands_anew (commanded_state board (events ++ (noise ++ map EventContent.Read commands_anew)))
+  anew_comes board events noise is_noise =
       record {
         picture = λ has. inr (inr
             (Contains-append_right events (noise ++ map EventContent.Read commands_anew)
@@ -348,7 +435,7 @@ module _ (laws : Grammars) (once : EachDividesOnce)
             (Contains-append_right noise (map EventContent.Read commands_anew)
             (EventContent.Read CommandContent.Dump) (1, omega arith, refl))));
         before = Mode.Idle;
-        mode = anew_mode board.mode events noise is_noise ∙ asked_anew-mode Mode.Idle asked;
+        mode = anew_mode board.mode events noise is_noise;
       }
 
   -- the dump that such a host awaits comes last
@@ -386,12 +473,24 @@ module _ (laws : Grammars) (once : EachDividesOnce)
             (map EventContent.Read commands_anew) [] [] noise.2 (anew_divides laws.nothing))),
       )
 
-  -- the host is as new, and its restart bytes come behind these, and then garbage to the host
-  anew_follows : (asked : List CommandContent) (world after : WorldView) (bytes up : List ℕ) → IsSane world
+  -- a host that begins anew asks for no reading
+  no_reading_anew : Contains commands_anew CommandContent.Clock → ⊥
+  no_reading_anew has =
+      elim (Contains-cons CommandContent.Clock CommandContent.UpdateBoard (CommandContent.Dump ∷ []) has) [
+        | inl is ↦ cc
+        | inr later ↦
+            elim (Contains-cons CommandContent.Clock CommandContent.Dump [] later) [
+              | inl is ↦ cc
+              | inr none ↦ nothing_contained CommandContent.Clock none
+            ]
+      ]
+
+  -- the host awaits the dump alone, and its restart bytes come after these, and then garbage to the host
+  anew_follows : (world after : WorldView) (bytes up : List ℕ) → IsSane world
       → AreBytes bytes → after.board ≡ world.board → after.down.bytes ≡ bytes ++ restart_bytes
       → after.host.unread ++ after.up.bytes ≡ up → after.host.awaited ≡ Kind.Dump ∷ []
-      → Follows true (commands_after asked (map Some commands_anew)) after
-  anew_follows asked world after bytes up sane are board down heard awaited =
+      → Follows true commands_anew after
+  anew_follows world after bytes up sane are board down heard awaited =
       let divided = once.0 (world.board.partial ++ bytes)
       (bytes_behind world.board.partial bytes sane.partial are) in
       let anew = anew_divides_behind (world.board.partial ++ bytes) divided.0 divided.1 divided.2 in
@@ -412,20 +511,21 @@ module _ (laws : Grammars) (once : EachDividesOnce)
           down = rw (board, down, ← append_assoc world.board.partial bytes restart_bytes) anew.2;
           partial = rw board sane.partial;
         };
-        comes = anew_comes asked world.board.state divided.0 anew.0 anew.1;
+        comes = anew_comes world.board.state divided.0 anew.0 anew.1;
+        clock = λ has. absurd (no_reading_anew has);
         awaits = λ turn. rw awaited (anew_awaits world.board.state divided.0 anew.0 anew.1);
       }
 
-  pub host_break_follows : (asked : List CommandContent) (world after : WorldView) → IsSane world
-      → Becomes ActContent.HostBreak world after → Follows true (commands_after asked (map Some commands_anew)) after
-  host_break_follows asked world after sane same =
-      rw same (anew_follows asked world _ [] [] sane no_bytes refl refl refl refl)
+  pub host_break_follows : (world after : WorldView) → IsSane world
+      → Becomes ActContent.HostBreak world after → Follows true commands_anew after
+  host_break_follows world after sane same =
+      rw same (anew_follows world _ [] [] sane no_bytes refl refl refl refl)
 
-  pub restart_follows : (asked : List CommandContent) (world after : WorldView) → IsSane world
-      → FaultyBecomes FaultyContent.Restart world after
-      → Follows true (commands_after asked (map Some commands_anew)) after
-  restart_follows asked world after sane same =
-      rw same (anew_follows asked world _ world.down.bytes world.up.bytes sane sane.down refl refl refl refl)
+  pub restart_follows : (world after : WorldView) → IsSane world
+      → FaultyBecomes FaultyContent.Restart world after → Follows true commands_anew after
+  restart_follows world after sane same =
+      rw same
+      (anew_follows world _ world.down.bytes (world.host.unread ++ world.up.bytes) sane sane.down refl refl refl refl)
 
 -- ---- each act, and acts in order
 
@@ -450,20 +550,21 @@ module _ (laws : Grammars) (anew : BeginsAnew) (once : EachDividesOnce)
   breaks_after c world Outcome.Done after sane step = break_follows laws once bytes_behind world after sane step.leaves
   breaks_after c world _ after sane step = let is = step.answers in cc
 
-  host_breaks_after : (c : Counted) (world : WorldView) (answer : Outcome) (after : WorldView) → IsSane world
-      → Step ActContent.HostBreak world answer after
-      → Follows true (commands_after c.asked (act_requests answer ActContent.HostBreak)) after
-  host_breaks_after c world Outcome.Done after sane step =
-      host_break_follows laws once bytes_behind c.asked world after sane step.leaves
-  host_breaks_after c world _ after sane step = let is = step.answers in cc
+  host_breaks_after : (world : WorldView) (answer : Outcome) (after : WorldView) → IsSane world
+      → Step ActContent.HostBreak world answer after → Follows true commands_anew after
+  host_breaks_after world Outcome.Done after sane step =
+      host_break_follows laws once bytes_behind world after sane step.leaves
+  host_breaks_after world _ after sane step = let is = step.answers in cc
 
   plain_after : (c : Counted) (act : ActContent) (world : WorldView) (answer : Outcome) (after : WorldView)
-      → Holds c world → Step act world answer after → IsTrue (is_break act || c.in_step)
-      → Follows (is_break act || c.in_turn) (commands_after c.asked (act_requests answer act)) after
+      → Holds c world → Step act world answer after
+      → IsTrue (counted_after c (FaultyContent.Plain act) answer).in_step
+      → Follows (counted_after c (FaultyContent.Plain act) answer).in_turn
+      (counted_after c (FaultyContent.Plain act) answer).asked after
   plain_after c ActContent.Break world answer after holds step in_step =
       breaks_after c world answer after holds.sane step
   plain_after c ActContent.HostBreak world answer after holds step in_step =
-      host_breaks_after c world answer after holds.sane step
+      host_breaks_after world answer after holds.sane step
   plain_after c act world answer after holds step in_step =
       plain_follows laws anew act world answer after c.in_turn c.asked refl (holds.follows in_step) step
 
@@ -482,7 +583,7 @@ module _ (laws : Grammars) (anew : BeginsAnew) (once : EachDividesOnce)
       unchanged c world after step.leaves holds in_step
   follows_after c FaultyContent.BoardLost world answer after holds step in_step = absurd (false≢true in_step)
   follows_after c FaultyContent.Restart world Outcome.Done after holds step in_step =
-      restart_follows laws once bytes_behind c.asked world after holds.sane step.leaves
+      restart_follows laws once bytes_behind world after holds.sane step.leaves
   follows_after c FaultyContent.Restart world _ after holds step in_step =
       unchanged c world after step.leaves holds in_step
 

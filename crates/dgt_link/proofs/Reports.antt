@@ -1,0 +1,369 @@
+-- A picture that is known is what the board had reported when it sent the last message that was heard.
+use Rattle.std.proofs.Common.{◌≡◌, ◌≢◌, refl, sym, ap, subst, ◌∙◌, ◌⊎◌, inl, inr, ℕ, List, [], ◌∷◌, ◌++◌, Bool, true, false, Option, Some, append_assoc, ◌&&◌, if◌then◌else◌}
+use Rattle.std.proofs.lemmas.List.{append-nil}
+use Rattle.std.proofs.lemmas.Bool.{false≢true}
+use Rattle.std.specs.Prelude.{IsSome, is_some}
+use Rattle.std.specs.List.{AllByRecursion}
+use Rattle.dgt_values.specs.declared.pieces.Piece.{Piece}
+use Rattle.dgt_message.specs.Content.{Content, clock_message}
+use Rattle.dgt_command.specs.Content.{EventContent}
+use Rattle.dgt_board.specs.declared.replies.Reply.{Reply}
+use Rattle.dgt_board.specs.State.{updates}
+use Rattle.dgt_board.specs.Sending.{differs, field_of, reply_message}
+use Rattle.dgt_host.specs.Host.{picture_after, picture_after_all}
+use Rattle.dgt_link.specs.Act.{ActContent}
+use Rattle.dgt_link.specs.declared.acts.Outcome.{Outcome}
+use Rattle.dgt_link.specs.Faults.{is_break}
+use Rattle.dgt_link.specs.Healing.{IsInStep, StandsBehind, StandsBehindAfter}
+use Rattle.dgt_link.specs.Machine.{IsHostBreak, MachineState, Move, after_hear, after_move, after_moves, after_reply, after_take, after_told}
+use Rattle.dgt_link.specs.Reported.{IsReportedBy, WasReported, first_reply, sent_by, sent_by_all}
+use Rattle.dgt_link.specs.Sound.{IsSound, IsUnknownOr, coming_picture}
+use Rattle.dgt_link.specs.Stands.{AreMovesOfRun, AreMovesOfStep}
+use Rattle.dgt_link.specs.Step.{Runs, Step}
+use Rattle.dgt_link.specs.View.{WorldView}
+use Rattle.dgt_link.proofs.Clocks.{no_break, step_is_no_break}
+use Rattle.dgt_link.proofs.Asking.{step_is_other}
+use Rattle.dgt_link.proofs.Counting.{forgotten, forgotten_stands}
+use Rattle.dgt_link.proofs.Promises.{picture_after_known}
+use Rattle.dgt_link.proofs.Lists.{all_append, left_empty, right_empty}
+use Rattle.dgt_link.proofs.Runs.{moves_sound}
+use Rattle.dgt_link.proofs.Standing.{moves-append}
+
+-- ---- lists
+
+-- of two lists in a row that end with this element, the second is empty or ends with it
+last_of : {X : Type 0} (front back xs : List X) (x : X) → xs ++ x ∷ [] ≡ front ++ back
+    → (back ≡ []) ⊎ ((rest : List X) × (back ≡ rest ++ x ∷ []) × (xs ≡ front ++ rest))
+last_of [] back xs x e = inr (xs, sym e, refl)
+last_of (first ∷ front) back [] x e =
+    let none : front ++ back ≡ [] = cc in
+    inl (right_empty front back none)
+last_of (first ∷ front) back (y ∷ xs) x e =
+    let same : y ≡ first = cc in
+    let more : xs ++ x ∷ [] ≡ front ++ back = cc in
+    elim (last_of front back xs x more) [
+      | inl none ↦ inl none
+      | inr (rest, is, both) ↦ inr (rest, is, rw (same, both) refl)
+    ]
+
+-- ---- a move that is no break
+
+abbrev IsPlain : Move → Type 0
+IsPlain move = (move ≢ Move.Break) × (¬ (IsHostBreak move))
+
+-- what a move that hears nothing makes of what is under way, and of the picture
+record Sends (x : MachineState) (move : Move) : Type 0 where
+  pub up : (after_move x move).up ≡ x.up ++ sent_by x move
+  pub picture : (after_move x move).picture ≡ x.picture
+
+sends_nothing : (x y : MachineState) → y.up ≡ x.up → y.up ≡ x.up ++ []
+sends_nothing x y same = same ∙ sym (append-nil x.up)
+
+told_if : (x : MachineState) (asked : Bool) (message : Content)
+    → ((if asked then after_told x message else x).up ≡ x.up ++ (if asked then message ∷ [] else []))
+    × ((if asked then after_told x message else x).picture ≡ x.picture)
+told_if x true message = (refl, refl)
+told_if x false message = (sym (append-nil x.up), refl)
+
+reply_sends : (x : MachineState) (owed : List Reply)
+    → ((after_reply x owed).up ≡ x.up ++ first_reply x.board owed) × ((after_reply x owed).picture ≡ x.picture)
+reply_sends x [] = (sym (append-nil x.up), refl)
+reply_sends x (first ∷ later) = (refl, refl)
+
+take_sends : (x : MachineState) → ((after_move x Move.Take).up ≡ x.up) × ((after_move x Move.Take).picture ≡ x.picture)
+take_sends x = go x.down
+  where
+    go : (down : List EventContent)
+        → ((after_take x down).up ≡ x.up) × ((after_take x down).picture ≡ x.picture)
+    go [] = (refl, refl)
+    go (event ∷ later) = (refl, refl)
+
+move_sends : (x : MachineState) (move : Move) → IsPlain move → move ≢ Move.Hear → Sends x move
+move_sends x (Move.Change square piece) plain other = record { up = sym (append-nil x.up); picture = refl }
+move_sends x (Move.HandClock clock) plain other = record { up = sym (append-nil x.up); picture = refl }
+move_sends x (Move.Ask command) plain other = record { up = sym (append-nil x.up); picture = refl }
+move_sends x Move.Take plain other =
+    record { up = (take_sends x).0 ∙ sym (append-nil x.up); picture = (take_sends x).1 }
+move_sends x Move.Reply plain other =
+    record { up = (reply_sends x x.board.owed).0; picture = (reply_sends x x.board.owed).1 }
+move_sends x (Move.Tell square) plain other =
+    let told = told_if x (updates x.board.mode && differs x.board square) (field_of x.board square) in
+    record { up = told.0; picture = told.1 }
+move_sends x Move.TellClock plain other =
+    let told = told_if x x.board.times_owed (clock_message x.board.clock) in
+    record { up = told.0; picture = told.1 }
+move_sends x Move.Hear plain other = absurd (other refl)
+move_sends x Move.Break plain other = absurd (plain.0 refl)
+move_sends x (Move.HostBreak noise is_noise) plain other = absurd (plain.1 tt)
+
+-- at most one message is sent
+abbrev IsOneAtMost : List Content → Type 0
+IsOneAtMost sent = (sent ≡ []) ⊎ ((message : Content) × (sent ≡ message ∷ []))
+
+one_if : (asked : Bool) (message : Content) → IsOneAtMost (if asked then message ∷ [] else [])
+one_if true message = inr (message, refl)
+one_if false message = inl refl
+
+one_reply : (x : MachineState) (owed : List Reply) → IsOneAtMost (first_reply x.board owed)
+one_reply x [] = inl refl
+one_reply x (first ∷ later) = inr (reply_message x.board first, refl)
+
+one_at_most : (x : MachineState) (move : Move) → IsOneAtMost (sent_by x move)
+one_at_most x Move.Reply = one_reply x x.board.owed
+one_at_most x (Move.Tell square) =
+    one_if (updates x.board.mode && differs x.board square) (field_of x.board square)
+one_at_most x Move.TellClock = one_if x.board.times_owed (clock_message x.board.clock)
+one_at_most x _ = inl refl
+
+-- ---- each front of what is under way
+
+-- once the messages of this front are heard too, the picture is unknown or what was reported when
+-- the last of them was sent
+record Since (x : MachineState) (moves : List Move) (front back : List Content) : Type 0 where
+  pub earlier : List Move
+  pub later : List Move
+  pub split : moves ≡ earlier ++ later
+  pub sent : sent_by_all (after_moves x earlier) later ≡ back
+  pub picture :
+      IsUnknownOr (picture_after_all (after_moves x moves).picture front)
+      (Some (after_moves x earlier).board.told_squares)
+
+abbrev SinceEach : MachineState → List Move → Type 0
+SinceEach x moves =
+    (front back : List Content) → (after_moves x moves).up ≡ front ++ back → Since x moves front back
+
+sent-append : (x : MachineState) (moves : List Move) (move : Move)
+    → sent_by_all x (moves ++ move ∷ []) ≡ sent_by_all x moves ++ sent_by (after_moves x moves) move
+sent-append x [] move = append-nil (sent_by x move)
+sent-append x (first ∷ moves) move =
+    ap (λ (rest : List Content). sent_by x first ++ rest) (sent-append (after_move x first) moves move)
+    ∙ sym (append_assoc (sent_by x first) (sent_by_all (after_move x first) moves)
+    (sent_by (after_moves (after_move x first) moves) move))
+
+-- all that is under way is heard
+since_now : (x : MachineState) (moves : List Move) (front : List Content) → IsSound x
+    → (after_moves x moves).up ≡ front → Since x moves front []
+since_now x moves front sound all =
+    record {
+      earlier = moves;
+      later = [];
+      split = sym (append-nil moves);
+      sent = refl;
+      picture = rw all at (moves_sound x moves sound).picture;
+    }
+
+-- one more move, behind the same moment
+since_later : (x : MachineState) (moves : List Move) (move : Move) (front back before sent : List Content)
+    → (since : Since x moves before back)
+    → sent_by (after_moves x moves) move ≡ sent
+    → picture_after_all (after_moves x (moves ++ move ∷ [])).picture front
+    ≡ picture_after_all (after_moves x moves).picture before
+    → Since x (moves ++ move ∷ []) front (back ++ sent)
+since_later x moves move front back before sent since sends same =
+    record {
+      earlier = since.earlier;
+      later = since.later ++ move ∷ [];
+      split =
+          ap (λ (all : List Move). all ++ move ∷ []) since.split
+          ∙ append_assoc since.earlier since.later (move ∷ []);
+      sent =
+          sent-append (after_moves x since.earlier) since.later move
+          ∙ ap (λ (first : List Content). first ++ sent_by (after_moves (after_moves x since.earlier) since.later) move)
+          since.sent
+          ∙ ap (λ (y : MachineState). back ++ sent_by y move)
+          (sym (moves-append x since.earlier since.later)
+          ∙ ap (λ (all : List Move). after_moves x all) (sym since.split))
+          ∙ ap (λ (last : List Content). back ++ last) sends;
+      picture = rw same since.picture;
+    }
+
+module _ (x : MachineState) (sound : IsSound x) (moves : List Move) (each : SinceEach x moves) where
+  -- a move that hears nothing
+  other_since : (move : Move) → IsPlain move → move ≢ Move.Hear → SinceEach x (moves ++ move ∷ [])
+  other_since move plain other front back up = go (one_at_most (after_moves x moves) move)
+    where
+      y : MachineState
+      y = after_moves x moves
+
+      led : after_moves x (moves ++ move ∷ []) ≡ after_move (after_moves x moves) move
+      led = moves-append x moves (move ∷ [])
+
+      sends : Sends (after_moves x moves) move
+      sends = move_sends (after_moves x moves) move plain other
+
+      under_way : (after_moves x moves).up ++ sent_by (after_moves x moves) move ≡ front ++ back
+      under_way = sym sends.up ∙ ap (λ (z : MachineState). z.up) (sym led) ∙ up
+
+      same : (after_moves x (moves ++ move ∷ [])).picture ≡ (after_moves x moves).picture
+      same = ap (λ (z : MachineState). z.picture) led ∙ sends.picture
+
+      go : IsOneAtMost (sent_by (after_moves x moves) move) → Since x (moves ++ move ∷ []) front back
+      go (inl none) =
+          subst (λ (rest : List Content). Since x (moves ++ move ∷ []) front rest) (append-nil back)
+          (since_later x moves move front back front []
+          (each front back (sym (append-nil (after_moves x moves).up)
+          ∙ ap (λ (sent : List Content). (after_moves x moves).up ++ sent) (sym none) ∙ under_way))
+          none (ap (λ (picture : Option (List Piece)). picture_after_all picture front) same))
+      go (inr (message, is)) =
+          elim (last_of front back (after_moves x moves).up message
+          (ap (λ (sent : List Content). (after_moves x moves).up ++ sent) (sym is) ∙ under_way)) [
+            | inl none ↦
+                rw none
+                (since_now x (moves ++ move ∷ []) front sound
+                (up ∙ ap (λ (rest : List Content). front ++ rest) none ∙ append-nil front))
+            | inr (rest, ends, before) ↦
+                rw ends
+                (since_later x moves move front rest front (message ∷ []) (each front rest before) is
+                (ap (λ (picture : Option (List Piece)). picture_after_all picture front) same))
+          ]
+
+  -- the host hears a message, if there is one
+  hear_since : SinceEach x (moves ++ Move.Hear ∷ [])
+  hear_since front back up = go (after_moves x moves).up refl
+    where
+      led : after_moves x (moves ++ Move.Hear ∷ []) ≡ after_hear (after_moves x moves) (after_moves x moves).up
+      led = moves-append x moves (Move.Hear ∷ [])
+
+      go : (said : List Content) → (after_moves x moves).up ≡ said → Since x (moves ++ Move.Hear ∷ []) front back
+      go [] none =
+          let still : after_moves x (moves ++ Move.Hear ∷ []) ≡ after_moves x moves
+          = led ∙ ap (λ (said : List Content). after_hear (after_moves x moves) said) none in
+          subst (λ (rest : List Content). Since x (moves ++ Move.Hear ∷ []) front rest) (append-nil back)
+          (since_later x moves Move.Hear front back front []
+          (each front back (ap (λ (z : MachineState). z.up) (sym still) ∙ up)) refl
+          (ap (λ (z : MachineState). picture_after_all z.picture front) still))
+      go (message ∷ rest) is =
+          let heard : after_moves x (moves ++ Move.Hear ∷ []) ≡ after_hear (after_moves x moves) (message ∷ rest)
+          = led ∙ ap (λ (said : List Content). after_hear (after_moves x moves) said) is in
+          let left : rest ≡ front ++ back = ap (λ (z : MachineState). z.up) (sym heard) ∙ up in
+          subst (λ (rest : List Content). Since x (moves ++ Move.Hear ∷ []) front rest) (append-nil back)
+          (since_later x moves Move.Hear front back (message ∷ front) []
+          (each (message ∷ front) back (is ∙ ap (λ (more : List Content). message ∷ more) left)) refl
+          (ap (λ (z : MachineState). picture_after_all z.picture front) heard))
+
+  move_since : (move : Move) → IsPlain move → SinceEach x (moves ++ move ∷ [])
+  move_since Move.Hear plain = hear_since
+  move_since (Move.Change square piece) plain = other_since (Move.Change square piece) plain (λ e. cc)
+  move_since (Move.HandClock clock) plain = other_since (Move.HandClock clock) plain (λ e. cc)
+  move_since (Move.Ask command) plain = other_since (Move.Ask command) plain (λ e. cc)
+  move_since Move.Take plain = other_since Move.Take plain (λ e. cc)
+  move_since Move.Reply plain = other_since Move.Reply plain (λ e. cc)
+  move_since (Move.Tell square) plain = other_since (Move.Tell square) plain (λ e. cc)
+  move_since Move.TellClock plain = other_since Move.TellClock plain (λ e. cc)
+  move_since Move.Break plain = absurd (plain.0 refl)
+  move_since (Move.HostBreak noise is_noise) plain = absurd (plain.1 tt)
+
+moves_since : (x : MachineState) (past more : List Move) → IsSound x → AllByRecursion IsPlain more
+    → SinceEach x past → SinceEach x (past ++ more)
+moves_since x past [] sound all each = rw (append-nil past) each
+moves_since x past (move ∷ more) sound all each =
+    subst (λ (moves : List Move). SinceEach x moves) (append_assoc past (move ∷ []) more)
+    (moves_since x (past ++ move ∷ []) more sound all.1 (move_since x sound past each move all.0))
+
+-- nothing is under way at first
+nothing_since : (x : MachineState) → IsSound x → x.up ≡ [] → SinceEach x []
+nothing_since x sound none front back up =
+    let all : front ++ back ≡ [] = sym up ∙ none in
+    let first : front ≡ [] = left_empty front back all in
+    let last : back ≡ [] = right_empty front back all in
+    rw last (since_now x [] front sound (none ∙ sym first))
+
+pub was_reported : (x : MachineState) (moves : List Move) → IsSound x → x.up ≡ []
+    → AllByRecursion IsPlain moves → WasReported x moves
+was_reported x moves sound none all =
+    let since = moves_since x [] moves sound all (nothing_since x sound none) [] (after_moves x moves).up refl in
+    record {
+      earlier = since.earlier;
+      later = since.later;
+      split = since.split;
+      sent = since.sent;
+      picture = since.picture;
+    }
+
+-- ---- worlds
+
+both_all : {X : Type 0} (P Q : X → Type 0) (xs : List X) → AllByRecursion P xs → AllByRecursion Q xs
+    → AllByRecursion (λ x. P x × Q x) xs
+both_all P Q [] p q = tt
+both_all P Q (x ∷ xs) p q = ((p.0, q.0), both_all P Q xs p.1 q.1)
+
+step_is_plain : (act : ActContent) (answer : Outcome) (moves : List Move) → is_break act ≡ false
+    → AreMovesOfStep act answer moves → AllByRecursion IsPlain moves
+step_is_plain act answer moves other are =
+    both_all (λ move. move ≢ Move.Break) (λ move. ¬ (IsHostBreak move)) moves
+    (step_is_no_break act answer moves (no_break act other).0 are)
+    (step_is_other act answer moves (no_break act other).1 are)
+
+-- acts in a row, behind garbage
+record Reached (acts : List ActContent) (answers : List Outcome) (x : MachineState) (after : WorldView) : Type 0 where
+  pub garbage : List ℕ
+  pub moves : List Move
+  pub are_moves : AreMovesOfRun acts answers moves
+  pub plain : AllByRecursion IsPlain moves
+  pub stands : StandsBehind garbage after (after_moves x moves)
+
+module _ (behind : (act : ActContent) (garbage : List ℕ) (world : WorldView) (answer : Outcome) (after : WorldView)
+    (x : MachineState)
+    → is_break act ≡ false → StandsBehind garbage world x → Step act world answer after
+    → StandsBehindAfter act answer world x after) where
+  run_behind : (acts : List ActContent) (garbage : List ℕ) (world after : WorldView) (answers : List Outcome)
+      (x : MachineState) → AllByRecursion (λ act. is_break act ≡ false) acts
+      → StandsBehind garbage world x → Runs acts world answers after → Reached acts answers x after
+  run_behind [] garbage world after [] x all stands same =
+      record { garbage = garbage; moves = []; are_moves = refl; plain = tt; stands = rw same stands }
+  run_behind (act ∷ acts) garbage world after (answer ∷ answers) x all stands (between, step, runs) =
+      let first = behind act garbage world answer between x all.0 stands step in
+      let rest = run_behind acts first.0 between after answers (after_moves x first.1) all.1 first.3 runs in
+      record {
+        garbage = rest.garbage;
+        moves = first.1 ++ rest.moves;
+        are_moves = (first.1, rest.moves, first.2, rest.are_moves, refl);
+        plain =
+            all_append IsPlain first.1 rest.moves (step_is_plain act answer first.1 all.0 first.2) rest.plain;
+        stands = rw (moves-append x first.1 rest.moves) rest.stands;
+      }
+  run_behind [] garbage world after (answer ∷ answers) x all stands none = absurd none
+  run_behind (act ∷ acts) garbage world after [] x all stands none = absurd none
+
+  pub reported_by : (acts : List ActContent) (world after : WorldView) (answers : List Outcome)
+      → AllByRecursion (λ act. is_break act ≡ false) acts → IsInStep world → Runs acts world answers after
+      → IsReportedBy acts answers after
+  reported_by acts world after answers all is runs =
+      let stands = forgotten_stands is.garbage world is.state is.stands in
+      let reached = run_behind acts (world.host.unread ++ world.up.bytes) world after answers (forgotten is.state) all
+      stands runs in
+      record {
+        start = forgotten is.state;
+        nothing_heard = refl;
+        nothing_sent = refl;
+        garbage = reached.garbage;
+        moves = reached.moves;
+        are_moves = reached.are_moves;
+        stands = reached.stands;
+        reported = was_reported (forgotten is.state) reached.moves stands.sound refl reached.plain;
+      }
+
+-- ---- what is known of the state
+
+both_known : (known seen : Option (List Piece)) → IsSome known → IsUnknownOr known seen → seen ≡ known
+both_known known seen some (inl none) = absurd (false≢true (ap is_some (sym none) ∙ some))
+both_known known seen some (inr same) = sym same
+
+still_known : (picture : Option (List Piece)) (up : List Content) → IsSome picture
+    → IsSome (picture_after_all picture up)
+still_known picture [] some = some
+still_known picture (message ∷ up) some =
+    still_known (picture_after picture message) up (picture_after_known picture message some)
+
+pub known_behind : (garbage : List ℕ) (world : WorldView) (x : MachineState) → StandsBehind garbage world x
+    → IsSome x.picture
+    → (world.host.picture ≡ x.picture)
+    × (picture_after_all world.host.picture x.up ≡ Some world.board.state.told_squares)
+known_behind garbage world x stands some =
+    let same : world.host.picture ≡ x.picture
+    = both_known x.picture world.host.picture some stands.picture in (
+      same,
+      rw (same, stands.board)
+          (sym (both_known (coming_picture x) (Some x.board.told_squares)
+          (still_known x.picture x.up some) stands.sound.picture)),
+    )

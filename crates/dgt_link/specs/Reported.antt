@@ -1,0 +1,54 @@
+-- What a picture that a host has between faults and quiet was, on the board, and when.
+use Rattle.std.specs.Prelude.{◌≡◌, ℕ, List, [], ◌∷◌, ◌++◌, ◌&&◌, if◌then◌else◌, Some, None}
+use Rattle.dgt_message.specs.Content.{Content, clock_message}
+use Rattle.dgt_board.specs.declared.replies.Reply.{Reply}
+use Rattle.dgt_board.specs.State.{BoardState, updates}
+use Rattle.dgt_board.specs.Sending.{differs, field_of, reply_message}
+use Rattle.dgt_link.specs.declared.acts.Outcome.{Outcome}
+use Rattle.dgt_link.specs.Act.{ActContent}
+use Rattle.dgt_link.specs.Healing.{StandsBehind}
+use Rattle.dgt_link.specs.Machine.{MachineState, Move, after_move, after_moves}
+use Rattle.dgt_link.specs.Sound.{IsUnknownOr}
+use Rattle.dgt_link.specs.Stands.{AreMovesOfRun}
+use Rattle.dgt_link.specs.View.{WorldView}
+
+-- the first of these replies, as a message
+abbrev pub first_reply : BoardState → List Reply → List Content
+first_reply board [] = []
+first_reply board (reply ∷ later) = reply_message board reply ∷ []
+
+-- the message that the board sends by a move, if it sends one
+abbrev pub sent_by : MachineState → Move → List Content
+sent_by x Move.Reply = first_reply x.board x.board.owed
+sent_by x (Move.Tell square) =
+    if updates x.board.mode && differs x.board square then field_of x.board square ∷ [] else []
+sent_by x Move.TellClock = if x.board.times_owed then clock_message x.board.clock ∷ [] else []
+sent_by x _ = []
+
+abbrev pub sent_by_all : MachineState → List Move → List Content
+sent_by_all x [] = []
+sent_by_all x (move ∷ moves) = sent_by x move ++ sent_by_all (after_move x move) moves
+
+-- After these moves the picture is unknown, or what the board had reported by the moment when it
+-- sent the last message that was heard: since then it has sent just the messages still under way.
+pub record WasReported (x : MachineState) (moves : List Move) : Type 0 where
+  pub earlier : List Move
+  pub later : List Move
+  pub split : moves ≡ earlier ++ later
+  pub sent : sent_by_all (after_moves x earlier) later ≡ (after_moves x moves).up
+  pub picture :
+      IsUnknownOr (after_moves x moves).picture
+      (Some (after_moves x earlier).board.told_squares)
+
+-- Behind some garbage the world after these acts stands for a state to which their moves lead from
+-- one that knows no picture and has no message under way. What that state knows was reported.
+pub record IsReportedBy (acts : List ActContent) (answers : List Outcome) (after : WorldView)
+    : Type 0 where
+  pub start : MachineState
+  pub nothing_heard : start.picture ≡ None
+  pub nothing_sent : start.up ≡ []
+  pub garbage : List ℕ
+  pub moves : List Move
+  pub are_moves : AreMovesOfRun acts answers moves
+  pub stands : StandsBehind garbage after (after_moves start moves)
+  pub reported : WasReported start moves

@@ -1,0 +1,250 @@
+//! How the picture and the clock of a host heal after faults of the lines and of the board's power.
+//! Nothing here runs: each function stands for the facts that its contract states.
+
+ghost use Rattle.std.specs.Prelude.{◌≡◌, ◌≢◌, ℕ, List, [], ◌∷◌, Some, None, IsSome, IsTrue, false, true};
+ghost use Rattle.std.specs.List.{AllByRecursion};
+ghost use Rattle.dgt_command.specs.Content.{CommandContent};
+ghost use Rattle.dgt_decode.specs.Grammar.{open_message};
+ghost use Rattle.dgt_board.specs.State.{command_mode, follows_clock, updates};
+ghost use Rattle.dgt_board.specs.declared.modes.Mode.{Mode};
+ghost use Rattle.dgt_link.specs.Machine.{IsHostBreak, MachineState, Move};
+ghost use Rattle.dgt_link.specs.Reported.{IsReportedBy, WasReported};
+ghost use Rattle.dgt_host.specs.Host.{picture_after_all};
+ghost use Rattle.dgt_link.specs.Act.{ActContent};
+ghost use Rattle.dgt_link.specs.Sound.{IsSound};
+ghost use Rattle.dgt_link.specs.Stands.{IsWorld};
+ghost use Rattle.dgt_link.specs.declared.acts.Outcome.{Outcome};
+ghost use Rattle.dgt_link.specs.Step.{Runs, Step};
+ghost use Rattle.dgt_link.specs.Settling.{SettlesIn};
+ghost use Rattle.dgt_link.specs.View.{IsQuietWorld, WorldView};
+ghost use Rattle.dgt_link.specs.Clocks.{IsClockFollowing, IsClockPromisedWorld, stops_clock};
+ghost use Rattle.dgt_link.specs.Faults.{AreCalm, FaultyContent, FaultyRuns, FaultyStep, begins_anew, is_break, is_fault, loses_step, stops};
+ghost use Rattle.dgt_link.specs.Healing.{IsClockHealing, IsFaultyWorld, IsFollowing, IsHealing, IsInStep, IsInStepBy, IsInTurn, IsPromisedWorld, IsRestedWorld, IsSane, StandsBehind, StandsBehindAfter, counted_by};
+
+/// An act that is no break, on a world that stands for a state behind garbage, leaves a world that
+/// stands behind garbage for a state to which the act's moves lead. Hearing garbage is no move.
+pub fn acts_behind_garbage()
+    ensures { (act : ActContent) (garbage : List ℕ) (world : WorldView) (answer : Outcome)
+        (after : WorldView) (x : MachineState) → is_break act ≡ false
+        → StandsBehind garbage world x → Step act world answer after
+        → StandsBehindAfter act answer world x after }
+{
+    dgt_decode::laws::begins_anew();
+    dgt_decode::laws::events_append();
+    dgt_decode::laws::open_append();
+    dgt_decode::laws::quiet_held();
+    dgt_decode::laws::spelling_is_read();
+    dgt_host::laws::places_do_not_matter();
+    dgt_command::laws::divisions_append();
+    dgt_command::laws::fronts_divide_first();
+    dgt_command::laws::parts_of_words();
+    dgt_command::laws::zeros_settle_the_reader();
+}
+
+/// A world without faults is sane, in step and has room. Whatever failed, a world is in step if its
+/// down line is empty and its board has no part of a command.
+pub fn worlds_are_in_step()
+    ensures empty { (world : WorldView) → IsSane world → world.down.bytes ≡ []
+        → world.board.partial ≡ [] → IsInStep world }
+    ensures in_step { (world : WorldView) → IsWorld world → IsInStep world }
+    ensures faulty { (world : WorldView) → IsWorld world → IsFaultyWorld world }
+{}
+
+/// Each act and each fault keeps a world sane, and keeps the room of its lines.
+pub fn faults_keep()
+    ensures { (act : FaultyContent) (world after : WorldView) (answer : Outcome) →
+        IsFaultyWorld world → FaultyStep act world answer after → IsFaultyWorld after }
+{
+    dgt_decode::laws::events_append();
+    dgt_decode::laws::open_append();
+    dgt_decode::laws::quiet_held();
+    dgt_decode::laws::spelling_is_read();
+    dgt_host::laws::places_do_not_matter();
+    dgt_command::laws::divisions_append();
+    dgt_command::laws::fronts_divide_first();
+    dgt_command::laws::parts_of_words();
+    dgt_command::laws::zeros_settle_the_reader();
+}
+
+/// After any list of acts and faults a sane world is sane. Its host's picture is the board's
+/// position once the world is quiet, if after the last fault the host began anew, or if only the up
+/// line failed and a dump was requested after that, and if the last command since then that sets a
+/// mode asks for updates. The same holds of the clock, of a reading that was requested.
+pub fn faults_heal()
+    ensures sane { (acts : List FaultyContent) (world after : WorldView) (answers : List Outcome) →
+        IsSane world → FaultyRuns acts world answers after → IsSane after }
+    ensures in_step { (acts : List FaultyContent) (world after : WorldView)
+        (answers : List Outcome) → IsSane world → FaultyRuns acts world answers after
+        → IsInStepBy acts answers
+        → IsInStep after }
+    ensures heals { (acts : List FaultyContent) (world after : WorldView) (answers : List Outcome) →
+        IsSane world → FaultyRuns acts world answers after
+        → IsHealing (counted_by false acts answers)
+        → IsQuietWorld after → after.host.picture ≡ Some after.board.state.squares }
+    ensures promised { (acts : List FaultyContent) (world after : WorldView)
+        (answers : List Outcome) → IsSane world → FaultyRuns acts world answers after
+        → IsHealing (counted_by false acts answers) → IsPromisedWorld after }
+    ensures dump_promised { (acts : List FaultyContent) (world after : WorldView)
+        (answers : List Outcome) → IsSane world → IsInStep world
+        → FaultyRuns acts world answers after
+        → IsHealing (counted_by true acts answers) → IsPromisedWorld after }
+    ensures dump_heals { (acts : List FaultyContent) (world after : WorldView)
+        (answers : List Outcome) → IsSane world → IsInStep world
+        → FaultyRuns acts world answers after
+        → IsHealing (counted_by true acts answers)
+        → IsQuietWorld after → after.host.picture ≡ Some after.board.state.squares }
+    ensures awaited { (acts : List FaultyContent) (world after : WorldView)
+        (answers : List Outcome) → IsSane world → FaultyRuns acts world answers after
+        → IsInTurn (counted_by false acts answers) → IsQuietWorld after
+        → after.host.awaited ≡ [] }
+    ensures clock_promised { (acts : List FaultyContent) (world after : WorldView)
+        (answers : List Outcome) → IsSane world → FaultyRuns acts world answers after
+        → IsClockHealing (counted_by false acts answers) → IsClockPromisedWorld after }
+    ensures reading_promised { (acts : List FaultyContent) (world after : WorldView)
+        (answers : List Outcome) → IsSane world → IsInStep world
+        → FaultyRuns acts world answers after
+        → IsClockHealing (counted_by true acts answers) → IsClockPromisedWorld after }
+{
+    dgt_decode::laws::begins_anew();
+    dgt_decode::laws::events_append();
+    dgt_decode::laws::open_append();
+    dgt_decode::laws::quiet_held();
+    dgt_decode::laws::spelling_is_read();
+    dgt_host::laws::places_do_not_matter();
+    dgt_command::laws::divisions_append();
+    dgt_command::laws::fronts_divide_first();
+    dgt_command::laws::one_division();
+    dgt_command::laws::parts_of_words();
+    dgt_command::laws::zeros_settle_the_reader();
+}
+
+/// A promised world stays promised while it settles, and is quiet once it rests. Its picture is the
+/// board's position then.
+pub fn promised_worlds_heal()
+    ensures kept { (count : ℕ) (world after : WorldView) → SettlesIn count world after
+        → IsPromisedWorld world → IsPromisedWorld after }
+    ensures quiet { (world : WorldView) → IsPromisedWorld world → IsRestedWorld world
+        → open_message world.host.unread ≡ world.host.unread → IsQuietWorld world }
+    ensures picture { (world : WorldView) → IsPromisedWorld world → IsQuietWorld world
+        → world.host.picture ≡ Some world.board.state.squares }
+{
+    acts_behind_garbage();
+    dgt_decode::laws::events_append();
+    dgt_decode::laws::open_append();
+    dgt_decode::laws::quiet_held();
+    dgt_decode::laws::spelling_is_read();
+    dgt_host::laws::places_do_not_matter();
+    dgt_command::laws::one_division();
+}
+
+/// What one act does to the grades of hope. Beginning anew promises that the picture heals. A fault
+/// of the up line leaves a world in step and following, and a dump that is requested then promises
+/// that it heals. Only a fault, a break that both sides see, and a reset end these grades.
+pub fn steps_heal()
+    ensures anew { (act : FaultyContent) (world after : WorldView) → begins_anew act ≡ true
+        → IsSane world → FaultyStep act world Outcome.Done after → IsPromisedWorld after }
+    ensures in_step { (act : FaultyContent) (world after : WorldView) (answer : Outcome) →
+        loses_step act ≡ false → IsSane world → IsInStep world
+        → FaultyStep act world answer after → IsInStep after }
+    ensures asked { (command : CommandContent) (mode : Mode) (world after : WorldView) →
+        command_mode command ≡ Some mode → IsTrue (updates mode) → IsInStep world
+        → FaultyStep (FaultyContent.Plain (ActContent.Host command)) world Outcome.Done after
+        → IsFollowing after }
+    ensures following { (act : FaultyContent) (world after : WorldView) (answer : Outcome) →
+        loses_step act ≡ false → stops act ≡ false → IsSane world → IsFollowing world
+        → FaultyStep act world answer after → IsFollowing after }
+    ensures dump { (world after : WorldView) → IsFollowing world
+        → FaultyStep (FaultyContent.Plain (ActContent.Host CommandContent.Dump)) world Outcome.Done
+        after → IsPromisedWorld after }
+    ensures kept { (act : FaultyContent) (world after : WorldView) (answer : Outcome) →
+        is_fault act ≡ false → stops act ≡ false → IsSane world → IsPromisedWorld world
+        → FaultyStep act world answer after → IsPromisedWorld after }
+{
+    acts_behind_garbage();
+    dgt_decode::laws::events_append();
+    dgt_decode::laws::open_append();
+    dgt_decode::laws::quiet_held();
+    dgt_decode::laws::spelling_is_read();
+    dgt_host::laws::places_do_not_matter();
+    dgt_command::laws::divisions_append();
+    dgt_command::laws::fronts_divide_first();
+    dgt_command::laws::one_division();
+    dgt_command::laws::parts_of_words();
+    dgt_command::laws::zeros_settle_the_reader();
+}
+
+/// The theorem without counting. Whatever was done and whatever failed before: once the host has
+/// begun anew, the host's picture is the board's position whenever the world is quiet, as long as
+/// nothing fails again, no reset is sent and no break comes that both sides see. If only the up
+/// line failed and the board's mode to come asks for updates, a dump is enough.
+pub fn calm_heals()
+    ensures restart { (acts later : List FaultyContent) (act : FaultyContent)
+        (world between begun after : WorldView) (answers others : List Outcome) →
+        IsSane world → FaultyRuns acts world answers between
+        → begins_anew act ≡ true → FaultyStep act between Outcome.Done begun
+        → AreCalm later → FaultyRuns later begun others after → IsQuietWorld after
+        → after.host.picture ≡ Some after.board.state.squares }
+    ensures dump { (acts later : List FaultyContent) (world between begun after : WorldView)
+        (answers others : List Outcome) →
+        AllByRecursion (λ act. (loses_step act ≡ false) × (stops act ≡ false)) acts
+        → IsSane world → IsFollowing world → FaultyRuns acts world answers between
+        → FaultyStep (FaultyContent.Plain (ActContent.Host CommandContent.Dump)) between
+        Outcome.Done begun → AreCalm later → FaultyRuns later begun others after
+        → IsQuietWorld after → after.host.picture ≡ Some after.board.state.squares }
+{
+    faults_heal();
+    promised_worlds_heal();
+    steps_heal();
+}
+
+/// What one act does to the host's clock, whatever failed before. In a world in step whose mode to
+/// come follows the clock, a reading that is requested promises the clock, and so does the mode
+/// itself if the board has reported no reading since it was made or lost the line or its power.
+/// Only a fault, a break, a restart, a reset and a mode that doesn't follow the clock end that. At
+/// quiet the host's clock is the board's.
+pub fn clocks_heal()
+    ensures asked { (command : CommandContent) (mode : Mode) (world after : WorldView) →
+        command_mode command ≡ Some mode → IsTrue (follows_clock mode) → IsInStep world
+        → FaultyStep (FaultyContent.Plain (ActContent.Host command)) world Outcome.Done after
+        → IsClockFollowing after }
+    ensures owed { (command : CommandContent) (mode : Mode) (world after : WorldView) →
+        command_mode command ≡ Some mode → IsTrue (follows_clock mode)
+        → world.board.state.told_clock ≡ None → IsInStep world
+        → FaultyStep (FaultyContent.Plain (ActContent.Host command)) world Outcome.Done after
+        → IsClockPromisedWorld after }
+    ensures following { (act : FaultyContent) (world after : WorldView) (answer : Outcome) →
+        loses_step act ≡ false → stops_clock act ≡ false → IsClockFollowing world
+        → FaultyStep act world answer after → IsClockFollowing after }
+    ensures reading { (world after : WorldView) → IsClockFollowing world
+        → FaultyStep (FaultyContent.Plain (ActContent.Host CommandContent.Clock)) world Outcome.Done
+        after → IsClockPromisedWorld after }
+    ensures kept { (act : FaultyContent) (world after : WorldView) (answer : Outcome) →
+        is_fault act ≡ false → stops_clock act ≡ false → IsClockPromisedWorld world
+        → FaultyStep act world answer after → IsClockPromisedWorld after }
+    ensures settled { (count : ℕ) (world after : WorldView) → SettlesIn count world after
+        → IsClockPromisedWorld world → IsClockPromisedWorld after }
+    ensures clock { (world : WorldView) → IsClockPromisedWorld world → IsQuietWorld world
+        → world.host.clock ≡ Some world.board.state.clock }
+{
+    acts_behind_garbage();
+    dgt_command::laws::one_division();
+}
+
+/// Between the faults and quiet. From any world in step on, the world stands behind some garbage
+/// for a state that begins with no picture. Once that state knows a picture, by a dump that the
+/// board has sent since then, no garbage counts any more: the host's picture is what the board had
+/// reported when it sent the last message that was heard, and the messages under way make it what
+/// the board has reported by now.
+pub fn pictures_were_reported()
+    ensures moves { (x : MachineState) (moves : List Move) → IsSound x → x.up ≡ []
+        → AllByRecursion (λ move. (move ≢ Move.Break) × (¬ (IsHostBreak move))) moves
+        → WasReported x moves }
+    ensures acts { (acts : List ActContent) (world after : WorldView) (answers : List Outcome) →
+        AllByRecursion (λ act. is_break act ≡ false) acts → IsInStep world
+        → Runs acts world answers after → IsReportedBy acts answers after }
+    ensures known { (garbage : List ℕ) (world : WorldView) (x : MachineState) →
+        StandsBehind garbage world x → IsSome x.picture → (world.host.picture ≡ x.picture)
+        × (picture_after_all world.host.picture x.up ≡ Some world.board.state.told_squares) }
+{
+    acts_behind_garbage();
+}
