@@ -1,5 +1,6 @@
 pub mod ScriptWordLemmas
 pub mod ScriptLemmas
 pub mod MeaningLemmas
+pub mod FaultyMeaning
 pub mod KeepLemmas
 pub mod ClosingLemmas

@@ -6,7 +6,7 @@ use Rattle.dgt_link.specs.Act.{ActContent, Change, ClockRead, Host, BoardSend, T
 use Rattle.dgt_script.specs.declared.script_words.Verb.{Verb}
 use Rattle.dgt_script.specs.declared.script_words.Verb.TheVariants as verb
 use Rattle.dgt_lines.specs.Lines.{words_text}
-use Rattle.dgt_script.specs.Script.{AreOf, Asks, GoesWrong, AsksFor, IsBadAt, IsBadFrom, WordKind, kinds_after, words}
+use Rattle.dgt_script.specs.Script.{AreOf, Asks, GoesWrong, AsksFor, IsBadAt, IsBadFrom, IsBadIn, WordKind, kinds_after, words}
 use Rattle.dgt_script.specs.ScriptWords.{verb_text, IsClockWord, IsCommandWord, IsCountWord, IsPieceWord, IsSquareWord}
 use Rattle.dgt_script.proofs.ScriptWordLemmas.{IsRead, one_clock, one_command, one_count, one_piece, one_square}
 
@@ -32,7 +32,7 @@ one_wrong (kind ∷ kinds) (word ∷ parts) a b (inr g) (inr h) = one_wrong kind
 
 -- ---- The first word
 
-abbrev verb_named : List ℕ → Option Verb
+abbrev pub verb_named : List ℕ → Option Verb
 verb_named word =
     if bytes_eq word (verb_text verb.Change) then Some verb.Change
     else if bytes_eq word (verb_text verb.Clock) then Some verb.Clock
@@ -55,16 +55,20 @@ verb_named-verb_text verb.Break = refl
 verb_named-verb_text verb.HostBreak = refl
 
 -- a word is one verb at most
-one_verb : (a b : Verb) → verb_text a ≡ verb_text b → a ≡ b
+pub one_verb : (a b : Verb) → verb_text a ≡ verb_text b → a ≡ b
 one_verb a b h = let e : Some a ≡ Some b = sym (verb_named-verb_text a) ∙ ap verb_named h ∙ verb_named-verb_text b in
     cc e
 
-one_first : (a b : Verb) (rest later : List (List ℕ)) → verb_text a ∷ rest ≡ verb_text b ∷ later → (a ≡ b)
-    × (rest ≡ later)
-one_first a b rest later h = (one_verb a b cc, cc)
+-- no two first words have one text
+abbrev pub AreApart : {V : Type 0} → (V → List ℕ) → Type 0
+AreApart {V} text_of = (a b : V) → text_of a ≡ text_of b → a ≡ b
+
+pub one_first : {V : Type 0} (text_of : V → List ℕ) → AreApart text_of → (a b : V) (rest later : List (List ℕ))
+    → text_of a ∷ rest ≡ text_of b ∷ later → (a ≡ b) × (rest ≡ later)
+one_first text_of apart a b rest later h = (apart a b cc, cc)
 
 -- the first word of a line that asks for the act
-abbrev verb_of : ActContent → Verb
+abbrev pub verb_of : ActContent → Verb
 verb_of (Change square piece) = verb.Change
 verb_of (ClockRead clock) = verb.Clock
 verb_of (Host command) = verb.Host
@@ -74,7 +78,7 @@ verb_of (ToHost count) = verb.ToHost
 verb_of Break = verb.Break
 verb_of HostBreak = verb.HostBreak
 
-asks_in_order : (parts : List (List ℕ)) (act : ActContent) → Asks parts act → (rest : List (List ℕ))
+pub asks_in_order : (parts : List (List ℕ)) (act : ActContent) → Asks parts act → (rest : List (List ℕ))
     × (parts ≡ verb_text (verb_of act) ∷ rest) × AreOf (kinds_after (verb_of act)) rest
 asks_in_order parts (Change square piece) h = (h.0 ∷ h.1 ∷ [], h.2, ((square, h.3), ((piece, h.4), tt)))
 asks_in_order parts (ClockRead clock) h = (h.0 ∷ [], h.1, ((clock, h.2), tt))
@@ -115,7 +119,7 @@ asked_kinds : (named : Verb) (rest : List (List ℕ)) (act : ActContent) → Ask
     → AreOf (kinds_after named) rest
 asked_kinds named rest act h =
     let p = asks_in_order (verb_text named ∷ rest) act h in
-    let same = one_first named (verb_of act) rest p.0 p.1 in
+    let same = one_first verb_text one_verb named (verb_of act) rest p.0 p.1 in
     subst (λ v. AreOf (kinds_after v) rest) (sym same.0)
     (subst (λ l. AreOf (kinds_after (verb_of act)) l) (sym same.1) p.2)
 
@@ -127,7 +131,7 @@ kinds_are_asked_for named rest = (kinds_ask named rest, λ h. asked_kinds named 
 -- ---- Lines
 
 -- behind one first word, one word
-same_word : (parts : List (List ℕ)) (first a b : List ℕ) → parts ≡ first ∷ a ∷ [] → parts ≡ first ∷ b ∷ [] → a ≡ b
+pub same_word : (parts : List (List ℕ)) (first a b : List ℕ) → parts ≡ first ∷ a ∷ [] → parts ≡ first ∷ b ∷ [] → a ≡ b
 same_word parts first a b h k = let both : first ∷ a ∷ [] ≡ first ∷ b ∷ [] = sym h ∙ k in cc both
 
 same_first : IsRead → SpellingsTellCommands → (parts : List (List ℕ)) (a b : ActContent) → verb_of a ≡ verb_of b
@@ -163,34 +167,53 @@ pub one_act : IsRead → SpellingsTellCommands → (line : List ℕ) (a b : ActC
 one_act exact tells line a b h k =
     let p = asks_in_order (words line) a h.1 in
     let q = asks_in_order (words line) b k.1 in
-    same_first exact tells (words line) a b (one_first (verb_of a) (verb_of b) p.0 q.0 (sym p.1 ∙ q.1)).0 h.1 k.1
+    same_first exact tells (words line) a b
+    (one_first verb_text one_verb (verb_of a) (verb_of b) p.0 q.0 (sym p.1 ∙ q.1)).0 h.1 k.1
 
-asks_not_bad : (parts bad : List (List ℕ)) (act : ActContent) → Asks parts act → IsBadFrom parts bad → ⊥
-asks_not_bad parts bad act h (inl g) = let p = asks_in_order parts act h in g.0 (verb_of act) p.0 p.1
-asks_not_bad parts bad act h (inr g) =
-    let p = asks_in_order parts act h in
-    let same = one_first (verb_of act) g.0 p.0 g.1 (sym p.1 ∙ g.2) in
-    allowed_not_wrong (kinds_after g.0) g.1 bad
-    (subst (λ rest. AreOf (kinds_after g.0) rest) same.1 (subst (λ v. AreOf (kinds_after v) p.0) same.0 p.2)) g.3
+-- ---- Lines that go wrong
+
+-- the words of a line begin with a first word, and those that have to follow it are after it
+abbrev pub IsInOrder : {V : Type 0} → (V → List ℕ) → (V → List WordKind) → List (List ℕ) → Type 0
+IsInOrder {V} text_of kinds_of parts =
+    (first : V) × (rest : List (List ℕ)) × (parts ≡ text_of first ∷ rest) × AreOf (kinds_of first) rest
+
+in_order_not_bad : {V : Type 0} (text_of : V → List ℕ) (kinds_of : V → List WordKind) → AreApart text_of
+    → (parts bad : List (List ℕ)) → IsInOrder text_of kinds_of parts → IsBadFrom text_of kinds_of parts bad → ⊥
+in_order_not_bad text_of kinds_of apart parts bad p (inl g) = g.0 p.0 p.1 p.2
+in_order_not_bad text_of kinds_of apart parts bad p (inr g) =
+    let same = one_first text_of apart p.0 g.0 p.1 g.1 (sym p.2 ∙ g.2) in
+    allowed_not_wrong (kinds_of g.0) g.1 bad
+    (subst (λ rest. AreOf (kinds_of g.0) rest) same.1 (subst (λ v. AreOf (kinds_of v) p.1) same.0 p.3)) g.3
+
+pub right_not_bad : {V : Type 0} (text_of : V → List ℕ) (kinds_of : V → List WordKind) → AreApart text_of
+    → (line : List ℕ) (at : ℕ) → length line ≤ 519 → IsInOrder text_of kinds_of (words line)
+    → IsBadIn text_of kinds_of line at → ⊥
+right_not_bad text_of kinds_of apart line at short p (inl g) = absurd (omega (arith, short))
+right_not_bad text_of kinds_of apart line at short p (inr g) =
+    in_order_not_bad text_of kinds_of apart (words line) g.1 p g.2
 
 pub asked_not_bad : (line : List ℕ) (act : ActContent) (at : ℕ) → AsksFor line act → IsBadAt line at → ⊥
-asked_not_bad line act at h (inl g) = absurd (omega (arith, h.0))
-asked_not_bad line act at h (inr g) = asks_not_bad (words line) g.1 act h.1 g.2
+asked_not_bad line act at h =
+    let p = asks_in_order (words line) act h.1 in
+    right_not_bad verb_text kinds_after one_verb line at h.0 (verb_of act, p.0, p.1, p.2)
 
-one_bad_from : (parts a b : List (List ℕ)) → IsBadFrom parts a → IsBadFrom parts b → a ≡ b
-one_bad_from parts a b (inl g) (inl h) = g.1 ∙ sym h.1
-one_bad_from parts a b (inl g) (inr h) = absurd (g.0 h.0 h.1 h.2)
-one_bad_from parts a b (inr g) (inl h) = absurd (h.0 g.0 g.1 g.2)
-one_bad_from parts a b (inr g) (inr h) =
-    let same = one_first g.0 h.0 g.1 h.1 (sym g.2 ∙ h.2) in
-    one_wrong (kinds_after h.0) h.1 a b
-    (subst (λ rest. GoesWrong (kinds_after h.0) rest a) same.1
-    (subst (λ v. GoesWrong (kinds_after v) g.1 a) same.0 g.3)) h.3
+one_bad_from : {V : Type 0} (text_of : V → List ℕ) (kinds_of : V → List WordKind) → AreApart text_of
+    → (parts a b : List (List ℕ)) → IsBadFrom text_of kinds_of parts a → IsBadFrom text_of kinds_of parts b → a ≡ b
+one_bad_from text_of kinds_of apart parts a b (inl g) (inl h) = g.1 ∙ sym h.1
+one_bad_from text_of kinds_of apart parts a b (inl g) (inr h) = absurd (g.0 h.0 h.1 h.2)
+one_bad_from text_of kinds_of apart parts a b (inr g) (inl h) = absurd (h.0 g.0 g.1 g.2)
+one_bad_from text_of kinds_of apart parts a b (inr g) (inr h) =
+    let same = one_first text_of apart g.0 h.0 g.1 h.1 (sym g.2 ∙ h.2) in
+    one_wrong (kinds_of h.0) h.1 a b
+    (subst (λ rest. GoesWrong (kinds_of h.0) rest a) same.1
+    (subst (λ v. GoesWrong (kinds_of v) g.1 a) same.0 g.3)) h.3
 
-pub one_place : (line : List ℕ) (a b : ℕ) → IsBadAt line a → IsBadAt line b → a ≡ b
-one_place line a b (inl g) (inl h) = g.1 ∙ sym h.1
-one_place line a b (inl g) (inr h) = absurd (omega (arith, g.0, h.0))
-one_place line a b (inr g) (inl h) = absurd (omega (arith, g.0, h.0))
-one_place line a b (inr g) (inr h) =
-    let same = ap (λ bad. length (words_text bad)) (one_bad_from (words line) g.1 h.1 g.2 h.2) in
+pub one_place : {V : Type 0} (text_of : V → List ℕ) (kinds_of : V → List WordKind) → AreApart text_of
+    → (line : List ℕ) (a b : ℕ) → IsBadIn text_of kinds_of line a → IsBadIn text_of kinds_of line b → a ≡ b
+one_place text_of kinds_of apart line a b (inl g) (inl h) = g.1 ∙ sym h.1
+one_place text_of kinds_of apart line a b (inl g) (inr h) = absurd (omega (arith, g.0, h.0))
+one_place text_of kinds_of apart line a b (inr g) (inl h) = absurd (omega (arith, g.0, h.0))
+one_place text_of kinds_of apart line a b (inr g) (inr h) =
+    let same = ap (λ bad. length (words_text bad))
+    (one_bad_from text_of kinds_of apart (words line) g.1 h.1 g.2 h.2) in
     omega (arith, g.3, h.3)

@@ -8,12 +8,10 @@ use Rattle.std.proofs.lemmas.Bool.Decides.{eqb_tells}
 use Rattle.std.proofs.lemmas.List.{get_or-take, length-drop, length-take-le, take_all}
 use Rattle.std.proofs.lemmas.List.Splits.{join_with_byte-slice_split, length-slice_split, slice_split_first, slice_split_none}
 use Rattle.std.proofs.lemmas.List.Sums.{fails_before_first, position_or_len_is}
-use Rattle.dgt_script.specs.declared.script_words.Verb.{Verb}
 use Rattle.dgt_script.specs.declared.script.Wrong.{Wrong}
 use Rattle.dgt_lines.specs.Lines.{words_text}
-use Rattle.dgt_script.specs.Script.{GoesWrong, IsBadAt, IsBadFrom, IsOf, WordKind, kinds_after, words}
-use Rattle.dgt_script.specs.ScriptWords.{verb_text}
-use Rattle.dgt_script.specs.ScriptReading.{left_words, GoesWrongBefore}
+use Rattle.dgt_script.specs.Script.{GoesWrong, IsBadFrom, IsBadIn, IsOf, WordKind, words}
+use Rattle.dgt_script.specs.ScriptReading.{left_words, GoesWrongBefore, IsBadBefore}
 
 -- the words of a line make the line
 pub words_text-words : (line : List ℕ) → words_text (words line) ≡ line
@@ -59,12 +57,13 @@ goes_wrong_within (kind ∷ kinds) (word ∷ parts) bad (inr h) =
     let shorter = words_text-tail word parts in
     omega arith
 
-pub bad_within : (parts bad : List (List ℕ)) → IsBadFrom parts bad → length (words_text bad) ≤ length (words_text parts)
-bad_within parts bad (inl h) = let e = ap (λ l. length (words_text l)) h.1 in omega arith
-bad_within parts bad (inr h) =
+pub bad_within : {V : Type 0} (text_of : V → List ℕ) (kinds_of : V → List WordKind) (parts bad : List (List ℕ))
+    → IsBadFrom text_of kinds_of parts bad → length (words_text bad) ≤ length (words_text parts)
+bad_within text_of kinds_of parts bad (inl h) = let e = ap (λ l. length (words_text l)) h.1 in omega arith
+bad_within text_of kinds_of parts bad (inr h) =
     let whole = ap (λ l. length (words_text l)) h.2 in
-    let later = goes_wrong_within (kinds_after h.0) h.1 bad h.3 in
-    let shorter = words_text-tail (verb_text h.0) h.1 in
+    let later = goes_wrong_within (kinds_of h.0) h.1 bad h.3 in
+    let shorter = words_text-tail (text_of h.0) h.1 in
     omega arith
 
 -- ---- The first word
@@ -113,17 +112,19 @@ word_refused kind kinds (first ∷ parts) rest word wrong e refused k =
     (first ∷ parts, inl (λ of. refused (subst (λ w. IsOf kind w) same of), refl), k)
 
 -- a first word that is not allowed
-pub verb_refused : (parts rest : List (List ℕ)) (first : List ℕ) → parts ≡ first ∷ rest
-    → ((verb : Verb) → first ≢ verb_text verb) → IsBadFrom parts parts
-verb_refused parts rest first e refused =
-    inl (λ verb later h. refused verb (let both : first ∷ rest ≡ verb_text verb ∷ later = sym e ∙ h in cc both), refl)
+pub verb_refused : {V : Type 0} (text_of : V → List ℕ) (kinds_of : V → List WordKind) (parts rest : List (List ℕ))
+    (first : List ℕ) → parts ≡ first ∷ rest → ((verb : V) → first ≢ text_of verb)
+    → IsBadFrom text_of kinds_of parts parts
+verb_refused text_of kinds_of parts rest first e refused =
+    inl (λ verb later h. refused verb (let both : first ∷ rest ≡ text_of verb ∷ later = sym e ∙ h in cc both), refl)
 
-pub left_within : (line : List ℕ) (left : ℕ) → (bad : List (List ℕ)) × IsBadFrom (words line) bad
-    × (left ≡ length (words_text bad)) → left ≤ length line
-left_within line left h = let within = bad_within (words line) h.0 h.1 in let whole = length-words line in
-    let e = h.2 in omega arith
+pub left_within : {V : Type 0} (text_of : V → List ℕ) (kinds_of : V → List WordKind) (line : List ℕ) (wrong : Wrong)
+    → IsBadBefore text_of kinds_of (words line) wrong → wrong.left ≤ length line
+left_within text_of kinds_of line wrong h = let within = bad_within text_of kinds_of (words line) h.0 h.1 in
+    let whole = length-words line in let e = h.2 in omega arith
 
-pub bad_from_there : (line : List ℕ) (left : ℕ) → length line ≤ 519 → (bad : List (List ℕ))
-    × IsBadFrom (words line) bad × (left ≡ length (words_text bad)) → IsBadAt line (length line - left)
-bad_from_there line left short h = let within = left_within line left h in let e = h.2 in
-    inr (short, h.0, h.1, omega arith)
+pub bad_from_there : {V : Type 0} (text_of : V → List ℕ) (kinds_of : V → List WordKind) (line : List ℕ) (wrong : Wrong)
+    → length line ≤ 519 → IsBadBefore text_of kinds_of (words line) wrong
+    → IsBadIn text_of kinds_of line (length line - wrong.left)
+bad_from_there text_of kinds_of line wrong short h = let within = left_within text_of kinds_of line wrong h in
+    let e = h.2 in inr (short, h.0, h.1, omega arith)

@@ -1,6 +1,7 @@
 -- what public contracts cite
 pub mod ScriptWords
 pub mod Script
+pub mod FaultyScript
 pub mod ScriptLines
 pub mod Closing
 -- for bodies alone

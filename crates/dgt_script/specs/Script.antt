@@ -10,7 +10,7 @@ use Rattle.dgt_script.specs.declared.script.LineFault.TheVariants.{BadLine}
 use Rattle.dgt_script.specs.declared.script_words.Verb.{Verb}
 use Rattle.dgt_script.specs.declared.script_words.Verb.TheVariants as verb
 use Rattle.dgt_lines.specs.Lines.{words_text}
-use Rattle.dgt_script.specs.ScriptWords.{verb_text, IsSquareWord, IsPieceWord, IsClockWord, IsCommandWord, IsCountWord}
+use Rattle.dgt_script.specs.ScriptWords.{verb_text, IsBytesWord, IsSquareWord, IsPieceWord, IsClockWord, IsCommandWord, IsCountWord}
 
 -- the words of a line are its parts between single spaces; an empty part is an empty word
 abbrev pub words : List ℕ → List (List ℕ)
@@ -48,6 +48,7 @@ pub data WordKind : Type 0 where
   a_clock : WordKind
   a_command : WordKind
   a_count : WordKind
+  some_bytes : WordKind
 
 -- the word is of this kind
 abbrev pub IsOf : WordKind → List ℕ → Type 0
@@ -56,6 +57,7 @@ IsOf a_letter word = (piece : Piece) × IsPieceWord word piece
 IsOf a_clock word = (clock : ClockState) × IsClockWord word clock
 IsOf a_command word = (command : CommandContent) × IsCommandWord word command
 IsOf a_count word = (count : ℕ) × IsCountWord word count
+IsOf some_bytes word = (bytes : List ℕ) × IsBytesWord word bytes
 
 -- what has to follow a first word, word for word
 abbrev pub kinds_after : Verb → List WordKind
@@ -85,20 +87,26 @@ GoesWrong (kind ∷ kinds) [] bad = bad ≡ []
 GoesWrong (kind ∷ kinds) (word ∷ parts) bad = ((¬ IsOf kind word) × (bad ≡ word ∷ parts))
     ⊎ (IsOf kind word × GoesWrong kinds parts bad)
 
--- the words of a line go wrong where `bad` begins: at the first, or behind a first one that is
--- allowed
-abbrev pub IsBadFrom : List (List ℕ) → List (List ℕ) → Type 0
-IsBadFrom parts bad =
-    (((verb : Verb) (rest : List (List ℕ)) → parts ≢ verb_text verb ∷ rest) × (bad ≡ parts))
-    ⊎ ((verb : Verb) × (rest : List (List ℕ)) × (parts ≡ verb_text verb ∷ rest)
-    × GoesWrong (kinds_after verb) rest bad)
+-- the words of a line go wrong where `bad` begins: at the first, if it is none of these texts, or
+-- after it; `kinds_of` are the kinds of the words after a first one
+abbrev pub IsBadFrom : {V : Type 0} → (V → List ℕ) → (V → List WordKind) → List (List ℕ)
+    → List (List ℕ) → Type 0
+IsBadFrom {V} text_of kinds_of parts bad =
+    (((verb : V) (rest : List (List ℕ)) → parts ≢ text_of verb ∷ rest) × (bad ≡ parts))
+    ⊎ ((verb : V) × (rest : List (List ℕ)) × (parts ≡ text_of verb ∷ rest)
+    × GoesWrong (kinds_of verb) rest bad)
 
--- this line asks for no act, and goes wrong at this offset, behind which the bad words stand
-abbrev pub IsBadAt : List ℕ → ℕ → Type 0
-IsBadAt line at =
+-- with these first words the line asks for no act, and goes wrong at this offset, where the bad
+-- words begin
+abbrev pub IsBadIn : {V : Type 0} → (V → List ℕ) → (V → List WordKind) → List ℕ → ℕ → Type 0
+IsBadIn text_of kinds_of line at =
     ((519 < length line) × (at ≡ 519))
-    ⊎ ((length line ≤ 519) × (bad : List (List ℕ)) × IsBadFrom (words line) bad
+    ⊎ ((length line ≤ 519) × (bad : List (List ℕ)) × IsBadFrom text_of kinds_of (words line) bad
     × (at + length (words_text bad) ≡ length line))
+
+-- this line asks for no act, and goes wrong at this offset
+abbrev pub IsBadAt : List ℕ → ℕ → Type 0
+IsBadAt line at = IsBadIn verb_text kinds_after line at
 
 -- the offset that is told
 abbrev pub bad_offset : LineFault → ℕ

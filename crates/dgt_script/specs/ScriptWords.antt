@@ -1,5 +1,5 @@
 -- The words of a script line, and what each one stands for.
-use Rattle.std.specs.Prelude.{◌≡◌, ℕ, ◌<◌, ◌≤◌, List, [], ◌∷◌, Ok, codes, decimal}
+use Rattle.std.specs.Prelude.{◌≡◌, ℕ, ◌<◌, ◌≤◌, ◌⊎◌, List, [], ◌∷◌, Ok, codes, decimal, length}
 use Rattle.hex.specs.Hex.{decode_of}
 use Rattle.dgt_values.specs.declared.pieces.Piece.{Piece}
 use Rattle.dgt_values.specs.Board.{piece_letter, square_name}
@@ -59,3 +59,9 @@ pub record IsCommandWord (word : List ℕ) (command : CommandContent) : Type 0 w
 -- a number from 1 to 65535 in decimal, with no leading zero
 abbrev pub IsCountWord : List ℕ → ℕ → Type 0
 IsCountWord word count = (1 ≤ count) × (count ≤ 65535) × (word ≡ decimal count)
+
+-- `-` for no byte, or hexadecimal digits of 1 to 257 bytes
+abbrev pub IsBytesWord : List ℕ → List ℕ → Type 0
+IsBytesWord word bytes =
+    ((word ≡ codes "-") × (bytes ≡ []))
+    ⊎ ((1 ≤ length bytes) × (length bytes ≤ 257) × IsHexOf word bytes)

@@ -1,14 +1,16 @@
 //! What is written of what comes of an act, and of a world at the end.
 
-ghost use Rattle.std.specs.Prelude.{◌≡◌, ◌+◌, ◌↔◌, ◌≤◌, ◌++◌, Bool, IsTrue, codes, length};
+ghost use Rattle.std.specs.Prelude.{◌≡◌, ◌+◌, ◌≤◌, ◌++◌, codes, length};
 ghost use Rattle.dgt_values.specs.Board.{pieces_of};
 ghost use Rattle.dgt_values.specs.Placement.{placement_text};
-ghost use Rattle.dgt_link.specs.View.{IsQuietWorld};
+ghost use Rattle.dgt_link.specs.View.{WorldView};
 ghost use Rattle.dgt_script.specs.Closing.{clock_text, closing_lines, named_line, outcome_line, picture_text, quiet_text};
 ghost use Rattle.dgt_lines.specs.Writing.{Writes};
 
+use dgt_board::Board;
+use dgt_host::Host;
 use dgt_lines::{Outgoing, RunFault, Sink, push_clock};
-use dgt_link::{Outcome, World};
+use dgt_link::Outcome;
 use dgt_values::Position;
 
 // Room for the closing lines.
@@ -35,39 +37,39 @@ fn push_placement(text: &mut Outgoing<CLOSING_ROOM>, position: &Position)
     text.push(position.placement().as_bytes());
 }
 
-fn push_board(text: &mut Outgoing<CLOSING_ROOM>, world: &World)
+fn push_board(text: &mut Outgoing<CLOSING_ROOM>, board: &Board)
     requires { length text.old + 100 ≤ CLOSING_ROOM }
     ensures text { text.new ≡ text.old
-        ++ named_line (codes "board") (placement_text world.now.board.state.squares) }
+        ++ named_line (codes "board") (placement_text board.now.state.squares) }
     ensures room { length text.new ≤ length text.old + 100 }
 {
     text.push(b"board ");
-    push_placement(text, world.board().position());
+    push_placement(text, board.position());
     text.push(b"\n");
 }
 
-fn push_picture(text: &mut Outgoing<CLOSING_ROOM>, world: &World)
+fn push_picture(text: &mut Outgoing<CLOSING_ROOM>, host: &Host)
     requires { length text.old + 100 ≤ CLOSING_ROOM }
     ensures text { text.new ≡ text.old
-        ++ named_line (codes "host") (picture_text world.now.host.picture) }
+        ++ named_line (codes "host") (picture_text host.now.picture) }
     ensures room { length text.new ≤ length text.old + 100 }
 {
     text.push(b"host ");
-    match world.host().picture() {
+    match host.picture() {
         Some(position) => push_placement(text, position),
         None => text.push(b"unknown"),
     }
     text.push(b"\n");
 }
 
-fn push_host_clock(text: &mut Outgoing<CLOSING_ROOM>, world: &World)
+fn push_host_clock(text: &mut Outgoing<CLOSING_ROOM>, host: &Host)
     requires { length text.old + 110 ≤ CLOSING_ROOM }
     ensures text { text.new ≡ text.old
-        ++ named_line (codes "hostclock") (clock_text world.now.host.clock) }
+        ++ named_line (codes "hostclock") (clock_text host.now.clock) }
     ensures room { length text.new ≤ length text.old + 100 }
 {
     text.push(b"hostclock ");
-    match world.host().clock() {
+    match host.clock() {
         Some(clock) => push_clock(text, *clock),
         None => text.push(b"unknown"),
     }
@@ -82,17 +84,21 @@ fn push_quiet(text: &mut Outgoing<CLOSING_ROOM>, quiet: bool)
 }
 
 /// Writes the four closing lines of a world, without a flush: the board's position, the host's
-/// picture, what the host knows of the clock, and whether all is quiet. `WriteFailed` comes where
-/// the writer refuses.
-pub fn write_closing<W: Sink>(world: &World, writer: &mut W) -> Result<(), RunFault>
-    ensures { (quiet : Bool) × (IsTrue quiet ↔ IsQuietWorld world.now)
-        × Writes W.Sink writer.old writer.new result (closing_lines world.now quiet) }
+/// picture, the host's clock, and whether the world is quiet. Returns `WriteFailed` if the writer
+/// refuses.
+pub fn write_closing<W: Sink>(
+    board: &Board,
+    host: &Host,
+    quiet: bool,
+    writer: &mut W,
+) -> Result<(), RunFault>
+    ensures { (world : WorldView) → world.board ≡ board.now → world.host ≡ host.now →
+        Writes W.Sink writer.old writer.new result (closing_lines world quiet) }
 {
-    let quiet = world.quiet();
     let mut text = Outgoing::<CLOSING_ROOM>::new();
-    push_board(&mut text, world);
-    push_picture(&mut text, world);
-    push_host_clock(&mut text, world);
+    push_board(&mut text, board);
+    push_picture(&mut text, host);
+    push_host_clock(&mut text, host);
     push_quiet(&mut text, quiet);
     text.write_out(writer)
 }

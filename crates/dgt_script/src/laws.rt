@@ -1,12 +1,15 @@
 //! What holds of the lines of a script, and of closing lines, as such. Nothing here runs: each
 //! function stands for the facts that its contract states.
 
-ghost use Rattle.std.specs.Prelude.{◌≡◌, ◌↔◌, ◌∷◌, ℕ, List};
+ghost use Rattle.std.specs.Prelude.{◌≡◌, ◌≢◌, ◌↔◌, ◌∷◌, ℕ, List};
 ghost use Rattle.dgt_values.specs.Equality.{EqualIsSame};
 ghost use Rattle.dgt_link.specs.Act.{ActContent};
+ghost use Rattle.dgt_link.specs.Faults.{FaultyContent};
 ghost use Rattle.dgt_script.specs.Closing.{ClosingLinesAgree};
+ghost use Rattle.dgt_script.specs.FaultyScript.{AsksFaulty, AsksForFaulty, IsBadAtFaulty, faulty_kinds, faulty_text};
 ghost use Rattle.dgt_script.specs.Script.{AreOf, Asks, AsksFor, IsBadAt, kinds_after};
 ghost use Rattle.dgt_script.specs.ScriptWords.{verb_text};
+ghost use Rattle.dgt_script.specs.declared.script_words.FaultyVerb.{FaultyVerb};
 ghost use Rattle.dgt_script.specs.declared.script_words.Verb.{Verb};
 
 use crate::script::LineFault;
@@ -17,6 +20,9 @@ pub fn equal_is_same()
 {}
 
 /// No line asks for two acts or goes wrong at two places, and none that asks for an act goes wrong.
+///
+/// The same holds of lines for a world with faults. There a line of a plain script asks for the
+/// same act, and one that goes wrong after its first word goes wrong at the same place.
 pub fn lines_have_one_meaning()
     ensures one_act { (line : List ℕ) (first second : ActContent) →
         AsksFor line first → AsksFor line second → first ≡ second }
@@ -24,15 +30,28 @@ pub fn lines_have_one_meaning()
         AsksFor line act → ¬ (IsBadAt line at) }
     ensures one_place { (line : List ℕ) (first second : ℕ) →
         IsBadAt line first → IsBadAt line second → first ≡ second }
+    ensures one_faulty_act { (line : List ℕ) (first second : FaultyContent) →
+        AsksForFaulty line first → AsksForFaulty line second → first ≡ second }
+    ensures faulty_act_or_fault { (line : List ℕ) (act : FaultyContent) (at : ℕ) →
+        AsksForFaulty line act → ¬ (IsBadAtFaulty line at) }
+    ensures one_faulty_place { (line : List ℕ) (first second : ℕ) →
+        IsBadAtFaulty line first → IsBadAtFaulty line second → first ≡ second }
+    ensures plain { (line : List ℕ) (act : ActContent) →
+        AsksFor line act ↔ AsksForFaulty line (FaultyContent.Plain act) }
+    ensures plain_place { (line : List ℕ) (at : ℕ) →
+        IsBadAt line at → at ≢ 0 → IsBadAtFaulty line at }
 {
     dgt_message::laws::reading_is_exact();
     dgt_command::laws::spellings_tell_commands();
 }
 
-/// The words behind a verb ask for an act exactly where they are of the kinds that follow it.
+/// The words after a verb ask for an act exactly if they are of the kinds that follow it.
 pub fn kinds_are_asked_for()
-    ensures { (verb : Verb) (rest : List (List ℕ)) →
+    ensures plain { (verb : Verb) (rest : List (List ℕ)) →
         AreOf (kinds_after verb) rest ↔ ((act : ActContent) × Asks (verb_text verb ∷ rest) act) }
+    ensures faulty { (verb : FaultyVerb) (rest : List (List ℕ)) →
+        AreOf (faulty_kinds verb) rest
+        ↔ ((act : FaultyContent) × AsksFaulty (faulty_text verb ∷ rest) act) }
 {}
 
 /// Where the host's picture is the board's position, the closing lines of board and host, which

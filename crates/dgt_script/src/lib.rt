@@ -1,6 +1,7 @@
 //! The lines of a script for a simulated DGT board, and the lines that say what came of it.
 //!
 //! [`read_act`] reads a line of a script, as `change e4 P`: what it asks a world to do.
+//! [`read_faulty_act`] also reads what may go wrong in a world with faults, as `garbleup 8000`.
 //! [`LineBuffer`] keeps a line that comes in pieces, and [`len_before`] finds where it ends.
 //!
 //! [`outcome_text`] is the line of what came of an act, and [`write_closing`] writes four lines of
@@ -12,6 +13,7 @@
 
 mod closing;
 mod cutting;
+mod faulty_script;
 pub mod laws;
 mod script;
 mod script_lines;
@@ -19,5 +21,6 @@ mod script_words;
 
 pub use closing::{outcome_text, write_closing};
 pub use cutting::len_before;
+pub use faulty_script::read_faulty_act;
 pub use script::{LineFault, read_act};
 pub use script_lines::{LineBuffer, MAX_LINE};

@@ -26,10 +26,10 @@ pub enum LineFault {
     BadLine { at: usize },
 }
 
-// Where a line goes wrong: so many of its bytes are left.
+/// A line goes wrong where this many of its bytes are left.
 #[derive(Clone, Copy)]
-struct Wrong {
-    left: usize,
+pub(crate) struct Wrong {
+    pub(crate) left: usize,
 }
 
 /// Reads a line of a script, without its line feed: what it asks a world to do. The bytes of a
@@ -73,6 +73,17 @@ fn read_words<'a>(line: &[u8], store: &'a mut [u8; MAX_WORD]) -> Result<Act<'a>,
     let Some(verb) = verb_word(first) else {
         return Err(Wrong { left: line.len() });
     };
+    read_rest(verb, rest, store)
+}
+
+/// The act that the words after this first one ask for.
+pub(crate) fn read_rest<'a>(
+    verb: Verb,
+    rest: Option<&[u8]>,
+    store: &'a mut [u8; MAX_WORD],
+) -> Result<Act<'a>, Wrong>
+    ensures { ReadsBehind verb.entry (left_words rest.entry) result }
+{
     match verb {
         Verb::Change => change_line(rest),
         Verb::Clock => clock_line(rest),
@@ -143,8 +154,8 @@ fn count_line(rest: Option<&[u8]>) -> Result<usize, Wrong>
     Ok(count)
 }
 
-// The next word, and what stands behind the space after it.
-fn next_word<'a>(rest: Option<&'a [u8]>) -> Result<(&'a [u8], Option<&'a [u8]>), Wrong>
+/// The next word, and what stands after the space behind it.
+pub(crate) fn next_word<'a>(rest: Option<&'a [u8]>) -> Result<(&'a [u8], Option<&'a [u8]>), Wrong>
     ensures { MatchResult result
         (λ cut. left_words rest.entry ≡ cut.0.now ∷ left_words cut.1)
         (λ wrong. (left_words rest.entry ≡ []) × (wrong.left ≡ 0)) }
@@ -155,8 +166,8 @@ fn next_word<'a>(rest: Option<&'a [u8]>) -> Result<(&'a [u8], Option<&'a [u8]>),
     }
 }
 
-// No word is left.
-fn no_word(rest: Option<&[u8]>) -> Result<(), Wrong>
+/// No word is left.
+pub(crate) fn no_word(rest: Option<&[u8]>) -> Result<(), Wrong>
     ensures { MatchResult result
         (λ _. left_words rest.entry ≡ [])
         (λ wrong. GoesWrongBefore [] (left_words rest.entry) wrong) }
@@ -167,8 +178,8 @@ fn no_word(rest: Option<&[u8]>) -> Result<(), Wrong>
     }
 }
 
-// A line that goes wrong at the next word, or at its end where there is none.
-fn wrong_from(rest: Option<&[u8]>) -> Wrong
+/// A line that goes wrong at the next word, or at its end if there is none.
+pub(crate) fn wrong_from(rest: Option<&[u8]>) -> Wrong
     ensures { result.left ≡ length (words_text (left_words rest.entry)) }
 {
     match rest {
@@ -177,8 +188,8 @@ fn wrong_from(rest: Option<&[u8]>) -> Wrong
     }
 }
 
-// The first word, and what stands behind the space after it.
-fn cut_word(line: &[u8]) -> (&[u8], Option<&[u8]>)
+/// The first word, and what stands after the space behind it.
+pub(crate) fn cut_word(line: &[u8]) -> (&[u8], Option<&[u8]>)
     ensures { words line.now ≡ result.0.now ∷ left_words result.1 }
 {
     let end = len_before(line, b' ');

@@ -1,12 +1,14 @@
 //! The words of a script line: the first one, and squares, pieces, clocks, commands and counts.
 
-ghost use Rattle.std.specs.Prelude.{◌≡◌, ◌≢◌, ℕ, MatchOption};
+ghost use Rattle.std.specs.Prelude.{◌≡◌, ◌≢◌, ◌≤◌, ℕ, List, MatchOption, length};
 ghost use Rattle.dgt_values.specs.declared.pieces.Piece.{Piece};
 ghost use Rattle.dgt_values.specs.Board.{square_number};
 ghost use Rattle.dgt_message.specs.Content.{clock_seen, content};
 ghost use Rattle.dgt_message.specs.Clock.{ClockState};
 ghost use Rattle.dgt_command.specs.Content.{command_content, CommandContent};
-ghost use Rattle.dgt_script.specs.ScriptWords.{verb_text, IsClockWord, IsCommandWord, IsCountWord, IsPieceWord, IsSquareWord, TellsClock};
+ghost use Rattle.dgt_script.specs.FaultyScript.{faulty_text};
+ghost use Rattle.dgt_script.specs.ScriptWords.{verb_text, IsBytesWord, IsClockWord, IsCommandWord, IsCountWord, IsHexOf, IsPieceWord, IsSquareWord, TellsClock};
+ghost use Rattle.dgt_script.specs.declared.script_words.FaultyVerb.{FaultyVerb};
 ghost use Rattle.dgt_script.specs.declared.script_words.Verb.{Verb};
 
 use dgt_command::{Command, MAX_WORD, view_command};
@@ -27,6 +29,16 @@ pub(crate) enum Verb {
     HostBreak,
 }
 
+/// The words that a line may begin with if the world may have faults.
+#[derive(Clone, Copy)]
+pub(crate) enum FaultyVerb {
+    Plain(Verb),
+    GarbleUp,
+    GarbleDown,
+    BoardLost,
+    Restart,
+}
+
 /// What a first word begins.
 pub(crate) fn verb_word(word: &[u8]) -> Option<Verb>
     ensures { MatchOption result
@@ -43,6 +55,21 @@ pub(crate) fn verb_word(word: &[u8]) -> Option<Verb>
         b"break" => Some(Verb::Break),
         b"hostbreak" => Some(Verb::HostBreak),
         _ => None,
+    }
+}
+
+/// What a first word begins if the world may have faults.
+pub(crate) fn faulty_verb_word(word: &[u8]) -> Option<FaultyVerb>
+    ensures { MatchOption result
+        ((verb : FaultyVerb) → word.now ≢ faulty_text verb)
+        (λ verb. word.now ≡ faulty_text verb) }
+{
+    match word {
+        b"garbleup" => Some(FaultyVerb::GarbleUp),
+        b"garbledown" => Some(FaultyVerb::GarbleDown),
+        b"boardlost" => Some(FaultyVerb::BoardLost),
+        b"restart" => Some(FaultyVerb::Restart),
+        _ => Some(FaultyVerb::Plain(verb_word(word)?)),
     }
 }
 
@@ -102,9 +129,35 @@ pub(crate) fn command_word<'a>(word: &[u8], store: &'a mut [u8; MAX_WORD]) -> Op
         (λ command. IsCommandWord word.now (command_content command)) }
 {
     dgt_command::laws::words_are_short();
+    view_command(hex_bytes(word, store)?)
+}
+
+/// No byte for `-`, or the 1 to 257 bytes of hexadecimal digits of either case, two for each byte.
+/// The bytes are put at the start of `store`.
+pub(crate) fn bytes_word<'a>(word: &[u8], store: &'a mut [u8; MAX_WORD]) -> Option<&'a [u8]>
+    ensures { MatchOption result
+        ((bytes : List ℕ) → ¬ (IsBytesWord word.now bytes))
+        (λ bytes. IsBytesWord word.now bytes.now) }
+{
+    if matches!(word, b"-") {
+        return Some(b"");
+    }
+    let bytes = hex_bytes(word, store)?;
+    if bytes.is_empty() {
+        return None;
+    }
+    Some(bytes)
+}
+
+// The bytes of hexadecimal digits, at the start of `store`, if it has room for them.
+fn hex_bytes<'a>(word: &[u8], store: &'a mut [u8; MAX_WORD]) -> Option<&'a [u8]>
+    ensures { MatchOption result
+        ((bytes : List ℕ) → length bytes ≤ 257 → ¬ (IsHexOf word.now bytes))
+        (λ bytes. (length bytes.now ≤ 257) × IsHexOf word.now bytes.now) }
+{
     let bytes = store.get_mut(..word.len() / 2)?;
     hex::decode_to_slice(word, bytes).ok()?;
-    view_command(bytes)
+    Some(bytes)
 }
 
 /// A count from 1 to 65535 in decimal, with no leading zero.

@@ -79,7 +79,9 @@ impl Write for Taking {
 
 fn assert_closes(rt: &impl Abort, world: &World, lines: &[u8]) {
     let mut taking = Taking::new(false);
-    assert_eq!(rt; write_closing(world, &mut Device::new(&mut taking)), Ok(()));
+    let mut device = Device::new(&mut taking);
+    let written = write_closing(world.board(), world.host(), world.quiet(), &mut device);
+    assert_eq!(rt; written, Ok(()));
     assert_eq!(rt; taking.taken.as_slice(), lines);
     assert_eq!(rt; taking.writes, 1);
 }
@@ -158,10 +160,9 @@ fn a_clock_is_told(rt: HostRuntime) -> Result<(), Fail> {
 fn closing_lines_that_are_refused(rt: HostRuntime) -> Result<(), Fail> {
     let world = world_of(rt.alloc(), running()?)?;
     let mut taking = Taking::new(true);
-    assert_eq!(rt;
-        write_closing(&world, &mut Device::new(&mut taking)),
-        Err(RunFault::WriteFailed)
-    );
+    let mut device = Device::new(&mut taking);
+    let written = write_closing(world.board(), world.host(), world.quiet(), &mut device);
+    assert_eq!(rt; written, Err(RunFault::WriteFailed));
     assert_eq!(rt; taking.taken.as_slice(), b"".as_slice());
     Ok(())
 }

@@ -1,5 +1,6 @@
 use Rattle.std.proofs.Common.{sym}
-use Rattle.dgt_script.specs.Script.{words}
+use Rattle.dgt_script.specs.Script.{kinds_after, words}
+use Rattle.dgt_script.specs.ScriptWords.{verb_text}
 use Rattle.dgt_script.specs.ScriptReading.{left_words}
 use Rattle.dgt_script.proofs.ScriptLemmas.{length-words, verb_refused}
 use Rattle.dgt_script.proofs.script.read_words.Goals as goal
@@ -9,6 +10,6 @@ returns-in_default c =
     let line = c.args.line.now in
     let cut = c.cut_word.result in (
       words line,
-      verb_refused (words line) (left_words cut.1) cut.0.now c.cut_word.ensures c.in_default.ensures,
+      verb_refused verb_text kinds_after (words line) (left_words cut.1) cut.0.now c.cut_word.ensures c.in_default.ensures,
       sym (length-words line),
     )

@@ -1,0 +1,41 @@
+-- The lines of a script for a world with faults, and the acts that they ask for.
+use Rattle.std.specs.Prelude.{◌≡◌, ℕ, ◌≤◌, List, [], ◌∷◌, codes, length}
+use Rattle.dgt_link.specs.Faults.{FaultyContent}
+use Rattle.dgt_script.specs.declared.script_words.FaultyVerb.{FaultyVerb}
+use Rattle.dgt_script.specs.declared.script_words.FaultyVerb.TheVariants as faulty
+use Rattle.dgt_script.specs.Script.{Asks, IsBadIn, WordKind, kinds_after, some_bytes, words}
+use Rattle.dgt_script.specs.ScriptWords.{verb_text, IsBytesWord}
+
+-- the words that a line may begin with
+abbrev pub faulty_text : FaultyVerb → List ℕ
+faulty_text (faulty.Plain verb) = verb_text verb
+faulty_text faulty.GarbleUp = codes "garbleup"
+faulty_text faulty.GarbleDown = codes "garbledown"
+faulty_text faulty.BoardLost = codes "boardlost"
+faulty_text faulty.Restart = codes "restart"
+
+-- what has to follow a first word, word for word
+abbrev pub faulty_kinds : FaultyVerb → List WordKind
+faulty_kinds (faulty.Plain verb) = kinds_after verb
+faulty_kinds faulty.GarbleUp = some_bytes ∷ []
+faulty_kinds faulty.GarbleDown = some_bytes ∷ []
+faulty_kinds faulty.BoardLost = []
+faulty_kinds faulty.Restart = []
+
+-- these words ask for this act
+abbrev pub AsksFaulty : List (List ℕ) → FaultyContent → Type 0
+AsksFaulty parts (FaultyContent.Plain act) = Asks parts act
+AsksFaulty parts (FaultyContent.GarbleUp bytes) =
+    (word : List ℕ) × (parts ≡ faulty_text faulty.GarbleUp ∷ word ∷ []) × IsBytesWord word bytes
+AsksFaulty parts (FaultyContent.GarbleDown bytes) =
+    (word : List ℕ) × (parts ≡ faulty_text faulty.GarbleDown ∷ word ∷ []) × IsBytesWord word bytes
+AsksFaulty parts FaultyContent.BoardLost = parts ≡ faulty_text faulty.BoardLost ∷ []
+AsksFaulty parts FaultyContent.Restart = parts ≡ faulty_text faulty.Restart ∷ []
+
+-- this line asks for this act
+abbrev pub AsksForFaulty : List ℕ → FaultyContent → Type 0
+AsksForFaulty line act = (length line ≤ 519) × AsksFaulty (words line) act
+
+-- this line asks for no act, and goes wrong at this offset
+abbrev pub IsBadAtFaulty : List ℕ → ℕ → Type 0
+IsBadAtFaulty line at = IsBadIn faulty_text faulty_kinds line at
