@@ -4,6 +4,7 @@
 mod commanding;
 mod devices;
 mod failures;
+mod faults;
 mod picturing;
 mod serving;
 mod simulating;

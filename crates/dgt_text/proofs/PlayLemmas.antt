@@ -7,9 +7,7 @@ use Rattle.std.proofs.Math.Seq.{take-add, take-suc}
 use Rattle.std.proofs.lemmas.List.{places, take_rest, take-append-drop}
 use Rattle.std.proofs.lemmas.List.Elements.{All-append}
 use Rattle.std.proofs.lemmas.Grind.{flat_map-append}
-use Rattle.dgt_link.specs.Act.{ActContent}
 use Rattle.dgt_link.specs.declared.acts.Outcome.{Outcome}
-use Rattle.dgt_link.specs.Step.{Step}
 use Rattle.dgt_link.specs.View.{IsQuietWorld, WorldView}
 use Rattle.dgt_lines.specs.declared.faults.RunFault.{RunFault}
 use Rattle.dgt_lines.specs.declared.faults.RunFault.TheVariants.{ReadFailed, WriteFailed, TooManyTurns, BadLine}
@@ -17,9 +15,8 @@ use Rattle.dgt_script.specs.declared.script_lines.LineBuffer.{LineBuffer}
 use Rattle.dgt_script.specs.Closing.{closing_lines, outcome_line}
 use Rattle.dgt_text.specs.Monitoring.{IsFront}
 use Rattle.dgt_lines.specs.Writing.{Writes, Stopped}
-use Rattle.dgt_script.specs.Script.{AsksFor, IsBadAt}
 use Rattle.dgt_script.specs.ScriptLines.{HasNoFeed, IsCut, KeepsLine, ended}
-use Rattle.dgt_text.specs.Simulating.{BeginsWith, IsSimulatedFrom, Plays, PlaysOn, PlaysTorn, Stops, Took, all_lines, part}
+use Rattle.dgt_text.specs.Simulating.{BeginsWith, IsSimulatedFrom, Plays, PlaysOn, PlaysTorn, Rules, Stops, Took, all_lines, part}
 use Rattle.dgt_lines.specs.declared.ends.Sink.{Ghosts as Sink}
 
 -- ---- lines
@@ -85,359 +82,368 @@ begins_after at_end bytes tail lines more e h (inr p) = inr (
   p.4,
 )
 
--- ---- playing
-
-pub plays_append : (w m l : WorldView) (ls ks : List (List ℕ)) (t u : List ℕ) → Plays w ls t m → Plays m ks u l
-    → Plays w (ls ++ ks) (t ++ u) l
-plays_append w m l [] ks t u p q =
-    subst (λ x. Plays w ks (x ++ u) l) (sym p.0) (subst (λ x. Plays x ks u l) (sym p.1) q)
-plays_append w m l (line ∷ ls) ks t u p q = (
-  p.0,
-  p.1,
-  p.2,
-  p.3 ++ u,
-  p.4,
-  p.5,
-  ap (λ x. x ++ u) p.6 ∙ append_assoc (outcome_line p.1) p.3 u,
-  plays_append p.2 m l ls ks p.3 u p.7 q,
-)
-
-pub plays_one : (w l : WorldView) (line : List ℕ) (act : ActContent) (o : Outcome) → AsksFor line act → Step act w o l
-    → Plays w (line ∷ []) (outcome_line o) l
-plays_one w l line act o h s = (act, o, l, [], h, s, sym (append-nil (outcome_line o)), (refl, refl))
-
--- no line
-pub torn_none : (w : WorldView) → PlaysTorn w [] [] w
-torn_none w = record {
-  earlier = [];
-  final = [];
-  split = refl;
-  at_most_one = omega arith;
-  between = w;
-  text = [];
-  torn = [];
-  front = [];
-  plays = (refl, refl);
-  ends = (refl, refl);
-  is_front = ([], refl);
-  out_is = refl;
-}
-
--- one line, whose outcome may be torn
-torn_one : (w l : WorldView) (line front text : List ℕ) → Plays w (line ∷ []) text l → IsFront front text
-    → PlaysTorn w (line ∷ []) front l
-torn_one w l line front text p f = record {
-  earlier = [];
-  final = line ∷ [];
-  split = refl;
-  at_most_one = omega arith;
-  between = w;
-  text = [];
-  torn = text;
-  front = front;
-  plays = (refl, refl);
-  ends = p;
-  is_front = f;
-  out_is = refl;
-}
-
-torn_after : (w m l : WorldView) (ls ks : List (List ℕ)) (t out : List ℕ) → Plays w ls t m → PlaysTorn m ks out l
-    → PlaysTorn w (ls ++ ks) (t ++ out) l
-torn_after w m l ls ks t out p q = record {
-  earlier = ls ++ q.earlier;
-  final = q.final;
-  split = ap (λ x. ls ++ x) q.split ∙ sym (append_assoc ls q.earlier q.final);
-  at_most_one = q.at_most_one;
-  between = q.between;
-  text = t ++ q.text;
-  torn = q.torn;
-  front = q.front;
-  plays = plays_append w m q.between ls q.earlier t q.text p q.plays;
-  ends = q.ends;
-  is_front = q.is_front;
-  out_is = ap (λ x. t ++ x) q.out_is ∙ sym (append_assoc t q.text q.front);
-}
-
--- ---- lines, and then what is made of the rest
-
-stops_after : (at_end : Bool) (e : RunFault) (w m l : WorldView) (number number' : ℕ) (bytes tail t out : List ℕ)
-    (ls : List (List ℕ)) → bytes ≡ flat_map ended ls ++ tail → All HasNoFeed ls → number' ≡ number + length ls
-    → Plays w ls t m → Stops at_end (part number' tail m l) e out → Stops at_end (part number bytes w l) e (t ++ out)
-stops_after at_end ReadFailed w m l number number' bytes tail t out ls e h n p s = absurd s
-stops_after at_end TooManyTurns w m l number number' bytes tail t out ls e h n p s = absurd s
-stops_after at_end WriteFailed w m l number number' bytes tail t out ls e h n p s =
-    (ls ++ s.0, begins_after at_end bytes tail ls s.0 e h s.1, torn_after w m l ls s.0 t out p s.2)
-stops_after at_end (BadLine bad at) w m l number number' bytes tail t out ls e h n p s = (
-  ls ++ s.0,
-  s.1,
-  subst (λ x. BeginsWith at_end bytes x) (sym (append_assoc ls s.0 (s.1 ∷ [])))
-      (begins_after at_end bytes tail ls (s.0 ++ s.1 ∷ []) e h s.2),
-  plays_append w m l ls s.0 t out p s.3,
-  s.4,
-  (let k = length-append ls s.0 in let f = s.5 in omega arith),
-)
-
-all_after : (w m l : WorldView) (bytes tail rest t u : List ℕ) (ls ks : List (List ℕ)) → Plays w ls t m
-    → Plays m (all_lines ks rest) u l → Plays w (all_lines (ls ++ ks) rest) (t ++ u) l
-all_after w m l bytes tail rest t u ls ks p q = subst (λ x. Plays w x (t ++ u) l) (sym (all_lines-append ls ks rest))
-    (plays_append w m l ls (all_lines ks rest) t u p q)
-
-simulated_after : {A : Type 0} (at_end : Bool) (r : Result A RunFault) (w m l : WorldView) (number number' : ℕ)
-    (bytes tail t out : List ℕ) (ls : List (List ℕ)) → bytes ≡ flat_map ended ls ++ tail → All HasNoFeed ls
-    → number' ≡ number + length ls → Plays w ls t m → IsSimulatedFrom at_end (part number' tail m l) r out
-    → IsSimulatedFrom at_end (part number bytes w l) r (t ++ out)
-simulated_after at_end (Ok x) w m l number number' bytes tail t out ls e h n p s = (
-  ls ++ s.0,
-  s.1,
-  t ++ s.2,
-  s.3,
-  cut_after bytes tail s.1 ls s.0 e h s.4,
-  all_after w m l bytes tail s.1 t s.2 ls s.0 p s.5,
-  s.6,
-  ap (λ x. t ++ x) s.7 ∙ sym (append_assoc t s.2 (closing_lines l s.3)),
-)
-simulated_after at_end (Err ReadFailed) w m l number number' bytes tail t out ls e h n p s =
-    (ls ++ s.0, s.1, cut_after bytes tail s.1 ls s.0 e h s.2, plays_append w m l ls s.0 t out p s.3)
-simulated_after at_end (Err TooManyTurns) w m l number number' bytes tail t out ls e h n p s =
-    (ls ++ s.0, s.1, cut_after bytes tail s.1 ls s.0 e h s.2, plays_append w m l ls s.0 t out p s.3)
-simulated_after at_end (Err (BadLine bad at)) w m l number number' bytes tail t out ls e h n p s = stops_after at_end
-    (BadLine bad at) w m l number number' bytes tail t out ls e h n p s
-simulated_after at_end (Err WriteFailed) w m l number number' bytes tail t out ls e h n p (inl s) = inl
-    (stops_after at_end WriteFailed w m l number number' bytes tail t out ls e h n p s)
-simulated_after at_end (Err WriteFailed) w m l number number' bytes tail t out ls e h n p (inr s) = inr (
-  ls ++ s.0,
-  s.1,
-  t ++ s.2,
-  s.3,
-  s.4,
-  cut_after bytes tail s.1 ls s.0 e h s.5,
-  all_after w m l bytes tail s.1 t s.2 ls s.0 p s.6,
-  s.7,
-  s.8,
-  ap (λ x. t ++ x) s.9 ∙ sym (append_assoc t s.2 s.4),
-  s.10,
-)
-
-stops_simulated : (at_end : Bool) (A : Type 0) (e : RunFault) (w l : WorldView) (number : ℕ) (bytes out : List ℕ)
-    → Stops at_end (part number bytes w l) e out → IsSimulatedFrom {A = A} at_end (part number bytes w l) (Err e) out
-stops_simulated at_end A WriteFailed w l number bytes out s = inl s
-stops_simulated at_end A (BadLine bad at) w l number bytes out s = s
-stops_simulated at_end A ReadFailed w l number bytes out s = absurd s
-stops_simulated at_end A TooManyTurns w l number bytes out s = absurd s
-
--- a line that is too long
-pub long_is_bad : (line : List ℕ) → 519 < length line → IsBadAt line 519
-long_is_bad line h = inl (h, refl)
-
 -- ---- sinks
-
--- a line with this number, with which a script of these bytes begins
-abbrev PlaysLine : {S A : Type 0} → Sink S → Bool → WorldView → WorldView → S → S → Result A RunFault → ℕ → List ℕ
-    → List ℕ → Type 0
-PlaysLine W at_end world last old new r number line bytes =
-    MatchResult r (λ _. Took W old new (λ out. Plays world (line ∷ []) out last))
-    (λ fault. Took W old new (Stops at_end (part number bytes world last) fault))
-
--- a piece of a script; the bytes are those since the last line feed before it, and the piece
-abbrev PlaysPiece : {S A : Type 0} → Sink S → Bool → WorldView → WorldView → S → S → LineBuffer → ℕ → ℕ
-    → Result A RunFault → List ℕ → Type 0
-PlaysPiece W at_end world last old new line number number' r bytes =
-    MatchResult r (λ _. PlaysOn W (part number bytes world last) old new line number')
-    (λ fault. Took W old new (Stops at_end (part number bytes world last) fault))
 
 -- a list that has a front and a rest of no byte is none
 front_none : (front rest : List ℕ) → [] ≡ front ++ rest → front ≡ []
 front_none [] rest h = refl
 front_none (b ∷ front) rest h = cc
 
-module _ {S : Type 0} (W : Sink S) where
-  pub stopped_none : (a b : S) → Stopped W a b [] → Appends (W.written a) (W.written b) []
-  stopped_none a b p = subst (λ l. Appends (W.written a) (W.written b) l) (front_none p.front p.rest p.whole) p.appends
+pub stopped_none : {S : Type 0} (W : Sink S) (a b : S) → Stopped W a b [] → Appends (W.written a) (W.written b) []
+stopped_none W a b p = subst (λ l. Appends (W.written a) (W.written b) l) (front_none p.front p.rest p.whole) p.appends
 
-  -- the line of an outcome, or a front of it
-  pub line_put : {A : Type 0} (at_end : Bool) (r : Result A RunFault) (w l : WorldView) (a b : S) (number : ℕ)
-      (line bytes : List ℕ) (act : ActContent) (o : Outcome) → Writes W a b r (outcome_line o)
-      → AsksFor line act → Step act w o l → BeginsWith at_end bytes (line ∷ [])
-      → PlaysLine W at_end w l a b r number line bytes
-  line_put at_end (Ok x) w l a b number line bytes act o p h s g =
-      (outcome_line o, p.appends, plays_one w l line act o h s)
-  line_put at_end (Err e) w l a b number line bytes act o p h s g =
-      subst (λ f. Took W a b (Stops at_end (part number bytes w l) f)) (sym p.0) (
-        p.1.front,
-        p.1.appends,
-        (
-          line ∷ [],
-          g,
-          torn_one w l line p.1.front (outcome_line o) (plays_one w l line act o h s)
-              (p.1.rest, p.1.whole),
-        ),
-      )
+module _ (rules : Rules) where
+  -- ---- playing
 
-module _ {S : Type 0} (W : Sink S) where
-  -- a line that asks for no act
-  pub line_refused : {A : Type 0} (at_end : Bool) (r : Result A RunFault) (w : WorldView) (a b : S) (number at : ℕ)
-      (line bytes : List ℕ) → (r ≡ Err (BadLine number at)) ⊎ (r ≡ Err WriteFailed)
-      → Appends (W.written a) (W.written b) [] → IsBadAt line at → BeginsWith at_end bytes (line ∷ [])
-      → PlaysLine W at_end w w a b r number line bytes
-  line_refused {A = A} at_end r w a b number at line bytes (inl e) p h g =
-      subst (λ x. PlaysLine {A = A} W at_end w w a b x number line bytes) (sym e)
-      ([], p, ([], line, g, (refl, refl), h, omega arith))
-  line_refused {A = A} at_end r w a b number at line bytes (inr e) p h g =
-      subst (λ x. PlaysLine {A = A} W at_end w w a b x number line bytes) (sym e)
-      ([], p, ([], begins_none at_end bytes, torn_none w))
+  pub plays_append : (w m l : WorldView) (ls ks : List (List ℕ)) (t u : List ℕ) → Plays rules w ls t m
+      → Plays rules m ks u l
+      → Plays rules w (ls ++ ks) (t ++ u) l
+  plays_append w m l [] ks t u p q =
+      subst (λ x. Plays rules w ks (x ++ u) l) (sym p.0) (subst (λ x. Plays rules x ks u l) (sym p.1) q)
+  plays_append w m l (line ∷ ls) ks t u p q = (
+    p.0,
+    p.1,
+    p.2 ++ u,
+    p.3,
+    ap (λ x. x ++ u) p.4 ∙ append_assoc (outcome_line p.0) p.2 u,
+    plays_append p.1 m l ls ks p.2 u p.5 q,
+  )
 
-  -- ---- pieces
+  pub plays_one : (w l : WorldView) (line : List ℕ) (o : Outcome) → rules.does line w o l
+      → Plays rules w (line ∷ []) (outcome_line o) l
+  plays_one w l line o h = (o, l, [], h, sym (append-nil (outcome_line o)), (refl, refl))
 
-  pub on_none : (w : WorldView) (a : S) (line : LineBuffer) (number : ℕ) (rest : List ℕ) → KeepsLine line rest
-      → HasNoFeed rest → PlaysOn W (part number rest w w) a a line number
-  on_none w a line number rest k h = record {
-    lines = [];
-    rest = rest;
+  -- no line
+  pub torn_none : (w : WorldView) → PlaysTorn rules w [] [] w
+  torn_none w = record {
+    earlier = [];
+    final = [];
+    split = refl;
+    at_most_one = omega arith;
+    between = w;
     text = [];
-    cut = record { whole = refl; each = all_none; last = h };
-    kept = k;
-    counted = omega arith;
+    torn = [];
+    front = [];
     plays = (refl, refl);
-    wrote = Appends-nil (W.written a);
+    ends = (refl, refl);
+    is_front = ([], refl);
+    out_is = refl;
   }
 
-  -- a line with its line feed
-  pub on_one : (w l : WorldView) (a b : S) (line : LineBuffer) (number : ℕ) (whole : List ℕ) → KeepsLine line []
-      → HasNoFeed whole → Took W a b (λ out. Plays w (whole ∷ []) out l)
-      → PlaysOn W (part number (whole ++ 10 ∷ []) w l) a b line (number + 1)
-  on_one w l a b line number whole k h p = record {
-    lines = whole ∷ [];
-    rest = [];
-    text = p.0;
-    cut = record {
-      whole = sym (flat_one whole) ∙ sym (append-nil (flat_map ended (whole ∷ [])));
-      each = all_one whole h;
-      last = no_byte;
-    };
-    kept = k;
-    counted = omega arith;
-    plays = p.2;
-    wrote = p.1;
+  -- one line, whose outcome may be torn
+  torn_one : (w l : WorldView) (line front text : List ℕ) → Plays rules w (line ∷ []) text l → IsFront front text
+      → PlaysTorn rules w (line ∷ []) front l
+  torn_one w l line front text p f = record {
+    earlier = [];
+    final = line ∷ [];
+    split = refl;
+    at_most_one = omega arith;
+    between = w;
+    text = [];
+    torn = text;
+    front = front;
+    plays = (refl, refl);
+    ends = p;
+    is_front = f;
+    out_is = refl;
   }
 
-  on_whole : {w m : WorldView} {a b : S} {line : LineBuffer} {n n' : ℕ} (bytes : List ℕ)
-      (q : PlaysOn W (part n bytes w m) a b line n') (p : List ℕ) → bytes ++ p ≡ flat_map ended q.lines ++ (q.rest ++ p)
-  on_whole bytes q p = ap (λ l. l ++ p) q.cut.whole ∙ append_assoc (flat_map ended q.lines) q.rest p
-
-  pub on_more : (w m l : WorldView) (a b c : S) (line line' : LineBuffer) (n n' n'' : ℕ) (bytes piece : List ℕ)
-      (q : PlaysOn W (part n bytes w m) a b line n') → PlaysOn W (part n' (q.rest ++ piece) m l) b c line' n''
-      → PlaysOn W (part n (bytes ++ piece) w l) a c line' n''
-  on_more w m l a b c line line' n n' n'' bytes piece q p = record {
-    lines = q.lines ++ p.lines;
-    rest = p.rest;
-    text = q.text ++ p.text;
-    cut = cut_after (bytes ++ piece) (q.rest ++ piece) p.rest q.lines p.lines (on_whole bytes q piece) q.cut.each p.cut;
-    kept = p.kept;
-    counted = let k = length-append q.lines p.lines in let i = q.counted in let j = p.counted in omega arith;
-    plays = plays_append w m l q.lines p.lines q.text p.text q.plays p.plays;
-    wrote = Appends-trans _ _ _ q.text p.text q.wrote p.wrote;
+  torn_after : (w m l : WorldView) (ls ks : List (List ℕ)) (t out : List ℕ) → Plays rules w ls t m
+      → PlaysTorn rules m ks out l
+      → PlaysTorn rules w (ls ++ ks) (t ++ out) l
+  torn_after w m l ls ks t out p q = record {
+    earlier = ls ++ q.earlier;
+    final = q.final;
+    split = ap (λ x. ls ++ x) q.split ∙ sym (append_assoc ls q.earlier q.final);
+    at_most_one = q.at_most_one;
+    between = q.between;
+    text = t ++ q.text;
+    torn = q.torn;
+    front = q.front;
+    plays = plays_append w m q.between ls q.earlier t q.text p q.plays;
+    ends = q.ends;
+    is_front = q.is_front;
+    out_is = ap (λ x. t ++ x) q.out_is ∙ sym (append_assoc t q.text q.front);
   }
 
-  -- more bytes of the line
-  pub on_held : (w m : WorldView) (a b : S) (line line' : LineBuffer) (n n' : ℕ) (bytes p : List ℕ)
-      (q : PlaysOn W (part n bytes w m) a b line n') → HasNoFeed p → KeepsLine line' (q.rest ++ p)
-      → PlaysOn W (part n (bytes ++ p) w m) a b line' n'
-  on_held w m a b line line' n n' bytes p q h k =
-      on_more w m m a b b line line' n n' n' bytes p q
-      (on_none m b line' n' (q.rest ++ p) k (All-append (λ x. x ≢ 10) q.rest p q.cut.last h))
+  -- ---- lines, and then what is made of the rest
 
-  -- a line feed after them
-  pub on_line : (w m l : WorldView) (a b c : S) (line line' : LineBuffer) (n n' : ℕ) (bytes p : List ℕ)
-      (q : PlaysOn W (part n bytes w m) a b line n') → HasNoFeed p → KeepsLine line' []
-      → Took W b c (λ out. Plays m ((q.rest ++ p) ∷ []) out l)
-      → PlaysOn W (part n (bytes ++ (p ++ 10 ∷ [])) w l) a c line' (n' + 1)
-  on_line w m l a b c line line' n n' bytes p q h k t = on_more w m l a b c line line' n n' (n' + 1) bytes
-      (p ++ 10 ∷ []) q
-      (subst (λ x. PlaysOn W (part n' x m l) b c line' (n' + 1)) (append_assoc q.rest p (10 ∷ []))
-      (on_one m l b c line' n' (q.rest ++ p) k (All-append (λ x. x ≢ 10) q.rest p q.cut.last h) t))
-
-  -- what stops the run after them
-  pub on_stops : (at_end : Bool) (e : RunFault) (w m l : WorldView) (a b c : S) (line : LineBuffer) (n n' : ℕ)
-      (bytes p : List ℕ) (q : PlaysOn W (part n bytes w m) a b line n')
-      → Took W b c (Stops at_end (part n' (q.rest ++ p) m l) e)
-      → Took W a c (Stops at_end (part n (bytes ++ p) w l) e)
-  on_stops at_end e w m l a b c line n n' bytes p q t = (
-    q.text ++ t.0,
-    Appends-trans _ _ _ q.text t.0 q.wrote t.1,
-    stops_after at_end e w m l n n' (bytes ++ p) (q.rest ++ p) q.text t.0 q.lines
-        (on_whole bytes q p) q.cut.each q.counted q.plays t.2,
+  stops_after : (at_end : Bool) (e : RunFault) (w m l : WorldView) (number number' : ℕ) (bytes tail t out : List ℕ)
+      (ls : List (List ℕ)) → bytes ≡ flat_map ended ls ++ tail → All HasNoFeed ls → number' ≡ number + length ls
+      → Plays rules w ls t m → Stops rules at_end (part number' tail m l) e out → Stops rules at_end
+      (part number bytes w l) e (t ++ out)
+  stops_after at_end ReadFailed w m l number number' bytes tail t out ls e h n p s = absurd s
+  stops_after at_end TooManyTurns w m l number number' bytes tail t out ls e h n p s = absurd s
+  stops_after at_end WriteFailed w m l number number' bytes tail t out ls e h n p s =
+      (ls ++ s.0, begins_after at_end bytes tail ls s.0 e h s.1, torn_after w m l ls s.0 t out p s.2)
+  stops_after at_end (BadLine bad at) w m l number number' bytes tail t out ls e h n p s = (
+    ls ++ s.0,
+    s.1,
+    subst (λ x. BeginsWith at_end bytes x) (sym (append_assoc ls s.0 (s.1 ∷ [])))
+        (begins_after at_end bytes tail ls (s.0 ++ s.1 ∷ []) e h s.2),
+    plays_append w m l ls s.0 t out p s.3,
+    s.4,
+    (let k = length-append ls s.0 in let f = s.5 in omega arith),
   )
 
-  pub on_simulated : {A : Type 0} (at_end : Bool) (r : Result A RunFault) (w m l : WorldView) (a b c : S)
-      (line : LineBuffer) (n n' : ℕ) (bytes p : List ℕ) (q : PlaysOn W (part n bytes w m) a b line n')
-      → Took W b c (IsSimulatedFrom at_end (part n' (q.rest ++ p) m l) r)
-      → Took W a c (IsSimulatedFrom at_end (part n (bytes ++ p) w l) r)
-  on_simulated at_end r w m l a b c line n n' bytes p q t = (
-    q.text ++ t.0,
-    Appends-trans _ _ _ q.text t.0 q.wrote t.1,
-    simulated_after at_end r w m l n n' (bytes ++ p) (q.rest ++ p) q.text t.0 q.lines
-        (on_whole bytes q p) q.cut.each q.counted q.plays t.2,
+  all_after : (w m l : WorldView) (bytes tail rest t u : List ℕ) (ls ks : List (List ℕ)) → Plays rules w ls t m
+      → Plays rules m (all_lines ks rest) u l → Plays rules w (all_lines (ls ++ ks) rest) (t ++ u) l
+  all_after w m l bytes tail rest t u ls ks p q = subst (λ x. Plays rules w x (t ++ u) l)
+      (sym (all_lines-append ls ks rest))
+      (plays_append w m l ls (all_lines ks rest) t u p q)
+
+  simulated_after : {A : Type 0} (at_end : Bool) (r : Result A RunFault) (w m l : WorldView) (number number' : ℕ)
+      (bytes tail t out : List ℕ) (ls : List (List ℕ)) → bytes ≡ flat_map ended ls ++ tail → All HasNoFeed ls
+      → number' ≡ number + length ls → Plays rules w ls t m → IsSimulatedFrom rules at_end (part number' tail m l) r out
+      → IsSimulatedFrom rules at_end (part number bytes w l) r (t ++ out)
+  simulated_after at_end (Ok x) w m l number number' bytes tail t out ls e h n p s = (
+    ls ++ s.0,
+    s.1,
+    t ++ s.2,
+    s.3,
+    cut_after bytes tail s.1 ls s.0 e h s.4,
+    all_after w m l bytes tail s.1 t s.2 ls s.0 p s.5,
+    s.6,
+    ap (λ x. t ++ x) s.7 ∙ sym (append_assoc t s.2 (closing_lines l s.3)),
+  )
+  simulated_after at_end (Err ReadFailed) w m l number number' bytes tail t out ls e h n p s =
+      (ls ++ s.0, s.1, cut_after bytes tail s.1 ls s.0 e h s.2, plays_append w m l ls s.0 t out p s.3)
+  simulated_after at_end (Err TooManyTurns) w m l number number' bytes tail t out ls e h n p s =
+      (ls ++ s.0, s.1, cut_after bytes tail s.1 ls s.0 e h s.2, plays_append w m l ls s.0 t out p s.3)
+  simulated_after at_end (Err (BadLine bad at)) w m l number number' bytes tail t out ls e h n p s = stops_after at_end
+      (BadLine bad at) w m l number number' bytes tail t out ls e h n p s
+  simulated_after at_end (Err WriteFailed) w m l number number' bytes tail t out ls e h n p (inl s) = inl
+      (stops_after at_end WriteFailed w m l number number' bytes tail t out ls e h n p s)
+  simulated_after at_end (Err WriteFailed) w m l number number' bytes tail t out ls e h n p (inr s) = inr (
+    ls ++ s.0,
+    s.1,
+    t ++ s.2,
+    s.3,
+    s.4,
+    cut_after bytes tail s.1 ls s.0 e h s.5,
+    all_after w m l bytes tail s.1 t s.2 ls s.0 p s.6,
+    s.7,
+    s.8,
+    ap (λ x. t ++ x) s.9 ∙ sym (append_assoc t s.2 s.4),
+    s.10,
   )
 
-  -- the exit of a `?` in a piece
-  pub piece_exit : {A : Type 0} (at_end : Bool) (r : Result A RunFault) (e : RunFault) (w l : WorldView) (a b : S)
-      (line : LineBuffer) (n n' : ℕ) (bytes : List ℕ) → IsErrAnd r (λ y. y ≡ e)
-      → Took W a b (Stops at_end (part n bytes w l) e)
-      → PlaysPiece W at_end w l a b line n n' r bytes
-  piece_exit at_end (Ok x) e w l a b line n n' bytes k t = absurd k
-  piece_exit at_end (Err y) e w l a b line n n' bytes k t = subst (λ f. Took W a b (Stops at_end (part n bytes w l) f))
-      (sym k) t
+  stops_simulated : (at_end : Bool) (A : Type 0) (e : RunFault) (w l : WorldView) (number : ℕ) (bytes out : List ℕ)
+      → Stops rules at_end (part number bytes w l) e out → IsSimulatedFrom {A = A} rules at_end (part number bytes w l)
+      (Err e) out
+  stops_simulated at_end A WriteFailed w l number bytes out s = inl s
+  stops_simulated at_end A (BadLine bad at) w l number bytes out s = s
+  stops_simulated at_end A ReadFailed w l number bytes out s = absurd s
+  stops_simulated at_end A TooManyTurns w l number bytes out s = absurd s
 
-  -- ---- the end
+  -- ---- sinks
 
-  -- the exit of a `?` at the end
-  pub end_exit : {A : Type 0} (at_end : Bool) (r : Result A RunFault) (e : RunFault) (w l : WorldView) (a b : S)
-      (n : ℕ) (bytes : List ℕ) → IsErrAnd r (λ y. y ≡ e) → Took W a b (Stops at_end (part n bytes w l) e)
-      → Took W a b (IsSimulatedFrom at_end (part n bytes w l) r)
-  end_exit at_end (Ok x) e w l a b n bytes k t = absurd k
-  end_exit {A = A} at_end
-      (Err y) e w l a b n bytes k t
-      = subst (λ f. let r : Result A RunFault = Err f in Took W a b (IsSimulatedFrom at_end (part n bytes w l) r))
-      (sym k) (t.0, t.1, stops_simulated at_end A e w l n bytes t.0 t.2)
+  -- a line with this number, with which a script of these bytes begins
+  abbrev PlaysLine : {S A : Type 0} → Sink S → Bool → WorldView → WorldView → S → S → Result A RunFault → ℕ → List ℕ
+      → List ℕ → Type 0
+  PlaysLine W at_end world last old new r number line bytes =
+      MatchResult r (λ _. Took W old new (λ out. Plays rules world (line ∷ []) out last))
+      (λ fault. Took W old new (Stops rules at_end (part number bytes world last) fault))
 
-  pub end_some : (w l : WorldView) (a b : S) (rest : List ℕ) → rest ≢ []
-      → Took W a b (λ out. Plays w (rest ∷ []) out l) → Took W a b (λ out. Plays w (all_lines [] rest) out l)
-  end_some w l a b [] n t = absurd (n refl)
-  end_some w l a b (byte ∷ rest) n t = t
+  -- a piece of a script; the bytes are those since the last line feed before it, and the piece
+  abbrev PlaysPiece : {S A : Type 0} → Sink S → Bool → WorldView → WorldView → S → S → LineBuffer → ℕ → ℕ
+      → Result A RunFault → List ℕ → Type 0
+  PlaysPiece W at_end world last old new line number number' r bytes =
+      MatchResult r (λ _. PlaysOn rules W (part number bytes world last) old new line number')
+      (λ fault. Took W old new (Stops rules at_end (part number bytes world last) fault))
 
-  pub end_none : (w l : WorldView) (a b : S) (rest : List ℕ) → rest ≡ [] → l ≡ w → b ≡ a
-      → Took W a b (λ out. Plays w (all_lines [] rest) out l)
-  end_none w l a b rest e f h = rw (e, f, h) ([], Appends-nil (W.written a), (refl, refl))
-
-  -- the closing lines, or a front of them
-  pub end_closing : {A : Type 0} (at_end : Bool) (r : Result A RunFault) (w l : WorldView) (a b c : S) (n : ℕ)
-      (rest : List ℕ) (quiet : Bool) → IsTrue at_end → HasNoFeed rest
-      → Took W a b (λ out. Plays w (all_lines [] rest) out l) → (IsTrue quiet ↔ IsQuietWorld l)
-      → Writes W b c r (closing_lines l quiet) → Took W a c (IsSimulatedFrom at_end (part n rest w l) r)
-  end_closing at_end (Ok x) w l a b c n rest quiet e h t k p = (
-    t.0 ++ closing_lines l quiet,
-    Appends-trans _ _ _ t.0 (closing_lines l quiet) t.1 p.appends,
-    ([], rest, t.0, quiet, record { whole = refl; each = all_none; last = h }, t.2, k, refl),
-  )
-  end_closing {A = A} at_end (Err f) w l a b c n rest quiet e h t k p
-      = subst (λ g. let r : Result A RunFault = Err g in Took W a c (IsSimulatedFrom at_end (part n rest w l) r))
-      (sym p.0) (
-        t.0 ++ p.1.front,
-        Appends-trans _ _ _ t.0 p.1.front t.1 p.1.appends,
-        inr (
-          [],
-          rest,
-          t.0,
-          quiet,
+  module _ {S : Type 0} (W : Sink S) where
+    -- the line of an outcome, or a front of it
+    pub line_put : {A : Type 0} (at_end : Bool) (r : Result A RunFault) (w l : WorldView) (a b : S) (number : ℕ)
+        (line bytes : List ℕ) (o : Outcome) → Writes W a b r (outcome_line o)
+        → rules.does line w o l → BeginsWith at_end bytes (line ∷ [])
+        → PlaysLine W at_end w l a b r number line bytes
+    line_put at_end (Ok x) w l a b number line bytes o p h g =
+        (outcome_line o, p.appends, plays_one w l line o h)
+    line_put at_end (Err e) w l a b number line bytes o p h g =
+        subst (λ f. Took W a b (Stops rules at_end (part number bytes w l) f)) (sym p.0) (
           p.1.front,
-          record { whole = refl; each = all_none; last = h },
-          t.2,
-          k,
-          (p.1.rest, p.1.whole),
-          refl,
-          e,
-        ),
-      )
+          p.1.appends,
+          (
+            line ∷ [],
+            g,
+            torn_one w l line p.1.front (outcome_line o) (plays_one w l line o h)
+                (p.1.rest, p.1.whole),
+          ),
+        )
+
+  module _ {S : Type 0} (W : Sink S) where
+    -- a line that asks for no act
+    pub line_refused : {A : Type 0} (at_end : Bool) (r : Result A RunFault) (w : WorldView) (a b : S) (number at : ℕ)
+        (line bytes : List ℕ) → (r ≡ Err (BadLine number at)) ⊎ (r ≡ Err WriteFailed)
+        → Appends (W.written a) (W.written b) [] → rules.is_bad line at → BeginsWith at_end bytes (line ∷ [])
+        → PlaysLine W at_end w w a b r number line bytes
+    line_refused {A = A} at_end r w a b number at line bytes (inl e) p h g =
+        subst (λ x. PlaysLine {A = A} W at_end w w a b x number line bytes) (sym e)
+        ([], p, ([], line, g, (refl, refl), h, omega arith))
+    line_refused {A = A} at_end r w a b number at line bytes (inr e) p h g =
+        subst (λ x. PlaysLine {A = A} W at_end w w a b x number line bytes) (sym e)
+        ([], p, ([], begins_none at_end bytes, torn_none w))
+
+    -- ---- pieces
+
+    pub on_none : (w : WorldView) (a : S) (line : LineBuffer) (number : ℕ) (rest : List ℕ) → KeepsLine line rest
+        → HasNoFeed rest → PlaysOn rules W (part number rest w w) a a line number
+    on_none w a line number rest k h = record {
+      lines = [];
+      rest = rest;
+      text = [];
+      cut = record { whole = refl; each = all_none; last = h };
+      kept = k;
+      counted = omega arith;
+      plays = (refl, refl);
+      wrote = Appends-nil (W.written a);
+    }
+
+    -- a line with its line feed
+    pub on_one : (w l : WorldView) (a b : S) (line : LineBuffer) (number : ℕ) (whole : List ℕ) → KeepsLine line []
+        → HasNoFeed whole → Took W a b (λ out. Plays rules w (whole ∷ []) out l)
+        → PlaysOn rules W (part number (whole ++ 10 ∷ []) w l) a b line (number + 1)
+    on_one w l a b line number whole k h p = record {
+      lines = whole ∷ [];
+      rest = [];
+      text = p.0;
+      cut = record {
+        whole = sym (flat_one whole) ∙ sym (append-nil (flat_map ended (whole ∷ [])));
+        each = all_one whole h;
+        last = no_byte;
+      };
+      kept = k;
+      counted = omega arith;
+      plays = p.2;
+      wrote = p.1;
+    }
+
+    on_whole : {w m : WorldView} {a b : S} {line : LineBuffer} {n n' : ℕ} (bytes : List ℕ)
+        (q : PlaysOn rules W (part n bytes w m) a b line n') (p : List ℕ) → bytes ++ p ≡ flat_map ended q.lines ++
+        (q.rest ++ p)
+    on_whole bytes q p = ap (λ l. l ++ p) q.cut.whole ∙ append_assoc (flat_map ended q.lines) q.rest p
+
+    pub on_more : (w m l : WorldView) (a b c : S) (line line' : LineBuffer) (n n' n'' : ℕ) (bytes piece : List ℕ)
+        (q : PlaysOn rules W (part n bytes w m) a b line n') → PlaysOn rules W
+        (part n' (q.rest ++ piece) m l) b c line' n''
+        → PlaysOn rules W (part n (bytes ++ piece) w l) a c line' n''
+    on_more w m l a b c line line' n n' n'' bytes piece q p = record {
+      lines = q.lines ++ p.lines;
+      rest = p.rest;
+      text = q.text ++ p.text;
+      cut = cut_after (bytes ++ piece) (q.rest ++ piece) p.rest q.lines p.lines
+          (on_whole bytes q piece) q.cut.each p.cut;
+      kept = p.kept;
+      counted = let k = length-append q.lines p.lines in let i = q.counted in let j = p.counted in omega arith;
+      plays = plays_append w m l q.lines p.lines q.text p.text q.plays p.plays;
+      wrote = Appends-trans _ _ _ q.text p.text q.wrote p.wrote;
+    }
+
+    -- more bytes of the line
+    pub on_held : (w m : WorldView) (a b : S) (line line' : LineBuffer) (n n' : ℕ) (bytes p : List ℕ)
+        (q : PlaysOn rules W (part n bytes w m) a b line n') → HasNoFeed p → KeepsLine line' (q.rest ++ p)
+        → PlaysOn rules W (part n (bytes ++ p) w m) a b line' n'
+    on_held w m a b line line' n n' bytes p q h k =
+        on_more w m m a b b line line' n n' n' bytes p q
+        (on_none m b line' n' (q.rest ++ p) k (All-append (λ x. x ≢ 10) q.rest p q.cut.last h))
+
+    -- a line feed after them
+    pub on_line : (w m l : WorldView) (a b c : S) (line line' : LineBuffer) (n n' : ℕ) (bytes p : List ℕ)
+        (q : PlaysOn rules W (part n bytes w m) a b line n') → HasNoFeed p → KeepsLine line' []
+        → Took W b c (λ out. Plays rules m ((q.rest ++ p) ∷ []) out l)
+        → PlaysOn rules W (part n (bytes ++ (p ++ 10 ∷ [])) w l) a c line' (n' + 1)
+    on_line w m l a b c line line' n n' bytes p q h k t = on_more w m l a b c line line' n n' (n' + 1) bytes
+        (p ++ 10 ∷ []) q
+        (subst (λ x. PlaysOn rules W (part n' x m l) b c line' (n' + 1)) (append_assoc q.rest p (10 ∷ []))
+        (on_one m l b c line' n' (q.rest ++ p) k (All-append (λ x. x ≢ 10) q.rest p q.cut.last h) t))
+
+    -- what stops the run after them
+    pub on_stops : (at_end : Bool) (e : RunFault) (w m l : WorldView) (a b c : S) (line : LineBuffer) (n n' : ℕ)
+        (bytes p : List ℕ) (q : PlaysOn rules W (part n bytes w m) a b line n')
+        → Took W b c (Stops rules at_end (part n' (q.rest ++ p) m l) e)
+        → Took W a c (Stops rules at_end (part n (bytes ++ p) w l) e)
+    on_stops at_end e w m l a b c line n n' bytes p q t = (
+      q.text ++ t.0,
+      Appends-trans _ _ _ q.text t.0 q.wrote t.1,
+      stops_after at_end e w m l n n' (bytes ++ p) (q.rest ++ p) q.text t.0 q.lines
+          (on_whole bytes q p) q.cut.each q.counted q.plays t.2,
+    )
+
+    pub on_simulated : {A : Type 0} (at_end : Bool) (r : Result A RunFault) (w m l : WorldView) (a b c : S)
+        (line : LineBuffer) (n n' : ℕ) (bytes p : List ℕ) (q : PlaysOn rules W (part n bytes w m) a b line n')
+        → Took W b c (IsSimulatedFrom rules at_end (part n' (q.rest ++ p) m l) r)
+        → Took W a c (IsSimulatedFrom rules at_end (part n (bytes ++ p) w l) r)
+    on_simulated at_end r w m l a b c line n n' bytes p q t = (
+      q.text ++ t.0,
+      Appends-trans _ _ _ q.text t.0 q.wrote t.1,
+      simulated_after at_end r w m l n n' (bytes ++ p) (q.rest ++ p) q.text t.0 q.lines
+          (on_whole bytes q p) q.cut.each q.counted q.plays t.2,
+    )
+
+    -- the exit of a `?` in a piece
+    pub piece_exit : {A : Type 0} (at_end : Bool) (r : Result A RunFault) (e : RunFault) (w l : WorldView) (a b : S)
+        (line : LineBuffer) (n n' : ℕ) (bytes : List ℕ) → IsErrAnd r (λ y. y ≡ e)
+        → Took W a b (Stops rules at_end (part n bytes w l) e)
+        → PlaysPiece W at_end w l a b line n n' r bytes
+    piece_exit at_end (Ok x) e w l a b line n n' bytes k t = absurd k
+    piece_exit at_end (Err y) e w l a b line n n' bytes k t = subst
+        (λ f. Took W a b (Stops rules at_end (part n bytes w l) f))
+        (sym k) t
+
+    -- ---- the end
+
+    -- the exit of a `?` at the end
+    pub end_exit : {A : Type 0} (at_end : Bool) (r : Result A RunFault) (e : RunFault) (w l : WorldView) (a b : S)
+        (n : ℕ) (bytes : List ℕ) → IsErrAnd r (λ y. y ≡ e) → Took W a b (Stops rules at_end (part n bytes w l) e)
+        → Took W a b (IsSimulatedFrom rules at_end (part n bytes w l) r)
+    end_exit at_end (Ok x) e w l a b n bytes k t = absurd k
+    end_exit {A = A} at_end
+        (Err y) e w l a b n bytes k t
+        = subst (λ f. let r : Result A RunFault = Err f in Took W a b
+        (IsSimulatedFrom rules at_end (part n bytes w l) r))
+        (sym k) (t.0, t.1, stops_simulated at_end A e w l n bytes t.0 t.2)
+
+    pub end_some : (w l : WorldView) (a b : S) (rest : List ℕ) → rest ≢ []
+        → Took W a b (λ out. Plays rules w (rest ∷ []) out l) → Took W a b
+        (λ out. Plays rules w (all_lines [] rest) out l)
+    end_some w l a b [] n t = absurd (n refl)
+    end_some w l a b (byte ∷ rest) n t = t
+
+    pub end_none : (w l : WorldView) (a b : S) (rest : List ℕ) → rest ≡ [] → l ≡ w → b ≡ a
+        → Took W a b (λ out. Plays rules w (all_lines [] rest) out l)
+    end_none w l a b rest e f h = rw (e, f, h) ([], Appends-nil (W.written a), (refl, refl))
+
+    -- the closing lines, or a front of them
+    pub end_closing : {A : Type 0} (at_end : Bool) (r : Result A RunFault) (w l : WorldView) (a b c : S) (n : ℕ)
+        (rest : List ℕ) (quiet : Bool) → IsTrue at_end → HasNoFeed rest
+        → Took W a b (λ out. Plays rules w (all_lines [] rest) out l) → (IsTrue quiet ↔ IsQuietWorld l)
+        → Writes W b c r (closing_lines l quiet) → Took W a c (IsSimulatedFrom rules at_end (part n rest w l) r)
+    end_closing at_end (Ok x) w l a b c n rest quiet e h t k p = (
+      t.0 ++ closing_lines l quiet,
+      Appends-trans _ _ _ t.0 (closing_lines l quiet) t.1 p.appends,
+      ([], rest, t.0, quiet, record { whole = refl; each = all_none; last = h }, t.2, k, refl),
+    )
+    end_closing {A = A} at_end (Err f) w l a b c n rest quiet e h t k p
+        = subst (λ g. let r : Result A RunFault = Err g in Took W a c
+        (IsSimulatedFrom rules at_end (part n rest w l) r))
+        (sym p.0) (
+          t.0 ++ p.1.front,
+          Appends-trans _ _ _ t.0 p.1.front t.1 p.1.appends,
+          inr (
+            [],
+            rest,
+            t.0,
+            quiet,
+            p.1.front,
+            record { whole = refl; each = all_none; last = h },
+            t.2,
+            k,
+            (p.1.rest, p.1.whole),
+            refl,
+            e,
+          ),
+        )
 
 -- ---- the bytes of a piece
 

@@ -8,7 +8,7 @@ use Rattle.dgt_link.specs.View.{WorldView}
 use Rattle.dgt_script.specs.Closing.{outcome_line}
 use Rattle.dgt_script.specs.Script.{AsksFor}
 use Rattle.dgt_script.specs.ScriptLines.{HasNoFeed, IsCut, ended}
-use Rattle.dgt_text.specs.Simulating.{Plays}
+use Rattle.dgt_text.specs.Simulating.{Plays, Rules, plain_rules}
 
 rest_of : {A : Type 0} (P : A → Type 0) (x : A) (xs : List A) → All P (x ∷ xs) → All P xs
 rest_of P x xs h k d b = h (suc k) d (omega arith)
@@ -59,15 +59,26 @@ pub cut_once : (bytes : List ℕ) (lines others : List (List ℕ)) (rest other :
 cut_once bytes lines others rest other c d = lines_once lines others rest other c.each d.each c.last d.last
     (sym c.whole ∙ d.whole)
 
-module _ (meaning : (line : List ℕ) (first second : ActContent) → AsksFor line first → AsksFor line second
-    → first ≡ second)
-    (one : (act : ActContent) (world after other : WorldView) (answer also : Outcome) → Step act world answer after
-    → Step act world also other → (answer ≡ also) × (after ≡ other)) where
-  pub plays_once : (w : WorldView) (ls : List (List ℕ)) (t u : List ℕ) (l k : WorldView) → Plays w ls t l
-      → Plays w ls u k → (t ≡ u) × (l ≡ k)
+-- lines of which each has one outcome
+module _ (rules : Rules)
+    (one : (line : List ℕ) (world after other : WorldView) (answer also : Outcome) → rules.does line world answer after
+    → rules.does line world also other → (answer ≡ also) × (after ≡ other)) where
+  pub plays_once : (w : WorldView) (ls : List (List ℕ)) (t u : List ℕ) (l k : WorldView) → Plays rules w ls t l
+      → Plays rules w ls u k → (t ≡ u) × (l ≡ k)
   plays_once w [] t u l k p q = (p.0 ∙ sym q.0, sym p.1 ∙ q.1)
   plays_once w (line ∷ ls) t u l k p q =
-      let act : p.0 ≡ q.0 = meaning line p.0 q.0 p.4 q.4 in
-      let step = one q.0 w p.2 q.2 p.1 q.1 (subst (λ a. Step a w p.1 p.2) act p.5) q.5 in
-      let more = plays_once q.2 ls p.3 q.3 l k (subst (λ x. Plays x ls p.3 l) step.1 p.7) q.7 in
-      (p.6 ∙ ap (λ o. outcome_line o ++ p.3) step.0 ∙ ap (λ r. outcome_line q.1 ++ r) more.0 ∙ sym q.6, more.1)
+      let step = one line w p.1 q.1 p.0 q.0 p.3 q.3 in
+      let more = plays_once q.1 ls p.2 q.2 l k (subst (λ x. Plays rules x ls p.2 l) step.1 p.5) q.5 in
+      (p.4 ∙ ap (λ o. outcome_line o ++ p.2) step.0 ∙ ap (λ r. outcome_line q.0 ++ r) more.0 ∙ sym q.4, more.1)
+
+-- a line of a plain script asks for one act, which has one outcome
+pub plain_once : ((line : List ℕ) (first second : ActContent) → AsksFor line first → AsksFor line second
+    → first ≡ second)
+    → ((act : ActContent) (world after other : WorldView) (answer also : Outcome) → Step act world answer after
+    → Step act world also other → (answer ≡ also) × (after ≡ other))
+    → (line : List ℕ) (world after other : WorldView) (answer also : Outcome)
+    → plain_rules.does line world answer after → plain_rules.does line world also other
+    → (answer ≡ also) × (after ≡ other)
+plain_once meaning one line w l k o v p q =
+    let same : p.0 ≡ q.0 = meaning line p.0 q.0 p.1 q.1 in
+    one q.0 w l k o v (subst (λ a. Step a w o l) same p.2) q.2

@@ -3,9 +3,6 @@ use Rattle.std.proofs.Common.{◌≡◌, ℕ, List, [], ◌++◌, Bool, true, So
 use Rattle.std.specs.Prelude.{IfErr}
 use Rattle.std.specs.Io.KnownBytes.{Appends, Consumes}
 use Rattle.std.proofs.KnownBytes.{Appends-trans, Consumes-nil, Consumes-trans}
-use Rattle.dgt_link.specs.Machine.{MachineState}
-use Rattle.dgt_link.specs.Promise.{IsPromised}
-use Rattle.dgt_link.specs.Stands.{StandsFor}
 use Rattle.dgt_link.specs.View.{IsQuietWorld, WorldView}
 use Rattle.dgt_lines.specs.declared.faults.RunFault.{RunFault}
 use Rattle.dgt_lines.specs.declared.faults.RunFault.TheVariants.{ReadFailed, WriteFailed, TooManyTurns, BadLine}
@@ -13,7 +10,7 @@ use Rattle.dgt_script.specs.declared.script_lines.LineBuffer.{LineBuffer}
 use Rattle.dgt_script.specs.Closing.{ClosingLinesAgree, closing_lines}
 use Rattle.dgt_lines.specs.Writing.{Stopped}
 use Rattle.dgt_text.specs.Turns.{HasTurns, Ran, change, InTurns}
-use Rattle.dgt_text.specs.Simulating.{IsOfLine, IsSimulated, IsSimulatedFrom, PlaysOn, Stops, TellsPicture, Took, part}
+use Rattle.dgt_text.specs.Simulating.{EndsAlike, IsOfLine, IsSimulated, IsSimulatedFrom, PlaysOn, Stops, Rules, Took, part}
 use Rattle.dgt_text.proofs.PlayLemmas.{begins_none, end_exit, on_simulated, stopped_none, torn_none}
 use Rattle.dgt_lines.specs.declared.ends.Source.{Ghosts as Source}
 use Rattle.dgt_lines.specs.declared.ends.Sink.{Ghosts as Sink}
@@ -28,12 +25,13 @@ line_turns limit (Err ReadFailed) bytes f = absurd f
 line_turns limit (Err TooManyTurns) bytes f = absurd f
 
 -- what stops a run at a line is a fault of a line
-stop_line : {A : Type 0} (at_end : Bool) (r : Result A RunFault) (e : RunFault) (w l : WorldView) (n : ℕ)
-    (bytes out : List ℕ) → IsErrAnd r (λ y. y ≡ e) → Stops at_end (part n bytes w l) e out → IfErr r IsOfLine
-stop_line at_end (Ok x) e w l n bytes out k s = absurd k
-stop_line at_end (Err y) e w l n bytes out k s = subst IsOfLine (sym k) (go e s)
+stop_line : {A : Type 0} (rules : Rules) (at_end : Bool) (r : Result A RunFault) (e : RunFault) (w l : WorldView)
+    (n : ℕ)
+    (bytes out : List ℕ) → IsErrAnd r (λ y. y ≡ e) → Stops rules at_end (part n bytes w l) e out → IfErr r IsOfLine
+stop_line rules at_end (Ok x) e w l n bytes out k s = absurd k
+stop_line rules at_end (Err y) e w l n bytes out k s = subst IsOfLine (sym k) (go e s)
   where
-    go : (e : RunFault) → Stops at_end (part n bytes w l) e out → IsOfLine e
+    go : (e : RunFault) → Stops rules at_end (part n bytes w l) e out → IsOfLine e
     go WriteFailed s = tt
     go (BadLine number at) s = tt
     go ReadFailed s = absurd s
@@ -43,10 +41,10 @@ is_true : {b : Bool} → IsTrue b → b ≡ true
 is_true h = cc
 
 -- the lines that were played, and a flush
-pub plays_flushed : {T : Type 0} (W : Sink T) (c d d' : T) (w m : WorldView) (line : LineBuffer) (n : ℕ)
-    (bytes : List ℕ) → PlaysOn W (part 1 bytes w m) c d line n → Appends (W.written d) (W.written d') []
-    → PlaysOn W (part 1 bytes w m) c d' line n
-plays_flushed W c d d' w m line n bytes q p = record {
+pub plays_flushed : {T : Type 0} (rules : Rules) (W : Sink T) (c d d' : T) (w m : WorldView) (line : LineBuffer) (n : ℕ)
+    (bytes : List ℕ) → PlaysOn rules W (part 1 bytes w m) c d line n → Appends (W.written d) (W.written d') []
+    → PlaysOn rules W (part 1 bytes w m) c d' line n
+plays_flushed rules W c d d' w m line n bytes q p = record {
   lines = q.lines;
   rest = q.rest;
   text = q.text;
@@ -58,16 +56,16 @@ plays_flushed W c d d' w m line n bytes q p = record {
       (Appends-trans _ _ _ q.text [] q.wrote p);
 }
 
-module _ {S T : Type 0} (R : Source S) (W : Sink T) where
+module _ (rules : Rules) {S T : Type 0} (R : Source S) (W : Sink T) where
   -- how the run ends
   pub scripted_ends : {A : Type 0} (at_end : Bool) (limit : ℕ) (r : Result A RunFault) (a b b' : S) (c d d' : T)
       (w m l : WorldView) (line : LineBuffer) (n : ℕ) (bytes piece : List ℕ) → Consumes (R.left a) (R.left b) bytes
-      → (q : PlaysOn W (part 1 bytes w m) c d line n)
+      → (q : PlaysOn rules W (part 1 bytes w m) c d line n)
       → Consumes (R.left b) (R.left b') piece → IfErr r IsOfLine
-      → Took W d d' (IsSimulatedFrom at_end (part n (q.rest ++ piece) m l) r)
-      → Ran R W (change a b') (change c d') (InTurns limit r (IsSimulated at_end r w l))
+      → Took W d d' (IsSimulatedFrom rules at_end (part n (q.rest ++ piece) m l) r)
+      → Ran R W (change a b') (change c d') (InTurns limit r (IsSimulated rules at_end r w l))
   scripted_ends at_end limit r a b b' c d d' w m l line n bytes piece g q p f t =
-      let whole = on_simulated W at_end r w m l c d d' line 1 n bytes piece q t in (
+      let whole = on_simulated rules W at_end r w m l c d d' line 1 n bytes piece q t in (
         bytes ++ piece,
         whole.0,
         Consumes-trans _ _ _ bytes piece g p,
@@ -78,34 +76,33 @@ module _ {S T : Type 0} (R : Source S) (W : Sink T) where
   -- the exit of a `?` on a piece
   pub scripted_stops : {A : Type 0} (at_end : Bool) (limit : ℕ) (r : Result A RunFault) (e : RunFault) (a b b' : S)
       (c d d' : T) (w m l : WorldView) (line : LineBuffer) (n : ℕ) (bytes piece : List ℕ)
-      → Consumes (R.left a) (R.left b) bytes → (q : PlaysOn W (part 1 bytes w m) c d line n)
+      → Consumes (R.left a) (R.left b) bytes → (q : PlaysOn rules W (part 1 bytes w m) c d line n)
       → Consumes (R.left b) (R.left b') piece → IsErrAnd r (λ y. y ≡ e)
-      → Took W d d' (Stops at_end (part n (q.rest ++ piece) m l) e)
-      → Ran R W (change a b') (change c d') (InTurns limit r (IsSimulated at_end r w l))
+      → Took W d d' (Stops rules at_end (part n (q.rest ++ piece) m l) e)
+      → Ran R W (change a b') (change c d') (InTurns limit r (IsSimulated rules at_end r w l))
   scripted_stops at_end limit r e a b b' c d d' w m l line n bytes piece g q p k t =
       scripted_ends at_end limit r a b b' c d d' w m l line n bytes piece g q p
-      (stop_line at_end r e m l n (q.rest ++ piece) t.0 k t.2)
-      (end_exit W at_end r e m l d d' n (q.rest ++ piece) k t)
+      (stop_line rules at_end r e m l n (q.rest ++ piece) t.0 k t.2)
+      (end_exit rules W at_end r e m l d d' n (q.rest ++ piece) k t)
 
   -- and on a flush
   pub scripted_unflushed : {A : Type 0} (at_end : Bool) (limit : ℕ) (r : Result A RunFault) (e : RunFault) (a b : S)
       (c d d' : T) (w m : WorldView) (line : LineBuffer) (n : ℕ) (bytes : List ℕ)
-      → Consumes (R.left a) (R.left b) bytes → PlaysOn W (part 1 bytes w m) c d line n → IsErrAnd r (λ y. y ≡ e)
+      → Consumes (R.left a) (R.left b) bytes → PlaysOn rules W (part 1 bytes w m) c d line n → IsErrAnd r (λ y. y ≡ e)
       → (e ≡ WriteFailed) × Stopped W d d' []
-      → Ran R W (change a b) (change c d') (InTurns limit r (IsSimulated at_end r w m))
+      → Ran R W (change a b) (change c d') (InTurns limit r (IsSimulated rules at_end r w m))
   scripted_unflushed at_end limit r e a b c d d' w m line n bytes g q k s =
       scripted_stops at_end limit r e a b b c d d' w m m line n bytes [] g q (Consumes-nil (R.left b)) k
-      (subst (λ f. Took W d d' (Stops at_end (part n (q.rest ++ []) m m) f)) (sym s.0)
-      ([], stopped_none W d d' s.1, ([], begins_none at_end (q.rest ++ []), torn_none m)))
+      (subst (λ f. Took W d d' (Stops rules at_end (part n (q.rest ++ []) m m) f)) (sym s.0)
+      ([], stopped_none W d d' s.1, ([], begins_none at_end (q.rest ++ []), torn_none rules m)))
 
-  -- the closing lines of a world that is promised and quiet
+  -- the closing lines of a quiet world whose host's picture is the board's position
   pub simulated_pictures : {A : Type 0} (at_end : Bool) (limit : ℕ) (r : Result A RunFault) (a b : S) (c d : T)
-      (w l : WorldView) → ClosingLinesAgree
-      → ((x : MachineState) → StandsFor l x → IsPromised x → IsQuietWorld l
-      → l.host.picture ≡ Some l.board.state.squares)
-      → Ran R W (change a b) (change c d) (InTurns limit r (IsSimulated at_end r w l))
-      → Ran R W (change a b) (change c d) (InTurns limit r (λ _ out. OnOk r (TellsPicture l out)))
-  simulated_pictures at_end limit (Ok x) a b c d w l agree same p =
+      (w l : WorldView) (P : List ℕ → Type 0) → ClosingLinesAgree
+      → ((out : List ℕ) → (IsQuietWorld l → l.host.picture ≡ Some l.board.state.squares → EndsAlike l out) → P out)
+      → Ran R W (change a b) (change c d) (InTurns limit r (IsSimulated rules at_end r w l))
+      → Ran R W (change a b) (change c d) (InTurns limit r (λ _ out. OnOk r (P out)))
+  simulated_pictures at_end limit (Ok x) a b c d w l P agree ends p =
       let s = p.4.1 in (
         p.0,
         p.1,
@@ -113,11 +110,11 @@ module _ {S T : Type 0} (R : Source S) (W : Sink T) where
         p.3,
         (
           p.4.0,
-          λ y stands promised quiet. (
+          ends p.1 (λ quiet same. (
             s.2,
             s.7 ∙ ap (λ q. s.2 ++ closing_lines l q) (is_true (s.6.1 quiet)),
-            agree l true (same y stands promised quiet),
-          ),
+            agree l true same,
+          )),
         ),
       )
-  simulated_pictures at_end limit (Err e) a b c d w l agree same p = (p.0, p.1, p.2, p.3, (p.4.0, tt))
+  simulated_pictures at_end limit (Err e) a b c d w l P agree ends p = (p.0, p.1, p.2, p.3, (p.4.0, tt))

@@ -3,6 +3,8 @@ use Rattle.std.specs.Prelude.{◌≡◌, ◌+◌, ◌≤◌, ◌↔◌, ◌⊎�
 use Rattle.std.specs.Io.KnownBytes.{Appends}
 use Rattle.dgt_link.specs.Act.{ActContent}
 use Rattle.dgt_link.specs.declared.acts.Outcome.{Outcome}
+use Rattle.dgt_link.specs.Faults.{FaultyContent, FaultyStep}
+use Rattle.dgt_link.specs.Healing.{IsPromisedWorld}
 use Rattle.dgt_link.specs.Machine.{MachineState}
 use Rattle.dgt_link.specs.Promise.{IsPromised}
 use Rattle.dgt_link.specs.Stands.{StandsFor}
@@ -15,6 +17,7 @@ use Rattle.dgt_lines.specs.declared.faults.RunFault.TheVariants.{ReadFailed, Wri
 use Rattle.dgt_script.specs.declared.script_lines.LineBuffer.{LineBuffer}
 use Rattle.dgt_script.specs.Closing.{closing_lines, outcome_line}
 use Rattle.dgt_text.specs.Monitoring.{IsFront}
+use Rattle.dgt_script.specs.FaultyScript.{AsksForFaulty, IsBadAtFaulty}
 use Rattle.dgt_script.specs.Script.{AsksFor, IsBadAt}
 use Rattle.dgt_script.specs.ScriptLines.{HasNoFeed, IsCut, KeepsLine, ended}
 
@@ -33,19 +36,44 @@ BeginsWith at_end bytes lines =
     ⊎ ((whole : List (List ℕ)) × (rest : List ℕ) × IsCut bytes whole rest
     × (lines ≡ all_lines whole rest) × IsTrue at_end)
 
+-- ---- the rules of a script
+
+-- what the lines of a script do: `does line world outcome after` says that the line asks for an act
+-- whose outcome in this world is this, and which leaves the world after it; `is_bad line at` says
+-- that the line asks for no act, and goes wrong at this offset
+pub record Rules : Type 1 where
+  pub does : List ℕ → WorldView → Outcome → WorldView → Type 0
+  pub is_bad : List ℕ → ℕ → Type 0
+
+-- the rules of a script whose lines never fail
+abbrev pub plain_rules : Rules
+plain_rules = record {
+  does = λ line world outcome after.
+      (act : ActContent) × AsksFor line act × Step act world outcome after;
+  is_bad = IsBadAt;
+}
+
+-- the rules of a script whose lines and whose board's power may fail
+abbrev pub faulty_rules : Rules
+faulty_rules = record {
+  does = λ line world outcome after.
+      (act : FaultyContent) × AsksForFaulty line act × FaultyStep act world outcome after;
+  is_bad = IsBadAtFaulty;
+}
+
 -- ---- playing
 
 -- the lines ask for acts; these, in order from this world, have this text of outcomes, and leave
 -- the last world
-abbrev pub Plays : WorldView → List (List ℕ) → List ℕ → WorldView → Type 0
-Plays world [] text last = (text ≡ []) × (world ≡ last)
-Plays world (line ∷ lines) text last =
-    (act : ActContent) × (outcome : Outcome) × (between : WorldView) × (rest : List ℕ)
-    × AsksFor line act × Step act world outcome between × (text ≡ outcome_line outcome ++ rest)
-    × Plays between lines rest last
+abbrev pub Plays : Rules → WorldView → List (List ℕ) → List ℕ → WorldView → Type 0
+Plays rules world [] text last = (text ≡ []) × (world ≡ last)
+Plays rules world (line ∷ lines) text last =
+    (outcome : Outcome) × (between : WorldView) × (rest : List ℕ)
+    × rules.does line world outcome between × (text ≡ outcome_line outcome ++ rest)
+    × Plays rules between lines rest last
 
 -- the lines are played, but the outcome of the last one may be missing or torn
-pub record PlaysTorn (world : WorldView) (lines : List (List ℕ)) (out : List ℕ)
+pub record PlaysTorn (rules : Rules) (world : WorldView) (lines : List (List ℕ)) (out : List ℕ)
     (last : WorldView) : Type 0 where
   pub earlier : List (List ℕ)
   pub final : List (List ℕ)
@@ -55,8 +83,8 @@ pub record PlaysTorn (world : WorldView) (lines : List (List ℕ)) (out : List �
   pub text : List ℕ
   pub torn : List ℕ
   pub front : List ℕ
-  pub plays : Plays world earlier text between
-  pub ends : Plays between final torn last
+  pub plays : Plays rules world earlier text between
+  pub ends : Plays rules between final torn last
   pub is_front : IsFront front torn
   pub out_is : out ≡ text ++ front
 
@@ -72,44 +100,49 @@ part number bytes world last =
     record { number = number; bytes = bytes; world = world; last = last }
 
 -- the part is played up to a refused write or a bad line
-abbrev pub Stops : Bool → Part → RunFault → List ℕ → Type 0
-Stops at_end p WriteFailed out =
-    (lines : List (List ℕ)) × BeginsWith at_end p.bytes lines × PlaysTorn p.world lines out p.last
-Stops at_end p (BadLine bad_number at) out =
+abbrev pub Stops : Rules → Bool → Part → RunFault → List ℕ → Type 0
+Stops rules at_end p WriteFailed out =
+    (lines : List (List ℕ)) × BeginsWith at_end p.bytes lines
+    × PlaysTorn rules p.world lines out p.last
+Stops rules at_end p (BadLine bad_number at) out =
     (lines : List (List ℕ)) × (bad : List ℕ) × BeginsWith at_end p.bytes (lines ++ bad ∷ [])
-    × Plays p.world lines out p.last × IsBadAt bad at × (bad_number ≡ p.number + length lines)
-Stops at_end p ReadFailed out = ⊥
-Stops at_end p TooManyTurns out = ⊥
+    × Plays rules p.world lines out p.last × rules.is_bad bad at
+    × (bad_number ≡ p.number + length lines)
+Stops rules at_end p ReadFailed out = ⊥
+Stops rules at_end p TooManyTurns out = ⊥
 
 -- the part's whole lines are played
-abbrev pub PlaysWhole : Part → List ℕ → Type 0
-PlaysWhole p out =
+abbrev pub PlaysWhole : Rules → Part → List ℕ → Type 0
+PlaysWhole rules p out =
     (lines : List (List ℕ)) × (rest : List ℕ) × IsCut p.bytes lines rest
-    × Plays p.world lines out p.last
+    × Plays rules p.world lines out p.last
 
 -- what stands in the sink for this part, and which world is left, where the answer is this and
 -- `at_end` says whether the source has told the end
-abbrev pub IsSimulatedFrom : {A : Type 0} → Bool → Part → Result A RunFault → List ℕ → Type 0
+abbrev pub IsSimulatedFrom : {A : Type 0} → Rules → Bool → Part → Result A RunFault → List ℕ
+    → Type 0
 -- all lines were played, and the closing lines are those of the world that is left
-IsSimulatedFrom at_end p (Ok _) out =
+IsSimulatedFrom rules at_end p (Ok _) out =
     (lines : List (List ℕ)) × (rest : List ℕ) × (text : List ℕ) × (quiet : Bool)
-    × IsCut p.bytes lines rest × Plays p.world (all_lines lines rest) text p.last
+    × IsCut p.bytes lines rest × Plays rules p.world (all_lines lines rest) text p.last
     × (IsTrue quiet ↔ IsQuietWorld p.last) × (out ≡ text ++ closing_lines p.last quiet)
-IsSimulatedFrom at_end p (Err ReadFailed) out = PlaysWhole p out
-IsSimulatedFrom at_end p (Err TooManyTurns) out = PlaysWhole p out
-IsSimulatedFrom at_end p (Err (BadLine number at)) out = Stops at_end p (BadLine number at) out
+IsSimulatedFrom rules at_end p (Err ReadFailed) out = PlaysWhole rules p out
+IsSimulatedFrom rules at_end p (Err TooManyTurns) out = PlaysWhole rules p out
+IsSimulatedFrom rules at_end p (Err (BadLine number at)) out =
+    Stops rules at_end p (BadLine number at) out
 -- an outcome was refused, or at the end a part of the closing lines
-IsSimulatedFrom at_end p (Err WriteFailed) out =
-    Stops at_end p WriteFailed out
+IsSimulatedFrom rules at_end p (Err WriteFailed) out =
+    Stops rules at_end p WriteFailed out
     ⊎ ((lines : List (List ℕ)) × (rest : List ℕ) × (text : List ℕ) × (quiet : Bool)
     × (front : List ℕ) × IsCut p.bytes lines rest
-    × Plays p.world (all_lines lines rest) text p.last × (IsTrue quiet ↔ IsQuietWorld p.last)
+    × Plays rules p.world (all_lines lines rest) text p.last × (IsTrue quiet ↔ IsQuietWorld p.last)
     × IsFront front (closing_lines p.last quiet) × (out ≡ text ++ front) × IsTrue at_end)
 
 -- the first line of a script has number 1
-abbrev pub IsSimulated : {A : Type 0} → Bool → Result A RunFault → WorldView → WorldView → List ℕ
-    → List ℕ → Type 0
-IsSimulated at_end r world last bytes out = IsSimulatedFrom at_end (part 1 bytes world last) r out
+abbrev pub IsSimulated : {A : Type 0} → Rules → Bool → Result A RunFault → WorldView → WorldView
+    → List ℕ → List ℕ → Type 0
+IsSimulated rules at_end r world last bytes out =
+    IsSimulatedFrom rules at_end (part 1 bytes world last) r out
 
 -- the text begins with the lines of board and host, and both have this placement
 abbrev pub ShowsTwice : List ℕ → List ℕ → Type 0
@@ -117,13 +150,21 @@ ShowsTwice placement text =
     (rest : List ℕ)
     × (text ≡ codes "board " ++ placement ++ codes "\nhost " ++ placement ++ codes "\n" ++ rest)
 
--- Where updates and a dump were asked for and all is quiet, the text ends with the closing lines of
--- this world, of which those of board and host have one placement.
+-- the text ends with the closing lines of this world, which is quiet; those of board and host have
+-- one placement
+abbrev pub EndsAlike : WorldView → List ℕ → Type 0
+EndsAlike world out =
+    (text : List ℕ) × (out ≡ text ++ closing_lines world true)
+    × ShowsTwice (placement_text world.board.state.squares) (closing_lines world true)
+
+-- if updates and a dump were asked for and all is quiet, the text ends so
 abbrev pub TellsPicture : WorldView → List ℕ → Type 0
 TellsPicture world out =
-    (x : MachineState) → StandsFor world x → IsPromised x → IsQuietWorld world
-    → (text : List ℕ) × (out ≡ text ++ closing_lines world true)
-    × ShowsTwice (placement_text world.board.state.squares) (closing_lines world true)
+    (x : MachineState) → StandsFor world x → IsPromised x → IsQuietWorld world → EndsAlike world out
+
+-- if the world is promised and all is quiet, the text ends so
+abbrev pub TellsHealed : WorldView → List ℕ → Type 0
+TellsHealed world out = IsPromisedWorld world → IsQuietWorld world → EndsAlike world out
 
 -- ---- the engine's parts
 
@@ -140,13 +181,13 @@ Took W old new P = (out : List ℕ) × Appends (W.written old) (W.written new) o
 
 -- the lines that end in this part were played, what is after them is kept, and the next line has
 -- this number
-pub record PlaysOn {S : Type 0} (W : Sink S) (p : Part) (old new : S) (line : LineBuffer)
-    (next : ℕ) : Type 0 where
+pub record PlaysOn {S : Type 0} (rules : Rules) (W : Sink S) (p : Part) (old new : S)
+    (line : LineBuffer) (next : ℕ) : Type 0 where
   pub lines : List (List ℕ)
   pub rest : List ℕ
   pub text : List ℕ
   pub cut : IsCut p.bytes lines rest
   pub kept : KeepsLine line rest
   pub counted : next ≡ p.number + length lines
-  pub plays : Plays p.world lines text p.last
+  pub plays : Plays rules p.world lines text p.last
   pub wrote : Appends (W.written old) (W.written new) text

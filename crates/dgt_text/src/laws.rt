@@ -5,7 +5,7 @@ ghost use Rattle.std.specs.Prelude.{◌≡◌, ℕ, List};
 ghost use Rattle.dgt_link.specs.View.{WorldView};
 ghost use Rattle.dgt_text.specs.Conversation.{EachFrontGoesOn, EachIsAnswered, EachIsAnsweredOnce};
 ghost use Rattle.dgt_script.specs.ScriptLines.{IsCut};
-ghost use Rattle.dgt_text.specs.Simulating.{Plays};
+ghost use Rattle.dgt_text.specs.Simulating.{Plays, plain_rules};
 
 pub use dgt_lines::laws::last_line_is_picture;
 pub use dgt_script::laws::{closing_lines_agree, lines_have_one_meaning};
@@ -29,7 +29,7 @@ pub fn scripts_have_one_play()
     ensures cut { (bytes : List ℕ) (lines others : List (List ℕ)) (rest other : List ℕ) →
         IsCut bytes lines rest → IsCut bytes others other → (lines ≡ others) × (rest ≡ other) }
     ensures played { (world last other : WorldView) (lines : List (List ℕ)) (text also : List ℕ) →
-        Plays world lines text last → Plays world lines also other
+        Plays plain_rules world lines text last → Plays plain_rules world lines also other
         → (text ≡ also) × (last ≡ other) }
 {
     lines_have_one_meaning();

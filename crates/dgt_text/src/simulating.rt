@@ -7,16 +7,14 @@ ghost use Rattle.dgt_lines.specs.Writing.{Writes};
 ghost use Rattle.dgt_script.specs.Closing.{closing_lines};
 ghost use Rattle.dgt_text.specs.Turns.{change, InTurns, Ran, sink_mark_after, RunsInTurns};
 ghost use Rattle.dgt_script.specs.ScriptLines.{HasNoFeed, KeepsLine};
-ghost use Rattle.dgt_text.specs.Simulating.{BeginsWith, IsOfLine, IsSimulated, IsSimulatedFrom, Plays, PlaysOn, Stops, TellsPicture, Took, part};
+ghost use Rattle.dgt_text.specs.Simulating.{BeginsWith, IsOfLine, IsSimulated, IsSimulatedFrom, Plays, PlaysOn, Stops, TellsHealed, TellsPicture, Took, faulty_rules, part, plain_rules};
 
+use crate::stage::Stage;
 use crate::{MAX_PIECE, laws};
-use dgt_command::MAX_WORD;
 use dgt_lines::laws::writes_in_a_row;
 use dgt_lines::{RunFault, Sink, Source, flush, put};
-use dgt_link::World;
-use dgt_script::{
-    LineBuffer, LineFault, MAX_LINE, len_before, outcome_text, read_act, write_closing,
-};
+use dgt_link::{FaultyWorld, World};
+use dgt_script::{LineBuffer, LineFault, MAX_LINE, len_before, outcome_text};
 
 // Flushes, and then refuses a line.
 fn refuse<W: Sink>(writer: &mut W, line: u64, at: usize) -> Result<(), RunFault>
@@ -33,8 +31,8 @@ fn refuse<W: Sink>(writer: &mut W, line: u64, at: usize) -> Result<(), RunFault>
 }
 
 // Does what a line asks for, and writes the line of its outcome.
-fn play_line<W: Sink>(
-    world: &mut World,
+fn play_line<S: Stage, W: Sink>(
+    world: &mut S,
     line: &LineBuffer,
     number: u64,
     writer: &mut W,
@@ -42,9 +40,9 @@ fn play_line<W: Sink>(
     ensures played { (at_end : Bool) (whole bytes : List ℕ) → KeepsLine line.now whole
         → BeginsWith at_end bytes (whole ∷ []) → MatchResult result
         (λ _. Took W.Sink writer.old writer.new
-        (λ out. Plays world.old (whole ∷ []) out world.new))
+        (λ out. Plays S.rules (S.seen world.old) (whole ∷ []) out (S.seen world.new)))
         (λ fault. Took W.Sink writer.old writer.new
-        (Stops at_end (part number bytes world.old world.new) fault)) }
+        (Stops S.rules at_end (part number bytes (S.seen world.old) (S.seen world.new)) fault)) }
     ensures faults { IfErr result IsOfLine }
     ensures sink_failed { W.failed writer.new ≡ sink_mark_after result (W.failed writer.old) }
     ensures in_time { W.failed writer.old ≡ false → W.late writer.new ≡ W.late writer.old }
@@ -54,16 +52,15 @@ fn play_line<W: Sink>(
     let Some(bytes) = line.line() else {
         return refuse(writer, number, MAX_LINE);
     };
-    let mut store = [0; MAX_WORD];
-    match read_act(bytes, &mut store) {
-        Ok(act) => put(writer, outcome_text(world.step(act))),
+    match world.play(bytes) {
+        Ok(outcome) => put(writer, outcome_text(outcome)),
         Err(LineFault::BadLine { at }) => refuse(writer, number, at),
     }
 }
 
 // Plays the lines that end in the piece, and keeps the bytes after them.
-fn play_piece<W: Sink>(
-    world: &mut World,
+fn play_piece<S: Stage, W: Sink>(
+    world: &mut S,
     line: &mut LineBuffer,
     number: &mut u64,
     piece: &[u8],
@@ -71,10 +68,10 @@ fn play_piece<W: Sink>(
 ) -> Result<(), RunFault>
     requires { number.old + length piece.now < 2 ^ 64 }
     ensures played { (at_end : Bool) (rest : List ℕ) → KeepsLine line.old rest → HasNoFeed rest
-        → let played = part number.old (rest ++ piece.now) world.old world.new in
+        → let played = part number.old (rest ++ piece.now) (S.seen world.old) (S.seen world.new) in
         MatchResult result
-        (λ _. PlaysOn W.Sink played writer.old writer.new line.new number.new)
-        (λ fault. Took W.Sink writer.old writer.new (Stops at_end played fault)) }
+        (λ _. PlaysOn S.rules W.Sink played writer.old writer.new line.new number.new)
+        (λ fault. Took W.Sink writer.old writer.new (Stops S.rules at_end played fault)) }
     ensures counted { OnOk result (number.new ≤ number.old + length piece.now) }
     ensures faults { IfErr result IsOfLine }
     ensures sink_failed { W.failed writer.new ≡ sink_mark_after result (W.failed writer.old) }
@@ -99,26 +96,27 @@ fn play_piece<W: Sink>(
 }
 
 // Writes the closing lines, and flushes.
-fn close<W: Sink>(world: &World, writer: &mut W) -> Result<(), RunFault>
-    ensures output { (quiet : Bool) × (IsTrue quiet ↔ IsQuietWorld world.now)
-        × Writes W.Sink writer.old writer.new result (closing_lines world.now quiet) }
+fn close<S: Stage, W: Sink>(world: &S, writer: &mut W) -> Result<(), RunFault>
+    ensures output { (quiet : Bool) × (IsTrue quiet ↔ IsQuietWorld (S.seen world.now))
+        × Writes W.Sink writer.old writer.new result (closing_lines (S.seen world.now) quiet) }
     ensures flushed { OnOk result (IsTrue (W.flushed writer.new)) }
 {
     writes_in_a_row::<W>();
-    write_closing(world, writer)?;
+    world.end(writer)?;
     flush(writer)
 }
 
 // Plays a last line, if it isn't empty, and writes the closing lines.
-fn play_end<W: Sink>(
-    world: &mut World,
+fn play_end<S: Stage, W: Sink>(
+    world: &mut S,
     line: &LineBuffer,
     number: u64,
     writer: &mut W,
 ) -> Result<(), RunFault>
     ensures played { (at_end : Bool) (rest : List ℕ) → IsTrue at_end → KeepsLine line.now rest
         → HasNoFeed rest → Took W.Sink writer.old writer.new
-        (IsSimulatedFrom at_end (part number rest world.old world.new) result) }
+        (IsSimulatedFrom S.rules at_end
+        (part number rest (S.seen world.old) (S.seen world.new)) result) }
     ensures faults { IfErr result IsOfLine }
     ensures sink_failed { W.failed writer.new ≡ sink_mark_after result (W.failed writer.old) }
     ensures in_time { W.failed writer.old ≡ false → W.late writer.new ≡ W.late writer.old }
@@ -128,6 +126,37 @@ fn play_end<W: Sink>(
         play_line(world, line, number, writer)?;
     }
     close(world, writer)
+}
+
+// Runs the script that the reader gives, in at most `limit` reads, in the world.
+fn play<S: Stage, R: Source, W: Sink>(
+    world: &mut S,
+    reader: &mut R,
+    writer: &mut W,
+    limit: u32,
+) -> Result<(), RunFault>
+    ensures output { Ran R.Source W.Sink
+        (change reader.old reader.new) (change writer.old writer.new)
+        (InTurns limit result (IsSimulated S.rules (R.ended reader.new) result
+        (S.seen world.old) (S.seen world.new))) }
+    ensures in_turns { RunsInTurns R.Source W.Sink (change reader.old reader.new)
+        (change writer.old writer.new) limit result }
+{
+    writes_in_a_row::<W>();
+    let mut line = LineBuffer::new();
+    let mut number = 1;
+    let mut buffer = [0; MAX_PIECE];
+    for _ in 0..limit {
+        let Ok(given) = reader.read_some(&mut buffer) else {
+            return Err(RunFault::ReadFailed);
+        };
+        if given == 0 {
+            return play_end(world, &line, number, writer);
+        }
+        play_piece(world, &mut line, &mut number, &buffer[..given], writer)?;
+        flush(writer)?;
+    }
+    Err(RunFault::TooManyTurns)
 }
 
 /// Plays the script that the reader gives, in at most `limit` reads, in the world.
@@ -154,7 +183,8 @@ pub fn simulate<R: Source, W: Sink>(
     // what was read, what was written of it, and which world is left
     ensures output { Ran R.Source W.Sink
         (change reader.old reader.new) (change writer.old writer.new)
-        (InTurns limit result (IsSimulated (R.ended reader.new) result world.old world.new)) }
+        (InTurns limit result
+        (IsSimulated plain_rules (R.ended reader.new) result world.old world.new)) }
 
     // where updates and a dump were asked for, and the last line tells that all is quiet, the lines
     // of board and host tell one placement
@@ -166,21 +196,39 @@ pub fn simulate<R: Source, W: Sink>(
     ensures in_turns { RunsInTurns R.Source W.Sink (change reader.old reader.new)
         (change writer.old writer.new) limit result }
 {
-    writes_in_a_row::<W>();
     laws::closing_lines_agree();
     dgt_link::laws::at_quiet_world();
-    let mut line = LineBuffer::new();
-    let mut number = 1;
-    let mut buffer = [0; MAX_PIECE];
-    for _ in 0..limit {
-        let Ok(given) = reader.read_some(&mut buffer) else {
-            return Err(RunFault::ReadFailed);
-        };
-        if given == 0 {
-            return play_end(world, &line, number, writer);
-        }
-        play_piece(world, &mut line, &mut number, &buffer[..given], writer)?;
-        flush(writer)?;
-    }
-    Err(RunFault::TooManyTurns)
+    play(world, reader, writer, limit)
+}
+
+/// Runs a script in a world whose lines and whose board's power may fail, in at most `limit` reads.
+///
+/// A line may ask for what [`simulate`] allows, or for a fault or a restart, as
+/// [`read_faulty_act`](crate::read_faulty_act) reads them. Outcomes, closing lines and errors are
+/// those of [`simulate`].
+pub fn simulate_faults<R: Source, W: Sink>(
+    world: &mut FaultyWorld,
+    reader: &mut R,
+    writer: &mut W,
+    limit: u32,
+) -> Result<(), RunFault>
+    // what was read, what was written of it, and which world is left
+    ensures output { Ran R.Source W.Sink
+        (change reader.old reader.new) (change writer.old writer.new)
+        (InTurns limit result
+        (IsSimulated faulty_rules (R.ended reader.new) result world.old world.new)) }
+
+    // if the world that is left is promised and quiet, the lines of board and host have one
+    // placement
+    ensures picture { Ran R.Source W.Sink
+        (change reader.old reader.new) (change writer.old writer.new)
+        (InTurns limit result (λ _ out. OnOk result (TellsHealed world.new out))) }
+
+    // how often it reads, when it stops, and which marks it leaves
+    ensures in_turns { RunsInTurns R.Source W.Sink (change reader.old reader.new)
+        (change writer.old writer.new) limit result }
+{
+    laws::closing_lines_agree();
+    dgt_link::laws::promised_worlds_heal();
+    play(world, reader, writer, limit)
 }

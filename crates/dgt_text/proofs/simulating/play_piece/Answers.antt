@@ -10,7 +10,8 @@ loop-at-init g c = record {
   not_failed = refl;
   in_time = λ _. refl;
   played = λ rest h k. rw (append-nil rest)
-      (on_none g.W.Sink c.args.world.now c.args.writer.now c.args.line.now c.args.number.now rest h k);
+      (on_none g.S.Stage.rules g.W.Sink
+      (g.S.Stage.seen c.args.world.now) c.args.writer.now c.args.line.now c.args.number.now rest h k);
 }
 
 pub loop-at-preserved : goal.loop-at-preserved
@@ -24,7 +25,8 @@ loop-at-preserved g c =
       played = λ rest h k.
           let q = c.loop-at.invariant.played rest h k in
           rw (sym (held_bytes rest p i n))
-          (on_held g.W.Sink _ _ _ _ _ _ _ _ _ _ q c.len_before-end.ensures.before (c.add.ensures q.rest q.kept));
+          (on_held g.S.Stage.rules g.W.Sink _ _ _ _ _ _ _ _ _ _ q c.len_before-end.ensures.before
+          (c.add.ensures q.rest q.kept));
     }
 
 pub loop-at-preserved-then-at-piece : goal.loop-at-preserved-then-at-piece
@@ -41,7 +43,7 @@ loop-at-preserved-then-at-piece g c =
           let begins = feed_begins true q.rest p i n c.if-at-piece.true c.len_before-end.ensures.found q.cut.last
           c.len_before-end.ensures.before in
           rw (sym (line_bytes rest p i n c.if-at-piece.true c.len_before-end.ensures.found))
-          (on_line g.W.Sink _ _ _ _ _ _ _ _ _ _ _ _ q c.len_before-end.ensures.before c.new.ensures
+          (on_line g.S.Stage.rules g.W.Sink _ _ _ _ _ _ _ _ _ _ _ _ q c.len_before-end.ensures.before c.new.ensures
           (c.in_ok-play_line.ensures.played true _ _ (c.add.ensures q.rest q.kept) begins));
     }
 
@@ -51,7 +53,7 @@ returns-in_err-play_line-clause-played g c = λ at_end rest h k.
     let q = c.loop-at.invariant.played rest h k in
     let begins = feed_begins at_end q.rest p i n c.if-at-piece.true c.len_before-end.ensures.found q.cut.last
     c.len_before-end.ensures.before in
-    piece_exit g.W.Sink at_end _ _ _ _ _ _ _ _ _ _ c.from_residual.ensures.1
+    piece_exit g.S.Stage.rules g.W.Sink at_end _ _ _ _ _ _ _ _ _ _ c.from_residual.ensures.1
     (rw (left_bytes rest p i) at
-    (on_stops g.W.Sink at_end _ _ _ _ _ _ _ _ _ _ _ (drop i p) q
+    (on_stops g.S.Stage.rules g.W.Sink at_end _ _ _ _ _ _ _ _ _ _ _ (drop i p) q
     (c.in_err-play_line.ensures.played at_end _ _ (c.add.ensures q.rest q.kept) begins)))

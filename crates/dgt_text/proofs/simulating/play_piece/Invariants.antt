@@ -10,7 +10,9 @@ invariant-loop-at g l = record {
   not_failed : g.W.Sink.failed l.writer ≡ g.W.Sink.failed l.fn.writer;
   in_time : g.W.Sink.failed l.fn.writer ≡ false → g.W.Sink.late l.writer ≡ g.W.Sink.late l.fn.writer;
   played : (rest : List ℕ) → KeepsLine l.fn.line rest → HasNoFeed rest
-      → PlaysOn g.W.Sink (part l.fn.number (rest ++ take l.at l.piece) l.fn.world l.world) l.fn.writer l.writer l.line
+      → PlaysOn g.S.Stage.rules g.W.Sink
+      (part l.fn.number (rest ++ take l.at l.piece) (g.S.Stage.seen l.fn.world)
+      (g.S.Stage.seen l.world)) l.fn.writer l.writer l.line
       l.number;
 }
 

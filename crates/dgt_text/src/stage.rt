@@ -1,0 +1,78 @@
+//! The worlds in which a script can be run.
+
+ghost use Rattle.std.specs.Prelude.{◌≡◌, ◌<◌, ◌↔◌, ℕ, List, Bool, length, IfOk, IfErr, IsTrue, OnErr};
+ghost use Rattle.dgt_lines.specs.Writing.{Writes};
+ghost use Rattle.dgt_link.specs.View.{IsQuietWorld, WorldView};
+ghost use Rattle.dgt_script.specs.Closing.{closing_lines};
+ghost use Rattle.dgt_script.specs.Script.{bad_offset};
+ghost use Rattle.dgt_text.specs.Simulating.{Rules, faulty_rules, plain_rules};
+
+use dgt_command::MAX_WORD;
+use dgt_lines::{RunFault, Sink};
+use dgt_link::{FaultyWorld, Outcome, World};
+use dgt_script::{LineFault, read_act, read_faulty_act, write_closing};
+
+/// A world, and the lines that its scripts may have.
+pub(crate) trait Stage {
+    // the world
+    ghost seen: { Self → WorldView };
+
+    // what its lines do
+    ghost rules: { Rules };
+
+    /// Does what a line asks for, and returns what came of it. The line has no line feed and at
+    /// most 519 bytes. A bad line changes nothing.
+    fn play(&mut self, line: &[u8]) -> Result<Outcome, LineFault>
+        ensures does { IfOk result (λ outcome.
+            rules.does line.now (seen self.old) outcome (seen self.new)) }
+        ensures bad { IfErr result (λ fault. rules.is_bad line.now (bad_offset fault)) }
+        ensures unchanged { OnErr result (seen self.new ≡ seen self.old) };
+
+    /// Writes the four closing lines of the world, without a flush.
+    fn end<W: Sink>(&self, writer: &mut W) -> Result<(), RunFault>
+        ensures { (quiet : Bool) × (IsTrue quiet ↔ IsQuietWorld (seen self.now))
+            × Writes W.Sink writer.old writer.new result (closing_lines (seen self.now) quiet) };
+
+    // a line of more than 519 bytes is bad at 519
+    ghost long_is_bad: { (line : List ℕ) → 519 < length line → rules.is_bad line 519 };
+}
+
+impl Stage for World {
+    ghost use Rattle.std.proofs.Common.{inl, refl};
+
+    ghost seen = { λ world. world };
+
+    ghost rules = { plain_rules };
+
+    ghost long_is_bad = { λ line long. inl (long, refl) };
+
+    fn play(&mut self, line: &[u8]) -> Result<Outcome, LineFault> {
+        let mut store = [0; MAX_WORD];
+        let act = read_act(line, &mut store)?;
+        Ok(self.step(act))
+    }
+
+    fn end<W: Sink>(&self, writer: &mut W) -> Result<(), RunFault> {
+        write_closing(self.board(), self.host(), self.quiet(), writer)
+    }
+}
+
+impl Stage for FaultyWorld {
+    ghost use Rattle.std.proofs.Common.{inl, refl};
+
+    ghost seen = { λ world. world };
+
+    ghost rules = { faulty_rules };
+
+    ghost long_is_bad = { λ line long. inl (long, refl) };
+
+    fn play(&mut self, line: &[u8]) -> Result<Outcome, LineFault> {
+        let mut store = [0; MAX_WORD];
+        let act = read_faulty_act(line, &mut store)?;
+        Ok(self.step(act))
+    }
+
+    fn end<W: Sink>(&self, writer: &mut W) -> Result<(), RunFault> {
+        write_closing(self.board(), self.host(), self.quiet(), writer)
+    }
+}
