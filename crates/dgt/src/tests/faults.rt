@@ -66,10 +66,24 @@ quiet no
 #[test]
 fn plays_faults(rt: HostRuntime) -> Result<(), Fail> {
     for line in ["dgt simulate --faults", "dgt simulate --faults --up 67"] {
-        check_over(&rt, line, HEALED.as_bytes(), 0, HEALED_PLAYED.as_bytes(), "")?;
+        check_over(
+            &rt,
+            line,
+            HEALED.as_bytes(),
+            0,
+            HEALED_PLAYED.as_bytes(),
+            "",
+        )?;
     }
     let line = "dgt simulate --down 257 --faults";
-    check_over(&rt, line, NO_ROOM.as_bytes(), 0, NO_ROOM_PLAYED.as_bytes(), "")?;
+    check_over(
+        &rt,
+        line,
+        NO_ROOM.as_bytes(),
+        0,
+        NO_ROOM_PLAYED.as_bytes(),
+        "",
+    )?;
     let line = "dgt simulate --faults --position 9";
     check(&rt, line, 2, "", "dgt: bad placement at 0\n")
 }
@@ -77,7 +91,12 @@ fn plays_faults(rt: HostRuntime) -> Result<(), Fail> {
 #[test]
 fn takes_faults_by_the_option_alone(rt: HostRuntime) -> Result<(), Fail> {
     let errors = "dgt: line 1: bad at 0\n";
-    for script in ["restart\n", "boardlost\n", "garbleup 00\n", "garbledown -\n"] {
+    for script in [
+        "restart\n",
+        "boardlost\n",
+        "garbleup 00\n",
+        "garbledown -\n",
+    ] {
         check_over(&rt, "dgt simulate", script.as_bytes(), 1, b"", errors)?;
     }
     let rows = [
@@ -88,7 +107,14 @@ fn takes_faults_by_the_option_alone(rt: HostRuntime) -> Result<(), Fail> {
         ("sned\n", errors),
     ];
     for (script, errors) in rows {
-        check_over(&rt, "dgt simulate --faults", script.as_bytes(), 1, b"", errors)?;
+        check_over(
+            &rt,
+            "dgt simulate --faults",
+            script.as_bytes(),
+            1,
+            b"",
+            errors,
+        )?;
     }
     Ok(())
 }
