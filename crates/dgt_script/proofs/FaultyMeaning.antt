@@ -1,18 +1,18 @@
 -- No line of a script with faults has two meanings.
-use Rattle.std.proofs.Common.{◌≡◌, ◌≢◌, ℕ, ◌+◌, zero, List, [], ◌∷◌, Option, Some, None, refl, sym, ◌∙◌, ap, subst, arith, inl, inr, length}
-use Rattle.std.specs.Prelude.{◌↔◌, bytes_eq, codes, if◌then◌else◌, Result, Ok, Err}
+use Rattle.std.proofs.Common.{◌≡◌, ◌≢◌, ℕ, List, [], ◌∷◌, Option, Some, None, refl, sym, ◌∙◌, ap, subst, arith, inl, inr, length}
+use Rattle.std.specs.Prelude.{◌↔◌, bytes_eq, codes, if◌then◌else◌, Ok}
 use Rattle.hex.specs.Hex.{decode_of}
 use Rattle.hex.proofs.HexLemmas.{decode_of-same}
 use Rattle.dgt_command.specs.Laws.{SpellingsTellCommands}
-use Rattle.dgt_link.specs.Act.{ActContent}
 use Rattle.dgt_link.specs.Faults.{FaultyContent}
 use Rattle.dgt_lines.specs.Lines.{words_text}
+use Rattle.dgt_script.specs.declared.script_words.FaultVerb.TheVariants as fault
 use Rattle.dgt_script.specs.declared.script_words.FaultyVerb.{FaultyVerb}
 use Rattle.dgt_script.specs.declared.script_words.FaultyVerb.TheVariants as faulty
 use Rattle.dgt_script.specs.declared.script_words.Verb.{Verb}
 use Rattle.dgt_script.specs.declared.script_words.Verb.TheVariants as verb
-use Rattle.dgt_script.specs.Script.{AreOf, IsBadAt, IsBadFrom, words}
-use Rattle.dgt_script.specs.ScriptWords.{verb_text, IsBytesWord}
+use Rattle.dgt_script.specs.Script.{AreOf, IsBadAt, words}
+use Rattle.dgt_script.specs.ScriptWords.{IsBytesWord}
 use Rattle.dgt_script.specs.FaultyScript.{AsksFaulty, AsksForFaulty, IsBadAtFaulty, faulty_kinds, faulty_text}
 use Rattle.dgt_script.proofs.MeaningLemmas.{asks_in_order, kinds_are_asked_for, one_act, one_first, one_place, right_not_bad, same_word, verb_named, verb_of}
 use Rattle.dgt_script.proofs.ScriptLemmas.{length-words}
@@ -26,10 +26,10 @@ plain_named (Some named) = Some (faulty.Plain named)
 
 abbrev faulty_named : List ℕ → Option FaultyVerb
 faulty_named word =
-    if bytes_eq word (codes "garbleup") then Some faulty.GarbleUp
-    else if bytes_eq word (codes "garbledown") then Some faulty.GarbleDown
-    else if bytes_eq word (codes "boardlost") then Some faulty.BoardLost
-    else if bytes_eq word (codes "restart") then Some faulty.Restart
+    if bytes_eq word (codes "garbleup") then Some (faulty.Fault fault.GarbleUp)
+    else if bytes_eq word (codes "garbledown") then Some (faulty.Fault fault.GarbleDown)
+    else if bytes_eq word (codes "boardlost") then Some (faulty.Fault fault.BoardLost)
+    else if bytes_eq word (codes "restart") then Some (faulty.Fault fault.Restart)
     else plain_named (verb_named word)
 
 faulty_named-faulty_text : (named : FaultyVerb) → faulty_named (faulty_text named) ≡ Some named
@@ -41,10 +41,10 @@ faulty_named-faulty_text (faulty.Plain verb.ToBoard) = refl
 faulty_named-faulty_text (faulty.Plain verb.ToHost) = refl
 faulty_named-faulty_text (faulty.Plain verb.Break) = refl
 faulty_named-faulty_text (faulty.Plain verb.HostBreak) = refl
-faulty_named-faulty_text faulty.GarbleUp = refl
-faulty_named-faulty_text faulty.GarbleDown = refl
-faulty_named-faulty_text faulty.BoardLost = refl
-faulty_named-faulty_text faulty.Restart = refl
+faulty_named-faulty_text (faulty.Fault fault.GarbleUp) = refl
+faulty_named-faulty_text (faulty.Fault fault.GarbleDown) = refl
+faulty_named-faulty_text (faulty.Fault fault.BoardLost) = refl
+faulty_named-faulty_text (faulty.Fault fault.Restart) = refl
 
 -- a word is one verb at most
 pub one_faulty_verb : (a b : FaultyVerb) → faulty_text a ≡ faulty_text b → a ≡ b
@@ -55,10 +55,10 @@ one_faulty_verb a b h =
 -- the first word of a line that asks for the act
 abbrev faulty_verb_of : FaultyContent → FaultyVerb
 faulty_verb_of (FaultyContent.Plain act) = faulty.Plain (verb_of act)
-faulty_verb_of (FaultyContent.GarbleUp bytes) = faulty.GarbleUp
-faulty_verb_of (FaultyContent.GarbleDown bytes) = faulty.GarbleDown
-faulty_verb_of FaultyContent.BoardLost = faulty.BoardLost
-faulty_verb_of FaultyContent.Restart = faulty.Restart
+faulty_verb_of (FaultyContent.GarbleUp bytes) = faulty.Fault fault.GarbleUp
+faulty_verb_of (FaultyContent.GarbleDown bytes) = faulty.Fault fault.GarbleDown
+faulty_verb_of FaultyContent.BoardLost = faulty.Fault fault.BoardLost
+faulty_verb_of FaultyContent.Restart = faulty.Fault fault.Restart
 
 asks_faulty_in_order : (parts : List (List ℕ)) (act : FaultyContent) → AsksFaulty parts act → (rest : List (List ℕ))
     × (parts ≡ faulty_text (faulty_verb_of act) ∷ rest) × AreOf (faulty_kinds (faulty_verb_of act)) rest
@@ -73,16 +73,16 @@ faulty_kinds_ask : (named : FaultyVerb) (rest : List (List ℕ)) → AreOf (faul
     → (act : FaultyContent) × AsksFaulty (faulty_text named ∷ rest) act
 faulty_kinds_ask (faulty.Plain named) rest h =
     let plain = (kinds_are_asked_for named rest).0 h in (FaultyContent.Plain plain.0, plain.1)
-faulty_kinds_ask faulty.GarbleUp (word ∷ []) h = (FaultyContent.GarbleUp h.0.0, (word, refl, h.0.1))
-faulty_kinds_ask faulty.GarbleDown (word ∷ []) h = (FaultyContent.GarbleDown h.0.0, (word, refl, h.0.1))
-faulty_kinds_ask faulty.BoardLost [] h = (FaultyContent.BoardLost, refl)
-faulty_kinds_ask faulty.Restart [] h = (FaultyContent.Restart, refl)
-faulty_kinds_ask faulty.GarbleUp [] h = absurd h
-faulty_kinds_ask faulty.GarbleUp (word ∷ next ∷ rest) h = absurd h.1
-faulty_kinds_ask faulty.GarbleDown [] h = absurd h
-faulty_kinds_ask faulty.GarbleDown (word ∷ next ∷ rest) h = absurd h.1
-faulty_kinds_ask faulty.BoardLost (word ∷ rest) h = absurd h
-faulty_kinds_ask faulty.Restart (word ∷ rest) h = absurd h
+faulty_kinds_ask (faulty.Fault fault.GarbleUp) (word ∷ []) h = (FaultyContent.GarbleUp h.0.0, (word, refl, h.0.1))
+faulty_kinds_ask (faulty.Fault fault.GarbleDown) (word ∷ []) h = (FaultyContent.GarbleDown h.0.0, (word, refl, h.0.1))
+faulty_kinds_ask (faulty.Fault fault.BoardLost) [] h = (FaultyContent.BoardLost, refl)
+faulty_kinds_ask (faulty.Fault fault.Restart) [] h = (FaultyContent.Restart, refl)
+faulty_kinds_ask (faulty.Fault fault.GarbleUp) [] h = absurd h
+faulty_kinds_ask (faulty.Fault fault.GarbleUp) (word ∷ next ∷ rest) h = absurd h.1
+faulty_kinds_ask (faulty.Fault fault.GarbleDown) [] h = absurd h
+faulty_kinds_ask (faulty.Fault fault.GarbleDown) (word ∷ next ∷ rest) h = absurd h.1
+faulty_kinds_ask (faulty.Fault fault.BoardLost) (word ∷ rest) h = absurd h
+faulty_kinds_ask (faulty.Fault fault.Restart) (word ∷ rest) h = absurd h
 
 asked_faulty_kinds : (named : FaultyVerb) (rest : List (List ℕ)) (act : FaultyContent)
     → AsksFaulty (faulty_text named ∷ rest) act → AreOf (faulty_kinds named) rest
@@ -115,10 +115,10 @@ same_fault : IsRead → SpellingsTellCommands → (line : List ℕ) (a b : Fault
 same_fault exact tells line (FaultyContent.Plain s) (FaultyContent.Plain t) e h k =
     ap FaultyContent.Plain (one_act exact tells line s t h k)
 same_fault exact tells line (FaultyContent.GarbleUp s) (FaultyContent.GarbleUp t) e h k =
-    let same = same_word (words line) (faulty_text faulty.GarbleUp) h.1.0 k.1.0 h.1.1 k.1.1 in
+    let same = same_word (words line) (faulty_text (faulty.Fault fault.GarbleUp)) h.1.0 k.1.0 h.1.1 k.1.1 in
     ap FaultyContent.GarbleUp (one_bytes k.1.0 s t (subst (λ w. IsBytesWord w s) same h.1.2) k.1.2)
 same_fault exact tells line (FaultyContent.GarbleDown s) (FaultyContent.GarbleDown t) e h k =
-    let same = same_word (words line) (faulty_text faulty.GarbleDown) h.1.0 k.1.0 h.1.1 k.1.1 in
+    let same = same_word (words line) (faulty_text (faulty.Fault fault.GarbleDown)) h.1.0 k.1.0 h.1.1 k.1.1 in
     ap FaultyContent.GarbleDown (one_bytes k.1.0 s t (subst (λ w. IsBytesWord w s) same h.1.2) k.1.2)
 same_fault exact tells line FaultyContent.BoardLost FaultyContent.BoardLost e h k = refl
 same_fault exact tells line FaultyContent.Restart FaultyContent.Restart e h k = refl

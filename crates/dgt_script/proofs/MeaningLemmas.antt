@@ -1,5 +1,5 @@
 -- No line of a script has two meanings.
-use Rattle.std.proofs.Common.{◌≡◌, ℕ, List, [], ◌∷◌, Option, Some, None, refl, sym, ◌∙◌, ap, subst, arith, inl, inr, length}
+use Rattle.std.proofs.Common.{◌≡◌, ◌≤◌, ℕ, List, [], ◌∷◌, Option, Some, None, refl, sym, ◌∙◌, ap, subst, arith, inl, inr, length}
 use Rattle.std.specs.Prelude.{◌↔◌, bytes_eq, if◌then◌else◌}
 use Rattle.dgt_command.specs.Laws.{SpellingsTellCommands}
 use Rattle.dgt_link.specs.Act.{ActContent, Change, ClockRead, Host, BoardSend, ToBoard, ToHost, Break, HostBreak}

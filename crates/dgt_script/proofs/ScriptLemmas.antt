@@ -1,6 +1,6 @@
 -- The words of a script's lines, and where they go wrong.
 use Rattle.std.proofs.Common.{◌≡◌, ◌≢◌, ℕ, ◌+◌, ◌-◌, ◌<◌, ◌≤◌, ◌==◌, List, [], ◌∷◌, Option, Some, None, refl, sym, ◌∙◌, ap, subst, arith, false, true, get_or, inl, inr, length, length-append, take, drop}
-use Rattle.std.specs.Prelude.{All, slice_index}
+use Rattle.std.specs.Prelude.{All, MatchResult, Result, Ok, Err, slice_index}
 use Rattle.std.specs.List.{position_or_len}
 use Rattle.std.specs.Slice.{IsGetRangeResult}
 use Rattle.std.specs.Borrow.{Bor}
@@ -117,6 +117,17 @@ pub verb_refused : {V : Type 0} (text_of : V → List ℕ) (kinds_of : V → Lis
     → IsBadFrom text_of kinds_of parts parts
 verb_refused text_of kinds_of parts rest first e refused =
     inl (λ verb later h. refused verb (let both : first ∷ rest ≡ text_of verb ∷ later = sym e ∙ h in cc both), refl)
+
+-- a line is read as its first word and those after it are
+pub line_read : {V A : Type 0} (text_of : V → List ℕ) (kinds_of : V → List WordKind)
+    (asks : List (List ℕ) → A → Type 0) (parts later : List (List ℕ)) (first : List ℕ) (verb : V)
+    (answer : Result A Wrong) → parts ≡ first ∷ later → first ≡ text_of verb
+    → MatchResult answer (λ act. asks (text_of verb ∷ later) act) (λ wrong. GoesWrongBefore (kinds_of verb) later wrong)
+    → MatchResult answer (λ act. asks parts act) (λ wrong. IsBadBefore text_of kinds_of parts wrong)
+line_read text_of kinds_of asks parts later first verb (Ok act) e f m =
+    subst (λ l. asks l act) (sym (e ∙ ap (λ w. w ∷ later) f)) m
+line_read text_of kinds_of asks parts later first verb (Err wrong) e f m =
+    (m.0, inr (verb, later, e ∙ ap (λ w. w ∷ later) f, m.1), m.2)
 
 pub left_within : {V : Type 0} (text_of : V → List ℕ) (kinds_of : V → List WordKind) (line : List ℕ) (wrong : Wrong)
     → IsBadBefore text_of kinds_of (words line) wrong → wrong.left ≤ length line

@@ -246,12 +246,6 @@ pub length-command : WordsAreShort → (command : CommandContent) (bytes : List 
 length-command short command bytes h =
     (short (Read command) bytes (record { form = h.spelled; are_bytes = h.are_bytes })).1
 
--- a word of more than twice 257 digits is no command
-pub command_has_room : WordsAreShort → (word : List ℕ) (command : CommandContent) → IsCommandWord word command
-    → length word / 2 ≤ 257
-command_has_room short word command h =
-    omega (arith, (decode_of-ok word h.bytes h.digits).2, length-command short command h.bytes h.spells)
-
 -- a word tells one command at most
 pub one_command : SpellingsTellCommands → (word : List ℕ) (a b : CommandContent) → IsCommandWord word a
     → IsCommandWord word b → a ≡ b

@@ -5,6 +5,7 @@ use Rattle.dgt_link.specs.declared.acts.Act.{Act}
 use Rattle.dgt_link.specs.Act.{act_content}
 use Rattle.dgt_link.specs.declared.faulty.FaultyAct.{FaultyAct}
 use Rattle.dgt_link.specs.Faults.{faulty_content}
+use Rattle.dgt_script.specs.declared.script_words.FaultyVerb.{FaultyVerb}
 use Rattle.dgt_script.specs.declared.script_words.Verb.{Verb}
 use Rattle.dgt_script.specs.declared.script.Wrong.{Wrong}
 use Rattle.dgt_lines.specs.Lines.{words_text}
@@ -27,6 +28,11 @@ abbrev pub ReadsBehind : Verb → List (List ℕ) → Result Act Wrong → Type 
 ReadsBehind verb parts answer =
     MatchResult answer (λ act. Asks (verb_text verb ∷ parts) (act_content act))
     (λ wrong. GoesWrongBefore (kinds_after verb) parts wrong)
+
+abbrev pub ReadsFaultyBehind : FaultyVerb → List (List ℕ) → Result FaultyAct Wrong → Type 0
+ReadsFaultyBehind verb parts answer =
+    MatchResult answer (λ act. AsksFaulty (faulty_text verb ∷ parts) (faulty_content act))
+    (λ wrong. GoesWrongBefore (faulty_kinds verb) parts wrong)
 
 -- the answer to words that should be one count
 abbrev pub ReadsCount : List (List ℕ) → Result ℕ Wrong → Type 0

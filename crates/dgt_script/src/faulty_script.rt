@@ -4,11 +4,11 @@ ghost use Rattle.std.specs.Prelude.{IfOk, IfErr};
 ghost use Rattle.dgt_link.specs.Faults.{faulty_content};
 ghost use Rattle.dgt_script.specs.FaultyScript.{AsksForFaulty, IsBadAtFaulty};
 ghost use Rattle.dgt_script.specs.Script.{bad_offset, words};
-ghost use Rattle.dgt_script.specs.ScriptReading.{left_words, ReadsBytes, ReadsFaultyLine};
+ghost use Rattle.dgt_script.specs.ScriptReading.{left_words, ReadsBytes, ReadsFaultyBehind, ReadsFaultyLine};
 
 use crate::script::{LineFault, Wrong, cut_word, next_word, no_word, read_rest, wrong_from};
 use crate::script_lines::MAX_LINE;
-use crate::script_words::{FaultyVerb, bytes_word, faulty_verb_word};
+use crate::script_words::{FaultVerb, FaultyVerb, bytes_word, faulty_word};
 use dgt_command::MAX_WORD;
 use dgt_link::FaultyAct;
 
@@ -49,18 +49,33 @@ fn read_words<'a>(line: &[u8], store: &'a mut [u8; MAX_WORD]) -> Result<FaultyAc
     ensures { ReadsFaultyLine (words line.now) result }
 {
     let (first, rest) = cut_word(line);
-    let Some(verb) = faulty_verb_word(first) else {
+    let Some(verb) = faulty_word(first) else {
         return Err(Wrong { left: line.len() });
     };
-    match verb {
+    read_faulty_rest(verb, rest, store)
+}
+
+// The act that the words after this first one ask for.
+fn read_faulty_rest<'a>(
+    first: FaultyVerb,
+    rest: Option<&[u8]>,
+    store: &'a mut [u8; MAX_WORD],
+) -> Result<FaultyAct<'a>, Wrong>
+    ensures { ReadsFaultyBehind first (left_words rest.entry) result }
+{
+    match first {
         FaultyVerb::Plain(verb) => Ok(FaultyAct::Plain(read_rest(verb, rest, store)?)),
-        FaultyVerb::GarbleUp => Ok(FaultyAct::GarbleUp(bytes_line(rest, store)?)),
-        FaultyVerb::GarbleDown => Ok(FaultyAct::GarbleDown(bytes_line(rest, store)?)),
-        FaultyVerb::BoardLost => {
+        FaultyVerb::Fault(FaultVerb::GarbleUp) => {
+            Ok(FaultyAct::GarbleUp(bytes_line(rest, store)?))
+        }
+        FaultyVerb::Fault(FaultVerb::GarbleDown) => {
+            Ok(FaultyAct::GarbleDown(bytes_line(rest, store)?))
+        }
+        FaultyVerb::Fault(FaultVerb::BoardLost) => {
             no_word(rest)?;
             Ok(FaultyAct::BoardLost)
         }
-        FaultyVerb::Restart => {
+        FaultyVerb::Fault(FaultVerb::Restart) => {
             no_word(rest)?;
             Ok(FaultyAct::Restart)
         }

@@ -78,13 +78,13 @@ fn read_words<'a>(line: &[u8], store: &'a mut [u8; MAX_WORD]) -> Result<Act<'a>,
 
 /// The act that the words after this first one ask for.
 pub(crate) fn read_rest<'a>(
-    verb: Verb,
+    first: Verb,
     rest: Option<&[u8]>,
     store: &'a mut [u8; MAX_WORD],
 ) -> Result<Act<'a>, Wrong>
-    ensures { ReadsBehind verb.entry (left_words rest.entry) result }
+    ensures { ReadsBehind first (left_words rest.entry) result }
 {
-    match verb {
+    match first {
         Verb::Change => change_line(rest),
         Verb::Clock => clock_line(rest),
         Verb::Host => host_line(rest, store),

@@ -6,8 +6,9 @@ ghost use Rattle.dgt_values.specs.Board.{square_number};
 ghost use Rattle.dgt_message.specs.Content.{clock_seen, content};
 ghost use Rattle.dgt_message.specs.Clock.{ClockState};
 ghost use Rattle.dgt_command.specs.Content.{command_content, CommandContent};
-ghost use Rattle.dgt_script.specs.FaultyScript.{faulty_text};
+ghost use Rattle.dgt_script.specs.FaultyScript.{fault_text, faulty_text};
 ghost use Rattle.dgt_script.specs.ScriptWords.{verb_text, IsBytesWord, IsClockWord, IsCommandWord, IsCountWord, IsHexOf, IsPieceWord, IsSquareWord, TellsClock};
+ghost use Rattle.dgt_script.specs.declared.script_words.FaultVerb.{FaultVerb};
 ghost use Rattle.dgt_script.specs.declared.script_words.FaultyVerb.{FaultyVerb};
 ghost use Rattle.dgt_script.specs.declared.script_words.Verb.{Verb};
 
@@ -29,14 +30,20 @@ pub(crate) enum Verb {
     HostBreak,
 }
 
-/// The words that a line may begin with if the world may have faults.
+/// The words that ask for a fault or a restart.
 #[derive(Clone, Copy)]
-pub(crate) enum FaultyVerb {
-    Plain(Verb),
+pub(crate) enum FaultVerb {
     GarbleUp,
     GarbleDown,
     BoardLost,
     Restart,
+}
+
+/// The words that a line may begin with if the world may have faults.
+#[derive(Clone, Copy)]
+pub(crate) enum FaultyVerb {
+    Plain(Verb),
+    Fault(FaultVerb),
 }
 
 /// What a first word begins.
@@ -58,18 +65,33 @@ pub(crate) fn verb_word(word: &[u8]) -> Option<Verb>
     }
 }
 
+// What a first word begins if it is none of a plain script.
+fn fault_word(word: &[u8]) -> Option<FaultVerb>
+    ensures { MatchOption result
+        ((verb : FaultVerb) → word.now ≢ fault_text verb)
+        (λ verb. word.now ≡ fault_text verb) }
+{
+    match word {
+        b"garbleup" => Some(FaultVerb::GarbleUp),
+        b"garbledown" => Some(FaultVerb::GarbleDown),
+        b"boardlost" => Some(FaultVerb::BoardLost),
+        b"restart" => Some(FaultVerb::Restart),
+        _ => None,
+    }
+}
+
 /// What a first word begins if the world may have faults.
-pub(crate) fn faulty_verb_word(word: &[u8]) -> Option<FaultyVerb>
+pub(crate) fn faulty_word(word: &[u8]) -> Option<FaultyVerb>
     ensures { MatchOption result
         ((verb : FaultyVerb) → word.now ≢ faulty_text verb)
         (λ verb. word.now ≡ faulty_text verb) }
 {
-    match word {
-        b"garbleup" => Some(FaultyVerb::GarbleUp),
-        b"garbledown" => Some(FaultyVerb::GarbleDown),
-        b"boardlost" => Some(FaultyVerb::BoardLost),
-        b"restart" => Some(FaultyVerb::Restart),
-        _ => Some(FaultyVerb::Plain(verb_word(word)?)),
+    match fault_word(word) {
+        Some(fault) => Some(FaultyVerb::Fault(fault)),
+        None => match verb_word(word) {
+            Some(verb) => Some(FaultyVerb::Plain(verb)),
+            None => None,
+        },
     }
 }
 

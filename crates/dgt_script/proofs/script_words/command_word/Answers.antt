@@ -1,13 +1,8 @@
-use Rattle.std.proofs.Common.{arith}
-use Rattle.dgt_script.proofs.ScriptWordLemmas.{command_has_room}
+use Rattle.dgt_script.proofs.ScriptWordLemmas.{length-command}
 use Rattle.dgt_script.proofs.script_words.command_word.Goals as goal
 
-pub returns-in_err-bytes : goal.returns-in_err-bytes
-returns-in_err-bytes c =
+pub returns-in_err-hex_bytes : goal.returns-in_err-hex_bytes
+returns-in_err-hex_bytes c =
     rw c.from_residual.ensures
-    (λ command h.
-    omega (
-      arith,
-      command_has_room c.words_are_short.ensures c.args.word.now command h,
-      c.in_err-bytes.ensures.lookup,
-    ))
+    (λ command h. c.in_err-hex_bytes.ensures h.bytes
+    (length-command c.words_are_short.ensures command h.bytes h.spells) h.digits)
