@@ -38,14 +38,14 @@ BeginsWith at_end bytes lines =
 
 -- ---- the rules of a script
 
--- what the lines of a script do: `does line world outcome after` says that the line asks for an act
--- whose outcome in this world is this, and which leaves the world after it; `is_bad line at` says
--- that the line asks for no act, and goes wrong at this offset
+-- what the lines of a script do
 pub record Rules : Type 1 where
+  -- this line asks for an act, which has this outcome in the first world and leaves the second
   pub does : List ℕ → WorldView → Outcome → WorldView → Type 0
+  -- this line asks for no act, and goes wrong at this offset
   pub is_bad : List ℕ → ℕ → Type 0
 
--- the rules of a script whose lines never fail
+-- the rules of a script for a world without faults
 abbrev pub plain_rules : Rules
 plain_rules = record {
   does = λ line world outcome after.
@@ -53,7 +53,7 @@ plain_rules = record {
   is_bad = IsBadAt;
 }
 
--- the rules of a script whose lines and whose board's power may fail
+-- the rules of a script for a world with faults
 abbrev pub faulty_rules : Rules
 faulty_rules = record {
   does = λ line world outcome after.
@@ -162,7 +162,7 @@ abbrev pub TellsPicture : WorldView → List ℕ → Type 0
 TellsPicture world out =
     (x : MachineState) → StandsFor world x → IsPromised x → IsQuietWorld world → EndsAlike world out
 
--- if the world is promised and all is quiet, the text ends so
+-- if the host is promised its picture, whatever failed before, and all is quiet, the text ends so
 abbrev pub TellsHealed : WorldView → List ℕ → Type 0
 TellsHealed world out = IsPromisedWorld world → IsQuietWorld world → EndsAlike world out
 

@@ -159,21 +159,21 @@ fn play<S: Stage, R: Source, W: Sink>(
     Err(RunFault::TooManyTurns)
 }
 
-/// Plays the script that the reader gives, in at most `limit` reads, in the world.
+/// Runs the script that the reader gives in the world, in at most `limit` reads.
 ///
-/// Each line asks for an act, and its outcome is a line: `done`, `nothing`, `noroom`, `busy` or
-/// `toomany`. It is written before the next act is done, and the lines of what came in a read are
-/// flushed before the next read. A last line without a line feed counts if it isn't empty. At the
-/// end of the script come four closing lines, which tell the board's position, the host's picture,
-/// the host's clock and whether the world is quiet.
+/// Each line asks for an act. Its outcome is written as a line, before the next act is done:
+/// `done`, `nothing`, `noroom`, `busy` or `toomany`. The outcomes of the lines that end in a read
+/// are flushed before the next read. A last line without a line feed counts if it isn't empty. At
+/// the end of the script come four closing lines: the board's position, the host's picture, the
+/// host's clock and whether the world is quiet.
 ///
 /// - `BadLine` comes at the first line that asks for no act. Its number counts from 1. The lines
-///   before it are played, their outcomes are written and flushed, and no closing line is written.
-/// - `ReadFailed` comes where the reader refuses, and `TooManyTurns` where `limit` reads succeeded
-///   and none told the end. All whole lines of what was read are played then, and no closing line
-///   is written.
-/// - `WriteFailed` comes where the writer refuses. It gets nothing more, and no further act is
-///   done. What may be missing is the end of the last outcome, or an end of the closing lines.
+///   before it are done, their outcomes are written and flushed, and no closing line is written.
+/// - `ReadFailed` comes if the reader refuses, and `TooManyTurns` if `limit` reads succeed and none
+///   reports the end. All whole lines of what was read are done then, and no closing line is
+///   written.
+/// - `WriteFailed` comes if the writer refuses. It gets nothing more, and no further act is done.
+///   The end of the last outcome or of the closing lines may be missing.
 pub fn simulate<R: Source, W: Sink>(
     world: &mut World,
     reader: &mut R,
@@ -186,8 +186,8 @@ pub fn simulate<R: Source, W: Sink>(
         (InTurns limit result
         (IsSimulated plain_rules (R.ended reader.new) result world.old world.new)) }
 
-    // where updates and a dump were asked for, and the last line tells that all is quiet, the lines
-    // of board and host tell one placement
+    // if updates and a dump were asked for, and the world that is left is quiet, the lines of board
+    // and host have one placement
     ensures picture { Ran R.Source W.Sink
         (change reader.old reader.new) (change writer.old writer.new)
         (InTurns limit result (λ _ out. OnOk result (TellsPicture world.new out))) }
@@ -203,9 +203,12 @@ pub fn simulate<R: Source, W: Sink>(
 
 /// Runs a script in a world whose lines and whose board's power may fail, in at most `limit` reads.
 ///
-/// A line may ask for what [`simulate`] allows, or for a fault or a restart, as
-/// [`read_faulty_act`](crate::read_faulty_act) reads them. Outcomes, closing lines and errors are
+/// A line asks for an act of [`simulate`], for a fault or for a restart, as
+/// [`read_faulty_act`](crate::read_faulty_act) reads it. Outcomes, closing lines and errors are
 /// those of [`simulate`].
+///
+/// If the world that is left is quiet and promised to heal, the closing lines of board and host
+/// have one placement. [`FaultyWorld::run`] says after which acts a world is promised to heal.
 pub fn simulate_faults<R: Source, W: Sink>(
     world: &mut FaultyWorld,
     reader: &mut R,
@@ -218,7 +221,7 @@ pub fn simulate_faults<R: Source, W: Sink>(
         (InTurns limit result
         (IsSimulated faulty_rules (R.ended reader.new) result world.old world.new)) }
 
-    // if the world that is left is promised and quiet, the lines of board and host have one
+    // if the world that is left is promised to heal and quiet, the lines of board and host have one
     // placement
     ensures picture { Ran R.Source W.Sink
         (change reader.old reader.new) (change writer.old writer.new)

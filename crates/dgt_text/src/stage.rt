@@ -1,6 +1,7 @@
 //! The worlds in which a script can be run.
 
 ghost use Rattle.std.specs.Prelude.{◌≡◌, ◌<◌, ◌↔◌, ℕ, List, Bool, length, IfOk, IfErr, IsTrue, OnErr};
+ghost use Rattle.std.proofs.Common.{inl, refl};
 ghost use Rattle.dgt_lines.specs.Writing.{Writes};
 ghost use Rattle.dgt_link.specs.View.{IsQuietWorld, WorldView};
 ghost use Rattle.dgt_script.specs.Closing.{closing_lines};
@@ -12,16 +13,16 @@ use dgt_lines::{RunFault, Sink};
 use dgt_link::{FaultyWorld, Outcome, World};
 use dgt_script::{LineFault, read_act, read_faulty_act, write_closing};
 
-/// A world, and the lines that its scripts may have.
+/// A world in which a script can be run.
 pub(crate) trait Stage {
-    // the world
+    // the world, as contracts see it
     ghost seen: { Self → WorldView };
 
-    // what its lines do
+    // what the lines of its scripts do
     ghost rules: { Rules };
 
-    /// Does what a line asks for, and returns what came of it. The line has no line feed and at
-    /// most 519 bytes. A bad line changes nothing.
+    /// Does what a line asks for, and returns its outcome. A line that asks for nothing changes
+    /// nothing.
     fn play(&mut self, line: &[u8]) -> Result<Outcome, LineFault>
         ensures does { IfOk result (λ outcome.
             rules.does line.now (seen self.old) outcome (seen self.new)) }
@@ -38,8 +39,6 @@ pub(crate) trait Stage {
 }
 
 impl Stage for World {
-    ghost use Rattle.std.proofs.Common.{inl, refl};
-
     ghost seen = { λ world. world };
 
     ghost rules = { plain_rules };
@@ -58,8 +57,6 @@ impl Stage for World {
 }
 
 impl Stage for FaultyWorld {
-    ghost use Rattle.std.proofs.Common.{inl, refl};
-
     ghost seen = { λ world. world };
 
     ghost rules = { faulty_rules };

@@ -1,6 +1,6 @@
 use Rattle.std.proofs.Common.{arith, true, [], append-nil}
 use Rattle.std.proofs.lemmas.List.{length-take-le}
-use Rattle.std.proofs.KnownBytes.{Consumes-kept, Consumes-trans}
+use Rattle.std.proofs.KnownBytes.{Consumes-trans}
 use Rattle.dgt_text.proofs.PlayLemmas.{no_byte, on_more, on_none}
 use Rattle.dgt_text.proofs.ScriptRuns.{plays_flushed, scripted_ends, scripted_stops, scripted_unflushed}
 use Rattle.dgt_text.proofs.TurnLemmas.{no_read, next_read}

@@ -34,5 +34,5 @@ returns-clause-played g c = λ at_end rest e h k.
           ((c.is_empty.ensures rest h).0 (same_true w.if-not-is_empty.false)) (ap g.S.Stage.seen w.world-is) w.writer-is
     ] in
     let closing = c.close.ensures.output in
-    end_closing g.S.Stage.rules g.W.Sink at_end c.close.result _ _ _ _ _ c.args.number rest closing.0 e k played closing.1
-    closing.2
+    end_closing g.S.Stage.rules g.W.Sink at_end c.close.result _ _ _ _ _ c.args.number rest
+    closing.0 e k played closing.1 closing.2
