@@ -135,10 +135,11 @@ class Decoder:
 
     def __init__(self):
         self.unfinished = bytearray()
-        self.message = None  # the last whole one, its code and its body
+        self.message = None  # the whole one of the last byte, its code and its body
 
     def take(self, byte):
         """The text of the event of this byte, or None where it has none."""
+        self.message = None
         have = len(self.unfinished)
         if byte & 0x80:
             # Always begins a message.
@@ -361,7 +362,8 @@ class Host:
         self.awaited = []  # codes of replies that have a kind: all but the clock's
 
     def hear(self, byte):
-        if self.decoder.take(byte) is None:
+        text = self.decoder.take(byte)
+        if not self.decoder.message or text.startswith("refused "):
             return
         code, body = self.decoder.message
         if self.awaited and self.awaited[0] == code:
@@ -444,6 +446,32 @@ class World:
         self.host.awaited.append(DUMP)
         return "done"
 
+    # What a faulty world has beside.
+
+    def line_garbles(self, line, room, data):
+        if len(data) > room:
+            return "noroom"
+        line[:] = data
+        return "done"
+
+    def up_garbles(self, data):
+        return self.line_garbles(self.up, self.up_room, data)
+
+    def down_garbles(self, data):
+        return self.line_garbles(self.down, self.down_room, data)
+
+    def board_loses_power(self):
+        self.board.line_lost()
+        return "done"
+
+    def host_restarts(self):
+        """The host keeps its picture, its clock and what it has of a message."""
+        if len(self.down) + 257 > self.down_room:
+            return "noroom"
+        self.down += bytes(255) + b"\x44\x42"
+        self.host.awaited = [DUMP]
+        return "done"
+
     def is_quiet(self):
         unread = self.up or self.down or self.host.decoder.unfinished or self.board.reader.unfinished
         return not unread and self.board.next_message() is None
@@ -475,6 +503,11 @@ def read_hexadecimal(word):
     return bytes.fromhex(word.decode()) if re.fullmatch(rb"([0-9A-Fa-f]{2})+", word) else None
 
 
+def read_garbled(word):
+    """Bytes, or none of them."""
+    return b"" if word == b"-" else read_hexadecimal(word)
+
+
 def read_clock(word):
     """The body of a times or no-clock message."""
     body = read_hexadecimal(word)
@@ -499,16 +532,23 @@ ACTS = {
     b"break": (World.line_breaks, []),
     b"hostbreak": (World.host_breaks, []),
 }
+# The acts that --faults adds.
+FAULTS = {
+    b"garbleup": (World.up_garbles, [read_garbled]),
+    b"garbledown": (World.down_garbles, [read_garbled]),
+    b"boardlost": (World.board_loses_power, []),
+    b"restart": (World.host_restarts, []),
+}
 
 
-def read_line(line):
+def read_line(line, acts):
     """The act of a script's line, its arguments and None; or None twice, and the offset where the line goes bad."""
     if len(line) > LONGEST_LINE:
         return None, None, LONGEST_LINE
     name, *words = line.split(b" ")
-    if name not in ACTS:
+    if name not in acts:
         return None, None, 0
-    act, readers = ACTS[name]
+    act, readers = acts[name]
     offset, arguments = len(name) + 1, []
     for place, word in enumerate(words):
         argument = readers[place](word) if place < len(readers) else None
@@ -519,14 +559,15 @@ def read_line(line):
     return (act, arguments, None) if len(words) == len(readers) else (None, None, len(line))
 
 
-def simulate(script, squares, up_room, down_room):
-    """What `dgt simulate` gives: its status, standard output and standard error."""
+def simulate(script, squares, up_room, down_room, has_faults):
+    """What `dgt simulate` gives, with --faults or without: its status, standard output and standard error."""
     world, output = World(squares, up_room, down_room), ""
+    acts = ACTS | FAULTS if has_faults else ACTS
     lines = script.split(b"\n")
     if not lines[-1]:
         lines.pop()
     for number, line in enumerate(lines, 1):
-        act, arguments, fault = read_line(line)
+        act, arguments, fault = read_line(line, acts)
         if fault is not None:
             return 1, output.encode(), f"dgt: line {number}: bad at {fault}\n".encode()
         output += act(world, *arguments) + "\n"

@@ -6,7 +6,7 @@ use crate::help::{
     SHOW_NOTES, SIMULATE_NOTES,
 };
 use clap::error::ErrorKind;
-use clap::{Arg, ArgMatches, Command, value_parser};
+use clap::{Arg, ArgAction, ArgMatches, Command, value_parser};
 use dgt_link::{MIN_DOWN, MIN_UP};
 use std::alloc::{AllocError, Global};
 use std::io;
@@ -34,12 +34,13 @@ pub enum Task<'a> {
     Board {
         placement: &'a str,
     },
-    /// Do the acts of the input in a world whose board has this placement, and whose lines hold so
-    /// many bytes.
+    /// Do the acts of the input in a world whose board has this placement, and whose lines have
+    /// these capacities in bytes. With `faults` the lines and the board's power may fail.
     Simulate {
         placement: &'a str,
         up: u16,
         down: u16,
+        faults: bool,
     },
 }
 
@@ -66,6 +67,14 @@ fn line_bytes<'a>(alloc: Global, name: &'a str, least: i64, help: &'a str) -> Ar
         .value_parser(value_parser!(u16).range(least..=65535))
         .default_value(LINE_BYTES)
         .help(help)
+}
+
+// Whether the script may have acts that are faults.
+fn faults<'a>(alloc: Global) -> Arg<'a> {
+    Arg::new(alloc, "faults")
+        .long("faults")
+        .action(ArgAction::SetTrue)
+        .help("Takes garbleup, garbledown, boardlost and restart too")
 }
 
 fn show<'a>(alloc: Global) -> Result<Command<'a>, AllocError> {
@@ -132,7 +141,8 @@ fn simulate<'a>(alloc: Global) -> Result<Command<'a>, AllocError> {
             "down",
             MIN_DOWN as i64,
             "The bytes that the line to the board holds, 257 to 65535",
-        ))
+        ))?
+        .arg(faults(alloc))
 }
 
 fn command<'a>(alloc: Global) -> Result<Command<'a>, AllocError> {
@@ -202,6 +212,7 @@ fn task_named<'a>(name: &str, options: &ArgMatches<'a>) -> Option<Task<'a>> {
             placement: options.get_str("position")?,
             up: options.get_one("up")?,
             down: options.get_one("down")?,
+            faults: options.get_flag("faults"),
         },
         _ => return None,
     };

@@ -291,12 +291,23 @@ The acts:
                        on their way are lost, and the host, which forgets its
                        picture, sends 255 zeros, 44 and 42 to begin anew
 
+With --faults there are these acts too:
+  garbleup HEX         the bytes on their way to the host become these bytes,
+                       or none if HEX is -
+  garbledown HEX       the same for the bytes on their way to the board
+  boardlost            the board loses its power and gets it back: it keeps its
+                       squares and its clock, and forgets its mode, what it
+                       reported, the answers it owes and its part of a command
+  restart              the host gives up the answers it awaits, and sends 255
+                       zeros, 44 and 42 after the bytes already on their way; it
+                       keeps its picture
+
 Words have one space between them. HEX is two digits a byte. N is 1 to 65535.
 
 What is written for an act:
   done                 it is done
   nothing              the board has nothing to send, or no byte is on its way
-  noroom               the line has no room for the whole message or command
+  noroom               the line has no room for all the bytes
   busy                 the board owes 8 answers, and takes no byte before it
                        sends one
   toomany              the host awaits 16 answers, and asks for no more
@@ -322,6 +333,20 @@ would come after 7 bytes.
 
 Example. The host asks for all squares and gets them, byte for byte:
   $ printf 'host 42\\ntoboard 1\\nsend\\ntohost 66\\ntohost 1\\n' | dgt simulate
+  done
+  done
+  done
+  done
+  done
+  board rnbqkbnr/pppppppp/8/8/8/8/PPPPPPPP/RNBQKBNR
+  host rnbqkbnr/pppppppp/8/8/8/8/PPPPPPPP/RNBQKBNR
+  hostclock unknown
+  quiet yes
+
+Example with faults. The command of the host is lost, and the host restarts:
+  $ acts='host 42\\ngarbledown -\\nrestart\\ntoboard 257\\nsend\\ntohost 67\\n'
+  $ printf \"$acts\" | dgt simulate --faults
+  done
   done
   done
   done

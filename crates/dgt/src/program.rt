@@ -3,8 +3,10 @@ use crate::command_line::Task;
 use crate::fault::Fault;
 use crate::{command_line, simulated};
 use dgt_board::Board;
-use dgt_link::{World, WorldFault};
-use dgt_text::{Bytes, Device, RunFault, commands, monitor, picture, serve, simulate};
+use dgt_link::{FaultyWorld, World, WorldFault};
+use dgt_text::{
+    Bytes, Device, RunFault, commands, monitor, picture, serve, simulate, simulate_faults,
+};
 use dgt_values::Position;
 use hex::FromHexError;
 use std::alloc::Global;
@@ -51,7 +53,14 @@ fn run<I: Read + Drop, O: Write + Drop>(
             placement,
             up,
             down,
+            faults: false,
         } => play(alloc, placement, up, down, input, output),
+        Task::Simulate {
+            placement,
+            up,
+            down,
+            faults: true,
+        } => play_faults(alloc, placement, up, down, input, output),
     }
 }
 
@@ -111,6 +120,21 @@ fn play<I: Read + Drop, O: Write + Drop>(
     Ok(simulate(&mut world, &mut input, &mut output, MOST_TURNS)?)
 }
 
+#[inline(never)]
+fn play_faults<I: Read + Drop, O: Write + Drop>(
+    alloc: Global,
+    placement: &str,
+    up: u16,
+    down: u16,
+    input: I,
+    output: O,
+) -> Result<(), Fault> {
+    let position = Position::parse_placement(placement)?;
+    let mut world = new_faulty_world(alloc, position, up, down)?;
+    let (mut input, mut output) = (Device::new(input), Device::new(output));
+    Ok(simulate_faults(&mut world, &mut input, &mut output, MOST_TURNS)?)
+}
+
 fn decode(alloc: Global, word: &str) -> Result<Vec<u8>, Fault> {
     hex::decode(alloc, word).map_err(|error| match error {
         FromHexError::OutOfMemory => Fault::OutOfMemory,
@@ -123,6 +147,17 @@ fn new_world(alloc: Global, position: Position, up: u16, down: u16) -> Result<Wo
     let (clock, identity) = (simulated::clock(), simulated::identity());
     let (up, down) = (usize::from(up), usize::from(down));
     World::new(alloc, position, clock, identity, up, down)
+}
+
+// A world whose lines and whose board's power may fail.
+#[inline(never)]
+fn new_faulty_world(
+    alloc: Global,
+    position: Position,
+    up: u16,
+    down: u16,
+) -> Result<FaultyWorld, WorldFault> {
+    Ok(new_world(alloc, position, up, down)?.at_fault())
 }
 
 fn write_bytes<O: Write>(bytes: &[u8], output: &mut O) -> Result<(), RunFault> {

@@ -2,6 +2,7 @@
 mod asking;
 mod boards;
 mod commands;
+mod faults;
 mod helps;
 mod scripts;
 
@@ -404,6 +405,7 @@ fn stops_at_a_refused_write(rt: HostRuntime) -> Result<(), Fail> {
         ("dgt board", b"\x45", 0, true, ""),
         ("dgt simulate", b"send\nsend\n", 4, true, "noth"),
         ("dgt simulate", b"send\nsend\n", 8, true, "nothing\n"),
+        ("dgt simulate --faults", b"boardlost\n", 4, true, "done"),
         (
             "dgt simulate",
             b"send\nsend\n",
@@ -432,6 +434,7 @@ fn stops_at_a_refused_read(rt: HostRuntime) -> Result<(), Fail> {
         "dgt commands",
         "dgt board",
         "dgt simulate",
+        "dgt simulate --faults",
     ] {
         check(&rt, line, 1, "", "dgt: read failed\n")?;
     }

@@ -109,6 +109,7 @@ Options:
       --position <P>  The pieces, as in a FEN [default: as a game begins]
       --up <N>        The bytes that the line to the host holds, 67 to 65535 [default: 1024]
       --down <N>      The bytes that the line to the board holds, 257 to 65535 [default: 1024]
+      --faults        Takes garbleup, garbledown, boardlost and restart too
   -h, --help          Print help
 
 ";

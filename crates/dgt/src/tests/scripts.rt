@@ -262,6 +262,7 @@ fn program_has_memory(rt: HostRuntime) -> Result<(), Fail> {
     let rows = [
         ("dgt board", commands.as_slice()),
         ("dgt simulate", FIRST_MOVE.as_bytes()),
+        ("dgt simulate --faults", FIRST_MOVE.as_bytes()),
         ("dgt monitor", b"\x8e"),
         ("dgt picture", b"\x8e"),
         ("dgt commands", b"\x42\x2b"),
