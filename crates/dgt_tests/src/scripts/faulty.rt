@@ -91,21 +91,27 @@ fn plain_scripts_have_no_faults(rt: HostRuntime) {
     }
 }
 
+// How many bytes the line puts into one of the two lines.
+fn garbled_len(line: &[u8]) -> Option<usize> {
+    let mut store = [0xff; 257];
+    match read_faulty_act(line, &mut store) {
+        Ok(FaultyAct::GarbleUp(bytes)) => Some(bytes.len()),
+        Ok(FaultyAct::GarbleDown(bytes)) => Some(bytes.len()),
+        _ => None,
+    }
+}
+
 #[test]
-fn longest_faulty_lines(rt: HostRuntime) {
+fn longest_garbleup(rt: HostRuntime) {
     let mut line = [b'0'; 520];
     line[..9].copy_from_slice(b"garbleup ");
-    let zeros = [0; 255];
-    let mut store = [0xff; 257];
-    let act = FaultyAct::GarbleUp(&zeros);
-    assert_eq!(rt; read_faulty_act(&line[..519], &mut store), Ok(act));
-    let long = Err(LineFault::BadLine { at: 519 });
-    assert_eq!(rt; read_faulty_act(&line, &mut store), long);
+    assert_eq!(rt; garbled_len(&line[..519]), Some(255));
+    assert_eq!(rt; garbled_len(&line), None);
+}
+
+#[test]
+fn longest_garbledown(rt: HostRuntime) {
+    let mut line = [b'0'; 519];
     line[..11].copy_from_slice(b"garbledown ");
-    let act = FaultyAct::GarbleDown(&zeros[..254]);
-    assert_eq!(rt; read_faulty_act(&line[..519], &mut store), Ok(act));
-    assert_eq!(rt;
-        read_faulty_act(&line[..518], &mut store),
-        Err(LineFault::BadLine { at: 11 })
-    );
+    assert_eq!(rt; garbled_len(&line), Some(254));
 }
