@@ -3,7 +3,7 @@ use crate::command_line::Task;
 use crate::fault::Fault;
 use crate::{command_line, simulated};
 use dgt_board::Board;
-use dgt_link::{FaultyWorld, World, WorldFault};
+use dgt_link::{World, WorldFault};
 use dgt_text::{
     Bytes, Device, RunFault, commands, monitor, picture, serve, simulate, simulate_faults,
 };
@@ -130,7 +130,18 @@ fn play_faults<I: Read + Drop, O: Write + Drop>(
     output: O,
 ) -> Result<(), Fault> {
     let position = Position::parse_placement(placement)?;
-    let mut world = new_faulty_world(alloc, position, up, down)?;
+    play_at_fault(new_world(alloc, position, up, down)?, input, output)
+}
+
+// The world is handed in, so that there is no room for both kinds of worlds on the stack while it
+// is made, which takes the most of it.
+#[inline(never)]
+fn play_at_fault<I: Read + Drop, O: Write + Drop>(
+    world: World,
+    input: I,
+    output: O,
+) -> Result<(), Fault> {
+    let mut world = world.at_fault();
     let (mut input, mut output) = (Device::new(input), Device::new(output));
     Ok(simulate_faults(&mut world, &mut input, &mut output, MOST_TURNS)?)
 }
@@ -147,17 +158,6 @@ fn new_world(alloc: Global, position: Position, up: u16, down: u16) -> Result<Wo
     let (clock, identity) = (simulated::clock(), simulated::identity());
     let (up, down) = (usize::from(up), usize::from(down));
     World::new(alloc, position, clock, identity, up, down)
-}
-
-// A world whose lines and whose board's power may fail.
-#[inline(never)]
-fn new_faulty_world(
-    alloc: Global,
-    position: Position,
-    up: u16,
-    down: u16,
-) -> Result<FaultyWorld, WorldFault> {
-    Ok(new_world(alloc, position, up, down)?.at_fault())
 }
 
 fn write_bytes<O: Write>(bytes: &[u8], output: &mut O) -> Result<(), RunFault> {
