@@ -86,19 +86,21 @@ fn a_restart_heals_all(rt: HostRuntime) -> Result<(), Fail> {
     stale[2] = 67;
     stale[67] = 0x8e;
     stale[69] = 5;
+    let lifted = take_e2()?;
     done(
         &rt,
         &mut world,
         &[
-            take_e2()?,
+            lifted,
             FaultyAct::GarbleDown(&[0x42, 0x60, 0xff, 0x01]),
             FaultyAct::Plain(Act::ToBoard(4)),
             FaultyAct::BoardLost,
             FaultyAct::GarbleDown(&[0x40, 0x2b, 0xf0, 0x03]),
-            FaultyAct::GarbleUp(&stale),
-            FaultyAct::Restart,
         ],
     );
+    let garbled = world.step(FaultyAct::GarbleUp(&stale));
+    assert_eq!(rt; garbled, Outcome::Done);
+    done(&rt, &mut world, &[FaultyAct::Restart]);
     assert_eq!(rt; (world.up_len(), world.down_len()), (70, 261));
     done(&rt, &mut world, &[FaultyAct::Plain(Act::ToHost(70))]);
     assert!(rt; world.host().picture() == Some(&Position::empty()));
