@@ -2,7 +2,7 @@
 //! reads or writes them.
 
 ghost use Rattle.std.specs.Prelude.{◌≡◌, ◌↔◌, ◌++◌, ℕ, List, [], Some};
-ghost use Rattle.dgt_values.specs.Equality.{EqualIsSame, EqualIsSameRead, EqualIsSameReadOf};
+ghost use Rattle.dgt_values.specs.Equality.{CloneIsSame, EqualIsSame, EqualIsSameRead, EqualIsSameReadOf};
 ghost use Rattle.dgt_command.specs.declared.ids.KnownId.{KnownId};
 ghost use Rattle.dgt_command.specs.Content.{led_bytes, payload_bytes, raw_id, raw_payload, EventContent, clock_content, command_content, command_event_content};
 ghost use Rattle.dgt_command.specs.Equality.{CommandHasArrays, EventHasArrays, FedHasArrays, HasArrays, fed_seen};
@@ -42,6 +42,20 @@ pub fn equal_is_same()
     ensures fed { EqualIsSameReadOf FedHasArrays fed_seen ⟦<CommandFed<'static> as PartialEq>⟧.eq }
     ensures found { EqualIsSame ⟦<FoundWord as PartialEq>⟧.eq }
     ensures advanced { EqualIsSame ⟦<AdvancedWord as PartialEq>⟧.eq }
+{}
+
+/// A clone is the value itself, and cloning never fails.
+pub fn clone_is_same()
+    ensures payload { CloneIsSame ⟦<Payload<'static> as Clone>⟧ }
+    ensures led_bytes { CloneIsSame ⟦<LedBytes<'static> as Clone>⟧ }
+    ensures raw { CloneIsSame ⟦<RawClock<'static> as Clone>⟧ }
+    ensures clock { CloneIsSame ⟦<ClockCommand<'static> as Clone>⟧ }
+    ensures command { CloneIsSame ⟦<Command<'static> as Clone>⟧ }
+    ensures event { CloneIsSame ⟦<CommandEvent<'static> as Clone>⟧ }
+    ensures known_id { CloneIsSame ⟦<KnownId as Clone>⟧ }
+    ensures fed { CloneIsSame ⟦<CommandFed<'static> as Clone>⟧ }
+    ensures found { CloneIsSame ⟦<FoundWord as Clone>⟧ }
+    ensures advanced { CloneIsSame ⟦<AdvancedWord as Clone>⟧ }
 {}
 
 /// A number is that of at most one known id, and each known id is found by its number.

@@ -3,7 +3,7 @@
 
 ghost use Rattle.std.specs.Prelude.{◌≡◌, ◌<◌, ◌-◌, ◌++◌, ◌↔◌, ◌⊎◌, ℕ, List, [], drop};
 ghost use Rattle.std.specs.Prelude.{slice_index, Some, Ok, Err};
-ghost use Rattle.dgt_values.specs.Equality.{EqualIsSame, EqualIsSameRead};
+ghost use Rattle.dgt_values.specs.Equality.{CloneIsSame, EqualIsSame, EqualIsSameRead};
 ghost use Rattle.dgt_message.specs.declared.known.KnownCode.{KnownCode};
 ghost use Rattle.dgt_message.specs.declared.viewing.BodyFault.{BodyFault};
 ghost use Rattle.dgt_message.specs.Code.{known_number, known_with};
@@ -11,11 +11,11 @@ ghost use Rattle.dgt_message.specs.Content.{absence_seen, answer_seen, clock_see
 ghost use Rattle.dgt_message.specs.Reading.{reading, IsFaultOf};
 ghost use Rattle.dgt_message.specs.Spelling.{message_bytes, spelling, Fits, Spells};
 
-use crate::clock::{Clock, ClockAck, NoClock, Times};
+use crate::clock::{Clock, ClockAck, NoClock, NotThisKind, Times};
 use crate::known::KnownCode;
 use crate::message::Message;
 use crate::other::OtherCode;
-use crate::readings::{Reading, Status};
+use crate::readings::{BadDigits, Reading, Status};
 use crate::viewing::BodyFault;
 
 /// Two values are equal, as `==` compares them, exactly where they say the same. Of a body its
@@ -31,6 +31,24 @@ pub fn equal_is_same()
     ensures known_code { EqualIsSame ⟦<KnownCode as PartialEq>⟧.eq }
     ensures message { EqualIsSameRead content ⟦<Message<'static> as PartialEq>⟧.eq }
     ensures body_fault { EqualIsSame ⟦<BodyFault as PartialEq>⟧.eq }
+    ensures not_this_kind { EqualIsSame ⟦<NotThisKind as PartialEq>⟧.eq }
+    ensures bad_digits { EqualIsSame ⟦<BadDigits as PartialEq>⟧.eq }
+{}
+
+/// A clone is the value itself, and cloning never fails.
+pub fn clone_is_same()
+    ensures reading { CloneIsSame ⟦<Reading as Clone>⟧ }
+    ensures status { CloneIsSame ⟦<Status as Clone>⟧ }
+    ensures times { CloneIsSame ⟦<Times as Clone>⟧ }
+    ensures no_clock { CloneIsSame ⟦<NoClock as Clone>⟧ }
+    ensures clock { CloneIsSame ⟦<Clock as Clone>⟧ }
+    ensures ack { CloneIsSame ⟦<ClockAck as Clone>⟧ }
+    ensures other_code { CloneIsSame ⟦<OtherCode as Clone>⟧ }
+    ensures known_code { CloneIsSame ⟦<KnownCode as Clone>⟧ }
+    ensures message { CloneIsSame ⟦<Message<'static> as Clone>⟧ }
+    ensures body_fault { CloneIsSame ⟦<BodyFault as Clone>⟧ }
+    ensures not_this_kind { CloneIsSame ⟦<NotThisKind as Clone>⟧ }
+    ensures bad_digits { CloneIsSame ⟦<BadDigits as Clone>⟧ }
 {}
 
 /// A number is that of at most one code with a case of its own, and each such code is found by its

@@ -1,4 +1,5 @@
--- What `==` says of two values.
+-- What `==` says of two values, and what a clone is.
+use Rattle.std.specs.declared.clone.Clone as clone
 use Rattle.std.specs.Prelude.{◌≡◌, ◌↔◌, Bool, IsTrue}
 
 -- two values are equal exactly where they are the same
@@ -14,3 +15,7 @@ abbrev pub EqualIsSameReadOf :
     {T Read : Type 0} → (T → Type 0) → (T → Read) → (T → T → Bool) → Type 0
 EqualIsSameReadOf Holds read eq =
     (a b : _) → Holds a → Holds b → IsTrue (eq a b) ↔ (read a ≡ read b)
+
+-- cloning never fails, and a clone is the value itself
+abbrev pub CloneIsSame : {T : Type 0} → clone.Ghosts T → Type 0
+CloneIsSame cloning = (a : _) → cloning.is_infallible a × ((b : _) → cloning.is_clone a b → b ≡ a)

@@ -4,7 +4,7 @@
 ghost use Rattle.std.specs.Prelude.{◌≡◌, ◌≤◌, ℕ, List, length, Result, Ok};
 ghost use Rattle.dgt_values.specs.Board.{piece_code, pieces_of, square_number};
 ghost use Rattle.dgt_values.specs.Bytes.{body_bytes, number};
-ghost use Rattle.dgt_values.specs.Equality.{EqualIsSame, EqualIsSameRead};
+ghost use Rattle.dgt_values.specs.Equality.{CloneIsSame, EqualIsSame, EqualIsSameRead};
 ghost use Rattle.dgt_values.specs.declared.pieces.Piece.{Piece};
 ghost use Rattle.dgt_values.specs.declared.refusals.BadPlacement.{BadPlacement};
 ghost use Rattle.dgt_values.specs.declared.positions.Position.{Position};
@@ -15,7 +15,9 @@ use crate::bytes::SevenBit;
 use crate::kinds::Kind;
 use crate::pieces::Piece;
 use crate::positions::Position;
-use crate::refusals::{BadPlacement, BodyError, NoRoom};
+use crate::refusals::{
+    BadPlacement, BodyError, Known, NoPiece, NoRoom, NoSegment, NoSquare, NotSevenBit, TooMuch,
+};
 use crate::squares::Square;
 
 /// The limits by their numbers.
@@ -35,6 +37,31 @@ pub fn equal_is_same()
     ensures kind { EqualIsSame ⟦<Kind as PartialEq>⟧.eq }
     ensures bad_placement { EqualIsSame ⟦<BadPlacement as PartialEq>⟧.eq }
     ensures no_room { EqualIsSame ⟦<NoRoom as PartialEq>⟧.eq }
+    ensures not_seven_bit { EqualIsSame ⟦<NotSevenBit as PartialEq>⟧.eq }
+    ensures too_much { EqualIsSame ⟦<TooMuch as PartialEq>⟧.eq }
+    ensures no_square { EqualIsSame ⟦<NoSquare as PartialEq>⟧.eq }
+    ensures no_piece { EqualIsSame ⟦<NoPiece as PartialEq>⟧.eq }
+    ensures no_segment { EqualIsSame ⟦<NoSegment as PartialEq>⟧.eq }
+    ensures known { EqualIsSame ⟦<Known as PartialEq>⟧.eq }
+{}
+
+/// A clone is the value itself, and cloning never fails.
+pub fn clone_is_same()
+    ensures seven_bit { CloneIsSame ⟦<SevenBit as Clone>⟧ }
+    ensures body { CloneIsSame ⟦<Body<'static> as Clone>⟧ }
+    ensures body_error { CloneIsSame ⟦<BodyError as Clone>⟧ }
+    ensures square { CloneIsSame ⟦<Square as Clone>⟧ }
+    ensures piece { CloneIsSame ⟦<Piece as Clone>⟧ }
+    ensures position { CloneIsSame ⟦<Position as Clone>⟧ }
+    ensures kind { CloneIsSame ⟦<Kind as Clone>⟧ }
+    ensures bad_placement { CloneIsSame ⟦<BadPlacement as Clone>⟧ }
+    ensures no_room { CloneIsSame ⟦<NoRoom as Clone>⟧ }
+    ensures not_seven_bit { CloneIsSame ⟦<NotSevenBit as Clone>⟧ }
+    ensures too_much { CloneIsSame ⟦<TooMuch as Clone>⟧ }
+    ensures no_square { CloneIsSame ⟦<NoSquare as Clone>⟧ }
+    ensures no_piece { CloneIsSame ⟦<NoPiece as Clone>⟧ }
+    ensures no_segment { CloneIsSame ⟦<NoSegment as Clone>⟧ }
+    ensures known { CloneIsSame ⟦<Known as Clone>⟧ }
 {}
 
 /// A piece is known by its code.
