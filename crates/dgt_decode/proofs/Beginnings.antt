@@ -103,6 +103,7 @@ frames-beginning kept (b ∷ h ∷ l ∷ more) total (suc (suc (suc n))) none be
           held = rw none refl;
           whole = t.0.message;
           came = λ e. rw none refl;
+          unfinished = t.0.unfinished;
         };
       },
       t.1,

@@ -1,5 +1,5 @@
 -- The states of a framer, byte by byte.
-use Rattle.std.proofs.Common.{option_map, ◌≡◌, ℕ, zero, suc, ◌+◌, ◌*◌, ◌-◌, ◌<◌, ◌≤◌, ◌⊎◌, inl, inr, false, List, [], ◌∷◌, ◌++◌, length, drop, Option, Some, None, refl, sym, ap, subst, ◌∙◌, arith, nat_eq}
+use Rattle.std.proofs.Common.{option_map, ◌≡◌, ◌≢◌, ℕ, zero, suc, ◌+◌, ◌*◌, ◌-◌, ◌<◌, ◌≤◌, ◌⊎◌, inl, inr, false, List, [], ◌∷◌, ◌++◌, length, drop, Option, Some, None, refl, sym, ap, subst, ◌∙◌, arith, nat_eq}
 use Rattle.std.specs.Prelude.{◌==◌, if◌then◌else◌, slice_index}
 use Rattle.std.proofs.lemmas.Bool.{ne_eqb}
 use Rattle.std.proofs.lemmas.List.{length-append, nil_from_length}
@@ -53,6 +53,7 @@ frames-first kept b none top =
       held = rw nothing refl;
       whole = λ e. absurd cc;
       came = λ e. absurd cc;
+      unfinished = λ e. (first-begins b top).leaves;
     }
 
 -- it tells a Cut where a message was open
@@ -66,6 +67,7 @@ frames-cut kept b some top =
       held = (first-begins b top).leaves ∙ sym g.leaves;
       whole = λ e. absurd cc;
       came = λ e. absurd cc;
+      unfinished = λ e. (first-begins b top).leaves;
     }
 
 -- ---- A byte outside a message
@@ -81,6 +83,7 @@ frames-stray kept b none seven =
       held = rw none (nothing_held ∙ sym g.leaves);
       whole = λ e. absurd cc;
       came = λ e. absurd cc;
+      unfinished = λ e. nothing_held;
     }
 
 -- ---- A byte of the header
@@ -96,6 +99,7 @@ frames-short kept b h one seven =
         held = rw h refl;
         whole = λ e. absurd cc;
         came = λ e. absurd cc;
+        unfinished = λ e. g.leaves;
       },
       (g.leaves, omega arith, omega arith),
     )
@@ -121,6 +125,7 @@ frames-bad kept b h two seven small =
       held = rw h (nothing_held ∙ sym g.leaves);
       whole = λ e. absurd cc;
       came = λ e. absurd cc;
+      unfinished = λ e. nothing_held;
     }
 
 -- ---- A later byte
@@ -139,6 +144,7 @@ pub record TellsRun (kept run : List ℕ) (what : Option Found) : Type 0 where
   pub told : events (kept ++ run) ≡ at_place_if_any (length kept + length run)
       (option_map (event_found_in (kept ++ run)) what)
   pub message : what ≡ Some found.Message → IsWholeMessage (kept ++ run)
+  pub unfinished : what ≢ Some found.Message → IsHeld (kept ++ run)
 
 -- they end it where none is left, and tell nothing otherwise
 pub tells-after : (kept run : List ℕ) (left : ℕ) → IsHeld kept → 2 ≤ length kept → 0 < length run → SevenByRecursion run
@@ -162,6 +168,7 @@ tells-after kept run zero h two more seven all =
       record {
         told = g.told ∙ ap (λ (n : ℕ). at_place n (message_event (kept ++ run)) ∷ []) count;
         message = λ e. whole;
+        unfinished = λ other. absurd (other refl);
       },
       whole,
     )
@@ -173,6 +180,7 @@ tells-after kept run (suc left) h two more seven all =
       record {
         told = g.told;
         message = λ e. absurd cc;
+        unfinished = λ other. g.leaves;
       },
       (g.leaves, omega arith, omega arith, all),
     )
@@ -188,6 +196,7 @@ frames-after kept b left h two seven all =
         held = rw h refl;
         whole = t.0.message;
         came = λ e. rw h refl;
+        unfinished = t.0.unfinished;
       },
       t.1,
     )

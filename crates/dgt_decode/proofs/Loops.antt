@@ -1,5 +1,5 @@
 -- A loop over the bytes of a piece, which takes them one by one or run by run.
-use Rattle.std.proofs.Common.{◌≡◌, ℕ, ◌+◌, ◌-◌, ◌<◌, ◌≤◌, true, false, List, [], ◌∷◌, ◌++◌, length, take, drop, get_or, option_map, Option, Some, None, refl, sym, ap, ◌∙◌, append_assoc, arith}
+use Rattle.std.proofs.Common.{◌≡◌, ◌≢◌, ℕ, ◌+◌, ◌-◌, ◌<◌, ◌≤◌, true, false, List, [], ◌∷◌, ◌++◌, length, take, drop, get_or, option_map, Option, Some, None, refl, sym, ap, ◌∙◌, append_assoc, arith}
 use Rattle.std.specs.Prelude.{is_some}
 use Rattle.std.proofs.Math.Seq.{drop-cons, take-add, take-length}
 use Rattle.dgt_decode.specs.declared.event.Found.{Found}
@@ -171,12 +171,17 @@ found_none kept piece at used now new None taken step none =
     (take-add at used piece) taken step.frames.first.1)
 found_none kept piece at used now new (Some it) taken step none = absurd cc
 
+-- nor a message
+pub not_found : (what : Option Found) → is_some what ≡ false → what ≢ Some found.Message
+not_found None none e = absurd cc
+not_found (Some it) none e = absurd cc
+
 -- ---- What a loop over bytes has framed
 
 -- nothing so far
 pub frames_none : (kept bytes now : List ℕ) (n : ℕ) → 0 < n → n ≤ length bytes
-    → HasTaken (open_message kept) bytes n (open_message now) → FramesFront kept bytes n now None
-frames_none kept bytes now n some within taken =
+    → HasTaken (open_message kept) bytes n (open_message now) → IsHeld now → FramesFront kept bytes n now None
+frames_none kept bytes now n some within taken unfinished =
     record {
       some = some;
       within = within;
@@ -185,6 +190,7 @@ frames_none kept bytes now n some within taken =
         held = taken.holds;
         whole = λ e. absurd cc;
         came = λ e. absurd cc;
+        unfinished = λ other. unfinished;
       };
     }
 
@@ -192,9 +198,9 @@ frames_none kept bytes now n some within taken =
 pub frames_found : (kept bytes : List ℕ) (n : ℕ) (new : List ℕ) (it : Found) → FirstEvent (open_message kept) bytes n
     (Some (event_found_in new it)) → 0 < n
     → open_message new ≡ open_message (open_message kept ++ take n bytes) → (it ≡ found.Message → IsWholeMessage new)
-    → (it ≡ found.Message → new ≡ open_message kept ++ take n bytes)
+    → (it ≡ found.Message → new ≡ open_message kept ++ take n bytes) → (it ≢ found.Message → IsHeld new)
     → FramesFront kept bytes n new (Some it)
-frames_found kept bytes n new it first some held whole came =
+frames_found kept bytes n new it first some held whole came unfinished =
     let run = take n bytes in
     let count : length run ≡ n = length-take-le n bytes first.0 in
     let early : take (n - 1) run ≡ take (n - 1) bytes = take-take (n - 1) n bytes (omega arith) in
@@ -207,5 +213,6 @@ frames_found kept bytes n new it first some held whole came =
         held = held;
         whole = λ e. whole cc;
         came = λ e. came cc;
+        unfinished = λ other. unfinished (λ e. other (ap Some e));
       };
     }

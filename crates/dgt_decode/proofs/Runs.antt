@@ -97,6 +97,7 @@ frames-body_run kept rest left used is run =
           held = rw is.0 refl;
           whole = t.0.message;
           came = λ e. rw is.0 refl;
+          unfinished = t.0.unfinished;
         };
       },
       t.1,

@@ -1,5 +1,5 @@
 -- What a framer keeps, and what it does with one byte or with a run of bytes.
-use Rattle.std.specs.Prelude.{◌≡◌, ℕ, ◌+◌, ◌<◌, ◌≤◌, List, [], ◌++◌, length, take, drop, slice_index, option_map, Option, Some}
+use Rattle.std.specs.Prelude.{◌≡◌, ◌≢◌, ℕ, ◌+◌, ◌<◌, ◌≤◌, List, [], ◌++◌, length, take, drop, slice_index, option_map, Option, Some}
 use Rattle.dgt_values.specs.Bytes.{AreSevenBit}
 use Rattle.dgt_decode.specs.declared.event.Event.{Event as CodeEvent}
 use Rattle.dgt_decode.specs.declared.event.Found.{Found}
@@ -19,12 +19,14 @@ IsKept (Body left) kept =
 IsKept Whole kept = IsWholeMessage kept
 
 -- A framer that kept these bytes has taken a run of bytes, of which only the last may make an
--- event. It holds what is open then, and keeps a message that the run made known.
+-- event. It holds what is open then. It keeps a message that the run made known, or else no more
+-- than what is open.
 pub record Frames (kept run new : List ℕ) (what : Option Found) : Type 0 where
   pub first : FirstEvent (open_message kept) run (length run) (option_map (event_found_in new) what)
   pub held : open_message new ≡ open_message (open_message kept ++ run)
   pub whole : what ≡ Some found.Message → IsWholeMessage new
   pub came : what ≡ Some found.Message → new ≡ open_message kept ++ run
+  pub unfinished : what ≢ Some found.Message → open_message new ≡ new
 
 -- The first of the bytes that are left of a piece, at least one, are such a run.
 pub record FramesFront (kept rest : List ℕ) (used : ℕ) (new : List ℕ) (what : Option Found)

@@ -1,6 +1,6 @@
 //! The reading of one message after another: its states, and the bytes that have come.
 
-ghost use Rattle.std.specs.Prelude.{◌≡◌, ◌≤◌, ◌<◌, ◌+◌, List, ℕ, [], ◌∷◌, ◌++◌, true, length, take, option_map, ◌==◌, if◌then◌else◌, Some, None};
+ghost use Rattle.std.specs.Prelude.{◌≡◌, ◌≢◌, ◌≤◌, ◌<◌, ◌+◌, List, ℕ, [], ◌∷◌, ◌++◌, true, length, take, option_map, ◌==◌, if◌then◌else◌, Some, None};
 ghost use Rattle.dgt_decode.specs.Grammar.{message_event, open_message};
 ghost use Rattle.dgt_decode.specs.Feeding.{FirstEvent, IsWholeMessage, event_content, event_found_in};
 ghost use Rattle.dgt_decode.specs.Taking.{Begins, Frames, FramesFront};
@@ -139,6 +139,9 @@ impl Framer {
         ensures whole { result.found ≡ Some Found.Message → IsWholeMessage self.new }
         ensures kept { result.found ≡ Some Found.Message →
             self.new ≡ open_message self.old ++ take result.used piece.now }
+        ensures unfinished { 0 < result.used → result.found ≢ Some Found.Message →
+            open_message self.new ≡ self.new }
+        ensures untouched { result.used ≡ 0 → self.new ≡ self.old }
         ensures progress { 0 < length piece.now → 0 < result.used }
     {
         let mut used = 0;

@@ -3,7 +3,7 @@
 
 ghost use Rattle.std.specs.Prelude.{◌≡◌, ◌<◌, ◌≤◌, ◌+◌, ℕ, List, [], ◌∷◌, ◌++◌, length, Option};
 ghost use Rattle.std.specs.List.{AllByRecursion, concat};
-ghost use Rattle.dgt_values.specs.Equality.{EqualIsSame, EqualIsSameRead};
+ghost use Rattle.dgt_values.specs.Equality.{CloneIsSame, EqualIsSame, EqualIsSameRead};
 ghost use Rattle.dgt_message.specs.Content.{Content, IsMessage};
 ghost use Rattle.dgt_message.specs.Spelling.{Spells, spelling};
 ghost use Rattle.dgt_decode.specs.Feeding.{FirstEvent, event_content, fed_content};
@@ -31,6 +31,15 @@ pub fn equal_is_same()
 {
     messages::equal_is_same();
 }
+
+/// A clone is the value itself, and cloning never fails.
+pub fn clone_is_same()
+    ensures unfinished { CloneIsSame ⟦<Unfinished as Clone>⟧ }
+    ensures found { CloneIsSame ⟦<Found as Clone>⟧ }
+    ensures advanced { CloneIsSame ⟦<Advanced as Clone>⟧ }
+    ensures event { CloneIsSame ⟦<Event<'static> as Clone>⟧ }
+    ensures fed { CloneIsSame ⟦<Fed<'static> as Clone>⟧ }
+{}
 
 /// Cut before each byte with a set top bit, a list is a seven-bit lead and segments, and no other
 /// way of dividing it makes such parts.

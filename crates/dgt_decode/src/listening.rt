@@ -1,6 +1,5 @@
 //! Who is told the events of a whole piece.
 
-ghost use Rattle.std.specs.Prelude.{⊤};
 ghost use Rattle.dgt_decode.specs.Feeding.{event_content};
 ghost use Rattle.dgt_decode.specs.Grammar.{Placed, at_place};
 
@@ -8,11 +7,11 @@ use crate::event::Event;
 
 /// Is told events, one after another.
 ///
-/// Contracts see what a listener makes of an event as a relation, `hears`, of which each listener
-/// has its own. One that has none promises nothing.
+/// Contracts see what a listener makes of an event as a relation, `hears`, which each listener
+/// states for itself.
 pub trait Listener {
     // the listener before an event, the event with its place, and the listener after it
-    ghost hears: { Self → Placed → Self → Type 0 } = { λ _ _ _. ⊤ };
+    ghost hears: { Self → Placed → Self → Type 0 };
 
     /// Is told an event, and how many bytes of the piece come up to and including the one that
     /// makes it.
