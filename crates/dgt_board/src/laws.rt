@@ -2,13 +2,13 @@
 //! Nothing here runs: each function stands for the fact that its contract states.
 
 ghost use Rattle.std.specs.Prelude.{◌≡◌, ◌↔◌, ◌≤◌, ◌<◌, ◌+◌, ◌++◌, ℕ, List, [], Option, Some, None, IfSome, length, option_map};
-ghost use Rattle.dgt_values.specs.Equality.{EqualIsSame, EqualIsSameReadOf};
+ghost use Rattle.dgt_values.specs.Equality.{CloneIsSame, EqualIsSame, EqualIsSameReadOf};
 ghost use Rattle.dgt_message.specs.Content.{Content};
 ghost use Rattle.dgt_command.specs.Content.{EventContent, command_event_content};
 ghost use Rattle.dgt_command.specs.Equality.{EventHasArrays};
 ghost use Rattle.dgt_board.specs.declared.boards.Taken.{Taken};
 ghost use Rattle.dgt_board.specs.State.{BoardState, effects};
-ghost use Rattle.dgt_board.specs.Sending.{after_sending, backlog, left_to_send, next_message};
+ghost use Rattle.dgt_board.specs.Sending.{after_sending, backlog, clock_news, left_to_send, next_message, untold_squares};
 ghost use Rattle.dgt_board.specs.View.{BoardView, HasTaken};
 
 use crate::{Busy, MAX_KEPT_BODY, MAX_OWED, MAX_SENT, Mode, Polled, Taken, TooLong};
@@ -35,6 +35,15 @@ pub fn equal_is_same()
     dgt_command::laws::equal_is_same();
 }
 
+/// A clone is the value itself, and cloning never fails.
+pub fn clone_is_same()
+    ensures mode { CloneIsSame ⟦<Mode as Clone>⟧ }
+    ensures polled { CloneIsSame ⟦<Polled as Clone>⟧ }
+    ensures busy { CloneIsSame ⟦<Busy as Clone>⟧ }
+    ensures too_long { CloneIsSame ⟦<TooLong as Clone>⟧ }
+    ensures taken { CloneIsSame ⟦<Taken<'static> as Clone>⟧ }
+{}
+
 /// A board has nothing to send exactly where nothing is left to send, and then it owes no reply.
 pub fn nothing_to_send()
     ensures nothing_left { (board : BoardState)
@@ -42,9 +51,12 @@ pub fn nothing_to_send()
     ensures none_owed { (board : BoardState) → next_message board ≡ None → board.owed ≡ [] }
 {}
 
-/// What is left to send is at most the replies, 64 squares and the clock, and it falls with each
-/// message that is sent.
+/// What is left to send are the owed replies, the squares that an update mode has still to tell,
+/// and the clock if it is to be told: at most the replies, 64 squares and the clock. It falls with
+/// each message that is sent.
 pub fn bounded_sending()
+    ensures parts { (board : BoardState) → left_to_send board
+        ≡ length board.owed + length (untold_squares board) + length (clock_news board) }
     ensures bound { (board : BoardState) → left_to_send board ≤ length board.owed + 65 }
     ensures falls { (board : BoardState) (message : Content) → length board.told_squares ≡ 64
         → next_message board ≡ Some message

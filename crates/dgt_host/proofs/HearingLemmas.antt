@@ -1,9 +1,13 @@
 -- What a host makes of the events of bytes that come in pieces.
-use Rattle.std.proofs.Common.{◌≡◌, ◌+◌, refl, sym, ap, ◌∙◌, ℕ, List, [], ◌∷◌, ◌++◌, append_assoc, length, ◌-◌, take, drop, append-nil}
+use Rattle.std.proofs.Common.{◌≡◌, ◌+◌, Some, refl, sym, ap, ◌∙◌, ℕ, List, [], ◌∷◌, ◌++◌, append_assoc, length, ◌-◌, take, drop, append-nil}
 use Rattle.std.proofs.Math.Seq.{take-add}
-use Rattle.dgt_decode.specs.Grammar.{Event, Message, Refused, Cut, BadLength, Stray, Placed, events, events_behind, open_message}
-use Rattle.dgt_decode.specs.Laws.{EventsAppend, OpenAppend, OpenIsQuiet}
-use Rattle.dgt_host.specs.Host.{HeardInPieces, HostView, host_after, host_after_event, host_after_events}
+use Rattle.std.specs.List.{AllByRecursion, flat_map}
+use Rattle.dgt_values.specs.declared.pieces.Piece.{Piece}
+use Rattle.dgt_message.specs.Content.{Content, IsMessage}
+use Rattle.dgt_message.specs.Spelling.{spelling}
+use Rattle.dgt_decode.specs.Grammar.{Event, Message, Refused, Cut, BadLength, Stray, Placed, at_place, cut_of, events, events_behind, open_message}
+use Rattle.dgt_decode.specs.Laws.{EventsAppend, OpenAppend, OpenIsQuiet, SpellingIsRead}
+use Rattle.dgt_host.specs.Host.{HeardInPieces, HostView, clock_after_all, host_after, host_after_event, host_after_events, host_after_message, picture_after_all}
 
 host_after_events-append : (host : HostView) (xs ys : List Placed)
     → host_after_events host (xs ++ ys) ≡ host_after_events (host_after_events host xs) ys
@@ -77,3 +81,65 @@ heard_more in_pieces host before now piece i n e f =
     f ∙ ap (λ (h : HostView). host_after h (take n (drop i piece))) e
     ∙ in_pieces host (take i piece) (take n (drop i piece))
     ∙ ap (host_after host) (sym (take-add i n piece))
+
+-- ---- Whole messages
+
+-- that a message was cut off changes nothing
+cut_changes_nothing : (host : HostView) (n : ℕ) (unread : List ℕ)
+    → host_after_events host (events_behind n (cut_of unread)) ≡ host
+cut_changes_nothing host n [] = refl
+cut_changes_nothing host n (b ∷ bytes) = refl
+
+module _ (read : SpellingIsRead) where
+  -- what is written of a message is heard as this message, whatever came before
+  pub message_heard : (host : HostView) (bytes : List ℕ) (said : Content) → IsMessage said
+      → host_after host (bytes ++ spelling said)
+      ≡ record (host_after_message (host_after host bytes) said) { unread = [] }
+  message_heard host bytes said is =
+      let before : List ℕ = host.unread ++ bytes in
+      let whole : host.unread ++ (bytes ++ spelling said) ≡ before ++ spelling said
+      = sym (append_assoc host.unread bytes (spelling said)) in
+      let cut : List Placed = events_behind (length before) (cut_of (open_message before)) in
+      let last : List Placed = at_place (length before + length (spelling said)) (Message said) ∷ [] in
+      let told : events (host.unread ++ (bytes ++ spelling said)) ≡ (events before ++ cut) ++ last
+      = ap events whole ∙ (read before said is).0 in
+      let left : open_message (host.unread ++ (bytes ++ spelling said)) ≡ []
+      = ap open_message whole ∙ (read before said is).1 in
+      let now : HostView = host_after_events host (events before) in
+      let folded : host_after_events host ((events before ++ cut) ++ last) ≡ host_after_message now said
+      = host_after_events-append host (events before ++ cut) last
+      ∙ ap (λ (h : HostView). host_after_message h said)
+      (host_after_events-append host (events before) cut
+      ∙ cut_changes_nothing now (length before) (open_message before)) in
+      ap (λ (xs : List Placed). record (host_after_events host xs) {
+        unread = open_message (host.unread ++ (bytes ++ spelling said));
+      }) told
+      ∙ ap (λ (h : HostView). record h { unread = open_message (host.unread ++ (bytes ++ spelling said)) }) folded
+      ∙ ap (λ (u : List ℕ). record (host_after_message now said) { unread = u }) left
+
+  -- so messages in a row are heard one after another
+  pub pictures_heard : (host : HostView) (bytes : List ℕ) (said : List Content) → AllByRecursion IsMessage said
+      → (host_after host (bytes ++ flat_map spelling said)).picture
+      ≡ picture_after_all (host_after host bytes).picture said
+  pictures_heard host bytes [] are = ap (λ (bs : List ℕ). (host_after host bs).picture) (append-nil bytes)
+  pictures_heard host bytes (m ∷ said) are =
+      ap (λ (bs : List ℕ). (host_after host bs).picture)
+      (sym (append_assoc bytes (spelling m) (flat_map spelling said)))
+      ∙ pictures_heard host (bytes ++ spelling m) said are.1
+      ∙ ap (λ (h : HostView). picture_after_all h.picture said) (message_heard host bytes m are.0)
+
+  pub clocks_heard : (host : HostView) (bytes : List ℕ) (said : List Content) → AllByRecursion IsMessage said
+      → (host_after host (bytes ++ flat_map spelling said)).clock
+      ≡ clock_after_all (host_after host bytes).clock said
+  clocks_heard host bytes [] are = ap (λ (bs : List ℕ). (host_after host bs).clock) (append-nil bytes)
+  clocks_heard host bytes (m ∷ said) are =
+      ap (λ (bs : List ℕ). (host_after host bs).clock) (sym (append_assoc bytes (spelling m) (flat_map spelling said)))
+      ∙ clocks_heard host (bytes ++ spelling m) said are.1
+      ∙ ap (λ (h : HostView). clock_after_all h.clock said) (message_heard host bytes m are.0)
+
+  -- a dump that is heard whole sets the picture
+  pub dump_repairs : (host : HostView) (bytes : List ℕ) (pieces : List Piece) (said : List Content)
+      → length pieces ≡ 64 → AllByRecursion IsMessage said
+      → (host_after host (bytes ++ flat_map spelling (Content.dump pieces ∷ said))).picture
+      ≡ picture_after_all (Some pieces) said
+  dump_repairs host bytes pieces said all are = pictures_heard host bytes (Content.dump pieces ∷ said) (all, are)

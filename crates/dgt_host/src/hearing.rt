@@ -13,7 +13,7 @@ use dgt_message::{Clock, Message, kind_of};
 use dgt_values::{Kind, Position};
 
 /// What a host heard in a piece.
-#[derive(Clone, Copy, Debug)]
+#[derive(Clone, Copy, Debug, PartialEq, Eq)]
 pub struct Heard<'a> {
     /// How many bytes of the piece were used: those up to and including the one that makes the
     /// event, else all.

@@ -15,7 +15,7 @@ use crate::hearing::{Heard, hear_event};
 use crate::sending::SendFault;
 use arrayvec::ArrayVec;
 use dgt_command::{Command, MAX_WORD, encode, kind_of_command, length};
-use dgt_decode::{Framer, laws};
+use dgt_decode::{Framer, MAX_TOTAL, laws};
 use dgt_message::Clock;
 use dgt_values::{Kind, Position};
 use std::marker::Model;
@@ -194,12 +194,15 @@ impl Host {
         self.awaited.as_slice()
     }
 
-    /// How many bytes were heard of a message that isn't finished, else 0.
+    /// How many bytes were heard of a message that isn't finished, which are fewer than
+    /// [`MAX_TOTAL`], else 0.
     pub fn unread(&self) -> usize
         ensures len { result ≡ length self.now.unread }
         ensures all_open { open_message self.now.unread ≡ self.now.unread }
+        ensures limit { length self.now.unread < MAX_TOTAL }
     {
         laws::open_append();
+        laws::open_is_short();
         self.framer.open_len()
     }
 

@@ -1,12 +1,17 @@
 //! What holds of a host whatever it hears. Nothing here runs: each function stands for the fact
 //! that its contract states.
 
-ghost use Rattle.std.specs.Prelude.{◌≡◌, ℕ, List, []};
-ghost use Rattle.dgt_values.specs.Equality.{EqualIsSame};
-ghost use Rattle.dgt_decode.specs.Grammar.{Placed, events_behind, open_message};
-ghost use Rattle.dgt_host.specs.Host.{HeardInPieces, HostView, host_after, host_after_events};
+ghost use Rattle.std.specs.Prelude.{◌≡◌, ◌++◌, ℕ, Bool, List, [], ◌∷◌, Option, Some, flat_map, length};
+ghost use Rattle.std.specs.List.{AllByRecursion};
+ghost use Rattle.dgt_values.specs.declared.pieces.Piece.{Piece};
+ghost use Rattle.dgt_values.specs.Equality.{CloneIsSame, EqualIsSame, EqualIsSameRead};
+ghost use Rattle.dgt_message.specs.Content.{Content, IsMessage};
+ghost use Rattle.dgt_message.specs.Spelling.{spelling};
+ghost use Rattle.dgt_decode.specs.Feeding.{event_content_if_any};
+ghost use Rattle.dgt_decode.specs.Grammar.{Event, Placed, events_behind, open_message};
+ghost use Rattle.dgt_host.specs.Host.{HeardInPieces, HostView, clock_after_all, host_after, host_after_events, host_after_message, picture_after_all};
 
-use crate::{Kind, MAX_AWAITED, RESTART_LENGTH, SendFault};
+use crate::{Heard, Kind, MAX_AWAITED, RESTART_LENGTH, SendFault};
 
 /// The limits by their numbers.
 pub fn limits()
@@ -14,10 +19,23 @@ pub fn limits()
     ensures restart { RESTART_LENGTH ≡ 257 }
 {}
 
-/// Two values are equal, as `==` compares them, exactly where they are the same.
+/// Two values are equal, as `==` compares them, exactly where they are the same. Of an event what
+/// it tells counts, and not where its bytes lie.
 pub fn equal_is_same()
     ensures kind { EqualIsSame ⟦<Kind as PartialEq>⟧.eq }
     ensures send_fault { EqualIsSame ⟦<SendFault as PartialEq>⟧.eq }
+    ensures heard { EqualIsSameRead {Read = ℕ × Option Event × Bool}
+        (λ heard. (heard.used, event_content_if_any heard.event, heard.unasked))
+        ⟦<Heard<'static> as PartialEq>⟧.eq }
+{
+    dgt_decode::laws::equal_is_same();
+}
+
+/// A clone is the value itself, and cloning never fails.
+pub fn clone_is_same()
+    ensures kind { CloneIsSame ⟦<Kind as Clone>⟧ }
+    ensures send_fault { CloneIsSame ⟦<SendFault as Clone>⟧ }
+    ensures heard { CloneIsSame ⟦<Heard<'static> as Clone>⟧ }
 {}
 
 /// A host that hears bytes in two pieces is the one that hears them in one.
@@ -42,3 +60,24 @@ pub fn places_do_not_matter()
     ensures { (host : HostView) (places : ℕ) (events : List Placed)
         → host_after_events host (events_behind places events) ≡ host_after_events host events }
 {}
+
+/// What is written of a message is heard as this message, whatever bytes the host has heard before:
+/// a cut message, or one that the line has altered. So messages in a row are heard one after
+/// another, and a dump sets the picture, which those behind it change.
+pub fn messages_are_heard()
+    ensures whole { (host : HostView) (bytes : List ℕ) (said : Content) → IsMessage said →
+        host_after host (bytes ++ spelling said)
+        ≡ record (host_after_message (host_after host bytes) said) { unread = [] } }
+    ensures picture { (host : HostView) (bytes : List ℕ) (said : List Content) →
+        AllByRecursion IsMessage said → (host_after host (bytes ++ flat_map spelling said)).picture
+        ≡ picture_after_all (host_after host bytes).picture said }
+    ensures clock { (host : HostView) (bytes : List ℕ) (said : List Content) →
+        AllByRecursion IsMessage said → (host_after host (bytes ++ flat_map spelling said)).clock
+        ≡ clock_after_all (host_after host bytes).clock said }
+    ensures dump { (host : HostView) (bytes : List ℕ) (pieces : List Piece) (said : List Content) →
+        length pieces ≡ 64 → AllByRecursion IsMessage said →
+        (host_after host (bytes ++ flat_map spelling (Content.dump pieces ∷ said))).picture
+        ≡ picture_after_all (Some pieces) said }
+{
+    dgt_decode::laws::spelling_is_read();
+}

@@ -1,5 +1,8 @@
-use Rattle.dgt_board.proofs.SendingLemmas.{left-at_most, sending_lowers}
+use Rattle.dgt_board.proofs.SendingLemmas.{left-at_most, left_is, sending_lowers}
 use Rattle.dgt_board.proofs.laws.bounded_sending.Goals as goal
+
+pub returns-clause-parts : goal.returns-clause-parts
+returns-clause-parts c = left_is
 
 pub returns-clause-bound : goal.returns-clause-bound
 returns-clause-bound c = left-at_most
