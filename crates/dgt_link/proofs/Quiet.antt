@@ -159,6 +159,18 @@ quiet_clock x exact quiet follows =
     ∙ told_clock x.board.times_owed x.board.told_clock (Some x.board.clock)
     (quiet_up_to_date x exact.sound quiet).times_owed (exact.sound.followed follows)
 
+-- in any sound state it is unknown or the board's
+unknown_or_told : (seen told clock : Option ClockState) → told ≡ clock → IsUnknownOr seen told → IsUnknownOr seen clock
+unknown_or_told seen told clock e h = rw e at h
+
+pub quiet_clock_told : (x : MachineState) → IsSound x → IsQuiet x → IsTrue (follows_clock x.board.mode)
+    → IsUnknownOr x.host_clock (Some x.board.clock)
+quiet_clock_told x sound quiet follows =
+    unknown_or_told x.host_clock x.board.told_clock (Some x.board.clock)
+    (told_clock x.board.times_owed x.board.told_clock (Some x.board.clock)
+    (quiet_up_to_date x sound quiet).times_owed (sound.followed follows))
+    (rw quiet.up at sound.clock)
+
 -- nothing is awaited at quiet
 nothing_comes : (x : MachineState) → IsSound x → IsQuiet x → coming_kinds x ≡ []
 nothing_comes x sound quiet = rw (quiet.up, quiet.down, (quiet_up_to_date x sound quiet).owed)

@@ -14,7 +14,7 @@ use Rattle.dgt_link.specs.Sound.{IsExact, IsUnknownOr}
 use Rattle.dgt_link.specs.Stands.{AreSpelled, StandsFor}
 use Rattle.dgt_link.specs.View.{IsQuietWorld, WorldView}
 use Rattle.dgt_link.proofs.Answering.{first_answer, never_unasked}
-use Rattle.dgt_link.proofs.Quiet.{promised_picture, quiet_awaited, quiet_clock, quiet_picture}
+use Rattle.dgt_link.proofs.Quiet.{promised_picture, quiet_awaited, quiet_clock, quiet_clock_told, quiet_picture}
 
 -- the picture to come, by the messages under way
 pub world_fold : (world : WorldView) (x : MachineState) → StandsFor world x
@@ -69,6 +69,12 @@ module _ (law : EachDividesOnce) (world : WorldView) (x : MachineState) (stands 
   world_clock_told exact follows =
       rw (stands.clock, stands.board)
       (quiet_clock x exact (quiet_state law world x stands quiet) (rw stands.board at follows))
+
+  pub world_clock_known : IsTrue (follows_clock world.board.state.mode)
+      → IsUnknownOr world.host.clock (Some world.board.state.clock)
+  world_clock_known follows =
+      rw (stands.clock, stands.board)
+      (quiet_clock_told x stands.sound (quiet_state law world x stands quiet) (rw stands.board at follows))
 
   pub world_picture : IsPromised x → world.host.picture ≡ Some world.board.state.squares
   world_picture promised =

@@ -25,13 +25,13 @@ use Rattle.dgt_link.specs.declared.acts.Outcome.{Outcome}
 use Rattle.dgt_link.specs.View.{overflows, IsQuietWorld, WorldView}
 use Rattle.dgt_link.specs.Machine.{MachineState, after_moves}
 use Rattle.dgt_link.specs.Step.{moves_nothing, Becomes, Delivers, Runs, Step, done_count}
-use Rattle.dgt_link.specs.Settling.{IsSettling, SettlesIn, steps_left}
+use Rattle.dgt_link.specs.Settling.{AreInOrder, IsNext, IsSettling, SettlesIn, steps_left}
 use Rattle.dgt_link.specs.Work.{work_left}
 use Rattle.dgt_link.specs.Sound.{IsUnknownOr}
 use Rattle.dgt_link.proofs.Backlogs.{BacklogFalls, BacklogRises}
 use Rattle.dgt_link.proofs.Lists.{Contains-cons, all_append, nothing_contained, IsShorter, Reaches, fronts}
 use Rattle.dgt_link.proofs.Hearing.{Reads, held_alone, nothing_open}
-use Rattle.dgt_link.proofs.Resting.{quiet_state, world_awaits_nothing, world_clock_told, world_picture}
+use Rattle.dgt_link.proofs.Resting.{quiet_state, world_awaits_nothing, world_clock_known, world_clock_told, world_picture}
 use Rattle.dgt_link.proofs.Resting.{world_picture_told}
 use Rattle.dgt_link.proofs.Running.{run-push}
 use Rattle.dgt_link.proofs.Taking.{HasSameGame, effects_same_game}
@@ -265,14 +265,22 @@ done_at act world after answer e step = rw e at step
 -- one act towards rest
 abbrev pub Moves : WorldView → WorldView → Type 0
 Moves world after =
-    (act : ActContent) × IsSettling act × Step act world Outcome.Done after × (work_left after < work_left world)
+    (act : ActContent) × IsNext world act × Step act world Outcome.Done after × (work_left after < work_left world)
+
+some_bytes : (bytes : List ℕ) → (length bytes == 0) ≡ false → 0 < length bytes
+some_bytes [] h = absurd (false≢true (sym h))
+some_bytes (byte ∷ bytes) h = omega arith
 
 pub hears : (world after : WorldView) (answer : Outcome) → (length world.up.bytes == 0) ≡ false
     → Step (ActContent.ToHost (length world.up.bytes)) world answer after → Moves world after
 hears world after answer some step =
     let is_done : answer ≡ Outcome.Done = step.answers ∙ rw some refl in
-    let step' = done_at (ActContent.ToHost (length world.up.bytes)) world after answer is_done step in
-    (ActContent.ToHost (length world.up.bytes), tt, step', hear_works world after some step'.leaves)
+    let step' = done_at (ActContent.ToHost (length world.up.bytes)) world after answer is_done step in (
+      ActContent.ToHost (length world.up.bytes),
+      (some_bytes world.up.bytes some, refl),
+      step',
+      hear_works world after some step'.leaves,
+    )
 
 pub no_bytes : (bytes : List ℕ) → (length bytes == 0) ≡ true → bytes ≡ []
 no_bytes [] h = refl
@@ -298,7 +306,8 @@ sends_told falls world after answer told up some fits step = go (next_message wo
     sent : answer ≡ Outcome.Done → Moves world after
     sent e =
         let step' = done_at ActContent.BoardSend world after answer e step in
-        (ActContent.BoardSend, tt, step', send_works falls world after told step'.leaves)
+        let next = (no_bytes world.up.bytes up, some) in
+        (ActContent.BoardSend, next, step', send_works falls world after told step'.leaves)
 
     room : (message : Content) → next_message world.board.state ≡ Some message → (full : Bool)
         → overflows world.up (spelling message) ≡ full → answer ≡ Outcome.Done
@@ -319,23 +328,25 @@ sends falls world after answer is up some fits step =
 
 module _ (short : WordsAreShort) (within : NoWordBeginsAPart) (rises : BacklogRises) where
   pub takes_partial : (world after : WorldView) (answer : Outcome) → IsPartial world.board.partial
-      → world.board.state.owed ≡ []
+      → (length world.up.bytes == 0) ≡ true → next_message world.board.state ≡ None → world.board.state.owed ≡ []
       → (length world.down.bytes == 0) ≡ false → Step (ActContent.ToBoard (length world.down.bytes)) world answer after
       → Moves world after
-  takes_partial world after answer partial none some step =
+  takes_partial world after answer partial up quiet none some step =
       let is_done : answer ≡ Outcome.Done = step.answers ∙ rw (some, none) refl in
       let step' = done_at (ActContent.ToBoard (length world.down.bytes)) world after answer is_done step in (
         ActContent.ToBoard (length world.down.bytes),
-        tt,
+        (no_bytes world.up.bytes up, quiet, some_bytes world.down.bytes some, refl),
         step',
         take_works short within rises world after
             (length world.down.bytes) partial step'.leaves,
       )
 
-  pub takes : (world after : WorldView) (answer : Outcome) → IsWorld world → world.board.state.owed ≡ []
+  pub takes : (world after : WorldView) (answer : Outcome) → IsWorld world → (length world.up.bytes == 0) ≡ true
+      → next_message world.board.state ≡ None → world.board.state.owed ≡ []
       → (length world.down.bytes == 0) ≡ false → Step (ActContent.ToBoard (length world.down.bytes)) world answer after
       → Moves world after
-  takes world after answer is none some step = takes_partial world after answer is.stands.partial none some step
+  takes world after answer is up quiet none some step =
+      takes_partial world after answer is.stands.partial up quiet none some step
 
 pub rests : Reads → EachDividesOnce → (world : WorldView) → IsWorld world → (length world.up.bytes == 0) ≡ true
     → (length world.down.bytes == 0) ≡ true → next_message world.board.state ≡ None
@@ -356,16 +367,41 @@ not_owing result board tells e = some_or_none result (next_message board) tells 
 
 -- ---- the loop
 
+-- what is next is a delivery or a sending
+next_settles : (world : WorldView) (act : ActContent) → IsNext world act → IsSettling act
+next_settles world ActContent.BoardSend is = tt
+next_settles world (ActContent.ToBoard count) is = tt
+next_settles world (ActContent.ToHost count) is = tt
+next_settles world (ActContent.Change square piece) none = absurd none
+next_settles world (ActContent.ClockRead clock) none = absurd none
+next_settles world (ActContent.Host command) none = absurd none
+next_settles world ActContent.Break none = absurd none
+next_settles world ActContent.HostBreak none = absurd none
+
+-- one act more, which is the next
+in_order_more : (acts : List ActContent) (act : ActContent) (old now new : WorldView) → AreInOrder acts old now
+    → IsNext now act → Step act now Outcome.Done new → AreInOrder (acts ++ act ∷ []) old new
+in_order_more [] act old now new same next step = (
+  new,
+  subst (λ (w : WorldView). IsNext w act) same next,
+  subst
+      (λ (w : WorldView). Step act w Outcome.Done new) same step,
+  refl,
+)
+in_order_more (first ∷ acts) act old now new (between, is, done, rest) next step =
+    (between, is, done, in_order_more acts act between now new rest next step)
+
 pub settled_more : (old now new : WorldView) (done : ℕ) → SettlesIn done old now → Moves now new
     → SettlesIn (done + 1) old new
 settled_more old now new done settled (act, is, step, less) =
     record {
       acts = settled.acts ++ act ∷ [];
-      settling = all_append IsSettling settled.acts (act ∷ []) settled.settling (is, tt);
+      settling = all_append IsSettling settled.acts (act ∷ []) settled.settling (next_settles now act is, tt);
       counted = rw (length-append settled.acts (act ∷ [])) (omega (arith, settled.counted));
       run =
           rw (← replicate_more done Outcome.Done)
           (run-push settled.acts (replicate done Outcome.Done) act Outcome.Done old now new settled.run step);
+      in_order = in_order_more settled.acts act old now new settled.in_order is step;
     }
 
 pub settled_kept : (count : ℕ) (old new : WorldView) → SettlesIn count old new
@@ -408,6 +444,13 @@ module _ (moves : (act : ActContent) (world after : WorldView) (answer : Outcome
       let same = (settled_kept count old new settled).squares in
       subst (λ (squares : List Piece). IsUnknownOr new.host.picture (Some squares)) same
       (world_picture_told law new promise.state promise.stands quiet asks)
+
+  pub settled_known : IsTrue (follows_clock new.board.state.mode)
+      → IsUnknownOr new.host.clock (Some old.board.state.clock)
+  settled_known follows =
+      let same = (settled_kept count old new settled).clock in
+      subst (λ (clock : ClockState). IsUnknownOr new.host.clock (Some clock)) same
+      (world_clock_known law new promise.state promise.stands quiet follows)
 
   pub settled_awaited : new.host.awaited ≡ []
   settled_awaited = world_awaits_nothing law new promise.state promise.stands quiet

@@ -1,12 +1,12 @@
 -- How a world comes to rest: what is under way is delivered, and the board sends what it owes.
-use Rattle.std.specs.Prelude.{◌≡◌, ℕ, ◌+◌, ◌*◌, ◌≤◌, List, length, replicate}
+use Rattle.std.specs.Prelude.{◌≡◌, ℕ, ◌+◌, ◌*◌, ◌<◌, ◌≤◌, List, [], ◌∷◌, length, replicate, None, IsSome}
 use Rattle.std.specs.List.{AllByRecursion}
-use Rattle.dgt_board.specs.Sending.{backlog}
+use Rattle.dgt_board.specs.Sending.{backlog, next_message}
 use Rattle.dgt_link.specs.declared.acts.Outcome.{Outcome}
 use Rattle.dgt_link.specs.Act.{ActContent}
 use Rattle.dgt_link.specs.Machine.{IsSending, MachineState, Move, after_moves}
 use Rattle.dgt_link.specs.Promise.{IsQuiet}
-use Rattle.dgt_link.specs.Step.{Runs}
+use Rattle.dgt_link.specs.Step.{Runs, Step}
 use Rattle.dgt_link.specs.View.{WorldView}
 
 -- ---- of the machine
@@ -37,12 +37,32 @@ IsSettling (ActContent.ToBoard count) = Unit {0}
 IsSettling (ActContent.ToHost count) = Unit {0}
 IsSettling _ = ⊥
 
--- so many deliveries and sendings, each of them done, lead from one world to the other
+-- What settling does next. While bytes are under way to the host, it hears all of them. With none
+-- under way the board sends a message if it has any. With none to send it takes all that is under
+-- way to it.
+abbrev pub IsNext : WorldView → ActContent → Type 0
+IsNext world (ActContent.ToHost count) = (0 < count) × (count ≡ length world.up.bytes)
+IsNext world ActContent.BoardSend =
+    (world.up.bytes ≡ []) × IsSome (next_message world.board.state)
+IsNext world (ActContent.ToBoard count) =
+    (world.up.bytes ≡ []) × (next_message world.board.state ≡ None)
+    × (0 < count) × (count ≡ length world.down.bytes)
+IsNext world _ = ⊥
+
+-- acts that lead from one world to the other, each of them the next where it is done, and done
+abbrev pub AreInOrder : List ActContent → WorldView → WorldView → Type 0
+AreInOrder [] world after = after ≡ world
+AreInOrder (act ∷ acts) world after =
+    (between : WorldView) × IsNext world act × Step act world Outcome.Done between
+    × AreInOrder acts between after
+
+-- so many deliveries and sendings, each of them done, lead from one world to the other, in order
 pub record SettlesIn (count : ℕ) (world after : WorldView) : Type 0 where
   pub acts : List ActContent
   pub settling : AllByRecursion IsSettling acts
   pub counted : count ≡ length acts
   pub run : Runs acts world (replicate count Outcome.Done) after
+  pub in_order : AreInOrder acts world after
 
 -- At least as many deliveries and sendings as can be done in a row, in whatever pieces: each byte
 -- is delivered, a byte that the board takes adds to its backlog by one at most, and a message fits

@@ -8,7 +8,7 @@ ghost use Rattle.dgt_board.specs.declared.modes.Mode.{Mode};
 ghost use Rattle.dgt_command.specs.Content.{CommandContent};
 ghost use Rattle.dgt_decode.specs.Grammar.{open_message};
 ghost use Rattle.dgt_link.specs.Act.{ActContent};
-ghost use Rattle.dgt_link.specs.Settling.{IsSettling, SettlesIn};
+ghost use Rattle.dgt_link.specs.Settling.{IsNext, SettlesIn};
 ghost use Rattle.dgt_link.specs.Work.{work_left};
 ghost use Rattle.dgt_link.specs.declared.acts.Outcome.{Outcome as Answer};
 ghost use Rattle.dgt_link.specs.Clocks.{IsClockFollowing, IsClockPromisedWorld, stops_clock};
@@ -252,7 +252,7 @@ impl FaultyWorld {
 
     // Does one delivery or sending if one can be done. If none can, the world rests.
     fn settle_once(&mut self) -> bool
-        ensures moved { IsTrue result → (act : ActContent) × IsSettling act
+        ensures moved { IsTrue result → (act : ActContent) × IsNext self.old act
             × Step act self.old Outcome.Done self.new × (work_left self.new < work_left self.old) }
         ensures rests { result ≡ false → IsRestedWorld self.old × (self.new ≡ self.old) }
     {
@@ -293,7 +293,8 @@ impl FaultyWorld {
     }
 
     /// Delivers what is under way and lets the board send what it has to send, until both lines are
-    /// empty and the board has nothing to send. Returns how many acts that took.
+    /// empty and the board has nothing to send. Returns how many acts that took, which are in the
+    /// order of [`crate::World::settle`].
     ///
     /// A world that is promised to heal is quiet then, and the host's picture is the board's
     /// position. In any other the host may still have unread bytes, and the board a part of a

@@ -2,15 +2,16 @@
 //! Nothing here runs: each function stands for the facts that its contract states.
 
 ghost use Rattle.std.specs.Prelude.{◌≡◌, ◌≢◌, ◌≤◌, ℕ, List, [], ◌∷◌, ◌++◌, All, Contains};
-ghost use Rattle.std.specs.Prelude.{Option, Some, None, flat_map, length, map, IsTrue, IsSome};
+ghost use Rattle.std.specs.Prelude.{Option, Some, None, flat_map, length, map, replicate, IsTrue, IsSome};
 ghost use Rattle.std.specs.List.{AllByRecursion};
 ghost use Rattle.dgt_values.specs.declared.pieces.Piece.{Piece};
-ghost use Rattle.dgt_values.specs.Equality.{EqualIsSame, EqualIsSameReadOf};
+ghost use Rattle.dgt_values.specs.Equality.{CloneIsSame, EqualIsSame, EqualIsSameReadOf};
 ghost use Rattle.dgt_values.specs.declared.kinds.Kind.{Kind};
 ghost use Rattle.dgt_message.specs.Content.{Content, kind_of};
 ghost use Rattle.dgt_message.specs.Clock.{ClockState};
 ghost use Rattle.dgt_command.specs.Content.{CommandContent, EventContent};
-ghost use Rattle.dgt_command.specs.Words.{IsNoiseList};
+ghost use Rattle.dgt_command.specs.Words.{IsNoiseList, IsPartial};
+ghost use Rattle.dgt_board.specs.View.{BoardView, HasTaken};
 ghost use Rattle.dgt_decode.specs.Grammar.{Event};
 ghost use Rattle.dgt_board.specs.declared.replies.Reply.{Reply};
 ghost use Rattle.dgt_board.specs.State.{IdentityContent, BoardState, command_mode, follows_clock, updates, effects};
@@ -48,6 +49,14 @@ pub fn equal_is_same()
     dgt_message::laws::equal_is_same();
     dgt_command::laws::equal_is_same();
 }
+
+/// A clone is the value itself, and cloning never fails.
+pub fn clone_is_same()
+    ensures outcome { CloneIsSame ⟦<ActOutcome as Clone>⟧ }
+    ensures world_fault { CloneIsSame ⟦<WorldFault as Clone>⟧ }
+    ensures act { CloneIsSame ⟦<Act<'static> as Clone>⟧ }
+    ensures faulty_act { CloneIsSame ⟦<FaultyAct<'static> as Clone>⟧ }
+{}
 
 /// A board and a host just made are sound, and exact.
 pub fn new_is_sound()
@@ -104,14 +113,16 @@ pub fn promise_is_kept()
 {}
 
 /// Where a sound state is quiet, nothing is awaited, and a picture that is known is the board's
-/// squares if the mode asks for updates. In an exact one the host's clock is the board's if the
-/// mode follows it. Of a promised one the picture is known.
+/// squares if the mode asks for updates. If the mode follows the clock, a clock that the host knows
+/// is the board's, and in an exact state it knows it. Of a promised one the picture is known.
 pub fn at_quiet()
     ensures awaited { (x : MachineState) → IsSound x → IsQuiet x → x.awaited ≡ [] }
     ensures picture { (x : MachineState) → IsSound x → IsQuiet x → IsTrue (updates x.board.mode)
         → IsUnknownOr x.picture (Some x.board.squares) }
     ensures clock { (x : MachineState) → IsExact x → IsQuiet x → IsTrue (follows_clock x.board.mode)
         → x.host_clock ≡ Some x.board.clock }
+    ensures clock_told { (x : MachineState) → IsSound x → IsQuiet x
+        → IsTrue (follows_clock x.board.mode) → IsUnknownOr x.host_clock (Some x.board.clock) }
     ensures promised { (x : MachineState) → IsSound x → IsPromised x → IsQuiet x
         → x.picture ≡ Some x.board.squares }
 {}
@@ -133,14 +144,21 @@ pub fn picture_after_moves()
 {}
 
 /// Noise leaves the mode of a board as it was, and what a host asks for that begins anew makes it
-/// `UpdateBoard`, and adds a dump to what is owed.
+/// `UpdateBoard`, and adds a dump to what is owed. On bytes: 255 zeros leave the reader of commands
+/// between two commands, whatever part of one it had, and the mode as it was.
 pub fn restart_is_taken()
     ensures noise { (board : BoardState) (noise : List EventContent) → IsNoiseList noise →
         (effects board noise).mode ≡ board.mode }
     ensures taken { (board : BoardState) →
         let after = effects board (map EventContent.Read commands_anew) in
         (after.mode ≡ Mode.UpdateBoard) × (after.owed ≡ board.owed ++ Reply.Of Kind.Dump ∷ []) }
-{}
+    ensures zeros { (board after : BoardView) → IsPartial board.partial →
+        HasTaken board (replicate 255 0) after →
+        (after.partial ≡ []) × (after.state.mode ≡ board.state.mode) }
+{
+    dgt_command::laws::one_division();
+    dgt_command::laws::zeros_settle_the_reader();
+}
 
 /// What a board sends next is sent by one of the moves.
 pub fn next_is_sent()
@@ -262,8 +280,9 @@ pub fn worlds_are_told()
 {}
 
 /// In a quiet world nothing is awaited, and a picture that is known is the board's squares if the
-/// mode asks for updates. If it follows the clock, and the world stands for an exact state, the
-/// host's clock is the board's. Where it stands for a promised state the picture is known.
+/// mode asks for updates. If it follows the clock, a clock that the host knows is the board's, and
+/// it knows it if the world stands for an exact state. Where it stands for a promised state the
+/// picture is known.
 pub fn at_quiet_world()
     ensures awaited { (world : WorldView) (x : MachineState) →
         StandsFor world x → IsQuietWorld world → world.host.awaited ≡ [] }
@@ -273,6 +292,9 @@ pub fn at_quiet_world()
     ensures clock { (world : WorldView) (x : MachineState) → StandsFor world x → IsQuietWorld world
         → IsExact x → IsTrue (follows_clock world.board.state.mode)
         → world.host.clock ≡ Some world.board.state.clock }
+    ensures clock_told { (world : WorldView) (x : MachineState) →
+        StandsFor world x → IsQuietWorld world → IsTrue (follows_clock world.board.state.mode)
+        → IsUnknownOr world.host.clock (Some world.board.state.clock) }
     ensures picture { (world : WorldView) (x : MachineState) →
         StandsFor world x → IsQuietWorld world → IsPromised x
         → world.host.picture ≡ Some world.board.state.squares }

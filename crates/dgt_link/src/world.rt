@@ -8,14 +8,17 @@ ghost use Rattle.dgt_values.specs.declared.kinds.Kind.{Kind};
 ghost use Rattle.dgt_message.specs.Content.{Content, clock_seen, kind_of};
 ghost use Rattle.dgt_command.specs.Content.{CommandContent};
 ghost use Rattle.dgt_board.specs.Sending.{backlog, next_message};
-ghost use Rattle.dgt_board.specs.State.{follows_clock, updates};
+ghost use Rattle.dgt_board.specs.State.{command_mode, follows_clock, updates};
+ghost use Rattle.dgt_board.specs.declared.modes.Mode.{Mode};
 ghost use Rattle.dgt_host.specs.Host.{picture_after_all};
 ghost use Rattle.dgt_link.specs.Act.{ActContent, act_content};
+ghost use Rattle.dgt_link.specs.Clocks.{IsClockFollowing, IsClockPromisedWorld, stops_clock};
+ghost use Rattle.dgt_link.specs.Faults.{FaultyContent};
 ghost use Rattle.dgt_link.specs.Healing.{IsInStep};
-ghost use Rattle.dgt_link.specs.Stands.{StandsAfterRun, StandsAfterStep, IsExactWorld, StandsFor};
+ghost use Rattle.dgt_link.specs.Stands.{StandsAfterRun, StandsAfterStep, IsExactWorld, IsWorld, StandsFor};
 ghost use Rattle.dgt_link.specs.Promise.{IsAskedBy, IsPromised, IsRestarted, PictureIsComing, act_requests, coming_mode, mode_after};
 ghost use Rattle.dgt_link.specs.Machine.{MachineState, new_state};
-ghost use Rattle.dgt_link.specs.Settling.{IsSettling, SettlesIn};
+ghost use Rattle.dgt_link.specs.Settling.{IsNext, SettlesIn};
 ghost use Rattle.dgt_link.specs.Work.{work_left};
 ghost use Rattle.dgt_link.specs.Sound.{IsExact, IsSound, IsUnknownOr};
 ghost use Rattle.dgt_link.specs.Step.{Runs, Step, done_count};
@@ -205,11 +208,25 @@ impl World {
         ensures mode { (x y : MachineState) → StandsFor self.old x → StandsFor self.new y →
             coming_mode y
             ≡ mode_after (coming_mode x) (act_requests result (act_content act.entry)) }
+        // the clock: what promises it, and what keeps that promise
+        ensures clock_asked { (command : CommandContent) (mode : Mode) →
+            act_content act.entry ≡ ActContent.Host command → command_mode command ≡ Some mode →
+            IsTrue (follows_clock mode) → result ≡ Outcome.Done → IsClockFollowing self.new }
+        ensures clock_following { IsClockFollowing self.old →
+            stops_clock (FaultyContent.Plain (act_content act.entry)) ≡ false →
+            IsClockFollowing self.new }
+        ensures reading { act_content act.entry ≡ ActContent.Host CommandContent.Clock →
+            result ≡ Outcome.Done → IsClockFollowing self.old → IsClockPromisedWorld self.new }
+        ensures clock_kept { stops_clock (FaultyContent.Plain (act_content act.entry)) ≡ false →
+            IsClockPromisedWorld self.old → IsClockPromisedWorld self.new }
     {
+        healing::clocks_heal();
+        healing::worlds_are_in_step();
         laws::acts_are_moves();
         laws::acts_keep();
         laws::promise_by_acts();
         self.stands();
+        self.is_world();
         self.act(act)
     }
 
@@ -288,7 +305,7 @@ impl World {
 
     // Does one delivery or sending, where one can be done. Where none can, the world is quiet.
     fn settle_once(&mut self) -> bool
-        ensures moved { IsTrue result → (act : ActContent) × IsSettling act
+        ensures moved { IsTrue result → (act : ActContent) × IsNext self.old act
             × Step act self.old Outcome.Done self.new × (work_left self.new < work_left self.old) }
         ensures rests { result ≡ false → IsQuietWorld self.old × (self.new ≡ self.old) }
     {
@@ -331,12 +348,16 @@ impl World {
     /// Delivers what is under way and lets the board send what it has to tell, until the world is
     /// quiet, and answers how many acts that took. A quiet world takes none.
     ///
-    /// The acts are `ToHost`, `BoardSend` and `ToBoard` alone, and each is `Done`. They are at most
-    /// three for each byte in the down line, two for each reply that the board owes, for each
-    /// square that differs from what it has told and for a clock that it owes, and one. No square,
-    /// no clock of the board and no command is new. So the mode is that of the last mode command
-    /// under way, and where a dump was asked for and this mode asks for updates, the host's picture
-    /// is the board's position.
+    /// The acts are `ToHost`, `BoardSend` and `ToBoard` alone, and each is `Done`. While the up
+    /// line has bytes the host hears all of them. With none in it the board sends a message if it
+    /// has any, and with none to send it takes all that is in the down line, until it owes 8
+    /// replies.
+    ///
+    /// The acts are at most three for each byte in the down line, two for each reply that the board
+    /// owes, for each square that differs from what it has reported and for a clock that it owes,
+    /// and one. No square, no clock of the board and no command is new. So the mode is that of the
+    /// last mode command under way. If a dump was asked for and this mode asks for updates, the
+    /// host's picture is the board's position.
     ///
     /// All of that holds after a `Break` and after a `HostBreak` too, whatever was under way then.
     /// After a `Break` no picture is known until a dump is asked for again. After a `HostBreak` the
@@ -358,9 +379,14 @@ impl World {
             IsUnknownOr self.new.host.picture (Some self.old.board.state.squares) }
         ensures clock { IsExactWorld self.old → IsTrue (follows_clock self.new.board.state.mode) →
             self.new.host.clock ≡ Some self.old.board.state.clock }
+        ensures clock_told { IsTrue (follows_clock self.new.board.state.mode) →
+            IsUnknownOr self.new.host.clock (Some self.old.board.state.clock) }
+        ensures clock_promised { IsClockPromisedWorld self.old →
+            self.new.host.clock ≡ Some self.old.board.state.clock }
         ensures awaited { self.new.host.awaited ≡ [] }
         ensures stays_exact { IsExactWorld self.old → IsExactWorld self.new }
     {
+        healing::clocks_heal();
         laws::acts_are_moves();
         laws::acts_keep();
         laws::promise_by_acts();
@@ -382,12 +408,22 @@ impl World {
         self.up.is_empty();
     }
 
+    // What holds of each world.
+    fn is_world(&self)
+        ensures { IsWorld self.now }
+    {
+        // it is known where a field of it is read
+        self.up.is_empty();
+    }
+
     /// Whether both lines are empty, the host has nothing unread, the board has no unfinished
     /// command and owes nothing.
     ///
     /// If it is, the host awaits nothing, and its picture is unknown or the board's position where
     /// the board's mode asks for updates. Where a dump was asked for as well, by an act that was
-    /// done after the last `Break`, the picture is known.
+    /// done after the last `Break`, the picture is known. In a mode that follows the clock, the
+    /// host's clock is unknown or the board's, and where a reading was asked for as well it is
+    /// known.
     pub fn quiet(&self) -> bool
         ensures quiet { IsTrue result ↔ IsQuietWorld self.now }
         ensures told { IsTrue result → IsTrue (updates self.now.board.state.mode) →
@@ -395,11 +431,16 @@ impl World {
         ensures clock { IsTrue result → IsExactWorld self.now →
             IsTrue (follows_clock self.now.board.state.mode) →
             self.now.host.clock ≡ Some self.now.board.state.clock }
+        ensures clock_told { IsTrue result → IsTrue (follows_clock self.now.board.state.mode) →
+            IsUnknownOr self.now.host.clock (Some self.now.board.state.clock) }
+        ensures clock_promised { IsTrue result → IsClockPromisedWorld self.now →
+            self.now.host.clock ≡ Some self.now.board.state.clock }
         ensures awaited { IsTrue result → self.now.host.awaited ≡ [] }
         ensures picture { IsTrue result → (x : MachineState) → StandsFor self.now x → IsPromised x →
             self.now.host.picture ≡ Some self.now.board.state.squares }
         ensures stands { (x : MachineState) × StandsFor self.now x }
     {
+        healing::clocks_heal();
         laws::at_quiet_world();
         self.stands();
         self.is_quiet()

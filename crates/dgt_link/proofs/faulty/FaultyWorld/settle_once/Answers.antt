@@ -16,7 +16,7 @@ returns-then-not-is_empty-2-clause-moved c =
     let none = not_owing c.has_to_send.result c.args.self.now.board.state c.has_to_send.ensures
     c.if-has_to_send.false in
     λ _. takes_partial c.words_are_short.ensures c.parts_of_words.ensures.no_word c.bounded_backlog.ensures.rises
-    c.args.self.now c.take_all.new.self c.take_all.result (search rules)
+    c.args.self.now c.take_all.new.self c.take_all.result (search rules) (search rules) none
     (c.nothing_to_send.ensures.none_owed c.args.self.now.board.state none) (search rules) c.take_all.ensures
 
 pub returns-else-not-is_empty-2-clause-rests : goal.returns-else-not-is_empty-2-clause-rests

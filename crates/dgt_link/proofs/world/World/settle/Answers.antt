@@ -1,5 +1,6 @@
 use Rattle.std.proofs.Common.{arith, refl}
-use Rattle.dgt_link.proofs.Settling.{settled_awaited, settled_clock, settled_kept, settled_mode, settled_more}
+use Rattle.dgt_link.proofs.Rested.{settled_clock as settled_same_clock}
+use Rattle.dgt_link.proofs.Settling.{settled_awaited, settled_clock, settled_kept, settled_known, settled_mode, settled_more}
 use Rattle.dgt_link.proofs.Settling.{settled_picture, settled_told, settling_no_host_break}
 use Rattle.dgt_link.proofs.world.World.settle.Goals as goal
 
@@ -74,3 +75,20 @@ returns-clause-stays_exact c =
     rw rests.1
     (λ exact. c.acts_keep.ensures.exact_after_all settled.acts _ _ _
     (settling_no_host_break settled.acts settled.settling) exact settled.run)
+
+pub returns-clause-clock_told : goal.returns-clause-clock_told
+returns-clause-clock_told c =
+    let rests = c.loop-done-test.ensures.rests refl in
+    rw rests.1
+    (settled_known c.acts_are_moves.ensures.one c.promise_by_acts.ensures.mode c.promise_by_acts.ensures.kept
+    c.one_division.ensures c.loop-done.done c.args.self.now c.loop-done.self c.loop-done.invariant.run rests.0
+    c.stands.ensures.0 c.stands.ensures.1)
+
+pub returns-clause-clock_promised : goal.returns-clause-clock_promised
+returns-clause-clock_promised c =
+    let rests = c.loop-done-test.ensures.rests refl in
+    let settled = c.loop-done.invariant.run in
+    rw rests.1
+    (λ promised. settled_same_clock c.loop-done.done c.args.self.now c.loop-done.self settled
+    (c.clocks_heal.ensures.clock c.loop-done.self
+    (c.clocks_heal.ensures.settled c.loop-done.done c.args.self.now c.loop-done.self settled promised) rests.0))
