@@ -1,3 +1,4 @@
 pub mod TextLemmas
 pub mod TellingLemmas
 pub mod PieceLemmas
+mod ShownLemmas

@@ -1,5 +1,5 @@
 -- The text of a piece, word after word.
-use Rattle.std.proofs.Common.{◌≡◌, ℕ, suc, ◌+◌, ◌-◌, ◌≤◌, List, [], ◌∷◌, ◌++◌, Result, Ok, Err, IsErrAnd, OnOk, sym, ◌∙◌, ap, subst, length, arith, take, drop, append_assoc, append-nil, length-append}
+use Rattle.std.proofs.Common.{◌≡◌, ℕ, suc, ◌+◌, ◌-◌, ◌≤◌, List, [], ◌∷◌, ◌++◌, Result, Ok, Err, IsErrAnd, OnOk, false, refl, sym, ◌∙◌, ap, subst, length, arith, take, drop, append_assoc, append-nil, length-append}
 use Rattle.std.proofs.lemmas.List.{take-append-drop, take_rest, length-take-le}
 use Rattle.std.proofs.Math.Seq.{take-add}
 use Rattle.dgt_command.specs.Content.{EventContent}
@@ -8,8 +8,10 @@ use Rattle.dgt_command.specs.Words.{IsWord, IsPartial}
 use Rattle.dgt_lines.specs.declared.ends.Sink.{Ghosts as Sink}
 use Rattle.dgt_lines.specs.declared.faults.RunFault.{RunFault}
 use Rattle.dgt_lines.specs.declared.faults.RunFault.TheVariants.{WriteFailed}
+use Rattle.std.specs.Prelude.{OnErr}
+use Rattle.dgt_lines.specs.Marks.{Waits}
 use Rattle.dgt_lines.specs.Writing.{Stopped, Writes, Gathered, InARow}
-use Rattle.dgt_command_lines.specs.CommandLines.{Tells, WritesPiece, command_line}
+use Rattle.dgt_command_lines.specs.CommandLines.{StopsInPiece, Tells, WritesPiece, command_line}
 use Rattle.dgt_command_lines.specs.Laws.{EachIsTold}
 use Rattle.dgt_command_lines.proofs.TellingLemmas.{texts_append, told_word, told_part, word_bytes}
 
@@ -95,23 +97,55 @@ pub record Gathers {S : Type 0} (W : Sink S) (old new : S) (gathered : List ℕ)
   pub text : List ℕ
   pub tells : Tells offset bytes rest text
   pub output : Gathered W [] gathered old new text
+  pub waits : Waits text (W.flushed old) → Waits gathered (W.flushed new)
 
 module _ {S : Type 0} {W : Sink S} (row : InARow W) where
+  -- a call refuses the rest of what was gathered and a text
+  gathered_stop : (a b c : S) (gathered text line : List ℕ) → Gathered W [] gathered a b text
+      → Stopped W b c (gathered ++ line) → Stopped W a c (text ++ line)
+  gathered_stop a b c gathered text line h q =
+      let r : Result (Unit {0}) RunFault = Err WriteFailed in
+      (row.gathers [] gathered [] a b c text line r h (refl, q)).1
+
   -- at the end of a piece
   pub piece_written : (a b c : S) (gathered held piece rest kept : List ℕ) (offset : ℕ)
       (r : Result (Unit {0}) RunFault) → Gathers W a b gathered (offset - length held) (held ++ piece) rest
-      → Writes W b c r gathered → kept ≡ rest → WritesPiece W a c r offset held piece kept
-  piece_written a b c gathered held piece rest kept offset r h q e = record {
+      → Writes W b c r gathered → OnOk r (Waits gathered (W.flushed b) → W.flushed c ≡ false) → kept ≡ rest
+      → WritesPiece W a c r offset held piece kept
+  piece_written a b c gathered held piece rest kept offset r h q w e = record {
     text = h.text;
     rest = rest;
     tells = h.tells;
     writes = rw h.output.whole (row.writes a b c h.output.out gathered r h.output.wrote q);
     keeps = go r;
+    waits = out r w;
   }
     where
       go : {A : Type 0} (r : Result A RunFault) → OnOk r (kept ≡ rest)
       go (Ok x) = e
       go (Err y) = tt
+
+      out : {A : Type 0} (r : Result A RunFault) → OnOk r (Waits gathered (W.flushed b) → W.flushed c ≡ false)
+          → OnOk r (Waits h.text (W.flushed a) → W.flushed c ≡ false)
+      out (Ok x) w = λ z. w (h.waits z)
+      out (Err y) w = tt
+
+  -- where the write at the end of a piece is refused
+  pub piece_stops : (a b c : S) (gathered held piece rest : List ℕ) (offset at : ℕ)
+      (r : Result (Unit {0}) RunFault) → at ≤ length piece
+      → Gathers W a b gathered (offset - length held) (held ++ take at piece) rest → Writes W b c r gathered
+      → OnErr r (StopsInPiece W a c offset held piece rest)
+  piece_stops a b c gathered held piece rest offset at (Ok x) within h q = tt
+  piece_stops a b c gathered held piece rest offset at (Err y) within h q =
+      let stop = gathered_stop a b c gathered h.text [] h.output
+      (subst (λ l. Stopped W b c l) (sym (append-nil gathered)) q.1) in
+      record {
+        used = at;
+        within = within;
+        text = h.text;
+        tells = h.tells;
+        stopped = subst (λ l. Stopped W a c l) (append-nil h.text) stop;
+      }
 
   -- at a line that was refused
   pub piece_refused : (a b c : S) (gathered held piece kept text line : List ℕ) (offset : ℕ)
@@ -126,4 +160,20 @@ module _ {S : Type 0} {W : Sink S} (row : InARow W) where
         tells = on.tells;
         writes = (stop.0, row.longer a c (text ++ line) on.more stop.1);
         keeps = tt;
+        waits = tt;
+      }
+
+  -- and what was read then
+  pub line_stops : (a b c : S) (gathered held piece rest text line : List ℕ) (offset used : ℕ)
+      (r : Result (Unit {0}) RunFault) → used ≤ length piece → Gathered W [] gathered a b text
+      → Tells (offset - length held) (held ++ take used piece) rest (text ++ line)
+      → Stopped W b c (gathered ++ line) → OnErr r (StopsInPiece W a c offset held piece rest)
+  line_stops a b c gathered held piece rest text line offset used (Ok x) within h tells q = tt
+  line_stops a b c gathered held piece rest text line offset used (Err y) within h tells q =
+      record {
+        used = used;
+        within = within;
+        text = text ++ line;
+        tells = tells;
+        stopped = gathered_stop a b c gathered text line h q;
       }

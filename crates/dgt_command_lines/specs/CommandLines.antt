@@ -1,12 +1,13 @@
 -- The lines that say what a host sends. A line is an offset, a space, a text and a line feed.
-use Rattle.std.specs.Prelude.{◌≡◌, ℕ, ◌+◌, ◌-◌, List, [], ◌∷◌, ◌++◌, length, Result, OnOk, flat_map}
+use Rattle.std.specs.Prelude.{◌≡◌, ℕ, ◌+◌, ◌-◌, ◌≤◌, false, List, [], ◌∷◌, ◌++◌, length, take, Result, OnOk, flat_map}
 use Rattle.std.specs.List.{AllByRecursion}
 use Rattle.dgt_command.specs.Content.{EventContent}
 use Rattle.dgt_command.specs.Words.{IsWord, IsPartial}
 use Rattle.dgt_lines.specs.declared.ends.Sink.{Ghosts as Sink}
 use Rattle.dgt_lines.specs.declared.faults.RunFault.{RunFault}
 use Rattle.dgt_lines.specs.Lines.{line}
-use Rattle.dgt_lines.specs.Writing.{Writes}
+use Rattle.dgt_lines.specs.Marks.{Waits}
+use Rattle.dgt_lines.specs.Writing.{Stopped, Writes}
 use Rattle.dgt_command_lines.specs.CommandWords.{command_event_text}
 
 -- the line of an event that the byte at the end of so many bytes makes
@@ -38,7 +39,7 @@ pub record Tells (offset : ℕ) (bytes rest text : List ℕ) : Type 0 where
   pub said : text ≡ word_lines offset words
 
 -- a call that writes the text of a piece that comes after so many bytes, of which `held` is a part
--- of a word, and then keeps `held'`
+-- of a word, and then keeps `held'`; it flushes nothing, so that the text waits for a flush
 pub record WritesPiece {S A : Type 0} (W : Sink S) (old new : S) (r : Result A RunFault)
     (offset : ℕ) (held piece held' : List ℕ) : Type 0 where
   pub text : List ℕ
@@ -46,3 +47,14 @@ pub record WritesPiece {S A : Type 0} (W : Sink S) (old new : S) (r : Result A R
   pub tells : Tells (offset - length held) (held ++ piece) rest text
   pub writes : Writes W old new r text
   pub keeps : OnOk r (held' ≡ rest)
+  pub waits : OnOk r (Waits text (W.flushed old) → W.flushed new ≡ false)
+
+-- The sink took a prefix of the text of the first bytes of such a piece, and then refused. These
+-- bytes were read and no more, and `held'` is kept of them.
+pub record StopsInPiece {S : Type 0} (W : Sink S) (old new : S) (offset : ℕ)
+    (held piece held' : List ℕ) : Type 0 where
+  pub used : ℕ
+  pub within : used ≤ length piece
+  pub text : List ℕ
+  pub tells : Tells (offset - length held) (held ++ take used piece) held' text
+  pub stopped : Stopped W old new text

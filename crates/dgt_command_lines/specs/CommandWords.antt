@@ -1,7 +1,8 @@
 -- The words that say what a host sends.
-use Rattle.std.specs.Prelude.{ℕ, ◌==◌, ◌&&◌, not, nat_le, Bool, List, [], ◌∷◌, length, take, map, Option, Some, None, slice_index as nth, if◌then◌else◌, codes, decimal}
+use Rattle.std.specs.Prelude.{ℕ, ◌+◌, ◌==◌, ◌&&◌, not, nat_le, Bool, List, [], ◌∷◌, length, take, map, Option, Some, None, slice_index as nth, if◌then◌else◌, codes, decimal}
 use Rattle.std.specs.List.{list_all}
 use Prim.Native.Char.{code as ascii}
+use Rattle.dgt_values.specs.Segment.{digit_segments}
 use Rattle.dgt_command.specs.declared.ids.KnownId.{KnownId}
 use Rattle.dgt_command.specs.Ids.{id_with, has_own_case}
 use Rattle.dgt_command.specs.Content.{ClockContent, CommandContent, Reset, Clock, Dump, Update, UpdateBoard, UpdateNice, Serial, Trademark, Battery, Version, LongSerial, ClockMessage, Leds, EventContent, Read, BadSize, BadStart, BadEnd, Stray}
@@ -9,22 +10,22 @@ use Rattle.dgt_lines.specs.Lines.{byte_text, bytes_text, words_text}
 
 -- ---- Characters
 
+-- the digit that these segments show, where the digits from this one on have the segments of the
+-- list; or else another character
+abbrev pub shown_digit : ℕ → ℕ → List ℕ → ℕ → ℕ
+shown_digit other digit [] segments = other
+shown_digit other digit (first ∷ more) segments =
+    if segments == first then digit else shown_digit other (digit + 1) more segments
+
 -- the character that these segments show, or a question mark where they show none
 abbrev pub shown_character : ℕ → ℕ
-shown_character segments =
-    if segments == 0x3f then ascii "0"
-    else if segments == 0x06 then ascii "1"
-    else if segments == 0x5b then ascii "2"
-    else if segments == 0x4f then ascii "3"
-    else if segments == 0x66 then ascii "4"
-    else if segments == 0x6d then ascii "5"
-    else if segments == 0x7d then ascii "6"
-    else if segments == 0x07 then ascii "7"
-    else if segments == 0x7f then ascii "8"
-    else if segments == 0x6f then ascii "9"
-    else if segments == 0x00 then ascii " "
-    else if segments == 0x40 then ascii "-"
-    else ascii "?"
+shown_character segments = shown_digit other (ascii "0") digit_segments segments
+  where
+    other : ℕ
+    other =
+        if segments == 0x00 then ascii " "
+        else if segments == 0x40 then ascii "-"
+        else ascii "?"
 
 -- some segments show the character
 abbrev pub is_shown : ℕ → Bool

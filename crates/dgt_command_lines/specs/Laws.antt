@@ -1,7 +1,10 @@
 -- What holds of the texts of bytes.
+use Prim.Native.Char.{code as ascii}
 use Rattle.std.specs.Prelude.{◌≡◌, ℕ, ◌+◌, ◌-◌, List, ◌++◌, length}
+use Rattle.dgt_values.specs.Segment.{IsShownBy}
 use Rattle.dgt_command.specs.Spelling.{AreBytes}
 use Rattle.dgt_command_lines.specs.CommandLines.{Tells}
+use Rattle.dgt_command_lines.specs.CommandWords.{shown_character}
 
 -- bytes that come after so many have some text
 abbrev pub EachIsTold : Type 0
@@ -22,3 +25,14 @@ TextsAppend =
     Tells offset bytes rest text →
     Tells (offset + (length bytes - length rest)) (rest ++ more) last others →
     Tells offset (bytes ++ more) last (text ++ others)
+
+-- the segments that show a character are shown as that character
+abbrev pub EachCharacterIsShown : Type 0
+EachCharacterIsShown =
+    (character segments : ℕ) → IsShownBy character segments → shown_character segments ≡ character
+
+-- segments that show no character are shown as a question mark
+abbrev pub OthersAreQuestionMarks : Type 0
+OthersAreQuestionMarks =
+    (segments : ℕ) → ((character : ℕ) → ¬ (IsShownBy character segments)) →
+    shown_character segments ≡ ascii "?"

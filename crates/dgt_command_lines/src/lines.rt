@@ -1,7 +1,8 @@
 //! The lines of events.
 
-ghost use Rattle.std.specs.Prelude.{◌≡◌, ◌+◌, ◌≤◌, [], ◌++◌, false, length, OnOk};
+ghost use Rattle.std.specs.Prelude.{◌≡◌, ◌+◌, ◌≤◌, [], ◌++◌, false, length, OnOk, OnErr};
 ghost use Rattle.dgt_command.specs.Content.{command_event_content};
+ghost use Rattle.dgt_lines.specs.Marks.{Waits};
 ghost use Rattle.dgt_lines.specs.Writing.{Gathers, Writes};
 ghost use Rattle.dgt_command_lines.specs.CommandLines.{command_line};
 
@@ -24,7 +25,8 @@ fn push_line<const ROOM: usize>(text: &mut Outgoing<ROOM>, offset: u64, event: &
     text.push(b"\n");
 }
 
-// Writes what was gathered, unless there is room for a line behind it.
+// Writes what was gathered, unless there is room for one line more. After a refused write nothing
+// is gathered.
 fn make_room<W: Sink, const ROOM: usize>(
     outgoing: &mut Outgoing<ROOM>,
     writer: &mut W,
@@ -32,6 +34,8 @@ fn make_room<W: Sink, const ROOM: usize>(
     requires { LINE_ROOM ≤ ROOM }
     ensures output { Gathers W.Sink (outgoing.old, outgoing.new) writer.old writer.new result [] }
     ensures room { OnOk result (length outgoing.new + LINE_ROOM ≤ ROOM) }
+    ensures dropped { OnErr result (outgoing.new ≡ []) }
+    ensures no_flush { W.flushed writer.old ≡ false → W.flushed writer.new ≡ false }
 {
     if ROOM - outgoing.len() < LINE_ROOM {
         return outgoing.write_out(writer);
@@ -47,8 +51,11 @@ pub(crate) fn put_command<W: Sink, const ROOM: usize>(
     event: &CommandEvent<'_>,
 ) -> Result<(), RunFault>
     requires { LINE_ROOM ≤ ROOM }
-    ensures { Gathers W.Sink (outgoing.old, outgoing.new) writer.old writer.new
+    ensures output { Gathers W.Sink (outgoing.old, outgoing.new) writer.old writer.new
         result (command_line offset (command_event_content event.now)) }
+    ensures dropped { OnErr result (outgoing.new ≡ []) }
+    ensures no_flush { W.flushed writer.old ≡ false → W.flushed writer.new ≡ false }
+    ensures waits { OnOk result (Waits outgoing.new (W.flushed writer.new)) }
 {
     writes_in_a_row::<W>();
     make_room(outgoing, writer)?;

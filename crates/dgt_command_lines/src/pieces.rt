@@ -1,10 +1,10 @@
 //! The lines of what a host sends, piece after piece.
 
-ghost use Rattle.std.specs.Prelude.{◌≡◌, ◌+◌, ◌^◌, ◌<◌, ◌≤◌, [], length, IsTrue, OnOk};
+ghost use Rattle.std.specs.Prelude.{◌≡◌, ◌+◌, ◌^◌, ◌<◌, ◌≤◌, [], false, length, IsTrue, OnOk, OnErr};
 ghost use Rattle.dgt_command.specs.Framing.{rest_of};
 ghost use Rattle.dgt_lines.specs.Lines.{unfinished_line};
 ghost use Rattle.dgt_lines.specs.Writing.{Writes};
-ghost use Rattle.dgt_command_lines.specs.CommandLines.{WritesPiece};
+ghost use Rattle.dgt_command_lines.specs.CommandLines.{StopsInPiece, WritesPiece};
 
 use crate::lines::put_command;
 use dgt_command::{WordFramer, laws};
@@ -17,8 +17,10 @@ pub const COMMANDS_ROOM: usize = 32768;
 /// Writes the lines of a piece that comes after so many bytes, in one write where there is room for
 /// them.
 ///
-/// `framer` holds what is unfinished of the bytes before. `WriteFailed` comes where the writer
-/// refuses, which then took the front of the lines.
+/// `framer` holds what is unfinished of the bytes before. Nothing is flushed.
+///
+/// `WriteFailed` comes if the writer refuses. Then `framer` has read a prefix of the piece and no
+/// more, the writer took a prefix of its lines, and what was gathered is dropped.
 pub fn write_commands<W: Sink>(
     framer: &mut WordFramer,
     outgoing: &mut Outgoing<COMMANDS_ROOM>,
@@ -31,7 +33,10 @@ pub fn write_commands<W: Sink>(
     requires held { length (rest_of framer.old) ≤ offset }
     ensures output { WritesPiece W.Sink writer.old writer.new result offset
         (rest_of framer.old) piece.now (rest_of framer.new) }
-    ensures empty { OnOk result (outgoing.new ≡ []) }
+    ensures stops { OnErr result (StopsInPiece W.Sink writer.old writer.new offset
+        (rest_of framer.old) piece.now (rest_of framer.new)) }
+    ensures empty { outgoing.new ≡ [] }
+    ensures no_flush { W.flushed writer.old ≡ false → W.flushed writer.new ≡ false }
 {
     laws::one_division();
     laws::parts_of_words();

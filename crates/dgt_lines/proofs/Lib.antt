@@ -8,3 +8,4 @@ pub mod PictureLemmas
 pub mod PieceLemmas
 pub mod RankLemmas
 pub mod TextLemmas
+mod RefusalLemmas

@@ -11,8 +11,9 @@ use Rattle.dgt_decode.specs.Feeding.{event_content}
 use Rattle.dgt_decode.specs.Laws.{PiecesAdd}
 use Rattle.dgt_decode.specs.declared.event.Event as code
 use Rattle.dgt_decode.specs.declared.event.Event.TheVariants as code_events
+use Rattle.dgt_host.specs.Host.{HostView, host_after_event, host_after_events, new_host}
 use Rattle.dgt_lines.specs.Lines.{events_after}
-use Rattle.dgt_lines.specs.Pictures.{LastLineIsPicture, PlacedPicture, picture_after_event, picture_after_events, picture_line, picture_lines, picture_set, picture_told, pictures, pictures_text}
+use Rattle.dgt_lines.specs.Pictures.{LastLineIsPicture, PictureIsTheHosts, PlacedPicture, picture_after_event, picture_after_events, picture_line, picture_lines, picture_set, picture_told, pictures, pictures_text}
 
 -- the picture after more events
 pub picture_after-append : (before : Option (List Piece)) (xs ys : List Placed)
@@ -130,3 +131,23 @@ pictures_last before (x ∷ xs) =
 
 pub last_line_is_picture : LastLineIsPicture
 last_line_is_picture bytes = pictures_last None (events bytes)
+
+-- ---- a host
+
+host_picture_one : (host : HostView) (event : Event)
+    → (host_after_event host event).picture ≡ picture_after_event host.picture event
+host_picture_one host (Message said) = refl
+host_picture_one host (Refused code fault) = refl
+host_picture_one host (Cut have) = refl
+host_picture_one host BadLength = refl
+host_picture_one host (Stray byte) = refl
+
+host_picture : (host : HostView) (xs : List Placed)
+    → (host_after_events host xs).picture ≡ picture_after_events host.picture xs
+host_picture host [] = refl
+host_picture host (x ∷ xs) =
+    host_picture (host_after_event host x.event) xs
+    ∙ ap (λ p. picture_after_events p xs) (host_picture_one host x.event)
+
+pub picture_is_the_hosts : PictureIsTheHosts
+picture_is_the_hosts bytes = host_picture new_host (events bytes)

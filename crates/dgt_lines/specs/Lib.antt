@@ -4,6 +4,7 @@ pub mod Pictures
 pub mod FaultText
 pub mod Marks
 pub mod Writing
+pub mod Refusals
 pub mod Device
 -- for bodies alone
 pub mod InPieces

@@ -1,6 +1,6 @@
 //! How bytes are written: they are gathered, and go out in one write.
 
-ghost use Rattle.std.specs.Prelude.{◌≡◌, ◌≢◌, ◌+◌, ◌*◌, ◌<◌, ◌≤◌, [], ◌∷◌, ◌++◌, false, length, take, OnOk, IsTrue};
+ghost use Rattle.std.specs.Prelude.{◌≡◌, ◌≢◌, ◌+◌, ◌*◌, ◌<◌, ◌≤◌, [], ◌∷◌, ◌++◌, false, length, take, OnOk, OnErr, IsTrue};
 ghost use Rattle.hex.specs.Hex.{encode_lower};
 ghost use Rattle.dgt_lines.specs.Lines.{padded_decimal};
 ghost use Rattle.dgt_lines.specs.Marks.{Waits};
@@ -100,12 +100,14 @@ impl<const ROOM: usize> Outgoing<ROOM> {
         answer
     }
 
-    /// Writes what was gathered, unless there is room for a line behind it.
+    /// Writes what was gathered, unless there is room for a line behind it. After a refused write
+    /// nothing is gathered.
     pub(crate) fn make_room<W: Sink>(&mut self, writer: &mut W) -> Result<(), RunFault>
         requires { LINE_ROOM ≤ ROOM }
         ensures output { Gathers W.Sink (self.old, self.new) writer.old writer.new
             result [] }
         ensures room { OnOk result (length self.new + LINE_ROOM ≤ ROOM) }
+        ensures dropped { OnErr result (self.new ≡ []) }
         ensures no_flush { W.flushed writer.old ≡ false → W.flushed writer.new ≡ false }
     {
         if self.room() < LINE_ROOM {
@@ -114,10 +116,12 @@ impl<const ROOM: usize> Outgoing<ROOM> {
         Ok(())
     }
 
-    /// Adds these bytes. Where there is no room for them, what was gathered is written first.
+    /// Adds these bytes. Where there is no room for them, what was gathered is written first. After
+    /// a refused write nothing is gathered.
     pub(crate) fn add<W: Sink>(&mut self, writer: &mut W, bytes: &[u8]) -> Result<(), RunFault>
         ensures output { Gathers W.Sink (self.old, self.new) writer.old writer.new
             result bytes.now }
+        ensures dropped { OnErr result (self.new ≡ []) }
         ensures no_flush { W.flushed writer.old ≡ false → W.flushed writer.new ≡ false }
         ensures waits { OnOk result (bytes.now ≢ [] → Waits self.new (W.flushed writer.new)) }
     {

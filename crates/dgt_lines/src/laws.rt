@@ -2,21 +2,34 @@
 //! that its contract states.
 
 ghost use Rattle.std.specs.Prelude.{◌≡◌, ◌++◌, ℕ, List, length};
-ghost use Rattle.dgt_values.specs.Equality.{EqualIsSame};
+ghost use Rattle.dgt_values.specs.Equality.{CloneIsSame, EqualIsSame};
 ghost use Rattle.dgt_decode.specs.Grammar.{open_message};
 ghost use Rattle.dgt_lines.specs.InPieces.{InPieces};
 ghost use Rattle.dgt_lines.specs.Lines.{events_after, lines, lines_after};
-ghost use Rattle.dgt_lines.specs.Pictures.{LastLineIsPicture, picture_after_events, picture_lines, picture_told, pictures_text};
+ghost use Rattle.dgt_lines.specs.Pictures.{LastLineIsPicture, PictureIsTheHosts, picture_after_events, picture_lines, picture_told, pictures_text};
 ghost use Rattle.dgt_lines.specs.Writing.{InARow};
 
 use crate::ends::{Failed, Sink};
 use crate::faults::RunFault;
+use crate::{LINES_ROOM, PICTURES_ROOM};
 use dgt_decode::laws;
+
+/// The room that each call which writes lines takes for them, in bytes.
+pub fn limits()
+    ensures lines { LINES_ROOM ≡ 32768 }
+    ensures pictures { PICTURES_ROOM ≡ 66560 }
+{}
 
 /// Two values are equal, as `==` answers, exactly where they are the same.
 pub fn equal_is_same()
     ensures run_fault { EqualIsSame ⟦<RunFault as PartialEq>⟧.eq }
     ensures failed { EqualIsSame ⟦<Failed as PartialEq>⟧.eq }
+{}
+
+/// A clone is the value itself, and cloning never fails.
+pub fn clone_is_same()
+    ensures run_fault { CloneIsSame ⟦<RunFault as Clone>⟧ }
+    ensures failed { CloneIsSame ⟦<Failed as Clone>⟧ }
 {}
 
 /// What calls write or gather one after another, the sink takes in a row, up to the first refusal.
@@ -49,6 +62,12 @@ pub fn pictures_append()
 /// that is unknown there is no line.
 pub fn last_line_is_picture()
     ensures { LastLineIsPicture }
+{}
+
+/// The picture that lines show is that of a host that hears the same bytes, also where this is
+/// unknown.
+pub fn picture_is_the_hosts()
+    ensures { PictureIsTheHosts }
 {}
 
 // What comes in pieces is decoded as if it had come whole.

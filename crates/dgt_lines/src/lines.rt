@@ -1,6 +1,6 @@
 //! The lines of events.
 
-ghost use Rattle.std.specs.Prelude.{◌≡◌, ◌+◌, ◌/◌, ◌%◌, ◌<◌, ◌≤◌, ◌++◌, [], ◌∷◌, false, length, IfSome, OnOk};
+ghost use Rattle.std.specs.Prelude.{◌≡◌, ◌+◌, ◌/◌, ◌%◌, ◌<◌, ◌≤◌, ◌++◌, [], ◌∷◌, false, length, IfSome, OnOk, OnErr};
 ghost use Rattle.hex.specs.Hex.{encode_lower};
 ghost use Rattle.dgt_values.specs.Board.{square_number};
 ghost use Rattle.dgt_message.specs.Content.Content.{field};
@@ -64,6 +64,7 @@ fn put_bytes<W: Sink, const ROOM: usize>(
 ) -> Result<(), RunFault>
     ensures output { Gathers W.Sink (outgoing.old, outgoing.new) writer.old writer.new
         result (bytes_text bytes.now) }
+    ensures dropped { OnErr result (outgoing.new ≡ []) }
     ensures no_flush { W.flushed writer.old ≡ false → W.flushed writer.new ≡ false }
 {
     if bytes.is_empty() {
@@ -79,6 +80,7 @@ fn put_digits<W: Sink, const ROOM: usize>(
 ) -> Result<(), RunFault>
     ensures output { Gathers W.Sink (outgoing.old, outgoing.new) writer.old writer.new
         result (encode_lower bytes.now) }
+    ensures dropped { OnErr result (outgoing.new ≡ []) }
     ensures no_flush { W.flushed writer.old ≡ false → W.flushed writer.new ≡ false }
 {
     let mut at = 0;
@@ -99,6 +101,7 @@ fn put_part<W: Sink, const ROOM: usize>(
     requires { length part.now ≤ PART }
     ensures output { Gathers W.Sink (outgoing.old, outgoing.new) writer.old writer.new
         result (encode_lower part.now) }
+    ensures dropped { OnErr result (outgoing.new ≡ []) }
     ensures no_flush { W.flushed writer.old ≡ false → W.flushed writer.new ≡ false }
 {
     let mut digits = [0; 2 * PART];
@@ -117,6 +120,7 @@ pub(crate) fn put_event<W: Sink, const ROOM: usize>(
     requires { LINE_ROOM ≤ ROOM }
     ensures output { Gathers W.Sink (outgoing.old, outgoing.new) writer.old writer.new
         result (event_line offset (event_content event.now)) }
+    ensures dropped { OnErr result (outgoing.new ≡ []) }
     ensures no_flush { W.flushed writer.old ≡ false → W.flushed writer.new ≡ false }
     ensures waits { OnOk result (Waits outgoing.new (W.flushed writer.new)) }
 {
@@ -145,8 +149,11 @@ pub(crate) fn put_found<W: Sink, const ROOM: usize>(
 ) -> Result<(), RunFault>
     requires room { LINE_ROOM ≤ ROOM }
     requires whole { found.now ≡ Found.Message → IsWholeMessage framer.now }
-    ensures { Gathers W.Sink (outgoing.old, outgoing.new) writer.old writer.new
+    ensures output { Gathers W.Sink (outgoing.old, outgoing.new) writer.old writer.new
         result (event_line offset (event_found_in framer.now found.now)) }
+    ensures dropped { OnErr result (outgoing.new ≡ []) }
+    ensures no_flush { W.flushed writer.old ≡ false → W.flushed writer.new ≡ false }
+    ensures waits { OnOk result (Waits outgoing.new (W.flushed writer.new)) }
 {
     match found {
         Found::Message => put_message(outgoing, writer, offset, framer),
@@ -166,8 +173,11 @@ fn put_event_of<W: Sink, const ROOM: usize>(
 ) -> Result<(), RunFault>
     requires room { LINE_ROOM ≤ ROOM }
     requires whole { found ≡ Found.Message → IsWholeMessage framer.now }
-    ensures { Gathers W.Sink (outgoing.old, outgoing.new) writer.old writer.new
+    ensures output { Gathers W.Sink (outgoing.old, outgoing.new) writer.old writer.new
         result (event_line offset (event_found_in framer.now found)) }
+    ensures dropped { OnErr result (outgoing.new ≡ []) }
+    ensures no_flush { W.flushed writer.old ≡ false → W.flushed writer.new ≡ false }
+    ensures waits { OnOk result (Waits outgoing.new (W.flushed writer.new)) }
 {
     put_event(outgoing, writer, offset, &framer.event(found))
 }
@@ -182,8 +192,11 @@ fn put_message<W: Sink, const ROOM: usize>(
 ) -> Result<(), RunFault>
     requires room { LINE_ROOM ≤ ROOM }
     requires whole { IsWholeMessage framer.now }
-    ensures { Gathers W.Sink (outgoing.old, outgoing.new) writer.old writer.new
+    ensures output { Gathers W.Sink (outgoing.old, outgoing.new) writer.old writer.new
         result (event_line offset (message_event framer.now)) }
+    ensures dropped { OnErr result (outgoing.new ≡ []) }
+    ensures no_flush { W.flushed writer.old ≡ false → W.flushed writer.new ≡ false }
+    ensures waits { OnOk result (Waits outgoing.new (W.flushed writer.new)) }
 {
     let Some((square, piece)) = field(framer.bytes()) else {
         return put_event_of(outgoing, writer, offset, framer, Found::Message);

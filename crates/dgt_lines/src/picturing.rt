@@ -1,13 +1,15 @@
 //! The lines that show the board, piece after piece.
 
-ghost use Rattle.std.specs.Prelude.{◌≡◌, ◌+◌, ◌^◌, ◌<◌, ◌≤◌, ℕ, [], ◌++◌, if◌then◌else◌, length, OnOk};
+ghost use Rattle.std.specs.Prelude.{◌≡◌, ◌+◌, ◌^◌, ◌<◌, ◌≤◌, ℕ, [], ◌++◌, false, if◌then◌else◌, length, OnOk, OnErr};
 ghost use Rattle.std.specs.List.{flat_map};
 ghost use Rattle.dgt_message.specs.Content.{content};
 ghost use Rattle.dgt_decode.specs.Grammar.{message_event, open_message};
 ghost use Rattle.dgt_decode.specs.Feeding.{IsWholeMessage, event_content, event_found_in};
 ghost use Rattle.dgt_host.specs.Host.{picture_after};
 ghost use Rattle.dgt_lines.specs.Lines.{events_after};
+ghost use Rattle.dgt_lines.specs.Marks.{Waits};
 ghost use Rattle.dgt_lines.specs.Pictures.{known_at, picture_after_event, picture_after_events, picture_line, picture_lines, picture_set};
+ghost use Rattle.dgt_lines.specs.Refusals.{StopsInPictures};
 ghost use Rattle.dgt_lines.specs.Writing.{Gathers, Writes};
 
 use crate::ends::Sink;
@@ -31,8 +33,13 @@ fn put_known<W: Sink>(
     offset: u64,
     picture: &Option<Picture>,
 ) -> Result<(), RunFault>
-    ensures { Gathers W.Sink (outgoing.old, outgoing.new) writer.old writer.new
+    ensures output { Gathers W.Sink (outgoing.old, outgoing.new) writer.old writer.new
         result (flat_map picture_line (known_at offset picture.now)) }
+    ensures dropped { OnErr result (outgoing.new ≡ []) }
+    ensures no_flush { W.flushed writer.old ≡ false → W.flushed writer.new ≡ false }
+    ensures waits { OnOk result (Waits
+        (outgoing.old ++ flat_map picture_line (known_at offset picture.now))
+        (W.flushed writer.old) → Waits outgoing.new (W.flushed writer.new)) }
 {
     let Some(picture) = picture else {
         return Ok(());
@@ -80,6 +87,11 @@ fn hear_event<W: Sink>(
     ensures shown { picture.new ≡ picture_after_event picture.old (message_event framer.now) }
     ensures output { Gathers W.Sink (outgoing.old, outgoing.new) writer.old writer.new result
         (flat_map picture_line (picture_set offset (message_event framer.now) picture.new)) }
+    ensures dropped { OnErr result (outgoing.new ≡ []) }
+    ensures no_flush { W.flushed writer.old ≡ false → W.flushed writer.new ≡ false }
+    ensures waits { OnOk result (Waits (outgoing.old
+        ++ flat_map picture_line (picture_set offset (message_event framer.now) picture.new))
+        (W.flushed writer.old) → Waits outgoing.new (W.flushed writer.new)) }
 {
     let Event::Message(message) = framer.event(Found::Message) else {
         return Ok(());
@@ -105,6 +117,11 @@ fn hear_found<W: Sink>(
     ensures output { Gathers W.Sink (outgoing.old, outgoing.new) writer.old writer.new result
         (flat_map picture_line
         (picture_set offset (event_found_in framer.now found.now) picture.new)) }
+    ensures dropped { OnErr result (outgoing.new ≡ []) }
+    ensures no_flush { W.flushed writer.old ≡ false → W.flushed writer.new ≡ false }
+    ensures waits { OnOk result (Waits (outgoing.old ++ flat_map picture_line
+        (picture_set offset (event_found_in framer.now found.now) picture.new))
+        (W.flushed writer.old) → Waits outgoing.new (W.flushed writer.new)) }
 {
     if !matches!(found, Found::Message) {
         return Ok(());
@@ -122,8 +139,11 @@ fn hear_found<W: Sink>(
 /// that comes after so many bytes, in one write where there is room for them.
 ///
 /// `framer` holds what is unfinished of the bytes before, and `picture` is the one that they set,
-/// which is unknown at first. `WriteFailed` comes where the writer refuses, which then took the
-/// front of the lines.
+/// which is unknown at first. Nothing is flushed.
+///
+/// `WriteFailed` comes if the writer refuses. Then `framer` has read a prefix of the piece and no
+/// more, `picture` is the one after it, the writer took a prefix of its lines, and what was
+/// gathered is dropped.
 pub fn write_pictures<W: Sink>(
     framer: &mut Framer,
     picture: &mut Option<Picture>,
@@ -140,7 +160,15 @@ pub fn write_pictures<W: Sink>(
         (events_after (open_message framer.old) offset piece.now)) }
     ensures framed { OnOk result (open_message framer.new ≡
         open_message (open_message framer.old ++ piece.now)) }
-    ensures empty { OnOk result (outgoing.new ≡ []) }
+    ensures stops { OnErr result (StopsInPictures W.Sink writer.old writer.new offset
+        (open_message framer.old) piece.now (open_message framer.new) picture.old picture.new) }
+    ensures empty { outgoing.new ≡ [] }
+
+    // nothing is flushed: the lines wait for a flush, and what waited before still does
+    ensures unflushed { OnOk result (Waits
+        (picture_lines picture.old (events_after (open_message framer.old) offset piece.now))
+        (W.flushed writer.old) → W.flushed writer.new ≡ false) }
+    ensures no_flush { W.flushed writer.old ≡ false → W.flushed writer.new ≡ false }
 {
     laws::in_pieces();
     let mut at = 0;

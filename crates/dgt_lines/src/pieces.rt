@@ -1,8 +1,10 @@
 //! The lines of what a board sends, piece after piece.
 
-ghost use Rattle.std.specs.Prelude.{◌≡◌, ◌+◌, ◌^◌, ◌<◌, ◌≤◌, [], ◌++◌, length, IsTrue, OnOk};
+ghost use Rattle.std.specs.Prelude.{◌≡◌, ◌+◌, ◌^◌, ◌<◌, ◌≤◌, [], ◌++◌, false, length, IsTrue, OnOk, OnErr};
 ghost use Rattle.dgt_decode.specs.Grammar.{open_message};
 ghost use Rattle.dgt_lines.specs.Lines.{lines_after, unfinished_line};
+ghost use Rattle.dgt_lines.specs.Marks.{Waits};
+ghost use Rattle.dgt_lines.specs.Refusals.{StopsInLines};
 ghost use Rattle.dgt_lines.specs.Writing.{Writes};
 
 use crate::ends::Sink;
@@ -18,8 +20,10 @@ pub const LINES_ROOM: usize = 32768;
 /// Writes the lines of a piece that comes after so many bytes, in one write where there is room for
 /// them.
 ///
-/// `framer` holds what is unfinished of the bytes before. `WriteFailed` comes where the writer
-/// refuses, which then took the front of the lines.
+/// `framer` holds what is unfinished of the bytes before. Nothing is flushed.
+///
+/// `WriteFailed` comes if the writer refuses. Then `framer` has read a prefix of the piece and no
+/// more, the writer took a prefix of its lines, and what was gathered is dropped.
 pub fn write_lines<W: Sink>(
     framer: &mut Framer,
     outgoing: &mut Outgoing<LINES_ROOM>,
@@ -33,7 +37,15 @@ pub fn write_lines<W: Sink>(
         (lines_after (open_message framer.old) offset piece.now) }
     ensures framed { OnOk result (open_message framer.new ≡
         open_message (open_message framer.old ++ piece.now)) }
-    ensures empty { OnOk result (outgoing.new ≡ []) }
+    ensures stops { OnErr result (StopsInLines W.Sink writer.old writer.new offset
+        (open_message framer.old) piece.now (open_message framer.new)) }
+    ensures empty { outgoing.new ≡ [] }
+
+    // nothing is flushed: the lines wait for a flush, and what waited before still does
+    ensures unflushed { OnOk result (Waits
+        (lines_after (open_message framer.old) offset piece.now) (W.flushed writer.old) →
+        W.flushed writer.new ≡ false) }
+    ensures no_flush { W.flushed writer.old ≡ false → W.flushed writer.new ≡ false }
 {
     laws::in_pieces();
     let mut at = 0;

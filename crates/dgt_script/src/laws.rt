@@ -2,7 +2,7 @@
 //! function stands for the facts that its contract states.
 
 ghost use Rattle.std.specs.Prelude.{◌≡◌, ◌≢◌, ◌↔◌, ◌∷◌, ℕ, List};
-ghost use Rattle.dgt_values.specs.Equality.{EqualIsSame};
+ghost use Rattle.dgt_values.specs.Equality.{CloneIsSame, EqualIsSame};
 ghost use Rattle.dgt_link.specs.Act.{ActContent};
 ghost use Rattle.dgt_link.specs.Faults.{FaultyContent};
 ghost use Rattle.dgt_script.specs.Closing.{ClosingLinesAgree};
@@ -13,10 +13,21 @@ ghost use Rattle.dgt_script.specs.declared.script_words.FaultyVerb.{FaultyVerb};
 ghost use Rattle.dgt_script.specs.declared.script_words.Verb.{Verb};
 
 use crate::script::LineFault;
+use crate::script_lines::MAX_LINE;
+
+/// The limit by its number: the most bytes of a line that can be an act.
+pub fn limits()
+    ensures line { MAX_LINE ≡ 519 }
+{}
 
 /// Two values are equal, as `==` answers, exactly where they are the same.
 pub fn equal_is_same()
     ensures line_fault { EqualIsSame ⟦<LineFault as PartialEq>⟧.eq }
+{}
+
+/// A clone is the value itself, and cloning never fails.
+pub fn clone_is_same()
+    ensures line_fault { CloneIsSame ⟦<LineFault as Clone>⟧ }
 {}
 
 /// No line asks for two acts or goes wrong at two places, and none that asks for an act goes wrong.

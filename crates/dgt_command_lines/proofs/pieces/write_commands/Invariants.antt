@@ -1,4 +1,4 @@
-use Rattle.std.proofs.Common.{◌≤◌, ◌-◌, ◌++◌, length, take}
+use Rattle.std.proofs.Common.{◌≡◌, ◌≤◌, ◌-◌, ◌++◌, false, length, take}
 use Rattle.dgt_command.specs.Framing.{rest_of}
 use Rattle.dgt_command_lines.proofs.PieceLemmas.{Gathers}
 use Rattle.dgt_command_lines.proofs.pieces.write_commands.Given as goal
@@ -8,6 +8,7 @@ invariant-loop-at g l = record {
   bound : l.at ≤ length l.piece;
   told : Gathers g.W.Sink l.fn.writer l.writer l.outgoing (l.offset - length (rest_of l.fn.framer))
       (rest_of l.fn.framer ++ take l.at l.piece) (rest_of l.framer);
+  no_flush : g.W.Sink.flushed l.fn.writer ≡ false → g.W.Sink.flushed l.writer ≡ false;
 }
 
 abbrev pub decreases-loop-at : goal.decreases-loop-at

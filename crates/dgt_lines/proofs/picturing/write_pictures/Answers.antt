@@ -7,6 +7,7 @@ use Rattle.dgt_lines.specs.Pictures.{picture_lines}
 use Rattle.dgt_lines.proofs.EventLemmas.{advance_event, advance_none, events_after-none, events_after-rest, feed_bound, feed_open}
 use Rattle.dgt_lines.proofs.GatherLemmas.{gathered_none, gathered_then, gathered_exit, gathered_out}
 use Rattle.dgt_lines.proofs.PictureLemmas.{behind_more, lines_more, lines_whole}
+use Rattle.dgt_lines.proofs.RefusalLemmas.{gathered_stop, pictures_stop, pictures_stop_out, waits_out, waits_then}
 use Rattle.dgt_lines.proofs.picturing.write_pictures.Goals as goal
 
 pub loop-at-init : goal.loop-at-init
@@ -18,6 +19,8 @@ loop-at-init g c =
           (gathered_none g.W.Sink [] c.args.writer.now);
       shown = rw none refl;
       framed = sym (c.in_pieces.ensures.quiet.no_bytes c.args.framer.now).1;
+      no_flush = λ h. h;
+      waits = rw (none, c.requires.empty) (λ w. w);
     }
 
 pub loop-at-preserved-in-Continue-1 : goal.loop-at-preserved-in-Continue-1
@@ -44,6 +47,13 @@ loop-at-preserved-in-Continue-1 g c =
           c.in_ok-hear_found.ensures.shown);
       framed = feed_open c.in_pieces.ensures c.args.framer.now c.args.offset c.args.piece.now _ c.loop-at.at
           c.advance-advanced.result.used c.loop-at.invariant.framed _ c.advance-advanced.ensures.held;
+      no_flush = λ h. c.in_ok-hear_found.ensures.no_flush (c.loop-at.invariant.no_flush h);
+      waits =
+          let more = lines_more c.args.picture.now _ c.hear_found.new.picture front place event
+          c.loop-at.invariant.shown c.in_ok-hear_found.ensures.shown in
+          rw (e, more)
+          (waits_then _ _ (picture_lines c.args.picture.now front) _ _ _ _ c.loop-at.invariant.waits
+          c.in_ok-hear_found.ensures.waits);
     }
 
 pub returns-in_err-hear_found-clause-output : goal.returns-in_err-hear_found-clause-output
@@ -78,9 +88,44 @@ loop-at-preserved g c =
       shown = rw e c.loop-at.invariant.shown;
       framed = feed_open c.in_pieces.ensures c.args.framer.now c.args.offset c.args.piece.now _ c.loop-at.at
           c.advance-advanced.result.used c.loop-at.invariant.framed _ c.advance-advanced.ensures.held;
+      no_flush = c.loop-at.invariant.no_flush;
+      waits = rw e c.loop-at.invariant.waits;
     }
 
 pub returns-clause-output : goal.returns-clause-output
 returns-clause-output g c =
     let whole = take_all _ c.args.piece.now c.loop-at-test.false in
     gathered_out _ _ _ _ _ _ _ (rw whole at c.loop-at.invariant.output) c.write_out.ensures.output
+
+-- the framer has read up to the event whose line is refused
+pub returns-in_err-hear_found-clause-stops : goal.returns-in_err-hear_found-clause-stops
+returns-in_err-hear_found-clause-stops g c =
+    let held = open_message c.args.framer.now in
+    let place = c.args.offset + (c.loop-at.at + c.advance-advanced.result.used) in
+    let event = event_found_in c.advance-advanced.new.self c.in-Some.found in
+    let front = events_after held c.args.offset (take c.loop-at.at c.args.piece.now) in
+    let e = advance_event c.in_pieces.ensures c.args.framer.now c.args.offset c.args.piece.now
+    (open_message c.loop-at.framer) c.loop-at.at c.advance-advanced.result.used c.loop-at.invariant.framed event
+    c.loop-at.invariant.bound
+    (rw c.in-Some.is at c.advance-advanced.ensures.first).1 in
+    let more = lines_more c.args.picture.now _ c.hear_found.new.picture front place event
+    c.loop-at.invariant.shown c.in_err-hear_found.ensures.shown in
+    let shown = behind_more c.args.picture.now _ c.hear_found.new.picture front place event c.loop-at.invariant.shown
+    c.in_err-hear_found.ensures.shown in
+    pictures_stop _ _ _ _ _ _ _ _
+    (feed_bound c.args.piece.now c.loop-at.at c.advance-advanced.result.used c.loop-at.invariant.bound
+    c.advance-advanced.ensures.within)
+    (feed_open c.in_pieces.ensures c.args.framer.now c.args.offset c.args.piece.now _ c.loop-at.at
+    c.advance-advanced.result.used c.loop-at.invariant.framed _ c.advance-advanced.ensures.held)
+    _ _ _ _ (rw e shown) (rw e more)
+    (gathered_stop _ _ _ _ _ _ _ c.loop-at.invariant.output c.in_err-hear_found.ensures.output.1)
+
+pub returns-clause-stops : goal.returns-clause-stops
+returns-clause-stops g c =
+    pictures_stop_out _ _ _ _ _ _ _ _ c.loop-at.invariant.bound c.loop-at.invariant.framed _ _ _ _ _
+    c.loop-at.invariant.shown c.loop-at.invariant.output c.write_out.ensures.output
+
+pub returns-clause-unflushed : goal.returns-clause-unflushed
+returns-clause-unflushed g c =
+    let whole = take_all _ c.args.piece.now c.loop-at-test.false in
+    waits_out _ _ _ _ _ _ (rw whole at c.loop-at.invariant.waits) c.write_out.ensures.unflushed

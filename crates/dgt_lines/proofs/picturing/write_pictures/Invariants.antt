@@ -1,6 +1,7 @@
-use Rattle.std.proofs.Common.{◌≤◌, ◌-◌, ◌++◌, ◌≡◌, length, take, []}
+use Rattle.std.proofs.Common.{◌≤◌, ◌-◌, ◌++◌, ◌≡◌, false, length, take, []}
 use Rattle.dgt_lines.specs.Lines.{events_after}
 use Rattle.dgt_lines.specs.Pictures.{picture_after_events, picture_lines}
+use Rattle.dgt_lines.specs.Marks.{Waits}
 use Rattle.dgt_lines.specs.Writing.{Gathered}
 use Rattle.dgt_decode.specs.Grammar.{open_message}
 use Rattle.dgt_lines.proofs.picturing.write_pictures.Given as goal
@@ -13,6 +14,9 @@ invariant-loop-at g l = record {
   shown : l.picture ≡ picture_after_events l.fn.picture
       (events_after (open_message l.fn.framer) l.offset (take l.at l.piece));
   framed : open_message l.framer ≡ open_message (open_message l.fn.framer ++ take l.at l.piece);
+  no_flush : g.W.Sink.flushed l.fn.writer ≡ false → g.W.Sink.flushed l.writer ≡ false;
+  waits : Waits (picture_lines l.fn.picture (events_after (open_message l.fn.framer) l.offset (take l.at l.piece)))
+      (g.W.Sink.flushed l.fn.writer) → Waits l.outgoing (g.W.Sink.flushed l.writer);
 }
 
 abbrev pub decreases-loop-at : goal.decreases-loop-at

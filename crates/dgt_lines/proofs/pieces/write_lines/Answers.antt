@@ -5,6 +5,7 @@ use Rattle.dgt_lines.specs.Lines.{lines_after}
 use Rattle.dgt_decode.specs.Grammar.{open_message}
 use Rattle.dgt_lines.proofs.GatherLemmas.{gathered_none, gathered_then, gathered_exit, gathered_out}
 use Rattle.dgt_lines.proofs.EventLemmas.{feed_bound, feed_open}
+use Rattle.dgt_lines.proofs.RefusalLemmas.{gathered_stop, lines_stop, lines_stop_out, waits_out}
 use Rattle.dgt_lines.proofs.PieceLemmas.{lines_after-none, feed_line, feed_none, feed_whole}
 use Rattle.dgt_lines.proofs.pieces.write_lines.Goals as goal
 
@@ -14,6 +15,8 @@ loop-at-init g c = record {
   output = rw (lines_after-none c.in_pieces.ensures c.args.framer.now c.args.offset, c.requires.empty)
       (gathered_none g.W.Sink [] c.args.writer.now);
   framed = sym (c.in_pieces.ensures.quiet.no_bytes c.args.framer.now).1;
+  no_flush = λ h. h;
+  waits = rw (lines_after-none c.in_pieces.ensures c.args.framer.now c.args.offset, c.requires.empty) (λ w. w);
 }
 
 pub loop-at-preserved-in-Continue-1 : goal.loop-at-preserved-in-Continue-1
@@ -24,7 +27,7 @@ loop-at-preserved-in-Continue-1 g c = record {
       let step =
       gathered_then _ _ _ _ _ _ _
       (lines_after (open_message c.args.framer.now) c.args.offset (take c.loop-at.at c.args.piece.now)) _
-      c.loop-at.invariant.output c.in_ok-put_found.ensures in
+      c.loop-at.invariant.output c.in_ok-put_found.ensures.output in
       let e = feed_line c.in_pieces.ensures c.args.framer.now c.args.offset c.args.piece.now
       (open_message c.loop-at.framer) c.loop-at.at c.advance-advanced.result.used c.loop-at.invariant.framed
       (event_found_in c.advance-advanced.new.self c.in-Some.found) c.loop-at.invariant.bound
@@ -32,6 +35,8 @@ loop-at-preserved-in-Continue-1 g c = record {
       rw e step;
   framed = feed_open c.in_pieces.ensures c.args.framer.now c.args.offset c.args.piece.now _ c.loop-at.at
       c.advance-advanced.result.used c.loop-at.invariant.framed _ c.advance-advanced.ensures.held;
+  no_flush = λ h. c.in_ok-put_found.ensures.no_flush (c.loop-at.invariant.no_flush h);
+  waits = λ _. c.in_ok-put_found.ensures.waits;
 }
 
 pub returns-in_err-put_found-clause-output : goal.returns-in_err-put_found-clause-output
@@ -41,7 +46,7 @@ returns-in_err-put_found-clause-output g c =
     (event_found_in c.advance-advanced.new.self c.in-Some.found) c.loop-at.invariant.bound
     (rw c.in-Some.is at c.advance-advanced.ensures.first).1 in
     gathered_exit _ _ _ _ _ _ _ _ _ _ _ c.loop-at.invariant.output e c.from_residual.ensures.1
-    c.in_err-put_found.ensures
+    c.in_err-put_found.ensures.output
 
 pub loop-at-preserved : goal.loop-at-preserved
 loop-at-preserved g c = record {
@@ -56,9 +61,41 @@ loop-at-preserved g c = record {
       rw e c.loop-at.invariant.output;
   framed = feed_open c.in_pieces.ensures c.args.framer.now c.args.offset c.args.piece.now _ c.loop-at.at
       c.advance-advanced.result.used c.loop-at.invariant.framed _ c.advance-advanced.ensures.held;
+  no_flush = c.loop-at.invariant.no_flush;
+  waits =
+      let e = feed_none c.in_pieces.ensures c.args.framer.now c.args.offset c.args.piece.now
+      (open_message c.loop-at.framer) c.loop-at.at c.advance-advanced.result.used c.loop-at.invariant.framed
+      c.loop-at.invariant.bound
+      (rw c.in_default.is at c.advance-advanced.ensures.first).0
+      (rw c.in_default.is at c.advance-advanced.ensures.first).1 in
+      rw e c.loop-at.invariant.waits;
 }
 
 pub returns-clause-output : goal.returns-clause-output
 returns-clause-output g c =
     let whole = take_all _ c.args.piece.now c.loop-at-test.false in
     gathered_out _ _ _ _ _ _ _ (rw whole at c.loop-at.invariant.output) c.write_out.ensures.output
+
+-- the framer has read up to the event whose line is refused
+pub returns-in_err-put_found-clause-stops : goal.returns-in_err-put_found-clause-stops
+returns-in_err-put_found-clause-stops g c =
+    let e = feed_line c.in_pieces.ensures c.args.framer.now c.args.offset c.args.piece.now
+    (open_message c.loop-at.framer) c.loop-at.at c.advance-advanced.result.used c.loop-at.invariant.framed
+    (event_found_in c.advance-advanced.new.self c.in-Some.found) c.loop-at.invariant.bound
+    (rw c.in-Some.is at c.advance-advanced.ensures.first).1 in
+    lines_stop _ _ _ _ _ _ _ _
+    (feed_bound c.args.piece.now c.loop-at.at c.advance-advanced.result.used c.loop-at.invariant.bound
+    c.advance-advanced.ensures.within)
+    (feed_open c.in_pieces.ensures c.args.framer.now c.args.offset c.args.piece.now _ c.loop-at.at
+    c.advance-advanced.result.used c.loop-at.invariant.framed _ c.advance-advanced.ensures.held)
+    _ _ e (gathered_stop _ _ _ _ _ _ _ c.loop-at.invariant.output c.in_err-put_found.ensures.output.1)
+
+pub returns-clause-stops : goal.returns-clause-stops
+returns-clause-stops g c =
+    lines_stop_out _ _ _ _ _ _ _ _ c.loop-at.invariant.bound c.loop-at.invariant.framed _ _ _
+    c.loop-at.invariant.output c.write_out.ensures.output
+
+pub returns-clause-unflushed : goal.returns-clause-unflushed
+returns-clause-unflushed g c =
+    let whole = take_all _ c.args.piece.now c.loop-at-test.false in
+    waits_out _ _ _ _ _ _ (rw whole at c.loop-at.invariant.waits) c.write_out.ensures.unflushed

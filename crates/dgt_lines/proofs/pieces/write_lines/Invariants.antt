@@ -1,4 +1,5 @@
-use Rattle.std.proofs.Common.{◌≤◌, ◌-◌, ◌++◌, ◌≡◌, length, take, []}
+use Rattle.std.proofs.Common.{◌≤◌, ◌-◌, ◌++◌, ◌≡◌, false, length, take, []}
+use Rattle.dgt_lines.specs.Marks.{Waits}
 use Rattle.dgt_lines.specs.Writing.{Gathered}
 use Rattle.dgt_lines.specs.Lines.{lines_after}
 use Rattle.dgt_decode.specs.Grammar.{open_message}
@@ -10,6 +11,9 @@ invariant-loop-at g l = record {
   output : Gathered g.W.Sink [] l.outgoing l.fn.writer l.writer
       (lines_after (open_message l.fn.framer) l.offset (take l.at l.piece));
   framed : open_message l.framer ≡ open_message (open_message l.fn.framer ++ take l.at l.piece);
+  no_flush : g.W.Sink.flushed l.fn.writer ≡ false → g.W.Sink.flushed l.writer ≡ false;
+  waits : Waits (lines_after (open_message l.fn.framer) l.offset (take l.at l.piece))
+      (g.W.Sink.flushed l.fn.writer) → Waits l.outgoing (g.W.Sink.flushed l.writer);
 }
 
 abbrev pub decreases-loop-at : goal.decreases-loop-at

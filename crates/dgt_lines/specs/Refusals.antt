@@ -1,0 +1,28 @@
+-- What a refused write leaves, of a piece that comes after other bytes.
+use Rattle.std.specs.Prelude.{◌≡◌, ℕ, ◌≤◌, List, ◌++◌, length, take, Option}
+use Rattle.dgt_values.specs.declared.pieces.Piece.{Piece}
+use Rattle.dgt_decode.specs.Grammar.{open_message}
+use Rattle.dgt_lines.specs.declared.ends.Sink.{Ghosts as Sink}
+use Rattle.dgt_lines.specs.Lines.{events_after, lines_after}
+use Rattle.dgt_lines.specs.Pictures.{picture_after_events, picture_lines}
+use Rattle.dgt_lines.specs.Writing.{Stopped}
+
+-- The sink took a prefix of the lines of the first bytes of the piece, and then refused. These
+-- bytes were read and no more: of a message `held` was unfinished before them, and `held'` is
+-- after them.
+pub record StopsInLines {S : Type 0} (W : Sink S) (old new : S) (offset : ℕ)
+    (held piece held' : List ℕ) : Type 0 where
+  pub used : ℕ
+  pub within : used ≤ length piece
+  pub stopped : Stopped W old new (lines_after held offset (take used piece))
+  pub framed : held' ≡ open_message (held ++ take used piece)
+
+-- the same of the lines that show the board: the picture was `before`, and is `after`
+pub record StopsInPictures {S : Type 0} (W : Sink S) (old new : S) (offset : ℕ)
+    (held piece held' : List ℕ) (before after : Option (List Piece)) : Type 0 where
+  pub used : ℕ
+  pub within : used ≤ length piece
+  pub stopped : Stopped W old new
+      (picture_lines before (events_after held offset (take used piece)))
+  pub framed : held' ≡ open_message (held ++ take used piece)
+  pub shown : after ≡ picture_after_events before (events_after held offset (take used piece))
