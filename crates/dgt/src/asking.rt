@@ -110,7 +110,7 @@ pub fn asked_bytes<'a>(alloc: Global, words: &[&'a str]) -> Result<Vec<u8>, BadA
 
 fn push(command: &Command<'_>, bytes: &mut Vec<u8>) -> Result<(), AllocError> {
     let mut room = [0; MAX_WORD];
-    let count = Host::new().send(command, &mut room).unwrap();
+    let count = encode(command, &mut room).unwrap();
     bytes.extend_from_slice(&room[..count])
 }
 

@@ -38,6 +38,7 @@ mod events;
 mod hearing;
 mod host;
 mod host_place;
+pub mod laws;
 mod looking;
 mod placements;
 mod plain;

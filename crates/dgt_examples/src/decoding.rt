@@ -7,6 +7,10 @@ use dgt_values::{Piece, Square};
 pub struct Last(pub Option<(Square, Piece)>);
 
 impl Listener for Last {
+    ghost use Rattle.dgt_examples.specs.Decoding.{HearsFields};
+
+    ghost hears = { HearsFields };
+
     fn hear(&mut self, _place: usize, event: &Event<'_>) {
         if let Event::Message(Message::Field { square, piece }) = event {
             self.0 = Some((*square, *piece));
