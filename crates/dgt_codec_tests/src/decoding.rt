@@ -623,6 +623,13 @@ struct Places {
 }
 
 impl Listener for Places {
+    ghost use Rattle.std.specs.Prelude.{◌≡◌, ◌+◌, nat_lt, if◌then◌else◌, slice_set};
+
+    ghost hears = { λ old heard new.
+        (new.count ≡ (if nat_lt old.count 3 then old.count + 1 else old.count))
+        × (new.places ≡ (if nat_lt old.count 3 then slice_set old.places old.count heard.place
+        else old.places)) };
+
     fn hear(&mut self, place: usize, event: &Event<'_>) {
         if self.count < 3 {
             self.places[self.count] = place;

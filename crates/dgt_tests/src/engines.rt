@@ -2,6 +2,7 @@
 //! worked messages.
 
 mod commanding;
+mod counting;
 mod devices;
 mod failures;
 mod faults;

@@ -1,9 +1,9 @@
 //! The engine of a host's bytes, in pieces and where something fails.
 
-use crate::engines::devices::{Lender, Recorder};
+use crate::engines::devices::{CallCounter, Lender, Recorder};
 use crate::engines::troubles::Trouble::{Flush, Read, Room, Turns};
 use crate::engines::troubles::{Trial, Trouble};
-use dgt_text::{RunFault, commands};
+use dgt_text::{Bytes, Device, RunFault, commands};
 
 const WRITE_FAILED: Result<(), RunFault> = Err(RunFault::WriteFailed);
 
@@ -66,5 +66,43 @@ fn tellings_that_fail(rt: HostRuntime) {
         assert_eq!(rt; source.reads, reads);
         assert_eq!(rt; sink.taken(), taken);
         assert!(rt; !source.late && !sink.late);
+    }
+}
+
+#[test]
+fn a_write_and_a_flush_for_each_piece_of_commands(rt: HostRuntime) {
+    let mut beeps = [0; 4998];
+    for index in 0..833 {
+        beeps[6 * index..6 * index + 6].copy_from_slice(BEEP);
+    }
+    let mut counter = CallCounter::new();
+    assert_eq!(rt;
+        commands(&mut Bytes::new(&beeps), &mut Device::new(&mut counter), 3),
+        Ok(())
+    );
+    assert_eq!(rt; counter.writes, 2);
+    assert_eq!(rt; counter.flushes, 2);
+}
+
+#[test]
+fn each_piece_of_commands_is_flushed_through_a_device(rt: HostRuntime) {
+    let cut: &[u8] = &[0x2b, 0x04, 0x03, 0x0b, 0x03, 0x00, 0x2b];
+    let rows = [
+        (BEEP, 1, 1, 6),
+        (BEEP, 2, 1, 3),
+        (BEEP, 64, 1, 1),
+        (cut, 64, 2, 2),
+    ];
+    for (bytes, step, writes, flushes) in rows {
+        let mut counter = CallCounter::new();
+        assert_eq!(rt;
+            commands(
+                &mut Lender::new(bytes, step),
+                &mut Device::new(&mut counter),
+                10
+            ),
+            Ok(())
+        );
+        assert_eq!(rt; (counter.writes, counter.flushes), (writes, flushes));
     }
 }

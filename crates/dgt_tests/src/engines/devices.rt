@@ -262,3 +262,88 @@ impl Write for Trickle<'_> {
         Ok(())
     }
 }
+
+/// A reader and writer of the standard library that fails with this kind of error, and counts its
+/// calls.
+#[derive(Drop)]
+pub struct Refuser {
+    kind: io::ErrorKind,
+    pub calls: u64,
+}
+
+impl Refuser {
+    pub fn new(kind: io::ErrorKind) -> Self {
+        Refuser { kind, calls: 0 }
+    }
+}
+
+impl Read for Refuser {
+    fn read(&mut self, _buf: &mut [u8]) -> io::Result<usize> {
+        self.calls = self.calls.saturating_add(1);
+        Err(io::Error::from(self.kind))
+    }
+}
+
+impl Write for Refuser {
+    fn write(&mut self, _buf: &[u8]) -> io::Result<usize> {
+        self.calls = self.calls.saturating_add(1);
+        Err(io::Error::from(self.kind))
+    }
+
+    fn flush(&mut self) -> io::Result<()> {
+        self.calls = self.calls.saturating_add(1);
+        Err(io::Error::from(self.kind))
+    }
+}
+
+/// A writer of the standard library that takes no byte, and counts its writes.
+#[derive(Drop)]
+pub struct TakesNone {
+    pub calls: u64,
+}
+
+impl TakesNone {
+    pub fn new() -> Self {
+        TakesNone { calls: 0 }
+    }
+}
+
+impl Write for TakesNone {
+    fn write(&mut self, _buf: &[u8]) -> io::Result<usize> {
+        self.calls = self.calls.saturating_add(1);
+        Ok(0)
+    }
+
+    fn flush(&mut self) -> io::Result<()> {
+        Ok(())
+    }
+}
+
+/// A reader of the standard library that gives a zero at every second call, for ever, and is
+/// interrupted at the others.
+#[derive(Drop)]
+pub struct Stutterer {
+    pub calls: u64,
+}
+
+impl Stutterer {
+    pub fn new() -> Self {
+        Stutterer { calls: 0 }
+    }
+}
+
+impl Read for Stutterer {
+    fn read(&mut self, buf: &mut [u8]) -> io::Result<usize> {
+        self.calls = self.calls.saturating_add(1);
+        if self.calls % 2 == 1 {
+            return Err(io::Error::from(io::ErrorKind::Interrupted));
+        }
+        match buf.first_mut() {
+            Some(first) => {
+                *first = 0;
+                Ok(1)
+            }
+            None => Ok(0),
+        }
+    }
+}

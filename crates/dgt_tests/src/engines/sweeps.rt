@@ -7,7 +7,7 @@ use crate::engines::troubles::{TROUBLES, Text, Trial, Trouble};
 use crate::engines::{FIELD, START, START_LINE};
 use dgt_board::{Board, Polled};
 use dgt_link::World;
-use dgt_text::{RunFault, monitor, picture, read_act, serve, simulate};
+use dgt_text::{RunFault, commands, monitor, picture, read_act, serve, simulate};
 use std::alloc::Global;
 use std::process::Abort;
 use std::test::Fail;
@@ -15,11 +15,12 @@ use std::test::Fail;
 // The most bytes in a read and in a write.
 const STEPS: [usize; 3] = [1, 2, 64];
 
-// What tells what a board sends.
+// What prints what a board or a host sends.
 #[derive(Clone, Copy)]
 enum Teller {
     Monitor,
     Picture,
+    Commands,
 }
 
 impl Teller {
@@ -27,6 +28,7 @@ impl Teller {
         match self {
             Teller::Monitor => monitor(source, sink, limit),
             Teller::Picture => picture(source, sink, limit),
+            Teller::Commands => commands(source, sink, limit),
         }
     }
 }
@@ -135,6 +137,34 @@ fn a_picture_meets_each_trouble_at_each_place(rt: HostRuntime) -> Result<(), Fai
     };
     let teller = Teller::Picture;
     sweep(&rt, &Telling { teller, text })
+}
+
+#[test]
+fn commands_meet_each_trouble_at_each_place(rt: HostRuntime) -> Result<(), Fail> {
+    let words: [(&[u8], &[u8]); 7] = [
+        (&[0x44], b"00000001 updateboard\n"),
+        (&[0x42], b"00000002 dump\n"),
+        (&[0x2b, 0x04, 0x03, 0x0b, 0x03, 0x00], b"00000008 beep 3\n"),
+        (&[0x00], b"00000009 stray 00\n"),
+        (&[0x2b, 0x02], b"00000011 badsize\n"),
+        (&[0x60, 0x02, 0x42, 0xff], b"00000015 leds 42ff\n"),
+        (&[0x2b, 0x03, 0x03], b""),
+    ];
+    let whole: [(&[u8], &[u8]); 2] = [
+        (&[0x4d], b"00000001 version\n"),
+        (&[0xff], b"00000002 stray ff\n"),
+    ];
+    let rows: [(&[(&[u8], &[u8])], &[u8]); 3] = [
+        (&words, b"00000018 unfinished 3\n"),
+        (&whole, b""),
+        (&[], b""),
+    ];
+    for (rows, last) in rows {
+        let text = Text { rows, last };
+        let teller = Teller::Commands;
+        sweep(&rt, &Telling { teller, text })?;
+    }
+    Ok(())
 }
 
 // Lets the board send at most so many messages, and answers how many more it may.
