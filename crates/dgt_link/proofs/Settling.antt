@@ -305,9 +305,12 @@ sends_told falls world after answer told up some fits step = go (next_message wo
   where
     sent : answer ≡ Outcome.Done → Moves world after
     sent e =
-        let step' = done_at ActContent.BoardSend world after answer e step in
-        let next = (no_bytes world.up.bytes up, some) in
-        (ActContent.BoardSend, next, step', send_works falls world after told step'.leaves)
+        let step' = done_at ActContent.BoardSend world after answer e step in (
+          ActContent.BoardSend,
+          (no_bytes world.up.bytes up, some),
+          step',
+          send_works falls world after told step'.leaves,
+        )
 
     room : (message : Content) → next_message world.board.state ≡ Some message → (full : Bool)
         → overflows world.up (spelling message) ≡ full → answer ≡ Outcome.Done

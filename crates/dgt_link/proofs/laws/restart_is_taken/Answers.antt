@@ -1,7 +1,6 @@
-use Rattle.std.proofs.Common.{◌≡◌, ◌∙◌, ap, List, []}
+use Rattle.std.proofs.Common.{◌∙◌, ap, List, []}
 use Rattle.dgt_command.specs.Content.{EventContent}
 use Rattle.dgt_board.specs.State.{BoardState, effects}
-use Rattle.dgt_board.specs.declared.modes.Mode.{Mode}
 use Rattle.dgt_link.proofs.Promises.{noise_keeps_mode}
 use Rattle.dgt_link.proofs.laws.restart_is_taken.Goals as goal
 
