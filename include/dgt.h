@@ -309,6 +309,13 @@ void dgt_host_clock(dgt_host *host, dgt_clock *clock);
  * stand at the front of `codes`, the next one first. */
 size_t dgt_host_awaited(dgt_host *host, uint8_t codes[DGT_MAX_AWAITED]);
 
+/* Gives up all replies that are awaited, and returns how many there were. Nothing else changes: the
+ * host keeps its picture, its clock and the bytes of a message that is not finished. Call it when a
+ * reply is overdue. A lost reply stays the next one awaited: each reply after it is `unasked`, and
+ * once 16 are awaited, each further question is DGT_TOO_MANY. A reply that comes after this call is
+ * `unasked` as well. Ask again next, with dgt_host_restart or dgt_host_send. */
+size_t dgt_host_give_up_awaited(dgt_host *host);
+
 /* How many bytes were heard of a message that is not finished. */
 size_t dgt_host_unread(dgt_host *host);
 

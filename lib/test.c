@@ -132,6 +132,10 @@ static void host_and_board(void) {
     CHECK(dgt_host_send(host, DGT_SEND_VERSION, out, 0).status == DGT_TOO_MANY);
     CHECK(dgt_host_send(host, DGT_SEND_RESET, out, 0).status == DGT_NO_ROOM);
 
+    CHECK(dgt_host_give_up_awaited(host) == 16 && dgt_host_give_up_awaited(host) == 0);
+    CHECK(dgt_host_awaited(host, codes) == 0 && dgt_host_placement(host, text));
+    CHECK(!strcmp(text, "rnbqkbnr/pppppppp/8/8/4P3/8/PPPP1PPP/RNBQKBNR"));
+
     for (int i = 0; i < DGT_MAX_OWED; i++) bring(board, BYTES(DGT_SEND_SERIAL));
     dgt_command command;
     dgt_taken taken = dgt_board_take(board, BYTES(DGT_SEND_SERIAL), &command, out, 0);
@@ -139,6 +143,38 @@ static void host_and_board(void) {
     dgt_board_line_lost(board);
     CHECK(!dgt_board_owes(board) && dgt_board_mode(board) == DGT_MODE_IDLE);
     free(host), free(board), free(text);
+}
+
+/* After one lost reply each answer counts as unasked, until the host gives up what it awaits. */
+static void lost_reply(void) {
+    dgt_host *host = room(dgt_host_size());
+    dgt_board *board = room(dgt_board_size());
+    CHECK(dgt_host_new(host) && dgt_board_new(board));
+    uint8_t out[2], codes[DGT_MAX_AWAITED], pieces[64];
+    dgt_clock clock, before = {DGT_CLOCK_TIMES, 9, {0}, {1, 2, 3, 4}, {5, 6, 7, 0}};
+    CHECK(dgt_board_hand_clock(board, &before));
+    CHECK(dgt_host_send(host, DGT_SEND_VERSION, out, sizeof out).status == DGT_SENT);
+    bring(board, BYTES(DGT_SEND_CLOCK));
+    pass_on(board, host);
+    for (int i = 0; i < 15; i++) {
+        CHECK(dgt_host_send(host, DGT_SEND_DUMP, out, sizeof out).status == DGT_SENT);
+        bring(board, out, 1);
+        pass_on(board, host);
+        CHECK(heard.kind == DGT_EVENT_DUMP && heard.unasked == 1);
+    }
+    CHECK(dgt_host_send(host, DGT_SEND_DUMP, out, sizeof out).status == DGT_TOO_MANY);
+    hear_one(host, BYTES(0x93, 0), 0);
+    CHECK(dgt_host_give_up_awaited(host) == 16 && dgt_host_awaited(host, codes) == 0);
+    CHECK(dgt_host_picture(host, pieces) && pieces[0] == 8 && dgt_host_unread(host) == 2);
+    dgt_host_clock(host, &clock);
+    CHECK(!memcmp(&clock, &before, sizeof clock));
+    hear_one(host, BYTES(5, 1, 3), 0);
+    CHECK(heard.kind == DGT_EVENT_VERSION && heard.unasked == 1);
+    CHECK(dgt_host_send(host, DGT_SEND_DUMP, out, sizeof out).status == DGT_SENT);
+    bring(board, out, 1);
+    pass_on(board, host);
+    CHECK(heard.kind == DGT_EVENT_DUMP && heard.unasked == 0);
+    free(host), free(board);
 }
 
 static void start(void) {
@@ -271,6 +307,7 @@ int main(void) {
     CHECK(sizeof(dgt_board) == dgt_board_size());
     CHECK(sizeof(dgt_command_decoder) == dgt_command_decoder_size());
     host_and_board();
+    lost_reply();
     start();
     events();
     decoders();

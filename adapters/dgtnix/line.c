@@ -83,8 +83,8 @@ static void lose(line *line) {
 static void ask_all(line *line) {
     uint8_t out[DGT_RESTART_LENGTH];
     dgt_sent sent = dgt_host_restart(&line->host, out, sizeof out);
-    if (sent.status == DGT_TOO_MANY) { /* it has never answered */
-        dgt_host_line_lost(&line->host);
+    if (sent.status == DGT_TOO_MANY) { /* the replies are overdue */
+        dgt_host_give_up_awaited(&line->host);
         sent = dgt_host_restart(&line->host, out, sizeof out);
     }
     line->sure = false;

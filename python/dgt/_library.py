@@ -86,6 +86,7 @@ _FUNCTIONS = {
         "placement": (c_bool, c_void_p, c_void_p),
         "clock": (None, c_void_p, POINTER(ClockStruct)),
         "awaited": (c_size_t, c_void_p, c_void_p),
+        "give_up_awaited": (c_size_t, c_void_p),
         "unread": (c_size_t, c_void_p),
         "line_lost": (None, c_void_p),
     },

@@ -102,6 +102,13 @@ class Host(EventReader):
         count = self._call(dgt.dgt_host_awaited, codes)
         return [Ask(code) for code in codes[:count]]
 
+    def give_up_awaited(self) -> int:
+        """Gives up all replies that are awaited, and returns how many there were. Nothing else
+        changes. Call it when a reply is overdue: a lost reply stays the next one awaited, each
+        reply after it is `unasked`, and after 16 questions the next is `TooManyAwaited`. A reply
+        that comes after this call is `unasked` as well. Ask again next, by `restart` or `send`."""
+        return int(self._call(dgt.dgt_host_give_up_awaited))
+
     @property
     def unread(self) -> int:
         """How many bytes were heard of a message that is not finished."""

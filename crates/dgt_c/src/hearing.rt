@@ -3,7 +3,7 @@
 ghost use Rattle.std.specs.Prelude.{◌≡◌, ◌≤◌, ◌<◌, length, take};
 ghost use Rattle.dgt_decode.specs.Feeding.{event_content_if_any};
 ghost use Rattle.dgt_decode.specs.Grammar.{open_message};
-ghost use Rattle.dgt_host.specs.Host.{host_after, new_host};
+ghost use Rattle.dgt_host.specs.Host.{host_after, new_host, without_awaited};
 ghost use Rattle.dgt_c.specs.Hearing.{HearsTold, flag};
 ghost use Rattle.dgt_c.specs.Told.{event_told};
 
@@ -51,6 +51,16 @@ pub extern "C" fn dgt_host_line_lost(host: &mut DgtHost)
     ensures new { host.new.inside ≡ new_host }
 {
     host.get().line_lost();
+}
+
+/// Gives up all replies that are awaited, and returns how many there were. Nothing else changes.
+#[unsafe(no_mangle)]
+pub extern "C" fn dgt_host_give_up_awaited(host: &mut DgtHost) -> usize
+    ensures place { host.new.at ≡ host.old.at }
+    ensures gives_up { host.new.inside ≡ without_awaited host.old.inside }
+    ensures count { result ≡ length host.old.inside.awaited }
+{
+    host.get().give_up_awaited()
 }
 
 /// How many bytes were heard of an unfinished message.

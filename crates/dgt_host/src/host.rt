@@ -153,16 +153,20 @@ impl Host {
         self.awaited.clear();
     }
 
-    /// Gives up all replies that are awaited. The picture, the clock and the unread bytes stay as
-    /// they are.
+    /// Gives up all replies that are awaited, and returns how many there were. The picture, the
+    /// clock and the unread bytes stay as they are.
     ///
-    /// After bytes were lost or altered some of these replies may never come. A reply that comes
-    /// all the same is then unasked. Call [`Host::restart`] next to ask again: the picture stays
-    /// known until the new dump replaces it.
-    pub fn give_up_awaited(&mut self)
-        ensures { self.new ≡ without_awaited self.old }
+    /// Call it when a reply is overdue: after bytes were lost or altered it may never come, and
+    /// each reply that follows counts as unasked. A reply that comes after this call is unasked,
+    /// too. Call [`Host::restart`] or [`Host::send`] next to ask again: the picture stays known
+    /// until a new dump replaces it.
+    pub fn give_up_awaited(&mut self) -> usize
+        ensures gives_up { self.new ≡ without_awaited self.old }
+        ensures count { result ≡ length self.old.awaited }
     {
+        let count = self.awaited.len();
         self.awaited = ArrayVec::new();
+        count
     }
 
     fn awaits_too_many(&self, kind: Option<Kind>) -> bool

@@ -557,13 +557,14 @@ fn whole_pieces_at_once(rt: HostRuntime) -> Result<(), Fail> {
     Ok(())
 }
 
-// A host gives up what it awaits, and keeps its picture and what it has heard of a message.
+// A host gives up what it awaits, and keeps its picture and what it has heard of a message. A reply
+// that comes later is unasked.
 #[test]
 fn awaited_replies_are_given_up(rt: HostRuntime) -> Result<(), Fail> {
     let mut host = host_after(&rt, &[Command::Dump, Command::Version, Command::Serial]);
     host.hear_all(&DUMP);
     host.hear_all(&VERSION[..2]);
-    host.give_up_awaited();
+    assert_eq!(rt; host.give_up_awaited(), 2);
     assert!(rt; host.awaited().is_empty());
     assert!(rt; is_start(&host));
     assert_eq!(rt; host.unread(), 2);
