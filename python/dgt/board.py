@@ -16,7 +16,7 @@ from .errors import BadValue, Busy
 from .values import (Clock, Position, Times, byte, clock_struct, piece_code, plain_bytes,
                      read_clock, square_number)
 
-_STARTED = 0
+_STARTED, _START_BAD_PIECES, _START_BAD_CLOCK, _START_BAD_IDENTITY = range(4)
 _WROTE = 1
 
 
@@ -80,7 +80,8 @@ class Board(Handle):
         shown = clock_struct(Times() if clock is None else clock)
         status = self._call(dgt.dgt_board_start, pieces, byref(shown), byref(said))
         if status != _STARTED:
-            what = {1: "position", 2: "clock", 3: "identity"}[status]
+            what = {_START_BAD_PIECES: "position", _START_BAD_CLOCK: "clock",
+                    _START_BAD_IDENTITY: "identity"}[status]
             raise BadValue(f"the {what} of a board is out of its range")
 
     def change(self, square: str, piece: str) -> None:

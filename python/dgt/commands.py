@@ -84,18 +84,18 @@ class StrayByte:
 Command = Asked | ClockMessage | Leds
 Word = Command | BadSize | BadStart | BadEnd | StrayByte
 
-_COMMAND, _BAD_SIZE, _BAD_START, _BAD_END, _STRAY = range(1, 6)
-_CLOCK_MESSAGE, _LEDS = 0x2B, 0x60
+_COMMAND, _BAD_SIZE, _BAD_START, _BAD_END, _STRAY_BYTE = range(1, 6)
+_SEND_CLOCK_MESSAGE, _SEND_LEDS = 0x2B, 0x60
 
 
 def read_word(told: CommandStruct, word: bytearray) -> Word:
     """The command or fault that the library tells, where it tells one."""
     if told.kind == _COMMAND:
-        if told.code == _CLOCK_MESSAGE:
+        if told.code == _SEND_CLOCK_MESSAGE:
             return ClockMessage(told.id, bytes(word[4:told.word_len - 1]))
-        if told.code == _LEDS:
+        if told.code == _SEND_LEDS:
             return Leds(bytes(word[2:told.word_len]))
         return Asked(Ask(told.code))
-    if told.kind == _STRAY:
+    if told.kind == _STRAY_BYTE:
         return StrayByte(told.byte)
     return {_BAD_SIZE: BadSize, _BAD_START: BadStart, _BAD_END: BadEnd}[told.kind]()

@@ -159,12 +159,12 @@ class NoClock:
 
 Clock = Times | NoClock
 
-_TIMES, _NONE = 1, 2
+_CLOCK_TIMES, _CLOCK_NONE = 1, 2
 
 
 def read_clock(told: ClockStruct) -> Clock:
     """The clock that the library tells, where it tells one: the kind is not 0."""
-    if told.kind == _NONE:
+    if told.kind == _CLOCK_NONE:
         return NoClock(bytes(told.raw), told.status)
     first, second = (Time(each.hours, each.minutes, each.seconds, each.flags)
                      for each in (told.first, told.second))
@@ -188,11 +188,11 @@ def clock_struct(clock: Clock) -> ClockStruct:
     """The clock for the library, which looks at its ranges. `TypeError` where it is none, and
     `BadValue` where something in it is no byte, or `raw` is not six bytes."""
     if isinstance(clock, Times):
-        return ClockStruct(_TIMES, byte(clock.status, "a status"), (c_uint8 * 6)(),
+        return ClockStruct(_CLOCK_TIMES, byte(clock.status, "a status"), (c_uint8 * 6)(),
                            _time_struct(clock.first), _time_struct(clock.second))
     if isinstance(clock, NoClock):
         raw = plain_bytes(clock.raw)
         if raw is None or len(raw) != 6:
             raise BadValue(f"no six bytes: {clock.raw!r}")
-        return ClockStruct(_NONE, byte(clock.status, "a status"), (c_uint8 * 6)(*raw))
+        return ClockStruct(_CLOCK_NONE, byte(clock.status, "a status"), (c_uint8 * 6)(*raw))
     raise TypeError(f"no clock: {clock!r}")

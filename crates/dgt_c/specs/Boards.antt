@@ -9,13 +9,13 @@ use Rattle.dgt_c.specs.Commands.{CommandTelling, TellsCommand}
 use Rattle.dgt_c.specs.Reading.{ReadsWord}
 use Rattle.dgt_c.specs.declared.board_calls.DgtPolled.{DgtPolled}
 use Rattle.dgt_c.specs.declared.board_calls.DgtTaken.{DgtTaken}
-use Rattle.dgt_c.specs.declared.board_calls.TheConstants.{POLLED_NEED_ROOM, POLLED_NOTHING, POLLED_WROTE}
+use Rattle.dgt_c.specs.declared.board_calls.TheConstants.{MODE_IDLE, MODE_UPDATE, MODE_UPDATE_BOARD, MODE_UPDATE_NICE, POLLED_NEED_ROOM, POLLED_NOTHING, POLLED_WROTE}
 
 abbrev pub mode_number : Mode → ℕ
-mode_number Mode.Idle = 0
-mode_number Mode.Update = 1
-mode_number Mode.UpdateBoard = 2
-mode_number Mode.UpdateNice = 3
+mode_number Mode.Idle = MODE_IDLE
+mode_number Mode.Update = MODE_UPDATE
+mode_number Mode.UpdateBoard = MODE_UPDATE_BOARD
+mode_number Mode.UpdateNice = MODE_UPDATE_NICE
 
 -- The board used so many bytes, up to and including the first that completes a word, or all of
 -- them, and the word is told.

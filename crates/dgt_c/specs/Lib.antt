@@ -11,6 +11,7 @@ pub mod Boards
 pub mod Starting
 pub mod PlainBoard
 -- Where handles and what they own lie.
+pub mod Layouts
 pub mod HostLending
 pub mod HostPlace
 pub mod DecoderLending

@@ -23,6 +23,14 @@ pub const POLLED_WROTE: u8 = 1;
 
 pub const POLLED_NEED_ROOM: u8 = 2;
 
+pub const MODE_IDLE: u8 = 0;
+
+pub const MODE_UPDATE: u8 = 1;
+
+pub const MODE_UPDATE_BOARD: u8 = 2;
+
+pub const MODE_UPDATE_NICE: u8 = 3;
+
 /// How a taking went, as dgt.h says it.
 #[repr(C)]
 #[derive(Clone, Copy)]
@@ -170,10 +178,10 @@ pub extern "C" fn dgt_board_mode(board: &mut DgtBoard) -> u8
     ensures mode { result ≡ mode_number board.old.inside.state.mode }
 {
     match board.get().mode() {
-        Mode::Idle => 0,
-        Mode::Update => 1,
-        Mode::UpdateBoard => 2,
-        Mode::UpdateNice => 3,
+        Mode::Idle => MODE_IDLE,
+        Mode::Update => MODE_UPDATE,
+        Mode::UpdateBoard => MODE_UPDATE_BOARD,
+        Mode::UpdateNice => MODE_UPDATE_NICE,
     }
 }
 

@@ -7,6 +7,9 @@ ghost use Rattle.dgt_c.specs.Slices.{overwritten, with_text};
 
 use dgt_values::Position;
 
+/// Room for each placement and a zero.
+pub const PLACEMENT_ROOM: usize = 72;
+
 /// Writes as many of the bytes as there is room for to the front of the slice.
 #[inline(always)]
 pub(crate) fn overwrite(bytes: &[u8], out: &mut [u8])
@@ -23,7 +26,7 @@ pub(crate) fn overwrite(bytes: &[u8], out: &mut [u8])
 }
 
 /// Writes the placement of a position and a zero to the front of the slice.
-pub(crate) fn put_placement(position: &Position, text: &mut [u8; 72])
+pub(crate) fn put_placement(position: &Position, text: &mut [u8; PLACEMENT_ROOM])
     ensures { text.new ≡ with_text (placement_text (pieces_of position.now)) text.old }
 {
     let placement = position.placement();

@@ -1,12 +1,190 @@
-//! What holds of the structs that cross to C. Nothing here runs: each function stands for the fact
-//! that its contract states.
+//! What holds of the numbers and the structs that cross to C. Nothing here runs: each function
+//! stands for the fact that its contract states.
 
+ghost use Rattle.std.specs.Prelude.{◌≡◌, ◌∷◌, [], ℕ, List};
 ghost use Rattle.dgt_values.specs.Equality.{CloneIsSame};
+ghost use Rattle.dgt_command.specs.Content.{ClockContent, CommandContent};
+ghost use Rattle.dgt_command.specs.Ids.{id_number};
+ghost use Rattle.dgt_command.specs.Spelling.{command_code};
+ghost use Rattle.dgt_command.specs.declared.ids.KnownId.{KnownId};
+ghost use Rattle.dgt_c.specs.Layouts.{Ascend, LiesAs, bit_alone};
+ghost use Rattle.dgt_c.specs.BoardPlace.{room_size as board_room};
+ghost use Rattle.dgt_c.specs.CommandDecoderPlace.{room_size as command_decoder_room};
+ghost use Rattle.dgt_c.specs.DecoderPlace.{room_size as decoder_room};
+ghost use Rattle.dgt_c.specs.HostPlace.{room_size as host_room};
+ghost use Rattle.dgt_c.specs.contracts.board_calls.DgtPolled.{the_row as polled_row};
+ghost use Rattle.dgt_c.specs.contracts.board_calls.DgtTaken.{the_row as taken_row};
+ghost use Rattle.dgt_c.specs.contracts.board_place.BoardPlace.{the_row as board_row};
+ghost use Rattle.dgt_c.specs.contracts.clocks.DgtClock.{the_row as clock_row};
+ghost use Rattle.dgt_c.specs.contracts.clocks.DgtTime.{the_row as time_row};
+ghost use Rattle.dgt_c.specs.contracts.command_decoder_place.CommandDecoderPlace.{the_row as command_decoder_row};
+ghost use Rattle.dgt_c.specs.contracts.commands.DgtCommand.{the_row as command_row};
+ghost use Rattle.dgt_c.specs.contracts.decoder_place.DecoderPlace.{the_row as decoder_row};
+ghost use Rattle.dgt_c.specs.contracts.events.DgtEvent.{the_row as event_row};
+ghost use Rattle.dgt_c.specs.contracts.host_place.HostPlace.{the_row as host_row};
+ghost use Rattle.dgt_c.specs.contracts.placements.DgtParsed.{the_row as parsed_row};
+ghost use Rattle.dgt_c.specs.contracts.sending.DgtSent.{the_row as sent_row};
+ghost use Rattle.dgt_c.specs.contracts.starting.DgtBody.{the_row as body_row};
+ghost use Rattle.dgt_c.specs.contracts.starting.DgtIdentity.{the_row as identity_row};
 
+use crate::board_calls::{
+    MODE_IDLE, MODE_UPDATE, MODE_UPDATE_BOARD, MODE_UPDATE_NICE, POLLED_NEED_ROOM, POLLED_NOTHING,
+    POLLED_WROTE,
+};
+use crate::clocks::{CLOCK_NONE, CLOCK_TIMES, CLOCK_UNKNOWN};
+use crate::commands::{
+    COMMAND_BAD_END, COMMAND_BAD_SIZE, COMMAND_BAD_START, COMMAND_NONE, COMMAND_READ, COMMAND_STRAY,
+};
+use crate::copying::PLACEMENT_ROOM;
+use crate::events::{
+    EVENT_ACK, EVENT_BAD_LENGTH, EVENT_BATTERY, EVENT_CUT, EVENT_DUMP, EVENT_FIELD,
+    EVENT_LONG_SERIAL, EVENT_NO_CLOCK, EVENT_NONE, EVENT_OTHER, EVENT_REFUSED, EVENT_SERIAL,
+    EVENT_STRAY, EVENT_TIMES, EVENT_TRADEMARK, EVENT_VERSION, FAULT_BAD_PIECE, FAULT_BAD_READING,
+    FAULT_BAD_SQUARE, FAULT_NONE, FAULT_WRONG_SIZE,
+};
+use crate::plain::NONE;
+use crate::sending::{SENT, SENT_NO_COMMAND, SENT_NO_ROOM, SENT_TOO_MANY};
+use crate::starting::{START_BAD_CLOCK, START_BAD_IDENTITY, START_BAD_PIECES, STARTED};
 use crate::{
     DgtBody, DgtClock, DgtCommand, DgtEvent, DgtIdentity, DgtParsed, DgtPolled, DgtSent, DgtTaken,
     DgtTime,
 };
+use dgt_board::{MAX_KEPT_BODY, MAX_OWED, MAX_SENT};
+use dgt_command::{MAX_LED_BYTES, MAX_PAYLOAD, MAX_WORD};
+use dgt_host::{MAX_AWAITED, RESTART_LENGTH};
+use dgt_values::MAX_BODY;
+
+/// The numbers of `dgt.h`. Each clause has the name of a constant there, in small letters and
+/// without `DGT_`. `checks/c_numbers` reads these numbers, and compares the header and the package
+/// for Python with them.
+pub fn limits()
+    ensures max_body { MAX_BODY ≡ 16380 }
+    ensures max_word { MAX_WORD ≡ 257 }
+    ensures max_payload { MAX_PAYLOAD ≡ 252 }
+    ensures max_leds { MAX_LED_BYTES ≡ 255 }
+    ensures max_awaited { MAX_AWAITED ≡ 16 }
+    ensures restart_length { RESTART_LENGTH ≡ 257 }
+    ensures max_owed { MAX_OWED ≡ 8 }
+    ensures max_sent { MAX_SENT ≡ 67 }
+    ensures max_kept { MAX_KEPT_BODY ≡ 64 }
+    ensures placement_room { PLACEMENT_ROOM ≡ 72 }
+    ensures no_such { NONE ≡ 255 }
+    ensures host_size { host_room ≡ 16520 }
+    ensures decoder_size { decoder_room ≡ 16416 }
+    ensures command_decoder_size { command_decoder_room ≡ 288 }
+    ensures board_size { board_room ≡ 712 }
+    ensures clock_unknown { CLOCK_UNKNOWN ≡ 0 }
+    ensures clock_times { CLOCK_TIMES ≡ 1 }
+    ensures clock_none { CLOCK_NONE ≡ 2 }
+    ensures status_running { bit_alone 0 ≡ 0x01 }
+    ensures status_lever { bit_alone 1 ≡ 0x02 }
+    ensures status_battery_low { bit_alone 2 ≡ 0x04 }
+    ensures status_black_turn { bit_alone 3 ≡ 0x08 }
+    ensures status_white_turn { bit_alone 4 ≡ 0x10 }
+    ensures status_absent { bit_alone 5 ≡ 0x20 }
+    ensures event_none { EVENT_NONE ≡ 0 }
+    ensures event_dump { EVENT_DUMP ≡ 1 }
+    ensures event_field { EVENT_FIELD ≡ 2 }
+    ensures event_times { EVENT_TIMES ≡ 3 }
+    ensures event_no_clock { EVENT_NO_CLOCK ≡ 4 }
+    ensures event_ack { EVENT_ACK ≡ 5 }
+    ensures event_serial { EVENT_SERIAL ≡ 6 }
+    ensures event_trademark { EVENT_TRADEMARK ≡ 7 }
+    ensures event_version { EVENT_VERSION ≡ 8 }
+    ensures event_battery { EVENT_BATTERY ≡ 9 }
+    ensures event_long_serial { EVENT_LONG_SERIAL ≡ 10 }
+    ensures event_other { EVENT_OTHER ≡ 11 }
+    ensures event_refused { EVENT_REFUSED ≡ 12 }
+    ensures event_cut { EVENT_CUT ≡ 13 }
+    ensures event_bad_length { EVENT_BAD_LENGTH ≡ 14 }
+    ensures event_stray { EVENT_STRAY ≡ 15 }
+    ensures no_fault { FAULT_NONE ≡ 0 }
+    ensures wrong_size { FAULT_WRONG_SIZE ≡ 1 }
+    ensures bad_piece { FAULT_BAD_PIECE ≡ 2 }
+    ensures bad_square { FAULT_BAD_SQUARE ≡ 3 }
+    ensures bad_reading { FAULT_BAD_READING ≡ 4 }
+    ensures no_word { COMMAND_NONE ≡ 0 }
+    ensures command { COMMAND_READ ≡ 1 }
+    ensures bad_size { COMMAND_BAD_SIZE ≡ 2 }
+    ensures bad_start { COMMAND_BAD_START ≡ 3 }
+    ensures bad_end { COMMAND_BAD_END ≡ 4 }
+    ensures stray_byte { COMMAND_STRAY ≡ 5 }
+    ensures send_clock_message { (message : ClockContent) →
+        command_code (CommandContent.ClockMessage message) ≡ 0x2b }
+    ensures send_reset { command_code CommandContent.Reset ≡ 0x40 }
+    ensures send_clock { command_code CommandContent.Clock ≡ 0x41 }
+    ensures send_dump { command_code CommandContent.Dump ≡ 0x42 }
+    ensures send_update { command_code CommandContent.Update ≡ 0x43 }
+    ensures send_update_board { command_code CommandContent.UpdateBoard ≡ 0x44 }
+    ensures send_serial { command_code CommandContent.Serial ≡ 0x45 }
+    ensures send_trademark { command_code CommandContent.Trademark ≡ 0x47 }
+    ensures send_update_nice { command_code CommandContent.UpdateNice ≡ 0x4b }
+    ensures send_battery { command_code CommandContent.Battery ≡ 0x4c }
+    ensures send_version { command_code CommandContent.Version ≡ 0x4d }
+    ensures send_long_serial { command_code CommandContent.LongSerial ≡ 0x55 }
+    ensures send_leds { (leds : List ℕ) → command_code (CommandContent.Leds leds) ≡ 0x60 }
+    ensures id_display { id_number KnownId.Display ≡ 0x01 }
+    ensures id_icons { id_number KnownId.Icons ≡ 0x02 }
+    ensures id_end { id_number KnownId.End ≡ 0x03 }
+    ensures id_button { id_number KnownId.Button ≡ 0x08 }
+    ensures id_version { id_number KnownId.Version ≡ 0x09 }
+    ensures id_set_and_run { id_number KnownId.SetAndRun ≡ 0x0a }
+    ensures id_beep { id_number KnownId.Beep ≡ 0x0b }
+    ensures id_text { id_number KnownId.Text ≡ 0x0c }
+    ensures sent { SENT ≡ 0 }
+    ensures too_many { SENT_TOO_MANY ≡ 1 }
+    ensures no_room { SENT_NO_ROOM ≡ 2 }
+    ensures no_command { SENT_NO_COMMAND ≡ 3 }
+    ensures started { STARTED ≡ 0 }
+    ensures start_bad_pieces { START_BAD_PIECES ≡ 1 }
+    ensures start_bad_clock { START_BAD_CLOCK ≡ 2 }
+    ensures start_bad_identity { START_BAD_IDENTITY ≡ 3 }
+    ensures nothing { POLLED_NOTHING ≡ 0 }
+    ensures wrote { POLLED_WROTE ≡ 1 }
+    ensures need_room { POLLED_NEED_ROOM ≡ 2 }
+    ensures mode_idle { MODE_IDLE ≡ 0 }
+    ensures mode_update { MODE_UPDATE ≡ 1 }
+    ensures mode_update_board { MODE_UPDATE_BOARD ≡ 2 }
+    ensures mode_update_nice { MODE_UPDATE_NICE ≡ 3 }
+{}
+
+/// No two cases of one kind have the same number: each has a greater one than the case before it.
+pub fn cases_differ()
+    ensures clocks { Ascend (CLOCK_UNKNOWN ∷ CLOCK_TIMES ∷ CLOCK_NONE ∷ []) }
+    ensures events { Ascend (EVENT_NONE ∷ EVENT_DUMP ∷ EVENT_FIELD ∷ EVENT_TIMES ∷ EVENT_NO_CLOCK
+        ∷ EVENT_ACK ∷ EVENT_SERIAL ∷ EVENT_TRADEMARK ∷ EVENT_VERSION ∷ EVENT_BATTERY
+        ∷ EVENT_LONG_SERIAL ∷ EVENT_OTHER ∷ EVENT_REFUSED ∷ EVENT_CUT ∷ EVENT_BAD_LENGTH
+        ∷ EVENT_STRAY ∷ []) }
+    ensures faults { Ascend (FAULT_NONE ∷ FAULT_WRONG_SIZE ∷ FAULT_BAD_PIECE ∷ FAULT_BAD_SQUARE
+        ∷ FAULT_BAD_READING ∷ []) }
+    ensures words { Ascend (COMMAND_NONE ∷ COMMAND_READ ∷ COMMAND_BAD_SIZE ∷ COMMAND_BAD_START
+        ∷ COMMAND_BAD_END ∷ COMMAND_STRAY ∷ []) }
+    ensures sendings { Ascend (SENT ∷ SENT_TOO_MANY ∷ SENT_NO_ROOM ∷ SENT_NO_COMMAND ∷ []) }
+    ensures starts { Ascend (STARTED ∷ START_BAD_PIECES ∷ START_BAD_CLOCK ∷ START_BAD_IDENTITY
+        ∷ []) }
+    ensures polls { Ascend (POLLED_NOTHING ∷ POLLED_WROTE ∷ POLLED_NEED_ROOM ∷ []) }
+    ensures modes { Ascend (MODE_IDLE ∷ MODE_UPDATE ∷ MODE_UPDATE_BOARD ∷ MODE_UPDATE_NICE ∷ []) }
+{}
+
+/// How the structs of `dgt.h` lie in memory: how many bytes each takes, the multiple at which it
+/// lies, and where its members begin, in the order of its declaration.
+pub fn layouts()
+    ensures host { LiesAs host_row 16520 8 (0 ∷ 8 ∷ []) }
+    ensures decoder { LiesAs decoder_row 16416 8 (0 ∷ 8 ∷ []) }
+    ensures command_decoder { LiesAs command_decoder_row 288 8 (0 ∷ 8 ∷ []) }
+    ensures board { LiesAs board_row 712 8 (0 ∷ 8 ∷ []) }
+    ensures time { LiesAs time_row 4 1 (0 ∷ 1 ∷ 2 ∷ 3 ∷ []) }
+    ensures clock { LiesAs clock_row 16 1 (0 ∷ 1 ∷ 2 ∷ 8 ∷ 12 ∷ []) }
+    ensures event { LiesAs event_row 128 8 (0 ∷ 1 ∷ 2 ∷ 3 ∷ 4 ∷ 5 ∷ 6 ∷ 7 ∷ 8 ∷ 9 ∷ 10 ∷ 14 ∷ 19
+        ∷ 35 ∷ 104 ∷ 112 ∷ 120 ∷ []) }
+    ensures command { LiesAs command_row 16 8 (0 ∷ 1 ∷ 2 ∷ 3 ∷ 8 ∷ []) }
+    ensures sent { LiesAs sent_row 16 8 (0 ∷ 8 ∷ []) }
+    ensures body { LiesAs body_row 72 8 (0 ∷ 8 ∷ []) }
+    ensures identity { LiesAs identity_row 224 8 (0 ∷ 5 ∷ 6 ∷ 7 ∷ 8 ∷ 80 ∷ 152 ∷ []) }
+    ensures taken { LiesAs taken_row 16 8 (0 ∷ 8 ∷ []) }
+    ensures polled { LiesAs polled_row 16 8 (0 ∷ 8 ∷ []) }
+    ensures parsed { LiesAs parsed_row 16 8 (0 ∷ 8 ∷ []) }
+{}
 
 /// A clone is the value itself, and cloning never fails.
 pub fn clone_is_same()

@@ -8,7 +8,7 @@ ghost use Rattle.dgt_c.specs.Kinds.{asking_code};
 ghost use Rattle.dgt_c.specs.Slices.{with_text};
 
 use crate::clocks::{DgtClock, UNKNOWN_CLOCK, clock_told};
-use crate::copying::put_placement;
+use crate::copying::{PLACEMENT_ROOM, put_placement};
 use crate::host::DgtHost;
 use dgt_host::MAX_AWAITED;
 use dgt_values::Kind;
@@ -33,7 +33,7 @@ pub extern "C" fn dgt_host_picture(host: &mut DgtHost, pieces: &mut [u8; 64]) ->
 
 /// The placement of the pieces and a zero, where they are known; else the slice stays.
 #[unsafe(no_mangle)]
-pub extern "C" fn dgt_host_placement(host: &mut DgtHost, text: &mut [u8; 72]) -> bool
+pub extern "C" fn dgt_host_placement(host: &mut DgtHost, text: &mut [u8; PLACEMENT_ROOM]) -> bool
     ensures place { host.new.at ≡ host.old.at }
     ensures same { host.new.inside ≡ host.old.inside }
     ensures known { IsTrue result ↔ IsSome host.old.inside.picture }
@@ -89,7 +89,7 @@ fn put_kinds(kinds: &[Kind], codes: &mut [u8; MAX_AWAITED])
 /// How many replies are awaited. The bytes of the commands that asked for them stand at the front
 /// of the slice, in their order.
 #[unsafe(no_mangle)]
-pub extern "C" fn dgt_host_awaited(host: &mut DgtHost, codes: &mut [u8; 16]) -> usize
+pub extern "C" fn dgt_host_awaited(host: &mut DgtHost, codes: &mut [u8; MAX_AWAITED]) -> usize
     ensures place { host.new.at ≡ host.old.at }
     ensures same { host.new.inside ≡ host.old.inside }
     ensures length { result ≡ length host.old.inside.awaited }

@@ -8,7 +8,7 @@ ghost use Rattle.dgt_c.specs.Starting.{ArePieces};
 ghost use Rattle.dgt_c.specs.Slices.{with_text};
 
 use crate::checking::read_position;
-use crate::copying::put_placement;
+use crate::copying::{PLACEMENT_ROOM, put_placement};
 use dgt_values::{BadPlacement, Position};
 
 /// What a text is read as, as dgt.h says it.
@@ -22,7 +22,7 @@ pub struct DgtParsed {
 /// Writes the placement of the pieces with these codes, and a zero. False where one of them is the
 /// code of none, and then the slice stays.
 #[unsafe(no_mangle)]
-pub extern "C" fn dgt_placement(pieces: &[u8; 64], text: &mut [u8; 72]) -> bool
+pub extern "C" fn dgt_placement(pieces: &[u8; 64], text: &mut [u8; PLACEMENT_ROOM]) -> bool
     ensures written { IsTrue result → (stand : List Piece) × (map piece_code stand ≡ pieces.now)
         × (text.new ≡ with_text (placement_text stand) text.old) }
     ensures none { result ≡ false → ¬ (ArePieces pieces.now) × (text.new ≡ text.old) }

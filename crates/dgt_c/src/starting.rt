@@ -27,7 +27,7 @@ pub const START_BAD_IDENTITY: u8 = 3;
 #[derive(Clone, Copy)]
 pub struct DgtBody {
     pub len: usize,
-    pub bytes: [u8; 64],
+    pub bytes: [u8; MAX_KEPT_BODY],
 }
 
 /// What a board tells of itself, as dgt.h says it.

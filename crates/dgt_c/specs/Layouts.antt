@@ -1,0 +1,19 @@
+-- Numbers and structs as C has them.
+use Rattle.std.specs.Prelude.{⊤, ℕ, ◌<◌, ◌^◌, List, ◌∷◌}
+use denote.RattleType.{RattleType}
+use denote.Memory.{lone}
+use prog.Offsets.{Lies}
+
+-- the number of which bit k alone is set
+abbrev pub bit_alone : ℕ → ℕ
+bit_alone k = 2 ^ k
+
+-- each number is greater than the one before it
+abbrev pub Ascend : List ℕ → Type 0
+Ascend (a ∷ b ∷ rest) = (a < b) × Ascend (b ∷ rest)
+Ascend _ = ⊤
+
+-- A value of the type takes so many bytes and lies at a multiple of this alignment. Its members
+-- begin at these offsets, in the order of its declaration.
+abbrev pub LiesAs : RattleType → ℕ → ℕ → List ℕ → Type 0
+LiesAs row size alignment offsets = Lies (lone row.mir) size alignment offsets
