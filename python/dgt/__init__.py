@@ -1,15 +1,30 @@
 """The host of a DGT electronic chess board, a decoder, a reader of commands, and a board.
 
-    host = dgt.Host()
-    line.write(host.restart())
-    for event in host.hear(line.read(64)):
-        print(event, host.picture)
+A host reads a board's bytes and keeps a picture of the board. Nothing in this package opens a line.
+With pyserial, this program shows the position after each event:
 
-Nothing here opens a line. The objects are those of the proved library libdgt, which lie in memory
-of Python's. Each has a lock, so that threads may share it: a call waits for that of another thread,
-and raises `Nested` within one of its own thread. No call can make the program crash. A process that
-was forked while another thread was in a call of an object must not use that object: its calls would
-wait for ever.
+    >>> import dgt, serial
+    >>> line = serial.Serial("/dev/ttyUSB0", 9600, timeout=1)
+    >>> host = dgt.Host()
+    >>> sent = line.write(host.restart())
+    >>> while line.is_open:
+    ...     chunk = line.read(line.in_waiting or 1)
+    ...     for event in host.hear_each(chunk):
+    ...         print(type(event).__name__, host.placement)
+    Dump rnbqkbnr/pppppppp/8/8/8/8/PPPPPPPP/RNBQKBNR
+    Field rnbqkbnr/pppppppp/8/8/8/8/PPPP1PPP/RNBQKBNR
+    Field rnbqkbnr/pppppppp/8/8/4P3/8/PPPP1PPP/RNBQKBNR
+
+`read` waits for all the bytes that it is asked for, or until the timeout. The loop therefore asks
+for those that are there (`in_waiting`), or else for one. `hear_each` hears a byte once the event
+before it was taken, so that the picture is the picture after that event; `hear` hears the whole
+chunk first.
+
+The objects are those of the proved library libdgt, in memory that Python owns. Each object has a
+lock, so that threads may share it: a call waits for a call of another thread, and raises `Nested`
+within a call of its own thread. No call can make the program crash. If a process was forked while
+another thread was in a call of an object, it must not use that object: its calls would wait for
+ever.
 """
 
 from .board import Board, Identity, Mode
@@ -23,6 +38,8 @@ from .events import (Ack, BadLength, Battery, Cut, Dump, Event, Fault, Field, Lo
 from .host import Host
 from .values import (LETTERS, SQUARES, Clock, NoClock, Position, Time, Times, piece_code, segment,
                      square_number)
+
+__version__ = "0.1.0"
 
 __all__ = [
     "Ack", "Ask", "Asked", "BadEnd", "BadLength", "BadPlacement", "BadSize", "BadStart", "BadValue",

@@ -12,14 +12,16 @@ from typing import Any, NoReturn, Self, TypeVar
 from ._library import dgt
 from .errors import Closed, Nested
 
+Bytes = bytes | bytearray | memoryview
+
 _Answer = TypeVar("_Answer")
 
 
-def readable(piece: Any) -> tuple[bytes, int]:
-    """The bytes of an object that has some, and where they lie as long as they are kept.
-    `TypeError` where it has none."""
-    held = piece if type(piece) is bytes else bytes(memoryview(piece))
-    return held, ctypes.cast(held, ctypes.c_void_p).value or 0
+def readable(chunk: Bytes) -> tuple[bytes, int]:
+    """Returns the bytes of a chunk and their address, which holds as long as they are kept.
+    `TypeError` if the object has no bytes."""
+    held = chunk if type(chunk) is bytes else bytes(memoryview(chunk))
+    return held, ctypes.cast(ctypes.c_char_p(held), ctypes.c_void_p).value or 0
 
 
 def writable(size: int) -> tuple[bytearray, int]:
@@ -33,6 +35,7 @@ class Handle:
     when nothing refers to it."""
 
     _prefix: str
+    _lock: threading.RLock
 
     def __init__(self) -> None:
         # Other threads wait for the lock. The thread that holds it takes it once more, and is told

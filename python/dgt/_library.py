@@ -7,6 +7,7 @@ import os
 import sys
 from ctypes import POINTER, Structure, c_bool, c_size_t, c_uint8, c_void_p
 from pathlib import Path
+from typing import Any
 
 MAX_BODY = 16380
 MAX_WORD = 257
@@ -74,7 +75,7 @@ _HANDLE = {
     "size": (c_size_t,),
     "init": (None, c_void_p),
 }
-_FUNCTIONS = {
+_FUNCTIONS: dict[str, dict[str, tuple[Any, ...]]] = {
     "dgt_host": _HANDLE | {
         "hear": (c_size_t, c_void_p, *_ROOM, c_void_p, *_ROOM),
         "follow": (SentStruct, c_void_p, *_ROOM),

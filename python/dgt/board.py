@@ -6,9 +6,8 @@ from collections.abc import Iterator
 from ctypes import byref, c_uint8
 from dataclasses import dataclass
 from enum import IntEnum
-from typing import Any
 
-from ._handle import Handle, readable, writable
+from ._handle import Bytes, Handle, readable, writable
 from ._library import (MAX_KEPT, MAX_SENT, MAX_WORD, BodyStruct, ClockStruct, CommandStruct,
                        IdentityStruct, dgt)
 from .commands import Word, read_word
@@ -60,8 +59,16 @@ def _body(body: bytes) -> BodyStruct:
 
 
 class Board(Handle):
-    """A board: what stands on its squares, its clock, and what it has still to tell. It owns no
-    line: hand it what comes from the host, and write what it gives to the line."""
+    r"""A board: what stands on its squares, its clock, and what it has still to send. It owns no
+    line: hand it what comes from the host, and write the messages that it returns to the line.
+
+    >>> board = Board()
+    >>> list(board.answers(b"\x44"))       # the host asks for changes from now on
+    []
+    >>> board.change("e2", ".")
+    >>> [message.hex(" ") for message in board.answers(b"\x4d")]  # and for the version
+    ['8e 00 05 34 00', '93 00 05 01 03']
+    """
 
     _prefix = "dgt_board"
 
@@ -96,11 +103,11 @@ class Board(Handle):
         if not self._call(dgt.dgt_board_hand_clock, byref(shown)):
             raise BadValue(f"no clock shows this: {clock!r}")
 
-    def take(self, piece: Any) -> tuple[int, Word | None]:
-        """Uses bytes of the host up to and including the first that completes a command or shows a
-        fault, or all of them: how many, and the command or fault. `Busy` where the board owes
-        eight replies."""
-        held, address = readable(piece)
+    def take(self, chunk: Bytes) -> tuple[int, Word | None]:
+        """Takes bytes of the host, up to and including the first that completes a command or shows
+        a fault, or else all. Returns how many it took, and the command or fault. `Busy` if the
+        board owes eight replies."""
+        held, address = readable(chunk)
         return self._call(self._taken, address, len(held))
 
     def _taken(self, at: int, address: int, size: int) -> tuple[int, Word | None]:
@@ -110,7 +117,8 @@ class Board(Handle):
         return taken.used, read_word(self._told, self._word) if self._told.kind else None
 
     def poll(self) -> bytes | None:
-        """The next message that is to be sent, where there is one. It is taken for sent."""
+        """Returns the next message to send, which then counts as sent, or `None` if there is
+        none."""
         return self._call(self._polled)
 
     def _polled(self, at: int) -> bytes | None:
@@ -118,19 +126,20 @@ class Board(Handle):
         return bytes(self._out[:polled.bytes]) if polled.status == _WROTE else None
 
     def messages(self) -> Iterator[bytes]:
-        """All messages that are to be sent, one after another."""
+        """Yields each message to send, until there is none."""
         self._check_open()
         return iter(self.poll, None)
 
-    def answers(self, piece: Any) -> Iterator[bytes]:
-        """Takes all of a host's bytes, and gives the messages that they ask for, one after another,
-        behind those that the board owes already. A command is taken once the messages before it
-        were."""
-        held, _ = readable(piece)
+    def answers(self, chunk: Bytes) -> Iterator[bytes]:
+        """Takes all of a host's bytes, and yields the messages to send: first those that were to be
+        sent already, and then the replies to each command. A command is taken once each message
+        before it was, so that a command that ends updates withholds none of them."""
+        held, _ = readable(chunk)
         self._check_open()
         return self._answered(held)
 
     def _answered(self, held: bytes) -> Iterator[bytes]:
+        yield from self.messages()
         at = 0
         while at < len(held):
             try:
@@ -142,7 +151,8 @@ class Board(Handle):
     @property
     def owes(self) -> bool:
         """Whether there is anything to send."""
-        return self._call(dgt.dgt_board_owes)
+        owes: bool = self._call(dgt.dgt_board_owes)
+        return owes
 
     @property
     def mode(self) -> Mode:

@@ -86,6 +86,8 @@ Word = Command | BadSize | BadStart | BadEnd | StrayByte
 
 _COMMAND, _BAD_SIZE, _BAD_START, _BAD_END, _STRAY_BYTE = range(1, 6)
 _SEND_CLOCK_MESSAGE, _SEND_LEDS = 0x2B, 0x60
+_FAULTS: dict[int, type[BadSize | BadStart | BadEnd]] = {
+    _BAD_SIZE: BadSize, _BAD_START: BadStart, _BAD_END: BadEnd}
 
 
 def read_word(told: CommandStruct, word: bytearray) -> Word:
@@ -98,4 +100,4 @@ def read_word(told: CommandStruct, word: bytearray) -> Word:
         return Asked(Ask(told.code))
     if told.kind == _STRAY_BYTE:
         return StrayByte(told.byte)
-    return {_BAD_SIZE: BadSize, _BAD_START: BadStart, _BAD_END: BadEnd}[told.kind]()
+    return _FAULTS[told.kind]()

@@ -5,16 +5,15 @@ from __future__ import annotations
 import ctypes
 from collections.abc import Iterator
 from ctypes import byref
-from typing import Any
 
-from ._handle import Handle, readable, writable
+from ._handle import Bytes, Handle, readable, writable
 from ._library import MAX_BODY, MAX_WORD, CommandStruct, EventStruct, dgt
 from .commands import Word, read_word
 from .events import Event, read_event
 
 
 class EventReader(Handle):
-    """Reads events from pieces of bytes: a host or a decoder."""
+    """Reads events from chunks of bytes: a host or a decoder."""
 
     _feed_name: str
 
@@ -25,8 +24,8 @@ class EventReader(Handle):
         self._body, self._body_at = writable(MAX_BODY)
         self._feed = getattr(dgt, f"{self._prefix}_{self._feed_name}")
 
-    def _all(self, piece: Any) -> list[Event]:
-        held, address = readable(piece)
+    def _all(self, chunk: Bytes) -> list[Event]:
+        held, address = readable(chunk)
         return self._call(self._events, address, address + len(held))
 
     def _events(self, at: int, address: int, end: int) -> list[Event]:
@@ -39,8 +38,8 @@ class EventReader(Handle):
                 append(read_event(told, self._body))
         return events
 
-    def _each(self, piece: Any) -> Iterator[Event]:
-        held = readable(piece)
+    def _each(self, chunk: Bytes) -> Iterator[Event]:
+        held = readable(chunk)
         self._check_open()
         return self._steps(*held)
 
@@ -63,26 +62,38 @@ class EventReader(Handle):
 
 
 class Decoder(EventReader):
-    """Tells the events of a board's bytes, in pieces of any length, and keeps no picture."""
+    r"""Reads a board's bytes, in chunks of any length, and returns their events. It keeps no
+    picture.
+
+    >>> decoder = Decoder()
+    >>> decoder.feed(b"\x8e\x00\x05\x24")
+    []
+    >>> decoder.rest
+    4
+    >>> decoder.feed(b"\x01")
+    [Field(square='e4', piece='P')]
+    """
 
     _prefix, _feed_name = "dgt_decoder", "feed"
 
-    def feed(self, piece: Any) -> list[Event]:
-        """The events that a piece of bytes makes."""
-        return self._all(piece)
+    def feed(self, chunk: Bytes) -> list[Event]:
+        """Returns the events of a chunk of bytes."""
+        return self._all(chunk)
 
-    def feed_each(self, piece: Any) -> Iterator[Event]:
-        """The same one after another. A byte is read once the event before it was taken."""
-        return self._each(piece)
+    def feed_each(self, chunk: Bytes) -> Iterator[Event]:
+        """Yields the same events. A byte is read once the event before it was taken."""
+        return self._each(chunk)
 
     @property
     def rest(self) -> int:
-        """How many bytes have come of a message that is not finished."""
-        return self._call(dgt.dgt_decoder_rest)
+        """The number of bytes that have come of an unfinished message."""
+        count: int = self._call(dgt.dgt_decoder_rest)
+        return count
 
     def finish(self) -> int:
-        """The same, at the end of the bytes. The decoder is as new then."""
-        return self._call(dgt.dgt_decoder_finish)
+        """Returns `rest` at the end of the bytes, and resets the decoder."""
+        count: int = self._call(dgt.dgt_decoder_finish)
+        return count
 
     def reset(self) -> None:
         """Makes the decoder as new."""
@@ -90,7 +101,11 @@ class Decoder(EventReader):
 
 
 class CommandDecoder(Handle):
-    """Tells the commands in a host's bytes, in pieces of any length."""
+    r"""Reads a host's bytes, in chunks of any length, and returns their commands and faults.
+
+    >>> CommandDecoder().feed(b"\x42\x99")
+    [Asked(ask=<Ask.DUMP: 66>), StrayByte(byte=153)]
+    """
 
     _prefix = "dgt_command_decoder"
 
@@ -99,9 +114,9 @@ class CommandDecoder(Handle):
         self._told = CommandStruct()
         self._word, self._word_at = writable(MAX_WORD)
 
-    def feed(self, piece: Any) -> list[Word]:
-        """The commands and faults that a piece of bytes makes."""
-        held, address = readable(piece)
+    def feed(self, chunk: Bytes) -> list[Word]:
+        """Returns the commands and faults of a chunk of bytes."""
+        held, address = readable(chunk)
         return self._call(self._words, address, address + len(held))
 
     def _words(self, at: int, address: int, end: int) -> list[Word]:
@@ -113,9 +128,9 @@ class CommandDecoder(Handle):
                 words.append(word)
         return words
 
-    def feed_each(self, piece: Any) -> Iterator[Word]:
-        """The same one after another. A byte is read once the word before it was taken."""
-        held = readable(piece)
+    def feed_each(self, chunk: Bytes) -> Iterator[Word]:
+        """Yields the same commands and faults. A byte is read once the one before it was taken."""
+        held = readable(chunk)
         self._check_open()
         return self._steps(*held)
 
@@ -134,12 +149,14 @@ class CommandDecoder(Handle):
 
     @property
     def rest(self) -> int:
-        """How many bytes have come of a command that is not finished."""
-        return self._call(dgt.dgt_command_decoder_rest)
+        """The number of bytes that have come of an unfinished command."""
+        count: int = self._call(dgt.dgt_command_decoder_rest)
+        return count
 
     def finish(self) -> int:
-        """The same, at the end of the bytes. The reader is as new then."""
-        return self._call(dgt.dgt_command_decoder_finish)
+        """Returns `rest` at the end of the bytes, and resets the reader."""
+        count: int = self._call(dgt.dgt_command_decoder_finish)
+        return count
 
     def reset(self) -> None:
         """Makes the reader as new."""

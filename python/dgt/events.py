@@ -134,10 +134,15 @@ def _carried(kind: Callable[[bytes, bool], Event]) -> _Maker:
     return lambda told, body: kind(bytes(body[:told.body_len]), bool(told.unasked))
 
 
+def _field(told: EventStruct, body: bytearray) -> Field:
+    field: Field = _FIELDS[told.square][told.piece]
+    return field
+
+
 # The event of each kind, from 1 on.
 _MAKERS: tuple[_Maker, ...] = (
     lambda told, body: Dump(Position(bytes(told.pieces)), bool(told.unasked)),
-    lambda told, body: _FIELDS[told.square][told.piece],
+    _field,
     lambda told, body: read_clock(told.clock),
     lambda told, body: read_clock(told.clock),
     lambda told, body: Ack(bytes(told.ack), told.ack_status),
@@ -155,5 +160,6 @@ _MAKERS: tuple[_Maker, ...] = (
 
 
 def read_event(told: EventStruct, body: bytearray) -> Event:
-    """The event that the library tells, where it tells one: the kind is not 0."""
-    return _MAKERS[told.kind - 1](told, body)
+    """Returns the event that the library has reported. Its kind must not be 0."""
+    make: _Maker = _MAKERS[told.kind - 1]
+    return make(told, body)

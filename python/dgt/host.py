@@ -4,9 +4,8 @@ from __future__ import annotations
 
 from collections.abc import Callable, Iterator
 from ctypes import byref, c_char, c_uint8
-from typing import Any
 
-from ._handle import readable, writable
+from ._handle import Bytes, readable, writable
 from ._library import (MAX_AWAITED, MAX_WORD, PLACEMENT_ROOM, RESTART_LENGTH, ClockStruct,
                        SentStruct, dgt)
 from .commands import Ask, ClockId
@@ -20,7 +19,14 @@ _SENT, _TOO_MANY, _NO_ROOM, _NO_COMMAND = range(4)
 
 class Host(EventReader):
     """Asks a board, and keeps a picture of it from what it hears. It owns no line: write what it
-    gives to the line, and have it hear what comes from there, in pieces of any length."""
+    returns to the line, and have it hear what comes from there, in chunks of any length.
+
+    >>> host, board = Host(), dgt.Board()
+    >>> for message in board.answers(host.follow()):
+    ...     for event in host.hear_each(message):
+    ...         print(type(event).__name__, host.placement)
+    Dump rnbqkbnr/pppppppp/8/8/8/8/PPPPPPPP/RNBQKBNR
+    """
 
     _prefix, _feed_name = "dgt_host", "hear"
 
@@ -28,14 +34,15 @@ class Host(EventReader):
         super().__init__()
         self._out, self._out_at = writable(max(RESTART_LENGTH, MAX_WORD))
 
-    def hear(self, piece: Any) -> list[Event]:
-        """The events that a piece of bytes makes. A message changes what the host knows."""
-        return self._all(piece)
+    def hear(self, chunk: Bytes) -> list[Event]:
+        """Hears a whole chunk of bytes, and returns its events. The host's picture is then the
+        picture after the last of them."""
+        return self._all(chunk)
 
-    def hear_each(self, piece: Any) -> Iterator[Event]:
-        """The same one after another. A byte is heard once the event before it was taken, so that
-        the host's picture is that behind the event."""
-        return self._each(piece)
+    def hear_each(self, chunk: Bytes) -> Iterator[Event]:
+        """Yields the events of a chunk of bytes. A byte is heard once the event before it was
+        taken, so that the host's picture is the picture after that event."""
+        return self._each(chunk)
 
     def _sent(self, send: Callable[..., SentStruct], *what: int) -> bytes:
         return self._call(self._send, send, what)
@@ -62,14 +69,14 @@ class Host(EventReader):
         of `Ask`, `TooManyAwaited` where it asks for a reply and no further one can be awaited."""
         return self._sent(dgt.dgt_host_send, byte(ask, "a command"))
 
-    def send_clock(self, id: ClockId | int, payload: Any = b"") -> bytes:
+    def send_clock(self, id: ClockId | int, payload: Bytes = b"") -> bytes:
         """A message to the clock. `BadValue` where the id is no byte, `NoSuchCommand` where the
         payload has more than 252 bytes, `TypeError` where it has none."""
         number = byte(id, "an id")
         held, address = readable(payload)
         return self._sent(dgt.dgt_host_send_clock, number, address, len(held))
 
-    def send_leds(self, leds: Any) -> bytes:
+    def send_leds(self, leds: Bytes) -> bytes:
         """An LED frame, of at most 255 bytes. `NoSuchCommand` where it has more."""
         held, address = readable(leds)
         return self._sent(dgt.dgt_host_send_leds, address, len(held))
@@ -111,8 +118,9 @@ class Host(EventReader):
 
     @property
     def unread(self) -> int:
-        """How many bytes were heard of a message that is not finished."""
-        return self._call(dgt.dgt_host_unread)
+        """The number of bytes that were heard of an unfinished message."""
+        count: int = self._call(dgt.dgt_host_unread)
+        return count
 
     def line_lost(self) -> None:
         """The line is lost, and what was under way on it: the host is as new."""

@@ -1,0 +1,86 @@
+"""Runs the examples of the docstrings of the package for Python, and of its README.md.
+
+A stand-in takes the place of pyserial, with a board at the other end of its port. As pyserial does,
+`read` waits for all the bytes that it is asked for, or for the timeout.
+"""
+
+import doctest
+import importlib
+import pathlib
+import pkgutil
+import sys
+import types
+
+HAPPENINGS = [("e2", "."), ("e4", "P")]
+
+
+class Wrong(Exception):
+    """An example shows something else than it does."""
+
+
+class Port:
+    """A port of pyserial. A pawn of the board goes from e2 to e4 while a read waits for bytes, and
+    then the port closes."""
+
+    def __init__(self, board, timeout):
+        self.is_open = True
+        self._board, self._timeout = board, timeout
+        self._sent, self._happenings = bytearray(), list(HAPPENINGS)
+
+    @property
+    def in_waiting(self):
+        return len(self._sent)
+
+    def write(self, chunk):
+        self._sent += b"".join(self._board.answers(chunk))
+        return len(chunk)
+
+    def read(self, size=1):
+        if not self.is_open:
+            raise Wrong("an example reads from a closed port")
+        while len(self._sent) < size and self._happenings:
+            self._board.change(*self._happenings.pop(0))
+            self._sent += b"".join(self._board.messages())
+        if len(self._sent) < size:
+            if self._timeout is None:
+                raise Wrong("an example waits for ever")
+            self.is_open = False
+        chunk = bytes(self._sent[:size])
+        del self._sent[:size]
+        return chunk
+
+
+def stand_in(dgt):
+    """A module in the place of pyserial."""
+    serial = types.ModuleType("serial")
+    serial.Serial = lambda port, baudrate=9600, timeout=None: Port(dgt.Board(), timeout)
+    return serial
+
+
+def tests(dgt, readme):
+    """The examples of each docstring and of README.md, with the names of the package."""
+    names = {name: getattr(dgt, name) for name in dgt.__all__} | {"dgt": dgt}
+    modules = [dgt] + [importlib.import_module(f"dgt.{each.name}")
+                       for each in pkgutil.iter_modules(dgt.__path__)]
+    finder = doctest.DocTestFinder(exclude_empty=True)
+    for module in modules:
+        yield from finder.find(module, module.__name__, globs=names)
+    text = readme.read_text()
+    yield doctest.DocTestParser().get_doctest(text, names, readme.name, str(readme), 1)
+
+
+def check(dgt, folder):
+    """Runs all examples, and returns how many there are. None that a file shows is left out."""
+    sys.modules["serial"] = stand_in(dgt)
+    readme = folder / "README.md"
+    runner, told = doctest.DocTestRunner(), []
+    for test in tests(dgt, readme):
+        runner.run(test, out=told.append)
+    if runner.failures:
+        raise Wrong("".join(told))
+    sources = [readme, *pathlib.Path(folder, "dgt").glob("*.py")]
+    shown = sum(line.lstrip().startswith(">>> ")
+                for source in sources for line in source.read_text().splitlines())
+    if runner.tries != shown:
+        raise Wrong(f"{runner.tries} examples were run, of {shown}")
+    return shown
