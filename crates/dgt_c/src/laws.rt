@@ -7,25 +7,35 @@ ghost use Rattle.dgt_command.specs.Content.{ClockContent, CommandContent};
 ghost use Rattle.dgt_command.specs.Ids.{id_number};
 ghost use Rattle.dgt_command.specs.Spelling.{command_code};
 ghost use Rattle.dgt_command.specs.declared.ids.KnownId.{KnownId};
-ghost use Rattle.dgt_c.specs.Layouts.{Ascend, LiesAs, bit_alone};
+ghost use Rattle.dgt_c.specs.Layouts.{◌⊗◌, Ascend, LiesAs, bit_alone};
 ghost use Rattle.dgt_c.specs.BoardPlace.{room_size as board_room};
 ghost use Rattle.dgt_c.specs.CommandDecoderPlace.{room_size as command_decoder_room};
 ghost use Rattle.dgt_c.specs.DecoderPlace.{room_size as decoder_room};
 ghost use Rattle.dgt_c.specs.HostPlace.{room_size as host_room};
-ghost use Rattle.dgt_c.specs.contracts.board_calls.DgtPolled.{the_row as polled_row};
-ghost use Rattle.dgt_c.specs.contracts.board_calls.DgtTaken.{the_row as taken_row};
+ghost use Rattle.dgt_c.specs.contracts.board_calls.DgtPolled.{the_row as polled_row, the_type as polled_type};
+ghost use Rattle.dgt_c.specs.contracts.board_calls.DgtTaken.{the_row as taken_row, the_type as taken_type};
 ghost use Rattle.dgt_c.specs.contracts.board_place.BoardPlace.{the_row as board_row};
-ghost use Rattle.dgt_c.specs.contracts.clocks.DgtClock.{the_row as clock_row};
-ghost use Rattle.dgt_c.specs.contracts.clocks.DgtTime.{the_row as time_row};
+ghost use Rattle.dgt_c.specs.contracts.clocks.DgtClock.{the_row as clock_row, the_type as clock_type};
+ghost use Rattle.dgt_c.specs.contracts.clocks.DgtTime.{the_row as time_row, the_type as time_type};
 ghost use Rattle.dgt_c.specs.contracts.command_decoder_place.CommandDecoderPlace.{the_row as command_decoder_row};
-ghost use Rattle.dgt_c.specs.contracts.commands.DgtCommand.{the_row as command_row};
+ghost use Rattle.dgt_c.specs.contracts.commands.DgtCommand.{the_row as command_row, the_type as command_type};
 ghost use Rattle.dgt_c.specs.contracts.decoder_place.DecoderPlace.{the_row as decoder_row};
-ghost use Rattle.dgt_c.specs.contracts.events.DgtEvent.{the_row as event_row};
+ghost use Rattle.dgt_c.specs.contracts.events.DgtEvent.{the_row as event_row, the_type as event_type};
 ghost use Rattle.dgt_c.specs.contracts.host_place.HostPlace.{the_row as host_row};
-ghost use Rattle.dgt_c.specs.contracts.placements.DgtParsed.{the_row as parsed_row};
-ghost use Rattle.dgt_c.specs.contracts.sending.DgtSent.{the_row as sent_row};
-ghost use Rattle.dgt_c.specs.contracts.starting.DgtBody.{the_row as body_row};
-ghost use Rattle.dgt_c.specs.contracts.starting.DgtIdentity.{the_row as identity_row};
+ghost use Rattle.dgt_c.specs.contracts.placements.DgtParsed.{the_row as parsed_row, the_type as parsed_type};
+ghost use Rattle.dgt_c.specs.contracts.sending.DgtSent.{the_row as sent_row, the_type as sent_type};
+ghost use Rattle.dgt_c.specs.contracts.starting.DgtBody.{the_row as body_row, the_type as body_type};
+ghost use Rattle.dgt_c.specs.contracts.starting.DgtIdentity.{the_row as identity_row, the_type as identity_type};
+ghost use Rattle.dgt_c.specs.declared.board_calls.DgtPolled.{DgtPolled};
+ghost use Rattle.dgt_c.specs.declared.board_calls.DgtTaken.{DgtTaken};
+ghost use Rattle.dgt_c.specs.declared.clocks.DgtClock.{DgtClock};
+ghost use Rattle.dgt_c.specs.declared.clocks.DgtTime.{DgtTime};
+ghost use Rattle.dgt_c.specs.declared.commands.DgtCommand.{DgtCommand};
+ghost use Rattle.dgt_c.specs.declared.events.DgtEvent.{DgtEvent};
+ghost use Rattle.dgt_c.specs.declared.placements.DgtParsed.{DgtParsed};
+ghost use Rattle.dgt_c.specs.declared.sending.DgtSent.{DgtSent};
+ghost use Rattle.dgt_c.specs.declared.starting.DgtBody.{DgtBody};
+ghost use Rattle.dgt_c.specs.declared.starting.DgtIdentity.{DgtIdentity};
 
 use crate::board_calls::{
     MODE_IDLE, MODE_UPDATE, MODE_UPDATE_BOARD, MODE_UPDATE_NICE, POLLED_NEED_ROOM, POLLED_NOTHING,
@@ -167,7 +177,7 @@ pub fn cases_differ()
 {}
 
 /// How the structs of `dgt.h` lie in memory: how many bytes each takes, the multiple at which it
-/// lies, and where its members begin, in the order of its declaration.
+/// lies, and where its members begin, in the order of the law [`members`].
 pub fn layouts()
     ensures host { LiesAs host_row 16520 8 (0 ∷ 8 ∷ []) }
     ensures decoder { LiesAs decoder_row 16416 8 (0 ∷ 8 ∷ []) }
@@ -184,6 +194,28 @@ pub fn layouts()
     ensures taken { LiesAs taken_row 16 8 (0 ∷ 8 ∷ []) }
     ensures polled { LiesAs polled_row 16 8 (0 ∷ 8 ∷ []) }
     ensures parsed { LiesAs parsed_row 16 8 (0 ∷ 8 ∷ []) }
+{}
+
+/// The members of the structs of `dgt.h`, in the order of their declaration.
+pub fn members()
+    ensures time { (it : DgtTime) → time_type.as_values it ≡ it.hours ⊗ it.minutes ⊗ it.seconds
+        ⊗ it.flags ⊗ tt }
+    ensures clock { (it : DgtClock) → clock_type.as_values it ≡ it.kind ⊗ it.status ⊗ it.raw
+        ⊗ it.first ⊗ it.second ⊗ tt }
+    ensures event { (it : DgtEvent) → event_type.as_values it ≡ it.kind ⊗ it.unasked ⊗ it.code
+        ⊗ it.square ⊗ it.piece ⊗ it.main_number ⊗ it.sub_number ⊗ it.byte ⊗ it.fault
+        ⊗ it.ack_status ⊗ it.ack ⊗ it.serial ⊗ it.clock ⊗ it.pieces ⊗ it.have ⊗ it.at
+        ⊗ it.body_len ⊗ tt }
+    ensures command { (it : DgtCommand) → command_type.as_values it ≡ it.kind ⊗ it.code ⊗ it.id
+        ⊗ it.byte ⊗ it.word_len ⊗ tt }
+    ensures sent { (it : DgtSent) → sent_type.as_values it ≡ it.status ⊗ it.bytes ⊗ tt }
+    ensures body { (it : DgtBody) → body_type.as_values it ≡ it.len ⊗ it.bytes ⊗ tt }
+    ensures identity { (it : DgtIdentity) → identity_type.as_values it ≡ it.serial
+        ⊗ it.main_number ⊗ it.sub_number ⊗ it.clock_version ⊗ it.trademark ⊗ it.battery
+        ⊗ it.long_serial ⊗ tt }
+    ensures taken { (it : DgtTaken) → taken_type.as_values it ≡ it.busy ⊗ it.used ⊗ tt }
+    ensures polled { (it : DgtPolled) → polled_type.as_values it ≡ it.status ⊗ it.bytes ⊗ tt }
+    ensures parsed { (it : DgtParsed) → parsed_type.as_values it ≡ it.ok ⊗ it.at ⊗ tt }
 {}
 
 /// A clone is the value itself, and cloning never fails.
