@@ -1,5 +1,5 @@
-"""What a host, a decoder, a reader of commands and a board have in common: memory that the library
-keeps them in, and a lock, so that one call runs at a time."""
+"""What a host, a decoder, a reader of commands and a board have in common: memory for the library,
+and a lock, so that one call runs at a time."""
 
 from __future__ import annotations
 
@@ -25,21 +25,21 @@ def readable(chunk: Bytes) -> tuple[bytes, int]:
 
 
 def writable(size: int) -> tuple[bytearray, int]:
-    """Memory of so many bytes, and where it lies as long as it is kept."""
+    """Returns memory of `size` bytes and its address, which holds as long as the memory is kept."""
     room = bytearray(size)
     return room, ctypes.addressof((c_char * size).from_buffer(room))
 
 
 class Handle:
-    """Something that the library keeps in memory of Python's. It ends where `close` is called, or
-    when nothing refers to it."""
+    """An object of the library in memory that Python owns. It ends when `close` is called, or when
+    nothing refers to it."""
 
     _prefix: str
     _lock: threading.RLock
 
     def __init__(self) -> None:
-        # Other threads wait for the lock. The thread that holds it takes it once more, and is told
-        # by `_running` that a call is under way.
+        # Other threads wait for the lock. The thread that holds it takes it once more, and sees in
+        # `_running` that a call is under way.
         lock = threading.RLock()
         if self.__dict__.setdefault("_lock", lock) is not lock:
             raise RuntimeError(f"this {type(self).__name__} was made already")
@@ -50,8 +50,8 @@ class Handle:
         self._at = ctypes.addressof(self._room)
 
     def _call(self, use: Callable[..., _Answer], *arguments: Any) -> _Answer:
-        """What `use` answers to where the object lies and these arguments, while no other call
-        runs. `Nested` within a call of the same thread, `Closed` where it was closed."""
+        """Returns what `use` returns for the object's address and these arguments, while no other
+        call runs. `Nested` within a call of the same thread, `Closed` if the object is closed."""
         with self._lock:
             if self._running or not self._at:
                 self._refuse()
@@ -68,13 +68,13 @@ class Handle:
         raise Closed(f"this {name} is closed")
 
     def _check_open(self) -> None:
-        """`Closed` where it was closed."""
+        """Raises `Closed` if the object is closed."""
         self._call(lambda at: None)
 
     def close(self) -> None:
-        """Ends it. Each later call raises `Closed`, but `close` and `with`, which do nothing then;
-        so does an iterator of before that has bytes left to read. A call that is under way goes on
-        to its end: in another thread `close` waits for it."""
+        """Ends the object. Each later call raises `Closed`, except `close` and `with`, which do
+        nothing then. An earlier iterator that has bytes left to read raises `Closed` too. A call
+        that is under way runs to its end: in another thread `close` waits for it."""
         with self._lock:
             self._at = 0
 

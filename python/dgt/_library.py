@@ -124,8 +124,8 @@ _FUNCTIONS: dict[str, dict[str, tuple[Any, ...]]] = {
 
 
 def _place() -> str:
-    """Where the library lies: what DGT_LIBRARY names, or else that beside this file, or else that
-    of the source tree, or else the system's."""
+    """Returns the library's path: what DGT_LIBRARY names, or else the one beside this file, or else
+    the one in the source tree, or else the system's."""
     here = Path(__file__).resolve().parent
     places = [here / "libdgt.so", here.parent.parent / "lib" / "out" / "libdgt.so"]
     found = [str(place) for place in places if place.exists()]
@@ -133,8 +133,8 @@ def _place() -> str:
 
 
 def _load() -> ctypes.CDLL:
-    """The library. `ImportError` where there is none, or it is not this package's, or Python is
-    not CPython, on which it relies for where the bytes of an object lie."""
+    """Loads the library. `ImportError` if there is none, if it is another library, or if Python is
+    not CPython, on which this package relies for the address of an object's bytes."""
     if sys.implementation.name != "cpython":
         raise ImportError(f"the package dgt needs CPython: this is {sys.implementation.name}")
     place = _place()
@@ -155,7 +155,7 @@ def _load() -> ctypes.CDLL:
 
 
 def _declare(library: ctypes.CDLL) -> None:
-    """Says of each function what it takes and answers."""
+    """Declares the parameters and the result of each function."""
     for prefix, functions in _FUNCTIONS.items():
         for name, (result, *parameters) in functions.items():
             function = getattr(library, f"{prefix}_{name}")

@@ -1,4 +1,4 @@
-"""A board, as a host meets it on the line."""
+"""A board, as a host finds it on the line."""
 
 from __future__ import annotations
 
@@ -20,7 +20,7 @@ _WROTE = 1
 
 
 class Mode(IntEnum):
-    """What a board tells unasked."""
+    """Which changes a board reports unasked."""
 
     IDLE = 0
     UPDATE = 1
@@ -30,8 +30,8 @@ class Mode(IntEnum):
 
 @dataclass(frozen=True, slots=True)
 class Identity:
-    """What a board tells of itself. Each byte of the serial number and of the bodies is below 128,
-    and a body has at most 64 bytes."""
+    """What a board reports about itself. The serial number has five bytes, and each body has at
+    most 64. Each of these bytes is below 128."""
 
     serial: bytes = b"00001"
     trademark: bytes = b"SIMULATED BOARD"
@@ -92,13 +92,13 @@ class Board(Handle):
             raise BadValue(f"the {what} of a board is out of its range")
 
     def change(self, square: str, piece: str) -> None:
-        """Puts the piece with this letter on a square, or takes one off with a dot. `BadValue`
-        where there is no such square or piece."""
+        """Puts the piece with this letter on a square. A dot empties the square. `BadValue` if
+        there is no such square or piece."""
         self._call(dgt.dgt_board_change, square_number(square), piece_code(piece))
 
     def hand_clock(self, clock: Clock) -> None:
-        """Sets what the clock shows. `BadValue` where a time or another part of it is out of its
-        range, `TypeError` where it is no clock."""
+        """Sets what the clock shows. `BadValue` if a part of it is out of its range, `TypeError` if
+        it is no clock."""
         shown = clock_struct(clock)
         if not self._call(dgt.dgt_board_hand_clock, byref(shown)):
             raise BadValue(f"no clock shows this: {clock!r}")
@@ -151,17 +151,16 @@ class Board(Handle):
     @property
     def owes(self) -> bool:
         """Whether there is anything to send."""
-        owes: bool = self._call(dgt.dgt_board_owes)
-        return owes
+        return bool(self._call(dgt.dgt_board_owes))
 
     @property
     def mode(self) -> Mode:
-        """What the board tells unasked."""
+        """Which changes the board reports unasked."""
         return Mode(self._call(dgt.dgt_board_mode))
 
     @property
     def position(self) -> Position:
-        """What stands on the squares."""
+        """The position on the squares."""
         codes = (c_uint8 * 64)()
         self._call(dgt.dgt_board_position, codes)
         return Position(bytes(codes))
@@ -174,6 +173,6 @@ class Board(Handle):
         return read_clock(shown)
 
     def line_lost(self) -> None:
-        """The line is lost: the board keeps its squares, its clock and its identity, and is else
-        as new."""
+        """Tells the board that the line was lost. It keeps its squares, its clock and its identity,
+        and is otherwise as new."""
         self._call(dgt.dgt_board_line_lost)

@@ -1,4 +1,4 @@
-"""What the bytes of a host tell, and what a host asks for."""
+"""The commands of a host, and the faults in its bytes."""
 
 from __future__ import annotations
 
@@ -61,17 +61,17 @@ class Leds:
 
 @dataclass(frozen=True, slots=True)
 class BadSize:
-    """The second byte of a clock message, its size, is below 3."""
+    """A clock message whose second byte, its size, is below 3."""
 
 
 @dataclass(frozen=True, slots=True)
 class BadStart:
-    """The third byte of a clock message isn't 03."""
+    """A clock message whose third byte isn't 03."""
 
 
 @dataclass(frozen=True, slots=True)
 class BadEnd:
-    """The last byte of a clock message isn't 00."""
+    """A clock message whose last byte isn't 00."""
 
 
 @dataclass(frozen=True, slots=True)
@@ -91,7 +91,7 @@ _FAULTS: dict[int, type[BadSize | BadStart | BadEnd]] = {
 
 
 def read_word(told: CommandStruct, word: bytearray) -> Word:
-    """The command or fault that the library tells, where it tells one."""
+    """Returns the command or fault that the library has reported. Its kind must not be 0."""
     if told.kind == _COMMAND:
         if told.code == _SEND_CLOCK_MESSAGE:
             return ClockMessage(told.id, bytes(word[4:told.word_len - 1]))

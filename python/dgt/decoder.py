@@ -87,13 +87,11 @@ class Decoder(EventReader):
     @property
     def rest(self) -> int:
         """The number of bytes that have come of an unfinished message."""
-        count: int = self._call(dgt.dgt_decoder_rest)
-        return count
+        return int(self._call(dgt.dgt_decoder_rest))
 
     def finish(self) -> int:
         """Returns `rest` at the end of the bytes, and resets the decoder."""
-        count: int = self._call(dgt.dgt_decoder_finish)
-        return count
+        return int(self._call(dgt.dgt_decoder_finish))
 
     def reset(self) -> None:
         """Makes the decoder as new."""
@@ -150,13 +148,11 @@ class CommandDecoder(Handle):
     @property
     def rest(self) -> int:
         """The number of bytes that have come of an unfinished command."""
-        count: int = self._call(dgt.dgt_command_decoder_rest)
-        return count
+        return int(self._call(dgt.dgt_command_decoder_rest))
 
     def finish(self) -> int:
         """Returns `rest` at the end of the bytes, and resets the reader."""
-        count: int = self._call(dgt.dgt_command_decoder_finish)
-        return count
+        return int(self._call(dgt.dgt_command_decoder_finish))
 
     def reset(self) -> None:
         """Makes the reader as new."""

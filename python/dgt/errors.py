@@ -1,15 +1,15 @@
-"""What the calls of this package raise."""
+"""The exceptions of this package."""
 
 from typing import Any
 
 
 class DgtError(Exception):
-    """Something was refused. A call that raises it has changed nothing. Where a step of an iterator
-    raises it, what the iterator gave before stands, and the bytes behind are not read.
+    """Something was refused. A call that raises it has changed nothing. If a step of an iterator
+    raises it, what the iterator yielded before stands, and the bytes after that are not read.
 
-    Another exception that breaks off a call, as `KeyboardInterrupt`, may come when the library has
-    read some of the bytes, or all, or has given a message out: what the call would have answered
-    is lost then. The object is whole, and may be used on."""
+    Another exception that breaks off a call, such as `KeyboardInterrupt`, may come after the
+    library has read bytes or handed out a message. What the call would have returned is then lost.
+    The object is whole, and may be used further."""
 
 
 class Closed(DgtError):
@@ -17,8 +17,8 @@ class Closed(DgtError):
 
 
 class Nested(DgtError, RuntimeError):
-    """A call was made while another call of the same object was under way in the same thread, as a
-    signal handler, a `__del__` or a trace function may make one."""
+    """A call was made while another call of the same object was under way in the same thread. A
+    signal handler, a `__del__` or a trace function may make such a call."""
 
 
 class TooManyAwaited(DgtError):
@@ -34,11 +34,12 @@ class Busy(DgtError):
 
 
 class BadValue(DgtError, ValueError):
-    """A square, a piece, a clock or an identity that is none."""
+    """An argument is no square, piece or byte, or out of the range of a clock or an identity."""
 
 
 class BadPlacement(BadValue):
-    """A text is no placement: from the byte at the offset `at` on it no longer begins one."""
+    """A text is no placement. What is before the offset `at` begins one, and what comes there does
+    not continue it."""
 
     def __init__(self, at: int) -> None:
         super().__init__(f"no placement, from offset {at} on")

@@ -1,4 +1,4 @@
-"""What the bytes of a board make known."""
+"""The events in a board's bytes: messages and faults."""
 
 from __future__ import annotations
 
@@ -12,7 +12,7 @@ from .values import LETTERS, SQUARES, NoClock, Position, Times, read_clock
 
 @dataclass(frozen=True, slots=True)
 class Dump:
-    """All squares were told."""
+    """The board reported all squares."""
 
     position: Position
     unasked: bool = False
@@ -20,7 +20,7 @@ class Dump:
 
 @dataclass(frozen=True, slots=True)
 class Field:
-    """One square was told: its name, and the letter of the piece that stands there now."""
+    """The board reported one square: its name, and the letter of what stands there now."""
 
     square: str
     piece: str
@@ -28,7 +28,7 @@ class Field:
 
 @dataclass(frozen=True, slots=True)
 class Ack:
-    """The answer to a message for the clock. A first byte of 10 is success."""
+    """The reply to a clock message. A first byte of hexadecimal 10 is success."""
 
     ack: bytes
     status: int
@@ -77,14 +77,14 @@ class LongSerial:
 
 @dataclass(frozen=True, slots=True)
 class Other:
-    """A message of another code, which is carried unread."""
+    """A message of another code, with its body as it came."""
 
     code: int
     body: bytes
 
 
 class Fault(IntEnum):
-    """Why a body says nothing."""
+    """Why a body was refused."""
 
     WRONG_SIZE = 1
     BAD_PIECE = 2
@@ -94,7 +94,7 @@ class Fault(IntEnum):
 
 @dataclass(frozen=True, slots=True)
 class Refused:
-    """A whole message of this code, whose body has this fault, at this place if it is a byte's."""
+    """A whole message whose body has a fault. `at` is the offset in the body of a byte at fault."""
 
     code: int
     fault: Fault
@@ -103,19 +103,19 @@ class Refused:
 
 @dataclass(frozen=True, slots=True)
 class Cut:
-    """A message was cut off by the next, when `have` of its bytes had come."""
+    """The next message cut off a message, of which `have` bytes had come."""
 
     have: int
 
 
 @dataclass(frozen=True, slots=True)
 class BadLength:
-    """The length of a message is less than that of its header."""
+    """The header of a message gives a length that is shorter than the header."""
 
 
 @dataclass(frozen=True, slots=True)
 class Stray:
-    """A byte that is in no message."""
+    """A byte outside any message."""
 
     byte: int
 
@@ -124,7 +124,7 @@ Message = (Dump | Field | Times | NoClock | Ack | Serial | Version | Trademark |
            | LongSerial | Other)
 Event = Message | Refused | Cut | BadLength | Stray
 
-# The fields of all squares with all pieces, each made once: it takes longer to make one.
+# The fields of all squares with all pieces, made once: to look one up is faster than to make it.
 _FIELDS = [[Field(square, letter) for letter in LETTERS] for square in SQUARES]
 
 _Maker = Callable[[EventStruct, bytearray], Event]

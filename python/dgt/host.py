@@ -56,48 +56,49 @@ class Host(EventReader):
         return bytes(self._out[:sent.bytes])
 
     def follow(self) -> bytes:
-        """What asks for each change from now on, and for all squares. `TooManyAwaited` where no
-        further reply can be awaited."""
+        """Returns the commands that ask for each change from now on, and for all squares.
+        `TooManyAwaited` if no further reply can be awaited."""
         return self._sent(dgt.dgt_host_follow)
 
     def restart(self) -> bytes:
-        """The same behind zeros that end whatever command the board is in the middle of."""
+        """Returns the commands of `follow` after zeros, which end any command that the board is in
+        the middle of."""
         return self._sent(dgt.dgt_host_restart)
 
     def send(self, ask: Ask | int) -> bytes:
-        """The command of one byte. `BadValue` where it is no byte, `NoSuchCommand` where it is none
-        of `Ask`, `TooManyAwaited` where it asks for a reply and no further one can be awaited."""
+        """Returns a command of one byte. `BadValue` if it is no byte, `NoSuchCommand` if it is none
+        of `Ask`, `TooManyAwaited` if it asks for a reply and no further one can be awaited."""
         return self._sent(dgt.dgt_host_send, byte(ask, "a command"))
 
     def send_clock(self, id: ClockId | int, payload: Bytes = b"") -> bytes:
-        """A message to the clock. `BadValue` where the id is no byte, `NoSuchCommand` where the
-        payload has more than 252 bytes, `TypeError` where it has none."""
+        """Returns a message to the clock. `BadValue` if the id is no byte, `NoSuchCommand` if the
+        payload has more than 252 bytes, `TypeError` if it is no bytes."""
         number = byte(id, "an id")
         held, address = readable(payload)
         return self._sent(dgt.dgt_host_send_clock, number, address, len(held))
 
     def send_leds(self, leds: Bytes) -> bytes:
-        """An LED frame, of at most 255 bytes. `NoSuchCommand` where it has more."""
+        """Returns an LED frame, of at most 255 bytes. `NoSuchCommand` if there are more."""
         held, address = readable(leds)
         return self._sent(dgt.dgt_host_send_leds, address, len(held))
 
     @property
     def picture(self) -> Position | None:
-        """What stands on the board, where a dump was heard."""
+        """The position on the board, or `None` before the first dump."""
         codes = (c_uint8 * 64)()
         known = self._call(dgt.dgt_host_picture, codes)
         return Position(bytes(codes)) if known else None
 
     @property
     def placement(self) -> str | None:
-        """The same as the first field of a FEN."""
+        """The picture as the first field of a FEN."""
         text = (c_char * PLACEMENT_ROOM)()
         known = self._call(dgt.dgt_host_placement, text)
         return text.value.decode() if known else None
 
     @property
     def clock(self) -> Clock | None:
-        """What the board told last of its clock, where it told of it."""
+        """The last report of the board's clock, or `None` before the first."""
         told = ClockStruct()
         self._call(dgt.dgt_host_clock, byref(told))
         return read_clock(told) if told.kind else None
@@ -119,9 +120,9 @@ class Host(EventReader):
     @property
     def unread(self) -> int:
         """The number of bytes that were heard of an unfinished message."""
-        count: int = self._call(dgt.dgt_host_unread)
-        return count
+        return int(self._call(dgt.dgt_host_unread))
 
     def line_lost(self) -> None:
-        """The line is lost, and what was under way on it: the host is as new."""
+        """Tells the host that the line was lost, with what was under way on it. The host is then as
+        new."""
         self._call(dgt.dgt_host_line_lost)

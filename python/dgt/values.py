@@ -19,8 +19,8 @@ _PIECE_CODES = {letter: code for code, letter in enumerate(LETTERS)}
 
 
 def square_number(name: str) -> int:
-    """The number of a square, from a8, which is 0, to h1, which is 63. `BadValue` where there is
-    no square of this name."""
+    """Returns the number of a square, from 0 for a8 to 63 for h1. `BadValue` if no square has this
+    name."""
     try:
         return _SQUARE_NUMBERS[name]
     except (KeyError, TypeError):
@@ -28,7 +28,7 @@ def square_number(name: str) -> int:
 
 
 def piece_code(letter: str) -> int:
-    """The code of a piece, from 0 to 15. `BadValue` where no piece has this letter."""
+    """Returns the code of a piece, from 0 to 15. `BadValue` if no piece has this letter."""
     try:
         return _PIECE_CODES[letter]
     except (KeyError, TypeError):
@@ -36,8 +36,8 @@ def piece_code(letter: str) -> int:
 
 
 def segment(character: str) -> int:
-    """The segments that show a digit, a space or a hyphen on the clock, from 0 to 127. `BadValue`
-    where it is none of these."""
+    """Returns the segments that show a digit, a space or a hyphen on the clock, from 0 to 127.
+    `BadValue` for any other character."""
     known = isinstance(character, str) and str.__len__(character) == 1 and str.isascii(character)
     shown: int = dgt.dgt_segment(ord(character)) if known else NO_SUCH
     if shown == NO_SUCH:
@@ -46,13 +46,20 @@ def segment(character: str) -> int:
 
 
 def plain_bytes(held: object) -> bytes | None:
-    """The bytes of a `bytes`, whatever methods its own class has; `None` where it is none."""
+    """Returns the bytes of a `bytes`, whatever methods its own class has, or else `None`."""
     return bytes.__getitem__(held, slice(None)) if isinstance(held, bytes) else None
 
 
 @dataclass(frozen=True, slots=True)
 class Position:
-    """What stands on the 64 squares. `position["e4"]` is the letter of a piece."""
+    """What stands on the 64 squares. `position["e4"]` is the letter of a piece.
+
+    >>> start = Position.start()
+    >>> start["e2"], start["e4"]
+    ('P', '.')
+    >>> start.changes(Position.parse("rnbqkbnr/pppppppp/8/8/4P3/8/PPPP1PPP/RNBQKBNR"))
+    {'e4': 'P', 'e2': '.'}
+    """
 
     codes: bytes
     """The code of the piece on each square, by the square's number."""
@@ -65,7 +72,8 @@ class Position:
 
     @classmethod
     def parse(cls, placement: str) -> Position:
-        """The position of the first field of a FEN. `BadPlacement` where the text is none."""
+        """Returns the position that the first field of a FEN gives. `BadPlacement` if the text is
+        none."""
         text = str.encode(placement, errors="replace")
         codes = (c_uint8 * 64)()
         parsed = dgt.dgt_parse_placement(text, len(text), codes)
@@ -75,7 +83,7 @@ class Position:
 
     @classmethod
     def start(cls) -> Position:
-        """The position in which a game begins."""
+        """Returns the position in which a game begins."""
         return cls.parse("rnbqkbnr/pppppppp/8/8/8/8/PPPPPPPP/RNBQKBNR")
 
     @property
@@ -94,7 +102,7 @@ class Position:
         return LETTERS[self.codes[square_number(square)]]
 
     def changes(self, newer: Position) -> dict[str, str]:
-        """The squares on which a newer position differs, each with its letter then."""
+        """Returns the squares on which a newer position differs, each with its letter there."""
         pairs = zip(SQUARES, self.codes, newer.codes)
         return {square: LETTERS[new] for square, old, new in pairs if old != new}
 
@@ -104,7 +112,7 @@ class Position:
 
 @dataclass(frozen=True, slots=True)
 class Time:
-    """The time of one player, and three flags that are carried."""
+    """The time of one player, and three flags as they came."""
 
     hours: int = 0
     minutes: int = 0
@@ -117,7 +125,7 @@ class Time:
 
 @dataclass(frozen=True, slots=True)
 class Times:
-    """A clock shows these times."""
+    """A clock, and the times that it shows."""
 
     first: Time = Time()
     second: Time = Time()
@@ -151,7 +159,7 @@ class Times:
 
 @dataclass(frozen=True, slots=True)
 class NoClock:
-    """No clock is connected. Six bytes are carried."""
+    """No clock is connected. `raw` has the six bytes of the report as they came."""
 
     raw: bytes = bytes(6)
     status: int = 0x20
@@ -163,7 +171,7 @@ _CLOCK_TIMES, _CLOCK_NONE = 1, 2
 
 
 def read_clock(told: ClockStruct) -> Clock:
-    """The clock that the library tells, where it tells one: the kind is not 0."""
+    """Returns the clock that the library has reported. Its kind must not be 0."""
     if told.kind == _CLOCK_NONE:
         return NoClock(bytes(told.raw), told.status)
     first, second = (Time(each.hours, each.minutes, each.seconds, each.flags)
@@ -172,7 +180,7 @@ def read_clock(told: ClockStruct) -> Clock:
 
 
 def byte(number: int, what: str) -> int:
-    """The number, from 0 to 255. `BadValue` where it is none, which tells `what` should be."""
+    """Returns the number, from 0 to 255. `BadValue` if it is no byte, with `what` it should be."""
     plain = int.__index__(number) if isinstance(number, int) else -1
     if not 0 <= plain <= 255:
         raise BadValue(f"{what} is no byte: {number!r}")
@@ -185,8 +193,8 @@ def _time_struct(time: Time) -> TimeStruct:
 
 
 def clock_struct(clock: Clock) -> ClockStruct:
-    """The clock for the library, which looks at its ranges. `TypeError` where it is none, and
-    `BadValue` where something in it is no byte, or `raw` is not six bytes."""
+    """Returns the clock for the library, which checks its ranges. `TypeError` if it is no clock,
+    `BadValue` if a part of it is no byte, or `raw` is not six bytes."""
     if isinstance(clock, Times):
         return ClockStruct(_CLOCK_TIMES, byte(clock.status, "a status"), (c_uint8 * 6)(),
                            _time_struct(clock.first), _time_struct(clock.second))
