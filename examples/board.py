@@ -1,23 +1,42 @@
 #!/usr/bin/env python3
-"""A board on a pseudo-terminal, to try a host on. It writes the name of the terminal, which a host
-opens as a serial line, and then reads what happens on the board from standard input, a line each:
-a square and a letter put a piece there, or take one off with a dot, as `e2 .` and then `e4 P`; and
-`wait 0.5` lets half a second pass, or up to an hour. A line that says something else is told on
-standard error, and changes nothing. The host is answered while no line has come.
+"""Simulates a board on a pseudo-terminal, to try a host on.
 
-It ends half a second after its input does, and later where the host hasn't read all yet. Where ten
-seconds are not enough for that, it says so and ends with 1."""
+It prints the name of the terminal, which a host opens as a serial line. Then it reads what happens
+on the board from standard input, a line each:
 
+    e2 .      takes off what stands on e2
+    e4 P      puts a piece on e4 (PRNBKQ white, prnbkq black)
+    wait 0.5  lets half a second pass; 3600 at most
+
+It reports any other line on standard error, and ignores it. The host is answered all the time.
+
+It ends half a second after its input does, or later if the host hasn't read all yet. If that takes
+over ten seconds, it says so and ends with status 1.
+"""
+
+import argparse
 import os
 import pathlib
 import pty
 import select
+import signal
 import sys
 import time
 import tty
+from collections.abc import Iterator
+
+# First, so that --help needs no library.
+argparse.ArgumentParser(
+    description=__doc__,
+    formatter_class=argparse.RawDescriptionHelpFormatter,
+    allow_abbrev=False,
+).parse_args()
 
 sys.path.insert(0, str(pathlib.Path(__file__).resolve().parent.parent / "python"))
-import dgt
+try:
+    import dgt
+except ImportError as missing:
+    sys.exit(f"board.py: {missing}")
 
 
 def serve(board: dgt.Board, line: int, seconds: float | None, until: tuple[int, ...] = ()) -> None:
@@ -38,7 +57,7 @@ def serve(board: dgt.Board, line: int, seconds: float | None, until: tuple[int, 
             return
 
 
-def lines(board: dgt.Board, line: int):
+def lines(board: dgt.Board, line: int) -> Iterator[str]:
     """The lines of standard input. The host is answered while none has come."""
     rest = b""
     while True:
@@ -77,9 +96,20 @@ def finish(board: dgt.Board, line: int, other_end: int) -> None:
         serve(board, line, 0.05)
 
 
-def main() -> None:
-    line, other_end = pty.openpty()
+def open_line() -> tuple[int, int]:
+    """Both ends of a pseudo-terminal: the board's, and the one that a host opens by its name."""
+    try:
+        line, other_end = pty.openpty()
+    except OSError as refused:
+        raise SystemExit(f"board.py: no pseudo-terminal: {refused.strerror}") from None
     tty.setraw(other_end)
+    return line, other_end
+
+
+def main() -> None:
+    for ending in (signal.SIGINT, signal.SIGPIPE):
+        signal.signal(ending, signal.SIG_DFL)
+    line, other_end = open_line()
     print(os.ttyname(other_end), flush=True)
     with dgt.Board() as board:
         for happening in lines(board, line):

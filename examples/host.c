@@ -8,22 +8,26 @@
 #define _DEFAULT_SOURCE
 #include "dgt.h"
 
+#include <errno.h>
 #include <fcntl.h>
 #include <poll.h>
 #include <stdbool.h>
 #include <stdio.h>
 #include <stdlib.h>
 #include <string.h>
+#include <sys/file.h>
+#include <sys/ioctl.h>
 #include <termios.h>
 #include <unistd.h>
 
-/* Opens a serial line: 9600 bits a second, eight bits, no parity, one stop bit, no flow control,
- * raw. Each read waits for a byte. What is no terminal is opened as it is. -1 where it can't be
- * opened or set, with errno. */
+/* Opens a serial line for this program alone: 9600 bits a second, eight bits, no parity, one stop
+ * bit, no flow control, raw. Each read waits for a byte. What is no terminal is opened as it is. -1
+ * where it can't be opened, locked or set, with errno. */
 static int open_line(const char *name) {
     int line = open(name, O_RDWR | O_NOCTTY);
     struct termios settings;
     if (line < 0 || tcgetattr(line, &settings) != 0) return line;
+    if (flock(line, LOCK_EX | LOCK_NB) != 0) return -1;
     settings.c_iflag &= ~(tcflag_t)(IGNBRK | BRKINT | PARMRK | ISTRIP | INPCK);
     settings.c_iflag &= ~(tcflag_t)(INLCR | IGNCR | ICRNL | IXON | IXOFF);
     settings.c_oflag &= ~(tcflag_t)OPOST;
@@ -34,7 +38,19 @@ static int open_line(const char *name) {
     settings.c_cc[VTIME] = 0;
     cfsetispeed(&settings, B9600);
     cfsetospeed(&settings, B9600);
-    return tcsetattr(line, TCSANOW, &settings) == 0 ? line : -1;
+    if (tcsetattr(line, TCSANOW, &settings) != 0) return -1;
+    return ioctl(line, TIOCEXCL) == 0 ? line : -1;
+}
+
+/* Says what is wrong with a line, by errno, and what to do about it. */
+static int complain(const char *name) {
+    const char *why = strerror(errno);
+    if (errno == ENOENT) why = "no such port (plug the board in)";
+    if (errno == EACCES) why = "permission denied (join the group dialout)";
+    if (errno == EBUSY || errno == EWOULDBLOCK)
+        why = "in use by another program (end that one first)";
+    fprintf(stderr, "host: %s: %s\n", name, why);
+    return 1;
 }
 
 static int write_all(int line, const uint8_t *bytes, size_t n) {
@@ -100,13 +116,13 @@ int main(int count, char **words) {
     static dgt_host host;
     if (!dgt_host_new(&host)) return fprintf(stderr, "this library has another header\n"), 1;
     int line = open_line(words[1]);
-    if (line < 0) return perror(words[1]), 1;
+    if (line < 0) return complain(words[1]);
 
     uint8_t out[DGT_RESTART_LENGTH + 1];
     dgt_sent asked = dgt_host_restart(&host, out, sizeof out);
     dgt_sent more = dgt_host_send(&host, DGT_SEND_TRADEMARK, out + asked.bytes, 1);
-    if (write_all(line, out, asked.bytes + more.bytes) != 0) return perror(words[1]), 1;
-    if (!follow(&host, line, timeout)) return perror(words[1]), 1;
+    if (write_all(line, out, asked.bytes + more.bytes) != 0) return complain(words[1]);
+    if (!follow(&host, line, timeout)) return complain(words[1]);
     close(line);
     return 0;
 }

@@ -1,26 +1,43 @@
 #!/usr/bin/env python3
-"""Tells the moves that are made on a board, from what stands on it:
-
-    python3 examples/moves.py /dev/ttyUSB0 [ENGINE]
+"""Prints the moves that are made on a board, from what stands on it.
 
 The rules are those of a UCI engine that knows `go perft 1` and `d`, as Stockfish does. A move is
-told once the board shows the position behind it, so that pieces may be taken up in any order. A
-rook's move that may be the first half of castling is told once it was answered, or at the end. A
-piece has to be lifted on its way: one that is slid is told on the first square that it may go to.
+printed once the board shows the position after it, so pieces may be picked up in any order. A
+rook's move that may be the first half of castling is printed once it was answered, or at the end. A
+piece has to be lifted on its way: one that is slid is printed on the first square it may go to.
 
-A game begins with all pieces on their first squares; standard error tells how they stand when the
-board is first heard. It ends when the line does."""
+A game begins with all pieces on their first squares. When the board first reports them, standard
+error shows where they stand. It ends when the line does.
+"""
 
+import argparse
+import errno
+import fcntl
 import os
 import pathlib
 import shutil
+import signal
 import subprocess
 import sys
 import termios
 import tty
+from collections.abc import Iterable, Iterator
+
+# First, so that --help needs no library.
+parser = argparse.ArgumentParser(
+    description=__doc__,
+    formatter_class=argparse.RawDescriptionHelpFormatter,
+    allow_abbrev=False,
+)
+parser.add_argument("port", help="the board's serial port, such as /dev/ttyUSB0")
+parser.add_argument("engine", nargs="?", help="the engine's program; stockfish if left out")
+words = parser.parse_args()
 
 sys.path.insert(0, str(pathlib.Path(__file__).resolve().parent.parent / "python"))
-import dgt
+try:
+    import dgt
+except ImportError as missing:
+    sys.exit(f"moves.py: {missing}")
 
 START = "rnbqkbnr/pppppppp/8/8/8/8/PPPPPPPP/RNBQKBNR w KQkq - 0 1"
 # The move of a rook that castling may begin with, and the castling.
@@ -31,25 +48,36 @@ class Rules:
     """The rules of chess, as an engine knows them."""
 
     def __init__(self, engine: str) -> None:
-        self.engine = subprocess.Popen([engine], stdin=subprocess.PIPE, stdout=subprocess.PIPE,
-                                       text=True, bufsize=1)
+        self.name = engine
+        try:
+            started = subprocess.Popen([engine], stdin=subprocess.PIPE, stdout=subprocess.PIPE,
+                                       text=True)
+        except OSError as refused:
+            raise SystemExit(f"moves.py: engine {engine}: {refused.strerror}") from None
+        assert started.stdin and started.stdout
+        self.engine, self.stdin, self.stdout = started, started.stdin.fileno(), started.stdout
         self.lines("uci", "uciok")
 
     def lines(self, said: str, last: str) -> list[str]:
         """What the engine answers, up to a line that begins so."""
-        self.engine.stdin.write(said + "\n")
-        self.engine.stdin.flush()
-        lines = []
-        for line in self.engine.stdout:
-            lines.append(line.strip())
-            if lines[-1].startswith(last):
-                return lines
-        raise SystemExit("the engine has ended")
+        lines: list[str] = []
+        try:
+            os.write(self.stdin, (said + "\n").encode())
+            for line in self.stdout:
+                lines.append(line.strip())
+                if lines[-1].startswith(last):
+                    return lines
+        except BrokenPipeError:
+            pass
+        raise SystemExit(f"moves.py: engine {self.name}: it has ended")
 
     def after(self, fen: str, move: str) -> str:
         """The position behind a move."""
         told = self.lines(f"position fen {fen} moves {move}\nd\nisready", "readyok")
-        return next(line[5:] for line in told if line.startswith("Fen: "))
+        for line in told:
+            if line.startswith("Fen: "):
+                return line[5:]
+        raise SystemExit(f"moves.py: engine {self.name}: it doesn't know `d`: try stockfish")
 
     def moves(self, fen: str) -> dict[str, tuple[str, str]]:
         """Each move, and the position behind it, by where the pieces stand then."""
@@ -59,12 +87,14 @@ class Rules:
         return {fen.split()[0]: (move, fen) for move, fen in positions}
 
 
-def made(rules: Rules, placements):
+def made(rules: Rules, placements: Iterable[str]) -> Iterator[str]:
     """The moves of a game, from where the pieces stand after each change."""
     moves = rules.moves(START)
-    half, answers = None, {}
+    half: str | None = None
+    answers: dict[str, tuple[str, str]] = {}
+    placement = ""
     for placement in placements:
-        if placement in answers:
+        if half and placement in answers:
             yield half
             moves, half, answers = answers, None, {}
         if placement not in moves or moves[placement][0] == half:
@@ -75,11 +105,47 @@ def made(rules: Rules, placements):
         else:
             yield move
             moves, half, answers = rules.moves(fen), None, {}
-    if half and moves.get(placement, [None])[0] == half:
+    if half and placement in moves and moves[placement][0] == half:
         yield half
 
 
-def pictures(line: int):
+# What to do about a port that can't be opened.
+ADVICE = {
+    errno.ENOENT: "no such port (plug the board in; /dev/serial/by-id lists the ports)",
+    errno.EACCES: "permission denied (join the group dialout)",
+    errno.EBUSY: "in use by another program (end that one first)",
+    errno.EWOULDBLOCK: "in use by another program (end that one first)",
+    errno.ENOTTY: "not a serial port",
+}
+
+
+def take(line: int) -> None:
+    """Locks a serial line, and sets it to 9600 bits a second, raw. An OSError if another program
+    has it."""
+    fcntl.flock(line, fcntl.LOCK_EX | fcntl.LOCK_NB)
+    settings = termios.tcgetattr(line)
+    settings[2] |= termios.CLOCAL | termios.CREAD
+    settings[4] = settings[5] = termios.B9600
+    termios.tcsetattr(line, termios.TCSANOW, settings)
+    tty.setraw(line)
+    fcntl.ioctl(line, termios.TIOCEXCL)
+
+
+def open_port(name: str) -> int:
+    """Opens a serial line for this process alone."""
+    try:
+        line = os.open(name, os.O_RDWR | os.O_NOCTTY | os.O_NONBLOCK)
+        if not os.isatty(line):
+            raise OSError(errno.ENOTTY, "")
+        take(line)
+        os.set_blocking(line, True)
+    except (OSError, termios.error) as refused:
+        why = ADVICE.get(refused.args[0], refused.args[1])
+        raise SystemExit(f"moves.py: {name}: {why}") from None
+    return line
+
+
+def pictures(line: int) -> Iterator[str]:
     """Where the pieces stand after each change that a board tells, up to the end of the line."""
     host = dgt.Host()
     os.write(line, host.restart())
@@ -97,21 +163,24 @@ def pictures(line: int):
                 yield host.placement
 
 
-def main() -> None:
-    if len(sys.argv) < 2:
-        raise SystemExit(__doc__)
-    path = os.environ.get("PATH", "") + ":/usr/games"
-    engine = sys.argv[2] if len(sys.argv) > 2 else shutil.which("stockfish", path=path)
-    if not engine:
-        raise SystemExit("no engine: install one, as stockfish, or name it")
-    line = os.open(sys.argv[1], os.O_RDWR | os.O_NOCTTY)
-    if os.isatty(line):
-        tty.setraw(line)
-        settings = termios.tcgetattr(line)
-        settings[4] = settings[5] = termios.B9600
-        termios.tcsetattr(line, termios.TCSANOW, settings)
-    for move in made(Rules(engine), pictures(line)):
+def tell(move: str) -> None:
+    """Prints a move. The program ends if nobody reads what it prints."""
+    try:
         print(move, flush=True)
+    except BrokenPipeError:
+        os.dup2(os.open(os.devnull, os.O_WRONLY), 1)
+        raise SystemExit(0) from None
+
+
+def main() -> None:
+    signal.signal(signal.SIGINT, signal.SIG_DFL)
+    path = os.environ.get("PATH", "") + ":/usr/games"
+    engine = words.engine or shutil.which("stockfish", path=path)
+    if not engine:
+        raise SystemExit("moves.py: no engine: install stockfish, or name one")
+    line = open_port(words.port)
+    for move in made(Rules(engine), pictures(line)):
+        tell(move)
 
 
 if __name__ == "__main__":

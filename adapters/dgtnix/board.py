@@ -1,7 +1,5 @@
 #!/usr/bin/env python3
-"""A board on a pseudo-terminal, to try eboard on:
-
-    board.py LINK
+"""Simulates a board on a pseudo-terminal, to try eboard on.
 
 LINK becomes a symbolic link to the terminal that a host opens. What hands do is read from standard
 input, a line each:
@@ -20,19 +18,33 @@ input, a line each:
     mute      it answers nothing from now on
     quit
 
-It says on standard output which commands it was sent, and when it is ready: at the start, and once
-a line was obeyed.
+It prints which commands it was sent, and when it is ready: at the start, and once a line was obeyed.
+It reports a line that it can't obey on standard error, and ignores it.
 """
 
+import argparse
 import os
 import pathlib
 import select
+import signal
 import sys
 import time
 import tty
 
+# First, so that --help needs no library.
+parser = argparse.ArgumentParser(
+    description=__doc__,
+    formatter_class=argparse.RawDescriptionHelpFormatter,
+    allow_abbrev=False,
+)
+parser.add_argument("link", metavar="LINK", help="the name by which a host opens the board")
+words = parser.parse_args()
+
 sys.path.insert(0, str(pathlib.Path(__file__).resolve().parents[2] / "python"))
-import dgt
+try:
+    import dgt
+except ImportError as missing:
+    sys.exit(f"board.py: {missing}")
 
 FILES, RANKS = "abcdefgh", "87654321"
 START = "rnbqkbnrpppppppp................................PPPPPPPPRNBQKBNR"
@@ -47,17 +59,26 @@ class Port:
         self.end = self.other = None
 
     def plug(self):
-        self.end, self.other = os.openpty()
+        if self.end is not None:
+            return
+        try:
+            self.end, self.other = os.openpty()
+        except OSError as refused:
+            sys.exit(f"board.py: no pseudo-terminal: {refused.strerror}")
         tty.setraw(self.other)
         # Bytes that nobody reads are lost on a line, and don't stop the board.
         os.set_blocking(self.end, False)
-        os.symlink(os.ttyname(self.other), self.link)
+        try:
+            os.symlink(os.ttyname(self.other), self.link)
+        except OSError as refused:
+            why = f"{refused.strerror} (LINK is a new name in a folder of yours)"
+            sys.exit(f"board.py: {self.link}: {why}")
 
     def unplug(self):
         if self.end is None:
             return
         time.sleep(0.05)  # what was sent is read first
-        os.unlink(self.link)
+        pathlib.Path(self.link).unlink(missing_ok=True)
         os.close(self.end)
         os.close(self.other)
         self.end = self.other = None
@@ -99,8 +120,8 @@ class Hands:
             self.send(message)
 
     def put(self, square, piece):
-        self.squares[square] = piece
         self.board.change(square, piece)
+        self.squares[square] = piece
         for message in self.board.messages():
             self.send(message)
 
@@ -117,8 +138,8 @@ class Hands:
         self.port.unplug()
         self.board.line_lost()
 
-    def obey(self, what, *rest):
-        match [what, *rest]:
+    def obey(self, step):
+        match step.split():
             case ["turn"]:
                 for square, piece in zip(self.squares, reversed(START)):
                     self.put(square, piece)
@@ -140,12 +161,16 @@ class Hands:
                 self.is_mute = True
             case [square, piece]:
                 self.put(square, piece)
-            case [move]:
+            case [move] if move[:2] in self.squares and move[2:] in self.squares:
                 self.move(move[:2], move[2:])
+            case _:
+                raise ValueError("none of the lines that --help lists")
 
 
 def main():
-    port = Port(sys.argv[1])
+    for ending in (signal.SIGINT, signal.SIGPIPE):
+        signal.signal(ending, signal.SIG_DFL)
+    port = Port(words.link)
     hands, waiting = Hands(port), b""
     port.plug()
     print("ready", flush=True)
@@ -159,9 +184,13 @@ def main():
             for step in steps:
                 if step == b"quit":
                     return port.unplug()
-                if step:
-                    hands.obey(*step.decode().split())
-                    print("ready", flush=True)
+                if not step.strip():
+                    continue
+                try:
+                    hands.obey(step.decode(errors="replace"))
+                except ValueError as wrong:
+                    print(f"board.py: {step!r}: {wrong}", file=sys.stderr, flush=True)
+                print("ready", flush=True)
             if not data:
                 return port.unplug()
 

@@ -48,7 +48,7 @@ static int stop = -1;            /* readable once the thread is to end */
 static char serial[8], version[16], trademark[128]; /* set before the thread starts */
 
 /* The reader's own, while it runs. */
-static line board;
+static line board = {.port = -1};
 static game followed;
 static bool begun;
 static enum plays plays;
@@ -69,14 +69,21 @@ static void set_click(uint8_t event[4], uint8_t square, uint8_t piece) {
     event[3] = (uint8_t)dgt_piece_letter(piece);
 }
 
+/* Says on standard error that eboard never gets a move, by the squares of the game. */
+static void log_dropped(const move *made) {
+    char from[3], to[3];
+    dgt_square_name(made->from, from);
+    dgt_square_name(made->to, to);
+    fprintf(stderr, "dgtnix: move %s%s dropped: the pipe is full, nobody reads it\n", from, to);
+}
+
 /* Two clicks are a move. They go in one write, which the pipe takes whole or not at all. */
 static void tell(const move *made) {
     uint8_t clicks[8];
     if (!game_wants(&followed, side_of(made->piece))) return;
     set_click(clicks, made->from, made->piece);
     set_click(clicks + 4, made->to, made->becomes);
-    ssize_t written = write(events[1], clicks, sizeof clicks);
-    (void)written;
+    if (write(events[1], clicks, sizeof clicks) != sizeof clicks) log_dropped(made);
 }
 
 static void see(const uint8_t pieces[64]) {

@@ -6,6 +6,8 @@
 #include <poll.h>
 #include <stdio.h>
 #include <string.h>
+#include <sys/file.h>
+#include <sys/ioctl.h>
 #include <termios.h>
 #include <time.h>
 #include <unistd.h>
@@ -37,11 +39,20 @@ static bool set_up(int port) {
     return tcsetattr(port, TCSANOW, &settings) == 0;
 }
 
-/* Programs that eboard starts, as an engine, must not have the port too: O_CLOEXEC. */
+/* Locks the port, as other programs do that ask before they use one. False, with EBUSY in errno, if
+ * another program holds the lock. */
+static bool lock_port(int port) {
+    if (flock(port, LOCK_EX | LOCK_NB) == 0) return true;
+    if (errno == EWOULDBLOCK) errno = EBUSY;
+    return false;
+}
+
+/* Opens the port for this process alone: TIOCEXCL refuses all later openers but root. Programs that
+ * eboard starts, as an engine, must not have the port either: O_CLOEXEC. */
 static int open_port(const char *name) {
     int port = open(name, O_RDWR | O_NOCTTY | O_NONBLOCK | O_CLOEXEC);
     if (port < 0) return -1;
-    if (set_up(port)) {
+    if (lock_port(port) && set_up(port) && ioctl(port, TIOCEXCL) == 0) {
         tcflush(port, TCIOFLUSH);
         return port;
     }
@@ -133,7 +144,10 @@ void line_keep(line *line) {
 }
 
 void line_close(line *line) {
-    if (line->port >= 0) close(line->port);
+    if (line->port >= 0) {
+        ioctl(line->port, TIOCNXCL); /* it would outlast the close while another has the port open */
+        close(line->port);
+    }
     line->port = -1;
 }
 
