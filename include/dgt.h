@@ -38,6 +38,9 @@
  * alone. A struct or a slice that a call writes may hold anything before; a slice keeps what stands
  * behind the bytes that are written.
  *
+ * PLATFORM: Linux on x86-64 processors, with pointers of 64 bits (not x32). lib/build compiles the
+ * library for any x86-64 processor, also the first ones. Elsewhere sizes and calls would differ.
+ *
  * Squares are numbered rank by rank from 8 down: a8 is 0, b8 is 1, h8 is 7, a7 is 8 and h1 is 63.
  * Pieces are numbered as on the line: 0 is none; 1 to 6 white and 7 to 12 black pawn, rook, knight,
  * bishop, king and queen; 13 to 15 are three extra pieces without a meaning.
