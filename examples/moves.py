@@ -135,8 +135,6 @@ def open_port(name: str) -> int:
     """Opens a serial line for this process alone."""
     try:
         line = os.open(name, os.O_RDWR | os.O_NOCTTY | os.O_NONBLOCK)
-        if not os.isatty(line):
-            raise OSError(errno.ENOTTY, "")
         take(line)
         os.set_blocking(line, True)
     except (OSError, termios.error) as refused:
