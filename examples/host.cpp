@@ -5,9 +5,9 @@
 //     ./dgt ask dump version | ./dgt board | ./host
 //
 // Where a file is named, it first writes there what it asks the board for. On a serial line that
-// stty has set up, this is the line itself:
+// stty has set up, this is the line itself, which flock keeps from other readers:
 //
-//     ./host /dev/ttyUSB0 </dev/ttyUSB0
+//     flock -n /dev/ttyUSB0 ./host /dev/ttyUSB0 </dev/ttyUSB0
 #include "dgt.h"
 
 #include <unistd.h>
