@@ -67,6 +67,7 @@ use dgt_values::MAX_BODY;
 /// The numbers of `dgt.h`. Each clause has the name of a constant there, in small letters and
 /// without `DGT_`. `checks/c_numbers` reads these numbers, and compares the header and the package
 /// for Python with them.
+/// The bits of a status are those that `Status` of dgt_message reads.
 pub fn limits()
     ensures max_body { MAX_BODY ≡ 16380 }
     ensures max_word { MAX_WORD ≡ 257 }
