@@ -18,8 +18,8 @@ input, a line each:
     mute      it answers nothing from now on
     quit
 
-It prints which commands it was sent, and when it is ready: at the start, and once a line was obeyed.
-It reports a line that it can't obey on standard error, and ignores it.
+It prints which commands it was sent, and when it is ready: at the start, and once a line was
+obeyed. It reports a line that it can't obey on standard error, and ignores it.
 """
 
 import argparse
@@ -54,11 +54,12 @@ SQUARES = {0x86, 0x8E}  # how the messages begin that tell squares: all of them,
 class Port:
     """The board's end of a pseudo-terminal, and the link by which a host finds the other end."""
 
-    def __init__(self, link):
+    def __init__(self, link: str) -> None:
         self.link = link
-        self.end = self.other = None
+        self.end: int | None = None
+        self.other: int | None = None
 
-    def plug(self):
+    def plug(self) -> None:
         if self.end is not None:
             return
         try:
@@ -74,8 +75,8 @@ class Port:
             why = f"{refused.strerror} (LINK is a new name in a folder of yours)"
             sys.exit(f"board.py: {self.link}: {why}")
 
-    def unplug(self):
-        if self.end is None:
+    def unplug(self) -> None:
+        if self.end is None or self.other is None:
             return
         time.sleep(0.05)  # what was sent is read first
         pathlib.Path(self.link).unlink(missing_ok=True)
@@ -83,7 +84,7 @@ class Port:
         os.close(self.other)
         self.end = self.other = None
 
-    def write(self, message):
+    def write(self, message: bytes) -> None:
         try:
             if self.end is not None:
                 os.write(self.end, message)
@@ -94,13 +95,13 @@ class Port:
 class Hands:
     """The board, and what is done to it."""
 
-    def __init__(self, port):
+    def __init__(self, port: Port) -> None:
         self.port, self.board = port, dgt.Board()
         self.squares = {file + rank: START[8 * number + place]
                         for number, rank in enumerate(RANKS) for place, file in enumerate(FILES)}
         self.is_mute = self.is_curt = self.is_cut = self.is_lost = False
 
-    def send(self, message):
+    def send(self, message: bytes) -> None:
         if self.is_mute or (self.is_curt and message[0] not in SQUARES):
             return
         if self.is_lost:
@@ -111,21 +112,21 @@ class Hands:
             self.is_cut = False
             self.unplug()
 
-    def hear(self):
-        """Takes what the host asks for, and answers."""
-        asked = os.read(self.port.end, 4096)
+    def hear(self, end: int) -> None:
+        """Takes what the host asks for at the board's end, and answers."""
+        asked = os.read(end, 4096)
         for command in asked.replace(b"\0", b""):
             print(f"asked {command:02x}", flush=True)
         for message in self.board.answers(asked):
             self.send(message)
 
-    def put(self, square, piece):
+    def put(self, square: str, piece: str) -> None:
         self.board.change(square, piece)
         self.squares[square] = piece
         for message in self.board.messages():
             self.send(message)
 
-    def move(self, start, end):
+    def move(self, start: str, end: str) -> None:
         piece = self.squares[start]
         if self.squares[end] != ".":
             self.put(end, ".")
@@ -134,11 +135,11 @@ class Hands:
         time.sleep(0.1)
         self.put(end, piece)
 
-    def unplug(self):
+    def unplug(self) -> None:
         self.port.unplug()
         self.board.line_lost()
 
-    def obey(self, step):
+    def obey(self, step: str) -> None:
         match step.split():
             case ["turn"]:
                 for square, piece in zip(self.squares, reversed(START)):
@@ -167,7 +168,7 @@ class Hands:
                 raise ValueError("none of the lines that --help lists")
 
 
-def main():
+def main() -> None:
     for ending in (signal.SIGINT, signal.SIGPIPE):
         signal.signal(ending, signal.SIG_DFL)
     port = Port(words.link)
@@ -176,8 +177,8 @@ def main():
     print("ready", flush=True)
     while True:
         ready = select.select([0] if port.end is None else [0, port.end], [], [])[0]
-        if port.end in ready:
-            hands.hear()
+        if port.end is not None and port.end in ready:
+            hands.hear(port.end)
         if 0 in ready:
             data = os.read(0, 4096)
             *steps, waiting = (waiting + data).split(b"\n")
