@@ -1,5 +1,5 @@
 """docs/PROTOCOL.md once more, as plain as it can be said in Python: what `dgt monitor`, `dgt picture`, `dgt commands`,
-`dgt board` and `dgt simulate` write.
+`dgt ask`, `dgt board` and `dgt simulate` write.
 
 Written from that page, README.md and the program's help, and not from its sources, so that both can be held against each other:
 checks/hostile does that. Squares are numbers, pieces their codes, a position is a list of 64 pieces. A clock is the seven bytes
@@ -259,6 +259,107 @@ def commands(data):
     if word:
         lines.append(f"{len(data):08} unfinished {len(word)}\n")
     return "".join(lines).encode()
+
+
+def clock_message(clock_id, payload):
+    return bytes([CLOCK_MESSAGE, len(payload) + 3, 0x03, clock_id, *payload, 0x00])
+
+
+# What `dgt ask` writes for the words that stand alone.
+ASKED = {name: bytes([code]) for code, name in NAMES.items()}
+ASKED |= {name: clock_message(clock_id, b"") for clock_id, name in EMPTY.items()}
+ASKED |= {"follow": b"\x44\x42", "restart": bytes(255) + b"\x44\x42"}
+
+
+# How what follows the other words is read: to the bytes of the command, or None if it can't follow.
+
+
+def read_digits(word, most):
+    """The bytes of hexadecimal digits, if there are no more of them."""
+    is_right = re.fullmatch(r"([0-9A-Fa-f]{2})*", word) and len(word) <= 2 * most
+    return bytes.fromhex(word) if is_right else None
+
+
+def read_payload(word, most):
+    return b"" if word == "-" else read_digits(word, most)
+
+
+def ask_beep(word):
+    is_right = re.fullmatch(r"0|[1-9][0-9]{0,2}", word) and int(word) <= 255
+    return clock_message(0x0B, [int(word)]) if is_right else None
+
+
+def ask_display(word):
+    if re.fullmatch(r"[0-9A-Fa-f]{16}", word):
+        return clock_message(0x01, bytes.fromhex(word))
+    if not re.fullmatch(r"[0-9 -]{0,6}", word):
+        return None
+    places = {letter: place for place, letter in SEGMENTS.items()}
+    a, b, c, d, e, f = (places[letter] for letter in word.ljust(6))
+    return clock_message(0x01, [c, b, a, f, e, d, 0, 0])
+
+
+def ask_text(word):
+    if re.fullmatch(r"[0-9A-Fa-f]{18}", word):
+        return clock_message(0x0C, bytes.fromhex(word))
+    is_right = word.isascii() and len(word) <= 8
+    return clock_message(0x0C, word.ljust(8).encode() + b"\0") if is_right else None
+
+
+def ask_icons(word):
+    payload = read_payload(word, 252)
+    return None if payload is None else clock_message(0x02, payload)
+
+
+def ask_set_and_run(word):
+    payload = read_digits(word, 7) or b""
+    return clock_message(0x0A, payload) if len(payload) == 7 else None
+
+
+def ask_clock_message(clock_id, word):
+    """A clock message that `dgt commands` has no other word for."""
+    ids, payload = read_digits(clock_id, 1), read_payload(word, 252)
+    if not ids or payload is None:
+        return None
+    has_no_other = clock_message_text(ids[0], payload).startswith("clockmessage ")
+    return clock_message(ids[0], payload) if has_no_other else None
+
+
+def ask_leds(word):
+    lights = read_payload(word, 255)
+    return None if lights is None else bytes([LIGHTS, len(lights), *lights])
+
+
+def ask_stray(word):
+    byte = read_digits(word, 1)
+    return byte if byte and word_kind(byte) == "stray" else None
+
+
+# How many words follow each of these, and what reads them.
+DETAILS = {"beep": (1, ask_beep), "display": (1, ask_display), "text": (1, ask_text)}
+DETAILS |= {"icons": (1, ask_icons), "setandrun": (1, ask_set_and_run)}
+DETAILS |= {"clockmessage": (2, ask_clock_message), "leds": (1, ask_leds), "stray": (1, ask_stray)}
+
+
+def ask(arguments):
+    """What `dgt ask` writes, or None if an argument is wrong or missing. None asks for help."""
+    output, rest = b"", list(arguments)
+    while rest:
+        argument = rest.pop(0)
+        if argument in ASKED:
+            output += ASKED[argument]
+            continue
+        name, space, words = argument.partition(" ")
+        count, read = DETAILS.get(name, (0, None))
+        if space:
+            words = words.split(" ", count - 1) if count else []
+        else:
+            words, rest = rest[:count], rest[count:]
+        asked = read(*words) if read and len(words) == count else None
+        if asked is None:
+            return None
+        output += asked
+    return output
 
 
 class CommandReader:

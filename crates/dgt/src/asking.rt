@@ -1,5 +1,16 @@
 //! Commands by name, as `dgt ask` takes them.
-use dgt_command::{ClockCommand, Command, LedBytes, MAX_LED_BYTES, MAX_WORD, display, encode};
+ghost use Rattle.std.specs.Prelude.{◌≡◌, ◌≢◌, ◌<◌, ◌≤◌, ◌*◌, ◌++◌, [], ◌∷◌, length, codes, slice_index as nth};
+ghost use Rattle.std.specs.Prelude.{OnOk, IfOk, IsOkAnd, IfSome, IfNone, IsSomeAnd, MatchResult, Ok, Some, None, ⊤};
+ghost use Rattle.dgt_command.specs.declared.ids.KnownId.{KnownId};
+ghost use Rattle.dgt_command.specs.Content.{command_content, ClockMessage, Leds, clock_content, known_clock};
+ghost use Rattle.dgt_command.specs.Spelling.{command_spelling};
+ghost use Rattle.dgt_host.specs.Host.{follow_bytes, restart_bytes};
+ghost use Rattle.hex.specs.Hex.{decode_of, decode_sized};
+
+use dgt_command::{
+    ClockCommand, Command, CommandDecoder, CommandEvent, LedBytes, MAX_LED_BYTES, MAX_PAYLOAD,
+    MAX_WORD, Payload, RawClock, display, encode,
+};
 use dgt_host::{Host, RESTART_LENGTH};
 use hex::decode_to_slice;
 use std::alloc::{AllocError, Global};
@@ -7,15 +18,19 @@ use std::alloc::{AllocError, Global};
 /// The words, as a fault lists them.
 pub const WORDS: &str = "reset, clock, dump, update, updateboard, updatenice, serial, longserial, \
 trademark, battery, version, follow, restart, beep N, end, button, clockversion, display TEXT, \
-text TEXT, setandrun HEX, leds HEX";
+text TEXT, icons HEX, setandrun HEX, clockmessage ID HEX, leds HEX, stray HEX";
 
 /// Why the words ask for no commands.
 #[derive(Drop)]
 pub enum BadAsk<'a> {
+    /// One of them asks for help.
+    Help,
     /// This is none of the words.
     Unknown(&'a str),
-    /// Behind a word stands not what has to follow it.
-    Unfit(Detail),
+    /// Nothing follows a word that is no command alone.
+    Missing(Detail),
+    /// This can't follow the word before it.
+    Unfit { detail: Detail, given: &'a str },
     /// An allocation was refused.
     OutOfMemory,
 }
@@ -32,8 +47,11 @@ pub enum Detail {
     Beep,
     Display,
     Text,
+    Icons,
     SetAndRun,
+    ClockMessage,
     Leds,
+    Stray,
 }
 
 impl Detail {
@@ -41,11 +59,18 @@ impl Detail {
     pub fn form(self) -> &'static str {
         match self {
             Detail::Beep => "beep is followed by a number from 0 to 255",
-            Detail::Display => "display is followed by six digits, spaces or hyphens in one word",
-            Detail::Text => "text is followed by eight ASCII characters in one word",
+            Detail::Display => "display is followed by six digits, spaces or hyphens at most, or \
+by eight bytes, two hexadecimal digits each",
+            Detail::Text => "text is followed by eight ASCII characters at most, or by nine bytes, \
+two hexadecimal digits each",
+            Detail::Icons => "icons is followed by 252 bytes at most, two hexadecimal digits each",
             Detail::SetAndRun =>
                 "setandrun is followed by seven bytes, two hexadecimal digits each",
+            Detail::ClockMessage => "clockmessage is followed by an id, two hexadecimal digits, \
+and by 252 bytes at most, two hexadecimal digits each, that have no other word",
             Detail::Leds => "leds is followed by 255 bytes at most, two hexadecimal digits each",
+            Detail::Stray => "stray is followed by a byte that begins no command, two hexadecimal \
+digits",
         }
     }
 }
@@ -76,121 +101,338 @@ fn named(word: &str) -> Option<Asked> {
         "clockversion" => Command::ClockMessage(ClockCommand::Version),
         "follow" => return Some(Asked::Follow),
         "restart" => return Some(Asked::Restart),
-        "beep" => return Some(Asked::With(Detail::Beep)),
-        "display" => return Some(Asked::With(Detail::Display)),
-        "text" => return Some(Asked::With(Detail::Text)),
-        "setandrun" => return Some(Asked::With(Detail::SetAndRun)),
-        "leds" => return Some(Asked::With(Detail::Leds)),
-        _ => return None,
+        _ => return Some(Asked::With(detail_of(word)?)),
     };
     Some(Asked::Command(command))
 }
 
+fn detail_of(word: &str) -> Option<Detail> {
+    let detail = match word {
+        "beep" => Detail::Beep,
+        "display" => Detail::Display,
+        "text" => Detail::Text,
+        "icons" => Detail::Icons,
+        "setandrun" => Detail::SetAndRun,
+        "clockmessage" => Detail::ClockMessage,
+        "leds" => Detail::Leds,
+        "stray" => Detail::Stray,
+        _ => return None,
+    };
+    Some(detail)
+}
+
+// What the next word has to be.
+#[derive(Clone, Copy)]
+enum Awaited<'a> {
+    Name,
+    Detail(Detail),
+    /// The bytes of a clock message with this id.
+    Bytes(&'a str),
+}
+
 /// The bytes of the commands that these words ask for, in order.
+///
+/// A command is the words of a line of `dgt commands`: one word each, or all in one with a space
+/// between two of them.
 pub fn asked_bytes<'a>(alloc: Global, words: &[&'a str]) -> Result<Vec<u8>, BadAsk<'a>> {
     let mut bytes = Vec::new(alloc);
-    let mut detail = None;
+    let mut awaited = Awaited::Name;
     for word in words {
-        match detail.take() {
-            Some(detail) => push_detail(detail, word, &mut bytes)?,
-            None => match named(word) {
-                Some(Asked::Command(command)) => push(&command, &mut bytes)?,
-                Some(Asked::Follow) => push_follow(&mut bytes)?,
-                Some(Asked::Restart) => push_restart(&mut bytes)?,
-                Some(Asked::With(wanted)) => detail = Some(wanted),
-                None => return Err(BadAsk::Unknown(word)),
-            },
-        }
+        awaited = take(awaited, word, &mut bytes)?;
     }
-    match detail {
-        Some(detail) => Err(BadAsk::Unfit(detail)),
-        None => Ok(bytes),
+    match awaited {
+        Awaited::Name => Ok(bytes),
+        Awaited::Detail(detail) => Err(BadAsk::Missing(detail)),
+        Awaited::Bytes(_) => Err(BadAsk::Missing(Detail::ClockMessage)),
     }
 }
 
-fn push(command: &Command<'_>, bytes: &mut Vec<u8>) -> Result<(), AllocError> {
+// Takes a word, appends the bytes of the command that it ends, and answers what comes next.
+fn take<'a>(
+    awaited: Awaited<'a>,
+    word: &'a str,
+    bytes: &mut Vec<u8>,
+) -> Result<Awaited<'a>, BadAsk<'a>> {
+    match awaited {
+        // The one place where such a word says something else.
+        Awaited::Detail(Detail::Text) => push_detail(Detail::Text, word, bytes)?,
+        _ if word == "--help" || word == "-h" => return Err(BadAsk::Help),
+        Awaited::Name => return begin(word, bytes),
+        Awaited::Detail(Detail::ClockMessage) => return Ok(Awaited::Bytes(word)),
+        Awaited::Detail(detail) => push_detail(detail, word, bytes)?,
+        Awaited::Bytes(id) => push_clock_message(id, word, bytes)?,
+    }
+    Ok(Awaited::Name)
+}
+
+// Takes the first word of a command, or the whole of it in one.
+fn begin<'a>(word: &'a str, bytes: &mut Vec<u8>) -> Result<Awaited<'a>, BadAsk<'a>> {
+    if let Some((name, rest)) = word.split_once(' ') {
+        match detail_of(name) {
+            Some(Detail::ClockMessage) => push_id_and_bytes(rest, bytes)?,
+            Some(detail) => push_detail(detail, rest, bytes)?,
+            None => return Err(BadAsk::Unknown(word)),
+        }
+        return Ok(Awaited::Name);
+    }
+    match named(word) {
+        Some(Asked::Command(command)) => push(&command, bytes)?,
+        Some(Asked::Follow) => push_follow(bytes)?,
+        Some(Asked::Restart) => push_restart(bytes)?,
+        Some(Asked::With(detail)) => return Ok(Awaited::Detail(detail)),
+        None => return Err(BadAsk::Unknown(word)),
+    }
+    Ok(Awaited::Name)
+}
+
+// Appends the bytes of a command.
+fn push(command: &Command<'_>, bytes: &mut Vec<u8>) -> Result<(), AllocError>
+    ensures { OnOk result (bytes.new.items
+        ≡ bytes.old.items ++ command_spelling (command_content command.now)) }
+{
     let mut room = [0; MAX_WORD];
     let count = encode(command, &mut room).unwrap();
     bytes.extend_from_slice(&room[..count])
 }
 
-fn push_follow(bytes: &mut Vec<u8>) -> Result<(), AllocError> {
+fn push_follow(bytes: &mut Vec<u8>) -> Result<(), AllocError>
+    ensures { OnOk result (bytes.new.items ≡ bytes.old.items ++ follow_bytes) }
+{
     let mut room = [0; RESTART_LENGTH];
     let count = Host::new().follow(&mut room).unwrap();
     bytes.extend_from_slice(&room[..count])
 }
 
-fn push_restart(bytes: &mut Vec<u8>) -> Result<(), AllocError> {
+fn push_restart(bytes: &mut Vec<u8>) -> Result<(), AllocError>
+    ensures { OnOk result (bytes.new.items ≡ bytes.old.items ++ restart_bytes) }
+{
     let mut room = [0; RESTART_LENGTH];
     let count = Host::new().restart(&mut room).unwrap();
     bytes.extend_from_slice(&room[..count])
 }
 
 // Appends the command that a word and its detail ask for.
-fn push_detail<'a>(detail: Detail, word: &str, bytes: &mut Vec<u8>) -> Result<(), BadAsk<'a>> {
-    let clock = match detail {
-        Detail::Beep => beep(word),
-        Detail::Display => six_places(word),
-        Detail::Text => eight_letters(word),
-        Detail::SetAndRun => set_and_run(word),
-        Detail::Leds => return push_leds(word, bytes),
-    };
-    match clock {
-        Some(clock) => Ok(push(&Command::ClockMessage(clock), bytes)?),
-        None => Err(BadAsk::Unfit(detail)),
+fn push_detail<'a>(detail: Detail, word: &'a str, bytes: &mut Vec<u8>) -> Result<(), BadAsk<'a>> {
+    let mut room = [0; MAX_LED_BYTES];
+    match detail {
+        Detail::Beep => push_fit(beep(word), detail, word, bytes),
+        Detail::Display => push_fit(six_places(word), detail, word, bytes),
+        Detail::Text => push_fit(eight_letters(word), detail, word, bytes),
+        Detail::Icons => push_fit(icons(word, &mut room), detail, word, bytes),
+        Detail::SetAndRun => push_fit(set_and_run(word), detail, word, bytes),
+        // Its id and its bytes are two words.
+        Detail::ClockMessage => push_fit(None, detail, word, bytes),
+        Detail::Leds => push_fit(leds(word, &mut room), detail, word, bytes),
+        Detail::Stray => push_stray(word, bytes),
     }
 }
 
-fn beep(word: &str) -> Option<ClockCommand<'static>> {
-    Some(ClockCommand::Beep(word.parse().ok()?))
+// Appends the command, if what follows its word is fit for one.
+fn push_fit<'a>(
+    command: Option<Command<'_>>,
+    detail: Detail,
+    given: &'a str,
+    bytes: &mut Vec<u8>,
+) -> Result<(), BadAsk<'a>>
+    ensures { OnOk result (IsSomeAnd command.entry (λ command. bytes.new.items
+        ≡ bytes.old.items ++ command_spelling (command_content command))) }
+{
+    match command {
+        Some(command) => Ok(push(&command, bytes)?),
+        None => Err(BadAsk::Unfit { detail, given }),
+    }
 }
 
-fn six_places(word: &str) -> Option<ClockCommand<'static>> {
+fn clock(message: ClockCommand<'_>) -> Option<Command<'_>>
+    ensures { IsSomeAnd result (λ command.
+        command_content command ≡ ClockMessage (clock_content message.entry)) }
+{
+    Some(Command::ClockMessage(message))
+}
+
+// A number as scripts have it: digits, and no zero before others.
+fn beep(word: &str) -> Option<Command<'static>> {
+    let is_number = word.bytes().all(|digit| digit.is_ascii_digit());
+    if !is_number || word.len() > 1 && word.starts_with('0') {
+        return None;
+    }
+    clock(ClockCommand::Beep(word.parse().ok()?))
+}
+
+// The bytes of a payload, or characters and spaces in the place of those that are missing.
+fn six_places(word: &str) -> Option<Command<'static>>
+    ensures { MatchResult (decode_sized word.now 8)
+        (λ bytes. IsSomeAnd result (λ command.
+        command_content command ≡ ClockMessage (known_clock KnownId.Display bytes)))
+        (λ _. ⊤) }
+{
+    let mut payload = [0; 8];
+    if decode_to_slice(word, &mut payload).is_ok() {
+        let [c, b, a, f, e, d, dots, beep] = payload;
+        return clock(ClockCommand::Display {
+            places: [a, b, c, d, e, f],
+            dots,
+            beep,
+        });
+    }
     let mut letters = word.chars();
     let text = [
-        letters.next()?,
-        letters.next()?,
-        letters.next()?,
-        letters.next()?,
-        letters.next()?,
-        letters.next()?,
+        letters.next().unwrap_or(' '),
+        letters.next().unwrap_or(' '),
+        letters.next().unwrap_or(' '),
+        letters.next().unwrap_or(' '),
+        letters.next().unwrap_or(' '),
+        letters.next().unwrap_or(' '),
     ];
     if letters.next().is_some() {
         return None;
     }
-    display(text, 0, 0).ok()
+    clock(display(text, 0, 0).ok()?)
 }
 
-fn eight_letters(word: &str) -> Option<ClockCommand<'static>> {
+// The bytes of a payload, or characters and spaces in the place of those that are missing.
+fn eight_letters(word: &str) -> Option<Command<'static>>
+    ensures { MatchResult (decode_sized word.now 9)
+        (λ bytes. IsSomeAnd result (λ command.
+        command_content command ≡ ClockMessage (known_clock KnownId.Text bytes)))
+        (λ _. ⊤) }
+{
+    let mut payload = [0; 9];
+    if decode_to_slice(word, &mut payload).is_ok() {
+        let [a, b, c, d, e, f, g, h, beep] = payload;
+        return clock(ClockCommand::Text {
+            letters: [a, b, c, d, e, f, g, h],
+            beep,
+        });
+    }
     if !word.is_ascii() {
         return None;
     }
-    let letters = <[u8; 8]>::try_from(word.as_bytes()).ok()?;
-    Some(ClockCommand::Text { letters, beep: 0 })
+    let mut letters = [b' '; 8];
+    let places = letters.get_mut(..word.len())?;
+    places.copy_from_slice(word.as_bytes());
+    clock(ClockCommand::Text { letters, beep: 0 })
 }
 
-fn set_and_run(word: &str) -> Option<ClockCommand<'static>> {
+fn set_and_run(word: &str) -> Option<Command<'static>>
+    ensures { MatchResult (decode_sized word.now 7)
+        (λ bytes. IsSomeAnd result (λ command.
+        command_content command ≡ ClockMessage (known_clock KnownId.SetAndRun bytes)))
+        (λ _. result ≡ None) }
+{
     let mut bytes = [0; 7];
     decode_to_slice(word, &mut bytes).ok()?;
     let [h, m, s, hours, minutes, seconds, control] = bytes;
-    Some(ClockCommand::SetAndRun {
+    clock(ClockCommand::SetAndRun {
         left: [h, m, s],
         right: [hours, minutes, seconds],
         control,
     })
 }
 
-fn push_leds<'a>(word: &str, bytes: &mut Vec<u8>) -> Result<(), BadAsk<'a>> {
-    let mut room = [0; MAX_LED_BYTES];
-    let count = word.len() / 2;
-    let Some(lit) = room.get_mut(..count) else {
-        return Err(BadAsk::Unfit(Detail::Leds));
-    };
-    if decode_to_slice(word, lit).is_err() {
-        return Err(BadAsk::Unfit(Detail::Leds));
+fn icons<'r>(word: &str, room: &'r mut [u8]) -> Option<Command<'r>>
+    ensures none { word.now ≡ codes "-" → IsSomeAnd result (λ command.
+        command_content command ≡ ClockMessage (known_clock KnownId.Icons [])) }
+    ensures digits { word.now ≢ codes "-" → IfSome result (λ command.
+        IfOk (decode_of word.now) (λ bytes.
+        command_content command ≡ ClockMessage (known_clock KnownId.Icons bytes))) }
+{
+    clock(ClockCommand::Icons(Payload::new(decoded(word, room)?).ok()?))
+}
+
+fn leds<'r>(word: &str, room: &'r mut [u8; MAX_LED_BYTES]) -> Option<Command<'r>>
+    ensures none { word.now ≡ codes "-" → IsSomeAnd result (λ command.
+        command_content command ≡ Leds []) }
+    ensures digits { word.now ≢ codes "-" → IfSome result (λ command.
+        IfOk (decode_of word.now) (λ bytes. command_content command ≡ Leds bytes)) }
+    ensures refused { word.now ≢ codes "-" → IfNone result
+        (IfOk (decode_of word.now) (λ _. 2 * 255 < length word.now)) }
+{
+    Some(Command::Leds(LedBytes::new(decoded(word, room)?).ok()?))
+}
+
+// The bytes of hexadecimal digits, or none for a hyphen, where there is room for them.
+fn decoded<'r>(word: &str, room: &'r mut [u8]) -> Option<&'r [u8]>
+    ensures none { word.now ≡ codes "-" → IsSomeAnd result (λ bytes. bytes.now ≡ []) }
+    ensures digits { word.now ≢ codes "-"
+        → IfSome result (λ bytes. decode_of word.now ≡ Ok bytes.now) }
+    ensures room { IfSome result (λ bytes. length bytes.now ≤ length room.old) }
+    ensures refused { word.now ≢ codes "-" → IfNone result
+        (IfOk (decode_of word.now) (λ _. 2 * length room.old < length word.now)) }
+{
+    if word == "-" {
+        return Some(&[]);
     }
-    match LedBytes::new(&room[..count]) {
-        Ok(leds) => Ok(push(&Command::Leds(leds), bytes)?),
-        Err(_) => Err(BadAsk::Unfit(Detail::Leds)),
+    let bytes = room.get_mut(..word.len() / 2)?;
+    decode_to_slice(word, bytes).ok()?;
+    Some(bytes)
+}
+
+fn byte(word: &str) -> Option<u8>
+    ensures { MatchResult (decode_sized word.now 1)
+        (λ bytes. result ≡ Some (nth bytes 0)) (λ _. result ≡ None) }
+{
+    let mut bytes = [0];
+    decode_to_slice(word, &mut bytes).ok()?;
+    Some(bytes[0])
+}
+
+// Appends a clock message whose id and bytes are in one word.
+fn push_id_and_bytes<'a>(word: &'a str, bytes: &mut Vec<u8>) -> Result<(), BadAsk<'a>> {
+    match word.split_once(' ') {
+        Some((id, payload)) => push_clock_message(id, payload, bytes),
+        None => push_fit(None, Detail::ClockMessage, word, bytes),
     }
+}
+
+// Appends a clock message that has no other word.
+fn push_clock_message<'a>(id: &'a str, word: &'a str, bytes: &mut Vec<u8>) -> Result<(), BadAsk<'a>>
+    ensures none { word.now ≡ codes "-" → OnOk result
+        (IsOkAnd (decode_sized id.now 1) (λ ids. bytes.new.items ≡ bytes.old.items
+        ++ command_spelling (ClockMessage (record { id = nth ids 0; payload = [] })))) }
+    ensures digits { word.now ≢ codes "-" → OnOk result
+        (IsOkAnd (decode_sized id.now 1) (λ ids. IfOk (decode_of word.now) (λ payload.
+        bytes.new.items ≡ bytes.old.items
+        ++ command_spelling (ClockMessage (record { id = nth ids 0; payload = payload }))))) }
+{
+    let mut room = [0; MAX_PAYLOAD];
+    match byte(id) {
+        Some(number) => {
+            push_fit(
+                raw(number, word, &mut room),
+                Detail::ClockMessage,
+                word,
+                bytes,
+            )
+        }
+        None => push_fit(None, Detail::ClockMessage, id, bytes),
+    }
+}
+
+fn raw<'r>(id: u8, word: &str, room: &'r mut [u8]) -> Option<Command<'r>>
+    ensures none { word.now ≡ codes "-" → IfSome result (λ command.
+        command_content command ≡ ClockMessage (record { id = id; payload = [] })) }
+    ensures digits { word.now ≢ codes "-" → IfSome result (λ command.
+        IfOk (decode_of word.now) (λ bytes.
+        command_content command ≡ ClockMessage (record { id = id; payload = bytes }))) }
+{
+    let payload = Payload::new(decoded(word, room)?).ok()?;
+    clock(ClockCommand::Raw(RawClock::new(id, payload).ok()?))
+}
+
+// Appends a byte that begins no command.
+fn push_stray<'a>(word: &'a str, bytes: &mut Vec<u8>) -> Result<(), BadAsk<'a>>
+    ensures { OnOk result (IsOkAnd (decode_sized word.now 1) (λ stray.
+        bytes.new.items ≡ bytes.old.items ++ nth stray 0 ∷ [])) }
+{
+    if let Some(byte) = byte(word) {
+        let mut reader = CommandDecoder::new();
+        if let Some(CommandEvent::Stray(_)) = reader.feed(&[byte]).event {
+            return Ok(bytes.extend_from_slice(&[byte])?);
+        }
+    }
+    Err(BadAsk::Unfit {
+        detail: Detail::Stray,
+        given: word,
+    })
 }

@@ -167,11 +167,7 @@ pub fn read<'a>(alloc: Global, words: &'a [String]) -> Result<Task<'a>, Fault> {
     match command(alloc)?.try_get_matches_from(words) {
         Ok(matches) => match requested(alloc, &matches)? {
             Some(task) => Ok(task),
-            None => Err(refuse(
-                alloc,
-                ErrorKind::InvalidSubcommand,
-                "a subcommand has no task",
-            )),
+            None => Err(without_task(alloc)),
         },
         Err(error) => unmatched(error),
     }
@@ -189,9 +185,7 @@ fn unmatched<'a>(error: clap::Error) -> Result<Task<'a>, Fault> {
 // Each subcommand has its task here, and each option its value. What hasn't is refused.
 fn requested<'a>(alloc: Global, matches: &ArgMatches<'a>) -> Result<Option<Task<'a>>, Fault> {
     match matches.subcommand() {
-        Some(("ask", ask)) => Ok(Some(Task::Ask {
-            bytes: asked(alloc, ask.get_strs("word").unwrap_or(&[]))?,
-        })),
+        Some(("ask", ask)) => Ok(Some(asked(alloc, ask.get_strs("word").unwrap_or(&[]))?)),
         Some((name, options)) => Ok(task_named(name, options)),
         None => Ok(None),
     }
@@ -219,16 +213,32 @@ fn task_named<'a>(name: &str, options: &ArgMatches<'a>) -> Option<Task<'a>> {
     Some(task)
 }
 
-// The bytes of the commands with these names.
-fn asked(alloc: Global, words: &[&str]) -> Result<Vec<u8>, Fault> {
-    asked_bytes(alloc, words).map_err(|bad| match bad {
-        BadAsk::Unknown(word) => match format!(in alloc; "{word} is none of the words {WORDS}") {
-            Ok(text) => refuse(alloc, ErrorKind::InvalidValue, text.as_str()),
-            Err(_) => Fault::OutOfMemory,
-        },
-        BadAsk::Unfit(detail) => refuse(alloc, ErrorKind::InvalidValue, detail.form()),
-        BadAsk::OutOfMemory => Fault::OutOfMemory,
-    })
+// The task of the words of `ask`.
+fn asked<'a>(alloc: Global, words: &[&str]) -> Result<Task<'a>, Fault> {
+    let text = match asked_bytes(alloc, words) {
+        Ok(bytes) => return Ok(Task::Ask { bytes }),
+        Err(BadAsk::Help) => return help_of_ask(alloc),
+        Err(BadAsk::Unknown(word)) => {
+            let word = word.escape_debug();
+            format!(in alloc; "'{word}' is none of the words {WORDS}")?
+        }
+        Err(BadAsk::Missing(detail)) => detail.form().to_string(alloc)?,
+        Err(BadAsk::Unfit { detail, given }) => {
+            let (form, given) = (detail.form(), given.escape_debug());
+            format!(in alloc; "{form}, not by '{given}'")?
+        }
+        Err(BadAsk::OutOfMemory) => return Err(Fault::OutOfMemory),
+    };
+    let mut ask = ask(alloc)?.bin_name("dgt ask")?;
+    Err(Fault::CommandLine(ask.error(ErrorKind::InvalidValue, text.as_str())?))
+}
+
+// The help of `ask`, which one of its words asks for.
+fn help_of_ask<'a>(alloc: Global) -> Result<Task<'a>, Fault> {
+    match command(alloc)?.try_get_matches_from(&["dgt", "help", "ask"]) {
+        Ok(_) => Err(without_task(alloc)),
+        Err(error) => unmatched(error),
+    }
 }
 
 /// The fault where the system gave no words as text.
@@ -240,6 +250,15 @@ pub fn refuse_arguments(alloc: Global, error: &io::Error) -> Fault {
         alloc,
         ErrorKind::InvalidValue,
         "an argument is not UTF-8 text",
+    )
+}
+
+// The fault where a subcommand has no task.
+fn without_task(alloc: Global) -> Fault {
+    refuse(
+        alloc,
+        ErrorKind::InvalidSubcommand,
+        "a subcommand has no task",
     )
 }
 

@@ -155,11 +155,28 @@ The words, and what they ask for:
   clockversion      the clock tells its version
   display TEXT      the clock shows six digits, spaces or hyphens
   text TEXT         the clock shows eight ASCII characters
+  icons HEX         the clock shows these icons, 252 bytes at most
   setandrun HEX     the clock is set and runs: hours, minutes and seconds of
                     both players and a control byte
+  clockmessage ID HEX
+                    another message for the clock, 252 bytes at most
   leds HEX          these lights, 255 bytes at most
+  stray HEX         nothing: one byte, which begins no command
 
-TEXT and HEX are one word each; HEX is two hexadecimal digits a byte.
+A shorter TEXT gets spaces on its right. HEX is two hexadecimal digits a byte,
+and - stands for no bytes of icons, clockmessage or leds; ID is one byte. In the
+place of TEXT, display takes eight bytes and text nine, as 'dgt commands --help'
+tells. N has no sign and no leading zero.
+
+Each word is an argument of its own. Or one argument is a command and all that
+follows it, with a space between its words: 'beep 3'. So each line of a command
+or a stray byte that 'dgt commands' writes is an argument, and this sends the
+commands in the file log again:
+
+  dgt commands <log | cut -d' ' -f2- | xargs -rd '\\n' dgt ask
+
+Where a command begins, and in the place of all that follows one but the TEXT of
+text, --help and -h show this help.
 
 Exit status: 0; 1 if standard output fails; 2 if the command line or a word is
 wrong, and then nothing is written; 3 if memory runs out.
@@ -178,19 +195,17 @@ Writes one line to standard output for each command, and for each fault in the
 bytes, as soon as they have come: the number of bytes up to there, then the
 command in the words of 'dgt ask --help', or one of
 
-  display BYTES           a display with other signs, with dots or with a beep
-  text BYTES              a text with other characters or with a beep
-  icons BYTES             the clock shows these icons
-  clockmessage ID BYTES   a message for the clock of another kind
   badsize                 2b and a size below 3
   badstart                2b, a size, and a byte that isn't 03
   badend                  a message for the clock whose last byte isn't 00
   stray BYTE              a byte that begins no command
   unfinished N            N bytes of a command, cut off by the end
 
-Bytes and ID are hexadecimal, and - stands for no BYTES. They are those between
-the id and the 00 at the end: of a display the places C, B, A, F, E and D, the
-dots and the beep; of a text its characters and the beep.
+A display with other signs, with dots or with a beep is 'display' and its eight
+bytes: the places C, B, A, F, E and D, the dots and the beep. A text with other
+characters or with a beep is 'text' and its nine bytes: the characters and the
+beep. Bytes are hexadecimal, and - stands for no bytes. 'dgt ask' takes the
+lines of commands and of stray bytes, and writes the bytes again.
 
 Exit status: 0, with faults in the bytes too; 1 if standard input or output
 fails, or the end has not come after 4294967295 reads; 2 if the command line is

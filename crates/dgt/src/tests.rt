@@ -54,9 +54,19 @@ fn run<I: Read + Drop>(
     room: usize,
     flushes: bool,
 ) -> Result<Ran, AllocError> {
+    run_all(alloc, words(alloc, line)?, input, room, flushes)
+}
+
+// Runs these words, of which the first is the program's name.
+fn run_all<I: Read + Drop>(
+    alloc: Global,
+    words: Vec<String>,
+    input: I,
+    room: usize,
+    flushes: bool,
+) -> Result<Ran, AllocError> {
     let mut output = Vec::with_capacity(alloc, ROOM)?;
     let mut errors = Vec::with_capacity(alloc, ROOM)?;
-    let words = words(alloc, line)?;
     let taking = Taking {
         taken: &mut output,
         room,
@@ -403,6 +413,10 @@ fn stops_at_a_refused_write(rt: HostRuntime) -> Result<(), Fail> {
         ("dgt commands", b"\x42", 9, true, "00000001 "),
         ("dgt commands", b"\x42", ROOM, false, "00000001 dump\n"),
         ("dgt board", b"\x45", 0, true, ""),
+        ("dgt ask dump version", b"", 0, true, ""),
+        ("dgt ask dump version", b"", 1, true, "B"),
+        ("dgt ask dump version", b"", ROOM, false, "BM"),
+        ("dgt ask dump --help", b"", 6, true, "Writes"),
         ("dgt simulate", b"send\nsend\n", 4, true, "noth"),
         ("dgt simulate", b"send\nsend\n", 8, true, "nothing\n"),
         ("dgt simulate --faults", b"boardlost\n", 4, true, "done"),
