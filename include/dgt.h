@@ -22,8 +22,9 @@
  * the bytes are. Where you don't, nothing is promised, and nothing is tested when the program runs.
  *
  *  - No pointer is null, also where its length is 0 (pass any address then), and each is aligned as
- *    its type is. A length is at most 2^63 - 1, and so many bytes may be read or written there. An
- *    array parameter has its stated length. What a call reads is initialised.
+ *    its type is. A length is at most 2^63 - 1, and so many bytes may be read or written there: of
+ *    an array of events, `capacity` times sizeof(dgt_event). An array parameter has its stated
+ *    length. What a call reads is initialised.
  *  - A handle is a dgt_host, a dgt_decoder, a dgt_command_decoder or a dgt_board. It is made by its
  *    _new or its _init before any other call. Afterwards it is not copied and not moved, neither by
  *    assignment nor by memcpy or realloc: it points into itself. Don't touch its members. There is
@@ -263,6 +264,21 @@ static inline bool dgt_host_new(dgt_host *host) {
 size_t dgt_host_hear(dgt_host *host, const uint8_t *bytes, size_t n, dgt_event *event,
                      uint8_t *body, size_t room);
 
+/* How far dgt_host_hear_all and dgt_decoder_feed_all have come. */
+typedef struct dgt_told {
+    size_t used;  /* how many bytes of the chunk were used */
+    size_t count; /* how many events were told: they stand at the front of `events` */
+} dgt_told;
+
+/* Hears a whole chunk, as dgt_host_hear does event by event, and tells the events in their order in
+ * `events`, which has room for `capacity` of them. It ends before the chunk does in two cases:
+ * behind the event that fills the array, and behind an event with a body (body_len > 0), of which
+ * as much as there is room for is written to the front of `body`. Call again with the bytes that
+ * are left: at least 1 is used where n > 0 and capacity > 0. The structs behind those that are told
+ * stay as they were, and so does `body` where no event has one. */
+dgt_told dgt_host_hear_all(dgt_host *host, const uint8_t *bytes, size_t n, dgt_event *events,
+                           size_t capacity, uint8_t *body, size_t room);
+
 /* The status of a dgt_sent. */
 enum {
     DGT_SENT = 0,      /* `bytes` bytes stand at the front of the buffer: write them to the line */
@@ -345,6 +361,10 @@ static inline bool dgt_decoder_new(dgt_decoder *decoder) {
 /* As dgt_host_hear, without what a host knows. `unasked` is 0. */
 size_t dgt_decoder_feed(dgt_decoder *decoder, const uint8_t *bytes, size_t n, dgt_event *event,
                         uint8_t *body, size_t room);
+
+/* As dgt_host_hear_all, without what a host knows. `unasked` is 0 in each event. */
+dgt_told dgt_decoder_feed_all(dgt_decoder *decoder, const uint8_t *bytes, size_t n,
+                              dgt_event *events, size_t capacity, uint8_t *body, size_t room);
 
 /* How many bytes have come of a message that is not finished: at most 16382. */
 size_t dgt_decoder_rest(dgt_decoder *decoder);

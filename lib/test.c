@@ -243,6 +243,78 @@ static void events(void) {
     free(host);
 }
 
+/* Has a host hear a chunk, with room for so many events and so many bytes of a body. The events
+ * and the body are kept in blocks of exactly these sizes, and the struct behind those that are told
+ * is as it was. */
+static dgt_event *told;
+static uint8_t *told_body;
+
+static dgt_told hear_all(dgt_host *host, const uint8_t *bytes, size_t n, size_t capacity,
+                         size_t body_room) {
+    free(told), free(told_body);
+    uint8_t *given = copy(bytes, n);
+    told = room(capacity * sizeof *told), told_body = room(body_room);
+    dgt_told all = dgt_host_hear_all(host, given, n, told, capacity, told_body, body_room);
+    CHECK(all.used <= n && all.count <= capacity);
+    const uint8_t *behind = (const uint8_t *)(told + all.count);
+    for (size_t i = 0; i < (capacity - all.count) * sizeof *told; i++) CHECK(behind[i] == 0xa5);
+    free(given);
+    return all;
+}
+
+static void chunks(void) {
+    dgt_host *host = room(dgt_host_size());
+    CHECK(dgt_host_new(host));
+    uint8_t out[2], dump[67] = {0x86, 0, 67, [3 + 52] = 1};
+    const uint8_t fields[] = {0x8e, 0, 5, 52, 0, 0x8e, 0, 5, 36, 1, 0x31, 0x85, 0, 3, 0x8e, 0};
+    char text[DGT_PLACEMENT_ROOM];
+    CHECK(dgt_host_send(host, DGT_SEND_DUMP, out, sizeof out).status == DGT_SENT);
+
+    dgt_told all = hear_all(host, dump, sizeof dump, 2, 0);
+    CHECK(all.used == 67 && all.count == 1 && told[0].kind == DGT_EVENT_DUMP);
+    CHECK(told[0].unasked == 0 && told[0].pieces[52] == 1);
+    all = hear_all(host, dump, sizeof dump, 1, 0);
+    CHECK(all.used == 67 && all.count == 1 && told[0].unasked == 1);
+
+    /* A body of no bytes doesn't end the chunk, and a message that is not finished stays unread. */
+    all = hear_all(host, fields, sizeof fields, 5, 1);
+    CHECK(all.used == sizeof fields && all.count == 4 && told_body[0] == 0xa5);
+    CHECK(told[0].kind == DGT_EVENT_FIELD && told[0].square == 52 && told[0].piece == 0);
+    CHECK(told[1].kind == DGT_EVENT_FIELD && told[1].square == 36 && told[1].piece == 1);
+    CHECK(told[2].kind == DGT_EVENT_STRAY && told[2].byte == 0x31);
+    CHECK(told[3].kind == DGT_EVENT_OTHER && told[3].body_len == 0);
+    CHECK(dgt_host_unread(host) == 2 && dgt_host_placement(host, text));
+    CHECK(!strcmp(text, "8/8/8/8/4P3/8/8/8"));
+
+    /* The array is full: what is left is to be heard. */
+    all = hear_all(host, BYTES(5, 36, 0, 0x8e, 0, 5, 36, 2, 9), 1, 0);
+    CHECK(all.used == 3 && all.count == 1 && told[0].square == 36 && told[0].piece == 0);
+    all = hear_all(host, BYTES(0x8e, 0, 5, 36, 2, 9), 1, 0);
+    CHECK(all.used == 5 && all.count == 1 && told[0].piece == 2);
+    all = hear_all(host, BYTES(9), 0, 0);
+    CHECK(all.used == 0 && all.count == 0 && dgt_host_unread(host) == 0);
+
+    /* An event with a body is the last. */
+    all = hear_all(host, BYTES(9, 0x92, 0, 5, 'D', 'G', 9), 4, 1);
+    CHECK(all.used == 6 && all.count == 2 && told[1].kind == DGT_EVENT_TRADEMARK);
+    CHECK(told[1].unasked == 1 && told[1].body_len == 2 && told_body[0] == 'D');
+    all = hear_all(host, body, 0, 4, 1);
+    CHECK(all.used == 0 && all.count == 0);
+    free(host), free(told), free(told_body);
+
+    dgt_decoder *decoder = room(dgt_decoder_size());
+    CHECK(dgt_decoder_new(decoder));
+    dgt_event events[3];
+    all = dgt_decoder_feed_all(decoder, BYTES(7, 0x93, 0, 5, 1, 3, 0xa0, 0, 4, 0x64, 7), events, 3,
+                               out, 2);
+    CHECK(all.used == 10 && all.count == 3 && events[0].byte == 7 && out[0] == 0x64);
+    CHECK(events[1].kind == DGT_EVENT_VERSION && events[1].unasked == 0);
+    CHECK(events[2].kind == DGT_EVENT_BATTERY && events[2].body_len == 1);
+    all = dgt_decoder_feed_all(decoder, BYTES(0x8e, 0), events, 3, out, 2);
+    CHECK(all.used == 2 && all.count == 0 && dgt_decoder_rest(decoder) == 2);
+    free(decoder);
+}
+
 static void decoders(void) {
     dgt_decoder *decoder = room(dgt_decoder_size());
     CHECK(dgt_decoder_new(decoder));
@@ -310,6 +382,7 @@ int main(void) {
     lost_reply();
     start();
     events();
+    chunks();
     decoders();
     helpers();
     return 0;

@@ -36,6 +36,10 @@ class EventStruct(Structure):
         ("pieces", c_uint8 * 64), ("have", c_size_t), ("at", c_size_t), ("body_len", c_size_t)]
 
 
+class ToldStruct(Structure):
+    _fields_ = [("used", c_size_t), ("count", c_size_t)]
+
+
 class CommandStruct(Structure):
     _fields_ = [(name, c_uint8) for name in ("kind", "code", "id", "byte")] + [
         ("word_len", c_size_t)]
@@ -78,6 +82,7 @@ _HANDLE = {
 _FUNCTIONS: dict[str, dict[str, tuple[Any, ...]]] = {
     "dgt_host": _HANDLE | {
         "hear": (c_size_t, c_void_p, *_ROOM, c_void_p, *_ROOM),
+        "hear_all": (ToldStruct, c_void_p, *_ROOM, *_ROOM, *_ROOM),
         "follow": (SentStruct, c_void_p, *_ROOM),
         "restart": (SentStruct, c_void_p, *_ROOM),
         "send": (SentStruct, c_void_p, c_uint8, *_ROOM),
@@ -93,6 +98,7 @@ _FUNCTIONS: dict[str, dict[str, tuple[Any, ...]]] = {
     },
     "dgt_decoder": _HANDLE | {
         "feed": (c_size_t, c_void_p, *_ROOM, c_void_p, *_ROOM),
+        "feed_all": (ToldStruct, c_void_p, *_ROOM, *_ROOM, *_ROOM),
         "rest": (c_size_t, c_void_p),
         "finish": (c_size_t, c_void_p),
         "reset": (None, c_void_p),

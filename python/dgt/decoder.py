@@ -9,33 +9,35 @@ from ctypes import byref
 from ._handle import Bytes, Handle, readable, writable
 from ._library import MAX_BODY, MAX_WORD, CommandStruct, EventStruct, dgt
 from .commands import Word, read_word
-from .events import Event, read_event
+from .events import Event, read_event, read_events
 
 
 class EventReader(Handle):
     """Reads events from chunks of bytes: a host or a decoder."""
 
     _feed_name: str
+    _most = 256  # events that one call of the library tells
 
     def __init__(self) -> None:
         super().__init__()
-        self._told = EventStruct()
-        self._told_at = ctypes.addressof(self._told)
+        self._events, self._events_at = writable(self._most * ctypes.sizeof(EventStruct))
+        self._told = EventStruct.from_buffer(self._events)
         self._body, self._body_at = writable(MAX_BODY)
         self._feed = getattr(dgt, f"{self._prefix}_{self._feed_name}")
+        self._feed_all = getattr(dgt, f"{self._prefix}_{self._feed_name}_all")
 
     def _all(self, chunk: Bytes) -> list[Event]:
         held, address = readable(chunk)
-        return self._call(self._events, address, address + len(held))
+        return self._call(self._read_all, address, address + len(held))
 
-    def _events(self, at: int, address: int, end: int) -> list[Event]:
+    def _read_all(self, at: int, address: int, end: int) -> list[Event]:
         events: list[Event] = []
-        append, feed, told = events.append, self._feed, self._told
-        told_at, body_at = self._told_at, self._body_at
         while address < end:
-            address += feed(at, address, end - address, told_at, body_at, MAX_BODY)
-            if told.kind:
-                append(read_event(told, self._body))
+            # One call tells all events of a chunk, unless there are many, or one has a body.
+            told = self._feed_all(at, address, end - address, self._events_at, self._most,
+                                  self._body_at, MAX_BODY)
+            address += told.used
+            events += read_events(self._events, told.count, self._body)
         return events
 
     def _each(self, chunk: Bytes) -> Iterator[Event]:
@@ -45,7 +47,7 @@ class EventReader(Handle):
 
     def _steps(self, held: bytes, address: int) -> Iterator[Event]:
         end = address + len(held)
-        feed, told, told_at, body_at = self._feed, self._told, self._told_at, self._body_at
+        feed, told, told_at, body_at = self._feed, self._told, self._events_at, self._body_at
         while address < end:
             # As `_call` does it; to call that for each event would take half as long again.
             with self._lock:

@@ -2,6 +2,7 @@
 
 from __future__ import annotations
 
+import ctypes
 from collections.abc import Callable
 from dataclasses import dataclass
 from enum import IntEnum
@@ -163,3 +164,17 @@ def read_event(told: EventStruct, body: bytearray) -> Event:
     """Returns the event that the library has reported. Its kind must not be 0."""
     make: _Maker = _MAKERS[told.kind - 1]
     return make(told, body)
+
+
+_EVENT_FIELD = 2
+_OFFSETS = tuple(getattr(EventStruct, name).offset for name in ("kind", "square", "piece"))
+
+
+def read_events(told: bytearray, count: int, body: bytearray) -> list[Event]:
+    """Returns the events that the library has reported, so many structs in a row. Only the last of
+    them may have a body."""
+    size = ctypes.sizeof(EventStruct)
+    kinds, squares, pieces = (told[at:count * size:size] for at in _OFFSETS)
+    return [_FIELDS[square][piece] if kind == _EVENT_FIELD
+            else read_event(EventStruct.from_buffer(told, index * size), body)
+            for index, (kind, square, piece) in enumerate(zip(kinds, squares, pieces))]

@@ -1,2 +1,3 @@
 pub mod AsciiLemmas
+pub mod ChunkLemmas
 pub mod Codes

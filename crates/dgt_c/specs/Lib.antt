@@ -3,6 +3,7 @@ pub mod Slices
 pub mod Clocks
 pub mod Told
 pub mod Hearing
+pub mod Chunks
 pub mod Commands
 pub mod Reading
 pub mod Sent

@@ -14,7 +14,7 @@ use dgt_decode::Event;
 
 // Tells an event, and whether it was not asked for.
 #[inline(always)]
-fn tell_heard(event: &Option<Event<'_>>, unasked: bool, out: &mut DgtEvent)
+pub(crate) fn tell_heard(event: &Option<Event<'_>>, unasked: bool, out: &mut DgtEvent)
     ensures { out.new ≡
         record (event_told (event_content_if_any event.now)) { unasked = flag unasked } }
 {

@@ -15,6 +15,7 @@ ghost use Rattle.dgt_c.specs.HostPlace.{room_size as host_room};
 ghost use Rattle.dgt_c.specs.contracts.board_calls.DgtPolled.{the_row as polled_row, the_type as polled_type};
 ghost use Rattle.dgt_c.specs.contracts.board_calls.DgtTaken.{the_row as taken_row, the_type as taken_type};
 ghost use Rattle.dgt_c.specs.contracts.board_place.BoardPlace.{the_row as board_row};
+ghost use Rattle.dgt_c.specs.contracts.chunks.DgtTold.{the_row as told_row, the_type as told_type};
 ghost use Rattle.dgt_c.specs.contracts.clocks.DgtClock.{the_row as clock_row, the_type as clock_type};
 ghost use Rattle.dgt_c.specs.contracts.clocks.DgtTime.{the_row as time_row, the_type as time_type};
 ghost use Rattle.dgt_c.specs.contracts.command_decoder_place.CommandDecoderPlace.{the_row as command_decoder_row};
@@ -28,6 +29,7 @@ ghost use Rattle.dgt_c.specs.contracts.starting.DgtBody.{the_row as body_row, th
 ghost use Rattle.dgt_c.specs.contracts.starting.DgtIdentity.{the_row as identity_row, the_type as identity_type};
 ghost use Rattle.dgt_c.specs.declared.board_calls.DgtPolled.{DgtPolled};
 ghost use Rattle.dgt_c.specs.declared.board_calls.DgtTaken.{DgtTaken};
+ghost use Rattle.dgt_c.specs.declared.chunks.DgtTold.{DgtTold};
 ghost use Rattle.dgt_c.specs.declared.clocks.DgtClock.{DgtClock};
 ghost use Rattle.dgt_c.specs.declared.clocks.DgtTime.{DgtTime};
 ghost use Rattle.dgt_c.specs.declared.commands.DgtCommand.{DgtCommand};
@@ -57,7 +59,7 @@ use crate::sending::{SENT, SENT_NO_COMMAND, SENT_NO_ROOM, SENT_TOO_MANY};
 use crate::starting::{START_BAD_CLOCK, START_BAD_IDENTITY, START_BAD_PIECES, STARTED};
 use crate::{
     DgtBody, DgtClock, DgtCommand, DgtEvent, DgtIdentity, DgtParsed, DgtPolled, DgtSent, DgtTaken,
-    DgtTime,
+    DgtTime, DgtTold,
 };
 use dgt_board::{MAX_KEPT_BODY, MAX_OWED, MAX_SENT};
 use dgt_command::{MAX_LED_BYTES, MAX_PAYLOAD, MAX_WORD};
@@ -188,6 +190,7 @@ pub fn layouts()
     ensures clock { LiesAs clock_row 16 1 (0 ∷ 1 ∷ 2 ∷ 8 ∷ 12 ∷ []) }
     ensures event { LiesAs event_row 128 8 (0 ∷ 1 ∷ 2 ∷ 3 ∷ 4 ∷ 5 ∷ 6 ∷ 7 ∷ 8 ∷ 9 ∷ 10 ∷ 14 ∷ 19
         ∷ 35 ∷ 104 ∷ 112 ∷ 120 ∷ []) }
+    ensures told { LiesAs told_row 16 8 (0 ∷ 8 ∷ []) }
     ensures command { LiesAs command_row 16 8 (0 ∷ 1 ∷ 2 ∷ 3 ∷ 8 ∷ []) }
     ensures sent { LiesAs sent_row 16 8 (0 ∷ 8 ∷ []) }
     ensures body { LiesAs body_row 72 8 (0 ∷ 8 ∷ []) }
@@ -207,6 +210,7 @@ pub fn members()
         ⊗ it.square ⊗ it.piece ⊗ it.main_number ⊗ it.sub_number ⊗ it.byte ⊗ it.fault
         ⊗ it.ack_status ⊗ it.ack ⊗ it.serial ⊗ it.clock ⊗ it.pieces ⊗ it.have ⊗ it.at
         ⊗ it.body_len ⊗ tt }
+    ensures told { (it : DgtTold) → told_type.as_values it ≡ it.used ⊗ it.count ⊗ tt }
     ensures command { (it : DgtCommand) → command_type.as_values it ≡ it.kind ⊗ it.code ⊗ it.id
         ⊗ it.byte ⊗ it.word_len ⊗ tt }
     ensures sent { (it : DgtSent) → sent_type.as_values it ≡ it.status ⊗ it.bytes ⊗ tt }
@@ -231,4 +235,5 @@ pub fn clone_is_same()
     ensures sent { CloneIsSame ⟦<DgtSent as Clone>⟧ }
     ensures taken { CloneIsSame ⟦<DgtTaken as Clone>⟧ }
     ensures time { CloneIsSame ⟦<DgtTime as Clone>⟧ }
+    ensures told { CloneIsSame ⟦<DgtTold as Clone>⟧ }
 {}

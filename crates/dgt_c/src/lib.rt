@@ -8,6 +8,8 @@
 //! clauses of the call that it wraps, at `inside`, but those that follow from another one or from a
 //! type: `dgt_host_hear` has those of `Host::hear`. `dgt_board_poll` doesn't repeat that the board
 //! was one before. The clause `place` says that the handle goes on pointing to its own room.
+//! `dgt_host_hear_all` and `dgt_decoder_feed_all` wrap as many calls as a chunk takes, and say what
+//! these tell in a row (`specs/Chunks.antt`).
 //!
 //! An enum can't cross to C, and neither can what a value lends. An event crosses as a struct,
 //! whose kind says which fields are set (`event_told`, `specs/Told.antt`), and its body as bytes
@@ -25,6 +27,7 @@ mod board;
 mod board_calls;
 mod board_place;
 mod checking;
+mod chunks;
 mod clocks;
 mod command_decoder;
 mod command_decoder_place;
@@ -49,6 +52,7 @@ mod starting;
 pub use board::DgtBoard;
 pub use board_calls::{DgtPolled, DgtTaken};
 pub use board_place::BoardPlace;
+pub use chunks::DgtTold;
 pub use clocks::{DgtClock, DgtTime};
 pub use command_decoder::DgtCommandDecoder;
 pub use command_decoder_place::CommandDecoderPlace;

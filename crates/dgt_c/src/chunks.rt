@@ -1,0 +1,137 @@
+//! What C has a host hear, and a decoder be fed, as a whole chunk.
+
+ghost use Rattle.std.specs.Prelude.{◌≡◌, ◌<◌, ◌++◌, length, take, drop};
+ghost use Rattle.dgt_decode.specs.Grammar.{open_message};
+ghost use Rattle.dgt_host.specs.Host.{host_after};
+ghost use Rattle.dgt_c.specs.Chunks.{TellsEach, UsesUpTo, bodies, each_told, events_up_to};
+ghost use Rattle.dgt_c.specs.Slices.{overwritten};
+
+use crate::copying::overwrite;
+use crate::decoder::DgtDecoder;
+use crate::events::{DgtEvent, body_of, tell};
+use crate::hearing::tell_heard;
+use crate::host::DgtHost;
+use dgt_decode::{Decoder, laws};
+use dgt_host::Host;
+
+/// How far a chunk was read, as dgt.h says it.
+#[repr(C)]
+#[derive(Clone, Copy)]
+pub struct DgtTold {
+    pub used: usize,
+    pub count: usize,
+}
+
+// An event with a body is the last: the slice has the body of one.
+fn hear_each(host: &mut Host, chunk: &[u8], told: &mut [DgtEvent], body: &mut [u8]) -> DgtTold
+    ensures after { host.new ≡ host_after host.old (take result.used chunk.now) }
+    ensures uses { UsesUpTo host.old.unread chunk.now (length told.old) result.used }
+    ensures tells { let made = events_up_to host.old.unread chunk.now result.used in
+        TellsEach host.old made (take result.count told.new) }
+    ensures count { result.count
+        ≡ length (events_up_to host.old.unread chunk.now result.used) }
+    ensures rest { drop result.count told.new ≡ drop result.count told.old }
+    ensures body { let made = events_up_to host.old.unread chunk.now result.used in
+        body.new ≡ overwritten body.old (bodies made) }
+    ensures progress { 0 < length chunk.now → 0 < length told.old → 0 < result.used }
+{
+    laws::events_append();
+    laws::open_is_quiet();
+    dgt_host::laws::heard_in_pieces();
+    dgt_host::laws::nothing_heard();
+    let _ = host.unread(); // It says that what is unread makes no event.
+    let (mut used, mut count, mut body_len) = (0, 0, 0);
+    while used < chunk.len() && count < told.len() && body_len == 0 {
+        let heard = host.hear(&chunk[used..]);
+        used += heard.used;
+        if heard.event.is_some() {
+            tell_heard(&heard.event, heard.unasked, &mut told[count]);
+            let said = body_of(&heard.event);
+            overwrite(said, body);
+            body_len = said.len();
+            count += 1;
+        }
+    }
+    DgtTold { used, count }
+}
+
+/// Hears a chunk up to and including the byte whose event fills the array or has a body, or all of
+/// it. The events are told one after another, and the body of the last is copied, as much of it as
+/// there is room for.
+#[unsafe(no_mangle)]
+pub extern "C" fn dgt_host_hear_all(
+    host: &mut DgtHost,
+    chunk: &[u8],
+    told: &mut [DgtEvent],
+    body: &mut [u8],
+) -> DgtTold
+    ensures place { host.new.at ≡ host.old.at }
+    ensures after { host.new.inside ≡ host_after host.old.inside (take result.used chunk.now) }
+    ensures uses { UsesUpTo host.old.inside.unread chunk.now (length told.old) result.used }
+    ensures tells { let made = events_up_to host.old.inside.unread chunk.now result.used in
+        TellsEach host.old.inside made (take result.count told.new) }
+    ensures count { result.count
+        ≡ length (events_up_to host.old.inside.unread chunk.now result.used) }
+    ensures rest { drop result.count told.new ≡ drop result.count told.old }
+    ensures body { let made = events_up_to host.old.inside.unread chunk.now result.used in
+        body.new ≡ overwritten body.old (bodies made) }
+    ensures progress { 0 < length chunk.now → 0 < length told.old → 0 < result.used }
+{
+    hear_each(host.get(), chunk, told, body)
+}
+
+fn feed_each(decoder: &mut Decoder, chunk: &[u8], told: &mut [DgtEvent], body: &mut [u8]) -> DgtTold
+    ensures after { decoder.new ≡ open_message (decoder.old ++ take result.used chunk.now) }
+    ensures uses { UsesUpTo decoder.old chunk.now (length told.old) result.used }
+    ensures tells { take result.count told.new
+        ≡ each_told (events_up_to decoder.old chunk.now result.used) }
+    ensures count { result.count ≡ length (events_up_to decoder.old chunk.now result.used) }
+    ensures rest { drop result.count told.new ≡ drop result.count told.old }
+    ensures body { let made = events_up_to decoder.old chunk.now result.used in
+        body.new ≡ overwritten body.old (bodies made) }
+    ensures progress { 0 < length chunk.now → 0 < length told.old → 0 < result.used }
+{
+    laws::events_append();
+    laws::open_append();
+    laws::open_is_quiet();
+    let _ = decoder.rest(); // It says that what is held makes no event.
+    let (mut used, mut count, mut body_len) = (0, 0, 0);
+    while used < chunk.len() && count < told.len() && body_len == 0 {
+        let fed = decoder.feed(&chunk[used..]);
+        used += fed.used;
+        if fed.event.is_some() {
+            tell(&fed.event, &mut told[count]);
+            let said = body_of(&fed.event);
+            overwrite(said, body);
+            body_len = said.len();
+            count += 1;
+        }
+    }
+    DgtTold { used, count }
+}
+
+/// Reads a chunk up to and including the byte whose event fills the array or has a body, or all of
+/// it. The events are told one after another, and the body of the last is copied, as much of it as
+/// there is room for.
+#[unsafe(no_mangle)]
+pub extern "C" fn dgt_decoder_feed_all(
+    decoder: &mut DgtDecoder,
+    chunk: &[u8],
+    told: &mut [DgtEvent],
+    body: &mut [u8],
+) -> DgtTold
+    ensures place { decoder.new.at ≡ decoder.old.at }
+    ensures after { decoder.new.inside
+        ≡ open_message (decoder.old.inside ++ take result.used chunk.now) }
+    ensures uses { UsesUpTo decoder.old.inside chunk.now (length told.old) result.used }
+    ensures tells { take result.count told.new
+        ≡ each_told (events_up_to decoder.old.inside chunk.now result.used) }
+    ensures count { result.count
+        ≡ length (events_up_to decoder.old.inside chunk.now result.used) }
+    ensures rest { drop result.count told.new ≡ drop result.count told.old }
+    ensures body { let made = events_up_to decoder.old.inside chunk.now result.used in
+        body.new ≡ overwritten body.old (bodies made) }
+    ensures progress { 0 < length chunk.now → 0 < length told.old → 0 < result.used }
+{
+    feed_each(decoder.get(), chunk, told, body)
+}
