@@ -20,3 +20,4 @@ pub mod Chunks
 pub mod Runs
 pub mod Beginnings
 pub mod Equal
+pub mod FieldLemmas

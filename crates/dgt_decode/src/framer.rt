@@ -6,10 +6,11 @@ ghost use Rattle.dgt_decode.specs.Feeding.{FirstEvent, IsWholeMessage, event_con
 ghost use Rattle.dgt_decode.specs.Taking.{Begins, Frames, FramesFront};
 
 use crate::event::{Event, Found};
+use crate::fields::field_update;
 use crate::header::{FIELD, HEADER, TOP_BIT, is_field_at_front, total_at_front};
 use crate::kept::Kept;
 use crate::lanes::first_top;
-use dgt_message::view;
+use dgt_message::{Message, view};
 use dgt_values::{Body, SevenBit};
 use std::marker::Model;
 
@@ -160,7 +161,23 @@ impl Framer {
 
     /// The event of what was found. A message that was found is still kept here: `advance` says so,
     /// and no byte may come in between.
+    #[inline(always)]
     pub fn event(&self, found: Found) -> Event<'_>
+        requires { found ≡ Found.Message → IsWholeMessage self.now }
+        ensures { event_content result ≡ event_found_in self.now found }
+    {
+        if let Found::Message = found {
+            if let Some((square, piece)) = field_update(self.kept.as_slice()) {
+                return Event::Message(Message::Field { square, piece });
+            }
+        }
+        self.other_event(found)
+    }
+
+    // The same for any event. Not inlined: a field would then be copied through its room for an
+    // event.
+    #[inline(never)]
+    fn other_event(&self, found: Found) -> Event<'_>
         requires { found ≡ Found.Message → IsWholeMessage self.now }
         ensures { event_content result ≡ event_found_in self.now found }
     {

@@ -28,6 +28,7 @@
 
 mod decoder;
 mod event;
+mod fields;
 mod framer;
 mod header;
 mod kept;
@@ -38,6 +39,7 @@ pub mod plain;
 
 pub use decoder::{Decoder, Fed, Unfinished};
 pub use event::{Event, Found};
+pub use fields::field_update;
 pub use framer::{Advanced, Framer, MAX_TOTAL};
 pub use lanes::first_top;
 pub use listening::Listener;

@@ -1,6 +1,5 @@
 pub mod DecimalLemmas
 pub mod EventLemmas
-pub mod FieldLemmas
 pub mod GatherLemmas
 pub mod HexLemmas
 pub mod LineLemmas

@@ -1,10 +1,8 @@
 //! The lines of events.
 
-ghost use Rattle.std.specs.Prelude.{◌≡◌, ◌+◌, ◌/◌, ◌%◌, ◌<◌, ◌≤◌, ◌++◌, [], ◌∷◌, false, length, IfSome, OnOk, OnErr};
+ghost use Rattle.std.specs.Prelude.{◌≡◌, ◌+◌, ◌/◌, ◌%◌, ◌<◌, ◌≤◌, ◌++◌, [], ◌∷◌, false, length, OnOk, OnErr};
 ghost use Rattle.hex.specs.Hex.{encode_lower};
-ghost use Rattle.dgt_values.specs.Board.{square_number};
-ghost use Rattle.dgt_message.specs.Content.Content.{field};
-ghost use Rattle.dgt_decode.specs.Grammar.{Message, message_event};
+ghost use Rattle.dgt_decode.specs.Grammar.{message_event};
 ghost use Rattle.dgt_decode.specs.Feeding.{IsWholeMessage, event_content, event_found_in};
 ghost use Rattle.dgt_lines.specs.Writing.{Gathers, Writes};
 ghost use Rattle.dgt_lines.specs.Lines.{bytes_text, event_line, line, offset_text, padded_decimal, unfinished_text};
@@ -14,8 +12,7 @@ use crate::ends::Sink;
 use crate::faults::RunFault;
 use crate::gathering::{LINE_ROOM, Outgoing};
 use crate::wording::{push_event, push_field};
-use dgt_decode::{Event, Found, Framer};
-use dgt_values::{Piece, Square};
+use dgt_decode::{Event, Found, Framer, field_update};
 
 // How many carried bytes have their digits added at once.
 const PART: usize = 64;
@@ -198,7 +195,7 @@ fn put_message<W: Sink, const ROOM: usize>(
     ensures no_flush { W.flushed writer.old ≡ false → W.flushed writer.new ≡ false }
     ensures waits { OnOk result (Waits outgoing.new (W.flushed writer.new)) }
 {
-    let Some((square, piece)) = field(framer.bytes()) else {
+    let Some((square, piece)) = field_update(framer.bytes()) else {
         return put_event_of(outgoing, writer, offset, framer, Found::Message);
     };
     outgoing.make_room(writer)?;
@@ -206,22 +203,6 @@ fn put_message<W: Sink, const ROOM: usize>(
     push_field(outgoing, square, piece);
     outgoing.push(b"\n");
     Ok(())
-}
-
-/// What a whole message says of one square, if it is a field.
-pub(crate) fn field(bytes: &[u8]) -> Option<(Square, Piece)>
-    requires { IsWholeMessage bytes.now }
-    ensures { IfSome result (λ told. message_event bytes.now ≡
-        Message (field (square_number told.0) told.1)) }
-{
-    dgt_message::laws::reading_is_exact();
-    if bytes.len() != 5 || bytes[0] != 0x8e {
-        return None;
-    }
-    match (Square::from_index(bytes[3]), Piece::from_code(bytes[4])) {
-        (Ok(square), Ok(piece)) => Some((square, piece)),
-        _ => None,
-    }
 }
 
 /// Writes the line of a message or a command of which so many bytes came, and no more, without a

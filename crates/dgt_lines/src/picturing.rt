@@ -16,9 +16,9 @@ use crate::ends::Sink;
 use crate::faults::RunFault;
 use crate::gathering::Outgoing;
 use crate::laws;
-use crate::lines::{field, push_offset};
+use crate::lines::push_offset;
 use crate::pictures::Picture;
-use dgt_decode::{Event, Found, Framer};
+use dgt_decode::{Event, Found, Framer, field_update};
 use dgt_message::Message;
 
 /// Room for the lines of placements of 4,096 bytes of field updates: 820 lines of at most 81 bytes,
@@ -126,7 +126,7 @@ fn hear_found<W: Sink>(
     if !matches!(found, Found::Message) {
         return Ok(());
     }
-    let Some((square, piece)) = field(framer.bytes()) else {
+    let Some((square, piece)) = field_update(framer.bytes()) else {
         return hear_event(picture, outgoing, writer, offset, framer);
     };
     if let Some(known) = picture {

@@ -1,7 +1,7 @@
--- What a message of five bytes says of one square.
-use Rattle.std.proofs.Common.{◌≡◌, ℕ, ◌<◌, List, [], ◌∷◌, Ok, ap, arith, drop, length, refl, slice_index}
-use Rattle.std.specs.Prelude.{◌↔◌}
-use Rattle.std.proofs.lemmas.List.Elements.{All-from_recursion}
+-- The messages that are field updates: five bytes, of which the last two are a square and a piece.
+use Rattle.std.proofs.Common.{◌≡◌, ℕ, ◌<◌, List, [], ◌∷◌, Result, Ok, ap, arith, drop, length, refl, slice_index}
+use Rattle.std.specs.Prelude.{◌↔◌, ◌-◌}
+use Rattle.std.proofs.lemmas.List.Elements.{All-drop, All-from_recursion}
 use Rattle.dgt_values.specs.Bytes.{AreSevenBit}
 use Rattle.dgt_values.specs.Board.{piece_code, square_number}
 use Rattle.dgt_values.specs.declared.pieces.Piece.{Piece}
@@ -10,7 +10,10 @@ use Rattle.dgt_message.specs.Content.{Content, IsCarried}
 use Rattle.dgt_message.specs.Content.Content.{field}
 use Rattle.dgt_message.specs.Spelling.{Fits}
 use Rattle.dgt_message.specs.Reading.{reading}
+use Rattle.dgt_message.specs.declared.viewing.BodyFault.{BodyFault}
+use Rattle.dgt_message.proofs.Codes.{piece_code-below}
 use Rattle.dgt_decode.specs.Grammar.{Message, message_event, reading_event}
+use Rattle.dgt_decode.specs.Feeding.{IsWholeMessage}
 
 -- a message that fits a code and a body is their reading
 abbrev pub IsRead : Type 0
@@ -41,3 +44,28 @@ field_told exact (a ∷ b ∷ []) square piece seven five code small e f = absur
 field_told exact (a ∷ b ∷ c ∷ []) square piece seven five code small e f = absurd (omega arith)
 field_told exact (a ∷ b ∷ c ∷ s ∷ []) square piece seven five code small e f = absurd (omega arith)
 field_told exact (a ∷ b ∷ c ∷ s ∷ p ∷ d ∷ rest) square piece seven five code small e f = absurd (omega arith)
+
+-- the reading whose event is a message is this message's
+read_of : (code : ℕ) (read : Result Content BodyFault) (said : Content) → reading_event code read ≡ Message said
+    → read ≡ Ok said
+read_of code read said e = grind (arith, e)
+
+-- A message that says a piece of one square has five bytes, the first of which is 142. Its square is below 64, and its
+-- piece below 16.
+pub only_field : IsRead → (bytes : List ℕ) (square : ℕ) (piece : Piece) → slice_index bytes 0 < 256
+    → IsWholeMessage bytes → message_event bytes ≡ Message (field square piece)
+    → (slice_index bytes 0 ≡ 142) × (length bytes ≡ 5) × (slice_index bytes 3 < 64) × (slice_index bytes 4 < 16)
+only_field exact (a ∷ b ∷ c ∷ body) square piece byte w e =
+    let seven : AreSevenBit body = All-drop (λ byte. byte < 128) 2 (b ∷ c ∷ body) w.later in
+    let carried : IsCarried body =
+    (omega (arith, w.whole, w.later 0 0 (omega arith), w.later 1 0 (omega arith)), seven) in
+    let fits : Fits (field square piece) (a - 128) body =
+    (exact (a - 128) body (field square piece) (omega arith) carried).0 (read_of _ _ _ e) in (
+      omega (arith, fits.code_is, w.first),
+      omega (arith, ap length fits.spelled),
+      rw fits.spelled fits.is_message,
+      rw fits.spelled (piece_code-below piece),
+    )
+only_field exact [] square piece byte w e = absurd (omega (arith, w.long))
+only_field exact (a ∷ []) square piece byte w e = absurd (omega (arith, w.long))
+only_field exact (a ∷ b ∷ []) square piece byte w e = absurd (omega (arith, w.long))

@@ -1,0 +1,36 @@
+//! The reading of field updates, the most common messages.
+
+ghost use Rattle.std.specs.Prelude.{◌≡◌, ◌≢◌, ℕ, MatchOption};
+ghost use Rattle.dgt_values.specs.Board.{square_number};
+ghost use Rattle.dgt_message.specs.Content.Content.{field};
+ghost use Rattle.dgt_decode.specs.Grammar.{Message, message_event};
+ghost use Rattle.dgt_decode.specs.Feeding.{IsWholeMessage};
+
+use crate::header::FIELD;
+use dgt_values::{Piece, Square};
+
+// The first byte of a field update.
+const FIELD_BYTE: u8 = 0x8e;
+
+/// The square and the piece of a field update, if the bytes of this whole message are one.
+///
+/// `None` is returned for any other message, and for a field update with a square from 64 on or a
+/// piece code from 16 on. A caller that reads many fields asks this before it forms an
+/// [`Event`](crate::Event): an event is as long as a whole position, and copying it takes longer
+/// than reading a field.
+#[inline(always)]
+pub fn field_update(bytes: &[u8]) -> Option<(Square, Piece)>
+    requires { IsWholeMessage bytes.now }
+    ensures { MatchOption result
+        ((square : ℕ) (piece : Piece) → message_event bytes.now ≢ Message (field square piece))
+        (λ told. message_event bytes.now ≡ Message (field (square_number told.0) told.1)) }
+{
+    dgt_message::laws::reading_is_exact();
+    if bytes[0] != FIELD_BYTE || bytes.len() != FIELD {
+        return None;
+    }
+    match (Square::from_index(bytes[3]), Piece::from_code(bytes[4])) {
+        (Ok(square), Ok(piece)) => Some((square, piece)),
+        _ => None,
+    }
+}
