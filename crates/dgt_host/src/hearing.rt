@@ -26,31 +26,32 @@ pub struct Heard<'a> {
     pub unasked: bool,
 }
 
-// A dump sets the picture, and a field update sets one square of a picture that is known.
-fn picture_after(picture: Option<Position>, message: &Message<'_>) -> Option<Position>
-    ensures { option_map pieces_of result
-        ≡ picture_after (option_map pieces_of picture) (content message.now) }
+// A dump sets the picture, and a field update sets one square of a picture that is known. The
+// picture is changed where it lies: a copy of it would take longer than the change.
+fn set_picture(picture: &mut Option<Position>, message: &Message<'_>)
+    ensures { option_map pieces_of picture.new
+        ≡ picture_after (option_map pieces_of picture.old) (content message.now) }
 {
     match message {
-        Message::Dump(position) => Some(*position),
+        Message::Dump(position) => *picture = Some(*position),
         Message::Field { square, piece } => {
-            let mut position = picture?;
-            position.set(*square, *piece);
-            Some(position)
+            if let Some(known) = picture {
+                known.set(*square, *piece);
+            }
         }
-        _ => picture,
+        _ => {}
     }
 }
 
-// What a board tells of its clock sets the clock.
-fn clock_after(clock: Option<Clock>, message: &Message<'_>) -> Option<Clock>
-    ensures { option_map clock_seen result
-        ≡ clock_after (option_map clock_seen clock) (content message.now) }
+// What a board reports of its clock sets the clock.
+fn set_clock(clock: &mut Option<Clock>, message: &Message<'_>)
+    ensures { option_map clock_seen clock.new
+        ≡ clock_after (option_map clock_seen clock.old) (content message.now) }
 {
     match message {
-        Message::Times(times) => Some(Clock::Times(*times)),
-        Message::NoClock(absence) => Some(Clock::NoClock(*absence)),
-        _ => clock,
+        Message::Times(times) => *clock = Some(Clock::Times(*times)),
+        Message::NoClock(absence) => *clock = Some(Clock::NoClock(*absence)),
+        _ => {}
     }
 }
 
@@ -97,7 +98,7 @@ pub(crate) fn hear_event(
     let Event::Message(message) = event else {
         return false;
     };
-    *picture = picture_after(*picture, message);
-    *clock = clock_after(*clock, message);
+    set_picture(picture, message);
+    set_clock(clock, message);
     take_off(awaited, message)
 }
