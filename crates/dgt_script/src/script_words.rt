@@ -52,17 +52,32 @@ pub(crate) fn verb_word(word: &[u8]) -> Option<Verb>
         ((verb : Verb) → word.now ≢ verb_text verb)
         (λ verb. word.now ≡ verb_text verb) }
 {
-    match word {
-        b"change" => Some(Verb::Change),
-        b"clock" => Some(Verb::Clock),
-        b"host" => Some(Verb::Host),
-        b"send" => Some(Verb::Send),
-        b"toboard" => Some(Verb::ToBoard),
-        b"tohost" => Some(Verb::ToHost),
-        b"break" => Some(Verb::Break),
-        b"hostbreak" => Some(Verb::HostBreak),
-        _ => None,
+    // A match over byte strings takes three times as long to prove.
+    if word == b"change".as_slice() {
+        return Some(Verb::Change);
     }
+    if word == b"clock".as_slice() {
+        return Some(Verb::Clock);
+    }
+    if word == b"host".as_slice() {
+        return Some(Verb::Host);
+    }
+    if word == b"send".as_slice() {
+        return Some(Verb::Send);
+    }
+    if word == b"toboard".as_slice() {
+        return Some(Verb::ToBoard);
+    }
+    if word == b"tohost".as_slice() {
+        return Some(Verb::ToHost);
+    }
+    if word == b"break".as_slice() {
+        return Some(Verb::Break);
+    }
+    if word == b"hostbreak".as_slice() {
+        return Some(Verb::HostBreak);
+    }
+    None
 }
 
 // What a first word begins if it is none of a plain script.
@@ -71,13 +86,19 @@ fn fault_word(word: &[u8]) -> Option<FaultVerb>
         ((verb : FaultVerb) → word.now ≢ fault_text verb)
         (λ verb. word.now ≡ fault_text verb) }
 {
-    match word {
-        b"garbleup" => Some(FaultVerb::GarbleUp),
-        b"garbledown" => Some(FaultVerb::GarbleDown),
-        b"boardlost" => Some(FaultVerb::BoardLost),
-        b"restart" => Some(FaultVerb::Restart),
-        _ => None,
+    if word == b"garbleup".as_slice() {
+        return Some(FaultVerb::GarbleUp);
     }
+    if word == b"garbledown".as_slice() {
+        return Some(FaultVerb::GarbleDown);
+    }
+    if word == b"boardlost".as_slice() {
+        return Some(FaultVerb::BoardLost);
+    }
+    if word == b"restart".as_slice() {
+        return Some(FaultVerb::Restart);
+    }
+    None
 }
 
 /// What a first word begins if the world may have faults.
