@@ -1,20 +1,29 @@
-//! Times the proved library, and beside it the same work in plain Rust. Lines go to a writer that only counts bytes, so
-//! no system call is timed.
+//! Times the proved library, and beside it the same work in plain Rust (`plain`). Lines go to a
+//! writer that only counts bytes, so no system call is timed. With the word `monitor` or `picture`
+//! it is that program in plain Rust.
 use std::cell::RefCell;
 use std::hint::black_box;
-use std::time::Instant;
+use std::io;
+use std::time::{Duration, Instant};
 
 mod plain;
+mod program;
+mod work;
 mod world;
 
 // A slice crosses as a pointer and a length.
 unsafe extern "C" {
     fn dgt_bench_decode(bytes: *const u8, len: usize, most: usize) -> u64;
+    fn dgt_bench_feed_all(bytes: *const u8, len: usize, most: usize) -> u64;
     fn dgt_bench_hear(bytes: *const u8, len: usize) -> u64;
     fn dgt_bench_monitor(bytes: *const u8, len: usize) -> u64;
+    fn dgt_bench_take(bytes: *const u8, len: usize, poll: bool) -> u64;
+    fn dgt_bench_poll(squares: *const u8, len: usize) -> u64;
 }
 
-const LINES: u64 = 200_000;
+const HALF_A_SECOND: Duration = Duration::from_millis(500);
+const LINES: u64 = 20_000;
+const DUMPS: usize = 1_000;
 const LONGEST: usize = 16383;
 const BACK: [u8; 8] = [8, 9, 10, 12, 11, 10, 9, 8];
 
@@ -25,21 +34,34 @@ fn message(code: u8, body: &[u8]) -> Vec<u8> {
     bytes
 }
 
-/// The microseconds that some work takes, the least of many runs, and its answer.
+/// The microseconds that some work takes, the least of 100 runs or of half a second, and its
+/// answer. Runs are short, so that one at least is not interrupted.
 fn timed(work: impl Fn() -> u64) -> (f64, u64) {
-    let runs = (0..100).map(|_| {
+    let (begun, mut best) = (Instant::now(), (f64::MAX, 0));
+    for run in 0.. {
+        if run >= 100 && begun.elapsed() >= HALF_A_SECOND {
+            break;
+        }
         let start = Instant::now();
         let answer = work();
-        (start.elapsed().as_secs_f64() * 1e6, answer)
-    });
-    runs.min_by(|a, b| a.0.total_cmp(&b.0)).unwrap()
+        let took = start.elapsed().as_secs_f64() * 1e6;
+        if took < best.0 {
+            best = (took, answer);
+        }
+    }
+    best
 }
 
 fn compare(name: &str, parts: usize, proved: impl Fn() -> u64, plain: impl Fn() -> u64) {
     let ((proved, answer), (plain, same)) = (timed(proved), timed(plain));
     assert_eq!(answer, same, "{name}: the answers differ");
     let each = |time: f64| time * 1e3 / parts as f64;
-    println!("{name}: {:.1} ns each, plain Rust {:.1} ns, {:.2} times", each(proved), each(plain), proved / plain);
+    println!(
+        "{name}: {:.1} ns each, plain Rust {:.1} ns, {:.2} times",
+        each(proved),
+        each(plain),
+        proved / plain
+    );
 }
 
 fn compare_decode(name: &str, parts: usize, bytes: &[u8], most: usize) {
@@ -47,7 +69,7 @@ fn compare_decode(name: &str, parts: usize, bytes: &[u8], most: usize) {
         name,
         parts,
         || unsafe { dgt_bench_decode(black_box(bytes.as_ptr()), bytes.len(), most) },
-        || plain::decode(black_box(bytes), most),
+        || work::decode(black_box(bytes), most),
     );
 }
 
@@ -56,7 +78,34 @@ fn compare_monitor(name: &str, parts: usize, bytes: &[u8]) {
         name,
         parts,
         || unsafe { dgt_bench_monitor(black_box(bytes.as_ptr()), bytes.len()) },
-        || plain::monitor(black_box(bytes)),
+        || work::monitor(black_box(bytes)),
+    );
+}
+
+fn compare_feed_all(name: &str, parts: usize, bytes: &[u8]) {
+    compare(
+        name,
+        parts,
+        || unsafe { dgt_bench_feed_all(black_box(bytes.as_ptr()), bytes.len(), 64) },
+        || work::decode(black_box(bytes), 64),
+    );
+}
+
+fn compare_hear(name: &str, parts: usize, bytes: &[u8]) {
+    compare(
+        name,
+        parts,
+        || unsafe { dgt_bench_hear(black_box(bytes.as_ptr()), bytes.len()) },
+        || work::hear(black_box(bytes)),
+    );
+}
+
+fn compare_take(name: &str, parts: usize, bytes: &[u8], poll: bool) {
+    compare(
+        name,
+        parts,
+        || unsafe { dgt_bench_take(black_box(bytes.as_ptr()), bytes.len(), poll) },
+        || work::take(black_box(bytes), poll),
     );
 }
 
@@ -70,36 +119,73 @@ fn garbage(len: usize) -> Vec<u8> {
     (0..len).map(step).collect()
 }
 
-fn main() {
-    let fields: Vec<u8> = (0..LINES).flat_map(|n| message(0x0e, &[(n % 64) as u8, (n % 16) as u8])).collect();
-    let squares = [BACK, [7; 8], [0; 8], [0; 8], [0; 8], [0; 8], [1; 8], BACK.map(|piece| piece - 6)].concat();
-    let dumps = message(0x06, &squares).repeat(10_000);
-    let longest = message(0x30, &[1; LONGEST - 3]).repeat(200);
-    let noise = garbage(200_000);
+/// Decoders, hosts and monitors.
+fn compare_messages() {
+    let fields: Vec<u8> =
+        (0..LINES).flat_map(|n| message(0x0e, &[(n % 64) as u8, (n % 16) as u8])).collect();
+    let squares =
+        [BACK, [7; 8], [0; 8], [0; 8], [0; 8], [0; 8], [1; 8], BACK.map(|piece| piece - 6)]
+            .concat();
+    let dumps = message(0x06, &squares).repeat(DUMPS);
+    let longest = message(0x30, &[1; LONGEST - 3]).repeat(20);
+    let noise = garbage(20_000);
 
-    compare_decode("decode, fields", LINES as usize, &fields, 64);
-    compare_decode("decode, dumps", 10_000, &dumps, 64);
-    compare_decode("decode, longest messages", 200, &longest, 4096);
-    compare_decode("decode, random bytes", noise.len(), &noise, 64);
-    let many = message(0x30, &[1; LONGEST - 3]).repeat(1000);
+    compare_decode("Decoder::feed, fields", LINES as usize, &fields, 64);
+    compare_decode("Decoder::feed, dumps", DUMPS, &dumps, 64);
+    compare_decode("Decoder::feed, longest messages", 20, &longest, 4096);
+    compare_decode("Decoder::feed, random bytes", noise.len(), &noise, 64);
+    compare_feed_all("Decoder::feed_all, fields", LINES as usize, &fields);
+    compare_feed_all("Decoder::feed_all, dumps", DUMPS, &dumps);
+    let game = [&dumps[..67], &fields].concat();
+    compare_hear("Host::hear, fields behind a dump", LINES as usize, &game);
+    compare_hear("Host::hear, dumps", DUMPS, &dumps);
+    compare_monitor("monitor, fields", LINES as usize, &fields);
+    compare_monitor("monitor, dumps", DUMPS, &dumps);
+    compare_monitor("monitor, longest messages", 20, &longest);
+    compare_monitor("monitor, random bytes", noise.len(), &noise);
+    compare_copies(&longest);
+}
+
+/// Longest messages in whole pieces, beside a copy of as many bytes.
+fn compare_copies(longest: &[u8]) {
+    let many = longest.repeat(50);
     let copy = RefCell::new(vec![1; many.len()]);
     compare(
-        "decode, longest messages in whole pieces, beside one memcpy of them all",
+        "Decoder::feed, longest messages in whole pieces, beside one memcpy of them all",
         1000,
         || unsafe { dgt_bench_decode(black_box(many.as_ptr()), many.len(), LONGEST) },
-        || plain::copy_all(black_box(&many), LONGEST, &mut copy.borrow_mut()),
+        || work::copy_all(black_box(&many), LONGEST, &mut copy.borrow_mut()),
     );
     compare(
-        "decode, longest messages in whole pieces, beside memcpy of one after another to one place",
-        200,
+        "Decoder::feed, longest messages in whole pieces, beside memcpy of each to one place",
+        20,
         || unsafe { dgt_bench_decode(black_box(longest.as_ptr()), longest.len(), LONGEST) },
-        || plain::copies(black_box(&longest), LONGEST),
+        || work::copies(black_box(longest), LONGEST),
     );
-    let (hear, _) = timed(|| unsafe { dgt_bench_hear(black_box(fields.as_ptr()), fields.len()) });
-    println!("Host::hear, fields: {:.1} ns each", hear * 1e3 / LINES as f64);
-    compare_monitor("monitor, fields", LINES as usize, &fields);
-    compare_monitor("monitor, dumps", 10_000, &dumps);
-    compare_monitor("monitor, longest messages", 200, &longest);
-    compare_monitor("monitor, random bytes", noise.len(), &noise);
+}
+
+/// Boards.
+fn compare_boards() {
+    let leds: Vec<u8> = (0..5_000).flat_map(|n| [0x60, 4, 1, 2, 3, (n % 251) as u8]).collect();
+    compare_take("Board::take, LED frames", 5_000, &leds, false);
+    compare_take("Board::take, commands for a mode", 5_000, &[0x44; 5_000], false);
+    compare_take("Board::take and poll, a version", 5_000, &[0x4d; 5_000], true);
+    compare_take("Board::take and poll, a dump", 1_000, &[0x42; 1_000], true);
+    let squares: Vec<u8> = garbage(5_000).iter().map(|byte| byte % 64).collect();
+    compare(
+        "Board::change and poll, a field",
+        2 * squares.len(),
+        || unsafe { dgt_bench_poll(black_box(squares.as_ptr()), squares.len()) },
+        || work::poll(black_box(&squares)),
+    );
+}
+
+fn main() -> io::Result<()> {
+    if let Some(name) = std::env::args().nth(1) {
+        return program::main(&name);
+    }
+    compare_messages();
+    compare_boards();
     world::compare();
+    Ok(())
 }

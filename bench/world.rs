@@ -50,18 +50,31 @@ fn compare_scan(name: &str, lanes: impl Fn() -> u64, scan: impl Fn() -> u64) {
 
 fn print_scan(name: &str, lanes: f64, scan: f64, turns: u64) {
     let each = |time: f64| time * 1e3 / turns as f64;
-    println!("{name}: {:.1} ns each, by a scan {:.1} ns, {:.1} times as fast", each(lanes), each(scan), scan / lanes);
+    println!(
+        "{name}: {:.1} ns each, by a scan {:.1} ns, {:.1} times as fast",
+        each(lanes),
+        each(scan),
+        scan / lanes
+    );
 }
 
 /// Polls of boards on which one square changed a while ago: 64 boards are changed, and then all are polled. The time of
 /// the same changes with no poll is subtracted.
 fn poll_later(squares: &[u8]) {
-    let lanes = |poll| timed(|| unsafe { dgt_bench_poll_later(squares.as_ptr(), squares.len(), poll) });
-    let scan = |poll| timed(|| unsafe { dgt_bench_poll_later_by_scan(squares.as_ptr(), squares.len(), poll) });
+    let lanes =
+        |poll| timed(|| unsafe { dgt_bench_poll_later(squares.as_ptr(), squares.len(), poll) });
+    let scan = |poll| {
+        timed(|| unsafe { dgt_bench_poll_later_by_scan(squares.as_ptr(), squares.len(), poll) })
+    };
     let ((by_lanes, answer), (by_scan, same)) = (lanes(true), scan(true));
     assert_eq!(answer, same, "the answers of polls differ");
     let turns = 2 * 64 * squares.len() as u64;
-    print_scan("poll, one square changed before", by_lanes - lanes(false).0, by_scan - scan(false).0, turns);
+    print_scan(
+        "poll, one square changed before",
+        by_lanes - lanes(false).0,
+        by_scan - scan(false).0,
+        turns,
+    );
 }
 
 pub fn compare() {

@@ -1,0 +1,14 @@
+//! The same work in plain Rust, as a careful programmer would write it.
+//!
+//! Both sides read each message: its code chooses the case of an enum, and each byte that has to be
+//! a piece, a square or a digit of a clock is checked, and becomes a value of its own type. An
+//! event is handed over by value and lends its body. Lines are formed by hand in a buffer that is
+//! made once, so neither side allocates for an event. What differs: a decoder here is a `match` for
+//! each byte, a placement is written from the 64 pieces each time, a board finds the next square by
+//! a scan and reads no layout of a clock message's payload, and nothing is proved.
+pub mod board;
+pub mod decoder;
+pub mod host;
+pub mod lines;
+pub mod message;
+pub mod values;
