@@ -1,5 +1,5 @@
 //! Whole runs of the program, over words and streams in memory: those that fail, and the helps.
-//! What else it tells of its words and its input, `checks/rows` compares.
+//! `checks/rows` compares all else that it prints about its words and its input.
 mod helps;
 
 use crate::fault::Fault;
@@ -213,7 +213,7 @@ fn tells_what_no_run_here_meets(rt: HostRuntime) -> Result<(), Fail> {
     check_told(&rt, Fault::OutOfMemory, 3, "dgt: out of memory\n")
 }
 
-/// A game's first move, made while nobody is told of it, and then told.
+/// A game's first move, made while the board reports nothing, and reported afterwards.
 const FIRST_MOVE: &str = "\
 host 42
 toboard 1

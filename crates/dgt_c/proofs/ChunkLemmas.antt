@@ -1,4 +1,4 @@
--- The events of a chunk, told one after another.
+-- The events of a chunk, reported one after another.
 use Rattle.std.proofs.Common.{◌≡◌, ◌↔◌, refl, sym, ap, ◌∙◌, ℕ, ◌+◌, ◌-◌, ◌<◌, ◌≤◌, List, [], ◌∷◌, ◌++◌, append_assoc, append-nil, length, take, drop, set, Some, None, Option, is_some, Bool, true, false, IsTrue, arith, inl, inr}
 use Rattle.std.proofs.Math.Seq.{take-add}
 use Rattle.std.proofs.lemmas.Bool.{cases_lt}
@@ -17,7 +17,7 @@ use Rattle.dgt_c.specs.declared.events.DgtEvent.{DgtEvent}
 
 -- ---- More bytes
 
--- what more bytes make stands behind what was made
+-- what more bytes make comes after what was made
 events_more : EventsAppend → (held chunk : List ℕ) (i n : ℕ) → let s = held ++ take i chunk in
     events_up_to held chunk (i + n) ≡ events_up_to held chunk i
     ++ events_behind (length s - length (open_message s)) (events (open_message s ++ take n (drop i chunk)))
@@ -88,7 +88,7 @@ one_used later held chunk i n event (within, made, least) =
 
 -- ---- A loop over a chunk
 
--- So many bytes were used, and so many events told.
+-- `used` bytes were used, and `count` events reported.
 pub record HasRead (held chunk : List ℕ) (used count : ℕ) (old now : List DgtEvent) (body_len : ℕ)
     (old_body body : List ℕ) : Type 0 where
   pub within : used ≤ length chunk
@@ -212,7 +212,7 @@ module _ (later : EventsAppend) (held chunk : List ℕ) (old : List DgtEvent) (o
         absurd (uses.ends (omega (arith, zero, some)) (rw made (room, refl)))
   ]
 
--- ---- What is told
+-- ---- What is reported
 
 tells_more : (host : HostView) (made : List Placed) (told : List DgtEvent) (x : Placed) (one : DgtEvent)
     → TellsEach host made told → Tells (host_after_events host made).awaited x.event one

@@ -1,4 +1,4 @@
--- What C is told of a whole chunk that a decoder is fed, or a host hears.
+-- What C gets for a whole chunk that a decoder is fed, or a host hears.
 use Rattle.std.specs.Prelude.{◌≡◌, ◌↔◌, ◌≤◌, ◌<◌, ℕ, List, [], ◌∷◌, ◌++◌, length, map, take, Some, Bool, IsTrue}
 use Rattle.std.specs.List.{flat_map}
 use Rattle.dgt_values.specs.declared.kinds.Kind.{Kind}
@@ -8,7 +8,7 @@ use Rattle.dgt_c.specs.Hearing.{flag}
 use Rattle.dgt_c.specs.Told.{body_said, event_told}
 use Rattle.dgt_c.specs.declared.events.DgtEvent.{DgtEvent}
 
--- the events that so many bytes of a chunk make behind an unfinished message
+-- the events that the first `used` bytes of a chunk make after an unfinished message
 abbrev pub events_up_to : List ℕ → List ℕ → ℕ → List Placed
 events_up_to held chunk used = events (held ++ take used chunk)
 
@@ -20,26 +20,26 @@ bodies made = flat_map (λ x. body_said (Some x.event)) made
 abbrev pub GoesOn : ℕ → List Placed → Type 0
 GoesOn capacity made = (length made < capacity) × (bodies made ≡ [])
 
--- Used is the least number of the chunk's bytes whose events fill the array, or have a body. Where
+-- `used` is the least number of the chunk's bytes whose events fill the array, or have a body. If
 -- there is none, the whole chunk is used.
 pub record UsesUpTo (held chunk : List ℕ) (capacity used : ℕ) : Type 0 where
   pub within : used ≤ length chunk
   pub least : (k : ℕ) → k < used → GoesOn capacity (events_up_to held chunk k)
   pub ends : used < length chunk → ¬ (GoesOn capacity (events_up_to held chunk used))
 
--- the struct tells this event, and whether it is a message that was not asked for
+-- the struct holds this event, and whether it is a message that was not asked for
 abbrev pub Tells : List Kind → Event → DgtEvent → Type 0
 Tells awaited event told =
     (unasked : Bool) × (IsTrue unasked ↔ IsUnasked awaited (Some event))
     × (told ≡ record (event_told (Some event)) { unasked = flag unasked })
 
--- the structs tell these events, each as it is for the host that has heard those before it
+-- the structs hold these events, each as it is for the host that has heard those before it
 abbrev pub TellsEach : HostView → List Placed → List DgtEvent → Type 0
 TellsEach host [] [] = Unit {0}
 TellsEach host (x ∷ made) (told ∷ more) =
     Tells host.awaited x.event told × TellsEach (host_after_event host x.event) made more
 TellsEach host _ _ = ⊥
 
--- the structs that tell these events for a decoder
+-- the structs that hold these events for a decoder
 abbrev pub each_told : List Placed → List DgtEvent
 each_told made = map (λ x. event_told (Some x.event)) made

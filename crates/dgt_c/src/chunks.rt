@@ -56,8 +56,8 @@ fn hear_each(host: &mut Host, chunk: &[u8], told: &mut [DgtEvent], body: &mut [u
 }
 
 /// Hears a chunk up to and including the byte whose event fills the array or has a body, or all of
-/// it. The events are told one after another, and the body of the last is copied, as much of it as
-/// there is room for.
+/// it. The array gets the events one after another. The body of the last is copied, as much of it
+/// as there is room for.
 #[unsafe(no_mangle)]
 pub extern "C" fn dgt_host_hear_all(
     host: &mut DgtHost,
@@ -111,8 +111,8 @@ fn feed_each(decoder: &mut Decoder, chunk: &[u8], told: &mut [DgtEvent], body: &
 }
 
 /// Reads a chunk up to and including the byte whose event fills the array or has a body, or all of
-/// it. The events are told one after another, and the body of the last is copied, as much of it as
-/// there is room for.
+/// it. The array gets the events one after another. The body of the last is copied, as much of it
+/// as there is room for.
 #[unsafe(no_mangle)]
 pub extern "C" fn dgt_decoder_feed_all(
     decoder: &mut DgtDecoder,

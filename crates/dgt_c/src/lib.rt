@@ -2,14 +2,14 @@
 //! other languages. The header is `include/dgt.h`, which says of each call what it does and what a
 //! caller owes; `lib/build` makes the archive and the shared object.
 //!
-//! C has a *handle*, an object of a stated size: a pointer, and behind it the room for what it
-//! points to. `DgtHost` is that pointer. Contracts see what the handle owns as its ghost field
-//! `inside`, which is what the crate below says of a host; `get` lends it. So each call carries the
-//! clauses of the call that it wraps, at `inside`, but those that follow from another one or from a
-//! type: `dgt_host_hear` has those of `Host::hear`. `dgt_board_poll` doesn't repeat that the board
-//! was one before. The clause `place` says that the handle goes on pointing to its own room.
+//! C has a *handle*, an object of a stated size: a pointer, followed by the room for what it points
+//! to. `DgtHost` is that pointer. Contracts see what the handle owns as its ghost field `inside`,
+//! which is what the crate below says of a host; `get` lends it. So each call carries the clauses
+//! of the call that it wraps, at `inside`: `dgt_host_hear` has those of `Host::hear`. Clauses that
+//! follow from another one or from a type are left out: `dgt_board_poll` doesn't repeat that the
+//! board was one before. The clause `place` says that the handle still points to its own room.
 //! `dgt_host_hear_all` and `dgt_decoder_feed_all` wrap as many calls as a chunk takes, and say what
-//! these tell in a row (`specs/Chunks.antt`).
+//! these return in a row (`specs/Chunks.antt`).
 //!
 //! An enum can't cross to C, and neither can what a value lends. An event crosses as a struct,
 //! whose kind says which fields are set (`event_told`, `specs/Told.antt`), and its body as bytes
