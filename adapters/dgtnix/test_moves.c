@@ -154,7 +154,7 @@ static const struct test_case {
 
     {"the other side's, slid on late", "e2e4 e7e6 e6e5 g1f3", "e2e4 e7e6 e7e5 g1f3"},
     {"the other side's, put right by a leap", "e2e4 b8a6 a6c6 g1f3", "e2e4 b8a6 b8c6 g1f3"},
-    {"the same, and answered at once", "e2e4 b8a6 a6. c6n g1. f3N b7b6",
+    {"put right by a leap, and answered at once", "e2e4 b8a6 a6. c6n g1. f3N b7b6",
      "e2e4 b8a6 b8c6 g1f3 b7b6"},
     {"put right, and taken at once", "d2d4 e7e6 e6. e5p e5. d4. e5P a7a6",
      "d2d4 e7e6 e7e5 d4e5 a7a6"},

@@ -31,22 +31,25 @@ from .board import Board, Identity, Mode
 from .commands import (Ask, Asked, BadEnd, BadSize, BadStart, ClockId, ClockMessage, Command, Leds,
                        StrayByte, Word)
 from .decoder import CommandDecoder, Decoder
-from .errors import (BadPlacement, BadValue, Busy, Closed, DgtError, Nested, NoSuchCommand,
-                     TooManyAwaited)
+from .errors import (BadFen, BadPlacement, BadValue, Busy, Closed, DgtError, IllegalMove, Nested,
+                     NoSuchCommand, TooManyAwaited)
 from .events import (Ack, BadLength, Battery, Cut, Dump, Event, Fault, Field, LongSerial, Message,
                      Other, Refused, Serial, Stray, Trademark, Version)
 from .host import Host
+from .moves import GameBegun, MoveEvent, MoveMade, MoveRecogniser, MoveTakenBack
+from .rules import START_FEN, GameState
 from .values import (LETTERS, SQUARES, Clock, NoClock, Position, Time, Times, piece_code, segment,
                      square_number)
 
 __version__ = "0.1.0"
 
 __all__ = [
-    "Ack", "Ask", "Asked", "BadEnd", "BadLength", "BadPlacement", "BadSize", "BadStart", "BadValue",
-    "Battery", "Board", "Busy", "Clock", "ClockId", "ClockMessage", "Closed", "Command",
-    "CommandDecoder", "Cut", "Decoder", "DgtError", "Dump", "Event", "Fault", "Field", "Host",
-    "Identity", "LETTERS", "Leds", "LongSerial", "Message", "Mode", "Nested", "NoClock",
-    "NoSuchCommand", "Other", "Position", "Refused", "SQUARES", "Serial", "Stray", "StrayByte",
-    "Time", "Times", "TooManyAwaited", "Trademark", "Version", "Word", "piece_code", "segment",
-    "square_number",
+    "Ack", "Ask", "Asked", "BadEnd", "BadFen", "BadLength", "BadPlacement", "BadSize", "BadStart",
+    "BadValue", "Battery", "Board", "Busy", "Clock", "ClockId", "ClockMessage", "Closed", "Command",
+    "CommandDecoder", "Cut", "Decoder", "DgtError", "Dump", "Event", "Fault", "Field", "GameBegun",
+    "GameState", "Host", "Identity", "IllegalMove", "LETTERS", "Leds", "LongSerial", "Message",
+    "Mode", "MoveEvent", "MoveMade", "MoveRecogniser", "MoveTakenBack", "Nested", "NoClock",
+    "NoSuchCommand", "Other", "Position", "Refused", "SQUARES", "START_FEN", "Serial", "Stray",
+    "StrayByte", "Time", "Times", "TooManyAwaited", "Trademark", "Version", "Word", "piece_code",
+    "segment", "square_number",
 ]

@@ -47,3 +47,11 @@ class BadPlacement(BadValue):
 
     def __reduce__(self) -> Any:
         return type(self), (self.at,), vars(self)
+
+
+class BadFen(BadValue):
+    """A text is no FEN, or gives a position that no game has."""
+
+
+class IllegalMove(BadValue):
+    """The rules of chess don't allow a move, or a text is no move."""

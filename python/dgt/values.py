@@ -82,6 +82,11 @@ class Position:
         return cls(bytes(codes))
 
     @classmethod
+    def of_letters(cls, letters: str) -> Position:
+        """Returns the position of 64 letters, from a8 to h1. `BadValue` if they are none."""
+        return cls(bytes(piece_code(letter) for letter in letters))
+
+    @classmethod
     def start(cls) -> Position:
         """Returns the position in which a game begins."""
         return cls.parse("rnbqkbnr/pppppppp/8/8/8/8/PPPPPPPP/RNBQKBNR")

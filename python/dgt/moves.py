@@ -1,0 +1,326 @@
+"""Which moves are made on a board, from the positions that it shows."""
+
+from __future__ import annotations
+
+import contextlib
+from collections import deque
+from collections.abc import Callable, Iterable, Iterator
+from dataclasses import dataclass, replace
+from functools import lru_cache
+
+from .errors import BadFen
+from .rules import START_FEN, GameState
+from .values import Position, square_number
+
+_CASTLING_WAIT = 2.0
+"""For how long a rook's move rests that may be the first half of castling."""
+_LONG_WAIT = 1.0
+"""For how long a position rests that was set up, or that replaces more than the last move."""
+_REPLACED = 4
+"""How many moves at most a single new one replaces."""
+_HALVES = {"h1f1": "e1g1", "a1d1": "e1c1", "h8f8": "e8g8", "a8d8": "e8c8"}
+"""The move of a rook that castling may begin with, and the castling."""
+
+
+@dataclass(frozen=True, slots=True)
+class GameBegun:
+    """A game begins with this state. `turned` is true if White's pieces begin on the ranks 8 and 7
+    of the board."""
+
+    state: GameState
+    turned: bool
+
+
+@dataclass(frozen=True, slots=True)
+class MoveMade:
+    """A move was made. `state` is the state after it."""
+
+    move: str
+    state: GameState
+
+
+@dataclass(frozen=True, slots=True)
+class MoveTakenBack:
+    """The last move was taken back, or is replaced by the `MoveMade` that comes next. `state` is
+    the state before the move."""
+
+    move: str
+    state: GameState
+
+
+MoveEvent = GameBegun | MoveMade | MoveTakenBack
+
+_Moves = tuple[tuple[str, GameState], ...]
+
+
+@dataclass(frozen=True, slots=True)
+class _Reading:
+    """What a position means: of the game's moves so many are kept, and these come after them."""
+
+    kept: int
+    root: GameState
+    moves: _Moves = ()
+
+    @property
+    def state(self) -> GameState:
+        return self.moves[-1][1] if self.moves else self.root
+
+
+@lru_cache(1024)
+def _replies(state: GameState) -> dict[str, tuple[str, GameState]]:
+    """Returns each legal move with the state after it, by the letters that the board then shows."""
+    return {after.letters: (move, after) for move, after in state.moves().items()}
+
+
+def _differing(one: str, other: str) -> list[int]:
+    return [square for square in range(64) if one[square] != other[square]]
+
+
+def _one_move(state: GameState, shown: str) -> _Moves:
+    """Returns the move that leads from a state to what is shown, or nothing."""
+    reply = _replies(state).get(shown)
+    return (reply,) if reply else ()
+
+
+def _two_moves(state: GameState, shown: str) -> _Moves:
+    """Returns two moves that lead from a state to what is shown, or nothing. Each changes two to
+    four squares, and leaves one."""
+    changed = _differing(state.letters, shown)
+    left = "".join(state.letters[square] for square in changed).replace(".", "")
+    if not 2 <= len(changed) <= 8 or left in (left.upper(), left.lower()):
+        return ()
+    for move, middle in _replies(state).values():
+        if square_number(move[:2]) in changed and len(_differing(middle.letters, shown)) <= 4:
+            if last := _one_move(middle, shown):
+                return ((move, middle), *last)
+    return ()
+
+
+class MoveRecogniser:
+    """Recognises the moves of a game from what stands on a board. Feed it each position of the
+    board with `see`, and call `wait` when `due` is reached.
+
+    >>> recogniser, host, board = MoveRecogniser(), Host(), Board()
+    >>> def hear(messages, time):
+    ...     for message in messages:
+    ...         for event in host.hear_each(message):
+    ...             for told in recogniser.see(host.picture, time):
+    ...                 print(type(told).__name__)
+    >>> hear(board.answers(host.follow()), 0.0)
+    GameBegun
+    >>> board.change("e2", "."), board.change("e4", "P")
+    (None, None)
+    >>> hear(board.messages(), 1.0)
+    >>> recogniser.due
+    1.3
+    >>> [made] = recogniser.wait(1.3)
+    >>> made.move, made.state.white
+    ('e2e4', False)
+
+    It follows the rules of chess. Pieces may be lifted in any order, slid, put on wrong squares and
+    put right. Nothing is reported while the board shows what no legal move explains, however long
+    that takes.
+
+    - A position that is one legal move away is that move, once it has rested (`settle`) or was
+      answered. So is one that is two moves away, if the position between them was never shown.
+    - A rook's move that may begin castling rests for two seconds.
+    - A promotion is to the piece that is put on the last rank, once it is there.
+    - A position before one of the last moves takes back what was made since then.
+    - A move that leads from there to what is shown replaces what was made. It rests for a second
+      if it replaces more than the last move.
+    - The position in which a game begins, also on a turned board, begins a new game, unless one of
+      the first two moves is taken back.
+    - Any other position begins a game when the board is first seen, or when both kings were taken
+      off and are back, once it has rested for a second. The first move decides whose turn it was.
+    """
+
+    def __init__(self, fen: str | None = None, settle: float = 0.3) -> None:
+        """With a FEN, the game begins when the board shows its position, also turned, and other
+        positions begin none before. `settle` is in the unit of all times here, seconds. `BadFen` if
+        the text is none."""
+        self._start = GameState.parse(START_FEN)
+        self._first = GameState.parse(fen) if fen else None
+        self._settle = settle
+        self._turned = False
+        self._roots: tuple[GameState, ...] = ()
+        self._moves: list[tuple[str, GameState]] = []
+        self._set_up = self._first is None
+        self._shown = ""
+        self._changed: set[int] = set()
+        self._seen: deque[_Reading] = deque(maxlen=16)
+        self._next: _Reading | tuple[GameState, ...] = ()
+        self._due: float | None = None
+
+    @property
+    def moves(self) -> list[str]:
+        """The moves of the game."""
+        return [move for move, _ in self._moves]
+
+    @property
+    def state(self) -> GameState | None:
+        """The state after the last move, or `None` before a game has begun."""
+        return next((base.state for base in self._bases([len(self._moves)])), None)
+
+    @property
+    def turned(self) -> bool:
+        """Whether White's pieces began on the ranks 8 and 7 of the board."""
+        return self._turned
+
+    @property
+    def due(self) -> float | None:
+        """The time at which `wait` reports what the board shows now, if it shows it until then."""
+        return self._due
+
+    def see(self, position: Position, time: float) -> list[MoveEvent]:
+        """Returns what has happened in the game, now that the board shows a position. Times never
+        fall from one call to the next."""
+        events = self.wait(time)
+        letters = position.letters
+        shown = letters[::-1] if self._turned else letters
+        if shown == self._shown:
+            return events
+        self._changed = set(_differing(self._shown, shown) if self._shown else ())
+        self._shown = shown
+        return events + self._look(time)
+
+    def wait(self, time: float) -> list[MoveEvent]:
+        """Returns what has happened in the game, if the board shows until this time what it showed
+        last. At the end of a line, `wait(math.inf)` reports a move that hasn't rested."""
+        if self._due is None or time < self._due:
+            return []
+        self._due, due = None, self._next
+        return self._take(due) if isinstance(due, _Reading) else self._begin(due)
+
+    def hold(self) -> None:
+        """Drops what is due. Call it when the picture is in doubt; the next `see` looks anew."""
+        self._shown, self._due = "", None
+
+    def _look(self, time: float) -> list[MoveEvent]:
+        """Reads the position that is shown, and decides for how long it must rest."""
+        self._due = None
+        base, reading = next(iter(self._readings()), (None, None))
+        if root := self._new_game(reading):
+            return self._begin((root,))
+        if base is None or reading is None:
+            if self._set_up and (roots := self._roots_shown()):
+                self._next, self._due = roots, time + _LONG_WAIT
+            return []
+        events: list[MoveEvent] = []
+        if base in self._seen and len(reading.moves) == len(base.moves) + 1:  # it was answered
+            events = self._take(base)
+            reading = _Reading(len(self._moves), base.state, reading.moves[len(base.moves):])
+        if reading not in self._seen:
+            self._seen.append(reading)
+        self._next, self._due = reading, time + self._rest(reading)
+        return events
+
+    def _bases(self, kept: Iterable[int]) -> list[_Reading]:
+        """Returns the states after so many moves: two before the first, if the turn is unknown."""
+        return [_Reading(each, state) for each in kept
+                for state in ([self._moves[each - 1][1]] if each else self._roots)]
+
+    def _readings(self) -> list[tuple[_Reading, _Reading]]:
+        """Returns what the shown position may mean, the likeliest first, each with the reading that
+        it goes on from. Nothing if it is what was reported last, or lacks a king."""
+        count, shown = len(self._moves), self._shown
+        told, seen = self._bases([count]), list(reversed(self._seen))
+        if any(base.state.letters == shown for base in told):
+            self._forget()
+            return []
+        if "K" not in shown or "k" not in shown:
+            if "K" not in shown and "k" not in shown:
+                self._set_up = self._first is None or bool(self._roots)
+            return []
+        earlier = self._bases(range(count - 1, -1, -1))
+        near = earlier[:0 if self._set_up else 1 if self._is_early() else _REPLACED]
+        one = [*_extended(told + seen, shown, _one_move),
+               *((base, base) for base in earlier if base.state.letters == shown)]
+        two = [*_extended(told + seen, shown, _two_moves)]
+        other = [*_extended(near, shown, _one_move), *_extended(near[:2], shown, _two_moves)]
+        likely = [each for each in one + two if self._has_changed_last(each[1])]
+        unseen = [each for each in two if each[0] not in self._seen]
+        other.sort(key=lambda each: not self._has_changed_last(each[1]))
+        return likely + one + unseen + other
+
+    def _is_early(self) -> bool:
+        """Returns whether the side that moved last has made another move, before the answer."""
+        return any(_one_move(replace(base.state, white=not base.state.white, passed=None),
+                             self._shown) for base in self._bases([len(self._moves)]))
+
+    def _has_changed_last(self, reading: _Reading) -> bool:
+        """Returns whether the last change on the board belongs to the last move of a reading, or the
+        reading takes moves back and makes none."""
+        states = [reading.root, *(state for _, state in reading.moves)]
+        return len(states) == 1 or not self._changed.isdisjoint(
+            _differing(states[-2].letters, states[-1].letters))
+
+    def _new_game(self, reading: _Reading | None) -> GameState | None:
+        """Returns the state in which a game begins, if what is shown begins one."""
+        told = self.state
+        for state in filter(None, (self._first, self._start)):
+            if told and told.letters == self._shown == state.letters:
+                return None
+            if self._shown == state.letters:
+                taken_back = reading and (reading.moves or len(self._moves) <= 2)
+                return None if taken_back else state
+            if self._shown[::-1] == state.letters:
+                return state
+        return None
+
+    def _roots_shown(self) -> tuple[GameState, ...]:
+        """Returns the states of what is shown, with each side's turn that is possible. Before the
+        first game, White has the half in which more of its pieces stand."""
+        letters = self._shown
+        if not self._roots:
+            half = [letter.isupper() - letter.islower() for letter in letters]
+            letters = letters[::-1] if sum(half[:32]) > sum(half[32:]) else letters
+        roots = []
+        for white in (True, False):
+            with contextlib.suppress(BadFen):
+                roots.append(GameState.place(letters, white))
+        return tuple(roots)
+
+    def _rest(self, reading: _Reading) -> float:
+        """Returns for how long a reading must rest."""
+        if not reading.moves:
+            return self._settle
+        *before, (move, _) = reading.moves
+        state = before[-1][1] if before else reading.root
+        castling = _HALVES.get(move)
+        if castling and castling in (legal for legal, _ in _replies(state).values()):
+            return max(self._settle, _CASTLING_WAIT)
+        is_sure = reading.kept >= len(self._moves) - 1 and len(reading.moves) <= 2
+        return self._settle if is_sure else max(self._settle, _LONG_WAIT)
+
+    def _take(self, reading: _Reading) -> list[MoveEvent]:
+        """The game goes on by a reading."""
+        events: list[MoveEvent] = []
+        while len(self._moves) > reading.kept:
+            move, _ = self._moves.pop()
+            events.append(MoveTakenBack(move, self._bases([len(self._moves)])[0].state))
+        if reading.kept == 0 and reading.moves:
+            self._roots = (reading.root,)
+        self._moves += reading.moves
+        self._forget()
+        return events + [MoveMade(move, state) for move, state in reading.moves]
+
+    def _begin(self, roots: tuple[GameState, ...]) -> list[MoveEvent]:
+        """A game begins, on a board that may have been turned."""
+        if roots[0].letters != self._shown:
+            self._turned, self._shown = not self._turned, self._shown[::-1]
+        self._roots, self._moves = roots, []
+        self._forget()
+        return [GameBegun(roots[0], self._turned)]
+
+    def _forget(self) -> None:
+        """What the board shows is what was reported."""
+        self._seen.clear()
+        self._set_up, self._due = False, None
+
+
+def _extended(bases: Iterable[_Reading], shown: str, find: Callable[[GameState, str], _Moves]
+              ) -> Iterator[tuple[_Reading, _Reading]]:
+    """Yields each reading from which moves lead to what is shown, and the reading after them."""
+    for base in bases:
+        if moves := find(base.state, shown):
+            yield base, _Reading(base.kept, base.root, base.moves + moves)
