@@ -155,8 +155,6 @@ OTHERS = {
     "put right, and taken at once": "d2d4 e7e6 -e7e6 e7e5 d4e5 a7a6",
     "put right, slid up to what it takes": "e2e4 d7d5 e4d5 d8d6 -d8d6 d8d5 b1c3",
     "put right twice, and taken back": "e2e4 e7e6 -e7e6 e7e5 -e7e5 e7e6 -e7e6 d7d5",
-    "put right, but not behind the answer":
-        "e2e4 b8a6 g1f3 -g1f3 -b8a6 b8c6 g1f3 -g1f3 -b8c6 b8a6 g1f3 b7b6",
     "the other side's castling, the rook long before": "BISHOP f8c5 b1c3 h8f8 -h8f8 e8g8 c1e3",
     "White's, where Black plays": "e2e3 -e2e3 e2e4 e7e6 -e7e6 e7e5 -e7e5 e7e6 d2d4",
     "nobody's, where both are wanted": "e2e4 e7e6 -e7e6 e7e5 -e7e5 e7e6 d2d4",
@@ -401,7 +399,7 @@ class Game:
             self.put_all(self.steps(move))
         rest = self.chance.choice([0, 0.1, 0.4, 2.5])
         self.hand.rest(rest)
-        if rest == 2.5:
+        if rest == 2.5 and self.hand.recogniser.due is None:
             wanted("moves", self.hand.recogniser.moves, self.moves)
             wanted("the state", self.hand.recogniser.state, self.state)
         return True

@@ -15,7 +15,9 @@ from .values import Position, square_number
 _CASTLING_WAIT = 2.0
 """For how long a rook's move rests that may be the first half of castling."""
 _LONG_WAIT = 1.0
-"""For how long a position rests that was set up, or that replaces more than the last move."""
+"""For how long a position rests that was set up, or that two moves lead to."""
+_REPLACED_WAIT = 3.0
+"""For how long a position rests that replaces more than the last move."""
 _REPLACED = 4
 """How many moves at most a single new one replaces."""
 _HALVES = {"h1f1": "e1g1", "a1d1": "e1c1", "h8f8": "e8g8", "a8d8": "e8c8"}
@@ -122,12 +124,13 @@ class MoveRecogniser:
     that takes.
 
     - A position that is one legal move away is that move, once it has rested (`settle`) or was
-      answered. So is one that is two moves away, if the position between them was never shown.
+      answered. One that is two moves away rests for a second, if the position between them was
+      never shown.
     - A rook's move that may begin castling rests for two seconds.
     - A promotion is to the piece that is put on the last rank, once it is there.
     - A position before one of the last moves takes back what was made since then.
-    - A move that leads from there to what is shown replaces what was made. It rests for a second
-      if it replaces more than the last move.
+    - A move that leads from there to what is shown replaces what was made. It rests for three
+      seconds if it replaces more than the last move.
     - The position in which a game begins, also on a turned board, begins a new game, unless one of
       the first two moves is taken back.
     - Any other position begins a game when the board is first seen, or when both kings were taken
@@ -209,8 +212,9 @@ class MoveRecogniser:
         if base in self._seen and len(reading.moves) == len(base.moves) + 1:  # it was answered
             events = self._take(base)
             reading = _Reading(len(self._moves), base.state, reading.moves[len(base.moves):])
-        if reading not in self._seen:
-            self._seen.append(reading)
+        if reading in self._seen:  # the latest stands last
+            self._seen.remove(reading)
+        self._seen.append(reading)
         self._next, self._due = reading, time + self._rest(reading)
         return events
 
@@ -248,8 +252,8 @@ class MoveRecogniser:
                              self._shown) for base in self._bases([len(self._moves)]))
 
     def _has_changed_last(self, reading: _Reading) -> bool:
-        """Returns whether the last change on the board belongs to the last move of a reading, or the
-        reading takes moves back and makes none."""
+        """Returns whether the last change on the board belongs to the last move of a reading. A
+        reading without moves takes some back, which may be in any order."""
         states = [reading.root, *(state for _, state in reading.moves)]
         return len(states) == 1 or not self._changed.isdisjoint(
             _differing(states[-2].letters, states[-1].letters))
@@ -289,8 +293,9 @@ class MoveRecogniser:
         castling = _HALVES.get(move)
         if castling and castling in (legal for legal, _ in _replies(state).values()):
             return max(self._settle, _CASTLING_WAIT)
-        is_sure = reading.kept >= len(self._moves) - 1 and len(reading.moves) <= 2
-        return self._settle if is_sure else max(self._settle, _LONG_WAIT)
+        if reading.kept < len(self._moves) - 1:
+            return max(self._settle, _REPLACED_WAIT)
+        return max(self._settle, _LONG_WAIT) if before else self._settle
 
     def _take(self, reading: _Reading) -> list[MoveEvent]:
         """The game goes on by a reading."""

@@ -63,7 +63,7 @@ _ENDED = {60: "KQ", 63: "K", 56: "Q", 4: "kq", 7: "k", 0: "q"}
 
 def _attacks(letters: str, white: bool, square: int) -> bool:
     """Returns whether a piece of White, or else of Black, attacks a square."""
-    pawn, rook, knight, bishop, king, queen = "PRNBKQ" if white else "prnbkq"
+    pawn, rook, knight, bishop, king, queen = tuple("PRNBKQ" if white else "prnbkq")
     for kind, slider in (("R", rook), ("B", bishop)):
         for ray in _RAYS[kind][square]:
             for to in ray:
