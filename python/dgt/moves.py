@@ -3,7 +3,6 @@
 from __future__ import annotations
 
 import contextlib
-from collections import deque
 from collections.abc import Callable, Iterable, Iterator
 from dataclasses import dataclass, replace
 from functools import lru_cache
@@ -20,6 +19,8 @@ _REPLACED_WAIT = 3.0
 """For how long a position rests that replaces more than the last move."""
 _REPLACED = 4
 """How many moves at most a single new one replaces."""
+_REMEMBERED = 16
+"""How many readings are remembered that were shown since the last report."""
 _HALVES = {"h1f1": "e1g1", "a1d1": "e1c1", "h8f8": "e8g8", "a8d8": "e8c8"}
 """The move of a rook that castling may begin with, and the castling."""
 
@@ -142,7 +143,7 @@ class MoveRecogniser:
         positions begin none before. `settle` is in the unit of all times here, seconds. `BadFen` if
         the text is none."""
         self._start = GameState.parse(START_FEN)
-        self._first = GameState.parse(fen) if fen else None
+        self._first = None if fen is None else GameState.parse(fen)
         self._settle = settle
         self._turned = False
         self._roots: tuple[GameState, ...] = ()
@@ -150,7 +151,7 @@ class MoveRecogniser:
         self._set_up = self._first is None
         self._shown = ""
         self._changed: set[int] = set()
-        self._seen: deque[_Reading] = deque(maxlen=16)
+        self._seen: list[_Reading] = []
         self._next: _Reading | tuple[GameState, ...] = ()
         self._due: float | None = None
 
@@ -205,16 +206,17 @@ class MoveRecogniser:
         if root := self._new_game(reading):
             return self._begin((root,))
         if base is None or reading is None:
-            if self._set_up and (roots := self._roots_shown()):
+            if self._set_up and not self._is_early() and (roots := self._roots_shown()):
                 self._next, self._due = roots, time + _LONG_WAIT
             return []
         events: list[MoveEvent] = []
         if base in self._seen and len(reading.moves) == len(base.moves) + 1:  # it was answered
             events = self._take(base)
             reading = _Reading(len(self._moves), base.state, reading.moves[len(base.moves):])
-        if reading in self._seen:  # the latest stands last
-            self._seen.remove(reading)
-        self._seen.append(reading)
+        # The latest stands last, and first what the last change has nothing to do with.
+        likely = self._has_changed_last(reading)
+        others = [each for each in self._seen if each != reading]
+        self._seen = [*others, reading][-_REMEMBERED:] if likely else [reading, *others]
         self._next, self._due = reading, time + self._rest(reading)
         return events
 
@@ -239,7 +241,7 @@ class MoveRecogniser:
         near = earlier[:0 if self._set_up else 1 if self._is_early() else _REPLACED]
         one = [*_extended(told + seen, shown, _one_move),
                *((base, base) for base in earlier if base.state.letters == shown)]
-        two = [*_extended(told + seen, shown, _two_moves)]
+        two = [*_extended(seen + told, shown, _two_moves)]
         other = [*_extended(near, shown, _one_move), *_extended(near[:2], shown, _two_moves)]
         likely = [each for each in one + two if self._has_changed_last(each[1])]
         unseen = [each for each in two if each[0] not in self._seen]
