@@ -325,7 +325,8 @@ class Game:
         if answer is None:
             return self.put_all([*steps, last])
         first, *others = self.steps(answer)
-        if first[1] != "." or first[0] == last[0]:
+        is_taken = move[2:4] == answer[2:4] and len(move) == 5  # nobody sees what the pawn became
+        if first[1] != "." or first[0] == last[0] or is_taken:
             return self.put_all([*steps, last, first, *others])
         self.put_all([*steps, first, last, *others])
 

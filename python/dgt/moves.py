@@ -209,12 +209,13 @@ class MoveRecogniser:
             if self._set_up and not self._is_early() and (roots := self._roots_shown()):
                 self._next, self._due = roots, time + _LONG_WAIT
             return []
+        self._set_up = False
         events: list[MoveEvent] = []
         if base in self._seen and len(reading.moves) == len(base.moves) + 1:  # it was answered
             events = self._take(base)
             reading = _Reading(len(self._moves), base.state, reading.moves[len(base.moves):])
         # The latest stands last, and first what the last change has nothing to do with.
-        likely = self._has_changed_last(reading)
+        likely = reading in self._seen or self._has_changed_last(reading)
         others = [each for each in self._seen if each != reading]
         self._seen = [*others, reading][-_REMEMBERED:] if likely else [reading, *others]
         self._next, self._due = reading, time + self._rest(reading)
