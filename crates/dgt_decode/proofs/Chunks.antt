@@ -1,7 +1,7 @@
 -- The first element that passes a test, seen so many at a time.
-use Rattle.std.proofs.Common.{◌≡◌, ℕ, ◌+◌, ◌%◌, ◌^◌, ◌<◌, ◌≤◌, Bool, not, cond, eqb, List, map, length, drop, replicate, sym, ap, ◌∙◌, arith, w8}
+use Rattle.std.proofs.Common.{◌≡◌, ℕ, ◌+◌, ◌%◌, ◌^◌, ◌<◌, ◌≤◌, Bool, not, cond, eqb, zero, suc, true, false, List, [], ◌∷◌, map, length, drop, replicate, sym, ap, ◌∙◌, arith, w8}
 use Rattle.std.proofs.lemmas.Simd.{chunk-drop, length-chunk, tops_compared, zip2_splat_left, mask_l-mod}
-use Rattle.std.proofs.lemmas.List.{length-map}
+use Rattle.std.proofs.lemmas.List.{length-drop, length-map, take_all}
 use Rattle.std.proofs.lemmas.List.Folds.{prefix_len-append}
 use Rattle.std.proofs.lemmas.Bool.{eq-eqb, ne_eqb}
 use Rattle.std.specs.List.{position_or_len}
@@ -41,3 +41,27 @@ module _ (test : ℕ → Bool) (xs : List ℕ) (at n : ℕ) (room : at + n ≤ l
       joined ∙ ap (λ b. cond b (length c + position_or_len test (drop (at + n) xs)) (position_or_len test c))
       (eq-eqb _ _ (whole ∙ sym (length-chunk at n xs room)))
       ∙ ap (λ k. k + position_or_len test (drop (at + n) xs)) (length-chunk at n xs room)
+
+-- The search may begin anew at a place before the one that it has come to.
+pub passed_before : (test : ℕ → Bool) (xs : List ℕ) (at from : ℕ) → from ≤ at → at ≤ length xs
+    → at + position_or_len test (drop at xs) ≡ position_or_len test xs
+    → from + position_or_len test (drop from xs) ≡ position_or_len test xs
+passed_before test xs at zero before within passed = omega arith
+passed_before test [] at (suc from) before within passed = absurd (omega (arith, before, within))
+passed_before test (x ∷ xs) zero (suc from) before within passed = absurd (omega (arith, before))
+passed_before test (x ∷ xs) (suc at) (suc from) before within passed =
+    go (test x) passed (passed_before test xs at from (omega (arith, before)) (omega (arith, within)))
+  where
+    go : (t : Bool)
+        → suc at + position_or_len test (drop at xs) ≡ cond (not t) (1 + position_or_len test xs) 0
+        → (at + position_or_len test (drop at xs) ≡ position_or_len test xs
+        → from + position_or_len test (drop from xs) ≡ position_or_len test xs)
+        → suc from + position_or_len test (drop from xs) ≡ cond (not t) (1 + position_or_len test xs) 0
+    go true p more = absurd (omega (arith, p))
+    go false p more = omega (arith, more (omega (arith, p)))
+
+-- the search among the last n is that from there on
+pub first_in_last : (test : ℕ → Bool) (xs : List ℕ) (at n : ℕ) → at + n ≡ length xs
+    → position_or_len test (drop at xs) ≡ position_or_len test (chunk at n xs)
+first_in_last test xs at n last =
+    sym (ap (position_or_len test) (take_all n (drop at xs) (omega (arith, last, length-drop at xs))))

@@ -46,7 +46,7 @@ field_told exact (a ∷ b ∷ c ∷ s ∷ []) square piece seven five code small
 field_told exact (a ∷ b ∷ c ∷ s ∷ p ∷ d ∷ rest) square piece seven five code small e f = absurd (omega arith)
 
 -- the reading whose event is a message is this message's
-read_of : (code : ℕ) (read : Result Content BodyFault) (said : Content) → reading_event code read ≡ Message said
+pub read_of : (code : ℕ) (read : Result Content BodyFault) (said : Content) → reading_event code read ≡ Message said
     → read ≡ Ok said
 read_of code read said e = grind (arith, e)
 

@@ -9,7 +9,7 @@ use Rattle.dgt_decode.specs.declared.framer.FramerState.{FramerState}
 use Rattle.dgt_decode.specs.declared.framer.FramerState.TheVariants.{Hunting, Head, Body, Whole}
 use Rattle.dgt_decode.specs.Grammar.{BadLength, Cut, Stray, at_place, message_event, announced_total, events, open_message}
 use Rattle.dgt_decode.specs.Feeding.{IsWholeMessage, at_place_if_any, event_found_in}
-use Rattle.dgt_decode.specs.Taking.{Frames, IsKept}
+use Rattle.dgt_decode.specs.Taking.{Frames, FramesFront, IsKept}
 use Rattle.dgt_decode.proofs.Verdicts.{announced_total-append}
 use Rattle.dgt_decode.proofs.More.{IsAlone}
 use Rattle.dgt_decode.proofs.Wholes.{whole_open}
@@ -84,6 +84,17 @@ frames-stray kept b none seven =
       whole = λ e. absurd cc;
       came = λ e. absurd cc;
       unfinished = λ e. nothing_held;
+    }
+
+-- and it is taken by itself
+pub front-stray : (kept rest : List ℕ) → open_message kept ≡ [] → 0 < length rest → slice_index rest 0 < 128
+    → FramesFront kept rest 1 [] (Some (found.Stray (slice_index rest 0)))
+front-stray kept [] none some seven = absurd (omega (arith, some))
+front-stray kept (b ∷ rest) none some seven =
+    record {
+      some = omega arith;
+      within = omega arith;
+      frames = frames-stray kept b none seven;
     }
 
 -- ---- A byte of the header

@@ -21,3 +21,4 @@ pub mod Runs
 pub mod Beginnings
 pub mod Equal
 pub mod FieldLemmas
+pub mod DumpLemmas

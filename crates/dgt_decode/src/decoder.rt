@@ -8,7 +8,7 @@ ghost use Rattle.dgt_decode.specs.Grammar.{open_message};
 ghost use Rattle.dgt_decode.specs.Feeding.{FirstEvent, event_content_if_any, piece_events};
 
 use crate::event::Event;
-use crate::framer::{Framer, MAX_TOTAL};
+use crate::framer::{Advanced, Framer, MAX_TOTAL};
 use crate::listening::Listener;
 use std::marker::Model;
 
@@ -70,14 +70,13 @@ impl Decoder {
             (event_content_if_any result.event) }
         ensures progress { 0 < length piece.now → 0 < result.used }
     {
-        let advanced = self.framer.advance(piece);
-        let event = match advanced.found {
-            Some(found) => Some(self.framer.event(found)),
-            None => None,
+        let Advanced { used, found } = self.framer.advance(piece);
+        let Some(found) = found else {
+            return Fed { used, event: None };
         };
         Fed {
-            used: advanced.used,
-            event,
+            used,
+            event: Some(self.framer.event(found)),
         }
     }
 

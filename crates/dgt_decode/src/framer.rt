@@ -5,6 +5,7 @@ ghost use Rattle.dgt_decode.specs.Grammar.{message_event, open_message};
 ghost use Rattle.dgt_decode.specs.Feeding.{FirstEvent, IsWholeMessage, event_content, event_found_in};
 ghost use Rattle.dgt_decode.specs.Taking.{Begins, Frames, FramesFront};
 
+use crate::dumps::dump_position;
 use crate::event::{Event, Found};
 use crate::fields::field_update;
 use crate::header::{FIELD, HEADER, TOP_BIT, is_field_at_front, total_at_front};
@@ -182,20 +183,34 @@ impl Framer {
         ensures { event_content result ≡ event_found_in self.now found }
     {
         match found {
-            Found::Message => whole_message(self.kept.as_slice()),
+            Found::Message => match dump_position(self.kept.as_slice()) {
+                Some(position) => Event::Message(Message::Dump(position)),
+                None => whole_message(self.kept.as_slice()),
+            },
             Found::Cut { have } => Event::Cut { have },
             Found::BadLength => Event::BadLength,
             Found::Stray(byte) => Event::Stray(byte),
         }
     }
 
-    // Takes the front: a whole message as long as a field at once, and else a run.
+    // Takes the front: between messages a stray byte, or a whole message as long as a field, at
+    // once, and else a run.
     #[inline(always)]
     fn take_front(&mut self, rest: &[u8]) -> Advanced
         requires { 0 < length rest.now }
         ensures { FramesFront self.old rest.now result.used self.new result.found }
     {
-        if !self.is_between() || !is_field_at_front(rest) {
+        if !self.is_between() {
+            return self.take_run(rest);
+        }
+        if rest[0] < TOP_BIT {
+            self.reset();
+            return Advanced {
+                used: 1,
+                found: Some(Found::Stray(rest[0])),
+            };
+        }
+        if !is_field_at_front(rest) {
             return self.take_run(rest);
         }
         self.kept.set_front(rest, FIELD);

@@ -23,6 +23,10 @@ pub fn first_top(bytes: &[u8]) -> usize
         }
         at += LANES;
     }
+    if bytes.len() >= LANES {
+        let last = bytes.len() - LANES; // Most of the last lanes may have been looked at already.
+        return last + first_top_lane(u8x32::from_slice(&bytes[last..]));
+    }
     'tail: while at < bytes.len() && bytes[at] < TOP_BIT {
         at += 1;
     }

@@ -27,6 +27,7 @@
 #![tactic(auto)]
 
 mod decoder;
+mod dumps;
 mod event;
 mod fields;
 mod framer;
