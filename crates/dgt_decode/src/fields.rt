@@ -12,21 +12,25 @@ use dgt_values::{Piece, Square};
 // The first byte of a field update.
 const FIELD_BYTE: u8 = 0x8e;
 
-/// The square and the piece of a field update, if the bytes of this whole message are one.
+// The third byte of a field update: its total, of which the second has the multiples of 128.
+const FIELD_LOW: u8 = 5;
+
+/// The square and the piece of a field update, if these bytes are one whole.
 ///
-/// `None` is returned for any other message, and for a field update with a square from 64 on or a
+/// `None` is returned for any other bytes, and for a field update with a square from 64 on or a
 /// piece code from 16 on. A caller that reads many fields asks this before it forms an
 /// [`Event`](crate::Event): an event is as long as a whole position, and copying it takes longer
 /// than reading a field.
 #[inline(always)]
 pub fn field_update(bytes: &[u8]) -> Option<(Square, Piece)>
-    requires { IsWholeMessage bytes.now }
     ensures { MatchOption result
-        ((square : ℕ) (piece : Piece) → message_event bytes.now ≢ Message (field square piece))
-        (λ told. message_event bytes.now ≡ Message (field (square_number told.0) told.1)) }
+        ((square : ℕ) (piece : Piece) → IsWholeMessage bytes.now →
+        message_event bytes.now ≢ Message (field square piece))
+        (λ told. IsWholeMessage bytes.now
+        × (message_event bytes.now ≡ Message (field (square_number told.0) told.1))) }
 {
     dgt_message::laws::reading_is_exact();
-    if bytes[0] != FIELD_BYTE || bytes.len() != FIELD {
+    if bytes.len() != FIELD || bytes[0] != FIELD_BYTE || bytes[1] != 0 || bytes[2] != FIELD_LOW {
         return None;
     }
     match (Square::from_index(bytes[3]), Piece::from_code(bytes[4])) {

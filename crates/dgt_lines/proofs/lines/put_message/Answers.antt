@@ -16,7 +16,7 @@ returns-clause-output g c =
     let told = rw c.bytes.ensures at c.in-Some.ensures in
     let said : c.push_field.new.text ++ [] ≡ c.push_offset.new.text ++ event_text (message_event c.args.framer.now) =
     append-nil _ ∙ c.push_field.ensures.text ∙ ap (λ event. c.push_offset.new.text ++ event_text event)
-    (sym told) in
+    (sym told.1) in
     let whole = line-parts c.args.offset c.make_room.new.self c.push_offset.new.text
     (event_text (message_event c.args.framer.now)) c.push_field.new.text [] c.push_offset.ensures.text said in
     gathered_pushed _ _ _ _ _ _ _ c.in_ok-make_room.ensures.output (c.push.ensures.bytes ∙ whole)
