@@ -7,6 +7,8 @@
 #[cfg(test)]
 mod boards;
 #[cfg(test)]
+mod followers;
+#[cfg(test)]
 mod hosts;
 #[cfg(test)]
 mod worlds;

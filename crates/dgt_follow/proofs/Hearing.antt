@@ -1,0 +1,140 @@
+-- What a follower makes of the events of bytes that come in chunks.
+use Rattle.std.proofs.Common.{◌≡◌, ◌+◌, Option, Some, None, refl, sym, ap, ◌∙◌, ℕ, List, [], ◌∷◌, ◌++◌, append_assoc, length, ◌-◌, take, drop, rules}
+use Rattle.std.proofs.Math.Seq.{take-add}
+use Rattle.std.proofs.lemmas.List.{take_all}
+use Rattle.dgt_decode.specs.Grammar.{Event, Message, Refused, Cut, BadLength, Stray, Placed, events, events_behind, open_message}
+use Rattle.dgt_decode.specs.Feeding.{FirstEvent, at_place_if_any}
+use Rattle.dgt_decode.specs.Laws.{EventsAppend, OpenAppend}
+use Rattle.dgt_host.specs.Host.{HostView, host_after, host_after_events}
+use Rattle.dgt_follow.specs.Pace.{KeepsCount, PaceView, pace_after_event_if_any}
+use Rattle.dgt_follow.specs.Follower.{FollowedInChunks, FollowerView, follower_after, follower_after_event, follower_after_events, following, with_unread}
+
+follower_after_events-append : (f : FollowerView) (now : ℕ) (xs ys : List Placed)
+    → follower_after_events f now (xs ++ ys) ≡ follower_after_events (follower_after_events f now xs) now ys
+follower_after_events-append f now [] ys = refl
+follower_after_events-append f now (x ∷ xs) ys =
+    follower_after_events-append (follower_after_event f now x.event) now xs ys
+
+-- the places of the events don't matter
+follower_after_events-behind : (f : FollowerView) (now n : ℕ) (xs : List Placed)
+    → follower_after_events f now (events_behind n xs) ≡ follower_after_events f now xs
+follower_after_events-behind f now n [] = refl
+follower_after_events-behind f now n (x ∷ xs) =
+    follower_after_events-behind (follower_after_event f now x.event) now n xs
+
+follower_after_event-unread : (f : FollowerView) (now : ℕ) (unread : List ℕ) (event : Event)
+    → follower_after_event (with_unread f unread) now event
+    ≡ with_unread (follower_after_event f now event) unread
+follower_after_event-unread f now unread (Message said) = refl
+follower_after_event-unread f now unread (Refused code fault) = refl
+follower_after_event-unread f now unread (Cut have) = refl
+follower_after_event-unread f now unread BadLength = refl
+follower_after_event-unread f now unread (Stray byte) = refl
+
+-- nor do the bytes that were unread before
+follower_after_events-unread : (f : FollowerView) (now : ℕ) (before after : List ℕ) (xs : List Placed)
+    → with_unread (follower_after_events (with_unread f before) now xs) after
+    ≡ with_unread (follower_after_events f now xs) after
+follower_after_events-unread f now before after [] = refl
+follower_after_events-unread f now before after (x ∷ xs) =
+    ap (λ (g : FollowerView). with_unread (follower_after_events g now xs) after)
+    (follower_after_event-unread f now before x.event)
+    ∙ follower_after_events-unread (follower_after_event f now x.event) now before after xs
+
+-- the events of two chunks, one after the other
+both : EventsAppend → (f : FollowerView) (now : ℕ) (s more : List ℕ)
+    → follower_after_events (follower_after_events f now (events s)) now (events (open_message s ++ more))
+    ≡ follower_after_events f now (events (s ++ more))
+both later f now s more =
+    sym (follower_after_events-behind (follower_after_events f now (events s)) now
+    (length s - length (open_message s)) (events (open_message s ++ more)))
+    ∙ sym (follower_after_events-append f now (events s)
+    (events_behind (length s - length (open_message s)) (events (open_message s ++ more))))
+    ∙ ap (follower_after_events f now) (sym (later s more))
+
+in_two : EventsAppend → OpenAppend → (f : FollowerView) (now : ℕ) (s more whole : List ℕ) → s ++ more ≡ whole
+    → with_unread (follower_after_events (with_unread (follower_after_events f now (events s)) (open_message s)) now
+    (events (open_message s ++ more))) (open_message (open_message s ++ more))
+    ≡ with_unread (follower_after_events f now (events whole)) (open_message whole)
+in_two later still f now s more whole e =
+    follower_after_events-unread (follower_after_events f now (events s)) now (open_message s)
+    (open_message (open_message s ++ more)) (events (open_message s ++ more))
+    ∙ ap (λ (g : FollowerView). with_unread g (open_message (open_message s ++ more))) (both later f now s more)
+    ∙ ap (λ (unread : List ℕ). with_unread (follower_after_events f now (events (s ++ more))) unread)
+    (sym (still s more))
+    ∙ ap (λ (bytes : List ℕ). with_unread (follower_after_events f now (events bytes)) (open_message bytes)) e
+
+pub followed_in_chunks : EventsAppend → OpenAppend → FollowedInChunks
+followed_in_chunks later still f now bytes more = in_two later still f now (f.host.unread ++ bytes) more
+    (f.host.unread ++ (bytes ++ more)) (append_assoc f.host.unread bytes more)
+
+-- some more bytes of a chunk
+pub heard_more : FollowedInChunks → (f before after : FollowerView) (now : ℕ) (chunk : List ℕ) (i n : ℕ)
+    → before ≡ follower_after f now (take i chunk) → after ≡ follower_after before now (take n (drop i chunk))
+    → after ≡ follower_after f now (take (i + n) chunk)
+heard_more in_chunks f before after now chunk i n e g =
+    g ∙ ap (λ (h : FollowerView). follower_after h now (take n (drop i chunk))) e
+    ∙ in_chunks f now (take i chunk) (take n (drop i chunk))
+    ∙ ap (follower_after f now) (sym (take-add i n chunk))
+
+-- ---- one call
+
+-- the bytes that a call uses make the event that it returns, and no other
+first_event_heard : (held chunk : List ℕ) (used : ℕ) (event : Option Event) → FirstEvent held chunk used event
+    → events (held ++ take used chunk) ≡ at_place_if_any (length held + used) event
+first_event_heard held chunk used None (all, none) =
+    ap (λ (bytes : List ℕ). events (held ++ bytes)) (take_all used chunk (search rules)) ∙ none
+first_event_heard held chunk used (Some event) (within, found, earlier) = found
+
+one_event : (f : FollowerView) (now place : ℕ) (bytes : List ℕ) (event : Option Event)
+    → events (f.host.unread ++ bytes) ≡ at_place_if_any place event
+    → follower_after f now bytes
+    ≡ following (host_after f.host bytes) (pace_after_event_if_any f.pace now f.host.awaited event)
+one_event f now place bytes None e =
+    let rest : List ℕ = open_message (f.host.unread ++ bytes) in
+    ap (λ (xs : List Placed). with_unread (follower_after_events f now xs) rest) e
+    ∙ sym (ap (λ (xs : List Placed). following (record (host_after_events f.host xs) { unread = rest }) f.pace) e)
+one_event f now place bytes (Some event) e =
+    let rest : List ℕ = open_message (f.host.unread ++ bytes) in
+    let pace : PaceView = pace_after_event_if_any f.pace now f.host.awaited (Some event) in
+    ap (λ (xs : List Placed). with_unread (follower_after_events f now xs) rest) e
+    ∙ sym (ap (λ (xs : List Placed). following (record (host_after_events f.host xs) { unread = rest }) pace) e)
+
+-- a follower after a call is its host after it, with what it notes of the event
+pub heard_once : (f : FollowerView) (now used : ℕ) (chunk : List ℕ) (event : Option Event)
+    → FirstEvent f.host.unread chunk used event
+    → follower_after f now (take used chunk) ≡ following (host_after f.host (take used chunk))
+    (pace_after_event_if_any f.pace now f.host.awaited event)
+heard_once f now used chunk event first =
+    one_event f now (length f.host.unread + used) (take used chunk) event
+    (first_event_heard f.host.unread chunk used event first)
+
+-- ---- what it does to the host and to the counts
+
+host_of_events : (f : FollowerView) (now : ℕ) (xs : List Placed)
+    → (follower_after_events f now xs).host ≡ host_after_events f.host xs
+host_of_events f now [] = refl
+host_of_events f now (x ∷ xs) = host_of_events (follower_after_event f now x.event) now xs
+
+pub host_of_heard : (f : FollowerView) (now : ℕ) (bytes : List ℕ)
+    → (follower_after f now bytes).host ≡ host_after f.host bytes
+host_of_heard f now bytes =
+    ap (λ (h : HostView). record h { unread = open_message (f.host.unread ++ bytes) })
+    (host_of_events f now (events (f.host.unread ++ bytes)))
+
+counts_of_events : (f : FollowerView) (now : ℕ) (xs : List Placed)
+    → KeepsCount f.pace (follower_after_events f now xs).pace
+counts_of_events f now [] = record { period = refl; patience = refl; mode = refl; left = refl; asked = refl }
+counts_of_events f now (x ∷ xs) =
+    let later = counts_of_events (follower_after_event f now x.event) now xs in
+    record {
+      period = later.period;
+      patience = later.patience;
+      mode = later.mode;
+      left = later.left;
+      asked = later.asked;
+    }
+
+pub counts_of_heard : (f : FollowerView) (now : ℕ) (bytes : List ℕ)
+    → KeepsCount f.pace (follower_after f now bytes).pace
+counts_of_heard f now bytes = counts_of_events f now (events (f.host.unread ++ bytes))

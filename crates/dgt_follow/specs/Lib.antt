@@ -1,0 +1,3 @@
+-- Cited by public contracts.
+pub mod Pace
+pub mod Follower

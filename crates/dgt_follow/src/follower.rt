@@ -1,0 +1,233 @@
+//! The follower.
+
+ghost use Rattle.std.specs.Prelude.{◌≡◌, ◌<◌, ◌≤◌, Option, Some, false, length, option_map, take};
+ghost use Rattle.dgt_values.specs.Board.{pieces_of};
+ghost use Rattle.dgt_values.specs.declared.kinds.Kind.{Kind};
+ghost use Rattle.dgt_message.specs.Content.{clock_seen};
+ghost use Rattle.dgt_command.specs.Content.{command_content, kind_of_command};
+ghost use Rattle.dgt_command.specs.Spelling.{command_spelling};
+ghost use Rattle.dgt_decode.specs.Grammar.{Event as EventSaid};
+ghost use Rattle.dgt_decode.specs.Feeding.{FirstEvent};
+ghost use Rattle.dgt_host.specs.Host.{Sends, awaits_too_many};
+ghost use Rattle.dgt_follow.specs.Pace.{due_at};
+ghost use Rattle.dgt_follow.specs.Follower.{Asks, HostAsks, asking_of, follower_after, following, new_follower};
+
+use crate::asking::{Asking, NoRoom, UpdateMode};
+use crate::pace::Pace;
+use dgt_command::Command;
+use dgt_host::{Clock, Host, MAX_AWAITED, Position, RESTART_LENGTH, SendFault};
+use std::marker::Model;
+
+/// How many bytes a heartbeat takes.
+const HEARTBEAT_LENGTH: usize = 2;
+
+/// The most bytes that a follower writes when it asks: a host's restart and the mode's command.
+pub const MAX_ASKING: usize = RESTART_LENGTH + 1;
+
+/// A host that asks for the whole board again and again. See the [crate's page](crate).
+#[derive(Drop)]
+pub struct Follower {
+    host: Host,
+    pace: Pace,
+}
+
+impl Model for Follower {
+    ghost use Rattle.dgt_follow.specs.Follower.{FollowerView};
+
+    ghost Value = { FollowerView };
+
+    ghost view = { λ follower. record { host = follower.host; pace = follower.pace } };
+}
+
+// Writes a heartbeat: what a host's `follow` writes, with this mode's command.
+fn heartbeat(host: &mut Host, mode: UpdateMode, out: &mut [u8]) -> Result<usize, NoRoom>
+    requires { awaits_too_many host.old (Some Kind.Dump) ≡ false }
+    ensures { HostAsks Asking.Heartbeat mode host.old host.new out.old out.new result }
+{
+    if out.len() < HEARTBEAT_LENGTH {
+        return Err(NoRoom {
+            need: HEARTBEAT_LENGTH,
+        });
+    }
+    let written = host.follow(out).unwrap();
+    out[0] = mode.code();
+    Ok(written)
+}
+
+// Begins anew: the host gives up what it awaits, and the mode's command follows its restart.
+fn begin_anew(host: &mut Host, mode: UpdateMode, out: &mut [u8]) -> Result<usize, NoRoom>
+    ensures { HostAsks Asking.Anew mode host.old host.new out.old out.new result }
+{
+    if out.len() < MAX_ASKING {
+        return Err(NoRoom { need: MAX_ASKING });
+    }
+    host.give_up_awaited();
+    let written = host.restart(out).unwrap();
+    out[written] = mode.code();
+    Ok(MAX_ASKING)
+}
+
+impl Follower {
+    /// A follower that has never asked, and asks for changed squares ([`UpdateMode::Squares`]).
+    ///
+    /// `period` is in milliseconds, from one asking to the next: with 0 every call of `ask` is due.
+    /// `patience` is how many heartbeats may follow one another before it begins anew whatever it
+    /// has heard; with 0 it always begins anew. A board that is out of step may go on answering
+    /// what nobody asked, so that no answer proves that the heartbeats are read.
+    pub fn new(period: u64, patience: u32) -> Self
+        ensures { result ≡ new_follower period patience UpdateMode.Squares }
+    {
+        Follower {
+            host: Host::new(),
+            pace: Pace::new(period, patience, UpdateMode::Squares),
+        }
+    }
+
+    /// Uses bytes of the chunk, which came at this time, up to and including the first that makes
+    /// an event, or all of it, as [`Host::hear`] does, and returns how many. Call again with the
+    /// bytes that are left.
+    ///
+    /// A dump that was awaited answers the last asking. A cut, refused, misstated or stray message
+    /// and an unasked one are disturbances: the next asking is due at once, but not before a
+    /// quarter of the period after the last one, and it begins anew.
+    pub fn hear(&mut self, now: u64, chunk: &[u8]) -> usize
+        ensures heard { self.new ≡ follower_after self.old now (take result chunk.now) }
+        ensures first { (event : Option EventSaid)
+            × FirstEvent self.old.host.unread chunk.now result event }
+        ensures within { result ≤ length chunk.now }
+        ensures progress { 0 < length chunk.now → 0 < result }
+    {
+        let heard = self.host.hear(chunk);
+        let used = heard.used;
+        self.pace.note(&heard.event, heard.unasked, now);
+        used
+    }
+
+    /// Uses all of the chunk, which came at this time, as [`Follower::hear`] does one event after
+    /// another. Whatever chunks bytes come in at a time, the follower afterwards is the same
+    /// (`laws::followed_in_chunks`).
+    pub fn hear_all(&mut self, now: u64, chunk: &[u8])
+        ensures { self.new ≡ follower_after self.old now chunk.now }
+    {
+        crate::laws::followed_in_chunks();
+        let mut at = self.hear(now, chunk);
+        while at < chunk.len() {
+            at += self.hear(now, &chunk[at..]);
+        }
+    }
+
+    /// Asks the board, if that is due, and returns how many bytes it wrote into the front of the
+    /// slice, at most [`MAX_ASKING`]. If it isn't due, nothing changes and the result is 0.
+    ///
+    /// It is due at any time if it has never asked, and else a period after the last asking, or
+    /// after a disturbance a quarter of the period. It writes a heartbeat, the mode's command and
+    /// `42`, if a dump that was awaited came since the last asking, nothing disturbed it since,
+    /// fewer than 16 replies are awaited and the patience has not run out. Else it begins anew: the
+    /// host gives up what it awaits, and 255 zeros, `44 42` and the mode's command are written.
+    /// Either way the picture stays known, and a dump is awaited.
+    ///
+    /// `NoRoom` if the slice is too short, and then nothing changes.
+    pub fn ask(&mut self, now: u64, out: &mut [u8]) -> Result<usize, NoRoom>
+        ensures { Asks (asking_of self.old now) now self.old self.new out.old out.new result }
+    {
+        let full = self.host.awaited().len() >= MAX_AWAITED;
+        let asking = self.pace.asking(full, now);
+        let mode = self.pace.mode();
+        let written = match asking {
+            Asking::Nothing => 0,
+            Asking::Heartbeat => heartbeat(&mut self.host, mode, out)?,
+            Asking::Anew => begin_anew(&mut self.host, mode, out)?,
+        };
+        self.pace.note_asking(asking, now);
+        Ok(written)
+    }
+
+    /// The first time at which [`Follower::ask`] writes, if nothing is heard before: 0 if it has
+    /// never asked. `None` if that is past the last time that a `u64` counts.
+    pub fn due_at(&self) -> Option<u64>
+        ensures { result ≡ due_at self.now.pace }
+    {
+        self.pace.due_at()
+    }
+
+    /// Sends another command, as [`Host::send`] does. It doesn't count as an asking.
+    ///
+    /// After `Reset` the board reports no change until the next asking.
+    pub fn send(&mut self, command: &Command<'_>, out: &mut [u8]) -> Result<usize, SendFault>
+        ensures sends { let said = command_content command.now in
+            Sends (record { kind = kind_of_command said; bytes = command_spelling said })
+            self.old.host self.new.host out.old out.new result }
+        ensures pace { self.new.pace ≡ self.old.pace }
+    {
+        self.host.send(command, out)
+    }
+
+    /// What the board is asked to report by itself.
+    pub fn mode(&self) -> UpdateMode
+        ensures { result ≡ self.now.pace.mode }
+    {
+        self.pace.mode()
+    }
+
+    /// Has each asking from now on ask for this mode. When the next one is due stays as it was.
+    pub fn set_mode(&mut self, mode: UpdateMode)
+        ensures { self.new ≡ following self.old.host (record self.old.pace { mode = mode }) }
+    {
+        self.pace.set_mode(mode);
+    }
+
+    /// The line to the board is lost, and what was under way on it. The follower is as new, with
+    /// its period, its patience and its mode: it knows no picture, and its next asking is due at
+    /// once and begins anew.
+    pub fn line_lost(&mut self)
+        ensures { self.new ≡ let pace = self.old.pace in
+            new_follower pace.period pace.patience pace.mode }
+    {
+        self.host.line_lost();
+        self.pace.line_lost();
+    }
+
+    /// The picture of the board, if a dump was heard.
+    pub fn picture(&self) -> Option<&Position>
+        ensures { option_map (λ position. pieces_of position.now) result ≡ self.now.host.picture }
+    {
+        self.host.picture()
+    }
+
+    /// What the board reported last of its clock, if it reported any of it.
+    pub fn clock(&self) -> Option<&Clock>
+        ensures { option_map (λ clock. clock_seen clock.now) result ≡ self.now.host.clock }
+    {
+        self.host.clock()
+    }
+
+    /// Whether the picture may be wrong: since the last dump that was awaited there was a
+    /// disturbance, or an asking found the one before it unanswered.
+    pub fn in_doubt(&self) -> bool
+        ensures { result ≡ self.now.pace.doubtful }
+    {
+        self.pace.in_doubt()
+    }
+
+    /// The time of the last whole message, if one was heard.
+    pub fn last_heard(&self) -> Option<u64>
+        ensures { result ≡ self.now.pace.heard }
+    {
+        self.pace.last_heard()
+    }
+
+    /// How many heartbeats may still follow one another, of those that the patience allows.
+    pub fn heartbeats_left(&self) -> u32
+        ensures left { result ≡ self.now.pace.left }
+        ensures at_most { self.now.pace.left ≤ self.now.pace.patience }
+    {
+        self.pace.heartbeats_left()
+    }
+
+    /// The host, with all that it awaits and has unread.
+    pub fn host(&self) -> &Host
+        ensures { result.now ≡ self.now.host }
+    {
+        &self.host
+    }
+}

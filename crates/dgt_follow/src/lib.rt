@@ -1,0 +1,48 @@
+//! A host that keeps its picture of a DGT board right by asking for the whole board again and
+//! again.
+//!
+//! A [`Follower`] owns a [`Host`](dgt_host::Host), and neither a line nor a clock. The caller hands
+//! in the time, and a slice for the bytes to send. [`Follower::ask`] writes what the board has to
+//! be asked, if that is due: in each period a *heartbeat*, which is the mode's command and a dump
+//! request. If the last one had no answer, something disturbed the line, 16 replies are awaited, or
+//! the patience has run out, it *begins anew*: it ends whatever command the board may be in the
+//! middle of. [`Follower::due_at`] returns when it will write next, so a program can sleep as long.
+//!
+//! ```rust
+//! use dgt_follow::{Follower, MAX_ASKING};
+//! use dgt_values::Position;
+//!
+//! /// Hears a chunk at this time, and returns what to send and the picture.
+//! pub fn turn(
+//!     follower: &mut Follower,
+//!     now: u64,
+//!     chunk: &[u8],
+//!     out: &mut [u8; MAX_ASKING],
+//! ) -> (usize, Option<Position>) {
+//!     follower.hear_all(now, chunk);
+//!     let count = follower.ask(now, out).unwrap_or(0);
+//!     (count, follower.picture().copied())
+//! }
+//! ```
+//!
+//! Times are milliseconds of a clock that doesn't go back. A time before the last asking is too
+//! early for the next one. No call takes memory.
+//!
+//! The picture stays known while the follower asks, and while it begins anew. A board that lost its
+//! power sends no changes and is found by the next heartbeat: the period is how long the picture
+//! may stay wrong then.
+//!
+//! Contracts see a follower as its host and its pace (`specs/Follower.antt`). The pace
+//! (`specs/Pace.antt`) is what it counts and notes: `due_time` is when it asks next, `asking` what
+//! it asks, and `pace_after_event` what it notes of an event. When to ask, and how often in a row
+//! a heartbeat is enough, is this project's own choice. [`laws`] says that chunks don't matter.
+#![tactic(auto)]
+
+mod asking;
+mod follower;
+pub mod laws;
+mod pace;
+
+pub use asking::{Asking, NoRoom, UpdateMode};
+pub use follower::{Follower, MAX_ASKING};
+pub use pace::Pace;

@@ -1,0 +1,200 @@
+-- What a follower writes when it asks is acts of a faulty world.
+use Rattle.std.proofs.Common.{◌≡◌, ◌+◌, ◌<◌, ◌≤◌, Bool, true, false, not, ◌&&◌, if◌then◌else◌, nat_le, nat_lt, Some, None, Ok, refl, sym, ap, subst, ◌∙◌, ℕ, List, [], ◌∷◌, ◌++◌, append_assoc, append-nil, length, take, drop, rules, arith}
+use Rattle.std.specs.Prelude.{slice_index as nth}
+use Rattle.std.proofs.lemmas.List.{length-append}
+use Rattle.dgt_values.specs.declared.kinds.Kind.{Kind}
+use Rattle.dgt_command.specs.Content.{CommandContent}
+use Rattle.dgt_command.specs.Spelling.{AreBytes, SpellsCommand, command_spelling}
+use Rattle.dgt_follow.specs.declared.asking.Asking.{Asking}
+use Rattle.dgt_follow.specs.declared.asking.UpdateMode.{UpdateMode}
+use Rattle.dgt_follow.specs.Pace.{PaceView, asking, asking_bytes, due_time, mode_command, trusts}
+use Rattle.dgt_follow.specs.Follower.{Asks, FollowerView, asking_of, host_after_asking}
+use Rattle.dgt_host.specs.Host.{HostView, awaits_too_many, host_awaiting, restart_bytes, without_awaited}
+use Rattle.dgt_link.specs.declared.acts.Outcome.{Outcome}
+use Rattle.dgt_link.specs.Faults.{FaultyContent, FaultyStep}
+use Rattle.dgt_link.specs.View.{LineContents, WorldView, overflows, with_bytes}
+use Rattle.dgt_followed.specs.Followed.{HasRoom, RunsDone, asking_acts, sends}
+
+-- ---- a heartbeat is sent only while replies and patience are left
+
+chosen : (due trusted : Bool)
+    → (if not due then Asking.Nothing else if trusted then Asking.Heartbeat else Asking.Anew) ≡ Asking.Heartbeat
+    → trusted ≡ true
+chosen true true e = refl
+chosen true false e = cc
+chosen false trusted e = cc
+
+all_hold : (x y full some : Bool) → ((x && (y && not full)) && some) ≡ true → (full ≡ false) × (some ≡ true)
+all_hold true true false true e = (refl, refl)
+all_hold true true false false e = cc
+all_hold true true true some e = cc
+all_hold true false full some e = cc
+all_hold false y full some e = cc
+
+heartbeat_holds : (pace : PaceView) (full : Bool) (now : ℕ) → asking pace full now ≡ Asking.Heartbeat
+    → (full ≡ false) × (nat_lt 0 pace.left ≡ true)
+heartbeat_holds pace full now e =
+    all_hold _ (not pace.disturbed) full (nat_lt 0 pace.left)
+    (chosen (nat_le (due_time pace) now) (trusts pace full) e)
+
+pub heartbeat_is_free : (pace : PaceView) (full : Bool) (now : ℕ) → asking pace full now ≡ Asking.Heartbeat
+    → full ≡ false
+heartbeat_is_free pace full now e = (heartbeat_holds pace full now e).0
+
+pub heartbeat_is_left : (pace : PaceView) (full : Bool) (now : ℕ) → asking pace full now ≡ Asking.Heartbeat
+    → 0 < pace.left
+heartbeat_is_left pace full now e =
+    let some : nat_lt 0 pace.left ≡ true = (heartbeat_holds pace full now e).1 in search rules
+
+-- ---- one act
+
+fits : (line : LineContents) (bytes : List ℕ) → HasRoom line bytes → overflows line bytes ≡ false
+fits line bytes room = search rules
+
+one_byte : (b : ℕ) → b < 256 → AreBytes (b ∷ [])
+one_byte b small 0 = small
+one_byte b small (suc i) = search rules
+
+mode_spells : (mode : UpdateMode) → SpellsCommand (mode_command mode) (command_spelling (mode_command mode))
+mode_spells UpdateMode.Squares = record { are_bytes = one_byte 0x44 (search rules); spelled = refl }
+mode_spells UpdateMode.Clock = record { are_bytes = one_byte 0x43 (search rules); spelled = refl }
+mode_spells UpdateMode.ClockChanges = record { are_bytes = one_byte 0x4b (search rules); spelled = refl }
+
+same_host : (world : WorldView) (bytes : List ℕ) → record world { down = with_bytes world.down bytes }
+    ≡ record world { host = host_awaiting world.host None; down = with_bytes world.down bytes }
+same_host world bytes =
+    ap (λ (kinds : List Kind). record world {
+      host = record world.host { awaited = kinds };
+      down = with_bytes world.down bytes;
+    }) (sym (append-nil world.host.awaited))
+
+mode_done : (mode : UpdateMode) (world : WorldView) → HasRoom world.down (command_spelling (mode_command mode))
+    → FaultyStep (sends (mode_command mode)) world Outcome.Done
+    (record world { down = with_bytes world.down (command_spelling (mode_command mode)) })
+mode_done UpdateMode.Squares world room =
+    let free = fits world.down (command_spelling CommandContent.UpdateBoard) room in
+    record {
+      answers = rw free refl;
+      leaves = (mode_spells UpdateMode.Squares, same_host world (command_spelling CommandContent.UpdateBoard));
+    }
+mode_done UpdateMode.Clock world room =
+    let free = fits world.down (command_spelling CommandContent.Update) room in
+    record {
+      answers = rw free refl;
+      leaves = (mode_spells UpdateMode.Clock, same_host world (command_spelling CommandContent.Update));
+    }
+mode_done UpdateMode.ClockChanges world room =
+    let free = fits world.down (command_spelling CommandContent.UpdateNice) room in
+    record {
+      answers = rw free refl;
+      leaves = (mode_spells UpdateMode.ClockChanges, same_host world (command_spelling CommandContent.UpdateNice));
+    }
+
+dump_done : (world : WorldView) → awaits_too_many world.host (Some Kind.Dump) ≡ false
+    → HasRoom world.down (command_spelling CommandContent.Dump)
+    → FaultyStep (sends CommandContent.Dump) world Outcome.Done (record world {
+      host = host_awaiting world.host (Some Kind.Dump);
+      down = with_bytes world.down (command_spelling CommandContent.Dump);
+    })
+dump_done world few room =
+    let free = fits world.down (command_spelling CommandContent.Dump) room in
+    record {
+      answers = rw (few, free) refl;
+      leaves = (record { are_bytes = one_byte 0x42 (search rules); spelled = refl }, refl);
+    }
+
+restart_done : (world : WorldView) → HasRoom world.down restart_bytes
+    → FaultyStep FaultyContent.Restart world Outcome.Done (record world {
+      host = host_awaiting (without_awaited world.host) (Some Kind.Dump);
+      down = with_bytes world.down restart_bytes;
+    })
+restart_done world room =
+    let free = fits world.down restart_bytes room in record { answers = rw free refl; leaves = refl }
+
+-- ---- an asking
+
+-- there is room for the first bytes, and then for the later ones
+room_first : (line : LineContents) (first later : List ℕ) → HasRoom line (first ++ later) → HasRoom line first
+room_first line first later room = omega (arith, room, length-append first later)
+
+room_later : (line : LineContents) (first later : List ℕ) → HasRoom line (first ++ later)
+    → HasRoom (with_bytes line first) later
+room_later line first later room =
+    omega (arith, room, length-append first later, length-append line.bytes first)
+
+-- the line with both, one after the other
+in_a_row : (world : WorldView) (host : HostView) (first later : List ℕ)
+    → record world { host = host; down = with_bytes world.down (first ++ later) }
+    ≡ record world { host = host; down = with_bytes (with_bytes world.down first) later }
+in_a_row world host first later =
+    ap (λ (bytes : List ℕ). record world { host = host; down = record world.down { bytes = bytes } })
+    (sym (append_assoc world.down.bytes first later))
+
+-- what an asking leaves of a world with room for it
+abbrev after_acts : UpdateMode → Asking → WorldView → WorldView
+after_acts mode what world =
+    record world {
+      host = host_after_asking what world.host;
+      down = with_bytes world.down (asking_bytes mode what);
+    }
+
+acts_done : (mode : UpdateMode) (what : Asking) (world : WorldView)
+    → (what ≡ Asking.Heartbeat → awaits_too_many world.host (Some Kind.Dump) ≡ false)
+    → HasRoom world.down (asking_bytes mode what)
+    → RunsDone (asking_acts mode what) world (after_acts mode what world)
+acts_done mode Asking.Nothing world few room =
+    ap (λ (bytes : List ℕ). record world { down = record world.down { bytes = bytes } }) (append-nil world.down.bytes)
+acts_done mode Asking.Heartbeat world few room =
+    let first = command_spelling (mode_command mode) in
+    let later = command_spelling CommandContent.Dump in
+    let between : WorldView = record world { down = with_bytes world.down first } in (
+      between,
+      mode_done mode world (room_first world.down first later room),
+      (
+        record between {
+          host = host_awaiting world.host (Some Kind.Dump);
+          down = with_bytes between.down later;
+        },
+        dump_done between (few refl) (room_later world.down first later room),
+        in_a_row world (host_awaiting world.host (Some Kind.Dump)) first later,
+      ),
+    )
+acts_done mode Asking.Anew world few room =
+    let later = command_spelling (mode_command mode) in
+    let between : WorldView = record world {
+      host = host_awaiting (without_awaited world.host) (Some Kind.Dump);
+      down = with_bytes world.down restart_bytes;
+    } in (
+      between,
+      restart_done world (room_first world.down restart_bytes later room),
+      (
+        record between { down = with_bytes between.down later },
+        mode_done mode between (room_later world.down restart_bytes later room),
+        in_a_row world between.host restart_bytes later,
+      ),
+    )
+
+-- the bytes that stand at the front of a slice
+front_of : (bytes old new : List ℕ) (written : ℕ) → written ≡ length bytes → new ≡ bytes ++ drop written old
+    → take written new ≡ bytes
+front_of bytes old new written e f = rw (f, e) (search rules)
+
+pub asking_is_acts : (follower after : FollowerView) (now written : ℕ) (old new : List ℕ) (world : WorldView)
+    → Asks (asking_of follower now) now follower after old new (Ok written) → world.host ≡ follower.host
+    → HasRoom world.down (asking_bytes follower.pace.mode (asking_of follower now))
+    → RunsDone (asking_acts follower.pace.mode (asking_of follower now)) world
+    (record world { host = after.host; down = with_bytes world.down (take written new) })
+asking_is_acts follower after now written old new world asked same room =
+    let mode = follower.pace.mode in
+    let what = asking_of follower now in
+    let bytes = asking_bytes mode what in
+    let done = acts_done mode what world
+    (λ is. rw same (heartbeat_is_free follower.pace (awaits_too_many follower.host (Some Kind.Dump)) now is)) room in
+    let host : host_after_asking what world.host ≡ after.host
+    = ap (host_after_asking what) same ∙ sym asked.0.3 in
+    let front : bytes ≡ take written new = sym (front_of bytes old new written asked.0.0 asked.0.2) in
+    let P : HostView → Type 0 = λ h. RunsDone (asking_acts mode what) world
+    (record world { host = h; down = with_bytes world.down bytes }) in
+    let Q : List ℕ → Type 0 = λ bs. RunsDone (asking_acts mode what) world
+    (record world { host = after.host; down = with_bytes world.down bs }) in
+    subst Q front (subst P host done)

@@ -1,0 +1,83 @@
+-- A board and a follower on lines that may fail: which acts an asking is, and what happens to both.
+use Rattle.std.specs.Prelude.{◌≡◌, ℕ, ◌+◌, ◌≤◌, List, [], ◌∷◌, ◌++◌, length, map, Bool, ◌||◌, if◌then◌else◌}
+use Rattle.dgt_command.specs.Content.{CommandContent}
+use Rattle.dgt_follow.specs.declared.asking.Asking.{Asking}
+use Rattle.dgt_follow.specs.declared.asking.UpdateMode.{UpdateMode}
+use Rattle.dgt_follow.specs.Pace.{PaceView, asking_bytes, mode_command, pace_after_asking}
+use Rattle.dgt_follow.specs.Follower.{FollowerView, asking_of, following, host_after_asking}
+use Rattle.dgt_link.specs.declared.acts.Outcome.{Outcome}
+use Rattle.dgt_link.specs.Act.{ActContent}
+use Rattle.dgt_link.specs.Faults.{FaultyContent, FaultyRuns, FaultyStep, is_fault, stops}
+use Rattle.dgt_link.specs.View.{LineContents, WorldView, with_bytes}
+
+-- ---- an asking
+
+-- the act of a host that sends a command
+abbrev pub sends : CommandContent → FaultyContent
+sends command = FaultyContent.Plain (ActContent.Host command)
+
+-- the acts that an asking is
+abbrev pub asking_acts : UpdateMode → Asking → List FaultyContent
+asking_acts mode Asking.Nothing = []
+asking_acts mode Asking.Heartbeat = sends (mode_command mode) ∷ sends CommandContent.Dump ∷ []
+asking_acts mode Asking.Anew = FaultyContent.Restart ∷ sends (mode_command mode) ∷ []
+
+-- each of these acts is done
+abbrev pub all_done : List FaultyContent → List Outcome
+all_done acts = map (λ _. Outcome.Done) acts
+
+abbrev pub RunsDone : List FaultyContent → WorldView → WorldView → Type 0
+RunsDone acts world after = FaultyRuns acts world (all_done acts) after
+
+-- the line has room for so many more bytes
+abbrev pub HasRoom : LineContents → List ℕ → Type 0
+HasRoom line bytes = length line.bytes + length bytes ≤ line.capacity
+
+-- ---- what happens
+
+-- a world whose host is a follower's, the follower's pace, and a count
+pub record FollowedView : Type 0 where
+  pub world : WorldView
+  pub pace : PaceView
+  pub since : ℕ  -- how often it has asked since the last fault, break or reset
+
+abbrev pub follower_of : FollowedView → FollowerView
+follower_of followed = following followed.world.host followed.pace
+
+pub data Happening : Type 0 where
+  -- the follower is had to ask at this time, and writes what is due
+  Ask : (now : ℕ) → Happening
+  -- anything else: a delivery, a sending, another command, a change, a fault
+  Other : (act : FaultyContent) → Happening
+
+-- after it what was asked before counts for nothing
+abbrev pub unsettles : FaultyContent → Bool
+unsettles act = is_fault act || stops act
+
+abbrev pub count_after_asking : Asking → ℕ → ℕ
+count_after_asking Asking.Nothing since = since
+count_after_asking _ since = since + 1
+
+-- the patience, and how much of it is left, are the same
+pub record KeepsPatience (before after : PaceView) : Type 0 where
+  pub patience : after.patience ≡ before.patience
+  pub left : after.left ≡ before.left
+
+-- An asking is the acts that are due at its time, each of them done. Any other act has the outcome
+-- that it has, and the follower may note of it whatever it likes.
+abbrev pub FollowedStep : Happening → FollowedView → FollowedView → Type 0
+FollowedStep (Happening.Ask now) before after =
+    let what = asking_of (follower_of before) now in
+    RunsDone (asking_acts before.pace.mode what) before.world after.world
+    × (after.pace ≡ pace_after_asking what before.pace now)
+    × (after.since ≡ count_after_asking what before.since)
+FollowedStep (Happening.Other act) before after =
+    (answer : Outcome) × FaultyStep act before.world answer after.world
+    × KeepsPatience before.pace after.pace
+    × (after.since ≡ (if unsettles act then 0 else before.since))
+
+abbrev pub FollowedRuns : List Happening → FollowedView → FollowedView → Type 0
+FollowedRuns [] before after = after ≡ before
+FollowedRuns (happening ∷ later) before after =
+    (between : FollowedView) × FollowedStep happening before between
+    × FollowedRuns later between after
