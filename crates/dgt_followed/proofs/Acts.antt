@@ -1,7 +1,7 @@
 -- What a follower writes when it asks is acts of a faulty world.
-use Rattle.std.proofs.Common.{◌≡◌, ◌+◌, ◌<◌, ◌≤◌, Bool, true, false, not, ◌&&◌, if◌then◌else◌, nat_le, nat_lt, Some, None, Ok, refl, sym, ap, subst, ◌∙◌, ℕ, List, [], ◌∷◌, ◌++◌, append_assoc, append-nil, length, take, drop, rules, arith}
+use Rattle.std.proofs.Common.{◌≡◌, ◌+◌, ◌<◌, ◌≤◌, Bool, true, false, not, ◌&&◌, if◌then◌else◌, nat_le, nat_lt, Some, None, Ok, refl, sym, ap, subst, zero, suc, ◌∙◌, ℕ, List, [], ◌∷◌, ◌++◌, append_assoc, append-nil, length, take, drop, rules, arith}
 use Rattle.std.specs.Prelude.{slice_index as nth}
-use Rattle.std.proofs.lemmas.List.{length-append}
+use Rattle.std.proofs.lemmas.List.{length-append, take_at}
 use Rattle.dgt_values.specs.declared.kinds.Kind.{Kind}
 use Rattle.dgt_command.specs.Content.{CommandContent}
 use Rattle.dgt_command.specs.Spelling.{AreBytes, SpellsCommand, command_spelling}
@@ -52,7 +52,7 @@ fits : (line : LineContents) (bytes : List ℕ) → HasRoom line bytes → overf
 fits line bytes room = search rules
 
 one_byte : (b : ℕ) → b < 256 → AreBytes (b ∷ [])
-one_byte b small 0 = small
+one_byte b small zero = small
 one_byte b small (suc i) = search rules
 
 mode_spells : (mode : UpdateMode) → SpellsCommand (mode_command mode) (command_spelling (mode_command mode))
@@ -177,7 +177,7 @@ acts_done mode Asking.Anew world few room =
 -- the bytes that stand at the front of a slice
 front_of : (bytes old new : List ℕ) (written : ℕ) → written ≡ length bytes → new ≡ bytes ++ drop written old
     → take written new ≡ bytes
-front_of bytes old new written e f = rw (f, e) (search rules)
+front_of bytes old new written e f = rw f (take_at bytes (drop written old) written (sym e))
 
 pub asking_is_acts : (follower after : FollowerView) (now written : ℕ) (old new : List ℕ) (world : WorldView)
     → Asks (asking_of follower now) now follower after old new (Ok written) → world.host ≡ follower.host
