@@ -20,6 +20,7 @@ const DUMP: [u8; 67] = [
 const STRAY: [u8; 1] = [0x01];
 
 /// What a follower does at a time, and what it shows afterwards.
+#[derive(Drop)]
 struct Row {
     now: u64,
     /// What it hears; if nothing, it asks.
