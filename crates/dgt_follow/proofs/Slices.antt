@@ -37,4 +37,4 @@ begun_anew mode code written before after old begun new spelled room all e f hos
     let set : new ≡ slice_set begun 257 code = f ∙ ap (λ (n : ℕ). slice_set begun n code) all in
     let stands : new ≡ (restart_bytes ++ command_spelling (mode_command mode)) ++ drop 258 old
     = set ∙ ap (λ (bytes : List ℕ). slice_set bytes 257 code) front ∙ set_in_slice restart_bytes old 257 code refl room
-    ∙ ap (λ (bytes : List ℕ). (restart_bytes ++ bytes) ++ drop 258 old) (sym spelled) in (long, room, stands, host)
+    ∙ ap (λ (bytes : List ℕ). (restart_bytes ++ bytes) ++ drop 258 old) (sym spelled) in ((long, room, stands), host)

@@ -1,10 +1,11 @@
 -- What contracts see of a follower, what it makes of the bytes that it hears, and what it asks.
 use Rattle.std.specs.Prelude.{◌≡◌, ℕ, ◌<◌, ◌≤◌, List, [], ◌∷◌, ◌++◌, length, drop, Some, Result, Ok, Err}
+use Rattle.dgt_values.specs.Bytes.{WritesFront}
 use Rattle.dgt_values.specs.declared.kinds.Kind.{Kind}
+use Rattle.dgt_values.specs.declared.refusals.NoRoom.{NoRoom}
 use Rattle.dgt_decode.specs.Grammar.{Event, Placed, events, open_message}
 use Rattle.dgt_host.specs.Host.{HostView, awaits_too_many, host_after_event, host_awaiting, new_host, without_awaited}
 use Rattle.dgt_follow.specs.declared.asking.Asking.{Asking}
-use Rattle.dgt_follow.specs.declared.asking.NoRoom.{NoRoom}
 use Rattle.dgt_follow.specs.declared.asking.UpdateMode.{UpdateMode}
 use Rattle.dgt_follow.specs.Pace.{PaceView, asking, asking_bytes, new_pace, pace_after_asking, pace_after_event}
 
@@ -66,11 +67,10 @@ host_after_asking Asking.Anew host = host_awaiting (without_awaited host) (Some 
 abbrev pub HostAsks : Asking → UpdateMode → HostView → HostView → List ℕ → List ℕ
     → Result ℕ NoRoom → Type 0
 HostAsks what mode before after old new (Ok written) =
-    (written ≡ length (asking_bytes mode what)) × (written ≤ length old)
-    × (new ≡ asking_bytes mode what ++ drop written old) × (after ≡ host_after_asking what before)
+    WritesFront (asking_bytes mode what) old new (Ok written)
+    × (after ≡ host_after_asking what before)
 HostAsks what mode before after old new (Err fault) =
-    (fault.need ≡ length (asking_bytes mode what)) × (length old < fault.need) × (new ≡ old)
-    × (after ≡ before)
+    WritesFront (asking_bytes mode what) old new (Err fault) × (after ≡ before)
 
 -- The same of a follower.
 abbrev pub Asks : Asking → ℕ → FollowerView → FollowerView → List ℕ → List ℕ → Result ℕ NoRoom

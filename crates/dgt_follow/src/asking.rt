@@ -4,8 +4,6 @@ ghost use Rattle.std.specs.Prelude.{◌≡◌, ◌∷◌, []};
 ghost use Rattle.dgt_command.specs.Spelling.{command_spelling};
 ghost use Rattle.dgt_follow.specs.Pace.{mode_command};
 
-use thiserror::Error;
-
 /// What a follower asks.
 #[derive(Clone, Copy, Debug, PartialEq, Eq)]
 pub enum Asking {
@@ -27,13 +25,6 @@ pub enum UpdateMode {
     Clock,
     /// Each changed square, and the clock when it changes: the command `4b`, `UpdateNice`.
     ClockChanges,
-}
-
-/// The slice is shorter than what is to be written, which takes `need` bytes. Nothing has changed.
-#[derive(Clone, Copy, Debug, PartialEq, Eq, Error)]
-#[error("this takes {need} bytes of room")]
-pub struct NoRoom {
-    pub need: usize,
 }
 
 impl UpdateMode {

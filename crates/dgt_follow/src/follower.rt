@@ -1,21 +1,22 @@
 //! The follower.
 
-ghost use Rattle.std.specs.Prelude.{◌≡◌, ◌<◌, ◌≤◌, Option, Some, false, length, option_map, take};
+ghost use Rattle.std.specs.Prelude.{◌≡◌, ◌<◌, ◌≤◌, OnOk, Option, Some, false, length, option_map, take};
 ghost use Rattle.dgt_values.specs.Board.{pieces_of};
 ghost use Rattle.dgt_values.specs.declared.kinds.Kind.{Kind};
 ghost use Rattle.dgt_message.specs.Content.{clock_seen};
 ghost use Rattle.dgt_command.specs.Content.{command_content, kind_of_command};
-ghost use Rattle.dgt_command.specs.Spelling.{command_spelling};
+ghost use Rattle.dgt_command.specs.Spelling.{SpellsCommand, command_spelling};
 ghost use Rattle.dgt_decode.specs.Grammar.{Event as EventSaid};
 ghost use Rattle.dgt_decode.specs.Feeding.{FirstEvent};
 ghost use Rattle.dgt_host.specs.Host.{Sends, awaits_too_many};
 ghost use Rattle.dgt_follow.specs.Pace.{due_at};
 ghost use Rattle.dgt_follow.specs.Follower.{Asks, HostAsks, asking_of, follower_after, following, new_follower};
 
-use crate::asking::{Asking, NoRoom, UpdateMode};
+use crate::asking::{Asking, UpdateMode};
 use crate::pace::Pace;
-use dgt_command::Command;
+use dgt_command::{Command, MAX_WORD};
 use dgt_host::{Clock, Host, MAX_AWAITED, Position, RESTART_LENGTH, SendFault};
+use dgt_values::NoRoom;
 use std::marker::Model;
 
 /// How many bytes a heartbeat takes.
@@ -157,6 +158,9 @@ impl Follower {
         ensures sends { let said = command_content command.now in
             Sends (record { kind = kind_of_command said; bytes = command_spelling said })
             self.old.host self.new.host out.old out.new result }
+        ensures spells { let said = command_content command.now in
+            OnOk result (SpellsCommand said (command_spelling said)) }
+        ensures limit { length (command_spelling (command_content command.now)) ≤ MAX_WORD }
         ensures pace { self.new.pace ≡ self.old.pace }
     {
         self.host.send(command, out)

@@ -7,7 +7,7 @@ ghost use Rattle.dgt_host.specs.Host.{host_after};
 ghost use Rattle.dgt_follow.specs.Follower.{FollowedInChunks, FollowerView, follower_after};
 ghost use Rattle.dgt_follow.specs.Pace.{KeepsCount};
 
-use crate::{Asking, MAX_ASKING, NoRoom, UpdateMode};
+use crate::{Asking, MAX_ASKING, UpdateMode};
 
 /// The limits by their numbers.
 pub fn limits()
@@ -18,14 +18,12 @@ pub fn limits()
 pub fn equal_is_same()
     ensures asking { EqualIsSame ⟦<Asking as PartialEq>⟧.eq }
     ensures update_mode { EqualIsSame ⟦<UpdateMode as PartialEq>⟧.eq }
-    ensures no_room { EqualIsSame ⟦<NoRoom as PartialEq>⟧.eq }
 {}
 
 /// A clone is the value itself, and cloning never fails.
 pub fn clone_is_same()
     ensures asking { CloneIsSame ⟦<Asking as Clone>⟧ }
     ensures update_mode { CloneIsSame ⟦<UpdateMode as Clone>⟧ }
-    ensures no_room { CloneIsSame ⟦<NoRoom as Clone>⟧ }
 {}
 
 /// A follower that hears bytes at a time in two chunks is the one that hears them in one.

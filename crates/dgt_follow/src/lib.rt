@@ -9,19 +9,13 @@
 //! middle of. [`Follower::due_at`] returns when it will write next, so a program can sleep as long.
 //!
 //! ```rust
-//! use dgt_follow::{Follower, MAX_ASKING};
-//! use dgt_values::Position;
+//! use dgt_follow::Follower;
 //!
-//! /// Hears a chunk at this time, and returns what to send and the picture.
-//! pub fn turn(
-//!     follower: &mut Follower,
-//!     now: u64,
-//!     chunk: &[u8],
-//!     out: &mut [u8; MAX_ASKING],
-//! ) -> (usize, Option<Position>) {
+//! /// Hears a chunk at this time, and writes what is due into the slice, which has room for
+//! /// `MAX_ASKING` bytes. Returns how many bytes to send.
+//! pub fn turn(follower: &mut Follower, now: u64, chunk: &[u8], out: &mut [u8]) -> usize {
 //!     follower.hear_all(now, chunk);
-//!     let count = follower.ask(now, out).unwrap_or(0);
-//!     (count, follower.picture().copied())
+//!     follower.ask(now, out).unwrap_or(0)
 //! }
 //! ```
 //!
@@ -43,6 +37,6 @@ mod follower;
 pub mod laws;
 mod pace;
 
-pub use asking::{Asking, NoRoom, UpdateMode};
+pub use asking::{Asking, UpdateMode};
 pub use follower::{Follower, MAX_ASKING};
 pub use pace::Pace;

@@ -48,7 +48,7 @@ heartbeat_is_left pace full now e =
 
 -- ---- one act
 
-fits : (line : LineContents) (bytes : List ℕ) → HasRoom line bytes → overflows line bytes ≡ false
+pub fits : (line : LineContents) (bytes : List ℕ) → HasRoom line bytes → overflows line bytes ≡ false
 fits line bytes room = search rules
 
 one_byte : (b : ℕ) → b < 256 → AreBytes (b ∷ [])
@@ -175,7 +175,7 @@ acts_done mode Asking.Anew world few room =
     )
 
 -- the bytes that stand at the front of a slice
-front_of : (bytes old new : List ℕ) (written : ℕ) → written ≡ length bytes → new ≡ bytes ++ drop written old
+pub front_of : (bytes old new : List ℕ) (written : ℕ) → written ≡ length bytes → new ≡ bytes ++ drop written old
     → take written new ≡ bytes
 front_of bytes old new written e f = rw f (take_at bytes (drop written old) written (sym e))
 
@@ -191,8 +191,8 @@ asking_is_acts follower after now written old new world asked same room =
     let done = acts_done mode what world
     (λ is. rw same (heartbeat_is_free follower.pace (awaits_too_many follower.host (Some Kind.Dump)) now is)) room in
     let host : host_after_asking what world.host ≡ after.host
-    = ap (host_after_asking what) same ∙ sym asked.0.3 in
-    let front : bytes ≡ take written new = sym (front_of bytes old new written asked.0.0 asked.0.2) in
+    = ap (host_after_asking what) same ∙ sym asked.0.1 in
+    let front : bytes ≡ take written new = sym (front_of bytes old new written asked.0.0.0 asked.0.0.2) in
     let P : HostView → Type 0 = λ h. RunsDone (asking_acts mode what) world
     (record world { host = h; down = with_bytes world.down bytes }) in
     let Q : List ℕ → Type 0 = λ bs. RunsDone (asking_acts mode what) world

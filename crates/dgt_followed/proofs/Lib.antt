@@ -1,2 +1,3 @@
 mod Acts
+mod Calls
 mod Heals

@@ -54,6 +54,10 @@ pub data Happening : Type 0 where
 abbrev pub unsettles : FaultyContent → Bool
 unsettles act = is_fault act || stops act
 
+-- the count after an act that is no asking
+abbrev pub count_after : FaultyContent → ℕ → ℕ
+count_after act since = if unsettles act then 0 else since
+
 abbrev pub count_after_asking : Asking → ℕ → ℕ
 count_after_asking Asking.Nothing since = since
 count_after_asking _ since = since + 1
@@ -74,7 +78,7 @@ FollowedStep (Happening.Ask now) before after =
 FollowedStep (Happening.Other act) before after =
     (answer : Outcome) × FaultyStep act before.world answer after.world
     × KeepsPatience before.pace after.pace
-    × (after.since ≡ (if unsettles act then 0 else before.since))
+    × (after.since ≡ count_after act before.since)
 
 abbrev pub FollowedRuns : List Happening → FollowedView → FollowedView → Type 0
 FollowedRuns [] before after = after ≡ before

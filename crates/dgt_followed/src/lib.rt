@@ -11,12 +11,17 @@
 //! about time: an asking that isn't due writes nothing and isn't counted.
 #![tactic(auto)]
 
-ghost use Rattle.std.specs.Prelude.{◌≡◌, ◌<◌, ◌≤◌, ℕ, List, Ok, Some, take};
+ghost use Rattle.std.specs.Prelude.{◌≡◌, ◌<◌, ◌≤◌, ℕ, List, Some, length, take};
+ghost use Rattle.dgt_command.specs.Content.{CommandContent, kind_of_command};
+ghost use Rattle.dgt_command.specs.Spelling.{SpellsCommand, command_spelling};
+ghost use Rattle.dgt_host.specs.Host.{HostView, Sends};
 ghost use Rattle.dgt_follow.specs.Pace.{asking_bytes};
-ghost use Rattle.dgt_follow.specs.Follower.{Asks, FollowerView, asking_of, follower_after, host_after_asking};
-ghost use Rattle.dgt_followed.specs.Followed.{FollowedRuns, FollowedView, Happening, HasRoom, RunsDone, asking_acts};
+ghost use Rattle.dgt_follow.specs.Follower.{Asks, FollowerView, asking_of, follower_after};
+ghost use Rattle.dgt_followed.specs.Followed.{FollowedRuns, FollowedStep, FollowedView, Happening, HasRoom, RunsDone, asking_acts, count_after, count_after_asking, follower_of, sends};
+ghost use Rattle.dgt_link.specs.Act.{ActContent};
+ghost use Rattle.dgt_link.specs.Faults.{FaultyContent};
 ghost use Rattle.dgt_link.specs.Healing.{IsPromisedWorld, IsSane};
-ghost use Rattle.dgt_link.specs.View.{IsQuietWorld, WorldView, with_bytes};
+ghost use Rattle.dgt_link.specs.View.{IsQuietWorld, WorldView, with_bytes, without_first};
 
 /// What a follower's `ask` writes and leaves are acts of the faulty world of its host, each of them
 /// done: `Host(mode)` and `Host(Dump)`, or `Restart` and `Host(mode)`, or none. The bytes that it
@@ -31,6 +36,53 @@ pub fn asking_is_acts()
           down = with_bytes world.down (take written new);
         }) }
 {}
+
+/// What the calls of a follower do to it, to its host's world and to the count is a step of
+/// `FollowedStep`: `ask` asks, `hear` and `hear_all` of bytes of the up line are the act `ToHost`,
+/// and `send` is the act `Host(command)`. So what holds of all happenings holds of these calls.
+pub fn calls_are_happenings()
+    ensures ask { (before : FollowedView) (after : FollowerView) (now written : ℕ)
+        (old new : List ℕ) → let what = asking_of (follower_of before) now in
+        Asks what now (follower_of before) after old new (Ok written) →
+        HasRoom before.world.down (asking_bytes before.pace.mode what) →
+        FollowedStep (Happening.Ask now) before (record {
+          world = record before.world {
+            host = after.host;
+            down = with_bytes before.world.down (take written new);
+          };
+          pace = after.pace;
+          since = count_after_asking what before.since;
+        }) }
+    ensures hear { (before : FollowedView) (now count : ℕ) → 0 < count →
+        0 < length before.world.up.bytes →
+        let heard = follower_after (follower_of before) now (take count before.world.up.bytes) in
+        FollowedStep (Happening.Other (FaultyContent.Plain (ActContent.ToHost count))) before
+        (record {
+          world = record before.world {
+            host = heard.host;
+            up = without_first before.world.up count;
+          };
+          pace = heard.pace;
+          since = before.since;
+        }) }
+    ensures send { (before : FollowedView) (command : CommandContent) (after : HostView)
+        (written : ℕ) (old new : List ℕ) →
+        Sends (record { kind = kind_of_command command; bytes = command_spelling command })
+        before.world.host after old new (Ok written) →
+        SpellsCommand command (command_spelling command) →
+        HasRoom before.world.down (command_spelling command) →
+        FollowedStep (Happening.Other (sends command)) before (record {
+          world = record before.world {
+            host = after;
+            down = with_bytes before.world.down (take written new);
+          };
+          pace = before.pace;
+          since = count_after (sends command) before.since;
+        }) }
+{
+    asking_is_acts();
+    dgt_follow::laws::hearing_is_the_hosts();
+}
 
 /// Whatever failed, and whatever else is sent, delivered and noted: once the follower has asked
 /// more often than its patience allows heartbeats, with no fault, no break that both sides see and

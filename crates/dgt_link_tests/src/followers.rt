@@ -1,5 +1,5 @@
-use dgt_follow::{Follower, MAX_ASKING, NoRoom, UpdateMode};
-use dgt_values::Position;
+use dgt_follow::{Follower, MAX_ASKING, UpdateMode};
+use dgt_values::{NoRoom, Position};
 use std::process::Abort;
 use std::test::*;
 

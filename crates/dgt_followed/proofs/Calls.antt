@@ -1,0 +1,87 @@
+-- What the calls of a follower do is what happens to it and to the world of its host.
+use Rattle.std.proofs.Common.{◌≡◌, ◌<◌, false, Ok, refl, sym, ap, subst, ◌∙◌, ℕ, List, length, take, drop, ◌++◌, rules}
+use Rattle.dgt_command.specs.Content.{CommandContent, kind_of_command}
+use Rattle.dgt_command.specs.Spelling.{SpellsCommand, command_spelling}
+use Rattle.dgt_host.specs.Host.{HostView, Sends, host_after, host_awaiting}
+use Rattle.dgt_follow.specs.Pace.{KeepsCount, asking_bytes}
+use Rattle.dgt_follow.specs.Follower.{Asks, FollowerView, asking_of, follower_after}
+use Rattle.dgt_link.specs.declared.acts.Outcome.{Outcome}
+use Rattle.dgt_link.specs.Act.{ActContent}
+use Rattle.dgt_link.specs.Faults.{FaultyContent, FaultyStep}
+use Rattle.dgt_link.specs.Step.{moves_nothing}
+use Rattle.dgt_link.specs.View.{LineContents, WorldView, with_bytes, without_first}
+use Rattle.dgt_followed.specs.Followed.{FollowedStep, FollowedView, Happening, HasRoom, count_after, count_after_asking, follower_of, sends}
+use Rattle.dgt_followed.proofs.Acts.{asking_is_acts, fits, front_of}
+
+pub ask_happens : (before : FollowedView) (after : FollowerView) (now written : ℕ) (old new : List ℕ)
+    → Asks (asking_of (follower_of before) now) now (follower_of before) after old new (Ok written)
+    → HasRoom before.world.down (asking_bytes before.pace.mode (asking_of (follower_of before) now))
+    → FollowedStep (Happening.Ask now) before (record {
+      world = record before.world {
+        host = after.host;
+        down = with_bytes before.world.down (take written new);
+      };
+      pace = after.pace;
+      since = count_after_asking (asking_of (follower_of before) now) before.since;
+    })
+ask_happens before after now written old new asked room =
+    (asking_is_acts (follower_of before) after now written old new before.world asked refl room, asked.1, refl)
+
+moves_some : (line : LineContents) (count : ℕ) → 0 < count → 0 < length line.bytes
+    → moves_nothing count line ≡ false
+moves_some line count asked some = search rules
+
+pub hear_happens :
+    (hosts : (follower : FollowerView) (now : ℕ) (bytes : List ℕ)
+    → (follower_after follower now bytes).host ≡ host_after follower.host bytes)
+    (counts : (follower : FollowerView) (now : ℕ) (bytes : List ℕ)
+    → KeepsCount follower.pace (follower_after follower now bytes).pace)
+    (before : FollowedView) (now count : ℕ) → 0 < count → 0 < length before.world.up.bytes
+    → FollowedStep (Happening.Other (FaultyContent.Plain (ActContent.ToHost count))) before (record {
+      world = record before.world {
+        host = (follower_after (follower_of before) now (take count before.world.up.bytes)).host;
+        up = without_first before.world.up count;
+      };
+      pace = (follower_after (follower_of before) now (take count before.world.up.bytes)).pace;
+      since = before.since;
+    })
+hear_happens hosts counts before now count asked some =
+    let bytes = take count before.world.up.bytes in
+    let kept = counts (follower_of before) now bytes in
+    let free = moves_some before.world.up count asked some in (
+      Outcome.Done,
+      record {
+        answers = rw free refl;
+        leaves = ap (λ (h : HostView). record before.world { host = h; up = without_first before.world.up count })
+            (hosts (follower_of before) now bytes);
+      },
+      record { patience = kept.patience; left = kept.left },
+      refl,
+    )
+
+pub send_happens : (before : FollowedView) (command : CommandContent) (after : HostView) (written : ℕ)
+    (old new : List ℕ)
+    → Sends (record { kind = kind_of_command command; bytes = command_spelling command }) before.world.host after old
+    new (Ok written)
+    → SpellsCommand command (command_spelling command) → HasRoom before.world.down (command_spelling command)
+    → FollowedStep (Happening.Other (sends command)) before (record {
+      world = record before.world {
+        host = after;
+        down = with_bytes before.world.down (take written new);
+      };
+      pace = before.pace;
+      since = count_after (sends command) before.since;
+    })
+send_happens before command after written old new sent spells room =
+    let free = fits before.world.down (command_spelling command) room in
+    let front : take written new ≡ command_spelling command
+    = front_of (command_spelling command) old new written sent.1 sent.3 in
+    let host : after ≡ host_awaiting before.world.host (kind_of_command command) = sent.4 in (
+      Outcome.Done,
+      record {
+        answers = rw (sent.0, free) refl;
+        leaves = (spells, rw (front, host) refl);
+      },
+      record { patience = refl; left = refl },
+      refl,
+    )
