@@ -41,21 +41,18 @@ pub(crate) fn command_code(command: &Command) -> u8
 pub(crate) fn bare_command(byte: u8) -> Option<Command<'static>>
     ensures { result ≡ bare_command byte }
 {
-    let bare_commands = [
-        Command::Reset,
-        Command::Clock,
-        Command::Dump,
-        Command::Update,
-        Command::UpdateBoard,
-        Command::UpdateNice,
-        Command::Serial,
-        Command::Trademark,
-        Command::Battery,
-        Command::Version,
-        Command::LongSerial,
-    ];
-    bare_commands
-        .iter()
-        .copied()
-        .find(|command| command_code(command) == byte)
+    match byte {
+        0x40 => Some(Command::Reset),
+        0x41 => Some(Command::Clock),
+        0x42 => Some(Command::Dump),
+        0x43 => Some(Command::Update),
+        0x44 => Some(Command::UpdateBoard),
+        0x45 => Some(Command::Serial),
+        0x47 => Some(Command::Trademark),
+        0x4b => Some(Command::UpdateNice),
+        0x4c => Some(Command::Battery),
+        0x4d => Some(Command::Version),
+        0x55 => Some(Command::LongSerial),
+        _ => None,
+    }
 }

@@ -2,15 +2,16 @@
 
 ghost use Rattle.std.specs.Prelude.{◌≡◌, ◌+◌, ◌<◌, ◌≤◌, [], ◌++◌, length, take, true, false, Some};
 ghost use Rattle.std.specs.Prelude.{IsTrue, IfSome, IfNone, is_some};
-ghost use Rattle.dgt_command.specs.Content.{command_event_content};
-ghost use Rattle.dgt_command.specs.Spelling.{IsSpelling, command_in};
+ghost use Rattle.dgt_command.specs.Content.{CommandContent, command_event_content};
+ghost use Rattle.dgt_command.specs.Spelling.{IsSpelling, SpellsCommand, command_in};
 ghost use Rattle.dgt_command.specs.Framing.{word_found_in, rest_after, rest_of};
 ghost use Rattle.dgt_command.specs.Words.{IsPartial, IsWholeWord, IsWord};
 
+use crate::codes::{CLOCK_MESSAGE, END, bare_command};
 use crate::command::{Command, CommandEvent};
-use crate::lengths::is_whole;
+use crate::kept::Kept;
+use crate::lengths::{is_whole, length_so_far};
 use crate::viewing::view_command;
-use arrayvec::ArrayVec;
 use std::marker::Model;
 
 /// The most bytes of a word: a clock message or an LED frame with a size of 255.
@@ -53,7 +54,7 @@ pub struct AdvancedWord {
 /// (`rest_of`).
 #[derive(Drop)]
 pub struct WordFramer {
-    word: ArrayVec<u8, MAX_WORD>,
+    word: Kept,
     is_whole: bool,
 }
 
@@ -64,22 +65,27 @@ impl Model for WordFramer {
 
     ghost Value = { KeptWord };
 
-    ghost view = { λ framer. record { word = framer.word.items; is_whole = framer.is_whole } };
+    ghost view = { λ framer. record { word = framer.word; is_whole = framer.is_whole } };
 
-    ghost invariant = { λ framer. IsPartial (if framer.is_whole then [] else framer.word.items) };
+    ghost invariant = { λ framer. IsPartial (if framer.is_whole then [] else framer.word) };
 }
 
-// Adds bytes of the piece to a part of a word, up to the one that completes it: how many, and
-// whether one did.
-fn add_bytes(word: &mut ArrayVec<u8, MAX_WORD>, piece: &[u8]) -> (usize, bool)
-    requires { IsPartial word.old.items }
+// Adds bytes of the chunk to a part of a word, up to the one that completes it: how many, and
+// whether one did. A word that begins with the chunk, and is whole in it, is copied at once.
+fn add_bytes(word: &mut Kept, piece: &[u8]) -> (usize, bool)
+    requires { IsPartial word.old }
     ensures used { result.0 ≤ length piece.now }
-    ensures word { word.new.items ≡ word.old.items ++ take result.0 piece.now }
-    ensures whole { IsTrue result.1 → IsWholeWord word.new.items }
-    ensures partial { result.1 ≡ false → IsPartial word.new.items }
+    ensures word { word.new ≡ word.old ++ take result.0 piece.now }
+    ensures whole { IsTrue result.1 → IsWholeWord word.new }
+    ensures partial { result.1 ≡ false → IsPartial word.new }
     ensures all { result.1 ≡ false → result.0 ≡ length piece.now }
     ensures progress { 0 < length piece.now → 0 < result.0 }
 {
+    let length = length_so_far(piece);
+    if word.len() == 0 && length <= piece.len() {
+        word.set_front(piece, length);
+        return (length, true);
+    }
     for (i, byte) in piece.iter().enumerate() {
         word.push(*byte);
         if is_whole(word.as_slice()) {
@@ -89,13 +95,28 @@ fn add_bytes(word: &mut ArrayVec<u8, MAX_WORD>, piece: &[u8]) -> (usize, bool)
     (piece.len(), false)
 }
 
+// Whether a whole word is a command, and no fault.
+fn is_command(word: &[u8]) -> bool
+    requires { IsWholeWord word.now }
+    ensures command { IsTrue result → IsSpelling word.now }
+    ensures fault { result ≡ false →
+        (command : CommandContent) → SpellsCommand command word.now → ⊥ }
+{
+    match word {
+        [byte] => bare_command(*byte).is_some(),
+        [CLOCK_MESSAGE, _, _, .., last] => *last == END,
+        [CLOCK_MESSAGE, ..] => false,
+        _ => true,
+    }
+}
+
 // What a word tells.
 fn found_word(word: &[u8]) -> FoundWord
     requires { IsWholeWord word.now }
     ensures event { IsWord (word_found_in word.now result) word.now }
     ensures whole { result ≡ FoundWord.Command → IsSpelling word.now }
 {
-    if let Some(_command) = view_command(word) {
+    if is_command(word) {
         return FoundWord::Command;
     }
     match word {
@@ -123,7 +144,7 @@ impl WordFramer {
         ensures { result ≡ record { word = []; is_whole = false } }
     {
         WordFramer {
-            word: ArrayVec::new(),
+            word: Kept::new(),
             is_whole: false,
         }
     }

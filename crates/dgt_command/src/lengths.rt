@@ -16,7 +16,7 @@ pub(crate) fn is_whole(bytes: &[u8]) -> bool
 }
 
 // How long the word is that these bytes begin, as far as its first three tell it.
-fn length_so_far(bytes: &[u8]) -> usize
+pub(crate) fn length_so_far(bytes: &[u8]) -> usize
     ensures { result ≡ word_length bytes.now }
 {
     match bytes {

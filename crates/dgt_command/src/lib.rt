@@ -24,6 +24,7 @@ mod decoder;
 mod displaying;
 mod framer;
 mod ids;
+mod kept;
 pub mod laws;
 mod lengths;
 mod questions;

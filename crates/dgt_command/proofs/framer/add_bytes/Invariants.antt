@@ -4,6 +4,6 @@ use Rattle.dgt_command.proofs.framer.add_bytes.Given as goal
 
 abbrev pub invariant-loop-i : goal.invariant-loop-i
 invariant-loop-i l = record {
-  read : l.word.items ≡ l.fn.word.items ++ take l.i l.piece;
-  partial : IsPartial l.word.items;
+  read : l.word ≡ l.fn.word ++ take l.i l.piece;
+  partial : IsPartial l.word;
 }

@@ -5,4 +5,4 @@ use Rattle.dgt_command.proofs.framer.WordFramer.partial.Goals as goal
 -- a proper prefix of a word has at most 256 bytes
 pub returns-else-self-clause-limit : goal.returns-else-self-clause-limit
 returns-else-self-clause-limit c = let part = rw c.if-self.false at c.self.invariant in
-    omega (arith, partial_limit c.self.inside.word.items part, c.len.ensures.value)
+    omega (arith, partial_limit c.self.inside.word part, c.len.ensures)
