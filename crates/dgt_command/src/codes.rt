@@ -16,23 +16,46 @@ pub(crate) const END: u8 = 0x00;
 // The byte that an LED frame begins with.
 pub(crate) const LEDS: u8 = 0x60;
 
+// The commands that are one byte.
+const RESET: u8 = 0x40;
+
+const CLOCK: u8 = 0x41;
+
+const DUMP: u8 = 0x42;
+
+const UPDATE: u8 = 0x43;
+
+const UPDATE_BOARD: u8 = 0x44;
+
+const SERIAL: u8 = 0x45;
+
+const TRADEMARK: u8 = 0x47;
+
+const UPDATE_NICE: u8 = 0x4b;
+
+const BATTERY: u8 = 0x4c;
+
+const VERSION: u8 = 0x4d;
+
+const LONG_SERIAL: u8 = 0x55;
+
 // The byte that the command begins with.
 pub(crate) fn command_code(command: &Command) -> u8
     ensures { result ≡ command_code (command_content command.now) }
 {
     match command {
         Command::ClockMessage(_) => CLOCK_MESSAGE,
-        Command::Reset => 0x40,
-        Command::Clock => 0x41,
-        Command::Dump => 0x42,
-        Command::Update => 0x43,
-        Command::UpdateBoard => 0x44,
-        Command::Serial => 0x45,
-        Command::Trademark => 0x47,
-        Command::UpdateNice => 0x4b,
-        Command::Battery => 0x4c,
-        Command::Version => 0x4d,
-        Command::LongSerial => 0x55,
+        Command::Reset => RESET,
+        Command::Clock => CLOCK,
+        Command::Dump => DUMP,
+        Command::Update => UPDATE,
+        Command::UpdateBoard => UPDATE_BOARD,
+        Command::Serial => SERIAL,
+        Command::Trademark => TRADEMARK,
+        Command::UpdateNice => UPDATE_NICE,
+        Command::Battery => BATTERY,
+        Command::Version => VERSION,
+        Command::LongSerial => LONG_SERIAL,
         Command::Leds(_) => LEDS,
     }
 }
@@ -42,17 +65,17 @@ pub(crate) fn bare_command(byte: u8) -> Option<Command<'static>>
     ensures { result ≡ bare_command byte }
 {
     match byte {
-        0x40 => Some(Command::Reset),
-        0x41 => Some(Command::Clock),
-        0x42 => Some(Command::Dump),
-        0x43 => Some(Command::Update),
-        0x44 => Some(Command::UpdateBoard),
-        0x45 => Some(Command::Serial),
-        0x47 => Some(Command::Trademark),
-        0x4b => Some(Command::UpdateNice),
-        0x4c => Some(Command::Battery),
-        0x4d => Some(Command::Version),
-        0x55 => Some(Command::LongSerial),
+        RESET => Some(Command::Reset),
+        CLOCK => Some(Command::Clock),
+        DUMP => Some(Command::Dump),
+        UPDATE => Some(Command::Update),
+        UPDATE_BOARD => Some(Command::UpdateBoard),
+        SERIAL => Some(Command::Serial),
+        TRADEMARK => Some(Command::Trademark),
+        UPDATE_NICE => Some(Command::UpdateNice),
+        BATTERY => Some(Command::Battery),
+        VERSION => Some(Command::Version),
+        LONG_SERIAL => Some(Command::LongSerial),
         _ => None,
     }
 }

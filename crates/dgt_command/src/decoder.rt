@@ -63,14 +63,16 @@ impl CommandDecoder {
             ((result.used ≡ length piece.now) × IsPartial (self.old ++ piece.now)) }
     {
         let advanced = self.framer.advance(piece);
-        let event = match advanced.found {
-            Some(found) => Some(self.framer.event(found)),
-            None => None,
+        let used = advanced.used;
+        let Some(found) = advanced.found else {
+            return CommandFed { used, event: None };
         };
-        CommandFed {
-            used: advanced.used,
-            event,
+        if let Some(command) = self.framer.bare_command(found) {
+            let event = Some(CommandEvent::Command(command));
+            return CommandFed { used, event };
         }
+        let event = Some(self.framer.event(found));
+        CommandFed { used, event }
     }
 
     /// How many bytes are held of a word that isn't finished: at most 256.

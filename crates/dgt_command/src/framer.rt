@@ -1,8 +1,8 @@
 //! The words of the line, one by one, as their bytes come.
 
-ghost use Rattle.std.specs.Prelude.{◌≡◌, ◌+◌, ◌<◌, ◌≤◌, [], ◌++◌, length, take, true, false, Some};
-ghost use Rattle.std.specs.Prelude.{IsTrue, IfSome, IfNone, is_some};
-ghost use Rattle.dgt_command.specs.Content.{CommandContent, command_event_content};
+ghost use Rattle.std.specs.Prelude.{◌≡◌, ◌≢◌, ◌+◌, ◌<◌, ◌≤◌, [], ◌++◌, length, take, true, false, Some};
+ghost use Rattle.std.specs.Prelude.{IsTrue, IfSome, IfNone, OnSome, is_some};
+ghost use Rattle.dgt_command.specs.Content.{CommandContent, Read, command_content, command_event_content};
 ghost use Rattle.dgt_command.specs.Spelling.{IsSpelling, SpellsCommand, command_in};
 ghost use Rattle.dgt_command.specs.Framing.{word_found_in, rest_after, rest_of};
 ghost use Rattle.dgt_command.specs.Words.{IsPartial, IsWholeWord, IsWord};
@@ -71,7 +71,28 @@ impl Model for WordFramer {
 }
 
 // Adds bytes of the chunk to a part of a word, up to the one that completes it: how many, and
-// whether one did. A word that begins with the chunk, and is whole in it, is copied at once.
+// whether one did.
+#[inline(never)]
+fn add_each(word: &mut Kept, piece: &[u8]) -> (usize, bool)
+    requires { IsPartial word.old }
+    ensures used { result.0 ≤ length piece.now }
+    ensures word { word.new ≡ word.old ++ take result.0 piece.now }
+    ensures whole { IsTrue result.1 → IsWholeWord word.new }
+    ensures partial { result.1 ≡ false → IsPartial word.new }
+    ensures all { result.1 ≡ false → result.0 ≡ length piece.now }
+    ensures progress { 0 < length piece.now → 0 < result.0 }
+{
+    for (i, byte) in piece.iter().enumerate() {
+        word.push(*byte);
+        if is_whole(word.as_slice()) {
+            return (i + 1, true);
+        }
+    }
+    (piece.len(), false)
+}
+
+// The same. A word that begins with the chunk, and is whole in it, is copied at once.
+#[inline(always)]
 fn add_bytes(word: &mut Kept, piece: &[u8]) -> (usize, bool)
     requires { IsPartial word.old }
     ensures used { result.0 ≤ length piece.now }
@@ -82,17 +103,11 @@ fn add_bytes(word: &mut Kept, piece: &[u8]) -> (usize, bool)
     ensures progress { 0 < length piece.now → 0 < result.0 }
 {
     let length = length_so_far(piece);
-    if word.len() == 0 && length <= piece.len() {
-        word.set_front(piece, length);
-        return (length, true);
+    if word.len() > 0 || length > piece.len() {
+        return add_each(word, piece);
     }
-    for (i, byte) in piece.iter().enumerate() {
-        word.push(*byte);
-        if is_whole(word.as_slice()) {
-            return (i + 1, true);
-        }
-    }
-    (piece.len(), false)
+    word.set_front(piece, length);
+    (length, true)
 }
 
 // Whether a whole word is a command, and no fault.
@@ -201,6 +216,7 @@ impl WordFramer {
     }
 
     /// The event of what `advance` found last. A command is that of the word kept.
+    #[inline(never)]
     pub fn event(&self, found: FoundWord) -> CommandEvent<'_>
         requires { found ≡ FoundWord.Command → IsSpelling self.now.word }
         ensures { command_event_content result ≡ word_found_in self.now.word found }
@@ -211,6 +227,25 @@ impl WordFramer {
             FoundWord::BadStart => CommandEvent::BadStart,
             FoundWord::BadEnd => CommandEvent::BadEnd,
             FoundWord::Stray(byte) => CommandEvent::Stray(byte),
+        }
+    }
+
+    /// The command that `advance` found last, if it is one of one byte.
+    ///
+    /// A caller that reads many commands asks this before it asks for an [`event`](Self::event):
+    /// copying an event takes longer than reading one byte.
+    #[inline(always)]
+    pub fn bare_command(&self, found: FoundWord) -> Option<Command<'static>>
+        requires { found ≡ FoundWord.Command → IsSpelling self.now.word }
+        ensures command { IfSome result (λ command.
+            Read (command_content command) ≡ word_found_in self.now.word found) }
+        ensures byte { OnSome result (length self.now.word ≡ 1) }
+        ensures none { IfNone result
+            (found ≡ FoundWord.Command → length self.now.word ≢ 1) }
+    {
+        match (found, self.word.as_slice()) {
+            (FoundWord::Command, [byte]) => bare_command(*byte),
+            _ => None,
         }
     }
 }

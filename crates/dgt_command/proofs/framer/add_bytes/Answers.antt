@@ -1,6 +1,6 @@
 use Rattle.std.proofs.Common.{arith}
 use Rattle.dgt_command.specs.Spelling.{AreBytes}
-use Rattle.dgt_command.proofs.ReaderLemmas.{partial_limit, whole_front, word_limit}
+use Rattle.dgt_command.proofs.ReaderLemmas.{whole_front, word_limit}
 use Rattle.dgt_command.proofs.framer.add_bytes.Goals as goal
 
 pub set_front-requires : goal.set_front-requires
@@ -8,11 +8,8 @@ set_front-requires c =
     let bytes : AreBytes c.args.piece.now = λ i. omega (arith, c.type_inv.piece i) in
     record { within = omega arith; fits = omega (arith, word_limit c.args.piece.now bytes) }
 
-pub push-requires : goal.push-requires
-push-requires c = partial_limit c.loop-i.word c.loop-i.invariant.partial
-
-pub returns-then-length-piece-clause-whole : goal.returns-then-length-piece-clause-whole
-returns-then-length-piece-clause-whole c =
+pub returns-clause-whole : goal.returns-clause-whole
+returns-clause-whole c =
     let bytes : AreBytes c.args.piece.now = λ i. omega (arith, c.type_inv.piece i) in
     let whole = whole_front c.args.piece.now c.length_so_far-length.result bytes c.length_so_far-length.ensures
     (omega arith) in

@@ -1,6 +1,6 @@
 use Rattle.std.proofs.Common.{◌≡◌, ◌++◌, take}
 use Rattle.dgt_command.specs.Words.{IsPartial}
-use Rattle.dgt_command.proofs.framer.add_bytes.Given as goal
+use Rattle.dgt_command.proofs.framer.add_each.Given as goal
 
 abbrev pub invariant-loop-i : goal.invariant-loop-i
 invariant-loop-i l = record {
