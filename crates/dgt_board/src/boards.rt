@@ -130,16 +130,19 @@ impl Board {
             return Err(Busy);
         }
         let advanced = self.framer.advance(piece);
+        let used = advanced.used;
         let Some(found) = advanced.found else {
-            return Ok(Taken {
-                used: advanced.used,
-                event: None,
-            });
+            return Ok(Taken { used, event: None });
         };
+        if let Some(command) = self.framer.bare_command(found) {
+            self.state.obey_command(&command);
+            let event = Some(CommandEvent::Command(command));
+            return Ok(Taken { used, event });
+        }
         let event = self.framer.event(found);
         self.state.obey(&event);
         Ok(Taken {
-            used: advanced.used,
+            used,
             event: Some(event),
         })
     }

@@ -94,40 +94,50 @@ impl State {
         }
     }
 
-    // An owed reply, as the board stands.
-    fn reply_message(&self, reply: Reply) -> Message<'_>
-        ensures value { content result ≡ reply_message (state_of self.now) reply }
-        ensures short { length (spelling (content result)) ≤ MAX_SENT }
-    {
-        match reply {
-            Reply::Of(Kind::Dump) => Message::Dump(self.squares),
-            Reply::Of(Kind::Serial) => Message::Serial(self.identity.serial()),
-            Reply::Of(Kind::Trademark) => Message::Trademark(self.identity.trademark()),
-            Reply::Of(Kind::Version) => Message::Version {
-                main: self.identity.main(),
-                sub: self.identity.sub(),
-            },
-            Reply::Of(Kind::Battery) => Message::Battery(self.identity.battery()),
-            Reply::Of(Kind::LongSerial) => Message::LongSerial(self.identity.long_serial()),
-            Reply::Clock => self.clock_message(),
-            Reply::Ack { id, version } => acknowledgement(id, version),
-        }
-    }
-
-    // What the clock shows.
-    fn clock_message(&self) -> Message<'_>
-        ensures value { content result ≡ clock_message (state_of self.now).clock }
-        ensures short { length (spelling (content result)) ≤ MAX_SENT }
-    {
-        match self.clock {
-            Clock::Times(times) => Message::Times(times),
-            Clock::NoClock(absence) => Message::NoClock(absence),
-        }
-    }
-
-    // Writes what is due into the front of the slice, as the board stands. Each message is encoded
+    // Writes an owed reply to the front of the slice, as the board stands. Each message is encoded
     // where it is made: one that is first brought together with the others is copied as long as a
     // dump is.
+    fn write_reply(&self, reply: Reply, out: &mut [u8]) -> Result<usize, NoRoom>
+        ensures written { let message = reply_message (state_of self.now) reply in
+            WritesFront (spelling message) out.old out.new result }
+        ensures spells { let message = reply_message (state_of self.now) reply in
+            Spells message (spelling message) }
+        ensures short { length (spelling (reply_message (state_of self.now) reply)) ≤ MAX_SENT }
+    {
+        let identity = &self.identity;
+        match reply {
+            Reply::Of(Kind::Dump) => encode(&Message::Dump(self.squares), out),
+            Reply::Of(Kind::Serial) => encode(&Message::Serial(identity.serial()), out),
+            Reply::Of(Kind::Trademark) => encode(&Message::Trademark(identity.trademark()), out),
+            Reply::Of(Kind::Version) => {
+                let (main, sub) = (identity.main(), identity.sub());
+                encode(&Message::Version { main, sub }, out)
+            }
+            Reply::Of(Kind::Battery) => encode(&Message::Battery(identity.battery()), out),
+            Reply::Of(Kind::LongSerial) => encode(
+                &Message::LongSerial(identity.long_serial()),
+                out,
+            ),
+            Reply::Clock => self.write_clock(out),
+            Reply::Ack { id, version } => encode(&acknowledgement(id, version), out),
+        }
+    }
+
+    // Writes what the clock shows to the front of the slice.
+    fn write_clock(&self, out: &mut [u8]) -> Result<usize, NoRoom>
+        ensures written { let message = clock_message (state_of self.now).clock in
+            WritesFront (spelling message) out.old out.new result }
+        ensures spells { let message = clock_message (state_of self.now).clock in
+            Spells message (spelling message) }
+        ensures short { length (spelling (clock_message (state_of self.now).clock)) ≤ MAX_SENT }
+    {
+        match self.clock {
+            Clock::Times(times) => encode(&Message::Times(times), out),
+            Clock::NoClock(absence) => encode(&Message::NoClock(absence), out),
+        }
+    }
+
+    // Writes what is due to the front of the slice, as the board stands.
     fn write(&self, due: Due, out: &mut [u8]) -> Result<usize, NoRoom>
         ensures written { let message = due_message (state_of self.now) due in
             WritesFront (spelling message) out.old out.new result }
@@ -136,9 +146,9 @@ impl State {
         ensures short { length (spelling (due_message (state_of self.now) due)) ≤ MAX_SENT }
     {
         match due {
-            Due::Reply(reply) => encode(&self.reply_message(reply), out),
+            Due::Reply(reply) => self.write_reply(reply, out),
             Due::Field(square) => encode_field(square, self.squares.get(square), out),
-            Due::Times => encode(&self.clock_message(), out),
+            Due::Times => self.write_clock(out),
         }
     }
 

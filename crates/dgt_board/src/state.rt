@@ -102,8 +102,8 @@ impl State {
         }
     }
 
-    // The effect of a command.
-    fn obey_command(&mut self, command: &Command<'_>)
+    /// The effect of a command.
+    pub fn obey_command(&mut self, command: &Command<'_>)
         requires { length self.old.owed.items < MAX_OWED }
         ensures { state_of self.new
             ≡ after_command (state_of self.old) (command_content command.now) }

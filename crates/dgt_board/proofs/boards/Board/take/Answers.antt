@@ -1,6 +1,6 @@
 use Rattle.std.proofs.Common.{rules, ◌≡◌, refl, [], ◌++◌, take}
-use Rattle.dgt_command.specs.Content.{command_event_content}
-use Rattle.dgt_command.specs.Framing.{rest_of}
+use Rattle.dgt_command.specs.Content.{EventContent, Read, command_content, command_event_content}
+use Rattle.dgt_command.specs.Framing.{rest_of, word_found_in}
 use Rattle.dgt_command.specs.Words.{IsWord}
 use Rattle.dgt_board.specs.State.{effect}
 use Rattle.dgt_board.specs.Kept.{state_of}
@@ -22,6 +22,33 @@ returns c =
     let rest : rest_of c.advance-advanced.new.self ≡ [] = rw c.in-Some.is at c.advance-advanced.ensures.held in
     let after : BoardView = record { state = state_of c.obey.new.self; partial = rest_of c.advance-advanced.new.self }
     in
+    let both = takes_word c.parts_of_words.ensures.nothing c.args.self.now after bytes event word state rest in (
+      (refl, λ _. tt, both),
+      record {
+        after_borrow = tt;
+        busy = search rules;
+        within = c.advance-advanced.ensures.within;
+        progress = c.advance-advanced.ensures.progress;
+        event = word;
+        none = tt;
+      },
+    )
+
+pub returns-in-Some-bare_command : goal.returns-in-Some-bare_command
+returns-in-Some-bare_command c =
+    let bytes = take c.advance-advanced.result.used c.args.piece.now in
+    let event : EventContent = Read (command_content c.in-Some-bare_command.command) in
+    let is : event ≡ word_found_in c.advance-advanced.new.self.word c.in-Some.found =
+    c.in-Some-bare_command.ensures.command in
+    let word : IsWord event (c.args.self.now.partial ++ bytes) =
+    rw (is, ← c.self.view_is) (rw c.in-Some.is at c.advance-advanced.ensures.first) in
+    let state : state_of c.obey_command.new.self ≡ effect c.args.self.now.state event =
+    rw (← c.self.view_is) c.obey_command.ensures in
+    let rest : rest_of c.advance-advanced.new.self ≡ [] = rw c.in-Some.is at c.advance-advanced.ensures.held in
+    let after : BoardView = record {
+      state = state_of c.obey_command.new.self;
+      partial = rest_of c.advance-advanced.new.self;
+    } in
     let both = takes_word c.parts_of_words.ensures.nothing c.args.self.now after bytes event word state rest in (
       (refl, λ _. tt, both),
       record {
