@@ -19,7 +19,8 @@ const WITHOUT_E2: [u8; MAX_SENT] = [
     0, 0, 0, 0, 0, 0, 0, 0, 0, 0, 0, 0, 0, 0, 0, 0, 0, 0, 0, 0, 0, 0, 0, 0, 1, 1, 1, 1, 0, 1, 1, 1,
     2, 3, 4, 6, 5, 4, 3, 2,
 ];
-// The field update that tells e2 empty, and the other messages.
+
+// The field update that reports e2 empty, and the other messages.
 const E2: [u8; 5] = [0x8e, 0x00, 0x05, 0x34, 0x00];
 
 const SERIAL: [u8; 8] = [0x91, 0x00, 0x08, 0x30, 0x30, 0x30, 0x30, 0x31];
@@ -28,9 +29,38 @@ const LONG_SERIAL: [u8; 13] = [
     0xa2, 0x00, 0x0d, 0x30, 0x30, 0x30, 0x30, 0x30, 0x30, 0x30, 0x30, 0x30, 0x31,
 ];
 
+const TRADEMARK: [u8; 18] = [
+    0x92, 0x00, 0x12, b'S', b'I', b'M', b'U', b'L', b'A', b'T', b'E', b'D', b' ', b'B', b'O', b'A',
+    b'R', b'D',
+];
+
 const ZEROS: [u8; 10] = [0x8d, 0x00, 0x0a, 0x00, 0x00, 0x00, 0x00, 0x00, 0x00, 0x00];
 
+const RUNNING: [u8; 10] = [0x8d, 0x00, 0x0a, 0x01, 0x30, 0x00, 0x01, 0x29, 0x55, 0x11];
+
+const NO_CLOCK: [u8; 10] = [0x8d, 0x00, 0x0a, 0x00, 0x00, 0x00, 0x00, 0x00, 0x00, 0x20];
+
+// Commands to the clock, and how they are acknowledged.
 const BEEP: [u8; 6] = [0x2b, 0x04, 0x03, 0x0b, 0x10, 0x00];
+
+const E4_SHOWN: [u8; 14] = [
+    0x2b, 0x0c, 0x03, 0x0c, 0x65, 0x34, 0x20, 0x20, 0x20, 0x20, 0x20, 0x20, 0x01, 0x00,
+];
+
+const RAW: [u8; 6] = [0x2b, 0x04, 0x03, 0x8b, 0x10, 0x00];
+
+const BEEP_ACK: [u8; 10] = [0x8d, 0x00, 0x0a, 0x0a, 0x10, 0x0b, 0x0a, 0x00, 0x00, 0x00];
+
+const E4_ACK: [u8; 10] = [0x8d, 0x00, 0x0a, 0x0a, 0x10, 0x0c, 0x0a, 0x00, 0x00, 0x00];
+
+const RAW_ACK: [u8; 10] = [0x8d, 0x00, 0x0a, 0x0a, 0x10, 0x0b, 0x2a, 0x00, 0x00, 0x00];
+
+const VERSION_ACK: [u8; 10] = [0x8d, 0x00, 0x0a, 0x0a, 0x10, 0x09, 0x0a, 0x14, 0x00, 0x00];
+
+// An LED frame, and the command for a dump after it.
+const FRAME_AND_DUMP: [u8; 7] = [0x60, 0x04, 0x01, 0x00, 0x40, 0x00, 0x42];
+
+const FRAME: [u8; 4] = [0x01, 0x00, 0x40, 0x00];
 
 fn identity(
     trademark: &[u8],
@@ -51,75 +81,243 @@ fn identity(
     ))
 }
 
-// Hours, minutes and seconds of both, with this status.
-fn times(first: [u8; 3], second: [u8; 3], status: u8) -> Result<Clock, Fail> {
-    let first = Reading::new(first[0], first[1], first[2], 0)?;
-    let second = Reading::new(second[0], second[1], second[2], 0)?;
-    let status = Status::new(SevenBit::try_from(status)?);
-    Ok(Clock::Times(Times::new(first, second, status)?))
+// What a clock shows.
+#[derive(Clone, Copy)]
+pub(crate) enum Shown {
+    Zeros,
+    // 1:30:00 and 1:29:55
+    Running,
+    // the board has no clock
+    Absent,
 }
 
-fn no_clock() -> Result<Clock, Fail> {
-    let zero = SevenBit::try_from(0)?;
-    let status = Status::new(SevenBit::try_from(0x20)?);
-    Ok(Clock::NoClock(NoClock::new([zero; 6], status)?))
+pub(crate) fn clock_that_shows(shown: Shown) -> Option<Clock> {
+    let (first, second, status) = match shown {
+        Shown::Zeros => ([0; 3], [0; 3], 0),
+        Shown::Running => ([1, 30, 0], [1, 29, 55], 0x11),
+        Shown::Absent => return no_clock(),
+    };
+    let first = Reading::new(first[0], first[1], first[2], 0).ok()?;
+    let second = Reading::new(second[0], second[1], second[2], 0).ok()?;
+    let status = Status::new(SevenBit::try_from(status).ok()?);
+    Some(Clock::Times(Times::new(first, second, status).ok()?))
+}
+
+fn no_clock() -> Option<Clock> {
+    let zero = SevenBit::try_from(0).ok()?;
+    let status = Status::new(SevenBit::try_from(0x20).ok()?);
+    Some(Clock::NoClock(NoClock::new([zero; 6], status).ok()?))
+}
+
+pub(crate) fn clock_at_zeros() -> Result<Clock, Fail> {
+    match clock_that_shows(Shown::Zeros) {
+        Some(clock) => Ok(clock),
+        None => Err(Fail::from("no clock")),
+    }
+}
+
+pub(crate) fn identity_of_board() -> Result<Identity, Fail> {
+    Ok(identity(b"SIMULATED BOARD", &[0x64], b"0000000001")??)
 }
 
 // A new board with the starting position.
 fn new_board() -> Result<Board, Fail> {
-    let clock = times([0; 3], [0; 3], 0)?;
-    Ok(Board::new(
-        Position::start(),
-        clock,
-        identity(b"SIMULATED BOARD", &[0x64], b"0000000001")??,
-    ))
+    Ok(Board::new(Position::start(), clock_at_zeros()?, identity_of_board()?))
 }
 
-// What is done to a board, or what it then does.
+// What is done to a board, or what it then does or is.
 #[derive(Clone, Copy)]
-enum Step<'a> {
-    Take(&'a [u8]),
-    Change(&'a str, Piece),
-    Hand(Clock),
+enum Step {
+    // The board takes all of these bytes.
+    Take(&'static [u8]),
+    // The board takes each of these bytes in a call of its own.
+    TakeEach(&'static [u8]),
+    // The board takes this number of the bytes, and lends this command.
+    Lends(&'static [u8], usize, Lent),
+    // The board is busy, and takes none of these bytes.
+    IsBusy(&'static [u8]),
+    Change(&'static str, Piece),
+    Hand(Shown),
     LoseLine,
-    Sends(&'a [u8]),
+    // The board sends this message.
+    Sends(&'static [u8]),
+    // The board sends this message this number of times.
+    SendsEach(usize, &'static [u8]),
+    // The board has the first number of bytes of room, sends nothing, and needs the second.
+    NeedsRoom(usize, usize),
+    // The board has nothing to send.
     IsSettled,
+    IsIn(Mode),
+    // How many replies the board owes.
+    Owes(usize),
+    // How many bytes of an unfinished command the board holds.
+    Holds(usize),
+    HasPiece(&'static str, Piece),
+    HasStart,
+    HasClock(Shown),
 }
 
 use Step::*;
 
-fn play(rt: &impl Abort, board: &mut Board, steps: &[Step<'_>]) -> Result<(), Fail> {
-    for step in steps {
-        let mut out = [0xff; MAX_SENT];
-        match *step {
-            Take(piece) => {
-                let taken = board.take(piece)?;
-                assert_eq!(rt; taken.used, piece.len());
-            }
-            Change(square, piece) => board.change(Square::parse(square)?, piece),
-            Hand(clock) => board.hand_clock(clock),
-            LoseLine => board.line_lost(),
-            Sends(message) => {
-                assert!(rt; board.owes());
-                assert_eq!(rt; board.poll(&mut out), Polled::Wrote(message.len()));
-                assert_eq!(rt; &out[..message.len()], message);
-                assert!(rt; out[message.len()..].iter().all(|byte| *byte == 0xff));
-            }
-            IsSettled => {
-                assert!(rt; !board.owes());
-                assert_eq!(rt; board.poll(&mut out), Polled::Nothing);
-            }
+// A command that is lent.
+#[derive(Clone, Copy)]
+enum Lent {
+    Beep(u8),
+    Text([u8; 8], u8),
+    Raw(u8, &'static [u8]),
+    Leds(&'static [u8]),
+}
+
+fn is_lent(event: Option<CommandEvent<'_>>, lent: Lent) -> bool {
+    let Some(CommandEvent::Command(command)) = event else {
+        return false;
+    };
+    match (command, lent) {
+        (Command::ClockMessage(ClockCommand::Beep(beep)), Lent::Beep(want)) => beep == want,
+        (
+            Command::ClockMessage(ClockCommand::Text { letters, beep }),
+            Lent::Text(want, wanted_beep),
+        ) => letters == want && beep == wanted_beep,
+        (Command::ClockMessage(ClockCommand::Raw(raw)), Lent::Raw(id, payload)) => {
+            raw.id() == id && raw.payload().bytes() == payload
         }
+        (Command::Leds(leds), Lent::Leds(bytes)) => leds.bytes() == bytes,
+        _ => false,
+    }
+}
+
+fn takes(board: &mut Board, bytes: &[u8]) -> bool {
+    match board.take(bytes) {
+        Ok(taken) => taken.used == bytes.len(),
+        Err(Busy) => false,
+    }
+}
+
+fn takes_each(board: &mut Board, bytes: &[u8]) -> bool {
+    for byte in bytes {
+        if !takes(board, &[*byte]) {
+            return false;
+        }
+    }
+    true
+}
+
+fn lends(board: &mut Board, bytes: &[u8], used: usize, lent: Lent) -> bool {
+    match board.take(bytes) {
+        Ok(taken) => taken.used == used && is_lent(taken.event, lent),
+        Err(Busy) => false,
+    }
+}
+
+fn sends(board: &mut Board, message: &[u8]) -> bool {
+    let mut out = [0xff; MAX_SENT];
+    let owes = board.owes();
+    let polled = board.poll(&mut out);
+    let Some((written, rest)) = out.split_at_checked(message.len()) else {
+        return false;
+    };
+    owes && polled == Polled::Wrote(message.len())
+        && written == message
+        && rest.iter().all(|byte| *byte == 0xff)
+}
+
+fn sends_each(board: &mut Board, times: usize, message: &[u8]) -> bool {
+    for _ in 0..times {
+        if !sends(board, message) {
+            return false;
+        }
+    }
+    true
+}
+
+fn needs_room(board: &mut Board, room: usize, need: usize) -> bool {
+    let mut out = [0xff; MAX_SENT];
+    let polled = match out.get_mut(..room) {
+        Some(out) => board.poll(out),
+        None => return false,
+    };
+    polled == Polled::NeedRoom(need) && out.iter().all(|byte| *byte == 0xff)
+}
+
+fn is_settled(board: &mut Board) -> bool {
+    !board.owes() && board.poll(&mut [0xff; MAX_SENT]) == Polled::Nothing
+}
+
+fn change(board: &mut Board, square: &str, piece: Piece) -> bool {
+    match Square::parse(square) {
+        Ok(square) => {
+            board.change(square, piece);
+            true
+        }
+        Err(_) => false,
+    }
+}
+
+fn hand(board: &mut Board, shown: Shown) -> bool {
+    match clock_that_shows(shown) {
+        Some(clock) => {
+            board.hand_clock(clock);
+            true
+        }
+        None => false,
+    }
+}
+
+fn has_piece(board: &Board, square: &str, piece: Piece) -> bool {
+    match Square::parse(square) {
+        Ok(square) => board.position().get(square) == piece,
+        Err(_) => false,
+    }
+}
+
+// Does what the step says, and returns whether the board did and is what it says.
+fn comes_true(board: &mut Board, step: Step) -> bool {
+    match step {
+        Take(bytes) => takes(board, bytes),
+        TakeEach(bytes) => takes_each(board, bytes),
+        Lends(bytes, used, lent) => lends(board, bytes, used, lent),
+        IsBusy(bytes) => board.take(bytes).err() == Some(Busy),
+        Change(square, piece) => change(board, square, piece),
+        Hand(shown) => hand(board, shown),
+        LoseLine => {
+            board.line_lost();
+            true
+        }
+        Sends(message) => sends(board, message),
+        SendsEach(times, message) => sends_each(board, times, message),
+        NeedsRoom(room, need) => needs_room(board, room, need),
+        IsSettled => is_settled(board),
+        IsIn(mode) => board.mode() == mode,
+        Owes(count) => board.owed_len() == count,
+        Holds(count) => board.partial() == count,
+        HasPiece(square, piece) => has_piece(board, square, piece),
+        HasStart => *board.position() == Position::start(),
+        HasClock(shown) => clock_that_shows(shown) == Some(*board.clock()),
+    }
+}
+
+// A conversation with a new board.
+#[derive(Clone, Copy)]
+struct Scene {
+    name: &'static str,
+    steps: &'static [Step],
+}
+
+fn play(rt: &impl Abort, scene: &Scene) -> Result<(), Fail> {
+    let name = scene.name;
+    let mut board = new_board()?;
+    for (number, step) in scene.steps.iter().enumerate() {
+        let number = number.saturating_add(1);
+        assert!(rt; comes_true(&mut board, *step), "{name}: step {number}");
     }
     Ok(())
 }
 
-#[test]
-fn replies_go_before_fields_and_fields_before_times(rt: HostRuntime) -> Result<(), Fail> {
-    play(
-        &rt,
-        &mut new_board()?,
-        &[
+// Which message goes first, and what each mode reports.
+const SENDING: [Scene; 8] = [
+    Scene {
+        name: "replies go before fields and fields before times",
+        steps: &[
             Take(&[0x43]),
             Change("e2", Piece::Empty),
             Take(&[0x45]),
@@ -128,27 +326,24 @@ fn replies_go_before_fields_and_fields_before_times(rt: HostRuntime) -> Result<(
             Sends(&ZEROS),
             IsSettled,
         ],
-    )?;
-    play(
-        &rt,
-        &mut new_board()?,
-        &[Take(&[0x43]), Take(&[0x41]), Sends(&ZEROS), IsSettled],
-    )?;
-    play(
-        &rt,
-        &mut new_board()?,
-        &[
+    },
+    Scene {
+        name: "times asked for twice are sent once",
+        steps: &[Take(&[0x43]), Take(&[0x41]), Sends(&ZEROS), IsSettled],
+    },
+    Scene {
+        name: "a dump reports the changes before it",
+        steps: &[
             Take(&[0x42]),
             Change("e2", Piece::Empty),
             Sends(&WITHOUT_E2),
             Take(&[0x44]),
             IsSettled,
         ],
-    )?;
-    play(
-        &rt,
-        &mut new_board()?,
-        &[
+    },
+    Scene {
+        name: "an idle board keeps its changes",
+        steps: &[
             Take(&[0x44]),
             Change("e2", Piece::Empty),
             Take(&[0x40]),
@@ -157,250 +352,222 @@ fn replies_go_before_fields_and_fields_before_times(rt: HostRuntime) -> Result<(
             Sends(&E2),
             IsSettled,
         ],
-    )
-}
-
-#[test]
-fn clock_is_told_as_the_mode_asks(rt: HostRuntime) -> Result<(), Fail> {
-    let running = times([1, 30, 0], [1, 29, 55], 0x11)?;
-    let told = [0x8d, 0x00, 0x0a, 0x01, 0x30, 0x00, 0x01, 0x29, 0x55, 0x11];
-    let zeros = times([0; 3], [0; 3], 0)?;
-    play(
-        &rt,
-        &mut new_board()?,
-        &[
+    },
+    Scene {
+        name: "one mode sends the times if they differ",
+        steps: &[
             Take(&[0x4b]),
             Sends(&ZEROS),
-            Hand(running),
-            Hand(zeros),
+            Hand(Shown::Running),
+            Hand(Shown::Zeros),
             IsSettled,
-            Hand(running),
-            Sends(&told),
-            IsSettled,
-        ],
-    )?;
-    play(
-        &rt,
-        &mut new_board()?,
-        &[
-            Take(&[0x43]),
-            Sends(&ZEROS),
-            Hand(zeros),
-            Sends(&ZEROS),
-            Take(&[0x43]),
+            Hand(Shown::Running),
+            Sends(&RUNNING),
             IsSettled,
         ],
-    )?;
-    let absent = [0x8d, 0x00, 0x0a, 0x00, 0x00, 0x00, 0x00, 0x00, 0x00, 0x20];
-    play(
-        &rt,
-        &mut new_board()?,
-        &[
-            Hand(no_clock()?),
+    },
+    Scene {
+        name: "another mode sends each reading",
+        steps: &[
+            Take(&[0x43]),
+            Sends(&ZEROS),
+            Hand(Shown::Zeros),
+            Sends(&ZEROS),
+            Take(&[0x43]),
+            IsSettled,
+        ],
+    },
+    Scene {
+        name: "without a clock nothing is acknowledged",
+        steps: &[
+            Hand(Shown::Absent),
             Take(&BEEP),
             Take(&[0x41]),
-            Sends(&absent),
+            Sends(&NO_CLOCK),
             IsSettled,
         ],
-    )
-}
-
-#[test]
-fn board_tells_what_it_is(rt: HostRuntime) -> Result<(), Fail> {
-    let mut trademark = [0; 18];
-    trademark[..3].copy_from_slice(&[0x92, 0x00, 0x12]);
-    trademark[3..].copy_from_slice(b"SIMULATED BOARD");
-    play(
-        &rt,
-        &mut new_board()?,
-        &[
+    },
+    Scene {
+        name: "a board says what it is",
+        steps: &[
             Take(&[0x47]),
             Take(&[0x4d]),
             Take(&[0x4c]),
             Take(&[0x2b, 0x03, 0x03, 0x09, 0x00]),
             Take(&[0x55]),
-            Sends(&trademark),
+            Sends(&TRADEMARK),
             Sends(&[0x93, 0x00, 0x05, 0x01, 0x03]),
             Sends(&[0xa0, 0x00, 0x04, 0x64]),
-            Sends(&[0x8d, 0x00, 0x0a, 0x0a, 0x10, 0x09, 0x0a, 0x14, 0x00, 0x00]),
+            Sends(&VERSION_ACK),
             Sends(&LONG_SERIAL),
             IsSettled,
         ],
-    )?;
-    assert!(rt; identity(&[0x20; 64], &[0x20; 64], &[0x20; 64])?.is_ok());
-    assert_eq!(rt; identity(&[0x20; 65], &[], &[])?.err(), Some(TooLong));
-    assert_eq!(rt; identity(&[], &[0x20; 65], &[])?.err(), Some(TooLong));
-    assert_eq!(rt; identity(&[], &[], &[0x20; 65])?.err(), Some(TooLong));
-    Ok(())
-}
+    },
+];
 
-#[test]
-fn dump_waits_for_67_bytes_of_room(rt: HostRuntime) -> Result<(), Fail> {
-    let mut board = new_board()?;
-    play(&rt, &mut board, &[Take(&[0x44]), Take(&[0x42])])?;
-    assert_eq!(rt; board.mode(), Mode::UpdateBoard);
-    assert_eq!(rt; board.owed_len(), 1);
-    let mut out = [0xff; 66];
-    assert_eq!(rt; board.poll(&mut out), Polled::NeedRoom(MAX_SENT));
-    assert_eq!(rt; out, [0xff; 66]);
-    assert_eq!(rt; board.owed_len(), 1);
-    play(&rt, &mut board, &[Sends(&START), IsSettled])
-}
-
-#[test]
-fn clock_messages_are_lent_and_acknowledged(rt: HostRuntime) -> Result<(), Fail> {
-    let mut board = new_board()?;
-    let beep = board.take(&BEEP)?;
-    let command = Command::ClockMessage(ClockCommand::Beep(0x10));
-    assert_eq!(rt; beep.event, Some(CommandEvent::Command(command)));
-    let text = board.take(&[
-        0x2b, 0x0c, 0x03, 0x0c, 0x65, 0x34, 0x20, 0x20, 0x20, 0x20, 0x20, 0x20, 0x01, 0x00,
-    ])?;
-    let command = Command::ClockMessage(ClockCommand::Text {
-        letters: *b"e4      ",
-        beep: 0x01,
-    });
-    assert_eq!(rt; text.event, Some(CommandEvent::Command(command)));
-    let raw = board.take(&[0x2b, 0x04, 0x03, 0x8b, 0x10, 0x00])?;
-    let Some(CommandEvent::Command(Command::ClockMessage(ClockCommand::Raw(raw)))) = raw.event
-    else {
-        return Err(Fail::from("no raw message"));
-    };
-    assert_eq!(rt; raw.id(), 0x8b);
-    assert_eq!(rt; raw.payload().bytes(), [0x10].as_slice());
-    play(
-        &rt,
-        &mut board,
-        &[
-            Sends(&[0x8d, 0x00, 0x0a, 0x0a, 0x10, 0x0b, 0x0a, 0x00, 0x00, 0x00]),
-            Sends(&[0x8d, 0x00, 0x0a, 0x0a, 0x10, 0x0c, 0x0a, 0x00, 0x00, 0x00]),
-            Sends(&[0x8d, 0x00, 0x0a, 0x0a, 0x10, 0x0b, 0x2a, 0x00, 0x00, 0x00]),
+// What a board takes and lends, and when it can't.
+const TAKING: [Scene; 5] = [
+    Scene {
+        name: "a dump waits for 67 bytes of room",
+        steps: &[
+            Take(&[0x44]),
+            Take(&[0x42]),
+            IsIn(Mode::UpdateBoard),
+            Owes(1),
+            NeedsRoom(66, MAX_SENT),
+            Owes(1),
+            Sends(&START),
             IsSettled,
         ],
-    )
-}
+    },
+    Scene {
+        name: "clock messages are lent and acknowledged",
+        steps: &[
+            Lends(&BEEP, 6, Lent::Beep(0x10)),
+            Lends(&E4_SHOWN, 14, Lent::Text(*b"e4      ", 0x01)),
+            Lends(&RAW, 6, Lent::Raw(0x8b, &[0x10])),
+            Sends(&BEEP_ACK),
+            Sends(&E4_ACK),
+            Sends(&RAW_ACK),
+            IsSettled,
+        ],
+    },
+    Scene {
+        name: "an idle board reads over LED frames",
+        steps: &[
+            Lends(&FRAME_AND_DUMP, 6, Lent::Leds(&FRAME)),
+            IsIn(Mode::Idle),
+            IsSettled,
+            Take(&[0x60]),
+            Take(&[0x00]),
+            IsSettled,
+            Take(&[0x42]),
+            Sends(&START),
+        ],
+    },
+    Scene {
+        name: "a board that sends updates reads over LED frames",
+        steps: &[
+            Take(&[0x44]),
+            Lends(&FRAME_AND_DUMP, 6, Lent::Leds(&FRAME)),
+            IsIn(Mode::UpdateBoard),
+            IsSettled,
+            Take(&[0x60]),
+            Take(&[0x00]),
+            IsSettled,
+            Take(&[0x42]),
+            Sends(&START),
+        ],
+    },
+    Scene {
+        name: "eight replies make it busy",
+        steps: &[
+            Take(&[0x44]),
+            Take(&[0x2b, 0x04]),
+            Holds(2),
+            Take(&[0x03, 0x0b, 0x10, 0x01]),
+            TakeEach(&[0x42; 8]),
+            IsBusy(&[0x40]),
+            Owes(8),
+            IsIn(Mode::UpdateBoard),
+            IsBusy(&[]),
+            Owes(8),
+            IsIn(Mode::UpdateBoard),
+            HasStart,
+            HasClock(Shown::Zeros),
+            SendsEach(8, &START),
+            IsSettled,
+        ],
+    },
+];
 
-#[test]
-fn led_frames_are_read_over(rt: HostRuntime) -> Result<(), Fail> {
-    for (update, mode) in [(None, Mode::Idle), (Some(0x44), Mode::UpdateBoard)] {
-        let mut board = new_board()?;
-        if let Some(update) = update {
-            play(&rt, &mut board, &[Take(&[update])])?;
-        }
-        let taken = board.take(&[0x60, 0x04, 0x01, 0x00, 0x40, 0x00, 0x42])?;
-        assert_eq!(rt; taken.used, 6);
-        let Some(CommandEvent::Command(Command::Leds(leds))) = taken.event else {
-            return Err(Fail::from("no LED frame"));
-        };
-        assert_eq!(rt; leds.bytes(), [0x01, 0x00, 0x40, 0x00].as_slice());
-        assert_eq!(rt; board.mode(), mode);
-        play(
-            &rt,
-            &mut board,
-            &[
-                IsSettled,
-                Take(&[0x60]),
-                Take(&[0x00]),
-                IsSettled,
-                Take(&[0x42]),
-                Sends(&START),
-            ],
-        )?;
-    }
-    Ok(())
-}
-
-#[test]
-fn eight_replies_make_it_busy(rt: HostRuntime) -> Result<(), Fail> {
-    let mut board = new_board()?;
-    play(&rt, &mut board, &[Take(&[0x44]), Take(&[0x2b, 0x04])])?;
-    assert_eq!(rt; board.partial(), 2);
-    play(&rt, &mut board, &[Take(&[0x03, 0x0b, 0x10, 0x01])])?;
-    play(&rt, &mut board, &[Take(&[0x42]); 8])?;
-    for piece in [&[0x40][..], &[]] {
-        assert_eq!(rt; board.take(piece).err(), Some(Busy));
-        assert_eq!(rt; board.owed_len(), 8);
-        assert_eq!(rt; board.mode(), Mode::UpdateBoard);
-    }
-    assert_eq!(rt; *board.position(), Position::start());
-    assert_eq!(rt; *board.clock(), times([0; 3], [0; 3], 0)?);
-    play(&rt, &mut board, &[Sends(&START); 8])?;
-    play(&rt, &mut board, &[IsSettled])
-}
-
-#[test]
-fn lost_line_leaves_the_squares_and_the_clock(rt: HostRuntime) -> Result<(), Fail> {
-    let running = times([1, 30, 0], [1, 29, 55], 0x11)?;
-    let told = [0x8d, 0x00, 0x0a, 0x01, 0x30, 0x00, 0x01, 0x29, 0x55, 0x11];
-    // a square, the times and two replies are to be told, and a command is half taken
-    let mut board = new_board()?;
-    play(
-        &rt,
-        &mut board,
-        &[
+// What a lost line leaves.
+const LOSING: [Scene; 3] = [
+    Scene {
+        name: "a lost line leaves the squares and the clock",
+        steps: &[
+            // a square, the times and two replies are due, and a command is half taken
             Take(&[0x43]),
             Change("e2", Piece::Empty),
-            Hand(running),
+            Hand(Shown::Running),
             Take(&[0x42]),
             Take(&[0x45]),
             Take(&[0x2b, 0x04, 0x03]),
             LoseLine,
             IsSettled,
-        ],
-    )?;
-    assert_eq!(rt; board.mode(), Mode::Idle);
-    assert_eq!(rt; (board.owed_len(), board.partial()), (0, 0));
-    assert_eq!(rt; board.position().get(Square::parse("e2")?), Piece::Empty);
-    assert_eq!(rt; *board.clock(), running);
-    // the change is told by a dump alone; the clock is owed again, though it was not handed in
-    // again
-    play(
-        &rt,
-        &mut board,
-        &[
+            IsIn(Mode::Idle),
+            Owes(0),
+            Holds(0),
+            HasPiece("e2", Piece::Empty),
+            HasClock(Shown::Running),
+            // only a dump reports the change; the clock is owed again, though its reading didn't
+            // come again
             Take(&[0x44]),
             IsSettled,
             Take(&[0x42]),
             Sends(&WITHOUT_E2),
             Take(&[0x4b]),
-            Sends(&told),
+            Sends(&RUNNING),
             IsSettled,
             LoseLine,
             Take(&[0x4b]),
-            Sends(&told),
+            Sends(&RUNNING),
             IsSettled,
         ],
-    )?;
-    // and a change behind the break is told as ever
-    play(
-        &rt,
-        &mut new_board()?,
-        &[
+    },
+    Scene {
+        name: "a change after a lost line is reported",
+        steps: &[
             LoseLine,
             Take(&[0x44]),
             Change("e2", Piece::Empty),
             Sends(&E2),
             IsSettled,
         ],
-    )
-}
-
-#[test]
-fn lost_line_ends_a_busy_time(rt: HostRuntime) -> Result<(), Fail> {
-    let mut board = new_board()?;
-    play(&rt, &mut board, &[Take(&[0x42]); 8])?;
-    assert_eq!(rt; board.take(&[0x40]).err(), Some(Busy));
-    play(
-        &rt,
-        &mut board,
-        &[
+    },
+    Scene {
+        name: "a lost line ends a busy time",
+        steps: &[
+            TakeEach(&[0x42; 8]),
+            IsBusy(&[0x40]),
             LoseLine,
             IsSettled,
             Take(&[0x45]),
             Sends(&SERIAL),
             IsSettled,
         ],
-    )
+    },
+];
+
+fn play_all(rt: &impl Abort, scenes: &[Scene]) -> Result<(), Fail> {
+    for scene in scenes {
+        play(rt, scene)?;
+    }
+    Ok(())
+}
+
+#[test]
+fn boards_send(rt: HostRuntime) -> Result<(), Fail> {
+    play_all(&rt, &SENDING)
+}
+
+#[test]
+fn boards_take(rt: HostRuntime) -> Result<(), Fail> {
+    play_all(&rt, &TAKING)
+}
+
+#[test]
+fn boards_lose_their_line(rt: HostRuntime) -> Result<(), Fail> {
+    play_all(&rt, &LOSING)
+}
+
+#[test]
+fn bodies_of_65_bytes_are_too_long(rt: HostRuntime) -> Result<(), Fail> {
+    assert!(rt; identity(&[0x20; 64], &[0x20; 64], &[0x20; 64])?.is_ok());
+    assert_eq!(rt; identity(&[0x20; 65], &[], &[])?.err(), Some(TooLong));
+    assert_eq!(rt; identity(&[], &[0x20; 65], &[])?.err(), Some(TooLong));
+    assert_eq!(rt; identity(&[], &[], &[0x20; 65])?.err(), Some(TooLong));
+    Ok(())
 }
 
 // A list of bytes, and a new board that took them: its mode, how many replies it owes, and how many
@@ -480,37 +647,47 @@ const ROWS: [Row<'static>; 8] = [
     },
 ];
 
-// The board takes a piece, and tells what a reader of commands tells of its bytes one by one. Where
-// it is busy, it sends.
-fn take_all(
-    rt: &impl Abort,
-    board: &mut Board,
-    decoder: &mut CommandDecoder,
-    piece: &[u8],
-) -> Result<(), Fail> {
-    let mut left = piece;
-    for _ in 0..piece.len() {
+// Whether a reader of commands, which is given these bytes one by one, reads this event at the last
+// of them and none before.
+fn reads(decoder: &mut CommandDecoder, bytes: &[u8], event: Option<CommandEvent<'_>>) -> bool {
+    let Some((last, before)) = bytes.split_last() else {
+        return false;
+    };
+    for byte in before {
+        if decoder.feed(&[*byte]).event.is_some() {
+            return false;
+        }
+    }
+    decoder.feed(&[*last]).event == event
+}
+
+// A board that is busy takes none of these bytes, and then sends.
+fn is_relieved(board: &mut Board, bytes: &[u8]) -> bool {
+    board.take(bytes).err() == Some(Busy)
+        && matches!(board.poll(&mut [0; MAX_SENT]), Polled::Wrote(_))
+}
+
+// The board takes a chunk, and lends what a reader of commands makes of its bytes one by one. If it
+// is busy, it sends.
+fn take_all(board: &mut Board, decoder: &mut CommandDecoder, chunk: &[u8]) -> bool {
+    let mut left = chunk;
+    for _ in 0..chunk.len() {
         if left.is_empty() {
             break;
         }
-        if board.owed_len() == MAX_OWED {
-            assert_eq!(rt; board.take(left).err(), Some(Busy));
-            assert!(rt; matches!(board.poll(&mut [0; MAX_SENT]), Polled::Wrote(_)));
+        if board.owed_len() == MAX_OWED && !is_relieved(board, left) {
+            return false;
         }
-        let taken = board.take(left)?;
+        let Ok(taken) = board.take(left) else {
+            return false;
+        };
         let (used, rest) = left.split_at(taken.used);
         left = rest;
-        let Some((last, front)) = used.split_last() else {
-            return Err(Fail::from("no byte was taken"));
-        };
-        for byte in front {
-            assert!(rt; decoder.feed(&[*byte]).event.is_none());
+        if !reads(decoder, used, taken.event) {
+            return false;
         }
-        assert_eq!(rt; taken.event, decoder.feed(&[*last]).event);
     }
-    assert!(rt; left.is_empty());
-    assert_eq!(rt; board.partial(), decoder.partial());
-    Ok(())
+    left.is_empty() && board.partial() == decoder.partial()
 }
 
 // Whether a board is as the row says.
@@ -522,61 +699,68 @@ fn is_left_as(board: &Board, row: &Row<'_>) -> bool {
 }
 
 // Sends all that there is to send: 8 replies and the times at most.
-fn send_all(rt: &impl Abort, board: &mut Board) {
+fn send_all(board: &mut Board) -> bool {
     for _ in 0..=MAX_OWED {
         board.poll(&mut [0; MAX_SENT]);
     }
-    assert!(rt; !board.owes());
+    !board.owes()
 }
 
-// The bytes of a row, cut into two at each place, and whole behind each part of themselves. A part
-// that leaves no unfinished command makes no difference, once what it asks for was sent.
-fn assert_row(rt: &impl Abort, row: &Row<'_>) -> Result<(), Fail> {
+// Whether a new board that takes these chunks is left as the row says.
+fn takes_in_two(mut board: Board, row: &Row<'_>, front: &[u8], back: &[u8]) -> bool {
+    let mut decoder = CommandDecoder::new();
+    take_all(&mut board, &mut decoder, front)
+        && take_all(&mut board, &mut decoder, back)
+        && is_left_as(&board, row)
+}
+
+// Whether a new board that takes a part of the row's bytes, sends, and takes all of them is left as
+// the row says. The part makes no difference if it leaves no unfinished command.
+fn takes_after_part(mut board: Board, row: &Row<'_>, part: &[u8]) -> bool {
+    let mut decoder = CommandDecoder::new();
+    let is_taken = take_all(&mut board, &mut decoder, part) && send_all(&mut board);
+    let is_between_words = board.partial() == 0;
+    is_taken
+        && take_all(&mut board, &mut decoder, row.bytes)
+        && (!is_between_words || is_left_as(&board, row))
+}
+
+// The bytes of a row, cut into two at each place, and whole after each part of themselves.
+fn assert_row(rt: &impl Abort, number: usize, row: &Row<'_>) -> Result<(), Fail> {
     for place in 0..=row.bytes.len() {
         let (front, back) = row.bytes.split_at(place);
-        let mut decoder = CommandDecoder::new();
-        let mut board = new_board()?;
-        take_all(rt, &mut board, &mut decoder, front)?;
-        take_all(rt, &mut board, &mut decoder, back)?;
-        assert!(rt; is_left_as(&board, row), "cut at {place}");
-        let mut decoder = CommandDecoder::new();
-        let mut board = new_board()?;
-        take_all(rt, &mut board, &mut decoder, front)?;
-        send_all(rt, &mut board);
-        let is_between_words = board.partial() == 0;
-        take_all(rt, &mut board, &mut decoder, row.bytes)?;
-        assert!(rt;
-            !is_between_words || is_left_as(&board, row),
-            "behind {place}"
-        );
+        let is_so = takes_in_two(new_board()?, row, front, back);
+        assert!(rt; is_so, "row {number}, cut at {place}");
+        let is_so = takes_after_part(new_board()?, row, front);
+        assert!(rt; is_so, "row {number}, after {place} bytes of it");
     }
     Ok(())
 }
 
 #[test]
-fn commands_in_two_pieces_and_behind_parts(rt: HostRuntime) -> Result<(), Fail> {
-    for row in &ROWS {
-        assert_row(&rt, row)?;
+fn commands_in_two_chunks_and_after_parts(rt: HostRuntime) -> Result<(), Fail> {
+    for (number, row) in ROWS.iter().enumerate() {
+        assert_row(&rt, number, row)?;
     }
     Ok(())
 }
 
 #[test]
-fn longest_commands_in_two_pieces_and_behind_parts(rt: HostRuntime) -> Result<(), Fail> {
+fn longest_commands_in_two_chunks_and_after_parts(rt: HostRuntime) -> Result<(), Fail> {
     let mut clock = [0x00; 257];
     clock[..4].copy_from_slice(&[0x2b, 0xff, 0x03, 0x01]);
     let mut bad_end = clock;
     bad_end[256] = 0x01;
     let mut leds = [0x42; 257];
     leds[..2].copy_from_slice(&[0x60, 0xff]);
-    for (bytes, owed) in [(clock, 1), (bad_end, 0), (leds, 0)] {
+    for (number, (bytes, owed)) in [(clock, 1), (bad_end, 0), (leds, 0)].iter().enumerate() {
         let row = Row {
-            bytes: &bytes,
+            bytes,
             mode: Mode::Idle,
-            owed,
+            owed: *owed,
             partial: 0,
         };
-        assert_row(&rt, &row)?;
+        assert_row(&rt, number, &row)?;
     }
     Ok(())
 }
@@ -589,7 +773,7 @@ fn flood_of_requests_is_answered_one_by_one(rt: HostRuntime) -> Result<(), Fail>
     for place in 0..1000 {
         if place >= MAX_OWED {
             assert_eq!(rt; board.take(left).err(), Some(Busy));
-            play(&rt, &mut board, &[Sends(&START)])?;
+            assert!(rt; sends(&mut board, &START));
         }
         let taken = board.take(left)?;
         assert_eq!(rt; taken.used, 1);
@@ -597,21 +781,7 @@ fn flood_of_requests_is_answered_one_by_one(rt: HostRuntime) -> Result<(), Fail>
     }
     assert!(rt; left.is_empty());
     assert_eq!(rt; board.mode(), Mode::Idle);
-    play(&rt, &mut board, &[Sends(&START); 8])?;
-    play(&rt, &mut board, &[IsSettled])
-}
-
-#[test]
-fn texts_of_faults(rt: HostRuntime) -> Result<(), Fail> {
-    let alloc = rt.alloc();
-    for (text, want) in [
-        (
-            Busy.to_string(alloc)?,
-            "the board owes as many replies as it can",
-        ),
-        (TooLong.to_string(alloc)?, "a body has more than 64 bytes"),
-    ] {
-        assert_eq!(rt; text.as_str(), want);
-    }
+    assert!(rt; sends_each(&mut board, 8, &START));
+    assert!(rt; is_settled(&mut board));
     Ok(())
 }

@@ -1,8 +1,8 @@
 use dgt_command::Command;
 use dgt_decode::{Decoder, Event};
-use dgt_host::{Heard, Host, Kind, SendFault};
+use dgt_host::{Host, Kind, SendFault};
 use dgt_message::{Clock, Message};
-use dgt_values::{Piece, Position, Square};
+use dgt_values::Position;
 use std::alloc::{AllocError, Global};
 use std::process::Abort;
 use std::test::*;
@@ -34,75 +34,381 @@ const DUMP: [u8; 67] = [
     0x02, 0x03, 0x04, 0x06, 0x05, 0x04, 0x03, 0x02,
 ];
 
-fn is_version(heard: &Heard<'_>) -> bool {
-    match heard.event {
-        Some(Event::Message(Message::Version { main, sub })) => main.get() == 1 && sub.get() == 3,
+const START: &str = "rnbqkbnr/pppppppp/8/8/8/8/PPPPPPPP/RNBQKBNR";
+
+const E4_ADDED: &str = "rnbqkbnr/pppppppp/8/8/4P3/8/PPPPPPPP/RNBQKBNR";
+
+const E4_PLAYED: &str = "rnbqkbnr/pppppppp/8/8/4P3/8/PPPP1PPP/RNBQKBNR";
+
+const TIMES: [u8; 10] = [0x8d, 0x00, 0x0a, 0x01, 0x30, 0x00, 0x01, 0x29, 0x55, 0x11];
+
+const NO_CLOCK: [u8; 10] = [0x8d, 0x00, 0x0a, 0x00, 0x00, 0x00, 0x00, 0x00, 0x00, 0x20];
+
+const ACK: [u8; 10] = [0x8d, 0x00, 0x0a, 0x0a, 0x10, 0x08, 0x2a, 0x00, 0x31, 0x00];
+
+const VERSION_HEAD: [u8; 2] = [0x93, 0x00];
+
+const VERSION_END: [u8; 3] = [0x05, 0x01, 0x03];
+
+/// A dump whose last byte is no piece.
+const BAD_DUMP: [u8; 67] = [
+    0x86, 0x00, 0x43, //
+    0x08, 0x09, 0x0a, 0x0c, 0x0b, 0x0a, 0x09, 0x08, //
+    0x07, 0x07, 0x07, 0x07, 0x07, 0x07, 0x07, 0x07, //
+    0x00, 0x00, 0x00, 0x00, 0x00, 0x00, 0x00, 0x00, //
+    0x00, 0x00, 0x00, 0x00, 0x00, 0x00, 0x00, 0x00, //
+    0x00, 0x00, 0x00, 0x00, 0x00, 0x00, 0x00, 0x00, //
+    0x00, 0x00, 0x00, 0x00, 0x00, 0x00, 0x00, 0x00, //
+    0x01, 0x01, 0x01, 0x01, 0x01, 0x01, 0x01, 0x01, //
+    0x02, 0x03, 0x04, 0x06, 0x05, 0x04, 0x03, 0x10,
+];
+
+/// What a host knows of the clock: hours, minutes and seconds of both.
+#[derive(Clone, Copy, Debug, PartialEq, Eq)]
+enum Told {
+    Nothing,
+    NoClock,
+    Times([u8; 6]),
+}
+
+/// What a host is made to send.
+#[derive(Clone, Copy)]
+enum Ask {
+    For(Kind),
+    Reset,
+    Follow,
+    Restart,
+}
+
+/// What a host makes of the bytes that it hears.
+#[derive(Clone, Copy)]
+enum Seen {
+    Unfinished,
+    Dump,
+    Field,
+    Clock,
+    Version(u8, u8),
+    LongSerial,
+    Refused,
+    Stray(u8),
+}
+
+/// What is done to a host, or what it then is.
+#[derive(Clone, Copy)]
+enum Step {
+    /// It writes these bytes into a slice of this length.
+    Writes(Ask, usize, &'static [u8]),
+    /// It writes nothing into a slice of this length, for this reason.
+    WritesNothing(Ask, usize, SendFault),
+    /// It asks this number of times for a reply of this kind.
+    AsksFor(usize, Kind),
+    /// It hears all of these bytes. Their message was asked for, or needs no request.
+    Hears(&'static [u8], Seen),
+    /// The same, of this number of the bytes.
+    HearsFirst(usize, &'static [u8], Seen),
+    /// It hears all of these bytes, and nobody asked for their message.
+    HearsUnasked(&'static [u8], Seen),
+    LosesLine,
+    /// It gives up this number of replies.
+    GivesUp(usize),
+    Awaits(&'static [Kind]),
+    HasPicture(&'static str),
+    HasNoPicture,
+    KnowsClock(Told),
+    /// How many bytes of an unfinished message it holds.
+    Holds(usize),
+}
+
+use Step::*;
+
+fn command_for(kind: Kind) -> Command<'static> {
+    match kind {
+        Kind::Dump => Command::Dump,
+        Kind::Serial => Command::Serial,
+        Kind::Trademark => Command::Trademark,
+        Kind::Version => Command::Version,
+        Kind::Battery => Command::Battery,
+        Kind::LongSerial => Command::LongSerial,
+    }
+}
+
+fn write(host: &mut Host, ask: Ask, out: &mut [u8]) -> Result<usize, SendFault> {
+    match ask {
+        Ask::For(kind) => host.send(&command_for(kind), out),
+        Ask::Reset => host.send(&Command::Reset, out),
+        Ask::Follow => host.follow(out),
+        Ask::Restart => host.restart(out),
+    }
+}
+
+fn writes(host: &mut Host, ask: Ask, room: usize, bytes: &[u8]) -> bool {
+    let mut out = [0xff; 258];
+    let written = match out.get_mut(..room) {
+        Some(out) => write(host, ask, out),
+        None => return false,
+    };
+    let Some((front, rest)) = out.split_at_checked(bytes.len()) else {
+        return false;
+    };
+    written == Ok(bytes.len()) && front == bytes && rest.iter().all(|byte| *byte == 0xff)
+}
+
+fn writes_nothing(host: &mut Host, ask: Ask, room: usize, fault: SendFault) -> bool {
+    let mut out = [0xff; 258];
+    let written = match out.get_mut(..room) {
+        Some(out) => write(host, ask, out),
+        None => return false,
+    };
+    written == Err(fault) && out.iter().all(|byte| *byte == 0xff)
+}
+
+fn asks_for(host: &mut Host, times: usize, kind: Kind) -> bool {
+    for _ in 0..times {
+        if host.send(&command_for(kind), &mut [0]) != Ok(1) {
+            return false;
+        }
+    }
+    true
+}
+
+fn is_seen(event: Option<Event<'_>>, seen: Seen) -> bool {
+    match (event, seen) {
+        (None, Seen::Unfinished)
+        | (Some(Event::Message(Message::Dump(_))), Seen::Dump)
+        | (Some(Event::Message(Message::Field { .. })), Seen::Field)
+        | (Some(Event::Message(Message::Times(_) | Message::NoClock(_))), Seen::Clock)
+        | (Some(Event::Message(Message::LongSerial(_))), Seen::LongSerial)
+        | (Some(Event::Refused { .. }), Seen::Refused) => true,
+        (Some(Event::Message(Message::Version { main, sub })), Seen::Version(first, second)) => {
+            main.get() == first && sub.get() == second
+        }
+        (Some(Event::Stray(byte)), Seen::Stray(want)) => byte == want,
         _ => false,
     }
 }
 
-fn is_start(host: &Host) -> bool {
-    match host.picture() {
-        Some(picture) => *picture == Position::start(),
-        None => false,
+fn hears(host: &mut Host, used: usize, bytes: &[u8], unasked: bool, seen: Seen) -> bool {
+    let heard = host.hear(bytes);
+    heard.used == used && heard.unasked == unasked && is_seen(heard.event, seen)
+}
+
+fn told_of(host: &Host) -> Told {
+    match host.clock() {
+        Some(Clock::Times(times)) => {
+            let (first, second) = (times.first(), times.second());
+            Told::Times([
+                first.hours(),
+                first.minutes(),
+                first.seconds(),
+                second.hours(),
+                second.minutes(),
+                second.seconds(),
+            ])
+        }
+        Some(Clock::NoClock(_)) => Told::NoClock,
+        None => Told::Nothing,
     }
 }
 
-/// A host that has sent commands of one byte.
-fn host_after(rt: &impl Abort, commands: &[Command<'_>]) -> Host {
-    let mut host = Host::new();
-    for command in commands {
-        assert!(rt; host.send(command, &mut [0]) == Ok(1));
+fn has_picture(host: &Host, placement: &str) -> bool {
+    match (host.picture(), Position::parse_placement(placement)) {
+        (Some(picture), Ok(position)) => *picture == position,
+        _ => false,
     }
-    host
+}
+
+/// Does what the step says, and returns whether the host did and is what it says.
+fn comes_true(host: &mut Host, step: Step) -> bool {
+    match step {
+        Writes(ask, room, bytes) => writes(host, ask, room, bytes),
+        WritesNothing(ask, room, fault) => writes_nothing(host, ask, room, fault),
+        AsksFor(times, kind) => asks_for(host, times, kind),
+        Hears(bytes, seen) => hears(host, bytes.len(), bytes, false, seen),
+        HearsFirst(used, bytes, seen) => hears(host, used, bytes, false, seen),
+        HearsUnasked(bytes, seen) => hears(host, bytes.len(), bytes, true, seen),
+        LosesLine => {
+            host.line_lost();
+            true
+        }
+        GivesUp(count) => host.give_up_awaited() == count,
+        Awaits(kinds) => host.awaited() == kinds,
+        HasPicture(placement) => has_picture(host, placement),
+        HasNoPicture => host.picture().is_none(),
+        KnowsClock(told) => told_of(host) == told,
+        Holds(count) => host.unread() == count,
+    }
+}
+
+/// A conversation of a new host.
+#[derive(Clone, Copy)]
+struct Scene {
+    name: &'static str,
+    steps: &'static [Step],
+}
+
+fn play_all(rt: &impl Abort, scenes: &[Scene]) {
+    for scene in scenes {
+        let name = scene.name;
+        let mut host = Host::new();
+        for (number, step) in scene.steps.iter().enumerate() {
+            let number = number.saturating_add(1);
+            assert!(rt; comes_true(&mut host, *step), "{name}: step {number}");
+        }
+    }
+}
+
+const SENDING: [Scene; 4] = [
+    Scene {
+        name: "sending",
+        steps: &[
+            WritesNothing(Ask::For(Kind::Dump), 0, SendFault::NoRoom { need: 1 }),
+            Writes(Ask::For(Kind::Dump), 3, &[0x42]),
+            Writes(Ask::Reset, 2, &[0x40]),
+            Awaits(&[Kind::Dump]),
+        ],
+    },
+    Scene {
+        name: "following",
+        steps: &[
+            WritesNothing(Ask::Follow, 1, SendFault::NoRoom { need: 2 }),
+            Awaits(&[]),
+            Writes(Ask::Follow, 2, &[0x44, 0x42]),
+            Awaits(&[Kind::Dump]),
+        ],
+    },
+    Scene {
+        name: "sixteen replies awaited",
+        steps: &[
+            AsksFor(16, Kind::Serial),
+            Awaits(&[Kind::Serial; 16]),
+            WritesNothing(Ask::For(Kind::Version), 0, SendFault::TooMany),
+            WritesNothing(Ask::Follow, 0, SendFault::TooMany),
+            WritesNothing(Ask::Restart, 0, SendFault::TooMany),
+            Writes(Ask::Reset, 1, &[0x40]),
+            Awaits(&[Kind::Serial; 16]),
+        ],
+    },
+    Scene {
+        name: "awaited replies are given up",
+        steps: &[
+            AsksFor(1, Kind::Dump),
+            AsksFor(1, Kind::Version),
+            AsksFor(1, Kind::Serial),
+            Hears(&DUMP, Seen::Dump),
+            Hears(&VERSION_HEAD, Seen::Unfinished),
+            GivesUp(2),
+            Awaits(&[]),
+            HasPicture(START),
+            Holds(2),
+            HearsUnasked(&VERSION_END, Seen::Version(1, 3)),
+        ],
+    },
+];
+
+const HEARING: [Scene; 8] = [
+    Scene {
+        name: "a version that nobody asked for",
+        steps: &[HearsUnasked(&VERSION, Seen::Version(1, 3)), Awaits(&[])],
+    },
+    Scene {
+        name: "a version before the dump that is awaited first",
+        steps: &[
+            AsksFor(1, Kind::Dump),
+            AsksFor(1, Kind::Version),
+            HearsUnasked(&VERSION, Seen::Version(1, 3)),
+            Awaits(&[Kind::Dump, Kind::Version]),
+            Hears(&DUMP, Seen::Dump),
+            Awaits(&[Kind::Version]),
+            Hears(&VERSION, Seen::Version(1, 3)),
+            Awaits(&[]),
+        ],
+    },
+    Scene {
+        name: "a long serial that was asked for",
+        steps: &[
+            Writes(Ask::For(Kind::LongSerial), 1, &[0x55]),
+            Awaits(&[Kind::LongSerial]),
+            Hears(&LONG_SERIAL, Seen::LongSerial),
+            Awaits(&[]),
+        ],
+    },
+    Scene {
+        name: "a field before the dump and after it",
+        steps: &[
+            Hears(&FIELD, Seen::Field),
+            HasNoPicture,
+            HearsUnasked(&DUMP, Seen::Dump),
+            HasPicture(START),
+            Hears(&FIELD, Seen::Field),
+            HasPicture(E4_ADDED),
+        ],
+    },
+    Scene {
+        name: "a dump that is refused",
+        steps: &[
+            AsksFor(1, Kind::Dump),
+            Hears(&BAD_DUMP, Seen::Refused),
+            Awaits(&[Kind::Dump]),
+            HasNoPicture,
+        ],
+    },
+    Scene {
+        name: "two dumps of which one was asked for",
+        steps: &[
+            AsksFor(1, Kind::Dump),
+            Hears(&DUMP, Seen::Dump),
+            HearsUnasked(&DUMP, Seen::Dump),
+            Awaits(&[]),
+            HasPicture(START),
+        ],
+    },
+    Scene {
+        name: "a clock in two chunks",
+        steps: &[
+            Hears(&[0x8d, 0x00, 0x0a, 0x01], Seen::Unfinished),
+            Holds(4),
+            KnowsClock(Told::Nothing),
+            Hears(&[0x30, 0x00, 0x01, 0x29, 0x55, 0x11], Seen::Clock),
+            Holds(0),
+            KnowsClock(Told::Times([1, 30, 0, 1, 29, 55])),
+            Hears(&NO_CLOCK, Seen::Clock),
+            KnowsClock(Told::NoClock),
+        ],
+    },
+    Scene {
+        name: "a lost line makes it as new",
+        steps: &[
+            AsksFor(1, Kind::Dump),
+            AsksFor(1, Kind::Version),
+            AsksFor(1, Kind::Dump),
+            Hears(&DUMP, Seen::Dump),
+            Hears(&TIMES, Seen::Clock),
+            // a field that is half heard
+            Hears(&[0x8e, 0x00, 0x05], Seen::Unfinished),
+            LosesLine,
+            HasNoPicture,
+            KnowsClock(Told::Nothing),
+            Awaits(&[]),
+            Holds(0),
+            // what is left of the field is stray
+            HearsFirst(1, &[0x24, 0x01], Seen::Stray(0x24)),
+            // and the host follows anew
+            Writes(Ask::Follow, 2, &[0x44, 0x42]),
+            Hears(&DUMP, Seen::Dump),
+            HasPicture(START),
+            Awaits(&[]),
+        ],
+    },
+];
+
+#[test]
+fn hosts_send(rt: HostRuntime) {
+    play_all(&rt, &SENDING);
 }
 
 #[test]
-fn a_version_that_nobody_asked_for(rt: HostRuntime) {
-    let mut host = Host::new();
-    let heard = host.hear(&VERSION);
-    assert_eq!(rt; heard.used, 5);
-    assert!(rt; is_version(&heard));
-    assert!(rt; heard.unasked);
-    assert!(rt; host.awaited().is_empty());
-}
-
-#[test]
-fn a_version_before_the_dump_that_is_awaited_first(rt: HostRuntime) {
-    let mut host = host_after(&rt, &[Command::Dump, Command::Version]);
-    let heard = host.hear(&VERSION);
-    assert!(rt; is_version(&heard));
-    assert!(rt; heard.unasked);
-    assert_eq!(rt; host.awaited(), [Kind::Dump, Kind::Version].as_slice());
-    assert!(rt; !host.hear(&DUMP).unasked);
-    assert_eq!(rt; host.awaited(), [Kind::Version].as_slice());
-    assert!(rt; !host.hear(&VERSION).unasked);
-    assert!(rt; host.awaited().is_empty());
-}
-
-#[test]
-fn sending(rt: HostRuntime) {
-    let mut host = Host::new();
-    assert_eq!(rt;
-        host.send(&Command::Dump, &mut []),
-        Err(SendFault::NoRoom { need: 1 })
-    );
-    let mut out = [0xff; 3];
-    assert_eq!(rt; host.send(&Command::Dump, &mut out), Ok(1));
-    assert_eq!(rt; host.send(&Command::Reset, &mut out[1..]), Ok(1));
-    assert_eq!(rt; out, [0x42, 0x40, 0xff]);
-    assert_eq!(rt; host.awaited(), [Kind::Dump].as_slice());
-}
-
-#[test]
-fn following(rt: HostRuntime) {
-    let mut host = Host::new();
-    assert_eq!(rt; host.follow(&mut [0]), Err(SendFault::NoRoom { need: 2 }));
-    assert!(rt; host.awaited().is_empty());
-    let mut out = [0; 2];
-    assert_eq!(rt; host.follow(&mut out), Ok(2));
-    assert_eq!(rt; out, [0x44, 0x42]);
-    assert_eq!(rt; host.awaited(), [Kind::Dump].as_slice());
+fn hosts_hear(rt: HostRuntime) {
+    play_all(&rt, &HEARING);
 }
 
 #[test]
@@ -121,125 +427,19 @@ fn restarting(rt: HostRuntime) {
 }
 
 #[test]
-fn a_long_serial_that_was_asked_for(rt: HostRuntime) {
+fn whole_pieces_at_once(rt: HostRuntime) {
     let mut host = Host::new();
-    let mut out = [0];
-    assert_eq!(rt; host.send(&Command::LongSerial, &mut out), Ok(1));
-    assert_eq!(rt; out, [0x55]);
-    assert_eq!(rt; host.awaited(), [Kind::LongSerial].as_slice());
-    let heard = host.hear(&LONG_SERIAL);
-    assert_eq!(rt; heard.used, 13);
-    assert!(rt; !heard.unasked);
-    assert!(rt; matches!(heard.event, Some(Event::Message(Message::LongSerial(_)))));
-    assert!(rt; host.awaited().is_empty());
-}
-
-#[test]
-fn sixteen_replies_awaited(rt: HostRuntime) {
-    let mut host = host_after(&rt, &[Command::Serial; 16]);
-    assert_eq!(rt; host.awaited(), [Kind::Serial; 16].as_slice());
-    assert_eq!(rt;
-        host.send(&Command::Version, &mut []),
-        Err(SendFault::TooMany)
-    );
-    assert_eq!(rt; host.follow(&mut []), Err(SendFault::TooMany));
-    assert_eq!(rt; host.restart(&mut []), Err(SendFault::TooMany));
-    assert_eq!(rt; host.send(&Command::Reset, &mut [0]), Ok(1));
-    assert_eq!(rt; host.awaited().len(), 16);
-}
-
-#[test]
-fn a_field_before_the_dump_and_after_it(rt: HostRuntime) {
-    let mut host = Host::new();
-    assert!(rt; !host.hear(&FIELD).unasked);
+    host.hear_all(&[]);
+    host.hear_all(&DUMP[..60]);
+    assert_eq!(rt; host.unread(), 60);
     assert!(rt; host.picture().is_none());
-    assert!(rt; host.hear(&DUMP).unasked);
-    assert!(rt; is_start(&host));
-    assert!(rt; !host.hear(&FIELD).unasked);
-    let e4 = Square::parse("e4");
-    let right = match (host.picture(), e4) {
-        (Some(picture), Ok(e4)) => picture.get(e4) == Piece::WhitePawn,
-        _ => false,
-    };
-    assert!(rt; right);
-}
-
-#[test]
-fn a_dump_that_is_refused(rt: HostRuntime) {
-    let mut bytes = DUMP;
-    bytes[66] = 0x10;
-    let mut host = host_after(&rt, &[Command::Dump]);
-    let heard = host.hear(&bytes);
-    assert_eq!(rt; heard.used, 67);
-    assert!(rt; matches!(heard.event, Some(Event::Refused { .. })));
-    assert!(rt; !heard.unasked);
-    assert_eq!(rt; host.awaited(), [Kind::Dump].as_slice());
-    assert!(rt; host.picture().is_none());
-}
-
-#[test]
-fn two_dumps_where_one_was_asked_for(rt: HostRuntime) {
-    let mut host = host_after(&rt, &[Command::Dump]);
-    assert!(rt; !host.hear(&DUMP).unasked);
-    assert!(rt; host.hear(&DUMP).unasked);
-    assert!(rt; host.awaited().is_empty());
-    assert!(rt; is_start(&host));
-}
-
-#[test]
-fn a_clock_in_pieces(rt: HostRuntime) {
-    let times = [0x8d, 0x00, 0x0a, 0x01, 0x30, 0x00, 0x01, 0x29, 0x55, 0x11];
-    let mut host = Host::new();
-    let heard = host.hear(&times[..4]);
-    assert_eq!(rt; heard.used, 4);
-    assert!(rt; heard.event.is_none());
-    assert_eq!(rt; host.unread(), 4);
-    assert!(rt; host.clock().is_none());
-    let heard = host.hear(&times[4..]);
-    assert_eq!(rt; heard.used, 6);
-    assert!(rt; !heard.unasked);
-    assert_eq!(rt; host.unread(), 0);
-    let right = match host.clock() {
-        Some(Clock::Times(times)) => times.first().minutes() == 30
-            && times.second().seconds() == 55,
-        _ => false,
-    };
-    assert!(rt; right);
-    let no_clock = [0x8d, 0x00, 0x0a, 0x00, 0x00, 0x00, 0x00, 0x00, 0x00, 0x20];
-    assert!(rt; !host.hear(&no_clock).unasked);
-    assert!(rt; matches!(host.clock(), Some(Clock::NoClock(_))));
-}
-
-#[test]
-fn a_lost_line_makes_it_as_new(rt: HostRuntime) {
-    let times = [0x8d, 0x00, 0x0a, 0x01, 0x30, 0x00, 0x01, 0x29, 0x55, 0x11];
-    let mut host = host_after(&rt, &[Command::Dump, Command::Version, Command::Dump]);
-    assert_eq!(rt; host.hear(&DUMP).used, 67);
-    assert_eq!(rt; host.hear(&times).used, 10);
-    // a field that is half heard
-    assert_eq!(rt; host.hear(&FIELD[..3]).used, 3);
-    host.line_lost();
-    assert!(rt; host.picture().is_none());
-    assert!(rt; host.clock().is_none());
-    assert!(rt; host.awaited().is_empty());
-    assert_eq!(rt; host.unread(), 0);
-    // what is left of the field is stray
-    let heard = host.hear(&FIELD[3..]);
-    assert_eq!(rt; heard.used, 1);
-    assert!(rt; matches!(heard.event, Some(Event::Stray(0x24))));
-    // and the host follows anew
-    assert_eq!(rt; host.follow(&mut [0; 2]), Ok(2));
-    assert!(rt; !host.hear(&DUMP).unasked);
-    assert!(rt; is_start(&host));
-    assert!(rt; host.awaited().is_empty());
-}
-
-/// What a host knows of the clock: hours, minutes and seconds of both.
-#[derive(Clone, Copy, Debug, PartialEq, Eq)]
-enum Told {
-    Nothing,
-    NoClock,
-    Times([u8; 6]),
+    host.hear_all(&DUMP[60..]);
+    assert!(rt; has_picture(&host, START));
+    host.hear_all(&[
+        0x8e, 0x00, 0x05, 0x34, 0x00, 0x8e, 0x00, 0x05, 0x24, 0x01, 0x07, 0x8e,
+    ]);
+    assert!(rt; has_picture(&host, E4_PLAYED));
+    assert_eq!(rt; host.unread(), 1);
 }
 
 /// What a host asks, and the messages that it then hears, some of them broken: how many whole ones
@@ -257,16 +457,6 @@ struct Row {
     told: Told,
     unread: usize,
 }
-
-const START: &str = "rnbqkbnr/pppppppp/8/8/8/8/PPPPPPPP/RNBQKBNR";
-
-const E4_ADDED: &str = "rnbqkbnr/pppppppp/8/8/4P3/8/PPPPPPPP/RNBQKBNR";
-
-const TIMES: [u8; 10] = [0x8d, 0x00, 0x0a, 0x01, 0x30, 0x00, 0x01, 0x29, 0x55, 0x11];
-
-const NO_CLOCK: [u8; 10] = [0x8d, 0x00, 0x0a, 0x00, 0x00, 0x00, 0x00, 0x00, 0x00, 0x20];
-
-const ACK: [u8; 10] = [0x8d, 0x00, 0x0a, 0x0a, 0x10, 0x08, 0x2a, 0x00, 0x31, 0x00];
 
 const ROWS: [Row; 8] = [
     // a field before the dump, and after it
@@ -380,102 +570,101 @@ fn joined(alloc: Global, parts: &[&[u8]]) -> Result<Vec<u8>, AllocError> {
     Ok(bytes)
 }
 
-/// The host hears a piece, and tells what a decoder tells of its bytes one by one. Answers how many
-/// messages nobody asked for.
-fn hear_all(rt: &impl Abort, host: &mut Host, decoder: &mut Decoder, piece: &[u8]) -> usize {
-    let mut left = piece;
+/// Whether a decoder, which is given these bytes one by one, reads this event at the last of them
+/// and none before.
+fn reads(decoder: &mut Decoder, bytes: &[u8], event: Option<Event<'_>>) -> bool {
+    let Some((last, before)) = bytes.split_last() else {
+        return false;
+    };
+    for byte in before {
+        if decoder.feed(&[*byte]).event.is_some() {
+            return false;
+        }
+    }
+    decoder.feed(&[*last]).event == event
+}
+
+/// The host hears a chunk, and returns what a decoder makes of its bytes one by one: how many
+/// messages nobody asked for, or `None` if the two differ.
+fn hear_all(host: &mut Host, decoder: &mut Decoder, chunk: &[u8]) -> Option<usize> {
+    let mut left = chunk;
     let mut unasked = 0_usize;
-    for _ in 0..piece.len() {
+    for _ in 0..chunk.len() {
+        if left.is_empty() {
+            break;
+        }
         let heard = host.hear(left);
         if heard.unasked {
             unasked = unasked.saturating_add(1);
         }
         let (used, rest) = left.split_at(heard.used);
         left = rest;
-        let Some((last, front)) = used.split_last() else {
-            break;
-        };
-        for byte in front {
-            assert!(rt; decoder.feed(&[*byte]).event.is_none());
+        if !reads(decoder, used, heard.event) {
+            return None;
         }
-        assert_eq!(rt; heard.event, decoder.feed(&[*last]).event);
     }
-    assert!(rt; left.is_empty());
-    assert_eq!(rt; host.unread(), decoder.rest());
-    unasked
+    (left.is_empty() && host.unread() == decoder.rest()).then_some(unasked)
 }
 
 /// A host that has asked for these.
-fn host_asking(rt: &impl Abort, kinds: &[Kind]) -> Host {
+fn host_asking(kinds: &[Kind]) -> Option<Host> {
     let mut host = Host::new();
     for kind in kinds {
-        let command = match kind {
-            Kind::Dump => Command::Dump,
-            Kind::Serial => Command::Serial,
-            Kind::Trademark => Command::Trademark,
-            Kind::Version => Command::Version,
-            Kind::Battery => Command::Battery,
-            Kind::LongSerial => Command::LongSerial,
-        };
-        assert!(rt; host.send(&command, &mut [0]) == Ok(1));
-    }
-    host
-}
-
-fn told_of(host: &Host) -> Told {
-    match host.clock() {
-        Some(Clock::Times(times)) => {
-            let (first, second) = (times.first(), times.second());
-            Told::Times([
-                first.hours(),
-                first.minutes(),
-                first.seconds(),
-                second.hours(),
-                second.minutes(),
-                second.seconds(),
-            ])
+        if !asks_for(&mut host, 1, *kind) {
+            return None;
         }
-        Some(Clock::NoClock(_)) => Told::NoClock,
-        None => Told::Nothing,
     }
+    Some(host)
 }
 
-fn assert_left_as(rt: &impl Abort, host: &Host, row: &Row) -> Result<(), Fail> {
-    let picture = match row.picture {
-        Some(placement) => Some(Position::parse_placement(placement)?),
-        None => None,
+fn is_left_as(host: &Host, row: &Row) -> bool {
+    let is_pictured = match row.picture {
+        Some(placement) => has_picture(host, placement),
+        None => host.picture().is_none(),
     };
-    assert!(rt; host.picture() == picture.as_ref());
-    assert_eq!(rt; told_of(host), row.told);
-    assert_eq!(rt; host.awaited(), row.awaited);
-    assert_eq!(rt; host.unread(), row.unread);
-    Ok(())
+    is_pictured
+        && told_of(host) == row.told
+        && host.awaited() == row.awaited
+        && host.unread() == row.unread
 }
 
-/// The bytes of a row, cut into two at this place, and whole behind those before it.
-fn assert_row_at(rt: &impl Abort, row: &Row, bytes: &[u8], place: usize) -> Result<(), Fail> {
-    let Some((front, back)) = bytes.split_at_checked(place) else {
-        return Err(Fail::from("no such place"));
+/// Whether a host that hears these chunks is left as the row says; `None` if it can't hear them.
+fn hears_in_two(row: &Row, front: &[u8], back: &[u8]) -> Option<bool> {
+    let mut decoder = Decoder::new();
+    let mut host = host_asking(row.asked)?;
+    let before = hear_all(&mut host, &mut decoder, front)?;
+    let after = hear_all(&mut host, &mut decoder, back)?;
+    Some(before.saturating_add(after) == row.unasked && is_left_as(&host, row))
+}
+
+/// The same of a host that hears a part of the bytes, and then all of them.
+fn hears_after_part(row: &Row, part: &[u8], bytes: &[u8]) -> Option<bool> {
+    let mut decoder = Decoder::new();
+    let mut host = host_asking(row.asked)?;
+    hear_all(&mut host, &mut decoder, part)?;
+    hear_all(&mut host, &mut decoder, bytes)?;
+    Some(is_left_as(&host, row))
+}
+
+/// The bytes of a row, cut into two at this place, and whole after those before it.
+fn assert_row_at(rt: &impl Abort, number: usize, row: &Row, bytes: &[u8], place: usize) {
+    let (is_cut, is_after) = match bytes.split_at_checked(place) {
+        Some((front, back)) => (
+            hears_in_two(row, front, back) == Some(true),
+            hears_after_part(row, front, bytes) == Some(true),
+        ),
+        None => (false, false),
     };
-    let mut decoder = Decoder::new();
-    let mut host = host_asking(rt, row.asked);
-    let before = hear_all(rt, &mut host, &mut decoder, front);
-    let behind = hear_all(rt, &mut host, &mut decoder, back);
-    assert_eq!(rt; before.saturating_add(behind), row.unasked);
-    assert_left_as(rt, &host, row)?;
-    let mut decoder = Decoder::new();
-    let mut host = host_asking(rt, row.asked);
-    hear_all(rt, &mut host, &mut decoder, front);
-    hear_all(rt, &mut host, &mut decoder, bytes);
-    assert_left_as(rt, &host, row)
+    assert!(rt; is_cut, "row {number}, cut at {place}");
+    assert!(rt; is_after, "row {number}, after {place} bytes of it");
 }
 
 #[test]
-fn messages_in_two_pieces_and_behind_parts(rt: HostRuntime) -> Result<(), Fail> {
-    for row in &ROWS {
+fn messages_in_two_chunks_and_after_parts(rt: HostRuntime) -> Result<(), Fail> {
+    for (number, row) in ROWS.iter().enumerate() {
         let bytes = joined(rt.alloc(), row.parts)?;
         for place in 0..=bytes.len() {
-            assert_row_at(&rt, row, &bytes, place)?;
+            assert_row_at(&rt, number, row, &bytes, place);
         }
     }
     Ok(())
@@ -494,8 +683,8 @@ fn the_longest_message_cut_off_by_a_field(rt: HostRuntime) -> Result<(), Fail> {
     };
     let bytes = joined(rt.alloc(), row.parts)?;
     for place in 0..=40 {
-        assert_row_at(&rt, &row, &bytes, place)?;
-        assert_row_at(&rt, &row, &bytes, bytes.len().saturating_sub(place))?;
+        assert_row_at(&rt, 0, &row, &bytes, place);
+        assert_row_at(&rt, 0, &row, &bytes, bytes.len().saturating_sub(place));
     }
     Ok(())
 }
@@ -516,59 +705,8 @@ fn a_flood_that_nobody_asked_for(rt: HostRuntime) -> Result<(), Fail> {
     }
     for _ in 0..1000 {
         assert!(rt; host.hear(&DUMP).unasked);
-        assert!(rt; host.awaited().is_empty() && is_start(&host));
+        assert!(rt; host.awaited().is_empty() && has_picture(&host, START));
     }
     assert!(rt; host.clock().is_none());
-    Ok(())
-}
-
-#[test]
-fn texts_of_faults(rt: HostRuntime) -> Result<(), Fail> {
-    for (fault, want) in [
-        (SendFault::TooMany, "16 replies are awaited already"),
-        (SendFault::NoRoom { need: 1 }, "this takes 1 bytes of room"),
-        (
-            SendFault::NoRoom { need: 257 },
-            "this takes 257 bytes of room",
-        ),
-    ] {
-        assert_eq!(rt; fault.to_string(rt.alloc())?.as_str(), want);
-    }
-    Ok(())
-}
-
-#[test]
-fn whole_pieces_at_once(rt: HostRuntime) -> Result<(), Fail> {
-    let mut host = Host::new();
-    host.hear_all(&[]);
-    host.hear_all(&DUMP[..60]);
-    assert_eq!(rt; host.unread(), 60);
-    assert!(rt; host.picture().is_none());
-    host.hear_all(&DUMP[60..]);
-    assert!(rt; is_start(&host));
-    host.hear_all(&[
-        0x8e, 0x00, 0x05, 0x34, 0x00, 0x8e, 0x00, 0x05, 0x24, 0x01, 0x07, 0x8e,
-    ]);
-    let mut moved = Position::start();
-    moved.set(Square::parse("e2")?, Piece::Empty);
-    moved.set(Square::parse("e4")?, Piece::WhitePawn);
-    assert!(rt; host.picture() == Some(&moved));
-    assert_eq!(rt; host.unread(), 1);
-    Ok(())
-}
-
-// A host gives up what it awaits, and keeps its picture and what it has heard of a message. A reply
-// that comes later is unasked.
-#[test]
-fn awaited_replies_are_given_up(rt: HostRuntime) -> Result<(), Fail> {
-    let mut host = host_after(&rt, &[Command::Dump, Command::Version, Command::Serial]);
-    host.hear_all(&DUMP);
-    host.hear_all(&VERSION[..2]);
-    assert_eq!(rt; host.give_up_awaited(), 2);
-    assert!(rt; host.awaited().is_empty());
-    assert!(rt; is_start(&host));
-    assert_eq!(rt; host.unread(), 2);
-    let heard = host.hear(&VERSION[2..]);
-    assert!(rt; is_version(&heard) && heard.unasked);
     Ok(())
 }

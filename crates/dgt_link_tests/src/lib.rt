@@ -11,4 +11,6 @@ mod followers;
 #[cfg(test)]
 mod hosts;
 #[cfg(test)]
+mod texts;
+#[cfg(test)]
 mod worlds;
