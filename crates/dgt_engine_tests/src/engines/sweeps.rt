@@ -1,48 +1,36 @@
 //! Runs in which something fails, at each place where it can.
 
 use crate::engines::devices::{Lender, Recorder};
-use crate::engines::serving::{BATTERY, SERIAL, TRADEMARK, VERSION, ZERO_TIMES, new_board};
-use crate::engines::simulating::{NEW_LINES, new_world};
+use crate::engines::engine::{Engine, asked_board, new_world};
+use crate::engines::messages::{
+    BATTERY, FIELD, NEW_LINES, SERIAL, START, START_LINE, TRADEMARK, VERSION, ZERO_TIMES,
+};
 use crate::engines::troubles::{TROUBLES, Text, Trial, Trouble};
-use crate::engines::{FIELD, START, START_LINE};
 use dgt_board::{Board, Polled};
 use dgt_link::World;
-use dgt_text::{RunFault, commands, monitor, picture, read_act, serve, simulate};
-use std::alloc::Global;
+use dgt_text::{RunFault, read_act, serve, simulate};
+use std::alloc::{AllocGlobal, Global};
 use std::process::Abort;
 use std::test::Fail;
 
 // The most bytes in a read and in a write.
 const STEPS: [usize; 3] = [1, 2, 64];
 
-// What prints what a board or a host sends.
-#[derive(Clone, Copy)]
-enum Teller {
-    Monitor,
-    Picture,
-    Commands,
-}
-
-impl Teller {
-    fn run(self, source: &mut Lender<'_>, sink: &mut Recorder, limit: u32) -> Result<(), RunFault> {
-        match self {
-            Teller::Monitor => monitor(source, sink, limit),
-            Teller::Picture => picture(source, sink, limit),
-            Teller::Commands => commands(source, sink, limit),
-        }
-    }
-}
-
 // A run over a source and a sink in which something fails.
 trait Run {
     // Makes one run, at most `step` bytes in a read and in a write, looks at all that it leaves,
     // and tells whether it met its trouble.
-    fn meets(&self, rt: &impl Abort, step: usize, trial: Trial) -> Result<bool, Fail>;
+    fn meets(
+        &self,
+        rt: &(impl Abort + AllocGlobal),
+        step: usize,
+        trial: Trial,
+    ) -> Result<bool, Fail>;
 }
 
 // Makes a run with the trouble at each place in turn, up to one that is behind its end.
 fn sweep_places<R: Run>(
-    rt: &impl Abort,
+    rt: &(impl Abort + AllocGlobal),
     run: &R,
     step: usize,
     trouble: Trouble,
@@ -56,7 +44,7 @@ fn sweep_places<R: Run>(
     Ok(())
 }
 
-fn sweep<R: Run>(rt: &impl Abort, run: &R) -> Result<(), Fail> {
+fn sweep<R: Run>(rt: &(impl Abort + AllocGlobal), run: &R) -> Result<(), Fail> {
     for step in STEPS {
         for trouble in TROUBLES {
             sweep_places(rt, run, step, trouble)?;
@@ -67,16 +55,21 @@ fn sweep<R: Run>(rt: &impl Abort, run: &R) -> Result<(), Fail> {
 
 #[derive(Drop)]
 struct Telling<'a> {
-    teller: Teller,
+    engine: Engine<'static>,
     text: Text<'a>,
 }
 
 impl Run for Telling<'_> {
-    fn meets(&self, rt: &impl Abort, step: usize, trial: Trial) -> Result<bool, Fail> {
+    fn meets(
+        &self,
+        rt: &(impl Abort + AllocGlobal),
+        step: usize,
+        trial: Trial,
+    ) -> Result<bool, Fail> {
         let input = self.text.input()?;
         let (mut source, mut sink, limit) = trial.ends(input.as_slice(), step);
         sink.step = step;
-        let answer = self.teller.run(&mut source, &mut sink, limit);
+        let answer = self.engine.run(rt, &mut source, &mut sink, limit)?;
         let is_met = trial.is_met(rt, &source, &sink, answer, Ok(()));
         let is_torn = is_met && trial.trouble.tears();
         self.text.assert_written(rt, &source, &sink, is_torn)?;
@@ -110,8 +103,8 @@ fn a_monitor_meets_each_trouble_at_each_place(rt: HostRuntime) -> Result<(), Fai
     ];
     for (rows, last) in rows {
         let text = Text { rows, last };
-        let teller = Teller::Monitor;
-        sweep(&rt, &Telling { teller, text })?;
+        let engine = Engine::Monitor;
+        sweep(&rt, &Telling { engine, text })?;
     }
     Ok(())
 }
@@ -135,8 +128,8 @@ fn a_picture_meets_each_trouble_at_each_place(rt: HostRuntime) -> Result<(), Fai
         rows: &rows,
         last: b"",
     };
-    let teller = Teller::Picture;
-    sweep(&rt, &Telling { teller, text })
+    let engine = Engine::Picture;
+    sweep(&rt, &Telling { engine, text })
 }
 
 #[test]
@@ -161,8 +154,8 @@ fn commands_meet_each_trouble_at_each_place(rt: HostRuntime) -> Result<(), Fail>
     ];
     for (rows, last) in rows {
         let text = Text { rows, last };
-        let teller = Teller::Commands;
-        sweep(&rt, &Telling { teller, text })?;
+        let engine = Engine::Commands;
+        sweep(&rt, &Telling { engine, text })?;
     }
     Ok(())
 }
@@ -183,10 +176,7 @@ fn send_some(board: &mut Board, most: usize) -> usize {
 // A board that was asked these questions, then took these bytes, and sent at most so many messages,
 // each as soon as it could.
 fn board_after(asked: &[u8], bytes: &[u8], most: usize) -> Result<Board, Fail> {
-    let mut board = new_board()?;
-    for byte in asked {
-        board.take(&[*byte])?;
-    }
+    let mut board = asked_board(asked)?;
     let mut left = send_some(&mut board, most);
     for byte in bytes {
         board.take(&[*byte])?;
@@ -241,7 +231,12 @@ impl Serving<'_> {
 }
 
 impl Run for Serving<'_> {
-    fn meets(&self, rt: &impl Abort, step: usize, trial: Trial) -> Result<bool, Fail> {
+    fn meets(
+        &self,
+        rt: &(impl Abort + AllocGlobal),
+        step: usize,
+        trial: Trial,
+    ) -> Result<bool, Fail> {
         let input = self.text.input()?;
         let mut board = board_after(self.asked, &[], 0)?;
         let (mut source, mut sink, limit) = trial.ends(input.as_slice(), step);
@@ -331,7 +326,6 @@ fn lines_ended(text: Text<'_>, source: &Lender<'_>) -> usize {
 
 #[derive(Drop)]
 struct Playing<'a> {
-    alloc: Global,
     text: Text<'a>,
     whole: Result<(), RunFault>,
 }
@@ -353,9 +347,14 @@ fn lines_played(
 }
 
 impl Run for Playing<'_> {
-    fn meets(&self, rt: &impl Abort, step: usize, trial: Trial) -> Result<bool, Fail> {
+    fn meets(
+        &self,
+        rt: &(impl Abort + AllocGlobal),
+        step: usize,
+        trial: Trial,
+    ) -> Result<bool, Fail> {
         let input = self.text.input()?;
-        let mut world = new_world(self.alloc)?;
+        let mut world = new_world(rt.alloc())?;
         let (mut source, mut sink, limit) = trial.ends(input.as_slice(), step);
         sink.step = step;
         let answer = simulate(&mut world, &mut source, &mut sink, limit);
@@ -363,7 +362,7 @@ impl Run for Playing<'_> {
         let is_torn = is_met && trial.trouble.tears();
         self.text.assert_written(rt, &source, &sink, is_torn)?;
         let lines = lines_played(self.text, input.len(), &source, &sink, is_torn);
-        assert_same_world(rt, &world, &world_after(self.alloc, self.text, lines)?);
+        assert_same_world(rt, &world, &world_after(rt.alloc(), self.text, lines)?);
         Ok(is_met)
     }
 }
@@ -399,8 +398,8 @@ fn a_script_meets_each_trouble_at_each_place(rt: HostRuntime) -> Result<(), Fail
         (&[], NEW_LINES, Ok(())),
     ];
     for (rows, last, whole) in rows {
-        let (alloc, text) = (rt.alloc(), Text { rows, last });
-        sweep(&rt, &Playing { alloc, text, whole })?;
+        let text = Text { rows, last };
+        sweep(&rt, &Playing { text, whole })?;
     }
     Ok(())
 }
