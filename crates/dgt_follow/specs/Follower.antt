@@ -1,5 +1,5 @@
 -- What contracts see of a follower, what it makes of the bytes that it hears, and what it asks.
-use Rattle.std.specs.Prelude.{◌≡◌, ℕ, ◌<◌, ◌≤◌, List, [], ◌∷◌, ◌++◌, length, drop, Some, Result, Ok, Err}
+use Rattle.std.specs.Prelude.{◌≡◌, ℕ, List, [], ◌∷◌, ◌++◌, Some, Result, Ok, Err}
 use Rattle.dgt_values.specs.Bytes.{WritesFront}
 use Rattle.dgt_values.specs.declared.kinds.Kind.{Kind}
 use Rattle.dgt_values.specs.declared.refusals.NoRoom.{NoRoom}

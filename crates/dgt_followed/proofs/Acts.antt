@@ -1,6 +1,5 @@
 -- What a follower writes when it asks is acts of a faulty world.
-use Rattle.std.proofs.Common.{◌≡◌, ◌+◌, ◌<◌, ◌≤◌, Bool, true, false, not, ◌&&◌, if◌then◌else◌, nat_le, nat_lt, Some, None, Ok, refl, sym, ap, subst, zero, suc, ◌∙◌, ℕ, List, [], ◌∷◌, ◌++◌, append_assoc, append-nil, length, take, drop, rules, arith}
-use Rattle.std.specs.Prelude.{slice_index as nth}
+use Rattle.std.proofs.Common.{◌≡◌, ◌<◌, Bool, true, false, not, ◌&&◌, if◌then◌else◌, nat_le, nat_lt, Some, None, Ok, refl, sym, ap, subst, zero, suc, ◌∙◌, ℕ, List, [], ◌∷◌, ◌++◌, append_assoc, append-nil, length, take, drop, rules, arith}
 use Rattle.std.proofs.lemmas.List.{length-append, take_at}
 use Rattle.dgt_values.specs.declared.kinds.Kind.{Kind}
 use Rattle.dgt_command.specs.Content.{CommandContent}

@@ -1,5 +1,5 @@
 -- What the calls of a follower do is what happens to it and to the world of its host.
-use Rattle.std.proofs.Common.{◌≡◌, ◌<◌, false, Ok, refl, sym, ap, subst, ◌∙◌, ℕ, List, length, take, drop, ◌++◌, rules}
+use Rattle.std.proofs.Common.{◌≡◌, ◌<◌, false, Ok, refl, ap, ℕ, List, length, take, rules}
 use Rattle.dgt_command.specs.Content.{CommandContent, kind_of_command}
 use Rattle.dgt_command.specs.Spelling.{SpellsCommand, command_spelling}
 use Rattle.dgt_host.specs.Host.{HostView, Sends, host_after, host_awaiting}
@@ -7,9 +7,9 @@ use Rattle.dgt_follow.specs.Pace.{KeepsCount, asking_bytes}
 use Rattle.dgt_follow.specs.Follower.{Asks, FollowerView, asking_of, follower_after}
 use Rattle.dgt_link.specs.declared.acts.Outcome.{Outcome}
 use Rattle.dgt_link.specs.Act.{ActContent}
-use Rattle.dgt_link.specs.Faults.{FaultyContent, FaultyStep}
+use Rattle.dgt_link.specs.Faults.{FaultyContent}
 use Rattle.dgt_link.specs.Step.{moves_nothing}
-use Rattle.dgt_link.specs.View.{LineContents, WorldView, with_bytes, without_first}
+use Rattle.dgt_link.specs.View.{LineContents, with_bytes, without_first}
 use Rattle.dgt_followed.specs.Followed.{FollowedStep, FollowedView, Happening, HasRoom, count_after, count_after_asking, follower_of, sends}
 use Rattle.dgt_followed.proofs.Acts.{asking_is_acts, fits, front_of}
 

@@ -1,14 +1,14 @@
 -- A board and a follower on lines that may fail: which acts an asking is, and what happens to both.
-use Rattle.std.specs.Prelude.{◌≡◌, ℕ, ◌+◌, ◌≤◌, List, [], ◌∷◌, ◌++◌, length, map, Bool, ◌||◌, if◌then◌else◌}
+use Rattle.std.specs.Prelude.{◌≡◌, ℕ, ◌+◌, ◌≤◌, List, [], ◌∷◌, length, map, Bool, ◌||◌, if◌then◌else◌}
 use Rattle.dgt_command.specs.Content.{CommandContent}
 use Rattle.dgt_follow.specs.declared.asking.Asking.{Asking}
 use Rattle.dgt_follow.specs.declared.asking.UpdateMode.{UpdateMode}
-use Rattle.dgt_follow.specs.Pace.{PaceView, asking_bytes, mode_command, pace_after_asking}
-use Rattle.dgt_follow.specs.Follower.{FollowerView, asking_of, following, host_after_asking}
+use Rattle.dgt_follow.specs.Pace.{PaceView, mode_command, pace_after_asking}
+use Rattle.dgt_follow.specs.Follower.{FollowerView, asking_of, following}
 use Rattle.dgt_link.specs.declared.acts.Outcome.{Outcome}
 use Rattle.dgt_link.specs.Act.{ActContent}
 use Rattle.dgt_link.specs.Faults.{FaultyContent, FaultyRuns, FaultyStep, is_fault, stops}
-use Rattle.dgt_link.specs.View.{LineContents, WorldView, with_bytes}
+use Rattle.dgt_link.specs.View.{LineContents, WorldView}
 
 -- ---- an asking
 
