@@ -1,13 +1,14 @@
 //! The follower.
 
 ghost use Rattle.std.specs.Prelude.{◌≡◌, ◌<◌, ◌≤◌, OnOk, Option, Some, false, length, option_map, take};
+ghost use Rattle.std.specs.List.{FoldsTo};
 ghost use Rattle.dgt_values.specs.Board.{pieces_of};
 ghost use Rattle.dgt_values.specs.declared.kinds.Kind.{Kind};
 ghost use Rattle.dgt_message.specs.Content.{clock_seen};
 ghost use Rattle.dgt_command.specs.Content.{command_content, kind_of_command};
 ghost use Rattle.dgt_command.specs.Spelling.{SpellsCommand, command_spelling};
 ghost use Rattle.dgt_decode.specs.Grammar.{Event as EventSaid};
-ghost use Rattle.dgt_decode.specs.Feeding.{FirstEvent};
+ghost use Rattle.dgt_decode.specs.Feeding.{FirstEvent, at_place_if_any, event_content_if_any};
 ghost use Rattle.dgt_host.specs.Host.{Sends, awaits_too_many};
 ghost use Rattle.dgt_follow.specs.Pace.{due_at};
 ghost use Rattle.dgt_follow.specs.Follower.{Asks, HostAsks, asking_of, follower_after, following, new_follower};
@@ -15,7 +16,8 @@ ghost use Rattle.dgt_follow.specs.Follower.{Asks, HostAsks, asking_of, follower_
 use crate::asking::{Asking, UpdateMode};
 use crate::pace::Pace;
 use dgt_command::{Command, MAX_WORD};
-use dgt_host::{Clock, Host, MAX_AWAITED, Position, RESTART_LENGTH, SendFault};
+use dgt_decode::Listener;
+use dgt_host::{Clock, Event, Host, MAX_AWAITED, Position, RESTART_LENGTH, SendFault};
 use dgt_values::NoRoom;
 use std::marker::Model;
 
@@ -68,6 +70,16 @@ fn begin_anew(host: &mut Host, mode: UpdateMode, out: &mut [u8]) -> Result<usize
     Ok(MAX_ASKING)
 }
 
+// Has the listener hear the event at this place, if there is one.
+fn tell<L: Listener>(listener: &mut L, place: usize, event: &Option<Event<'_>>)
+    ensures { FoldsTo L.hears listener.old
+        (at_place_if_any place (event_content_if_any event.now)) listener.new }
+{
+    if let Some(event) = event {
+        listener.hear(place, event);
+    }
+}
+
 impl Follower {
     /// A follower that has never asked, and asks for changed squares ([`UpdateMode::Squares`]).
     ///
@@ -100,6 +112,23 @@ impl Follower {
     {
         let heard = self.host.hear(chunk);
         let used = heard.used;
+        self.pace.note(&heard.event, heard.unasked, now);
+        used
+    }
+
+    /// Does what [`Follower::hear`] does, and has the listener hear the event, if there is one, at
+    /// its place: how many bytes of the chunk come up to and including the one that makes it.
+    pub fn hear_with<L: Listener>(&mut self, now: u64, chunk: &[u8], listener: &mut L) -> usize
+        ensures heard { self.new ≡ follower_after self.old now (take result chunk.now) }
+        ensures told { (event : Option EventSaid)
+            × FirstEvent self.old.host.unread chunk.now result event
+            × FoldsTo L.hears listener.old (at_place_if_any result event) listener.new }
+        ensures within { result ≤ length chunk.now }
+        ensures progress { 0 < length chunk.now → 0 < result }
+    {
+        let heard = self.host.hear(chunk);
+        let used = heard.used;
+        tell(listener, used, &heard.event);
         self.pace.note(&heard.event, heard.unasked, now);
         used
     }
