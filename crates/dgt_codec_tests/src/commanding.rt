@@ -1,8 +1,9 @@
-//! Words of the line and what they tell, as the published tables give them.
+//! Bytes of hosts, however they are cut, and calls of commands. What the bytes say is in
+//! `checks/rows`.
 
 ghost use Rattle.std.specs.Prelude.{◌≤◌, length};
 
-use crate::plain_commands;
+use crate::plain_commands::{self, Told};
 use dgt_command::{
     AdvancedWord, ClockCommand, Command, CommandDecoder, CommandEvent, FoundWord, LedBytes,
     Payload, RawClock, WordFramer, display, encode, length, view_command,
@@ -12,52 +13,46 @@ use std::alloc::{AllocError, Global};
 use std::process::Abort;
 use std::test::Fail;
 
-/// The bytes of the words below, alone and in a row.
-const LISTS: [&[u8]; 34] = [
-    &[],
-    &[0x40],
-    &[0x41],
-    &[0x42],
-    &[0x43],
-    &[0x44],
-    &[0x45],
-    &[0x47],
-    &[0x4b],
-    &[0x4c],
-    &[0x4d],
-    &[
-        0x2b, 0x0b, 0x03, 0x01, 0x5b, 0x06, 0x00, 0x66, 0x4f, 0x00, 0x00, 0x03, 0x00,
-    ],
-    &[0x2b, 0x05, 0x03, 0x02, 0x2b, 0x60, 0x00],
-    &[0x2b, 0x03, 0x03, 0x03, 0x00],
-    &[0x2b, 0x03, 0x03, 0x08, 0x00],
-    &[0x2b, 0x03, 0x03, 0x09, 0x00],
-    &[
-        0x2b, 0x0a, 0x03, 0x0a, 0x01, 0x30, 0x00, 0x01, 0x30, 0x00, 0x01, 0x00,
-    ],
-    &[0x2b, 0x04, 0x03, 0x0b, 0x10, 0x00],
-    &[0x2b, 0x04, 0x03, 0x8b, 0x10, 0x00],
-    &[
-        0x2b, 0x0c, 0x03, 0x0c, 0x65, 0x34, 0x20, 0x20, 0x20, 0x20, 0x20, 0x20, 0x01, 0x00,
-    ],
-    &[
-        0x2b, 0x0b, 0x03, 0x0c, 0x65, 0x34, 0x20, 0x20, 0x20, 0x20, 0x20, 0x20, 0x00,
-    ],
-    &[0x60, 0x04, 0x01, 0x00, 0x40, 0x00],
-    &[0x60, 0x00],
-    &[0x2b, 0x02],
-    &[0x2b, 0x03, 0x04],
-    &[0x2b, 0x03, 0x03, 0x09, 0x01],
-    &[0x46],
-    &[0x50],
-    &[0x55],
-    &[0x56],
-    &[0x40, 0x40],
-    &[0x44, 0x60, 0x04, 0x01, 0x00, 0x40, 0x00, 0x42],
-    &[
-        0x2b, 0x02, 0x2b, 0x03, 0x04, 0x2b, 0x03, 0x03, 0x09, 0x01, 0x40, 0x2b, 0x04, 0x03,
-    ],
-    &[0x60, 0x42],
+/// Bytes of one command.
+const COMMANDS: [&str; 23] = [
+    "40",
+    "41",
+    "42",
+    "43",
+    "44",
+    "45",
+    "47",
+    "4b",
+    "4c",
+    "4d",
+    "55",
+    "2b0b03015b0600664f00000300",
+    "2b0503022b6000",
+    "2b03030300",
+    "2b03030800",
+    "2b03030900",
+    "2b0a030a0130000130000100",
+    "2b04030b1000",
+    "2b04038b1000",
+    "2b0c030c65342020202020200100",
+    "2b0b030c653420202020202000",
+    "600401004000",
+    "6000",
+];
+
+/// Bytes of none, and of several.
+const OTHERS: [&str; 11] = [
+    "",
+    "2b02",
+    "2b0304",
+    "2b03030901",
+    "46",
+    "50",
+    "56",
+    "4040",
+    "4460040100400042",
+    "2b022b03042b03030901402b0403",
+    "6042",
 ];
 
 // How many of the events are told after a piece of the bytes, where so many were told before it and
@@ -122,34 +117,24 @@ fn is_read_byte_by_byte(
     told == events.len() && decoder.partial() == partial
 }
 
-// The same of the bytes in one piece, one by one, and cut into two at each place.
-fn is_read(bytes: &[u8], events: &[(usize, CommandEvent<'_>)], partial: usize) -> bool {
-    for place in 0..=bytes.len() {
-        if !is_read_cut(bytes, place, events, partial) {
-            return false;
-        }
-    }
-    is_read_byte_by_byte(bytes, events, partial)
-}
-
-// Whether these are the bytes of the command: read in any pieces, viewed whole and in no part, and
+// Whether these are the bytes of the command: its one event, viewed whole and in no part, and
 // written.
-fn is_spelled(bytes: &[u8], command: Command<'_>) -> bool {
-    let events = [(bytes.len(), CommandEvent::Command(command))];
+fn is_spelled(bytes: &[u8], command: Command<'_>, events: &[Told<'_>]) -> bool {
     for place in 0..bytes.len() {
         if view_command(&bytes[..place]).is_some() {
             return false;
         }
     }
-    let mut out = [0xee; 258];
+    if bytes.len() > 258 {
+        return false;
+    }
+    let (mut out, mut wanted) = ([0xee; 258], [0xee; 258]);
+    wanted[..bytes.len()].copy_from_slice(bytes);
     let written = encode(&command, &mut out);
-    let rest_stays = out.iter().skip(bytes.len()).all(|byte| *byte == 0xee);
-    view_command(bytes) == Some(command)
+    events == [(bytes.len(), CommandEvent::Command(command))].as_slice()
         && length(&command) == bytes.len()
         && written == Ok(bytes.len())
-        && out.starts_with(bytes)
-        && rest_stays
-        && is_read(bytes, &events, 0)
+        && out == wanted
 }
 
 // The bytes, cut in two at this place, are read as the plain reader says.
@@ -193,180 +178,53 @@ fn assert_cut_everywhere(rt: &impl Abort, alloc: Global, bytes: &[u8]) -> Result
     Ok(())
 }
 
-#[test]
-fn words_cut_off_at_every_place(rt: HostRuntime) -> Result<(), Fail> {
-    for bytes in LISTS {
-        assert_cut_everywhere(&rt, rt.alloc(), bytes)?;
-    }
-    let mut clock = [0x00; 257];
-    clock[0] = 0x2b;
-    clock[1] = 0xff;
-    clock[2] = 0x03;
-    clock[3] = 0x01;
-    assert_cut_everywhere(&rt, rt.alloc(), &clock)?;
-    clock[256] = 0x01;
-    assert_cut_everywhere(&rt, rt.alloc(), &clock)?;
-    let mut leds = [0x42; 257];
-    leds[0] = 0x60;
-    leds[1] = 0xff;
-    assert_cut_everywhere(&rt, rt.alloc(), &leds)?;
-    Ok(())
-}
-
-#[test]
-fn one_byte_commands_are_spelled_and_read(rt: HostRuntime) {
-    for (byte, command) in [
-        (0x40, Command::Reset),
-        (0x41, Command::Clock),
-        (0x42, Command::Dump),
-        (0x43, Command::Update),
-        (0x44, Command::UpdateBoard),
-        (0x45, Command::Serial),
-        (0x47, Command::Trademark),
-        (0x4b, Command::UpdateNice),
-        (0x4c, Command::Battery),
-        (0x4d, Command::Version),
-        (0x55, Command::LongSerial),
-    ] {
-        assert!(rt; is_spelled(&[byte], command), "{byte}");
-    }
-}
-
-#[test]
-fn clock_messages_are_spelled_and_read(rt: HostRuntime) -> Result<(), Fail> {
-    let shown = display([' ', '1', '2', ' ', '3', '4'], 0x00, 0x03)?;
-    let icons = Payload::new(&[0x2b, 0x60])?;
-    let beep = RawClock::new(0x8b, Payload::new(&[0x10])?)?;
-    let text = ClockCommand::Text {
-        letters: *b"e4      ",
-        beep: 0x01,
+// The bytes are read as the plain reader says, however they are cut, and are those of a command or
+// of none.
+fn assert_list(
+    rt: &impl Abort,
+    alloc: Global,
+    bytes: &[u8],
+    is_command: bool,
+) -> Result<(), AllocError> {
+    let (events, rest) = plain_commands::events_of(alloc, bytes)?;
+    assert!(rt; is_read_byte_by_byte(bytes, &events, rest), "{bytes:?}");
+    let is_right = match view_command(bytes) {
+        Some(command) => is_command && is_spelled(bytes, command, &events),
+        None => !is_command,
     };
-    let letters = RawClock::new(0x0c, Payload::new(b"e4      ")?)?;
-    let run = ClockCommand::SetAndRun {
-        left: [0x01, 0x30, 0x00],
-        right: [0x01, 0x30, 0x00],
-        control: 0x01,
-    };
-    for (bytes, message) in [
-        (
-            [
-                0x2b, 0x0b, 0x03, 0x01, 0x5b, 0x06, 0x00, 0x66, 0x4f, 0x00, 0x00, 0x03, 0x00,
-            ]
-            .as_slice(),
-            shown,
-        ),
-        (
-            &[0x2b, 0x05, 0x03, 0x02, 0x2b, 0x60, 0x00],
-            ClockCommand::Icons(icons),
-        ),
-        (&[0x2b, 0x03, 0x03, 0x03, 0x00], ClockCommand::End),
-        (&[0x2b, 0x03, 0x03, 0x08, 0x00], ClockCommand::Button),
-        (&[0x2b, 0x03, 0x03, 0x09, 0x00], ClockCommand::Version),
-        (
-            &[
-                0x2b, 0x0a, 0x03, 0x0a, 0x01, 0x30, 0x00, 0x01, 0x30, 0x00, 0x01, 0x00,
-            ],
-            run,
-        ),
-        (
-            &[0x2b, 0x04, 0x03, 0x0b, 0x10, 0x00],
-            ClockCommand::Beep(0x10),
-        ),
-        (
-            &[0x2b, 0x04, 0x03, 0x8b, 0x10, 0x00],
-            ClockCommand::Raw(beep),
-        ),
-        (
-            &[
-                0x2b, 0x0c, 0x03, 0x0c, 0x65, 0x34, 0x20, 0x20, 0x20, 0x20, 0x20, 0x20, 0x01, 0x00,
-            ],
-            text,
-        ),
-        (
-            &[
-                0x2b, 0x0b, 0x03, 0x0c, 0x65, 0x34, 0x20, 0x20, 0x20, 0x20, 0x20, 0x20, 0x00,
-            ],
-            ClockCommand::Raw(letters),
-        ),
-    ] {
-        assert!(rt;
-            is_spelled(bytes, Command::ClockMessage(message)),
-            "{bytes:?}"
-        );
+    assert!(rt; is_right, "{bytes:?}");
+    assert_cut_everywhere(rt, alloc, bytes)
+}
+
+#[test]
+fn words_in_any_pieces(rt: HostRuntime) -> Result<(), Fail> {
+    for digits in COMMANDS {
+        assert_list(&rt, rt.alloc(), &hex::decode(rt.alloc(), digits)?, true)?;
     }
-    Ok(())
-}
-
-#[test]
-fn led_frames_are_spelled_and_read(rt: HostRuntime) -> Result<(), Fail> {
-    let leds = LedBytes::new(&[0x01, 0x00, 0x40, 0x00])?;
-    assert!(rt; is_spelled(&[0x60, 0x04, 0x01, 0x00, 0x40, 0x00], Command::Leds(leds)));
-    let leds = LedBytes::new(&[])?;
-    assert!(rt; is_spelled(&[0x60, 0x00], Command::Leds(leds)));
-    Ok(())
-}
-
-#[test]
-fn the_longest_words_have_257_bytes(rt: HostRuntime) -> Result<(), Fail> {
+    for digits in OTHERS {
+        assert_list(&rt, rt.alloc(), &hex::decode(rt.alloc(), digits)?, false)?;
+    }
     let mut clock = [0x00; 257];
     clock[..4].copy_from_slice(&[0x2b, 0xff, 0x03, 0x01]);
-    let raw = RawClock::new(0x01, Payload::new(&[0x00; 252])?)?;
-    assert!(rt; is_spelled(&clock, Command::ClockMessage(ClockCommand::Raw(raw))));
+    assert_list(&rt, rt.alloc(), &clock, true)?;
     clock[256] = 0x01;
-    assert!(rt; is_read(&clock, &[(257, CommandEvent::BadEnd)], 0));
-    assert!(rt; view_command(&clock).is_none());
+    assert_list(&rt, rt.alloc(), &clock, false)?;
     let mut leds = [0x42; 257];
     leds[..2].copy_from_slice(&[0x60, 0xff]);
-    assert!(rt; is_spelled(&leds, Command::Leds(LedBytes::new(&[0x42; 255])?)));
+    assert_list(&rt, rt.alloc(), &leds, true)?;
     Ok(())
 }
 
 #[test]
-fn faults_are_told_where_they_show(rt: HostRuntime) {
-    for (bytes, fault) in [
-        ([0x2b, 0x02].as_slice(), CommandEvent::BadSize),
-        (&[0x2b, 0x03, 0x04], CommandEvent::BadStart),
-        (&[0x2b, 0x03, 0x03, 0x09, 0x01], CommandEvent::BadEnd),
-        (&[0x46], CommandEvent::Stray(0x46)),
-        (&[0x50], CommandEvent::Stray(0x50)),
-        (&[0x56], CommandEvent::Stray(0x56)),
-    ] {
-        assert!(rt; is_read(bytes, &[(bytes.len(), fault)], 0), "{bytes:?}");
-        assert!(rt; view_command(bytes).is_none(), "{bytes:?}");
-    }
-    assert!(rt; view_command(&[]).is_none());
-    assert!(rt; view_command(&[0x40, 0x40]).is_none());
-}
-
-#[test]
-fn words_in_a_row_are_read_apart(rt: HostRuntime) -> Result<(), Fail> {
-    let read = CommandEvent::Command;
-    let leds = Command::Leds(LedBytes::new(&[0x01, 0x00, 0x40, 0x00])?);
-    assert!(rt;
-        is_read(
-            &[0x44, 0x60, 0x04, 0x01, 0x00, 0x40, 0x00, 0x42],
-            &[
-                (1, read(Command::UpdateBoard)),
-                (7, read(leds)),
-                (8, read(Command::Dump))
-            ],
-            0,
-        )
-    );
-    assert!(rt;
-        is_read(
-            &[
-                0x2b, 0x02, 0x2b, 0x03, 0x04, 0x2b, 0x03, 0x03, 0x09, 0x01, 0x40, 0x2b, 0x04, 0x03
-            ],
-            &[
-                (2, CommandEvent::BadSize),
-                (5, CommandEvent::BadStart),
-                (10, CommandEvent::BadEnd),
-                (11, read(Command::Reset)),
-            ],
-            3,
-        )
-    );
+fn clock_messages_of_values(rt: HostRuntime) -> Result<(), Fail> {
+    let shown = display([' ', '1', '2', ' ', '3', '4'], 0x00, 0x03)?;
+    let bytes = [
+        0x2b, 0x0b, 0x03, 0x01, 0x5b, 0x06, 0x00, 0x66, 0x4f, 0x00, 0x00, 0x03, 0x00,
+    ];
+    assert!(rt; view_command(&bytes) == Some(Command::ClockMessage(shown)));
+    let beep = RawClock::new(0x8b, Payload::new(&[0x10])?)?;
+    let raw = Command::ClockMessage(ClockCommand::Raw(beep));
+    assert!(rt; view_command(&[0x2b, 0x04, 0x03, 0x8b, 0x10, 0x00]) == Some(raw));
     Ok(())
 }
 

@@ -1,263 +1,38 @@
-//! The decoder, and the plain reader beside it, over the same bytes.
+//! The decoder, and the plain reader beside it, over the same bytes. What the bytes say is in
+//! `checks/rows`.
 
 ghost use Rattle.std.specs.Prelude.{◌≡◌, ◌≤◌, ◌<◌, length};
 
+use crate::messages::START;
 use dgt_decode::plain::{self, Told};
 use dgt_decode::{Decoder, Event, Found, Framer, Listener, Unfinished, first_top};
-use dgt_message::{BodyFault, Message, Reading};
-use dgt_values::SevenBit;
+use dgt_message::{BodyFault, Message};
+use dgt_values::{Piece, SevenBit, Square};
 use std::alloc::{AllocError, Global};
 use std::process::Abort;
-use std::test::*;
+use std::test::Fail;
 
-/// Bytes, what they make known, and how many of them are left of an unfinished message.
-struct Row {
-    bytes: &'static [u8],
-    told: &'static [&'static str],
-    rest: usize,
-}
-
-const START: [u8; 67] = [
-    0x86, 0x00, 0x43, //
-    0x08, 0x09, 0x0a, 0x0c, 0x0b, 0x0a, 0x09, 0x08, //
-    0x07, 0x07, 0x07, 0x07, 0x07, 0x07, 0x07, 0x07, //
-    0x00, 0x00, 0x00, 0x00, 0x00, 0x00, 0x00, 0x00, //
-    0x00, 0x00, 0x00, 0x00, 0x00, 0x00, 0x00, 0x00, //
-    0x00, 0x00, 0x00, 0x00, 0x00, 0x00, 0x00, 0x00, //
-    0x00, 0x00, 0x00, 0x00, 0x00, 0x00, 0x00, 0x00, //
-    0x01, 0x01, 0x01, 0x01, 0x01, 0x01, 0x01, 0x01, //
-    0x02, 0x03, 0x04, 0x06, 0x05, 0x04, 0x03, 0x02,
+/// Bytes, how many events they make known, and how many of them are left of an unfinished message.
+const ROWS: [(&str, usize, usize); 18] = [
+    ("", 0, 0),
+    ("8e00053400", 1, 0),
+    ("8e00052401", 1, 0),
+    (START, 1, 0),
+    ("8d000a01300001295511", 1, 0),
+    ("8d000a01600001295511", 1, 0),
+    ("8e00054010", 1, 0),
+    ("8d000a0a10082a003100", 1, 0),
+    ("8d000a01100b0a000000", 1, 0),
+    ("8d000a00000000000020", 1, 0),
+    ("920003", 1, 0),
+    ("a20003", 1, 0),
+    ("8e000205", 2, 0),
+    ("8e0006340000", 1, 0),
+    ("86004300008e00052401", 2, 0),
+    ("8e008e00052401", 2, 0),
+    ("8e8e8e", 2, 1),
+    ("800003ff0003", 2, 0),
 ];
-
-/// The same, and its last byte is no piece.
-const NO_PIECE: [u8; 67] = [
-    0x86, 0x00, 0x43, //
-    0x08, 0x09, 0x0a, 0x0c, 0x0b, 0x0a, 0x09, 0x08, //
-    0x07, 0x07, 0x07, 0x07, 0x07, 0x07, 0x07, 0x07, //
-    0x00, 0x00, 0x00, 0x00, 0x00, 0x00, 0x00, 0x00, //
-    0x00, 0x00, 0x00, 0x00, 0x00, 0x00, 0x00, 0x00, //
-    0x00, 0x00, 0x00, 0x00, 0x00, 0x00, 0x00, 0x00, //
-    0x00, 0x00, 0x00, 0x00, 0x00, 0x00, 0x00, 0x00, //
-    0x01, 0x01, 0x01, 0x01, 0x01, 0x01, 0x01, 0x01, //
-    0x02, 0x03, 0x04, 0x06, 0x05, 0x04, 0x03, 0x10,
-];
-
-const ROWS: [Row; 19] = [
-    Row {
-        bytes: &[],
-        told: &[],
-        rest: 0,
-    },
-    Row {
-        bytes: &[0x8e, 0x00, 0x05, 0x34, 0x00],
-        told: &["00000005 field e2 ."],
-        rest: 0,
-    },
-    Row {
-        bytes: &[0x8e, 0x00, 0x05, 0x24, 0x01],
-        told: &["00000005 field e4 P"],
-        rest: 0,
-    },
-    Row {
-        bytes: &START,
-        told: &["00000067 dump rnbqkbnr/pppppppp/8/8/8/8/PPPPPPPP/RNBQKBNR"],
-        rest: 0,
-    },
-    Row {
-        bytes: &NO_PIECE,
-        told: &["00000067 refused 06 badpiece 63"],
-        rest: 0,
-    },
-    Row {
-        bytes: &[0x8d, 0x00, 0x0a, 0x01, 0x30, 0x00, 0x01, 0x29, 0x55, 0x11],
-        told: &["00000010 times 1:30:00 0 1:29:55 0 11"],
-        rest: 0,
-    },
-    Row {
-        bytes: &[0x8d, 0x00, 0x0a, 0x01, 0x60, 0x00, 0x01, 0x29, 0x55, 0x11],
-        told: &["00000010 refused 0d badreading 1"],
-        rest: 0,
-    },
-    Row {
-        bytes: &[0x8e, 0x00, 0x05, 0x40, 0x10],
-        told: &["00000005 refused 0e badsquare 0"],
-        rest: 0,
-    },
-    Row {
-        bytes: &[0x8d, 0x00, 0x0a, 0x0a, 0x10, 0x08, 0x2a, 0x00, 0x31, 0x00],
-        told: &["00000010 ack 10 88 00 31 00"],
-        rest: 0,
-    },
-    Row {
-        bytes: &[0x8d, 0x00, 0x0a, 0x01, 0x10, 0x0b, 0x0a, 0x00, 0x00, 0x00],
-        told: &["00000010 ack 10 0b 00 00 00"],
-        rest: 0,
-    },
-    Row {
-        bytes: &[0x8d, 0x00, 0x0a, 0x00, 0x00, 0x00, 0x00, 0x00, 0x00, 0x20],
-        told: &["00000010 noclock 000000000000 20"],
-        rest: 0,
-    },
-    Row {
-        bytes: &[0x92, 0x00, 0x03],
-        told: &["00000003 trademark -"],
-        rest: 0,
-    },
-    Row {
-        bytes: &[0xa2, 0x00, 0x03],
-        told: &["00000003 longserial -"],
-        rest: 0,
-    },
-    Row {
-        bytes: &[0x8e, 0x00, 0x02, 0x05],
-        told: &["00000003 badlength", "00000004 stray 05"],
-        rest: 0,
-    },
-    Row {
-        bytes: &[0x8e, 0x00, 0x06, 0x34, 0x00, 0x00],
-        told: &["00000006 refused 0e wrongsize"],
-        rest: 0,
-    },
-    Row {
-        bytes: &[0x86, 0x00, 0x43, 0x00, 0x00, 0x8e, 0x00, 0x05, 0x24, 0x01],
-        told: &["00000006 cut 5", "00000010 field e4 P"],
-        rest: 0,
-    },
-    Row {
-        bytes: &[0x8e, 0x00, 0x8e, 0x00, 0x05, 0x24, 0x01],
-        told: &["00000003 cut 2", "00000007 field e4 P"],
-        rest: 0,
-    },
-    Row {
-        bytes: &[0x8e, 0x8e, 0x8e],
-        told: &["00000002 cut 1", "00000003 cut 1"],
-        rest: 1,
-    },
-    Row {
-        bytes: &[0x80, 0x00, 0x03, 0xff, 0x00, 0x03],
-        told: &["00000003 other 00 -", "00000006 other 7f -"],
-        rest: 0,
-    },
-];
-
-fn hex(alloc: Global, bytes: &[u8]) -> Result<String, AllocError> {
-    if bytes.is_empty() {
-        return "-".to_string(alloc);
-    }
-    let mut text = String::new(alloc);
-    for byte in bytes {
-        write!(text, "{byte:02x}")?;
-    }
-    Ok(text)
-}
-
-fn reading_text(alloc: Global, reading: Reading) -> Result<String, AllocError> {
-    format!(in alloc;
-        "{}:{:02}:{:02} {}",
-        reading.hours(),
-        reading.minutes(),
-        reading.seconds(),
-        reading.flags()
-    )
-}
-
-fn message_text(alloc: Global, message: &Message<'_>) -> Result<String, AllocError> {
-    match message {
-        Message::Dump(position) => format!(in alloc; "dump {}", position.placement()),
-        Message::Field { square, piece } => {
-            let name = square.name();
-            format!(in alloc;
-                "field {}{} {}",
-                char::from(name[0]),
-                char::from(name[1]),
-                piece.letter()
-            )
-        }
-        Message::Times(times) => {
-            let first = reading_text(alloc, times.first())?;
-            let second = reading_text(alloc, times.second())?;
-            format!(in alloc;
-                "times {first} {second} {:02x}",
-                times.status().code().get()
-            )
-        }
-        Message::NoClock(absence) => {
-            let raw = hex(alloc, &absence.raw().map(SevenBit::get))?;
-            format!(in alloc; "noclock {raw} {:02x}", absence.status().code().get())
-        }
-        Message::Ack(answer) => {
-            let [first, second, third, fourth] = answer.ack;
-            format!(in alloc;
-                "ack {first:02x} {second:02x} {third:02x} {fourth:02x} {:02x}",
-                answer.status.get()
-            )
-        }
-        Message::Trademark(body) => format!(in alloc; "trademark {}", hex(alloc, body.bytes())?),
-        Message::LongSerial(body) => format!(in alloc; "longserial {}", hex(alloc, body.bytes())?),
-        Message::Other { code, body } => {
-            let bytes = hex(alloc, body.bytes())?;
-            format!(in alloc; "other {:02x} {bytes}", code.get().get())
-        }
-        _ => "another message".to_string(alloc),
-    }
-}
-
-fn fault_text(alloc: Global, fault: BodyFault) -> Result<String, AllocError> {
-    match fault {
-        BodyFault::WrongSize => "wrongsize".to_string(alloc),
-        BodyFault::BadPiece { at } => format!(in alloc; "badpiece {at}"),
-        BodyFault::BadSquare { at } => format!(in alloc; "badsquare {at}"),
-        BodyFault::BadReading { at } => format!(in alloc; "badreading {at}"),
-    }
-}
-
-/// The line of an event.
-fn line(alloc: Global, place: usize, event: &Event<'_>) -> Result<String, AllocError> {
-    let text = match event {
-        Event::Message(message) => message_text(alloc, message)?,
-        Event::Refused { code, fault } => {
-            let why = fault_text(alloc, *fault)?;
-            format!(in alloc; "refused {:02x} {why}", code.get())?
-        }
-        Event::Cut { have } => format!(in alloc; "cut {have}")?,
-        Event::BadLength => "badlength".to_string(alloc)?,
-        Event::Stray(byte) => format!(in alloc; "stray {byte:02x}")?,
-    };
-    format!(in alloc; "{place:08} {text}")
-}
-
-/// Feeds the decoder the bytes from one place to another, and adds a line for each event.
-fn feed_part(
-    rt: &impl Abort,
-    alloc: Global,
-    decoder: &mut Decoder,
-    bytes: &[u8],
-    from: usize,
-    to: usize,
-    lines: &mut Vec<String>,
-) -> Result<(), AllocError>
-    requires in_order { from ≤ to }
-    requires within { to ≤ length bytes.now }
-{
-    let mut at = from;
-    while at < to {
-        let fed = decoder.feed(&bytes[at..to]);
-        at += fed.used;
-        match &fed.event {
-            Some(event) => lines.push(line(alloc, at, event)?)?,
-            None => assert_eq!(rt; at, to),
-        }
-    }
-    Ok(())
-}
-
-fn plain_lines(alloc: Global, bytes: &[u8]) -> Result<Vec<String>, AllocError> {
-    let mut lines = Vec::new(alloc);
-    for (place, event) in &plain::events_of(alloc, bytes)? {
-        lines.push(line(alloc, *place, event)?)?;
-    }
-    Ok(lines)
-}
 
 /// Feeds the decoder the bytes from one place to another, and gives what is left of the events told
 /// then.
@@ -289,19 +64,38 @@ fn feed_as_told<'a, 'b>(
 }
 
 /// The bytes in two pieces, cut at this place, come to what the plain reader says of all of them.
+/// Returns how many of them are left of an unfinished message.
 fn assert_as_plain(
     rt: &impl Abort,
     alloc: Global,
     bytes: &[u8],
     cut: usize,
-) -> Result<(), AllocError> {
+) -> Result<usize, AllocError> {
     let cut = cut.min(bytes.len());
     let mut decoder = Decoder::new();
     let told = plain::events_of(alloc, bytes)?;
     let left = feed_as_told(rt, &mut decoder, bytes, 0, cut, &told);
     let left = feed_as_told(rt, &mut decoder, bytes, cut, bytes.len(), left);
-    assert!(rt; left.is_empty());
-    Ok(())
+    assert!(rt; left.is_empty(), "{bytes:?} cut at {cut}");
+    Ok(decoder.rest())
+}
+
+/// The same of the bytes one by one. `Unfinished` says what is left of a message.
+fn assert_as_plain_by_one(
+    rt: &impl Abort,
+    alloc: Global,
+    bytes: &[u8],
+) -> Result<Option<Unfinished>, AllocError> {
+    let mut decoder = Decoder::new();
+    let told = plain::events_of(alloc, bytes)?;
+    let mut left = told.as_slice();
+    for place in 0..bytes.len() {
+        left = feed_as_told(rt, &mut decoder, bytes, place, place + 1, left);
+    }
+    assert!(rt; left.is_empty(), "{bytes:?} one by one");
+    let unfinished = decoder.finish();
+    assert_eq!(rt; decoder.finish(), None);
+    Ok(unfinished)
 }
 
 /// A message of 70 bytes, with one byte in place of another, and a message behind it.
@@ -323,73 +117,6 @@ fn one_byte_at_any_place_of_a_lane(rt: HostRuntime) -> Result<(), Fail> {
     Ok(())
 }
 
-fn assert_lines(rt: &impl Abort, lines: &[String], told: &[&str]) {
-    assert_eq!(rt; lines.len(), told.len());
-    for (line, want) in lines.iter().zip(told) {
-        assert_eq!(rt; line.as_str(), *want);
-    }
-}
-
-#[test]
-fn each_row_by_the_plain_reader(rt: HostRuntime) -> Result<(), Fail> {
-    for row in &ROWS {
-        assert_lines(&rt, &plain_lines(rt.alloc(), row.bytes)?, row.told);
-    }
-    Ok(())
-}
-
-#[test]
-fn each_row_cut_in_two_at_every_place(rt: HostRuntime) -> Result<(), Fail> {
-    for row in &ROWS {
-        let len = row.bytes.len();
-        for cut in 0..=len {
-            let mut decoder = Decoder::new();
-            let mut lines = Vec::new(rt.alloc());
-            feed_part(&rt, rt.alloc(), &mut decoder, row.bytes, 0, cut, &mut lines)?;
-            feed_part(
-                &rt,
-                rt.alloc(),
-                &mut decoder,
-                row.bytes,
-                cut,
-                len,
-                &mut lines,
-            )?;
-            assert_lines(&rt, &lines, row.told);
-            assert_eq!(rt; decoder.rest(), row.rest);
-        }
-    }
-    Ok(())
-}
-
-#[test]
-fn each_row_in_pieces_of_one_byte(rt: HostRuntime) -> Result<(), Fail> {
-    for row in &ROWS {
-        let mut decoder = Decoder::new();
-        let mut lines = Vec::new(rt.alloc());
-        for place in 0..row.bytes.len() {
-            feed_part(
-                &rt,
-                rt.alloc(),
-                &mut decoder,
-                row.bytes,
-                place,
-                place + 1,
-                &mut lines,
-            )?;
-        }
-        assert_lines(&rt, &lines, row.told);
-        let left = if row.rest == 0 {
-            None
-        } else {
-            Some(Unfinished { have: row.rest })
-        };
-        assert_eq!(rt; decoder.finish(), left);
-        assert_eq!(rt; decoder.finish(), None);
-    }
-    Ok(())
-}
-
 /// The bytes cut off at this place, and all of them behind that part, each in one piece and in two.
 fn assert_cut_off(
     rt: &impl Abort,
@@ -406,7 +133,8 @@ fn assert_cut_off(
     list.extend_from_slice(part)?;
     list.extend_from_slice(bytes)?;
     assert_as_plain(rt, alloc, &list, 0)?;
-    assert_as_plain(rt, alloc, &list, place)
+    assert_as_plain(rt, alloc, &list, place)?;
+    Ok(())
 }
 
 /// The bytes cut in two, and cut off, at each place; more than 300 at the first and last 40 places.
@@ -420,12 +148,67 @@ fn assert_cut_everywhere(rt: &impl Abort, alloc: Global, bytes: &[u8]) -> Result
     Ok(())
 }
 
-#[test]
-fn each_row_cut_off_at_every_place(rt: HostRuntime) -> Result<(), Fail> {
-    for row in &ROWS {
-        assert_cut_everywhere(&rt, rt.alloc(), row.bytes)?;
+/// The bytes make known so many events, in whatever pieces they come.
+fn assert_row(
+    rt: &impl Abort,
+    alloc: Global,
+    bytes: &[u8],
+    count: usize,
+    rest: usize,
+) -> Result<(), AllocError> {
+    assert_eq!(rt; plain::events_of(alloc, bytes)?.len(), count, "{bytes:?}");
+    for cut in 0..=bytes.len() {
+        assert_eq!(rt; assert_as_plain(rt, alloc, bytes, cut)?, rest, "{bytes:?}");
     }
+    let unfinished = assert_as_plain_by_one(rt, alloc, bytes)?;
+    let have = unfinished.map_or(0, |unfinished| unfinished.have);
+    assert_eq!(rt; have, rest, "{bytes:?}");
+    assert_cut_everywhere(rt, alloc, bytes)
+}
+
+#[test]
+fn rows_in_any_pieces(rt: HostRuntime) -> Result<(), Fail> {
+    for (digits, count, rest) in ROWS {
+        assert_row(
+            &rt,
+            rt.alloc(),
+            &hex::decode(rt.alloc(), digits)?,
+            count,
+            rest,
+        )?;
+    }
+    // a dump whose last byte is no piece
+    let mut dump = hex::decode(rt.alloc(), START)?;
+    if let Some(last) = dump.last_mut() {
+        *last = 0x10;
+    }
+    assert_row(&rt, rt.alloc(), &dump, 1, 0)?;
     assert_cut_everywhere(&rt, rt.alloc(), &longest_message())?;
+    Ok(())
+}
+
+/// The plain reader says that these bytes make known this event, and nothing else.
+fn assert_one(
+    rt: &impl Abort,
+    alloc: Global,
+    bytes: &[u8],
+    event: Event<'_>,
+) -> Result<(), AllocError> {
+    let told = plain::events_of(alloc, bytes)?;
+    assert_eq!(rt; told.as_slice(), [(bytes.len(), event)].as_slice());
+    Ok(())
+}
+
+#[test]
+fn a_field_and_a_refusal(rt: HostRuntime) -> Result<(), Fail> {
+    let square = Square::parse("e4")?;
+    let piece = Piece::WhitePawn;
+    let field = Event::Message(Message::Field { square, piece });
+    assert_one(&rt, rt.alloc(), &[0x8e, 0x00, 0x05, 0x24, 0x01], field)?;
+    let code = SevenBit::try_from(0x0e)?;
+    let fault = BodyFault::BadSquare { at: 0 };
+    let refused = Event::Refused { code, fault };
+    assert_one(&rt, rt.alloc(), &[0x8e, 0x00, 0x05, 0x40, 0x10], refused)?;
     Ok(())
 }
 
@@ -437,17 +220,7 @@ fn strays_without_a_message(rt: HostRuntime) -> Result<(), Fail> {
     for (index, (place, event)) in told.iter().enumerate() {
         assert!(rt; *place == index + 1 && *event == Event::Stray(0x00));
     }
-    let mut decoder = Decoder::new();
-    feed_part(
-        &rt,
-        rt.alloc(),
-        &mut decoder,
-        &bytes,
-        0,
-        300,
-        &mut Vec::new(rt.alloc()),
-    )?;
-    assert_eq!(rt; decoder.rest(), 0);
+    assert_eq!(rt; assert_as_plain(&rt, rt.alloc(), &bytes, 0)?, 0);
     assert_cut_everywhere(&rt, rt.alloc(), &bytes)?;
     Ok(())
 }
@@ -470,11 +243,14 @@ fn longest_message_cut() -> [u8; 16387]
 #[test]
 fn the_longest_message_cut_at_its_last_byte(rt: HostRuntime) -> Result<(), Fail> {
     let bytes = longest_message_cut();
-    assert_lines(
-        &rt,
-        &plain_lines(rt.alloc(), &bytes)?,
-        &["00016383 cut 16382", "00016387 field e4 P"],
-    );
+    let square = Square::parse("e4")?;
+    let piece = Piece::WhitePawn;
+    let told = plain::events_of(rt.alloc(), &bytes)?;
+    let wanted = [
+        (16383, Event::Cut { have: 16382 }),
+        (16387, Event::Message(Message::Field { square, piece })),
+    ];
+    assert_eq!(rt; told.as_slice(), wanted.as_slice());
     assert_cut_everywhere(&rt, rt.alloc(), &bytes)?;
     Ok(())
 }
