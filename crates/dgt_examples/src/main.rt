@@ -2,11 +2,12 @@
 //! each block of Rust of that page in one of them.
 //!
 //! The program itself, `pictures`, shows where the pieces stand after each change that the board on
-//! standard input tells. Beside it: following a board over a source and a sink, the squares on
-//! which two positions differ, reading a board's bytes without a host, and trying a host against a
-//! board of this project.
+//! standard input reports. Beside it: following a board over a source and a sink, asking it again
+//! when that is due, the squares on which two positions differ, reading a board's bytes without a
+//! host, and trying a host against a board of this project.
 #![tactic(auto)]
 
+mod asking;
 mod decoding;
 mod differing;
 mod following;

@@ -1,5 +1,6 @@
-use crate::{decoding, differing, following, pictures, trying};
+use crate::{asking, decoding, differing, following, pictures, trying};
 use dgt_board::{Board, Identity};
+use dgt_follow::Follower;
 use dgt_lines::{Bytes, Device};
 use dgt_message::{Clock, Reading, Status, Times};
 use dgt_values::{Body, Piece, Position, SevenBit, Square};
@@ -79,6 +80,22 @@ fn follows(rt: HostRuntime) -> Result<(), Fail> {
     assert_eq!(rt; sent.as_slice(), asked.as_slice());
     assert!(rt; host.picture() == Some(&Position::start()));
     assert!(rt; host.awaited().is_empty());
+    Ok(())
+}
+
+#[test]
+fn asks_when_due(rt: HostRuntime) -> Result<(), Fail> {
+    let mut sent = Vec::with_capacity(rt.alloc(), 260)?;
+    let mut follower = Follower::new(10_000, 6);
+    asking::keep_right(&mut follower, 0, &[], &mut Device::new(&mut sent))?;
+    asking::keep_right(&mut follower, 80, &DUMP, &mut Device::new(&mut sent))?;
+    assert_eq!(rt; sent.len(), 258);
+    assert!(rt; follower.picture() == Some(&Position::start()));
+    asking::keep_right(&mut follower, 10_000, &[], &mut Device::new(&mut sent))?;
+    assert_eq!(rt;
+        &sent.as_slice()[255..],
+        [0x44, 0x42, 0x44, 0x44, 0x42].as_slice()
+    );
     Ok(())
 }
 
