@@ -1,5 +1,5 @@
-//! Tests of lines, of scripts and of what is written of boards, hosts and worlds, by public calls
-//! alone: examples with the texts that they come to.
+//! Tests of lines, of scripts and of what is written of boards and hosts, by public calls alone:
+//! what `checks/rows`, which runs the built program, can't show.
 //!
 //! They are a crate of their own since a crate with tests is proved twice, with them and without.
 #![tactic(auto)]
@@ -10,5 +10,3 @@ mod command_lines;
 mod lines;
 #[cfg(test)]
 mod scripts;
-#[cfg(test)]
-mod texts;

@@ -1,7 +1,5 @@
 //! Lines of scripts, and lines of what came of them.
 
+mod acts;
 mod closing;
-mod faulty;
 mod pieces;
-mod reading;
-mod words;

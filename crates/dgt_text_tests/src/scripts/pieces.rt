@@ -3,15 +3,6 @@
 use dgt_script::{LineBuffer, len_before};
 use std::process::Abort;
 
-// The line of three pieces.
-fn line_of(pieces: [&[u8]; 3]) -> LineBuffer {
-    let mut line = LineBuffer::new();
-    for piece in pieces {
-        line.add(piece);
-    }
-    line
-}
-
 fn is_line(line: &LineBuffer, bytes: &[u8]) -> bool {
     match line.line() {
         Some(kept) => kept == bytes,
@@ -19,47 +10,48 @@ fn is_line(line: &LineBuffer, bytes: &[u8]) -> bool {
     }
 }
 
-#[test]
-fn a_line_in_three_pieces(rt: HostRuntime) {
-    let line = line_of([b"ch".as_slice(), b"ange e2", b" ."]);
-    assert!(rt; is_line(&line, b"change e2 ."));
-    assert!(rt; !line.is_empty());
-    let line = line_of([b"".as_slice(), b"", b""]);
-    assert!(rt; is_line(&line, b""));
-    assert!(rt; line.is_empty());
+/// Pieces, and whether their line is these bytes.
+fn assert_line(rt: &impl Abort, pieces: [&[u8]; 3], bytes: &[u8], is_kept: bool) {
+    let [first, second, third] = pieces;
+    let lengths = [first.len(), second.len(), third.len()];
+    let mut line = LineBuffer::new();
+    for piece in pieces {
+        line.add(piece);
+    }
+    assert_eq!(rt; is_line(&line, bytes), is_kept, "{lengths:?}");
+    assert_eq!(rt; line.line().is_some(), is_kept, "{lengths:?}");
+    assert_eq!(rt; line.is_empty(), bytes.is_empty(), "{lengths:?}");
 }
 
 #[test]
-fn lines_of_519_bytes_and_of_520(rt: HostRuntime) {
+fn lines_in_three_pieces(rt: HostRuntime) {
+    assert_line(
+        &rt,
+        [b"ch".as_slice(), b"ange e2", b" ."],
+        b"change e2 .",
+        true,
+    );
+    assert_line(&rt, [b"".as_slice(), b"", b""], b"", true);
     let bytes = [b'x'; 520];
-    let longest = &bytes[..519];
-    let rows: [([&[u8]; 3], bool); 6] = [
-        ([longest, b"", b""], true),
-        ([&bytes[..300], b"", &bytes[300..519]], true),
-        ([longest, b"x", b""], false),
-        ([&bytes[..300], b"", &bytes[300..]], false),
-        ([b"", &bytes, b""], false),
-        ([&bytes, b"x", &bytes], false),
-    ];
-    for (pieces, is_kept) in rows {
-        let line = line_of(pieces);
-        assert_eq!(rt; is_line(&line, longest), is_kept);
-        assert_eq!(rt; line.line().is_some(), is_kept);
-        assert!(rt; !line.is_empty());
-    }
+    let (longest, others) = (&bytes[..519], &bytes[..300]);
+    assert_line(&rt, [longest, b"", b""], longest, true);
+    assert_line(&rt, [others, b"", &bytes[300..519]], longest, true);
+    assert_line(&rt, [longest, b"x", b""], longest, false);
+    assert_line(&rt, [others, b"", &bytes[300..]], longest, false);
+    assert_line(&rt, [b"".as_slice(), &bytes, b""], longest, false);
+    assert_line(&rt, [bytes.as_slice(), b"x", &bytes], longest, false);
 }
 
 #[test]
 fn bytes_before_a_line_feed(rt: HostRuntime) {
-    let rows: [(&[u8], usize); 6] = [
-        (b"", 0),
-        (b"send", 4),
-        (b"send\n", 4),
-        (b"\n", 0),
-        (b"\nsend", 0),
-        (b"send\nsend\n", 4),
-    ];
-    for (bytes, count) in rows {
-        assert_eq!(rt; len_before(bytes, b'\n'), count);
+    for (text, count) in [
+        ("", 0),
+        ("send", 4),
+        ("send\n", 4),
+        ("\n", 0),
+        ("\nsend", 0),
+        ("send\nsend\n", 4),
+    ] {
+        assert_eq!(rt; len_before(text.as_bytes(), b'\n'), count, "{text:?}");
     }
 }
