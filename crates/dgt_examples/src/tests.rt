@@ -92,10 +92,13 @@ fn asks_when_due(rt: HostRuntime) -> Result<(), Fail> {
     assert_eq!(rt; sent.len(), 258);
     assert!(rt; follower.picture() == Some(&Position::start()));
     asking::keep_right(&mut follower, 10_000, &[], &mut Device::new(&mut sent))?;
-    assert_eq!(rt;
-        &sent.as_slice()[255..],
-        [0x44, 0x42, 0x44, 0x44, 0x42].as_slice()
-    );
+    let mut asked = [0; 260];
+    asked[255] = 0x44;
+    asked[256] = 0x42;
+    asked[257] = 0x44;
+    asked[258] = 0x44;
+    asked[259] = 0x42;
+    assert_eq!(rt; sent.as_slice(), asked.as_slice());
     Ok(())
 }
 
