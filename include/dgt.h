@@ -1,5 +1,6 @@
 /*
- * dgt.h: a host, a decoder, a reader of commands and a board for the DGT electronic chess board.
+ * dgt.h: a host, a follower, a decoder, a reader of commands and a board for the DGT electronic
+ * chess board.
  *
  * Nothing here opens a line, takes memory or waits. You read bytes from the serial line and hand
  * them in, in pieces of any length; you write out what a call wrote into your buffer. All memory is
@@ -25,10 +26,10 @@
  *    its type is. A length is at most 2^63 - 1, and so many bytes may be read or written there: of
  *    an array of events, `capacity` times sizeof(dgt_event). An array parameter has its stated
  *    length. What a call reads is initialised.
- *  - A handle is a dgt_host, a dgt_decoder, a dgt_command_decoder or a dgt_board. It is made by its
- *    _new or its _init before any other call. Afterwards it is not copied and not moved, neither by
- *    assignment nor by memcpy or realloc: it points into itself. Don't touch its members. There is
- *    nothing to free: stop using it, and its memory is yours again.
+ *  - A handle is a dgt_host, a dgt_follower, a dgt_decoder, a dgt_command_decoder or a dgt_board.
+ *    It is made by its _new or its _init before any other call. Afterwards it is not copied and not
+ *    moved, neither by assignment nor by memcpy or realloc: it points into itself. Don't touch its
+ *    members. There is nothing to free: stop using it, and its memory is yours again.
  *  - The arguments of one call don't overlap: not a slice and a struct, not a slice and the handle.
  *    Until it returns, nobody else writes what it is handed, or reads what it writes.
  *  - Two calls with the same handle never run at once: neither in two threads without a lock
@@ -65,6 +66,7 @@ extern "C" {
 #define DGT_MAX_LEDS 255        /* the most bytes that an LED frame carries */
 #define DGT_MAX_AWAITED 16      /* the most replies that a host awaits */
 #define DGT_RESTART_LENGTH 257  /* how many bytes dgt_host_restart writes */
+#define DGT_MAX_ASKING 258      /* the most bytes that dgt_follower_ask writes */
 #define DGT_MAX_OWED 8          /* the most replies that a board owes */
 #define DGT_MAX_SENT 67         /* the most bytes that dgt_board_poll writes */
 #define DGT_MAX_KEPT 64         /* the most bytes of a trademark, a battery body or a long serial
@@ -75,6 +77,7 @@ extern "C" {
 
 /* How many bytes they take, as dgt_host_size() and its like answer, and _new compares. */
 #define DGT_HOST_SIZE 16520
+#define DGT_FOLLOWER_SIZE 16592
 #define DGT_DECODER_SIZE 16416
 #define DGT_COMMAND_DECODER_SIZE 288
 #define DGT_BOARD_SIZE 712
@@ -83,6 +86,11 @@ typedef struct dgt_host {
     void *at_;
     uint64_t room_[(DGT_HOST_SIZE - 8) / 8];
 } dgt_host;
+
+typedef struct dgt_follower {
+    void *at_;
+    uint64_t room_[(DGT_FOLLOWER_SIZE - 8) / 8];
+} dgt_follower;
 
 typedef struct dgt_decoder {
     void *at_;
@@ -341,6 +349,117 @@ size_t dgt_host_unread(dgt_host *host);
 /* The line is lost, and what was under way on it: the host is as new. Follow the board again once
  * the line is back. */
 void dgt_host_line_lost(dgt_host *host);
+
+/* ---- A follower: a host that keeps its picture right by asking for the whole board again. */
+
+/* A follower asks the board for all its squares once in each period. You hand in the time, as
+ * milliseconds of a clock that doesn't go back, and hand on what it writes:
+ *
+ *     static dgt_follower follower;
+ *     uint8_t out[DGT_MAX_ASKING];
+ *     uint64_t due;
+ *     if (!dgt_follower_new(&follower, 10000, 6)) return 1;
+ *     for (;;) {
+ *         dgt_sent asked = dgt_follower_ask(&follower, now(), out, sizeof out);
+ *         write(line, out, asked.bytes);            // 0 bytes if it is not due
+ *         bool asks = dgt_follower_due_at(&follower, &due);
+ *         ...                                       // wait for bytes, if `asks` until `due`
+ *         dgt_follower_hear_all(&follower, now(), chunk, read(line, chunk, sizeof chunk));
+ *     }
+ *
+ * An asking is a heartbeat: the command of the mode and DGT_SEND_DUMP, 2 bytes. Or it begins anew:
+ * 255 zeros, which end whatever command the board is in the middle of, 44 42 and the command of the
+ * mode, DGT_MAX_ASKING bytes. The host gives up the replies that it awaits then. A heartbeat is
+ * enough if a dump that was awaited came since the last asking, nothing disturbed the line since,
+ * fewer than 16 replies are awaited, and the patience has not run out. A disturbance is a cut,
+ * refused, misstated or stray message, or one that is not asked for. */
+
+/* How many bytes a dgt_follower takes, by the library that is linked. */
+size_t dgt_follower_size(void);
+
+/* Makes the memory at `follower`, of dgt_follower_size() bytes and aligned to 8, a follower that
+ * has never asked, with a period of 10000 milliseconds, a patience of 6, and the mode
+ * DGT_MODE_UPDATE_BOARD. */
+void dgt_follower_init(dgt_follower *follower);
+
+/* Makes a follower anew: it has never asked, knows no picture, and has this period, this patience
+ * and the mode DGT_MODE_UPDATE_BOARD. `period` is in milliseconds, from one asking to the next:
+ * with 0 each call of dgt_follower_ask is due. `patience` is how many heartbeats may follow one
+ * another before it begins anew whatever it has heard; with 0 it always begins anew. */
+void dgt_follower_start(dgt_follower *follower, uint64_t period, uint32_t patience);
+
+/* Both; false, and nothing done, if the sizes differ, as with dgt_host_new. */
+static inline bool dgt_follower_new(dgt_follower *follower, uint64_t period, uint32_t patience) {
+    if (dgt_follower_size() != sizeof *follower) return false;
+    dgt_follower_init(follower);
+    dgt_follower_start(follower, period, patience);
+    return true;
+}
+
+/* Uses bytes, which came at this time, up to and including the first that makes an event, or all of
+ * them, and returns how many: at least 1 if n > 0. The host of the follower hears them, as
+ * dgt_host_hear has a host do. Call again with the bytes that are left. */
+size_t dgt_follower_hear(dgt_follower *follower, uint64_t now, const uint8_t *bytes, size_t n);
+
+/* Uses all of the bytes, as dgt_follower_hear does event by event. Whatever chunks the bytes of one
+ * time come in, the follower is the same afterwards. */
+void dgt_follower_hear_all(dgt_follower *follower, uint64_t now, const uint8_t *bytes, size_t n);
+
+/* Asks the board, if that is due at this time. DGT_SENT: `bytes` bytes stand at the front of the
+ * buffer, and 0 bytes if it is not due; nothing changes then. DGT_NO_ROOM: the buffer has less than
+ * the `bytes` bytes that it would write, and nothing changed. There is no other status.
+ * It is due at any time if it has never asked. Else it is due a period after the last asking, or
+ * a quarter of the period after it, rounded down, if there was a disturbance since. The picture
+ * stays known, and a dump is awaited then. */
+dgt_sent dgt_follower_ask(dgt_follower *follower, uint64_t now, uint8_t *out, size_t n);
+
+/* The first time at which dgt_follower_ask writes if nothing is heard before: 0 if it has never
+ * asked. False, and nothing written, if that is past UINT64_MAX: it never asks then. */
+bool dgt_follower_due_at(dgt_follower *follower, uint64_t *time);
+
+/* What each asking asks the board to report by itself: DGT_MODE_UPDATE_BOARD, DGT_MODE_UPDATE or
+ * DGT_MODE_UPDATE_NICE, which are declared with dgt_board_mode. */
+uint8_t dgt_follower_mode(dgt_follower *follower);
+
+/* Has each asking from now on ask for this mode. When the next one is due stays as it was. False,
+ * and nothing changed, if `mode` is none of the three. */
+bool dgt_follower_set_mode(dgt_follower *follower, uint8_t mode);
+
+/* Sends the command that is the byte `code` alone, as dgt_host_send does. It doesn't count as an
+ * asking. After DGT_SEND_RESET the board reports no change until the next asking. */
+dgt_sent dgt_follower_send(dgt_follower *follower, uint8_t code, uint8_t *out, size_t n);
+
+/* Sends a message to the clock, as dgt_host_send_clock does. */
+dgt_sent dgt_follower_send_clock(dgt_follower *follower, uint8_t id, const uint8_t *payload,
+                                 size_t payload_len, uint8_t *out, size_t n);
+
+/* Sends an LED frame, as dgt_host_send_leds does. */
+dgt_sent dgt_follower_send_leds(dgt_follower *follower, const uint8_t *leds, size_t leds_len,
+                                uint8_t *out, size_t n);
+
+/* The pieces on the squares, by their numbers. False, and nothing written, until a dump was heard.
+ * The picture stays known while the follower asks, also when it begins anew. */
+bool dgt_follower_picture(dgt_follower *follower, uint8_t pieces[64]);
+
+/* The same as the placement of a FEN, with a zero at its end. */
+bool dgt_follower_placement(dgt_follower *follower, char text[DGT_PLACEMENT_ROOM]);
+
+/* What the board reported last of its clock. */
+void dgt_follower_clock(dgt_follower *follower, dgt_clock *clock);
+
+/* Whether the picture may be wrong: since the last dump that was awaited there was a disturbance,
+ * or an asking found the one before it unanswered. */
+bool dgt_follower_in_doubt(dgt_follower *follower);
+
+/* The time of the last whole message. False, and nothing written, if none was heard. */
+bool dgt_follower_last_heard(dgt_follower *follower, uint64_t *time);
+
+/* How many heartbeats may still follow one another, of those that the patience allows. */
+uint32_t dgt_follower_heartbeats_left(dgt_follower *follower);
+
+/* The line is lost, and what was under way on it: the follower is as new, with its period, its
+ * patience and its mode. It knows no picture, and its next asking is due at once. */
+void dgt_follower_line_lost(dgt_follower *follower);
 
 /* ---- A decoder: tells the events of a board's bytes, and keeps no picture. */
 

@@ -315,6 +315,78 @@ static void chunks(void) {
     free(decoder);
 }
 
+/* Whether a follower asks at this time, and writes so many bytes. */
+static bool asks(dgt_follower *follower, uint64_t now, size_t bytes) {
+    uint8_t *out = room(DGT_MAX_ASKING);
+    dgt_sent asked = dgt_follower_ask(follower, now, out, DGT_MAX_ASKING);
+    bool right = asked.status == DGT_SENT && asked.bytes == bytes;
+    for (size_t i = bytes; i < DGT_MAX_ASKING; i++) right = right && out[i] == 0xa5;
+    if (bytes == 2) right = right && out[0] == 0x44 && out[1] == 0x42;
+    if (bytes == DGT_MAX_ASKING) right = right && !memcmp(out + 254, "\0\x44\x42\x44", 4);
+    free(out);
+    return right;
+}
+
+static void follower(void) {
+    dgt_follower *follower = room(dgt_follower_size());
+    CHECK(dgt_follower_new(follower, 1000, 1));
+    uint8_t dump[67] = {0x86, 0, 67, [3 + 52] = 1}, out[DGT_MAX_WORD], pieces[64];
+    char text[DGT_PLACEMENT_ROOM];
+    dgt_clock clock;
+    uint64_t time = 5;
+    CHECK(dgt_follower_due_at(follower, &time) && time == 0);
+    CHECK(!dgt_follower_last_heard(follower, &time) && time == 0);
+    CHECK(!dgt_follower_picture(follower, pieces) && !dgt_follower_placement(follower, text));
+    dgt_sent asked = dgt_follower_ask(follower, 7, out, 257);
+    CHECK(asked.status == DGT_NO_ROOM && asked.bytes == DGT_MAX_ASKING);
+
+    /* A heartbeat follows an answer, and none a heartbeat that has used up the patience. */
+    CHECK(asks(follower, 7, DGT_MAX_ASKING) && asks(follower, 1006, 0));
+    CHECK(dgt_follower_heartbeats_left(follower) == 1);
+    CHECK(dgt_follower_hear(follower, 100, dump, sizeof dump) == 67);
+    CHECK(dgt_follower_last_heard(follower, &time) && time == 100);
+    CHECK(dgt_follower_due_at(follower, &time) && time == 1007);
+    CHECK(asks(follower, 1006, 0) && asks(follower, 1007, 2));
+    CHECK(dgt_follower_heartbeats_left(follower) == 0);
+    dgt_follower_hear_all(follower, 1010, dump, sizeof dump);
+    CHECK(asks(follower, 2007, DGT_MAX_ASKING) && !dgt_follower_in_doubt(follower));
+
+    /* A stray byte disturbs: the next asking is due after a quarter of the period. */
+    dgt_follower_hear_all(follower, 2010, dump, sizeof dump);
+    dgt_follower_hear_all(follower, 2011, BYTES(5, 0x8e));
+    CHECK(dgt_follower_in_doubt(follower));
+    CHECK(dgt_follower_due_at(follower, &time) && time == 2257);
+    CHECK(dgt_follower_placement(follower, text) && !strcmp(text, "8/8/8/8/8/8/4P3/8"));
+    CHECK(asks(follower, 2256, 0) && asks(follower, 2257, DGT_MAX_ASKING));
+    CHECK(dgt_follower_picture(follower, pieces) && pieces[52] == 1);
+    CHECK(asks(follower, 3257, DGT_MAX_ASKING));
+
+    CHECK(dgt_follower_mode(follower) == DGT_MODE_UPDATE_BOARD);
+    CHECK(!dgt_follower_set_mode(follower, DGT_MODE_IDLE));
+    CHECK(dgt_follower_set_mode(follower, DGT_MODE_UPDATE_NICE));
+    CHECK(dgt_follower_mode(follower) == DGT_MODE_UPDATE_NICE);
+    asked = dgt_follower_send(follower, DGT_SEND_VERSION, out, sizeof out);
+    CHECK(asked.status == DGT_SENT && asked.bytes == 1 && out[0] == 0x4d);
+    asked = dgt_follower_send_clock(follower, DGT_ID_BEEP, BYTES(9), out, sizeof out);
+    CHECK(asked.status == DGT_SENT && asked.bytes == 6 && out[4] == 9);
+    asked = dgt_follower_send_leds(follower, BYTES(1, 2), out, sizeof out);
+    CHECK(asked.status == DGT_SENT && asked.bytes == 4 && out[0] == 0x60);
+    CHECK(dgt_follower_send(follower, 0x46, out, sizeof out).status == DGT_NO_COMMAND);
+    dgt_follower_clock(follower, &clock);
+    CHECK(clock.kind == DGT_CLOCK_UNKNOWN);
+
+    dgt_follower_line_lost(follower);
+    CHECK(!dgt_follower_picture(follower, pieces) && !dgt_follower_in_doubt(follower));
+    CHECK(dgt_follower_mode(follower) == DGT_MODE_UPDATE_NICE);
+    CHECK(dgt_follower_due_at(follower, &time) && time == 0);
+
+    /* A time past the last one never comes. */
+    dgt_follower_start(follower, UINT64_MAX, 1);
+    CHECK(asks(follower, 1, DGT_MAX_ASKING) && asks(follower, UINT64_MAX, 0));
+    CHECK(!dgt_follower_due_at(follower, &time) && time == 0);
+    free(follower);
+}
+
 static void decoders(void) {
     dgt_decoder *decoder = room(dgt_decoder_size());
     CHECK(dgt_decoder_new(decoder));
@@ -376,13 +448,14 @@ static void helpers(void) {
 
 int main(void) {
     CHECK(sizeof(dgt_host) == dgt_host_size() && sizeof(dgt_decoder) == dgt_decoder_size());
-    CHECK(sizeof(dgt_board) == dgt_board_size());
+    CHECK(sizeof(dgt_board) == dgt_board_size() && sizeof(dgt_follower) == dgt_follower_size());
     CHECK(sizeof(dgt_command_decoder) == dgt_command_decoder_size());
     host_and_board();
     lost_reply();
     start();
     events();
     chunks();
+    follower();
     decoders();
     helpers();
     return 0;

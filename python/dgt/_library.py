@@ -5,7 +5,7 @@ from __future__ import annotations
 import ctypes
 import os
 import sys
-from ctypes import POINTER, Structure, c_bool, c_size_t, c_uint8, c_void_p
+from ctypes import (POINTER, Structure, c_bool, c_size_t, c_uint8, c_uint32, c_uint64, c_void_p)
 from pathlib import Path
 from typing import Any
 
@@ -13,6 +13,7 @@ MAX_BODY = 16380
 MAX_WORD = 257
 MAX_AWAITED = 16
 RESTART_LENGTH = 257
+MAX_ASKING = 258
 MAX_SENT = 67
 MAX_KEPT = 64
 PLACEMENT_ROOM = 72
@@ -72,7 +73,8 @@ class IdentityStruct(Structure):
 
 
 # How many bytes a handle takes, as dgt.h has it.
-_SIZES = {"dgt_host": 16520, "dgt_decoder": 16416, "dgt_command_decoder": 288, "dgt_board": 712}
+_SIZES = {"dgt_host": 16520, "dgt_follower": 16592, "dgt_decoder": 16416,
+          "dgt_command_decoder": 288, "dgt_board": 712}
 
 _ROOM = (c_void_p, c_size_t)
 _HANDLE = {
@@ -94,6 +96,25 @@ _FUNCTIONS: dict[str, dict[str, tuple[Any, ...]]] = {
         "awaited": (c_size_t, c_void_p, c_void_p),
         "give_up_awaited": (c_size_t, c_void_p),
         "unread": (c_size_t, c_void_p),
+        "line_lost": (None, c_void_p),
+    },
+    "dgt_follower": _HANDLE | {
+        "start": (None, c_void_p, c_uint64, c_uint32),
+        "hear": (c_size_t, c_void_p, c_uint64, *_ROOM),
+        "hear_all": (None, c_void_p, c_uint64, *_ROOM),
+        "ask": (SentStruct, c_void_p, c_uint64, *_ROOM),
+        "due_at": (c_bool, c_void_p, POINTER(c_uint64)),
+        "mode": (c_uint8, c_void_p),
+        "set_mode": (c_bool, c_void_p, c_uint8),
+        "send": (SentStruct, c_void_p, c_uint8, *_ROOM),
+        "send_clock": (SentStruct, c_void_p, c_uint8, *_ROOM, *_ROOM),
+        "send_leds": (SentStruct, c_void_p, *_ROOM, *_ROOM),
+        "picture": (c_bool, c_void_p, c_void_p),
+        "placement": (c_bool, c_void_p, c_void_p),
+        "clock": (None, c_void_p, POINTER(ClockStruct)),
+        "in_doubt": (c_bool, c_void_p),
+        "last_heard": (c_bool, c_void_p, POINTER(c_uint64)),
+        "heartbeats_left": (c_uint32, c_void_p),
         "line_lost": (None, c_void_p),
     },
     "dgt_decoder": _HANDLE | {

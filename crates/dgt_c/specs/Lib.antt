@@ -11,6 +11,8 @@ pub mod Kinds
 pub mod Boards
 pub mod Starting
 pub mod PlainBoard
+pub mod Following
+pub mod PlainFollower
 -- Where handles and what they own lie.
 pub mod Layouts
 pub mod HostLending
@@ -21,3 +23,5 @@ pub mod CommandDecoderLending
 pub mod CommandDecoderPlace
 pub mod BoardLending
 pub mod BoardPlace
+pub mod FollowerLending
+pub mod FollowerPlace

@@ -11,6 +11,7 @@ ghost use Rattle.dgt_c.specs.Layouts.{◌⊗◌, Ascend, LiesAs, bit_alone};
 ghost use Rattle.dgt_c.specs.BoardPlace.{room_size as board_room};
 ghost use Rattle.dgt_c.specs.CommandDecoderPlace.{room_size as command_decoder_room};
 ghost use Rattle.dgt_c.specs.DecoderPlace.{room_size as decoder_room};
+ghost use Rattle.dgt_c.specs.FollowerPlace.{room_size as follower_room};
 ghost use Rattle.dgt_c.specs.HostPlace.{room_size as host_room};
 ghost use Rattle.dgt_c.specs.contracts.board_calls.DgtPolled.{the_row as polled_row, the_type as polled_type};
 ghost use Rattle.dgt_c.specs.contracts.board_calls.DgtTaken.{the_row as taken_row, the_type as taken_type};
@@ -22,6 +23,7 @@ ghost use Rattle.dgt_c.specs.contracts.command_decoder_place.CommandDecoderPlace
 ghost use Rattle.dgt_c.specs.contracts.commands.DgtCommand.{the_row as command_row, the_type as command_type};
 ghost use Rattle.dgt_c.specs.contracts.decoder_place.DecoderPlace.{the_row as decoder_row};
 ghost use Rattle.dgt_c.specs.contracts.events.DgtEvent.{the_row as event_row, the_type as event_type};
+ghost use Rattle.dgt_c.specs.contracts.follower_place.FollowerPlace.{the_row as follower_row};
 ghost use Rattle.dgt_c.specs.contracts.host_place.HostPlace.{the_row as host_row};
 ghost use Rattle.dgt_c.specs.contracts.placements.DgtParsed.{the_row as parsed_row, the_type as parsed_type};
 ghost use Rattle.dgt_c.specs.contracts.sending.DgtSent.{the_row as sent_row, the_type as sent_type};
@@ -63,6 +65,7 @@ use crate::{
 };
 use dgt_board::{MAX_KEPT_BODY, MAX_OWED, MAX_SENT};
 use dgt_command::{MAX_LED_BYTES, MAX_PAYLOAD, MAX_WORD};
+use dgt_follow::MAX_ASKING;
 use dgt_host::{MAX_AWAITED, RESTART_LENGTH};
 use dgt_values::MAX_BODY;
 
@@ -77,12 +80,14 @@ pub fn limits()
     ensures max_leds { MAX_LED_BYTES ≡ 255 }
     ensures max_awaited { MAX_AWAITED ≡ 16 }
     ensures restart_length { RESTART_LENGTH ≡ 257 }
+    ensures max_asking { MAX_ASKING ≡ 258 }
     ensures max_owed { MAX_OWED ≡ 8 }
     ensures max_sent { MAX_SENT ≡ 67 }
     ensures max_kept { MAX_KEPT_BODY ≡ 64 }
     ensures placement_room { PLACEMENT_ROOM ≡ 72 }
     ensures no_such { NONE ≡ 255 }
     ensures host_size { host_room ≡ 16520 }
+    ensures follower_size { follower_room ≡ 16592 }
     ensures decoder_size { decoder_room ≡ 16416 }
     ensures command_decoder_size { command_decoder_room ≡ 288 }
     ensures board_size { board_room ≡ 712 }
@@ -183,6 +188,7 @@ pub fn cases_differ()
 /// lies, and where its members begin, in the order of the law [`members`].
 pub fn layouts()
     ensures host { LiesAs host_row 16520 8 (0 ∷ 8 ∷ []) }
+    ensures follower { LiesAs follower_row 16592 8 (0 ∷ 8 ∷ []) }
     ensures decoder { LiesAs decoder_row 16416 8 (0 ∷ 8 ∷ []) }
     ensures command_decoder { LiesAs command_decoder_row 288 8 (0 ∷ 8 ∷ []) }
     ensures board { LiesAs board_row 712 8 (0 ∷ 8 ∷ []) }

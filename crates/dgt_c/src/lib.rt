@@ -1,6 +1,6 @@
-//! A host, a decoder, a reader of commands and a board for programs in C, and by it for programs in
-//! other languages. The header is `include/dgt.h`, which says of each call what it does and what a
-//! caller owes; `lib/build` makes the archive and the shared object.
+//! A host, a follower, a decoder, a reader of commands and a board for programs in C, and by it for
+//! programs in other languages. The header is `include/dgt.h`, which says of each call what it does
+//! and what a caller owes; `lib/build` makes the archive and the shared object.
 //!
 //! C has a *handle*, an object of a stated size: a pointer, followed by the room for what it points
 //! to. `DgtHost` is that pointer. Contracts see what the handle owns as its ghost field `inside`,
@@ -38,6 +38,10 @@ mod decoder;
 mod decoder_place;
 mod decoding;
 mod events;
+mod follower;
+mod follower_place;
+mod follower_sending;
+mod following;
 mod hearing;
 mod host;
 mod host_place;
@@ -46,6 +50,7 @@ mod looking;
 mod placements;
 mod plain;
 mod plain_board;
+mod plain_follower;
 mod sending;
 mod starting;
 
@@ -60,6 +65,8 @@ pub use commands::DgtCommand;
 pub use decoder::DgtDecoder;
 pub use decoder_place::DecoderPlace;
 pub use events::DgtEvent;
+pub use follower::DgtFollower;
+pub use follower_place::FollowerPlace;
 pub use host::DgtHost;
 pub use host_place::HostPlace;
 pub use placements::DgtParsed;

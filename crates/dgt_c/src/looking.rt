@@ -1,4 +1,4 @@
-//! What C asks of what a host knows.
+//! What C asks of what a host knows, and a follower by its host.
 
 ghost use Rattle.std.specs.Prelude.{◌≡◌, ◌↔◌, ◌≤◌, ◌++◌, length, drop, map, IsTrue, IsSome, MatchOption};
 ghost use Rattle.dgt_values.specs.Board.{piece_code};
@@ -9,20 +9,18 @@ ghost use Rattle.dgt_c.specs.Slices.{with_text};
 
 use crate::clocks::{DgtClock, UNKNOWN_CLOCK, clock_told};
 use crate::copying::{PLACEMENT_ROOM, put_placement};
+use crate::follower::DgtFollower;
 use crate::host::DgtHost;
-use dgt_host::MAX_AWAITED;
+use dgt_host::{Host, MAX_AWAITED};
 use dgt_values::Kind;
 
-/// The codes of the pieces on the board, where they are known; else the slice stays.
-#[unsafe(no_mangle)]
-pub extern "C" fn dgt_host_picture(host: &mut DgtHost, pieces: &mut [u8; 64]) -> bool
-    ensures place { host.new.at ≡ host.old.at }
-    ensures same { host.new.inside ≡ host.old.inside }
-    ensures known { IsTrue result ↔ IsSome host.old.inside.picture }
-    ensures pieces { MatchOption host.old.inside.picture (pieces.new ≡ pieces.old)
+// The codes of the pieces on the board, if a picture is known; else the slice stays.
+fn put_picture(host: &Host, pieces: &mut [u8; 64]) -> bool
+    ensures known { IsTrue result ↔ IsSome host.now.picture }
+    ensures pieces { MatchOption host.now.picture (pieces.new ≡ pieces.old)
         (λ picture. pieces.new ≡ map piece_code picture) }
 {
-    match host.get().picture() {
+    match host.picture() {
         Some(position) => {
             *pieces = position.codes();
             true
@@ -31,16 +29,13 @@ pub extern "C" fn dgt_host_picture(host: &mut DgtHost, pieces: &mut [u8; 64]) ->
     }
 }
 
-/// The placement of the pieces and a zero, where they are known; else the slice stays.
-#[unsafe(no_mangle)]
-pub extern "C" fn dgt_host_placement(host: &mut DgtHost, text: &mut [u8; PLACEMENT_ROOM]) -> bool
-    ensures place { host.new.at ≡ host.old.at }
-    ensures same { host.new.inside ≡ host.old.inside }
-    ensures known { IsTrue result ↔ IsSome host.old.inside.picture }
-    ensures text { MatchOption host.old.inside.picture (text.new ≡ text.old)
+// The placement of the pieces and a zero, if a picture is known; else the slice stays.
+fn put_text(host: &Host, text: &mut [u8; PLACEMENT_ROOM]) -> bool
+    ensures known { IsTrue result ↔ IsSome host.now.picture }
+    ensures text { MatchOption host.now.picture (text.new ≡ text.old)
         (λ picture. text.new ≡ with_text (placement_text picture) text.old) }
 {
-    match host.get().picture() {
+    match host.picture() {
         Some(position) => {
             put_placement(position, text);
             true
@@ -49,17 +44,85 @@ pub extern "C" fn dgt_host_placement(host: &mut DgtHost, text: &mut [u8; PLACEME
     }
 }
 
-/// What was told last of the clock.
+// What was reported last of the clock.
+fn clock_if_told(host: &Host) -> DgtClock
+    ensures { result ≡ clock_if_told host.now.clock }
+{
+    match host.clock() {
+        Some(told) => clock_told(told),
+        None => UNKNOWN_CLOCK,
+    }
+}
+
+/// The codes of the pieces on the board, if they are known; else the slice stays.
+#[unsafe(no_mangle)]
+pub extern "C" fn dgt_host_picture(host: &mut DgtHost, pieces: &mut [u8; 64]) -> bool
+    ensures place { host.new.at ≡ host.old.at }
+    ensures same { host.new.inside ≡ host.old.inside }
+    ensures known { IsTrue result ↔ IsSome host.old.inside.picture }
+    ensures pieces { MatchOption host.old.inside.picture (pieces.new ≡ pieces.old)
+        (λ picture. pieces.new ≡ map piece_code picture) }
+{
+    put_picture(host.get(), pieces)
+}
+
+/// The placement of the pieces and a zero, if they are known; else the slice stays.
+#[unsafe(no_mangle)]
+pub extern "C" fn dgt_host_placement(host: &mut DgtHost, text: &mut [u8; PLACEMENT_ROOM]) -> bool
+    ensures place { host.new.at ≡ host.old.at }
+    ensures same { host.new.inside ≡ host.old.inside }
+    ensures known { IsTrue result ↔ IsSome host.old.inside.picture }
+    ensures text { MatchOption host.old.inside.picture (text.new ≡ text.old)
+        (λ picture. text.new ≡ with_text (placement_text picture) text.old) }
+{
+    put_text(host.get(), text)
+}
+
+/// What was reported last of the clock.
 #[unsafe(no_mangle)]
 pub extern "C" fn dgt_host_clock(host: &mut DgtHost, clock: &mut DgtClock)
     ensures place { host.new.at ≡ host.old.at }
     ensures same { host.new.inside ≡ host.old.inside }
     ensures clock { clock.new ≡ clock_if_told host.old.inside.clock }
 {
-    *clock = match host.get().clock() {
-        Some(told) => clock_told(told),
-        None => UNKNOWN_CLOCK,
-    };
+    *clock = clock_if_told(host.get());
+}
+
+/// The codes of the pieces on the board, if they are known; else the slice stays.
+#[unsafe(no_mangle)]
+pub extern "C" fn dgt_follower_picture(follower: &mut DgtFollower, pieces: &mut [u8; 64]) -> bool
+    ensures place { follower.new.at ≡ follower.old.at }
+    ensures same { follower.new.inside ≡ follower.old.inside }
+    ensures known { IsTrue result ↔ IsSome follower.old.inside.host.picture }
+    ensures pieces { MatchOption follower.old.inside.host.picture (pieces.new ≡ pieces.old)
+        (λ picture. pieces.new ≡ map piece_code picture) }
+{
+    put_picture(follower.get().host(), pieces)
+}
+
+/// The placement of the pieces and a zero, if they are known; else the slice stays.
+#[unsafe(no_mangle)]
+pub extern "C" fn dgt_follower_placement(
+    follower: &mut DgtFollower,
+    text: &mut [u8; PLACEMENT_ROOM],
+) -> bool
+    ensures place { follower.new.at ≡ follower.old.at }
+    ensures same { follower.new.inside ≡ follower.old.inside }
+    ensures known { IsTrue result ↔ IsSome follower.old.inside.host.picture }
+    ensures text { MatchOption follower.old.inside.host.picture (text.new ≡ text.old)
+        (λ picture. text.new ≡ with_text (placement_text picture) text.old) }
+{
+    put_text(follower.get().host(), text)
+}
+
+/// What was reported last of the clock.
+#[unsafe(no_mangle)]
+pub extern "C" fn dgt_follower_clock(follower: &mut DgtFollower, clock: &mut DgtClock)
+    ensures place { follower.new.at ≡ follower.old.at }
+    ensures same { follower.new.inside ≡ follower.old.inside }
+    ensures clock { clock.new ≡ clock_if_told follower.old.inside.host.clock }
+{
+    *clock = clock_if_told(follower.get().host());
 }
 
 // The byte of the command that asks for a reply of this kind.

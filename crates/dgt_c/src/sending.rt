@@ -34,7 +34,7 @@ pub const NO_SUCH_COMMAND: DgtSent = DgtSent {
     bytes: 0,
 };
 
-fn sent_told(outcome: Result<usize, SendFault>) -> DgtSent
+pub(crate) fn sent_told(outcome: Result<usize, SendFault>) -> DgtSent
     ensures { result ≡ sent_told outcome }
 {
     match outcome {
@@ -118,7 +118,7 @@ pub extern "C" fn dgt_host_send_leds(host: &mut DgtHost, leds: &[u8], out: &mut 
 }
 
 // Fills the slice with the clock message of this id that carries these bytes.
-fn spell_clock(id: u8, payload: &[u8], out: &mut [u8])
+pub(crate) fn spell_clock(id: u8, payload: &[u8], out: &mut [u8])
     requires short { length payload.now ≤ MAX_PAYLOAD }
     requires fits { length out.old ≡ length payload.now + 5 }
     ensures { out.new ≡ command_spelling

@@ -1,0 +1,25 @@
+-- What C is told of a follower.
+use Rattle.std.specs.Prelude.{◌≡◌, ℕ, List, Result, Ok, Err}
+use Rattle.dgt_values.specs.declared.refusals.NoRoom.{NoRoom}
+use Rattle.dgt_follow.specs.declared.asking.UpdateMode.{UpdateMode}
+use Rattle.dgt_follow.specs.Follower.{Asks, FollowerView, asking_of}
+use Rattle.dgt_c.specs.declared.board_calls.TheConstants.{MODE_UPDATE, MODE_UPDATE_BOARD, MODE_UPDATE_NICE}
+use Rattle.dgt_c.specs.declared.sending.DgtSent.{DgtSent}
+use Rattle.dgt_c.specs.declared.sending.TheConstants.{SENT, SENT_NO_ROOM}
+
+-- the number of the mode into which the command of this one brings a board
+abbrev pub update_mode_number : UpdateMode → ℕ
+update_mode_number UpdateMode.Squares = MODE_UPDATE_BOARD
+update_mode_number UpdateMode.Clock = MODE_UPDATE
+update_mode_number UpdateMode.ClockChanges = MODE_UPDATE_NICE
+
+abbrev pub asked_told : Result ℕ NoRoom → DgtSent
+asked_told (Ok bytes) = record { status = SENT; bytes = bytes }
+asked_told (Err fault) = record { status = SENT_NO_ROOM; bytes = fault.need }
+
+-- the struct says what asking returns: the follower before and after, the slice before and after
+abbrev pub AsksTold : ℕ → FollowerView → FollowerView → List ℕ → List ℕ → DgtSent → Type 0
+AsksTold now before after old new told =
+    (outcome : Result ℕ NoRoom)
+    × Asks (asking_of before now) now before after old new outcome
+    × (told ≡ asked_told outcome)
