@@ -35,6 +35,7 @@ from .errors import (BadFen, BadPlacement, BadValue, Busy, Closed, DgtError, Ill
                      NoSuchCommand, TooManyAwaited)
 from .events import (Ack, BadLength, Battery, Cut, Dump, Event, Fault, Field, LongSerial, Message,
                      Other, Refused, Serial, Stray, Trademark, Version)
+from .follower import Follower
 from .host import Host
 from .moves import GameBegun, MoveEvent, MoveMade, MoveRecogniser, MoveTakenBack
 from .rules import START_FEN, GameState
@@ -46,10 +47,10 @@ __version__ = "0.1.0"
 __all__ = [
     "Ack", "Ask", "Asked", "BadEnd", "BadFen", "BadLength", "BadPlacement", "BadSize", "BadStart",
     "BadValue", "Battery", "Board", "Busy", "Clock", "ClockId", "ClockMessage", "Closed", "Command",
-    "CommandDecoder", "Cut", "Decoder", "DgtError", "Dump", "Event", "Fault", "Field", "GameBegun",
-    "GameState", "Host", "Identity", "IllegalMove", "LETTERS", "Leds", "LongSerial", "Message",
-    "Mode", "MoveEvent", "MoveMade", "MoveRecogniser", "MoveTakenBack", "Nested", "NoClock",
-    "NoSuchCommand", "Other", "Position", "Refused", "SQUARES", "START_FEN", "Serial", "Stray",
-    "StrayByte", "Time", "Times", "TooManyAwaited", "Trademark", "Version", "Word", "piece_code",
-    "segment", "square_number",
+    "CommandDecoder", "Cut", "Decoder", "DgtError", "Dump", "Event", "Fault", "Field", "Follower",
+    "GameBegun", "GameState", "Host", "Identity", "IllegalMove", "LETTERS", "Leds", "LongSerial",
+    "Message", "Mode", "MoveEvent", "MoveMade", "MoveRecogniser", "MoveTakenBack", "Nested",
+    "NoClock", "NoSuchCommand", "Other", "Position", "Refused", "SQUARES", "START_FEN", "Serial",
+    "Stray", "StrayByte", "Time", "Times", "TooManyAwaited", "Trademark", "Version", "Word",
+    "piece_code", "segment", "square_number",
 ]
