@@ -6,32 +6,24 @@
 //! answers the commands of standard input as a board does, and `dgt simulate` plays a script with a
 //! board, a host, and the lines between them.
 //!
-//! `main` fetches the words and the streams, and `run_words` of `program` does the rest, over any
-//! reader and writers: it has `command_line` read the words, with the texts of `help`, takes the
-//! board or the world of `simulated`, and hands the streams to an engine of `dgt_text`, which reads
-//! and writes. `fault` has what can go wrong, the text and the exit status of each.
+//! `main` fetches the words and the streams, and `run_words` of `dgt_program` does the rest.
 #![tactic(auto)]
 
-mod asking;
-mod command_line;
-mod fault;
-mod help;
-mod program;
-mod simulated;
 #[cfg(test)]
 mod tests;
 
+use dgt_program::{Fault, refuse_arguments, run_words};
 use std::env;
 use std::process::ExitCode;
 
 fn main(rt: HostRuntime) -> ExitCode {
     let alloc = rt.alloc();
     let words = match env::args(&rt) {
-        Ok(words) => words.collect(alloc).map_err(fault::Fault::from),
-        Err(error) => Err(command_line::refuse_arguments(alloc, &error)),
+        Ok(words) => words.collect(alloc).map_err(Fault::from),
+        Err(error) => Err(refuse_arguments(alloc, &error)),
     };
     let status = match words {
-        Ok(words) => program::run_words(alloc, words, rt.stdin(), rt.stdout(), rt.stderr()),
+        Ok(words) => run_words(alloc, words, rt.stdin(), rt.stdout(), rt.stderr()),
         Err(fault) => fault.report(&mut rt.stderr()),
     };
     ExitCode::from(status)

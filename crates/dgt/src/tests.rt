@@ -2,9 +2,8 @@
 //! `checks/rows` compares all else that it prints about its words and its input.
 mod helps;
 
-use crate::fault::Fault;
-use crate::program::run_words;
 use dgt_link::WorldFault;
+use dgt_program::{Fault, run_words};
 use dgt_text::RunFault;
 use std::alloc::{AllocError, Global};
 use std::io;
@@ -163,6 +162,7 @@ fn stops_at_a_refused_read(rt: HostRuntime) -> Result<(), Fail> {
     for line in [
         "dgt monitor",
         "dgt picture",
+        "dgt picture --doubt",
         "dgt commands",
         "dgt board",
         "dgt simulate",
@@ -239,6 +239,7 @@ fn program_has_memory(rt: HostRuntime) -> Result<(), Fail> {
         ("dgt simulate --faults", FIRST_MOVE.as_bytes()),
         ("dgt monitor", b"\x8e"),
         ("dgt picture", b"\x8e"),
+        ("dgt picture --doubt", b"\x8e"),
         ("dgt commands", b"\x42\x2b"),
         ("dgt show 8e00052401", b""),
         ("dgt --help", b""),

@@ -7,4 +7,6 @@ pub mod PictureLemmas
 pub mod PieceLemmas
 pub mod RankLemmas
 pub mod TextLemmas
+mod DoubtLemmas
 mod RefusalLemmas
+mod ReportLemmas

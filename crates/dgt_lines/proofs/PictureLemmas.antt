@@ -1,16 +1,12 @@
 -- Pictures that events set, one event after another.
-use Rattle.std.proofs.Common.{◌≡◌, ℕ, List, [], ◌∷◌, ◌++◌, Option, Some, None, refl, sym, ◌∙◌, ap, append_assoc, append-nil, length, map}
+use Rattle.std.proofs.Common.{◌≡◌, ℕ, List, [], ◌∷◌, ◌++◌, Option, Some, None, refl, sym, ◌∙◌, ap, append_assoc, length, map}
 use Rattle.std.proofs.lemmas.Grind.{flat_map-append}
 use Rattle.std.proofs.lemmas.List.{map-append}
 use Rattle.std.specs.List.{flat_map, last_or}
 use Rattle.dgt_values.specs.declared.pieces.Piece.{Piece}
 use Rattle.dgt_message.specs.Content.Content.{dump, field, times, no_clock, ack, serial, version, carried}
-use Rattle.dgt_message.specs.declared.message.Message as code_message
-use Rattle.dgt_decode.specs.Grammar.{Event, Message, Refused, Cut, BadLength, Stray, Placed, at_place, events, open_message}
-use Rattle.dgt_decode.specs.Feeding.{event_content}
+use Rattle.dgt_decode.specs.Grammar.{Event, Message, Refused, Cut, BadLength, Stray, Placed, events, open_message}
 use Rattle.dgt_decode.specs.Laws.{PiecesAdd}
-use Rattle.dgt_decode.specs.declared.event.Event as code
-use Rattle.dgt_decode.specs.declared.event.Event.TheVariants as code_events
 use Rattle.dgt_host.specs.Host.{HostView, host_after_event, host_after_events, new_host}
 use Rattle.dgt_lines.specs.Lines.{events_after}
 use Rattle.dgt_lines.specs.Pictures.{LastLineIsPicture, PictureIsTheHosts, PlacedPicture, picture_after_event, picture_after_events, picture_line, picture_lines, picture_set, picture_told, pictures, pictures_text}
@@ -51,45 +47,6 @@ pub picture_told-append : PiecesAdd → (bytes piece : List ℕ)
 picture_told-append pieces bytes piece =
     ap (picture_after_events None) (pieces.behind bytes piece)
     ∙ picture_after-append None (events bytes) (events_after (open_message bytes) (length bytes) piece)
-
--- ---- one event more, behind which the picture is `after`
-
-module _ (before now after : Option (List Piece)) (xs : List Placed) (place : ℕ) (event : Event)
-    (shown : now ≡ picture_after_events before xs) (heard : after ≡ picture_after_event now event) where
-  heard_behind : after ≡ picture_after_event (picture_after_events before xs) event
-  heard_behind = heard ∙ ap (λ p. picture_after_event p event) shown
-
-  pub behind_more : after ≡ picture_after_events before (xs ++ at_place place event ∷ [])
-  behind_more = heard_behind ∙ sym (picture_after-append before xs (at_place place event ∷ []))
-
-  pub lines_more : picture_lines before (xs ++ at_place place event ∷ []) ≡ picture_lines before xs ++ flat_map
-      picture_line (picture_set place event after)
-  lines_more =
-      picture_lines-append before xs (at_place place event ∷ [])
-      ∙ ap (λ l. picture_lines before xs ++ flat_map picture_line l)
-      (append-nil _ ∙ ap (picture_set place event) (sym heard_behind))
-
-  -- and events behind it
-  pub lines_whole : (all later : List Placed) → all ≡ (xs ++ at_place place event ∷ []) ++ later
-      → picture_lines before all ≡ picture_lines before xs ++
-      (flat_map picture_line (picture_set place event after) ++ picture_lines
-      (picture_after_events before (xs ++ at_place place event ∷ [])) later)
-  lines_whole all later e =
-      ap (picture_lines before) e
-      ∙ picture_lines-append before (xs ++ at_place place event ∷ []) later
-      ∙ ap (λ l. l ++ picture_lines (picture_after_events before (xs ++ at_place place event ∷ [])) later) lines_more
-      ∙ append_assoc (picture_lines before xs) _ _
-
--- an event that is no message sets nothing
-pub no_message : (e : code.Event) (event : Event)
-    → ((message : code_message.Message) → e ≡ code_events.Message message → ⊥) → event_content e ≡ event
-    → (picture : Option (List Piece)) (place : ℕ) → (picture ≡ picture_after_event picture event)
-    × (picture_set place event picture ≡ [])
-no_message (code_events.Message message) event h e = absurd (h message refl)
-no_message (code_events.Refused code fault) event h e = λ picture place. rw (← e) (refl, refl)
-no_message (code_events.Cut have) event h e = λ picture place. rw (← e) (refl, refl)
-no_message code_events.BadLength event h e = λ picture place. rw (← e) (refl, refl)
-no_message (code_events.Stray byte) event h e = λ picture place. rw (← e) (refl, refl)
 
 -- ---- the last line
 

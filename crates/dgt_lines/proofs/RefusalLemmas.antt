@@ -1,13 +1,13 @@
 -- What a refused write leaves, and what waits for a flush.
-use Rattle.std.proofs.Common.{◌≡◌, ℕ, ◌≤◌, List, [], ◌∷◌, ◌++◌, Bool, false, Result, Ok, Err, Option, refl, ◌∙◌, ap, subst, sym, arith, length, take, append-nil}
+use Rattle.std.proofs.Common.{◌≡◌, ℕ, ◌≤◌, List, [], ◌∷◌, ◌++◌, Bool, false, Result, Ok, Err, refl, ◌∙◌, ap, subst, sym, arith, length, take, append-nil}
 use Rattle.std.specs.Prelude.{OnOk, OnErr}
-use Rattle.dgt_values.specs.declared.pieces.Piece.{Piece}
 use Rattle.dgt_decode.specs.Grammar.{open_message}
 use Rattle.dgt_lines.specs.Lines.{events_after, lines_after}
 use Rattle.dgt_lines.specs.Marks.{Waits}
-use Rattle.dgt_lines.specs.Pictures.{picture_after_events, picture_lines}
 use Rattle.dgt_lines.specs.Refusals.{StopsInLines, StopsInPictures}
+use Rattle.dgt_lines.specs.Reports.{report_lines, state_after_events}
 use Rattle.dgt_lines.specs.Writing.{Gathered, Stopped, Writes}
+use Rattle.dgt_lines.specs.declared.doubts.PictureState.{PictureState}
 use Rattle.dgt_lines.specs.declared.faults.RunFault.{RunFault}
 use Rattle.dgt_lines.specs.declared.faults.RunFault.TheVariants.{WriteFailed}
 use Rattle.dgt_lines.specs.declared.ends.Sink.{Ghosts as Sink}
@@ -42,9 +42,9 @@ module _ {S : Type 0} (W : Sink S) where
     lines_stop (Err f) text e h =
         record { used = used; within = within; stopped = subst (λ l. Stopped W a c l) (sym e) h; framed = framed }
 
-    pub pictures_stop : {A : Type 0} (r : Result A RunFault) (text : List ℕ) (before after : Option (List Piece))
-        → after ≡ picture_after_events before (events_after held offset (take used piece))
-        → picture_lines before (events_after held offset (take used piece)) ≡ text → Stopped W a c text
+    pub pictures_stop : {A : Type 0} (r : Result A RunFault) (text : List ℕ) (before after : PictureState)
+        → after ≡ state_after_events before (events_after held offset (take used piece))
+        → report_lines before (events_after held offset (take used piece)) ≡ text → Stopped W a c text
         → OnErr r (StopsInPictures W a c offset held piece held' before after)
     pictures_stop (Ok x) text before after shown e h = tt
     pictures_stop (Err f) text before after shown e h =
@@ -53,7 +53,7 @@ module _ {S : Type 0} (W : Sink S) where
           within = within;
           stopped = subst (λ l. Stopped W a c l) (sym e) h;
           framed = framed;
-          shown = shown;
+          state = shown;
         }
 
     -- what was gathered is refused
@@ -67,9 +67,9 @@ module _ {S : Type 0} (W : Sink S) where
         (gathered_stop o a b c _ [] h (subst (λ l. Stopped W b c l) (sym (append-nil o)) k.1))
 
     pub pictures_stop_out : {A : Type 0} (r : Result A RunFault) (b : S) (o : List ℕ)
-        (before after : Option (List Piece))
-        → after ≡ picture_after_events before (events_after held offset (take used piece))
-        → Gathered W [] o a b (picture_lines before (events_after held offset (take used piece))) → Writes W b c r o
+        (before after : PictureState)
+        → after ≡ state_after_events before (events_after held offset (take used piece))
+        → Gathered W [] o a b (report_lines before (events_after held offset (take used piece))) → Writes W b c r o
         → OnErr r (StopsInPictures W a c offset held piece held' before after)
     pictures_stop_out (Ok x) b o before after shown h k = tt
     pictures_stop_out {A = A} (Err f) b o before after shown h k =

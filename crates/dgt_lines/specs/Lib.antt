@@ -1,6 +1,7 @@
 -- what public contracts cite
 pub mod Lines
 pub mod Pictures
+pub mod Reports
 pub mod FaultText
 pub mod Marks
 pub mod Writing

@@ -1,10 +1,10 @@
 -- What a refused write leaves, of a piece that comes after other bytes.
-use Rattle.std.specs.Prelude.{◌≡◌, ℕ, ◌≤◌, List, ◌++◌, length, take, Option}
-use Rattle.dgt_values.specs.declared.pieces.Piece.{Piece}
+use Rattle.std.specs.Prelude.{◌≡◌, ℕ, ◌≤◌, List, ◌++◌, length, take}
 use Rattle.dgt_decode.specs.Grammar.{open_message}
+use Rattle.dgt_lines.specs.declared.doubts.PictureState.{PictureState}
 use Rattle.dgt_lines.specs.declared.ends.Sink.{Ghosts as Sink}
 use Rattle.dgt_lines.specs.Lines.{events_after, lines_after}
-use Rattle.dgt_lines.specs.Pictures.{picture_after_events, picture_lines}
+use Rattle.dgt_lines.specs.Reports.{report_lines, state_after_events}
 use Rattle.dgt_lines.specs.Writing.{Stopped}
 
 -- The sink took a prefix of the lines of the first bytes of the piece, and then refused. These
@@ -17,12 +17,12 @@ pub record StopsInLines {S : Type 0} (W : Sink S) (old new : S) (offset : ℕ)
   pub stopped : Stopped W old new (lines_after held offset (take used piece))
   pub framed : held' ≡ open_message (held ++ take used piece)
 
--- the same of the lines that show the board: the picture was `before`, and is `after`
+-- the same of the lines that show the board: the state was `before`, and is `after`
 pub record StopsInPictures {S : Type 0} (W : Sink S) (old new : S) (offset : ℕ)
-    (held piece held' : List ℕ) (before after : Option (List Piece)) : Type 0 where
+    (held piece held' : List ℕ) (before after : PictureState) : Type 0 where
   pub used : ℕ
   pub within : used ≤ length piece
   pub stopped : Stopped W old new
-      (picture_lines before (events_after held offset (take used piece)))
+      (report_lines before (events_after held offset (take used piece)))
   pub framed : held' ≡ open_message (held ++ take used piece)
-  pub shown : after ≡ picture_after_events before (events_after held offset (take used piece))
+  pub state : after ≡ state_after_events before (events_after held offset (take used piece))

@@ -7,8 +7,11 @@ ghost use Rattle.dgt_decode.specs.Grammar.{open_message};
 ghost use Rattle.dgt_lines.specs.InPieces.{InPieces};
 ghost use Rattle.dgt_lines.specs.Lines.{events_after, lines, lines_after};
 ghost use Rattle.dgt_lines.specs.Pictures.{LastLineIsPicture, PictureIsTheHosts, picture_after_events, picture_lines, picture_told, pictures_text};
+ghost use Rattle.dgt_lines.specs.Reports.{DoubtsKeepThePicture, DoubtsLeavePictures, FirstFaultsAreReported, IgnoredFaultsAreSilent, report_lines, report_text, state_after_events, state_of};
 ghost use Rattle.dgt_lines.specs.Writing.{InARow};
+ghost use Rattle.dgt_lines.specs.declared.doubts.Doubt.{Doubt};
 
+use crate::doubts::Doubt;
 use crate::ends::{Failed, Sink};
 use crate::faults::RunFault;
 use crate::{LINES_ROOM, PICTURES_ROOM};
@@ -30,6 +33,7 @@ pub fn equal_is_same()
 pub fn clone_is_same()
     ensures run_fault { CloneIsSame ⟦<RunFault as Clone>⟧ }
     ensures failed { CloneIsSame ⟦<Failed as Clone>⟧ }
+    ensures doubt { CloneIsSame ⟦<Doubt as Clone>⟧ }
 {}
 
 /// What calls write or gather one after another, the sink takes in a row, up to the first refusal.
@@ -62,6 +66,32 @@ pub fn pictures_append()
 /// that is unknown there is no line.
 pub fn last_line_is_picture()
     ensures { LastLineIsPicture }
+{}
+
+/// The reports of bytes in a row are those of the first ones, and then those of the chunk after
+/// them, and so it is with the state.
+pub fn reports_append()
+    ensures lines { (doubt : Doubt) (bytes piece : List ℕ) → report_text doubt (bytes ++ piece)
+        ≡ report_text doubt bytes ++ report_lines (state_of doubt bytes)
+        (events_after (open_message bytes) (length bytes) piece) }
+    ensures state { (doubt : Doubt) (bytes piece : List ℕ) → state_of doubt (bytes ++ piece)
+        ≡ state_after_events (state_of doubt bytes)
+        (events_after (open_message bytes) (length bytes) piece) }
+{
+    laws::pieces_in_a_row();
+}
+
+/// The lines that show the board are the same, whether doubts are reported or not, and so is the
+/// picture. If faults raise no doubt, there are no other lines.
+pub fn doubts_leave_pictures()
+    ensures shown { DoubtsLeavePictures }
+    ensures picture { DoubtsKeepThePicture }
+    ensures ignored { IgnoredFaultsAreSilent }
+{}
+
+/// A fault is reported if it is the first one since a dump, and no other fault is.
+pub fn first_faults_are_reported()
+    ensures { FirstFaultsAreReported }
 {}
 
 /// The picture that lines show is that of a host that hears the same bytes, also where this is

@@ -9,13 +9,14 @@
 //! [`write_event`] writes the line of one event, as `00000005 field e4 P`: how many bytes had come,
 //! and what they say. [`write_lines`] writes the lines of a piece of what a board sends, and
 //! [`write_end`] the one of what is unfinished at the end. [`write_pictures`] writes lines that
-//! show the board, as `00000067 rnbqkbnr/pppppppp/8/8/8/8/PPPPPPPP/RNBQKBNR`, and keeps a
-//! [`Picture`] of it.
+//! show the board, as `00000067 rnbqkbnr/pppppppp/8/8/8/8/PPPPPPPP/RNBQKBNR`, and lines of doubts
+//! about it, as `00000072 doubt`, if it is to. It keeps a [`PictureState`].
 //!
 //! The format of lines is this project's own choice. No call takes memory. [`laws`] says what holds
 //! of lines and of writes as such.
 #![tactic(auto)]
 
+mod doubts;
 mod ends;
 mod faults;
 mod gathering;
@@ -28,6 +29,7 @@ mod slice_source;
 mod std_device;
 mod wording;
 
+pub use doubts::{Doubt, PictureState};
 pub use ends::{Failed, Sink, Source};
 pub use faults::RunFault;
 pub use gathering::{Outgoing, flush, put};

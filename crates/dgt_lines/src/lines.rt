@@ -1,6 +1,6 @@
 //! The lines of events.
 
-ghost use Rattle.std.specs.Prelude.{◌≡◌, ◌+◌, ◌/◌, ◌%◌, ◌<◌, ◌≤◌, ◌++◌, [], ◌∷◌, false, length, OnOk, OnErr};
+ghost use Rattle.std.specs.Prelude.{◌≡◌, ◌≢◌, ◌+◌, ◌/◌, ◌%◌, ◌<◌, ◌≤◌, ℕ, List, ◌++◌, [], ◌∷◌, false, length, OnOk, OnErr};
 ghost use Rattle.hex.specs.Hex.{encode_lower};
 ghost use Rattle.dgt_decode.specs.Grammar.{message_event};
 ghost use Rattle.dgt_decode.specs.Feeding.{IsWholeMessage, event_content, event_found_in};
@@ -11,7 +11,7 @@ ghost use Rattle.dgt_lines.specs.Marks.{Waits};
 use crate::ends::Sink;
 use crate::faults::RunFault;
 use crate::gathering::{LINE_ROOM, Outgoing};
-use crate::wording::{push_event, push_field};
+use crate::wording::{push_event, push_fault, push_field};
 use dgt_decode::{Event, Found, Framer, field_update};
 
 // How many carried bytes have their digits added at once.
@@ -154,29 +154,52 @@ pub(crate) fn put_found<W: Sink, const ROOM: usize>(
 {
     match found {
         Found::Message => put_message(outgoing, writer, offset, framer),
-        other => put_event_of(outgoing, writer, offset, framer, *other),
+        fault => put_fault(outgoing, writer, offset, *fault),
     }
 }
 
-// The line of what a framer found, by its event. Not inlined, since room for an event would be
-// cleared for each field too.
+// The line of a fault, which takes no event. Not inlined, so that it takes nothing from the lines
+// of fields.
 #[inline(never)]
-fn put_event_of<W: Sink, const ROOM: usize>(
+fn put_fault<W: Sink, const ROOM: usize>(
     outgoing: &mut Outgoing<ROOM>,
     writer: &mut W,
     offset: u64,
-    framer: &Framer,
-    found: Found,
+    fault: Found,
 ) -> Result<(), RunFault>
     requires room { LINE_ROOM ≤ ROOM }
-    requires whole { found ≡ Found.Message → IsWholeMessage framer.now }
-    ensures output { Gathers W.Sink (outgoing.old, outgoing.new) writer.old writer.new
-        result (event_line offset (event_found_in framer.now found)) }
+    requires fault { fault ≢ Found.Message }
+    ensures output { (bytes : List ℕ) → Gathers W.Sink (outgoing.old, outgoing.new) writer.old
+        writer.new result (event_line offset (event_found_in bytes fault)) }
     ensures dropped { OnErr result (outgoing.new ≡ []) }
     ensures no_flush { W.flushed writer.old ≡ false → W.flushed writer.new ≡ false }
     ensures waits { OnOk result (Waits outgoing.new (W.flushed writer.new)) }
 {
-    put_event(outgoing, writer, offset, &framer.event(found))
+    outgoing.make_room(writer)?;
+    push_offset(outgoing, offset);
+    push_fault(outgoing, fault);
+    outgoing.push(b"\n");
+    Ok(())
+}
+
+// The line of a whole message by its event. Not inlined, since room for an event would be cleared
+// for each field too.
+#[inline(never)]
+fn put_message_event<W: Sink, const ROOM: usize>(
+    outgoing: &mut Outgoing<ROOM>,
+    writer: &mut W,
+    offset: u64,
+    framer: &Framer,
+) -> Result<(), RunFault>
+    requires room { LINE_ROOM ≤ ROOM }
+    requires whole { IsWholeMessage framer.now }
+    ensures output { Gathers W.Sink (outgoing.old, outgoing.new) writer.old writer.new
+        result (event_line offset (message_event framer.now)) }
+    ensures dropped { OnErr result (outgoing.new ≡ []) }
+    ensures no_flush { W.flushed writer.old ≡ false → W.flushed writer.new ≡ false }
+    ensures waits { OnOk result (Waits outgoing.new (W.flushed writer.new)) }
+{
+    put_event(outgoing, writer, offset, &framer.event(Found::Message))
 }
 
 // The line of a whole message. Most messages are fields, whose lines are formed without an event:
@@ -196,7 +219,7 @@ fn put_message<W: Sink, const ROOM: usize>(
     ensures waits { OnOk result (Waits outgoing.new (W.flushed writer.new)) }
 {
     let Some((square, piece)) = field_update(framer.bytes()) else {
-        return put_event_of(outgoing, writer, offset, framer, Found::Message);
+        return put_message_event(outgoing, writer, offset, framer);
     };
     outgoing.make_room(writer)?;
     push_offset(outgoing, offset);

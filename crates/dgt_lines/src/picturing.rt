@@ -1,17 +1,17 @@
 //! The lines that show the board, piece after piece.
 
-ghost use Rattle.std.specs.Prelude.{◌≡◌, ◌+◌, ◌^◌, ◌<◌, ◌≤◌, ℕ, [], ◌++◌, false, if◌then◌else◌, length, OnOk, OnErr};
+ghost use Rattle.std.specs.Prelude.{◌≡◌, ◌+◌, ◌^◌, ◌<◌, ◌≤◌, [], ◌++◌, false, codes, length, map, OnOk, OnErr};
 ghost use Rattle.std.specs.List.{flat_map};
-ghost use Rattle.dgt_message.specs.Content.{content};
 ghost use Rattle.dgt_decode.specs.Grammar.{message_event, open_message};
-ghost use Rattle.dgt_decode.specs.Feeding.{IsWholeMessage, event_content, event_found_in};
-ghost use Rattle.dgt_host.specs.Host.{picture_after};
-ghost use Rattle.dgt_lines.specs.Lines.{events_after};
+ghost use Rattle.dgt_decode.specs.Feeding.{IsWholeMessage, event_found_in};
+ghost use Rattle.dgt_lines.specs.Lines.{events_after, line};
 ghost use Rattle.dgt_lines.specs.Marks.{Waits};
-ghost use Rattle.dgt_lines.specs.Pictures.{known_at, picture_after_event, picture_after_events, picture_line, picture_lines, picture_set};
+ghost use Rattle.dgt_lines.specs.Pictures.{known_at};
 ghost use Rattle.dgt_lines.specs.Refusals.{StopsInPictures};
+ghost use Rattle.dgt_lines.specs.Reports.{Shows, fault_reports, report_line, report_lines, reports_at, state_after_event, state_after_events, state_after_fault};
 ghost use Rattle.dgt_lines.specs.Writing.{Gathers, Writes};
 
+use crate::doubts::PictureState;
 use crate::ends::Sink;
 use crate::faults::RunFault;
 use crate::gathering::Outgoing;
@@ -19,7 +19,6 @@ use crate::laws;
 use crate::lines::push_offset;
 use crate::pictures::Picture;
 use dgt_decode::{Event, Found, Framer, field_update};
-use dgt_message::Message;
 
 /// Room for the lines of placements of 4,096 bytes of field updates: 820 lines of at most 81 bytes,
 /// where the offset has eight digits.
@@ -34,11 +33,11 @@ fn put_known<W: Sink>(
     picture: &Option<Picture>,
 ) -> Result<(), RunFault>
     ensures output { Gathers W.Sink (outgoing.old, outgoing.new) writer.old writer.new
-        result (flat_map picture_line (known_at offset picture.now)) }
+        result (flat_map report_line (map Shows (known_at offset picture.now))) }
     ensures dropped { OnErr result (outgoing.new ≡ []) }
     ensures no_flush { W.flushed writer.old ≡ false → W.flushed writer.new ≡ false }
     ensures waits { OnOk result (Waits
-        (outgoing.old ++ flat_map picture_line (known_at offset picture.now))
+        (outgoing.old ++ flat_map report_line (map Shows (known_at offset picture.now)))
         (W.flushed writer.old) → Waits outgoing.new (W.flushed writer.new)) }
 {
     let Some(picture) = picture else {
@@ -50,61 +49,80 @@ fn put_known<W: Sink>(
     Ok(())
 }
 
-// Makes of the picture what a message does. The answer tells whether the message is one that sets
-// the picture where it is known.
-fn hear(picture: &mut Option<Picture>, message: &Message<'_>) -> bool
-    ensures shown { picture.new ≡ picture_after picture.old (content message.now) }
-    ensures sets { (place : ℕ) →
-        picture_set place (event_content (Event.Message message.now)) picture.new
-        ≡ (if result then known_at place picture.new else []) }
+// A fault may raise a doubt, and its line follows.
+#[inline(always)]
+fn hear_fault<W: Sink>(
+    state: &mut PictureState,
+    outgoing: &mut Outgoing<PICTURES_ROOM>,
+    writer: &mut W,
+    offset: u64,
+) -> Result<(), RunFault>
+    ensures state { state.new ≡ state_after_fault state.old }
+    ensures output { Gathers W.Sink (outgoing.old, outgoing.new) writer.old writer.new
+        result (flat_map report_line (fault_reports offset state.old)) }
+    ensures dropped { OnErr result (outgoing.new ≡ []) }
+    ensures no_flush { W.flushed writer.old ≡ false → W.flushed writer.new ≡ false }
+    ensures waits { OnOk result (Waits
+        (outgoing.old ++ flat_map report_line (fault_reports offset state.old))
+        (W.flushed writer.old) → Waits outgoing.new (W.flushed writer.new)) }
 {
-    match message {
-        Message::Dump(position) => {
-            *picture = Some(Picture::new(position));
-            true
-        }
-        Message::Field { square, piece } => {
-            if let Some(known) = picture {
-                known.set(*square, *piece);
-            }
-            true
-        }
-        _ => false,
+    if !state.raise() {
+        return Ok(());
     }
+    put_doubt(outgoing, writer, offset)
 }
 
-// What a whole message says sets the picture, and its line follows. Not inlined, since room for an
-// event would be cleared for each field too.
+// The line of a doubt. Not inlined, since it is rare.
+#[inline(never)]
+fn put_doubt<W: Sink>(
+    outgoing: &mut Outgoing<PICTURES_ROOM>,
+    writer: &mut W,
+    offset: u64,
+) -> Result<(), RunFault>
+    ensures output { Gathers W.Sink (outgoing.old, outgoing.new) writer.old writer.new
+        result (line offset (codes "doubt")) }
+    ensures dropped { OnErr result (outgoing.new ≡ []) }
+    ensures no_flush { W.flushed writer.old ≡ false → W.flushed writer.new ≡ false }
+    ensures waits { OnOk result (Waits outgoing.new (W.flushed writer.new)) }
+{
+    outgoing.make_room(writer)?;
+    push_offset(outgoing, offset);
+    outgoing.push(b"doubt\n");
+    Ok(())
+}
+
+// A whole message sets the picture, and its line follows; one that says nothing is a fault. Not
+// inlined, since room for an event would be cleared for each field too.
 #[inline(never)]
 fn hear_event<W: Sink>(
-    picture: &mut Option<Picture>,
+    state: &mut PictureState,
     outgoing: &mut Outgoing<PICTURES_ROOM>,
     writer: &mut W,
     offset: u64,
     framer: &Framer,
 ) -> Result<(), RunFault>
     requires { IsWholeMessage framer.now }
-    ensures shown { picture.new ≡ picture_after_event picture.old (message_event framer.now) }
+    ensures state { state.new ≡ state_after_event state.old (message_event framer.now) }
     ensures output { Gathers W.Sink (outgoing.old, outgoing.new) writer.old writer.new result
-        (flat_map picture_line (picture_set offset (message_event framer.now) picture.new)) }
+        (flat_map report_line (reports_at offset (message_event framer.now) state.old)) }
     ensures dropped { OnErr result (outgoing.new ≡ []) }
     ensures no_flush { W.flushed writer.old ≡ false → W.flushed writer.new ≡ false }
     ensures waits { OnOk result (Waits (outgoing.old
-        ++ flat_map picture_line (picture_set offset (message_event framer.now) picture.new))
+        ++ flat_map report_line (reports_at offset (message_event framer.now) state.old))
         (W.flushed writer.old) → Waits outgoing.new (W.flushed writer.new)) }
 {
     let Event::Message(message) = framer.event(Found::Message) else {
-        return Ok(());
+        return hear_fault(state, outgoing, writer, offset);
     };
-    if !hear(picture, &message) {
+    if !state.hear(&message) {
         return Ok(());
     }
-    put_known(outgoing, writer, offset, picture)
+    put_known(outgoing, writer, offset, &state.picture)
 }
 
-// What was found sets the picture, and its line follows.
+// What was found sets the picture or puts it in doubt, and its line follows.
 fn hear_found<W: Sink>(
-    picture: &mut Option<Picture>,
+    state: &mut PictureState,
     outgoing: &mut Outgoing<PICTURES_ROOM>,
     writer: &mut W,
     offset: u64,
@@ -112,41 +130,44 @@ fn hear_found<W: Sink>(
     found: &Found,
 ) -> Result<(), RunFault>
     requires { found.now ≡ Found.Message → IsWholeMessage framer.now }
-    ensures shown { picture.new
-        ≡ picture_after_event picture.old (event_found_in framer.now found.now) }
+    ensures state { state.new
+        ≡ state_after_event state.old (event_found_in framer.now found.now) }
     ensures output { Gathers W.Sink (outgoing.old, outgoing.new) writer.old writer.new result
-        (flat_map picture_line
-        (picture_set offset (event_found_in framer.now found.now) picture.new)) }
+        (flat_map report_line
+        (reports_at offset (event_found_in framer.now found.now) state.old)) }
     ensures dropped { OnErr result (outgoing.new ≡ []) }
     ensures no_flush { W.flushed writer.old ≡ false → W.flushed writer.new ≡ false }
-    ensures waits { OnOk result (Waits (outgoing.old ++ flat_map picture_line
-        (picture_set offset (event_found_in framer.now found.now) picture.new))
+    ensures waits { OnOk result (Waits (outgoing.old ++ flat_map report_line
+        (reports_at offset (event_found_in framer.now found.now) state.old))
         (W.flushed writer.old) → Waits outgoing.new (W.flushed writer.new)) }
 {
     if !matches!(found, Found::Message) {
-        return Ok(());
+        return hear_fault(state, outgoing, writer, offset);
     }
     let Some((square, piece)) = field_update(framer.bytes()) else {
-        return hear_event(picture, outgoing, writer, offset, framer);
+        return hear_event(state, outgoing, writer, offset, framer);
     };
-    if let Some(known) = picture {
+    if let Some(known) = &mut state.picture {
         known.set(square, piece);
     }
-    put_known(outgoing, writer, offset, picture)
+    put_known(outgoing, writer, offset, &state.picture)
 }
 
-/// Writes a line with the placement of the board for each message that sets its picture, of a piece
-/// that comes after so many bytes, in one write where there is room for them.
+/// Writes a line with the placement of the board for each message that sets its picture, of a chunk
+/// that comes after `offset` bytes, in one write if there is room for them.
 ///
-/// `framer` holds what is unfinished of the bytes before, and `picture` is the one that they set,
-/// which is unknown at first. Nothing is flushed.
+/// A fault that raises a doubt has a line with the word `doubt`. The first fault since a dump does,
+/// unless faults raise no doubt. The next dump ends it.
 ///
-/// `WriteFailed` comes if the writer refuses. Then `framer` has read a prefix of the piece and no
-/// more, `picture` is the one after it, the writer took a prefix of its lines, and what was
-/// gathered is dropped.
+/// `framer` holds what is unfinished of the bytes before, and `state` is the one after them. The
+/// first one is [`PictureState::new`]. Nothing is flushed.
+///
+/// `WriteFailed` comes if the writer refuses. Then `framer` has read a prefix of the chunk and no
+/// more, `state` is the one after it, the writer took a prefix of its lines, and what was gathered
+/// is dropped.
 pub fn write_pictures<W: Sink>(
     framer: &mut Framer,
-    picture: &mut Option<Picture>,
+    state: &mut PictureState,
     outgoing: &mut Outgoing<PICTURES_ROOM>,
     offset: u64,
     piece: &[u8],
@@ -155,18 +176,18 @@ pub fn write_pictures<W: Sink>(
     requires empty { outgoing.old ≡ [] }
     requires fits { offset + length piece.now < 2 ^ 64 }
     ensures output { Writes W.Sink writer.old writer.new result
-        (picture_lines picture.old (events_after (open_message framer.old) offset piece.now)) }
-    ensures shown { OnOk result (picture.new ≡ picture_after_events picture.old
+        (report_lines state.old (events_after (open_message framer.old) offset piece.now)) }
+    ensures state { OnOk result (state.new ≡ state_after_events state.old
         (events_after (open_message framer.old) offset piece.now)) }
     ensures framed { OnOk result (open_message framer.new ≡
         open_message (open_message framer.old ++ piece.now)) }
     ensures stops { OnErr result (StopsInPictures W.Sink writer.old writer.new offset
-        (open_message framer.old) piece.now (open_message framer.new) picture.old picture.new) }
+        (open_message framer.old) piece.now (open_message framer.new) state.old state.new) }
     ensures empty { outgoing.new ≡ [] }
 
     // nothing is flushed: the lines wait for a flush, and what waited before still does
     ensures unflushed { OnOk result (Waits
-        (picture_lines picture.old (events_after (open_message framer.old) offset piece.now))
+        (report_lines state.old (events_after (open_message framer.old) offset piece.now))
         (W.flushed writer.old) → W.flushed writer.new ≡ false) }
     ensures no_flush { W.flushed writer.old ≡ false → W.flushed writer.new ≡ false }
 {
@@ -176,7 +197,7 @@ pub fn write_pictures<W: Sink>(
         let advanced = framer.advance(&piece[at..]);
         at += advanced.used;
         if let Some(found) = &advanced.found {
-            hear_found(picture, outgoing, writer, offset + at as u64, framer, found)?;
+            hear_found(state, outgoing, writer, offset + at as u64, framer, found)?;
         }
     }
     outgoing.write_out(writer)

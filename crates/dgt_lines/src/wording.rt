@@ -1,17 +1,17 @@
 //! The words for what a board sends.
 
-ghost use Rattle.std.specs.Prelude.{◌≡◌, ◌+◌, ◌<◌, ◌≤◌, [], ◌++◌, ◌∷◌, length, decimal, map};
+ghost use Rattle.std.specs.Prelude.{◌≡◌, ◌≢◌, ◌+◌, ◌<◌, ◌≤◌, ℕ, List, [], ◌++◌, ◌∷◌, length, decimal, map};
 ghost use Rattle.dgt_values.specs.Bytes.{number};
 ghost use Rattle.dgt_values.specs.Board.{square_number};
 ghost use Rattle.dgt_message.specs.Content.{clock_message, clock_seen, content, absence_seen, answer_seen, time_seen, times_seen};
 ghost use Rattle.dgt_message.specs.Content.Content.{field, times, no_clock, ack, serial};
-ghost use Rattle.dgt_decode.specs.Grammar.{Refused};
-ghost use Rattle.dgt_decode.specs.Feeding.{event_content};
+ghost use Rattle.dgt_decode.specs.Grammar.{Cut, Refused, Stray};
+ghost use Rattle.dgt_decode.specs.Feeding.{event_content, event_found_in};
 ghost use Rattle.dgt_lines.specs.Lines.{byte_text, event_text, message_text, time_text};
 ghost use Rattle.dgt_lines.specs.Wording.{text_with};
 
 use crate::gathering::Outgoing;
-use dgt_decode::Event;
+use dgt_decode::{Event, Found};
 use dgt_message::{BodyFault, Clock, ClockAck, Message, NoClock, Reading, Times};
 use dgt_values::{Body, Piece, SevenBit, Square};
 
@@ -27,17 +27,47 @@ pub(crate) fn push_event<'a, const ROOM: usize>(
     match event {
         Event::Message(message) => return push_message(text, message),
         Event::Refused { code, fault } => push_refusal(text, *code, *fault),
-        Event::Cut { have } => {
-            text.push(b"cut ");
-            text.push_decimal(*have as u64, 1);
-        }
+        Event::Cut { have } => push_cut(text, *have),
         Event::BadLength => text.push(b"badlength"),
-        Event::Stray(byte) => {
-            text.push(b"stray ");
-            text.push_hex(&[*byte]);
-        }
+        Event::Stray(byte) => push_stray(text, *byte),
     }
     None
+}
+
+/// Adds the text of what was found, if it is no message.
+pub(crate) fn push_fault<const ROOM: usize>(text: &mut Outgoing<ROOM>, fault: Found)
+    requires room { length text.old + 100 ≤ ROOM }
+    requires fault { fault ≢ Found.Message }
+    ensures text { (bytes : List ℕ) →
+        text.new ≡ text.old ++ event_text (event_found_in bytes fault) }
+    ensures room { length text.new < ROOM }
+{
+    match fault {
+        Found::Message => {}
+        Found::Cut { have } => push_cut(text, have),
+        Found::BadLength => text.push(b"badlength"),
+        Found::Stray(byte) => push_stray(text, byte),
+    }
+}
+
+// The text of a message that was cut off.
+fn push_cut<const ROOM: usize>(text: &mut Outgoing<ROOM>, have: usize)
+    requires { length text.old + 100 ≤ ROOM }
+    ensures text { text.new ≡ text.old ++ event_text (Cut have) }
+    ensures room { length text.new < ROOM }
+{
+    text.push(b"cut ");
+    text.push_decimal(have as u64, 1);
+}
+
+// The text of a byte that belongs to no message.
+fn push_stray<const ROOM: usize>(text: &mut Outgoing<ROOM>, byte: u8)
+    requires { length text.old + 100 ≤ ROOM }
+    ensures text { text.new ≡ text.old ++ event_text (Stray byte) }
+    ensures room { length text.new < ROOM }
+{
+    text.push(b"stray ");
+    text.push_hex(&[byte]);
 }
 
 fn push_message<'a, const ROOM: usize>(

@@ -7,7 +7,7 @@ ghost use Rattle.dgt_text.specs.Conversation.{EachFrontGoesOn, EachIsAnswered, E
 ghost use Rattle.dgt_script.specs.ScriptLines.{IsCut};
 ghost use Rattle.dgt_text.specs.Simulating.{Plays, faulty_rules, plain_rules};
 
-pub use dgt_lines::laws::last_line_is_picture;
+pub use dgt_lines::laws::{doubts_leave_pictures, first_faults_are_reported, last_line_is_picture};
 pub use dgt_script::laws::{closing_lines_agree, lines_have_one_meaning};
 
 /// One conversation: a board and the bytes that it hears have one, and only one, and whatever the

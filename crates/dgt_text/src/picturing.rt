@@ -1,11 +1,12 @@
-//! The engine that shows the board.
+//! The engines that show the board.
 
-ghost use Rattle.dgt_text.specs.Picturing.{IsPictured};
+ghost use Rattle.dgt_lines.specs.Reports.{report_text};
+ghost use Rattle.dgt_text.specs.Picturing.{HasText, IsPictured, IsPicturedWithDoubts};
 ghost use Rattle.dgt_text.specs.Turns.{change, InTurns, Ran, RunsInTurns};
 
 use crate::MAX_PIECE;
 use dgt_decode::Framer;
-use dgt_lines::{Outgoing, RunFault, Sink, Source, flush, write_pictures};
+use dgt_lines::{Doubt, Outgoing, PictureState, RunFault, Sink, Source, flush, write_pictures};
 
 /// Writes a line with the placement of the board for each message that sets its picture, of the
 /// bytes that the reader gives, in at most `limit` reads.
@@ -33,11 +34,52 @@ pub fn picture<R: Source, W: Sink>(
     ensures in_turns { RunsInTurns R.Source W.Sink (change reader.old reader.new)
         (change writer.old writer.new) limit result }
 {
+    dgt_lines::laws::doubts_leave_pictures();
+    report(reader, writer, limit, Doubt::Ignored)
+}
+
+/// Does what [`picture`] does, and writes a line if the picture may be wrong.
+///
+/// The line is the offset, a space, the word `doubt` and a line feed. It comes for the first fault
+/// since a dump: an event that is no message, which may be all that is left of one. The next dump
+/// ends the doubt. Before the first dump there is no such line.
+///
+/// Its errors are those of `picture`.
+pub fn picture_with_doubts<R: Source, W: Sink>(
+    reader: &mut R,
+    writer: &mut W,
+    limit: u32,
+) -> Result<(), RunFault>
+    // what was read, and what was written of it
+    ensures output { Ran R.Source W.Sink
+        (change reader.old reader.new) (change writer.old writer.new)
+        (InTurns limit result (IsPicturedWithDoubts result)) }
+
+    // how often it reads, when it stops, and which marks it leaves
+    ensures in_turns { RunsInTurns R.Source W.Sink (change reader.old reader.new)
+        (change writer.old writer.new) limit result }
+{
+    report(reader, writer, limit, Doubt::Clear)
+}
+
+// The engine of both.
+fn report<R: Source, W: Sink>(
+    reader: &mut R,
+    writer: &mut W,
+    limit: u32,
+    doubt: Doubt,
+) -> Result<(), RunFault>
+    ensures output { Ran R.Source W.Sink
+        (change reader.old reader.new) (change writer.old writer.new)
+        (InTurns limit result (HasText (report_text doubt) result)) }
+    ensures in_turns { RunsInTurns R.Source W.Sink (change reader.old reader.new)
+        (change writer.old writer.new) limit result }
+{
     dgt_lines::laws::writes_in_a_row::<W>();
-    dgt_lines::laws::pictures_append();
+    dgt_lines::laws::reports_append();
     dgt_decode::laws::open_append();
     let mut framer = Framer::new();
-    let mut picture = None;
+    let mut state = PictureState::new(doubt);
     let mut outgoing = Outgoing::new();
     let mut offset = 0u64;
     let mut buffer = [0; MAX_PIECE];
@@ -51,7 +93,7 @@ pub fn picture<R: Source, W: Sink>(
         let piece = &buffer[..given];
         write_pictures(
             &mut framer,
-            &mut picture,
+            &mut state,
             &mut outgoing,
             offset,
             piece,

@@ -1,6 +1,6 @@
 //! The texts of help.
 use super::*;
-use crate::help::{
+use dgt_program::help::{
     ASK_NOTES, BOARD_NOTES, COMMANDS_NOTES, MONITOR_NOTES, PICTURE_NOTES, PROGRAM_NOTES,
     SHOW_NOTES, SIMULATE_NOTES,
 };
@@ -55,10 +55,11 @@ Options:
 const PICTURE: &str = "\
 Shows the pieces of the board after each change on standard input
 
-Usage: dgt picture
+Usage: dgt picture [OPTIONS]
 
 Options:
-  -h, --help  Print help
+      --doubt  Reports when the pieces may be wrong, too
+  -h, --help   Print help
 
 ";
 

@@ -3,11 +3,11 @@ use Rattle.std.proofs.lemmas.List.{take_all}
 use Rattle.dgt_decode.specs.Feeding.{event_found_in}
 use Rattle.dgt_decode.specs.Grammar.{open_message}
 use Rattle.dgt_lines.specs.Lines.{events_after}
-use Rattle.dgt_lines.specs.Pictures.{picture_lines}
+use Rattle.dgt_lines.specs.Reports.{report_lines}
 use Rattle.dgt_lines.proofs.EventLemmas.{advance_event, advance_none, events_after-none, events_after-rest, feed_bound, feed_open}
 use Rattle.dgt_lines.proofs.GatherLemmas.{gathered_none, gathered_then, gathered_exit, gathered_out}
-use Rattle.dgt_lines.proofs.PictureLemmas.{behind_more, lines_more, lines_whole}
 use Rattle.dgt_lines.proofs.RefusalLemmas.{gathered_stop, pictures_stop, pictures_stop_out, waits_out, waits_then}
+use Rattle.dgt_lines.proofs.ReportLemmas.{lines_more, lines_whole, state_more}
 use Rattle.dgt_lines.proofs.picturing.write_pictures.Goals as goal
 
 pub loop-at-init : goal.loop-at-init
@@ -17,7 +17,7 @@ loop-at-init g c =
       bound = omega arith;
       output = rw (none, c.requires.empty)
           (gathered_none g.W.Sink [] c.args.writer.now);
-      shown = rw none refl;
+      state = rw none refl;
       framed = sym (c.in_pieces.ensures.quiet.no_bytes c.args.framer.now).1;
       no_flush = λ h. h;
       waits = rw (none, c.requires.empty) (λ w. w);
@@ -37,22 +37,22 @@ loop-at-preserved-in-Continue-1 g c =
       bound = feed_bound c.args.piece.now c.loop-at.at c.advance-advanced.result.used c.loop-at.invariant.bound
           c.advance-advanced.ensures.within;
       output =
-          let more = lines_more c.args.picture.now _ c.hear_found.new.picture front place event
-          c.loop-at.invariant.shown c.in_ok-hear_found.ensures.shown in
+          let more = lines_more c.args.state.now _ c.hear_found.new.state front place event
+          c.loop-at.invariant.state c.in_ok-hear_found.ensures.state in
           rw (e, more)
-          (gathered_then _ _ _ _ _ _ _ (picture_lines c.args.picture.now front) _ c.loop-at.invariant.output
+          (gathered_then _ _ _ _ _ _ _ (report_lines c.args.state.now front) _ c.loop-at.invariant.output
           c.in_ok-hear_found.ensures.output);
-      shown = rw e
-          (behind_more c.args.picture.now _ c.hear_found.new.picture front place event c.loop-at.invariant.shown
-          c.in_ok-hear_found.ensures.shown);
+      state = rw e
+          (state_more c.args.state.now _ c.hear_found.new.state front place event c.loop-at.invariant.state
+          c.in_ok-hear_found.ensures.state);
       framed = feed_open c.in_pieces.ensures c.args.framer.now c.args.offset c.args.piece.now _ c.loop-at.at
           c.advance-advanced.result.used c.loop-at.invariant.framed _ c.advance-advanced.ensures.held;
       no_flush = λ h. c.in_ok-hear_found.ensures.no_flush (c.loop-at.invariant.no_flush h);
       waits =
-          let more = lines_more c.args.picture.now _ c.hear_found.new.picture front place event
-          c.loop-at.invariant.shown c.in_ok-hear_found.ensures.shown in
+          let more = lines_more c.args.state.now _ c.hear_found.new.state front place event
+          c.loop-at.invariant.state c.in_ok-hear_found.ensures.state in
           rw (e, more)
-          (waits_then _ _ (picture_lines c.args.picture.now front) _ _ _ _ c.loop-at.invariant.waits
+          (waits_then _ _ (report_lines c.args.state.now front) _ _ _ _ c.loop-at.invariant.waits
           c.in_ok-hear_found.ensures.waits);
     }
 
@@ -69,8 +69,8 @@ returns-in_err-hear_found-clause-output g c =
     let all = rw e at
     (events_after-rest c.in_pieces.ensures c.args.framer.now c.args.offset c.args.piece.now
     (c.loop-at.at + c.advance-advanced.result.used)) in
-    let whole = lines_whole c.args.picture.now _ c.hear_found.new.picture front place event c.loop-at.invariant.shown
-    c.in_err-hear_found.ensures.shown _ _ all in
+    let whole = lines_whole c.args.state.now _ c.hear_found.new.state front place event c.loop-at.invariant.state
+    c.in_err-hear_found.ensures.state _ _ all in
     gathered_exit _ _ _ _ _ _ _ _ _ _ _ c.loop-at.invariant.output whole c.from_residual.ensures.1
     c.in_err-hear_found.ensures.output
 
@@ -85,7 +85,7 @@ loop-at-preserved g c =
       bound = feed_bound c.args.piece.now c.loop-at.at c.advance-advanced.result.used c.loop-at.invariant.bound
           c.advance-advanced.ensures.within;
       output = rw e c.loop-at.invariant.output;
-      shown = rw e c.loop-at.invariant.shown;
+      state = rw e c.loop-at.invariant.state;
       framed = feed_open c.in_pieces.ensures c.args.framer.now c.args.offset c.args.piece.now _ c.loop-at.at
           c.advance-advanced.result.used c.loop-at.invariant.framed _ c.advance-advanced.ensures.held;
       no_flush = c.loop-at.invariant.no_flush;
@@ -108,10 +108,10 @@ returns-in_err-hear_found-clause-stops g c =
     (open_message c.loop-at.framer) c.loop-at.at c.advance-advanced.result.used c.loop-at.invariant.framed event
     c.loop-at.invariant.bound
     (rw c.in-Some.is at c.advance-advanced.ensures.first).1 in
-    let more = lines_more c.args.picture.now _ c.hear_found.new.picture front place event
-    c.loop-at.invariant.shown c.in_err-hear_found.ensures.shown in
-    let shown = behind_more c.args.picture.now _ c.hear_found.new.picture front place event c.loop-at.invariant.shown
-    c.in_err-hear_found.ensures.shown in
+    let more = lines_more c.args.state.now _ c.hear_found.new.state front place event
+    c.loop-at.invariant.state c.in_err-hear_found.ensures.state in
+    let shown = state_more c.args.state.now _ c.hear_found.new.state front place event c.loop-at.invariant.state
+    c.in_err-hear_found.ensures.state in
     pictures_stop _ _ _ _ _ _ _ _
     (feed_bound c.args.piece.now c.loop-at.at c.advance-advanced.result.used c.loop-at.invariant.bound
     c.advance-advanced.ensures.within)
@@ -123,7 +123,7 @@ returns-in_err-hear_found-clause-stops g c =
 pub returns-clause-stops : goal.returns-clause-stops
 returns-clause-stops g c =
     pictures_stop_out _ _ _ _ _ _ _ _ c.loop-at.invariant.bound c.loop-at.invariant.framed _ _ _ _ _
-    c.loop-at.invariant.shown c.loop-at.invariant.output c.write_out.ensures.output
+    c.loop-at.invariant.state c.loop-at.invariant.output c.write_out.ensures.output
 
 pub returns-clause-unflushed : goal.returns-clause-unflushed
 returns-clause-unflushed g c =

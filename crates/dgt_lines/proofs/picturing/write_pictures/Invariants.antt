@@ -1,7 +1,7 @@
 use Rattle.std.proofs.Common.{◌≤◌, ◌-◌, ◌++◌, ◌≡◌, false, length, take, []}
 use Rattle.dgt_lines.specs.Lines.{events_after}
-use Rattle.dgt_lines.specs.Pictures.{picture_after_events, picture_lines}
 use Rattle.dgt_lines.specs.Marks.{Waits}
+use Rattle.dgt_lines.specs.Reports.{report_lines, state_after_events}
 use Rattle.dgt_lines.specs.Writing.{Gathered}
 use Rattle.dgt_decode.specs.Grammar.{open_message}
 use Rattle.dgt_lines.proofs.picturing.write_pictures.Given as goal
@@ -10,12 +10,12 @@ abbrev pub invariant-loop-at : goal.invariant-loop-at
 invariant-loop-at g l = record {
   bound : l.at ≤ length l.piece;
   output : Gathered g.W.Sink [] l.outgoing l.fn.writer l.writer
-      (picture_lines l.fn.picture (events_after (open_message l.fn.framer) l.offset (take l.at l.piece)));
-  shown : l.picture ≡ picture_after_events l.fn.picture
+      (report_lines l.fn.state (events_after (open_message l.fn.framer) l.offset (take l.at l.piece)));
+  state : l.state ≡ state_after_events l.fn.state
       (events_after (open_message l.fn.framer) l.offset (take l.at l.piece));
   framed : open_message l.framer ≡ open_message (open_message l.fn.framer ++ take l.at l.piece);
   no_flush : g.W.Sink.flushed l.fn.writer ≡ false → g.W.Sink.flushed l.writer ≡ false;
-  waits : Waits (picture_lines l.fn.picture (events_after (open_message l.fn.framer) l.offset (take l.at l.piece)))
+  waits : Waits (report_lines l.fn.state (events_after (open_message l.fn.framer) l.offset (take l.at l.piece)))
       (g.W.Sink.flushed l.fn.writer) → Waits l.outgoing (g.W.Sink.flushed l.writer);
 }
 

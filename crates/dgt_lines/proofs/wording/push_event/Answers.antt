@@ -1,6 +1,4 @@
-use Rattle.std.proofs.Common.{append_assoc, arith, refl}
 use Rattle.dgt_lines.specs.Lines.{event_text}
-use Rattle.dgt_lines.proofs.TextLemmas.{padded_one}
 use Rattle.dgt_lines.proofs.wording.push_event.Goals as goal
 use Rattle.dgt_lines.proofs.wording.push_event.Goals.{in-Refused, in-Cut, in-BadLength, in-Stray}
 
@@ -12,15 +10,7 @@ pub returns-clause-text : goal.returns-clause-text
 unfolding event_text
 returns-clause-text g c = elim c.match-event.branch [
   | in-Refused w ↦ rw (w.text-is, w.in-Refused.is) w.push_refusal.ensures.text
-  | in-Cut w ↦ rw (
-    w.text-is,
-    w.in-Cut.is,
-    w.push_decimal.ensures.bytes,
-    w.push.ensures.bytes,
-    padded_one w.in-Cut.have
-        (omega arith),
-  ) (simp append_assoc refl)
-  | in-BadLength w ↦ rw (w.text-is, w.in-BadLength.is) w.push-in-BadLength.ensures.bytes
-  | in-Stray w ↦ rw (w.text-is, w.in-Stray.is, w.push_hex.ensures.bytes, w.push-in-Stray.ensures.bytes)
-      (simp append_assoc refl)
+  | in-Cut w ↦ rw (w.text-is, w.in-Cut.is) w.push_cut.ensures.text
+  | in-BadLength w ↦ rw (w.text-is, w.in-BadLength.is) w.push.ensures.bytes
+  | in-Stray w ↦ rw (w.text-is, w.in-Stray.is) w.push_stray.ensures.text
 ]

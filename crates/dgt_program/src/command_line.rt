@@ -22,8 +22,11 @@ pub enum Task<'a> {
     },
     /// Show what the bytes of the input make known.
     Monitor,
-    /// Show the pieces of the board for each message of the input that sets them.
-    Picture,
+    /// Show the pieces of the board for each message of the input that sets them. With `doubt` the
+    /// first fault since a message of all squares is shown too.
+    Picture {
+        doubt: bool,
+    },
     /// Show what the bytes of the input ask a board for.
     Commands,
     /// Write these bytes of commands.
@@ -93,10 +96,15 @@ fn monitor<'a>(alloc: Global) -> Command<'a> {
         .after_help(MONITOR_NOTES)
 }
 
-fn picture<'a>(alloc: Global) -> Command<'a> {
+fn picture<'a>(alloc: Global) -> Result<Command<'a>, AllocError> {
+    let doubt = Arg::new(alloc, "doubt")
+        .long("doubt")
+        .action(ArgAction::SetTrue)
+        .help("Reports when the pieces may be wrong, too");
     Command::new(alloc, "picture")
         .about("Shows the pieces of the board after each change on standard input")
         .after_help(PICTURE_NOTES)
+        .arg(doubt)
 }
 
 fn ask<'a>(alloc: Global) -> Result<Command<'a>, AllocError> {
@@ -152,7 +160,7 @@ fn command<'a>(alloc: Global) -> Result<Command<'a>, AllocError> {
         .subcommand_required(true)
         .subcommand(show(alloc)?)?
         .subcommand(monitor(alloc))?
-        .subcommand(picture(alloc))?
+        .subcommand(picture(alloc)?)?
         .subcommand(ask(alloc)?)?
         .subcommand(commands(alloc))?
         .subcommand(board(alloc)?)?
@@ -197,7 +205,9 @@ fn task_named<'a>(name: &str, options: &ArgMatches<'a>) -> Option<Task<'a>> {
             word: options.get_str("hex")?,
         },
         "monitor" => Task::Monitor,
-        "picture" => Task::Picture,
+        "picture" => Task::Picture {
+            doubt: options.get_flag("doubt"),
+        },
         "commands" => Task::Commands,
         "board" => Task::Board {
             placement: options.get_str("position")?,

@@ -119,6 +119,12 @@ message of one square that one. Until the first message of all squares came the
 pieces are unknown, and a message of one square has no line. Other messages and
 faults in the bytes have none. 'dgt monitor' shows what these are.
 
+A fault may be what is left of a message, and then the pieces are wrong. With
+--doubt the first fault after a message of all squares has a line: the number of
+bytes up to there, then the word doubt. The pieces are in doubt up to the next
+message of all squares, and further faults before it have no line. Nor has a
+fault before the first one.
+
 Exit status: 0, with faults in the bytes too; 1 if standard input or output
 fails, or the end has not come after 4294967295 reads; 2 if the command line is
 wrong; 3 if memory runs out.
@@ -128,7 +134,15 @@ Examples:
   00000067 rnbqkbnr/pppppppp/8/8/8/8/PPPPPPPP/RNBQKBNR
   $ { dgt ask dump | dgt board; printf '\\x8e\\0\\x5\\x34\\0'; } | dgt picture
   00000067 rnbqkbnr/pppppppp/8/8/8/8/PPPPPPPP/RNBQKBNR
-  00000072 rnbqkbnr/pppppppp/8/8/8/8/PPPP1PPP/RNBQKBNR";
+  00000072 rnbqkbnr/pppppppp/8/8/8/8/PPPP1PPP/RNBQKBNR
+
+Example with a fault. A pawn moves from e2 to e4, and a byte of the message that
+e2 is empty is lost:
+  $ bytes='\\x8e\\0\\x5\\x34\\x8e\\0\\x5\\x24\\x1'
+  $ { dgt ask dump | dgt board; printf \"$bytes\"; } | dgt picture --doubt
+  00000067 rnbqkbnr/pppppppp/8/8/8/8/PPPPPPPP/RNBQKBNR
+  00000072 doubt
+  00000076 rnbqkbnr/pppppppp/8/8/4P3/8/PPPPPPPP/RNBQKBNR";
 
 /// What follows clap's own text in the help of `ask`.
 pub const ASK_NOTES: &str = "\

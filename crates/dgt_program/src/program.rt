@@ -5,7 +5,8 @@ use crate::{command_line, simulated};
 use dgt_board::Board;
 use dgt_link::{World, WorldFault};
 use dgt_text::{
-    Bytes, Device, RunFault, commands, monitor, picture, serve, simulate, simulate_faults,
+    Bytes, Device, RunFault, commands, monitor, picture, picture_with_doubts, serve, simulate,
+    simulate_faults,
 };
 use dgt_values::Position;
 use hex::FromHexError;
@@ -45,7 +46,8 @@ fn run<I: Read + Drop, O: Write + Drop>(
         Task::Help(text) => Ok(write_help(&text, &mut output)?),
         Task::Show { word } => show(alloc, word, output),
         Task::Monitor => show_input(input, output),
-        Task::Picture => show_picture(input, output),
+        Task::Picture { doubt: false } => show_picture(input, output),
+        Task::Picture { doubt: true } => show_picture_with_doubts(input, output),
         Task::Commands => show_commands(input, output),
         Task::Ask { bytes } => Ok(write_bytes(bytes.as_slice(), &mut output)?),
         Task::Board { placement } => answer(placement, input, output),
@@ -85,6 +87,15 @@ fn show_input<I: Read + Drop, O: Write + Drop>(input: I, output: O) -> Result<()
 fn show_picture<I: Read + Drop, O: Write + Drop>(input: I, output: O) -> Result<(), Fault> {
     let mut output = Device::new(output);
     Ok(picture(&mut Device::new(input), &mut output, MOST_TURNS)?)
+}
+
+#[inline(never)]
+fn show_picture_with_doubts<I: Read + Drop, O: Write + Drop>(
+    input: I,
+    output: O,
+) -> Result<(), Fault> {
+    let (mut input, mut output) = (Device::new(input), Device::new(output));
+    Ok(picture_with_doubts(&mut input, &mut output, MOST_TURNS)?)
 }
 
 #[inline(never)]

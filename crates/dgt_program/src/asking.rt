@@ -42,7 +42,7 @@ impl From<AllocError> for BadAsk<'_> {
 }
 
 /// What follows a word that is no command alone.
-#[derive(Clone, Copy, Debug, PartialEq, Eq)]
+#[derive(Clone, Copy)]
 pub enum Detail {
     Beep,
     Display,

@@ -1,0 +1,88 @@
+-- Reports of events, one event after another.
+use Rattle.std.proofs.Common.{◌≡◌, ℕ, List, [], ◌∷◌, ◌++◌, refl, sym, ◌∙◌, ap, append_assoc, append-nil, length}
+use Rattle.std.proofs.lemmas.Grind.{flat_map-append}
+use Rattle.std.specs.List.{flat_map}
+use Rattle.dgt_decode.specs.Grammar.{Event, Placed, at_place, events, open_message}
+use Rattle.dgt_decode.specs.Feeding.{event_content}
+use Rattle.dgt_decode.specs.Laws.{PiecesAdd}
+use Rattle.dgt_decode.specs.declared.event.Event as code
+use Rattle.dgt_decode.specs.declared.event.Event.TheVariants as code_events
+use Rattle.dgt_message.specs.declared.message.Message as code_message
+use Rattle.dgt_lines.specs.declared.doubts.Doubt.{Doubt}
+use Rattle.dgt_lines.specs.declared.doubts.PictureState.{PictureState}
+use Rattle.dgt_lines.specs.Lines.{events_after}
+use Rattle.dgt_lines.specs.Reports.{fault_reports, new_state, report_line, report_lines, report_text, reports, reports_at, state_after_event, state_after_events, state_after_fault, state_of}
+
+-- the state after more events
+pub state_after-append : (before : PictureState) (xs ys : List Placed)
+    → state_after_events before (xs ++ ys) ≡ state_after_events (state_after_events before xs) ys
+state_after-append before [] ys = refl
+state_after-append before (x ∷ xs) ys = state_after-append (state_after_event before x.event) xs ys
+
+pub reports-append : (before : PictureState) (xs ys : List Placed)
+    → reports before (xs ++ ys) ≡ reports before xs ++ reports (state_after_events before xs) ys
+reports-append before [] ys = refl
+reports-append before (x ∷ xs) ys =
+    let after = state_after_event before x.event in
+    let first = reports_at x.place x.event before in
+    ap (λ l. first ++ l) (reports-append after xs ys) ∙ sym (append_assoc first (reports after xs) _)
+
+-- the lines of more events
+pub report_lines-append : (before : PictureState) (xs ys : List Placed)
+    → report_lines before (xs ++ ys) ≡ report_lines before xs ++ report_lines (state_after_events before xs) ys
+report_lines-append before xs ys =
+    ap (flat_map report_line) (reports-append before xs ys) ∙ flat_map-append report_line (reports before xs)
+    (reports (state_after_events before xs) ys)
+
+-- ---- bytes, and a piece after them
+
+pub report_text-append : PiecesAdd → (doubt : Doubt) (bytes piece : List ℕ)
+    → report_text doubt (bytes ++ piece) ≡ report_text doubt bytes ++ report_lines (state_of doubt bytes)
+    (events_after (open_message bytes) (length bytes) piece)
+report_text-append pieces doubt bytes piece =
+    ap (report_lines (new_state doubt)) (pieces.behind bytes piece)
+    ∙ report_lines-append (new_state doubt) (events bytes) (events_after (open_message bytes) (length bytes) piece)
+
+pub state_of-append : PiecesAdd → (doubt : Doubt) (bytes piece : List ℕ)
+    → state_of doubt (bytes ++ piece) ≡ state_after_events (state_of doubt bytes)
+    (events_after (open_message bytes) (length bytes) piece)
+state_of-append pieces doubt bytes piece =
+    ap (state_after_events (new_state doubt)) (pieces.behind bytes piece)
+    ∙ state_after-append (new_state doubt) (events bytes) (events_after (open_message bytes) (length bytes) piece)
+
+-- ---- one event more, which makes `after` of the state
+
+module _ (before now after : PictureState) (xs : List Placed) (place : ℕ) (event : Event)
+    (shown : now ≡ state_after_events before xs) (heard : after ≡ state_after_event now event) where
+  pub state_more : after ≡ state_after_events before (xs ++ at_place place event ∷ [])
+  state_more =
+      heard ∙ ap (λ s. state_after_event s event) shown ∙ sym (state_after-append before xs (at_place place event ∷ []))
+
+  pub lines_more : report_lines before (xs ++ at_place place event ∷ []) ≡ report_lines before xs ++ flat_map
+      report_line (reports_at place event now)
+  lines_more =
+      report_lines-append before xs (at_place place event ∷ [])
+      ∙ ap (λ l. report_lines before xs ++ flat_map report_line l)
+      (append-nil _ ∙ ap (reports_at place event) (sym shown))
+
+  -- and events after it
+  pub lines_whole : (all later : List Placed) → all ≡ (xs ++ at_place place event ∷ []) ++ later
+      → report_lines before all ≡ report_lines before xs ++
+      (flat_map report_line (reports_at place event now) ++ report_lines
+      (state_after_events before (xs ++ at_place place event ∷ [])) later)
+  lines_whole all later e =
+      ap (report_lines before) e
+      ∙ report_lines-append before (xs ++ at_place place event ∷ []) later
+      ∙ ap (λ l. l ++ report_lines (state_after_events before (xs ++ at_place place event ∷ [])) later) lines_more
+      ∙ append_assoc (report_lines before xs) _ _
+
+-- an event that is no message is a fault
+pub no_message : (e : code.Event) (event : Event)
+    → ((message : code_message.Message) → e ≡ code_events.Message message → ⊥) → event_content e ≡ event
+    → (state : PictureState) (place : ℕ) → (state_after_fault state ≡ state_after_event state event)
+    × (fault_reports place state ≡ reports_at place event state)
+no_message (code_events.Message message) event h e = absurd (h message refl)
+no_message (code_events.Refused code fault) event h e = λ state place. rw (← e) (refl, refl)
+no_message (code_events.Cut have) event h e = λ state place. rw (← e) (refl, refl)
+no_message code_events.BadLength event h e = λ state place. rw (← e) (refl, refl)
+no_message (code_events.Stray byte) event h e = λ state place. rw (← e) (refl, refl)
