@@ -5,12 +5,12 @@
 #![tactic(auto)]
 
 #[cfg(test)]
+mod asserting;
+#[cfg(test)]
 mod commanding;
 #[cfg(test)]
 mod decoding;
 #[cfg(test)]
 mod messages;
-#[cfg(test)]
-mod plain_commands;
 #[cfg(test)]
 mod values;

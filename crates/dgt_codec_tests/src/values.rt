@@ -1,5 +1,6 @@
 //! Calls of values, and the texts of their errors. `checks/rows` has the tables of the protocol.
 
+use crate::asserting::assert_same;
 use dgt_values::{
     BadPlacement, Body, BodyError, Known, NoPiece, NoRoom, NoSegment, NoSquare, NotSevenBit, Piece,
     Position, SevenBit, Square, TooMuch, segment,
@@ -11,16 +12,17 @@ use std::test::Fail;
 
 #[test]
 fn a_byte_of_128_is_not_seven_bit(rt: HostRuntime) {
-    assert_eq!(rt; SevenBit::try_from(127).map(|byte| byte.get()), Ok(127));
-    assert_eq!(rt; SevenBit::try_from(128), Err(NotSevenBit));
+    assert_same(&rt, SevenBit::try_from(127).map(|byte| byte.get()), Ok(127));
+    assert_same(&rt, SevenBit::try_from(128), Err(NotSevenBit));
 }
 
 #[test]
 fn a_body_is_refused_for_its_length_first(rt: HostRuntime) {
     let (longest, one_more) = ([0; 16380], [0x80; 16381]);
-    assert_eq!(rt;
+    assert_same(
+        &rt,
         Body::new(&longest).map(|body| body.bytes().len()),
-        Ok(16380)
+        Ok(16380),
     );
     assert!(rt; matches!(Body::new(&one_more), Err(BodyError::Length(TooMuch))));
     assert!(rt;
@@ -29,29 +31,30 @@ fn a_body_is_refused_for_its_length_first(rt: HostRuntime) {
             Err(BodyError::Byte(NotSevenBit))
         )
     );
-    assert_eq!(rt;
+    assert_same(
+        &rt,
         Body::from_seven_bit(&[0x7f, 0x00]).bytes(),
-        [0x7f, 0x00].as_slice()
+        [0x7f, 0x00].as_slice(),
     );
 }
 
 #[test]
 fn squares_and_pieces(rt: HostRuntime) -> Result<(), Fail> {
     let square = Square::parse("e4")?;
-    assert_eq!(rt; square.index(), 36);
-    assert_eq!(rt; square.name(), *b"e4");
-    assert_eq!(rt; Square::from_index(36), Ok(square));
-    assert_eq!(rt; Square::from_index(64), Err(NoSquare));
-    assert_eq!(rt; Square::parse("e9"), Err(NoSquare));
+    assert_same(&rt, square.index(), 36);
+    assert_same(&rt, square.name(), *b"e4");
+    assert_same(&rt, Square::from_index(36), Ok(square));
+    assert_same(&rt, Square::from_index(64), Err(NoSquare));
+    assert_same(&rt, Square::parse("e9"), Err(NoSquare));
     let queen = Piece::from_code(0x0c)?;
-    assert_eq!(rt; queen, Piece::BlackQueen);
-    assert_eq!(rt; queen.code(), 0x0c);
-    assert_eq!(rt; queen.letter(), 'q');
-    assert_eq!(rt; Piece::from_letter('q'), Ok(queen));
-    assert_eq!(rt; Piece::from_code(16), Err(NoPiece));
-    assert_eq!(rt; Piece::from_letter('x'), Err(NoPiece));
-    assert_eq!(rt; segment('0'), Ok(0x3f));
-    assert_eq!(rt; segment('x'), Err(NoSegment));
+    assert_same(&rt, queen, Piece::BlackQueen);
+    assert_same(&rt, queen.code(), 0x0c);
+    assert_same(&rt, queen.letter(), 'q');
+    assert_same(&rt, Piece::from_letter('q'), Ok(queen));
+    assert_same(&rt, Piece::from_code(16), Err(NoPiece));
+    assert_same(&rt, Piece::from_letter('x'), Err(NoPiece));
+    assert_same(&rt, segment('0'), Ok(0x3f));
+    assert_same(&rt, segment('x'), Err(NoSegment));
     Ok(())
 }
 
@@ -61,10 +64,10 @@ fn differing_squares_are_bits(rt: HostRuntime) -> Result<(), Fail> {
     let mut after = start;
     after.set(Square::parse("e2")?, Piece::Empty);
     after.set(Square::parse("e4")?, Piece::WhitePawn);
-    assert_eq!(rt; after.get(Square::parse("e4")?), Piece::WhitePawn);
-    assert_eq!(rt; start.differ(&start), 0);
-    assert_eq!(rt; start.differ(&after), 4503668346847232);
-    assert_eq!(rt; start.differ(&Position::empty()), 0xffff00000000ffff);
+    assert_same(&rt, after.get(Square::parse("e4")?), Piece::WhitePawn);
+    assert_same(&rt, start.differ(&start), 0);
+    assert_same(&rt, start.differ(&after), 4503668346847232);
+    assert_same(&rt, start.differ(&Position::empty()), 0xffff00000000ffff);
     for (corner, differing) in [(0, 1), (63, 9223372036854775808)] {
         let mut position = Position::empty();
         position.set(Square::from_index(corner)?, Piece::ThirdExtra);
@@ -77,19 +80,25 @@ fn differing_squares_are_bits(rt: HostRuntime) -> Result<(), Fail> {
 fn a_position_has_pieces_codes_and_a_placement(rt: HostRuntime) -> Result<(), Fail> {
     let start = Position::start();
     let placement = start.placement();
-    assert_eq!(rt;
+    assert_same(
+        &rt,
         placement.as_str(),
-        "rnbqkbnr/pppppppp/8/8/8/8/PPPPPPPP/RNBQKBNR"
+        "rnbqkbnr/pppppppp/8/8/8/8/PPPPPPPP/RNBQKBNR",
     );
-    assert_eq!(rt; Position::parse_placement(placement.as_str()), Ok(start));
-    assert_eq!(rt;
+    assert_same(
+        &rt,
+        Position::parse_placement(placement.as_str()),
+        Ok(start),
+    );
+    assert_same(
+        &rt,
         Position::parse_placement("54"),
-        Err(BadPlacement { at: 1 })
+        Err(BadPlacement { at: 1 }),
     );
     let codes = start.codes();
-    assert_eq!(rt; &codes[..9], [8, 9, 10, 12, 11, 10, 9, 8, 7].as_slice());
+    assert_same(&rt, &codes[..9], [8, 9, 10, 12, 11, 10, 9, 8, 7].as_slice());
     for (piece, code) in start.pieces().iter().zip(&codes) {
-        assert_eq!(rt; piece.code(), *code);
+        assert_same(&rt, piece.code(), *code);
     }
     Ok(())
 }
@@ -100,7 +109,7 @@ pub fn assert_said<T: Display>(
     error: &T,
     said: &str,
 ) -> Result<(), Fail> {
-    assert_eq!(rt; error.to_string(alloc)?.as_str(), said);
+    assert_same(rt, error.to_string(alloc)?.as_str(), said);
     Ok(())
 }
 

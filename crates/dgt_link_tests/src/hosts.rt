@@ -1,9 +1,8 @@
 use dgt_command::Command;
-use dgt_decode::{Decoder, Event};
+use dgt_decode::Event;
 use dgt_host::{Host, Kind, SendFault};
 use dgt_message::{Clock, Message};
 use dgt_values::Position;
-use std::alloc::{AllocError, Global};
 use std::process::Abort;
 use std::test::*;
 
@@ -12,9 +11,6 @@ const FIELD: [u8; 5] = [0x8e, 0x00, 0x05, 0x24, 0x01];
 
 /// The version 1.3.
 const VERSION: [u8; 5] = [0x93, 0x00, 0x05, 0x01, 0x03];
-
-/// The serial number 00001.
-const SERIAL: [u8; 8] = [0x91, 0x00, 0x08, 0x30, 0x30, 0x30, 0x30, 0x31];
 
 /// The long serial number 0000000001.
 const LONG_SERIAL: [u8; 13] = [
@@ -43,8 +39,6 @@ const E4_PLAYED: &str = "rnbqkbnr/pppppppp/8/8/4P3/8/PPPP1PPP/RNBQKBNR";
 const TIMES: [u8; 10] = [0x8d, 0x00, 0x0a, 0x01, 0x30, 0x00, 0x01, 0x29, 0x55, 0x11];
 
 const NO_CLOCK: [u8; 10] = [0x8d, 0x00, 0x0a, 0x00, 0x00, 0x00, 0x00, 0x00, 0x00, 0x20];
-
-const ACK: [u8; 10] = [0x8d, 0x00, 0x0a, 0x0a, 0x10, 0x08, 0x2a, 0x00, 0x31, 0x00];
 
 const VERSION_HEAD: [u8; 2] = [0x93, 0x00];
 
@@ -440,253 +434,6 @@ fn whole_pieces_at_once(rt: HostRuntime) {
     ]);
     assert!(rt; has_picture(&host, E4_PLAYED));
     assert_eq!(rt; host.unread(), 1);
-}
-
-/// What a host asks, and the messages that it then hears, some of them broken: how many whole ones
-/// nobody asked for, and what it awaits, knows and holds unread behind them.
-///
-/// Each list begins with the first byte of a message, and no whole message of it is of a kind that
-/// is awaited at its end. So behind a part of itself a list leaves what it leaves alone.
-#[derive(Clone, Copy)]
-struct Row {
-    asked: &'static [Kind],
-    parts: &'static [&'static [u8]],
-    unasked: usize,
-    awaited: &'static [Kind],
-    picture: Option<&'static str>,
-    told: Told,
-    unread: usize,
-}
-
-const ROWS: [Row; 8] = [
-    // a field before the dump, and after it
-    Row {
-        asked: &[Kind::Dump],
-        parts: &[&FIELD, &DUMP, &FIELD],
-        unasked: 0,
-        awaited: &[],
-        picture: Some(E4_ADDED),
-        told: Told::Nothing,
-        unread: 0,
-    },
-    // more replies than were asked for
-    Row {
-        asked: &[Kind::Dump, Kind::Version],
-        parts: &[&VERSION, &DUMP, &VERSION, &DUMP],
-        unasked: 2,
-        awaited: &[],
-        picture: Some(START),
-        told: Told::Nothing,
-        unread: 0,
-    },
-    // a dump whose last byte is no piece
-    Row {
-        asked: &[Kind::Dump],
-        parts: &[&[0x86, 0x00, 0x43], &[0x00; 63], &[0x10], &FIELD],
-        unasked: 0,
-        awaited: &[Kind::Dump],
-        picture: None,
-        told: Told::Nothing,
-        unread: 0,
-    },
-    // an acknowledgement changes nothing, nor do times with minute 60
-    Row {
-        asked: &[],
-        parts: &[
-            &NO_CLOCK,
-            &TIMES,
-            &ACK,
-            &[0x8d, 0x00, 0x0a, 0x01, 0x60, 0x00, 0x01, 0x29, 0x55, 0x11],
-        ],
-        unasked: 0,
-        awaited: &[],
-        picture: None,
-        told: Told::Times([1, 30, 0, 1, 29, 55]),
-        unread: 0,
-    },
-    // two serial numbers, each under its own code
-    Row {
-        asked: &[Kind::LongSerial, Kind::Serial],
-        parts: &[&SERIAL, &LONG_SERIAL, &SERIAL, &LONG_SERIAL],
-        unasked: 2,
-        awaited: &[],
-        picture: None,
-        told: Told::Nothing,
-        unread: 0,
-    },
-    // a serial number, a trademark and a battery that nobody asked for, and no clock
-    Row {
-        asked: &[Kind::Dump],
-        parts: &[
-            &SERIAL,
-            &[0x92, 0x00, 0x03],
-            &[0xa0, 0x00, 0x04, 0x64],
-            &TIMES,
-            &NO_CLOCK,
-        ],
-        unasked: 3,
-        awaited: &[Kind::Dump],
-        picture: None,
-        told: Told::NoClock,
-        unread: 0,
-    },
-    // a dump that is cut off, a square past the last, a wrong size, other codes
-    Row {
-        asked: &[Kind::Dump],
-        parts: &[
-            &[0x86, 0x00, 0x43, 0x00, 0x00],
-            &FIELD,
-            &[0x8e, 0x00, 0x05, 0x40, 0x10],
-            &[0x8e, 0x00, 0x06, 0x34, 0x00, 0x00],
-            &[0x80, 0x00, 0x03, 0xff, 0x00, 0x03],
-        ],
-        unasked: 0,
-        awaited: &[Kind::Dump],
-        picture: None,
-        told: Told::Nothing,
-        unread: 0,
-    },
-    // a dump, a bad length, strays, and messages that are cut off
-    Row {
-        asked: &[Kind::Dump],
-        parts: &[
-            &DUMP,
-            &[0x8e, 0x00, 0x02, 0x05, 0x42],
-            &[0x8e, 0x8e, 0x8e, 0x00],
-        ],
-        unasked: 0,
-        awaited: &[],
-        picture: Some(START),
-        told: Told::Nothing,
-        unread: 2,
-    },
-];
-
-fn joined(alloc: Global, parts: &[&[u8]]) -> Result<Vec<u8>, AllocError> {
-    let mut bytes = Vec::new(alloc);
-    for part in parts {
-        bytes.extend_from_slice(part)?;
-    }
-    Ok(bytes)
-}
-
-/// Whether a decoder, which is given these bytes one by one, reads this event at the last of them
-/// and none before.
-fn reads(decoder: &mut Decoder, bytes: &[u8], event: Option<Event<'_>>) -> bool {
-    let Some((last, before)) = bytes.split_last() else {
-        return false;
-    };
-    for byte in before {
-        if decoder.feed(&[*byte]).event.is_some() {
-            return false;
-        }
-    }
-    decoder.feed(&[*last]).event == event
-}
-
-/// The host hears a chunk, and returns what a decoder makes of its bytes one by one: how many
-/// messages nobody asked for, or `None` if the two differ.
-fn hear_all(host: &mut Host, decoder: &mut Decoder, chunk: &[u8]) -> Option<usize> {
-    let mut left = chunk;
-    let mut unasked = 0_usize;
-    for _ in 0..chunk.len() {
-        if left.is_empty() {
-            break;
-        }
-        let heard = host.hear(left);
-        if heard.unasked {
-            unasked = unasked.saturating_add(1);
-        }
-        let (used, rest) = left.split_at(heard.used);
-        left = rest;
-        if !reads(decoder, used, heard.event) {
-            return None;
-        }
-    }
-    (left.is_empty() && host.unread() == decoder.rest()).then_some(unasked)
-}
-
-/// A host that has asked for these.
-fn host_asking(kinds: &[Kind]) -> Option<Host> {
-    let mut host = Host::new();
-    for kind in kinds {
-        if !asks_for(&mut host, 1, *kind) {
-            return None;
-        }
-    }
-    Some(host)
-}
-
-fn is_left_as(host: &Host, row: &Row) -> bool {
-    let is_pictured = match row.picture {
-        Some(placement) => has_picture(host, placement),
-        None => host.picture().is_none(),
-    };
-    is_pictured
-        && told_of(host) == row.told
-        && host.awaited() == row.awaited
-        && host.unread() == row.unread
-}
-
-/// Whether a host that hears these chunks is left as the row says; `None` if it can't hear them.
-fn hears_in_two(row: &Row, front: &[u8], back: &[u8]) -> Option<bool> {
-    let mut decoder = Decoder::new();
-    let mut host = host_asking(row.asked)?;
-    let before = hear_all(&mut host, &mut decoder, front)?;
-    let after = hear_all(&mut host, &mut decoder, back)?;
-    Some(before.saturating_add(after) == row.unasked && is_left_as(&host, row))
-}
-
-/// The same of a host that hears a part of the bytes, and then all of them.
-fn hears_after_part(row: &Row, part: &[u8], bytes: &[u8]) -> Option<bool> {
-    let mut decoder = Decoder::new();
-    let mut host = host_asking(row.asked)?;
-    hear_all(&mut host, &mut decoder, part)?;
-    hear_all(&mut host, &mut decoder, bytes)?;
-    Some(is_left_as(&host, row))
-}
-
-/// The bytes of a row, cut into two at this place, and whole after those before it.
-fn assert_row_at(rt: &impl Abort, number: usize, row: &Row, bytes: &[u8], place: usize) {
-    let (is_cut, is_after) = match bytes.split_at_checked(place) {
-        Some((front, back)) => (
-            hears_in_two(row, front, back) == Some(true),
-            hears_after_part(row, front, bytes) == Some(true),
-        ),
-        None => (false, false),
-    };
-    assert!(rt; is_cut, "row {number}, cut at {place}");
-    assert!(rt; is_after, "row {number}, after {place} bytes of it");
-}
-
-#[test]
-fn messages_in_two_chunks_and_after_parts(rt: HostRuntime) -> Result<(), Fail> {
-    for (number, row) in ROWS.iter().enumerate() {
-        let bytes = joined(rt.alloc(), row.parts)?;
-        for place in 0..=bytes.len() {
-            assert_row_at(&rt, number, row, &bytes, place);
-        }
-    }
-    Ok(())
-}
-
-#[test]
-fn the_longest_message_cut_off_by_a_field(rt: HostRuntime) -> Result<(), Fail> {
-    let row = Row {
-        asked: &[],
-        parts: &[&[0xb0, 0x7f, 0x7f], &[0x00; 16379], &FIELD],
-        unasked: 0,
-        awaited: &[],
-        picture: None,
-        told: Told::Nothing,
-        unread: 0,
-    };
-    let bytes = joined(rt.alloc(), row.parts)?;
-    for place in 0..=40 {
-        assert_row_at(&rt, 0, &row, &bytes, place);
-        assert_row_at(&rt, 0, &row, &bytes, bytes.len().saturating_sub(place));
-    }
-    Ok(())
 }
 
 /// As many bytes of fields as 1000 dumps have, then versions, then dumps: nobody asked for any.

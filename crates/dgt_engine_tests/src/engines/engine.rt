@@ -5,7 +5,8 @@ use dgt_board::{Board, Identity};
 use dgt_link::World;
 use dgt_message::{Clock, Reading, Status, Times};
 use dgt_text::{
-    RunFault, Sink, Source, commands, monitor, picture, serve, simulate, simulate_faults,
+    RunFault, Sink, Source, commands, monitor, picture, picture_with_doubts, serve, simulate,
+    simulate_faults,
 };
 use dgt_values::{Body, Position, SevenBit};
 use std::alloc::{AllocGlobal, Global};
@@ -20,6 +21,7 @@ pub type Answer = Result<(), RunFault>;
 pub enum Engine<'a> {
     Monitor,
     Picture,
+    PictureWithDoubts,
     Commands,
     /// `serve` for a new board that took the bytes `asked` before. The run leaves it with `partial`
     /// bytes of an unfinished command.
@@ -42,6 +44,7 @@ impl Engine<'_> {
         match self {
             Engine::Monitor => Ok(monitor(source, sink, limit)),
             Engine::Picture => Ok(picture(source, sink, limit)),
+            Engine::PictureWithDoubts => Ok(picture_with_doubts(source, sink, limit)),
             Engine::Commands => Ok(commands(source, sink, limit)),
             Engine::Serve { asked, partial } => {
                 let mut board = asked_board(asked)?;

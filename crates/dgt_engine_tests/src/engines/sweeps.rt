@@ -133,6 +133,36 @@ fn a_picture_meets_each_trouble_at_each_place(rt: HostRuntime) -> Result<(), Fai
 }
 
 #[test]
+fn a_picture_with_doubts_meets_each_trouble_at_each_place(rt: HostRuntime) -> Result<(), Fail> {
+    let rows: [(&[u8], &[u8]); 9] = [
+        (FIELD, b""),
+        (&[0x05], b""),
+        (
+            START,
+            b"00000073 rnbqkbnr/pppppppp/8/8/8/8/PPPPPPPP/RNBQKBNR\n",
+        ),
+        (&[0x05], b"00000074 doubt\n"),
+        (&[0x8e, 0x00], b""),
+        (
+            FIELD,
+            b"00000081 rnbqkbnr/pppppppp/8/8/4P3/8/PPPPPPPP/RNBQKBNR\n",
+        ),
+        (
+            START,
+            b"00000148 rnbqkbnr/pppppppp/8/8/8/8/PPPPPPPP/RNBQKBNR\n",
+        ),
+        (&[0x8e, 0x00, 0x02], b"00000151 doubt\n"),
+        (&[0x8e], b""),
+    ];
+    let text = Text {
+        rows: &rows,
+        last: b"",
+    };
+    let engine = Engine::PictureWithDoubts;
+    sweep(&rt, &Telling { engine, text })
+}
+
+#[test]
 fn commands_meet_each_trouble_at_each_place(rt: HostRuntime) -> Result<(), Fail> {
     let words: [(&[u8], &[u8]); 7] = [
         (&[0x44], b"00000001 updateboard\n"),
