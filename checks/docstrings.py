@@ -1,15 +1,19 @@
 """Runs the examples of the docstrings of the package for Python, and of its README.md.
 
-A stand-in takes the place of pyserial, with a board at the other end of its port. As pyserial does,
-`read` waits for all the bytes that it is asked for, or for the timeout.
+Stand-ins take the place of pyserial and pyserial-asyncio, and of the ports that the package opens
+itself, with a board at the other end. As pyserial does, `read` waits for all the bytes that it is
+asked for, or for the timeout.
 """
 
+import asyncio
 import doctest
 import importlib
 import pathlib
 import pkgutil
+import socket
 import sys
 import types
+import unittest.mock
 
 HAPPENINGS = [("e2", "."), ("e4", "P")]
 
@@ -24,7 +28,7 @@ class Port:
 
     def __init__(self, board, timeout):
         self.is_open = True
-        self._board, self._timeout = board, timeout
+        self.timeout, self._board = timeout, board
         self._sent, self._happenings = bytearray(), list(HAPPENINGS)
 
     @property
@@ -42,7 +46,7 @@ class Port:
             self._board.change(*self._happenings.pop(0))
             self._sent += b"".join(self._board.messages())
         if len(self._sent) < size:
-            if self._timeout is None:
+            if self.timeout is None:
                 raise Wrong("an example waits for ever")
             self.is_open = False
         chunk = bytes(self._sent[:size])
@@ -50,11 +54,44 @@ class Port:
         return chunk
 
 
-def stand_in(dgt):
-    """A module in the place of pyserial."""
-    serial = types.ModuleType("serial")
+class OwnPort(Port):
+    """A port that the package opens itself. Its `exchange` waits as `read` does."""
+
+    def ask(self, chunk):
+        self.write(chunk)
+
+    def exchange(self, seconds):
+        self.timeout = seconds
+        return self.read(self.in_waiting or 1)
+
+    def close(self):
+        self.is_open = False
+
+
+async def serve(board, reader, writer):
+    """Answers a host, and moves the pawn once the host has asked."""
+    for message in board.answers(await reader.read(1000)):
+        writer.write(message)
+    for square, piece in HAPPENINGS:
+        board.change(square, piece)
+        writer.writelines(board.messages())
+    writer.close()
+
+
+def stand_ins(dgt):
+    """Modules in the place of pyserial and pyserial-asyncio."""
+    tasks = set()
+
+    async def open_connection(url, baudrate=9600):
+        theirs, ours = socket.socketpair()
+        streams = await asyncio.open_connection(sock=theirs)
+        tasks.add(asyncio.create_task(serve(dgt.Board(), *streams)))
+        return await asyncio.open_connection(sock=ours)
+
+    serial, serial_asyncio = map(types.ModuleType, ["serial", "serial_asyncio"])
     serial.Serial = lambda port, baudrate=9600, timeout=None: Port(dgt.Board(), timeout)
-    return serial
+    serial_asyncio.open_serial_connection = open_connection
+    return {"serial": serial, "serial_asyncio": serial_asyncio}
 
 
 def tests(dgt, readme):
@@ -71,11 +108,12 @@ def tests(dgt, readme):
 
 def check(dgt, folder):
     """Runs all examples, and returns how many there are. None that a file shows is left out."""
-    sys.modules["serial"] = stand_in(dgt)
     readme = folder / "README.md"
     runner, told = doctest.DocTestRunner(), []
-    for test in tests(dgt, readme):
-        runner.run(test, out=told.append)
+    with (unittest.mock.patch.dict(sys.modules, stand_ins(dgt)),
+          unittest.mock.patch("dgt.following.Port", lambda name: OwnPort(dgt.Board(), None))):
+        for test in tests(dgt, readme):
+            runner.run(test, out=told.append)
     if runner.failures:
         raise Wrong("".join(told))
     sources = [readme, *pathlib.Path(folder, "dgt").glob("*.py")]

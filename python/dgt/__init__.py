@@ -1,9 +1,22 @@
 """The host of a DGT electronic chess board, a decoder, a reader of commands, and a board.
 
-A host reads a board's bytes and keeps a picture of the board. Nothing in this package opens a line.
-With pyserial, this program shows the position after each event:
+A host reads a board's bytes and keeps a picture of the board. `follow` opens a serial port, and has
+a host ask the board again and again. This program shows the position after each change:
 
-    >>> import dgt, serial
+    >>> import dgt
+    >>> with dgt.follow("/dev/ttyUSB0") as board:
+    ...     for view in board:
+    ...         print(view.picture)
+    ...         if view.picture and view.picture["e4"] == "P":
+    ...             break
+    rnbqkbnr/pppppppp/8/8/8/8/PPPPPPPP/RNBQKBNR
+    rnbqkbnr/pppppppp/8/8/8/8/PPPP1PPP/RNBQKBNR
+    rnbqkbnr/pppppppp/8/8/4P3/8/PPPP1PPP/RNBQKBNR
+
+Nothing else in this package opens a line. A `Host` gives each event of the bytes that it is handed.
+With pyserial:
+
+    >>> import serial
     >>> line = serial.Serial("/dev/ttyUSB0", 9600, timeout=1)
     >>> host = dgt.Host()
     >>> sent = line.write(host.restart())
@@ -36,6 +49,7 @@ from .errors import (BadFen, BadPlacement, BadValue, Busy, Closed, DgtError, Ill
 from .events import (Ack, BadLength, Battery, Cut, Dump, Event, Fault, Field, LongSerial, Message,
                      Other, Refused, Serial, Stray, Trademark, Version)
 from .follower import Follower
+from .following import BoardView, Following, SerialLine, follow, follow_async
 from .host import Host
 from .moves import GameBegun, MoveEvent, MoveMade, MoveRecogniser, MoveTakenBack
 from .rules import START_FEN, GameState
@@ -46,11 +60,12 @@ __version__ = "0.1.0"
 
 __all__ = [
     "Ack", "Ask", "Asked", "BadEnd", "BadFen", "BadLength", "BadPlacement", "BadSize", "BadStart",
-    "BadValue", "Battery", "Board", "Busy", "Clock", "ClockId", "ClockMessage", "Closed", "Command",
-    "CommandDecoder", "Cut", "Decoder", "DgtError", "Dump", "Event", "Fault", "Field", "Follower",
-    "GameBegun", "GameState", "Host", "Identity", "IllegalMove", "LETTERS", "Leds", "LongSerial",
-    "Message", "Mode", "MoveEvent", "MoveMade", "MoveRecogniser", "MoveTakenBack", "Nested",
-    "NoClock", "NoSuchCommand", "Other", "Position", "Refused", "SQUARES", "START_FEN", "Serial",
-    "Stray", "StrayByte", "Time", "Times", "TooManyAwaited", "Trademark", "Version", "Word",
-    "piece_code", "segment", "square_number",
+    "BadValue", "Battery", "Board", "BoardView", "Busy", "Clock", "ClockId", "ClockMessage",
+    "Closed", "Command", "CommandDecoder", "Cut", "Decoder", "DgtError", "Dump", "Event", "Fault",
+    "Field", "Follower", "Following", "GameBegun", "GameState", "Host", "Identity", "IllegalMove",
+    "LETTERS", "Leds", "LongSerial", "Message", "Mode", "MoveEvent", "MoveMade", "MoveRecogniser",
+    "MoveTakenBack", "Nested", "NoClock", "NoSuchCommand", "Other", "Position", "Refused",
+    "SQUARES", "START_FEN", "Serial", "SerialLine", "Stray", "StrayByte", "Time", "Times",
+    "TooManyAwaited", "Trademark", "Version", "Word", "follow", "follow_async", "piece_code",
+    "segment", "square_number",
 ]

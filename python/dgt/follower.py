@@ -61,16 +61,21 @@ class Follower(Asker):
     def hear_each(self, chunk: Bytes, now: float) -> Iterator[Position | None]:
         """Hears a chunk of bytes that came at this time, and yields the picture after each event,
         and at the end of the chunk. A byte is heard once the picture before it was taken."""
+        return (self.picture for _ in self._hear_steps(chunk, now))
+
+    def _hear_steps(self, chunk: Bytes, now: float) -> Iterator[int]:
+        """Hears a chunk as `hear_each` does, and yields how many bytes each step took."""
         time = _milliseconds(now)
         held, address = readable(chunk)
         self._check_open()
-        return self._pictures(held, address, time)
+        return self._steps(held, address, time)
 
-    def _pictures(self, held: bytes, address: int, time: int) -> Iterator[Position | None]:
+    def _steps(self, held: bytes, address: int, time: int) -> Iterator[int]:
         end = address + len(held)
         while address < end:
-            address += self._call(dgt.dgt_follower_hear, time, address, end - address)
-            yield self.picture
+            used = int(self._call(dgt.dgt_follower_hear, time, address, end - address))
+            address += used
+            yield used
 
     def ask(self, now: float) -> bytes:
         """Returns what to ask the board at this time: nothing if that isn't due."""

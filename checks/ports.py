@@ -1,0 +1,475 @@
+"""Checks how the package for Python follows boards: on ports, on lines that it is handed, and on
+streams.
+
+A pseudo-terminal takes the place of a serial port, by a link that goes and comes with it. A board
+of the package is at its other end, and the line between them may spoil what the board sends.
+"""
+
+import asyncio
+import contextlib
+import errno
+import fcntl
+import os
+import pathlib
+import pty
+import select
+import socket
+import tempfile
+import termios
+import threading
+import time
+import tty
+
+START = "rnbqkbnr/pppppppp/8/8/8/8/PPPPPPPP/RNBQKBNR"
+LIFTED = "rnbqkbnr/pppppppp/8/8/8/8/PPPP1PPP/RNBQKBNR"
+BOTH = "rnbqkbnr/pppppppp/8/8/4P3/8/PPPPPPPP/RNBQKBNR"
+PUT = "rnbqkbnr/pppppppp/8/8/4P3/8/PPPP1PPP/RNBQKBNR"
+GONE = "the port has gone; it is looked for every two seconds"
+SILENT = "the board doesn't answer"
+NO_PORT = "no such port (plug the board in; /dev/serial/by-id lists the ports)"
+SECONDS = 20
+TIOCGEXCL = 0x80045440  # of Linux: whether later openers are refused; termios doesn't name it
+# What a machine that is busy with other things may add to a time.
+LATE = 5.0
+
+
+class Wrong(Exception):
+    """Something is not as it should be."""
+
+
+def wanted(what, got, right):
+    if got != right:
+        raise Wrong(f"{what}: {got!r} in place of {right!r}")
+
+
+class Line:
+    """A board at the other end of a pseudo-terminal. `spoil` is what the line makes of each
+    message; `asked` has when something was asked, and what."""
+
+    def __init__(self, dgt, folder):
+        self.board, self.path = dgt.Board(), pathlib.Path(folder, "port")
+        self.spoil, self.is_on, self.asked = bytes, True, []
+        self.lock, self.ends = threading.RLock(), ()
+        self.wake, self.woken = os.pipe()
+        self.plug()
+        self.thread = threading.Thread(target=self.serve, daemon=True)
+        self.thread.start()
+
+    def plug(self):
+        """The port comes."""
+        with self.lock:
+            board, port = pty.openpty()
+            tty.setraw(port)
+            os.set_blocking(board, False)
+            self.board.line_lost()
+            self.ends = board, port
+            self.path.symlink_to(os.ttyname(port))
+        os.write(self.woken, b"w")
+
+    def unplug(self):
+        """The port goes."""
+        with self.lock:
+            self.path.unlink()
+            for end in self.ends:
+                os.close(end)
+            self.ends = ()
+
+    def serve(self):
+        """Answers the host until the line is closed."""
+        while True:
+            with self.lock:
+                heard = [self.wake, *self.ends[:self.is_on]]
+            with contextlib.suppress(OSError):  # the port may go meanwhile
+                select.select(heard, [], [], 0.05)
+            if select.select([self.wake], [], [], 0)[0] and b"c" in os.read(self.wake, 100):
+                break
+            with self.lock, contextlib.suppress(BlockingIOError):
+                if self.ends and self.is_on:
+                    self.answer(os.read(self.ends[0], 1000))
+
+    def answer(self, asked):
+        self.asked.append((time.monotonic(), asked))
+        self.send(self.board.answers(asked))
+
+    def send(self, messages):
+        if sent := b"".join(map(self.spoil, messages)):
+            os.write(self.ends[0], sent)
+
+    def put(self, *changes):
+        """Puts pieces on squares, and sends all changes at once."""
+        with self.lock:
+            for square, piece in changes:
+                self.board.change(square, piece)
+            if self.ends and self.is_on:
+                self.send(list(self.board.messages()))
+
+    def close(self):
+        os.write(self.woken, b"c")
+        self.thread.join()
+        if self.ends:
+            self.unplug()
+        os.close(self.wake)
+        os.close(self.woken)
+
+
+def see(view):
+    """What a view says, but for its clock and its bytes."""
+    return view.picture and view.picture.placement, view.in_doubt, view.away
+
+
+def expect(what, board, *right):
+    """The next views say this."""
+    for number, each in enumerate(right):
+        view = board.wait(time.monotonic() + SECONDS)
+        wanted(f"{what}, {number}", view and see(view), each)
+    return view
+
+
+def expect_at_last(what, board, right):
+    """One of the next views says this. Returns all of them."""
+    views, end = [], time.monotonic() + SECONDS
+    while not views or views[-1] != right:
+        view = board.wait(end)
+        if view is None:
+            raise Wrong(f"{what}: {views} without {right} at last")
+        views.append(see(view))
+    return views
+
+
+def no_more(what, board, seconds=0.3):
+    wanted(f"{what}, what comes next", board.wait(time.monotonic() + seconds), None)
+
+
+# ---- A port by its name
+
+
+def changes(dgt, line):
+    """Each change comes by itself, also if several come at once."""
+    with dgt.follow(line.path, 60) as board:
+        view = expect("at first", board, (START, False, None))
+        wanted("its other fields", (view.clock, view.bytes_heard, board.view), (None, 67, view))
+        line.put(("e2", "."), ("e4", "P"))  # the board reports them in the order of squares
+        wanted("bytes", expect("put", board, (BOTH, False, None)).bytes_heard, 72)
+        wanted("bytes", expect("lifted", board, (PUT, False, None)).bytes_heard, 77)
+        line.put(("e4", "P"))
+        no_more("no change", board)
+        board.write(board.follower.send(dgt.Ask.CLOCK))
+        view = board.wait(time.monotonic() + SECONDS)
+        wanted("the clock", view and view.clock, line.board.clock)
+        line.put(("e4", "."))
+        wanted("as an iterator", next(board).picture, line.board.position)
+
+
+def asks_when_due(dgt, line):
+    with dgt.follow(line.path, 0.4, patience=3) as board:
+        expect("at first", board, (START, False, None))
+        no_more("a period later", board, 2.5)
+    times, asked = zip(*line.asked)
+    wanted("bytes asked", [len(each) for each in asked[:6]], [258, 2, 2, 2, 258, 2])
+    gaps = [later - earlier for earlier, later in zip(times, times[1:])]
+    # A board that hears one late hears the next one sooner after it.
+    wanted(f"the time between two askings: {gaps}", [0.15 < gap < 0.4 + LATE for gap in gaps],
+           [True] * len(gaps))
+    wanted(f"askings: {len(times)}", len(times) <= 8, True)
+
+
+def heals(dgt, line):
+    with dgt.follow(line.path, 1.0) as board:
+        expect("at first", board, (START, False, None))
+        line.spoil = lambda message: b"" if len(message) == 5 else message
+        line.put(("e2", "."))
+        expect("a message that was lost", board, (LIFTED, False, None))
+        line.spoil = lambda message: message[:4] if len(message) == 5 else message
+        line.put(("e4", "P"), ("d2", "."))
+        expect("messages that were cut", board, (LIFTED, True, None))
+        line.spoil = bytes
+        right = line.board.position.placement, False, None
+        wanted("healed", expect_at_last("healed", board, right)[-1], right)
+
+
+def noise(dgt, line):
+    """A field that isn't so, after bytes that are no message."""
+    with dgt.follow(line.path, 1.0) as board:
+        expect("at first", board, (START, False, None))
+        line.send([b"\x00\x7f\x31", bytes.fromhex("8e00053400")])
+        expect("noise", board, (START, True, None), (LIFTED, True, None), (START, False, None))
+
+
+def silence(dgt, line):
+    line.is_on = False
+    with dgt.follow(line.path, 0.5) as board:
+        expect("a board that is off", board, (None, True, SILENT))
+        line.is_on = True
+        expect_at_last("a board that is on", board, (START, False, None))
+        while board.wait(time.monotonic() + 0.8):
+            pass  # it answers each of the earlier askings
+        wanted("a board that is on", see(board.view), (START, False, None))
+        line.is_on = False
+        line.put(("e2", "."))
+        line.board.line_lost()
+        expect_at_last("off again", board, (START, True, SILENT))
+        line.is_on = True
+        expect_at_last("on again", board, (LIFTED, False, None))
+
+
+def goes_and_comes(dgt, line):
+    """The port goes in the middle of a message, and comes back, twice."""
+    with dgt.follow(line.path, 60) as board:
+        expect("at first", board, (START, False, None))
+        line.send([b"\x86\x00\x43" + bytes(20)])
+        line.unplug()
+        expect("gone", board, (START, True, GONE))
+        no_more("gone for some time", board, 2.5)
+        line.put(("e2", "."))
+        line.plug()
+        view = expect("back", board, (START, True, None), (LIFTED, False, None))
+        wanted("bytes after it came back", view.bytes_heard, 67)
+        line.unplug()
+        line.plug()
+        expect("gone and back at once", board, (LIFTED, True, GONE))
+        gone = time.monotonic()
+        expect("back", board, (LIFTED, True, None), (LIFTED, False, None))
+        wanted("whether some time passed", time.monotonic() - gone > 1, True)
+
+
+def comes_late(dgt, line):
+    line.unplug()
+    with dgt.follow(line.path, 60, wait_for_port=True) as board:
+        expect("no port", board, (None, True, NO_PORT))
+        line.plug()
+        expect("there", board, (None, False, None), (START, False, None))
+        line.unplug()
+        expect("gone", board, (START, True, GONE))
+        line.path.symlink_to("/dev/null")
+        expect("another file in its place", board, (START, True, "not a serial port"))
+        line.path.unlink()
+        line.plug()
+
+
+def refused(what, call, number):
+    try:
+        call()
+    except OSError as fault:
+        wanted(what, fault.errno, number)
+        return fault
+    raise Wrong(f"{what}: it was opened")
+
+
+def faults(dgt, line):
+    """A port that can't be opened says why, and what to do."""
+    absent = line.path.parent / "absent"
+    for path, number, said in [(str(absent), errno.ENOENT, NO_PORT),
+                               ("/dev/null", errno.ENOTTY, "not a serial port")]:
+        fault = refused(path, lambda: dgt.follow(path), number)
+        wanted(path, (fault.strerror, fault.filename), (said, path))
+    refused("/dev/null", lambda: dgt.follow("/dev/null", wait_for_port=True), errno.ENOTTY)
+    for period in (0, 0.05, -1, float("nan"), float("inf")):
+        try:
+            dgt.follow(line.path, period)
+        except dgt.BadValue:
+            continue
+        raise Wrong(f"a period of {period} seconds is taken")
+    with dgt.follow(line.path):
+        wanted("whether others are refused", is_exclusive(line.ends[1]), True)
+        in_use = refused("a second reader", lambda: dgt.follow(line.path), errno.EWOULDBLOCK)
+        wanted("it", in_use.strerror, "in use by another program (end that one first)")
+        with dgt.follow(line.path, wait_for_port=True) as board:
+            expect("a second one that waits", board, (None, True, in_use.strerror))
+
+
+def is_exclusive(port):
+    return fcntl.ioctl(port, TIOCGEXCL, bytes(4)) != bytes(4)
+
+
+def closing(dgt, line):
+    """It ends, and others may have the port."""
+    board = dgt.follow(line.path)
+    expect("at first", board, (START, False, None))
+    line.put(("e2", "."), ("e4", "P"))
+    next(board)
+    board.close()
+    board.close()
+    wanted("what comes after it", list(board), [])
+    for call in (board.wait, lambda: board.write(b"B")):
+        with contextlib.suppress(dgt.Closed):
+            call()
+            raise Wrong("a call of a closed one")
+    port = os.open(line.path, os.O_RDWR | os.O_NOCTTY)
+    fcntl.flock(port, fcntl.LOCK_EX | fcntl.LOCK_NB)
+    held = is_exclusive(port)
+    os.close(port)
+    wanted("whether others are refused", held, False)
+    with dgt.follow(line.path) as board:
+        expect("once more", board, (PUT, False, None))
+
+
+def settings(dgt, line):
+    """What another program left of the port's settings is set right."""
+    port = line.ends[1]
+    others = [termios.INLCR | termios.IXON, termios.OPOST, termios.CS7 | termios.PARENB
+              | termios.CSTOPB | termios.CRTSCTS, termios.ECHO | termios.ICANON]
+    termios.tcsetattr(port, termios.TCSANOW, others + [termios.B1200] * 2
+                      + termios.tcgetattr(port)[6:])
+    with dgt.follow(line.path, 60) as board:
+        how = termios.tcgetattr(port)
+        # Squares 10, 13, 17 and 19: bytes that a terminal may alter or keep.
+        line.put(("c7", "."), ("f7", "."), ("b6", "p"), ("d6", "p"))
+        expect_at_last("it", board, (line.board.position.placement, False, None))
+    control = termios.CS8 | termios.CREAD | termios.CLOCAL
+    wanted("its settings", (how[:2], how[2] & ~0o10017, how[3:6]),
+           ([0, 0], control, [0, termios.B9600, termios.B9600]))
+
+
+def waits(dgt, line):
+    """It waits until a time, and no longer, and takes no time of the processor meanwhile."""
+    with dgt.follow(line.path, 60) as board:
+        expect("at first", board, (START, False, None))
+        used = {"a port that is there": how_it_waits(board)}
+        wanted("a time that is over", board.wait(0.0), None)
+        line.put(("e2", "."))
+        time.sleep(0.2)
+        wanted("a time that is over, and a change", see(board.wait(0.0)), (LIFTED, False, None))
+        line.unplug()
+        expect("gone", board, (LIFTED, True, GONE))
+        used["a port that has gone"] = how_it_waits(board)
+        line.plug()
+    for what, (passed, processor) in used.items():
+        wanted(f"how long it waits, {what}: {passed}", 3 <= passed < 3 + LATE, True)
+        wanted(f"what it uses, {what}: {processor}", processor < 0.03, True)
+
+
+def how_it_waits(board):
+    """How long it waits for 3 seconds, and for how long it uses the processor."""
+    begun, used = time.monotonic(), time.thread_time()
+    wanted("waiting", board.wait(begun + 3), None)
+    return time.monotonic() - begun, time.thread_time() - used
+
+
+def takes_nothing(dgt, line):
+    """A port that takes nothing holds nobody up, and is sent what is due once it does."""
+    with line.lock:
+        line.is_on, port = False, line.ends[1]
+        os.set_blocking(port, False)
+        for _ in range(5):  # a full port takes some more in a while
+            with contextlib.suppress(BlockingIOError):
+                while os.write(port, bytes(1000)):
+                    pass
+            time.sleep(0.1)
+    with dgt.follow(line.path, 0.2) as board:
+        begun, used = time.monotonic(), time.thread_time()
+        expect_at_last("a port that takes nothing", board, (None, True, SILENT))
+        no_more("it", board, 3.0)
+        wanted("time of the processor", time.thread_time() - used < 0.1, True)
+        wanted("the time that passed", time.monotonic() - begun < 3.5 + LATE, True)
+        unsent = len(board._line._unsent)
+        wanted(f"bytes that wait for the port: {unsent}", unsent <= 258, True)
+        line.is_on = True
+        expect_at_last("it, later", board, (START, False, None))
+
+
+# ---- Other lines
+
+
+class Handed:
+    """A port like one of pyserial, with a board at its other end."""
+
+    def __init__(self, board):
+        self.board, self.is_open, self.timeout = board, True, None
+        self.sent, self.waited = b"", []
+
+    @property
+    def in_waiting(self):
+        return len(self.sent)
+
+    def write(self, chunk):
+        self.sent += b"".join(self.board.answers(chunk))
+
+    def read(self, size):
+        self.sent += b"".join(self.board.messages())
+        self.waited.append((size, self.timeout))
+        if len(self.sent) < size:
+            if len(self.waited) > 5:
+                raise OSError(errno.EIO, "this one fails")
+            self.is_open = len(self.waited) < 4
+        chunk, self.sent = self.sent[:size], self.sent[size:]
+        return chunk
+
+
+def handed(dgt, line):
+    """A line that is handed over ends it when it is closed, and is left open by it."""
+    port = Handed(line.board)
+    with dgt.follow(port, 60) as board:
+        expect("a line", board, (START, False, None))
+        line.board.change("e2", ".")
+        wanted("it, changed", see(next(board)), (LIFTED, False, None))
+        wanted("once it is closed", list(board), [])
+    wanted("how much was read", [size for size, _ in port.waited], [67, 1, 4, 1])
+    limits = [59 < seconds <= 60 for _, seconds in port.waited[1:]]
+    wanted(f"for how long: {port.waited}", limits, [True] * 3)
+    port.is_open = True
+    with dgt.follow(port) as board:
+        expect("a line", board, (LIFTED, False, None))
+    wanted("whether it is open", port.is_open, True)
+    refused("a fault of its own", lambda: list(dgt.follow(port)), errno.EIO)
+
+
+async def hear_streams(dgt, board):
+    ours, theirs = socket.socketpair()
+    reader, writer = await asyncio.open_connection(sock=theirs)
+    views = dgt.follow_async(*await asyncio.open_connection(sock=ours), 2.0)
+    first = asyncio.create_task(anext(views))
+    for message in board.answers(await reader.read(1000)):
+        for byte in message:
+            writer.write(bytes([byte]))
+            await asyncio.sleep(0)
+    seen = [await first]
+    writer.write(b"\x8e\x00\x05\x00")
+    writer.write(b"\x8e")
+    seen.append(await anext(views))
+    later = asyncio.create_task(anext(views))
+    asked = await reader.read(1000)
+    board.change("e2", ".")
+    writer.writelines(board.answers(asked))
+    seen += [await later, await anext(views)]
+    writer.close()
+    seen += [view async for view in views]
+    return [see(view) for view in seen]
+
+
+def streams(dgt, line):
+    seen = asyncio.run(asyncio.wait_for(hear_streams(dgt, line.board), SECONDS))
+    wanted("streams", seen, [(START, False, None), (START, True, None), (LIFTED, True, None),
+                             (LIFTED, False, None)])
+
+
+CASES = [changes, asks_when_due, heals, noise, silence, goes_and_comes, comes_late, faults, closing,
+         settings, waits, takes_nothing, handed, streams]
+
+
+def try_case(dgt, case, told):
+    """Notes what is wrong in a case, or nothing."""
+    with tempfile.TemporaryDirectory() as folder:
+        line = Line(dgt, folder)
+        try:
+            case(dgt, line)
+            told[case] = None
+        except (Wrong, OSError, dgt.DgtError) as wrong:
+            told[case] = str(wrong)
+        finally:
+            line.close()
+
+
+def check(dgt, names=()):
+    """Tries all cases, or those with these names. Returns how many there are."""
+    cases = [case for case in CASES if not names or case.__name__ in names]
+    told, end = {}, time.monotonic() + 3 * SECONDS
+    threads = [threading.Thread(target=try_case, args=(dgt, case, told), daemon=True)
+               for case in cases]
+    for thread in threads:
+        thread.start()
+    for thread in threads:
+        thread.join(max(0.0, end - time.monotonic()))
+    wrong = {case.__name__: told.get(case, "it doesn't end") for case in cases}
+    if faults := [f"{name}: {fault}" for name, fault in wrong.items() if fault]:
+        raise Wrong("; ".join(faults))
+    return len(cases)

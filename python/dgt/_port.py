@@ -1,0 +1,91 @@
+"""A serial port, which one process at a time may have."""
+
+from __future__ import annotations
+
+import contextlib
+import errno
+import fcntl
+import os
+import select
+import termios
+
+# What to do about a port that can't be opened.
+_ADVICE = {
+    errno.ENOENT: "no such port (plug the board in; /dev/serial/by-id lists the ports)",
+    errno.EACCES: "permission denied (join the group dialout)",
+    errno.EBUSY: "in use by another program (end that one first)",
+    errno.EWOULDBLOCK: "in use by another program (end that one first)",
+    errno.ENOTTY: "not a serial port",
+}
+_CHUNK = 4096
+
+
+def _take(line: int) -> None:
+    """Locks a serial line, and sets it up: 9600 baud, 8 bits, no parity, 1 stop bit, no flow
+    control, raw. It is locked before it is touched."""
+    fcntl.flock(line, fcntl.LOCK_EX | fcntl.LOCK_NB)
+    _, _, control, *_, special = termios.tcgetattr(line)
+    control = control & termios.HUPCL | termios.CS8 | termios.CREAD | termios.CLOCAL
+    special[termios.VMIN], special[termios.VTIME] = 1, 0
+    speed = termios.B9600
+    termios.tcsetattr(line, termios.TCSANOW, [0, 0, control, 0, speed, speed, special])
+    fcntl.ioctl(line, termios.TIOCEXCL)
+
+
+def _open(name: str) -> int:
+    line = os.open(name, os.O_RDWR | os.O_NOCTTY | os.O_NONBLOCK)
+    try:
+        _take(line)
+    except BaseException:
+        os.close(line)
+        raise
+    return line
+
+
+class Port:
+    """A serial port that this process alone has. No call but `exchange` waits."""
+
+    def __init__(self, name: str) -> None:
+        """`OSError` if it can't be opened. Its text says why, and what to do."""
+        try:
+            line = _open(name)
+        except (OSError, termios.error) as fault:
+            number, text = fault.args[:2]
+            raise OSError(number, _ADVICE.get(number, text), name) from None
+        self._line, self._file = line, open(line, "r+b", buffering=0)
+        self._poll = select.poll()
+        self._unsent = b""
+
+    def ask(self, chunk: bytes) -> None:
+        """Has a chunk sent. What the port hasn't taken of earlier ones is dropped."""
+        self._unsent = b""
+        self.write(chunk)
+
+    def write(self, chunk: bytes) -> None:
+        """Has a chunk sent, after the earlier ones."""
+        self._unsent += chunk
+        with contextlib.suppress(OSError):  # `exchange` finds that the port has gone
+            self._send()
+
+    def _send(self) -> None:
+        self._unsent = self._unsent[self._file.write(self._unsent) or 0:]
+
+    def exchange(self, seconds: float) -> bytes:
+        """Sends what the port takes, and returns the bytes that come. Returns nothing after so many
+        seconds, or once the port took something. `OSError` if the port has gone."""
+        self._poll.register(self._line, select.POLLIN | (select.POLLOUT if self._unsent else 0))
+        events = dict(self._poll.poll(1000 * seconds)).get(self._line, 0)
+        if events & select.POLLOUT:
+            self._send()
+        others = events & ~select.POLLOUT
+        chunk = self._file.read(_CHUNK) if others and not self._file.closed else None
+        if chunk == b"" or (chunk is None and others & ~select.POLLIN):
+            raise OSError(errno.ENODEV, "the port has gone")
+        return chunk or b""
+
+    def close(self) -> None:
+        """Closes the port, for others to open."""
+        with contextlib.suppress(OSError, ValueError):  # it may have gone, or be closed already
+            fcntl.ioctl(self._file, termios.TIOCNXCL)
+        with contextlib.suppress(OSError):
+            self._file.close()
