@@ -12,22 +12,21 @@ may be taken back. A rook's move that may be the first half of castling waits fo
 All pieces on their first squares begin a game, also on a turned board. So does any other position
 that the board shows at the start, or that is set up with the kings last, after a second.
 
-When the board first reports them, standard error shows where its pieces stand. It ends when the
-line does.
+The board is asked for all squares every ten seconds, and at once if the line lost bytes. No move is
+printed until it has answered. If the port goes, it is looked for every two seconds, and the game
+goes on once it is back: a move that was made meanwhile is printed then. So it runs until Ctrl-C
+ends it, or nobody reads what it prints.
+
+Standard error shows where the pieces stand when the board first reports them, and again after it
+was away, and why it is away.
 """
 
 import argparse
-import errno
-import fcntl
-import math
 import os
 import pathlib
-import select
 import signal
 import sys
-import termios
 import time
-import tty
 from collections.abc import Iterable, Iterator
 
 # First, so that --help needs no library.
@@ -46,65 +45,29 @@ try:
 except ImportError as missing:
     sys.exit(f"moves.py: {missing}")
 
-# What to do about a port that can't be opened.
-ADVICE = {
-    errno.ENOENT: "no such port (plug the board in; /dev/serial/by-id lists the ports)",
-    errno.EACCES: "permission denied (join the group dialout)",
-    errno.EBUSY: "in use by another program (end that one first)",
-    errno.EWOULDBLOCK: "in use by another program (end that one first)",
-    errno.ENOTTY: "not a serial port",
-}
+
+def warn(text: str) -> None:
+    print(text, file=sys.stderr, flush=True)
 
 
-def take(line: int) -> None:
-    """Locks a serial line, and sets it to 9600 bits a second, raw. An OSError if another program
-    has it."""
-    fcntl.flock(line, fcntl.LOCK_EX | fcntl.LOCK_NB)
-    settings = termios.tcgetattr(line)
-    settings[2] |= termios.CLOCAL | termios.CREAD
-    settings[4] = settings[5] = termios.B9600
-    termios.tcsetattr(line, termios.TCSANOW, settings)
-    tty.setraw(line)
-    fcntl.ioctl(line, termios.TIOCEXCL)
-
-
-def open_port(name: str) -> int:
-    """Opens a serial line for this process alone."""
-    try:
-        line = os.open(name, os.O_RDWR | os.O_NOCTTY | os.O_NONBLOCK)
-        take(line)
-        os.set_blocking(line, True)
-    except (OSError, termios.error) as refused:
-        why = ADVICE.get(refused.args[0], refused.args[1])
-        raise SystemExit(f"moves.py: {name}: {why}") from None
-    return line
-
-
-def read(line: int, until: float | None) -> bytes | None:
-    """Reads what comes from a line until a time: nothing at its end, `None` if the time is over."""
-    wait = None if until is None else max(0.0, until - time.monotonic())
-    if not select.select([line], [], [], wait)[0]:
-        return None
-    try:
-        return os.read(line, 256)
-    except OSError:
-        return b""
-
-
-def made(line: int, recogniser: dgt.MoveRecogniser) -> Iterator[dgt.MoveEvent]:
-    """What happens in the games on a board, up to the end of the line."""
-    host = dgt.Host()
-    os.write(line, host.restart())
-    while (chunk := read(line, recogniser.due)) != b"":
-        if chunk is None:
+def made(board: dgt.Following, recogniser: dgt.MoveRecogniser) -> Iterator[dgt.MoveEvent]:
+    """What happens in the games on a board."""
+    away, is_new = None, True
+    while True:
+        view = board.wait(recogniser.due)
+        if view is None:
             yield from recogniser.wait(time.monotonic())
             continue
-        for event in host.hear_each(chunk):
-            if isinstance(event, dgt.Dump):
-                print("the board shows", host.placement, file=sys.stderr, flush=True)
-            if isinstance(event, (dgt.Dump, dgt.Field)) and (position := host.picture):
-                yield from recogniser.see(position, time.monotonic())
-    yield from recogniser.wait(math.inf)
+        if view.away and view.away != away:
+            warn(f"moves.py: {words.port}: {view.away}")
+        away, is_new = view.away, is_new or view.away is not None
+        if view.in_doubt:
+            recogniser.hold()
+        elif view.picture:
+            if is_new:
+                warn(f"the board shows {view.picture}")
+            is_new = False
+            yield from recogniser.see(view.picture, time.monotonic())
 
 
 def text(event: dgt.MoveEvent) -> str:
@@ -128,9 +91,12 @@ def main() -> None:
     signal.signal(signal.SIGINT, signal.SIG_DFL)
     try:
         recogniser = dgt.MoveRecogniser(words.fen)
+        board = dgt.follow(words.port)
     except dgt.BadFen as wrong:
         raise SystemExit(f"moves.py: {wrong}") from None
-    tell(made(open_port(words.port), recogniser))
+    except OSError as refused:
+        raise SystemExit(f"moves.py: {words.port}: {refused.strerror}") from None
+    tell(made(board, recogniser))
 
 
 if __name__ == "__main__":

@@ -10,6 +10,7 @@
 
 #include <errno.h>
 #include <fcntl.h>
+#include <limits.h>
 #include <poll.h>
 #include <pthread.h>
 #include <signal.h>
@@ -99,24 +100,28 @@ static void see(const uint8_t pieces[64]) {
 
 /* ---- The thread */
 
-/* For how long nothing is to be done but read. */
-static int spare_time(void) {
-    long long until = board.again;
-    if (board.sure && followed.due != 0 && followed.due < until) until = followed.due;
-    long long left = until - line_now();
-    return left < 0 ? 0 : (int)left;
+/* How many milliseconds are left until a time, as poll takes them. */
+static int left_until(long long time) {
+    long long left = time - line_now();
+    return left < 0 ? 0 : left < INT_MAX ? (int)left : INT_MAX;
+}
+
+/* When something is to be done but read. */
+static long long next_time(void) {
+    long long due = line_due(&board);
+    return followed.due != 0 && followed.due < due ? followed.due : due;
 }
 
 static void *read_board(void *unused) {
     for (;;) {
         struct pollfd waits[2] = {{stop, POLLIN, 0}, {board.port, POLLIN, 0}};
-        poll(waits, board.port < 0 ? 1 : 2, spare_time());
+        poll(waits, board.port < 0 ? 1 : 2, left_until(next_time()));
         if (waits[0].revents) return unused;
         if (board.port >= 0 && waits[1].revents) line_read(&board, see);
-        move made;
-        if (!board.sure) game_hold(&followed);
-        else if (game_wait(&followed, line_now(), &made)) tell(&made);
         line_keep(&board);
+        move made;
+        if (!line_is_sure(&board)) game_hold(&followed);
+        else if (game_wait(&followed, line_now(), &made)) tell(&made);
     }
 }
 
@@ -147,13 +152,12 @@ static void read_settings(void) {
  * where it doesn't in time. */
 static bool hear_for(int milliseconds, int texts) {
     long long end = line_now() + milliseconds;
-    while (texts > 0 ? board.texts < texts : !board.sure) {
-        long long left = end - line_now();
+    while (texts > 0 ? board.texts < texts : !line_is_sure(&board)) {
+        long long due = line_due(&board);
         struct pollfd waits = {board.port, POLLIN, 0};
         errno = board.port < 0 ? ENODEV : ETIMEDOUT;
-        if (board.port < 0 || left <= 0) return false;
-        int wait = left < 50 ? (int)left : 50; /* so that it is asked again in time */
-        if (poll(&waits, 1, wait) > 0) line_read(&board, see);
+        if (board.port < 0 || line_now() >= end) return false;
+        if (poll(&waits, 1, left_until(due < end ? due : end)) > 0) line_read(&board, see);
         if (board.port >= 0) line_keep(&board);
     }
     return true;

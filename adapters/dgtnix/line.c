@@ -3,6 +3,7 @@
 
 #include <errno.h>
 #include <fcntl.h>
+#include <limits.h>
 #include <poll.h>
 #include <stdio.h>
 #include <string.h>
@@ -13,10 +14,10 @@
 #include <unistd.h>
 
 enum {
-    SHORTLY = 100, /* after a fault: what came with it is read first */
-    AGAIN = 1000,  /* between two questions, and between two looks for the port */
-    CHECK = 10000, /* between two questions while nothing seems to be wrong */
-    PATIENCE = 500 /* with a port that takes no bytes */
+    PERIOD = 2000,     /* of the follower: from one asking to the next */
+    HEARTBEATS = 6,    /* how many in a row the follower may send before it begins anew */
+    LOOK_AGAIN = 1000, /* between two looks for the port */
+    WRITE_WAIT = 500   /* for a port that takes no bytes */
 };
 
 long long line_now(void) {
@@ -63,7 +64,7 @@ static int open_port(const char *name) {
 }
 
 static bool write_all(int port, const uint8_t *bytes, size_t n) {
-    long long end = line_now() + PATIENCE;
+    long long end = line_now() + WRITE_WAIT;
     while (n > 0) {
         ssize_t wrote = write(port, bytes, n);
         if (wrote > 0) {
@@ -84,40 +85,27 @@ static bool write_all(int port, const uint8_t *bytes, size_t n) {
 /* The port is gone, and with it what was under way. It is looked for from now on. */
 static void lose(line *line) {
     line_close(line);
-    dgt_host_line_lost(&line->host);
-    line->sure = false;
-    line->again = line_now() + AGAIN;
+    dgt_follower_line_lost(&line->follower);
+    dgt_decoder_reset(&line->decoder);
+    line->look = line_now() + LOOK_AGAIN;
 }
 
 /* ---- What is asked */
 
-static void ask_all(line *line) {
-    uint8_t out[DGT_RESTART_LENGTH];
-    dgt_sent sent = dgt_host_restart(&line->host, out, sizeof out);
-    if (sent.status == DGT_TOO_MANY) { /* the replies are overdue */
-        dgt_host_give_up_awaited(&line->host);
-        sent = dgt_host_restart(&line->host, out, sizeof out);
-    }
-    line->sure = false;
-    line->again = line_now() + AGAIN;
-    if (!write_all(line->port, out, sent.bytes)) lose(line);
-}
+static uint64_t now(void) { return (uint64_t)line_now(); }
 
-/* Asks once more for each change and all squares, so that what was spoilt or lost without a trace
- * comes right, and a board that was switched off and on tells its changes again. */
-static void check(line *line) {
-    uint8_t out[2];
-    dgt_sent sent = dgt_host_follow(&line->host, out, sizeof out);
-    line->again = line_now() + CHECK;
-    if (sent.status != DGT_SENT) ask_all(line); /* it has not answered for long */
-    else if (!write_all(line->port, out, sent.bytes)) lose(line);
+/* Asks for each change and all squares, if that is due. */
+static void ask(line *line) {
+    uint8_t out[DGT_MAX_ASKING];
+    dgt_sent asked = dgt_follower_ask(&line->follower, now(), out, sizeof out);
+    if (!write_all(line->port, out, asked.bytes)) lose(line);
 }
 
 void line_ask_texts(line *line) {
     static const uint8_t codes[] = {DGT_SEND_SERIAL, DGT_SEND_TRADEMARK, DGT_SEND_VERSION};
     for (size_t each = 0; each < sizeof codes && line->port >= 0; each++) {
         uint8_t out[1];
-        dgt_sent sent = dgt_host_send(&line->host, codes[each], out, sizeof out);
+        dgt_sent sent = dgt_follower_send(&line->follower, codes[each], out, sizeof out);
         if (sent.status == DGT_SENT && !write_all(line->port, out, sent.bytes)) lose(line);
     }
 }
@@ -125,33 +113,57 @@ void line_ask_texts(line *line) {
 bool line_open(line *line, const char *name) {
     *line = (struct line){.name = name, .port = -1, .serial = "unknown", .version = "unknown",
                           .trademark = "unknown"};
-    if (!dgt_host_new(&line->host)) {
+    bool fits = dgt_follower_new(&line->follower, PERIOD, HEARTBEATS);
+    if (!fits || !dgt_decoder_new(&line->decoder)) {
         errno = ELIBBAD;
         return false;
     }
     line->port = open_port(name);
     if (line->port < 0) return false;
-    ask_all(line);
+    ask(line);
     return true;
 }
 
 void line_keep(line *line) {
-    if (line_now() < line->again) return;
-    if (line->port < 0) line->port = open_port(line->name);
-    if (line->port < 0) line->again = line_now() + AGAIN;
-    else if (line->sure) check(line);
-    else ask_all(line);
+    if (line->port < 0 && line_now() >= line->look) {
+        line->port = open_port(line->name);
+        line->look = line_now() + LOOK_AGAIN;
+    }
+    if (line->port >= 0) ask(line);
+}
+
+long long line_due(line *line) {
+    uint64_t due;
+    if (line->port < 0) return line->look;
+    return dgt_follower_due_at(&line->follower, &due) ? (long long)due : LLONG_MAX;
 }
 
 void line_close(line *line) {
     if (line->port >= 0) {
-        ioctl(line->port, TIOCNXCL); /* it would outlast the close while another has the port open */
+        ioctl(line->port, TIOCNXCL); /* it would outlast the close if another has the port open */
         close(line->port);
     }
     line->port = -1;
 }
 
 /* ---- What is heard */
+
+/* All squares. False if they aren't known, or may be wrong. */
+static bool look_at(line *line, uint8_t pieces[64]) {
+    dgt_follower *follower = &line->follower;
+    return dgt_follower_picture(follower, pieces) && !dgt_follower_in_doubt(follower);
+}
+
+bool line_is_sure(line *line) {
+    uint8_t pieces[64];
+    return look_at(line, pieces);
+}
+
+/* A square or all of them were reported. They are shown if they can be trusted. */
+static void show(line *line, seen *seen) {
+    uint8_t pieces[64];
+    if (look_at(line, pieces)) seen(pieces);
+}
 
 static void keep_text(char *text, size_t room, const uint8_t *body, size_t length) {
     size_t at = 0;
@@ -160,20 +172,10 @@ static void keep_text(char *text, size_t room, const uint8_t *body, size_t lengt
     text[at] = '\0';
 }
 
-/* The picture has changed: it is shown where it can be trusted. */
-static void show(line *line, seen *seen) {
-    uint8_t pieces[64];
-    if (line->sure && dgt_host_picture(&line->host, pieces)) seen(pieces);
-}
-
 static void hear(line *line, const dgt_event *event, const uint8_t *body, size_t room, seen *seen) {
     size_t length = event->body_len < room ? event->body_len : room;
     switch (event->kind) {
     case DGT_EVENT_DUMP:
-        line->sure = true;
-        line->again = line_now() + CHECK;
-        show(line, seen);
-        break;
     case DGT_EVENT_FIELD: show(line, seen); break;
     case DGT_EVENT_SERIAL:
         keep_text(line->serial, sizeof line->serial, event->serial, sizeof event->serial);
@@ -188,13 +190,6 @@ static void hear(line *line, const dgt_event *event, const uint8_t *body, size_t
                  event->sub_number);
         line->texts++;
         break;
-    case DGT_EVENT_REFUSED:
-    case DGT_EVENT_CUT:
-    case DGT_EVENT_BAD_LENGTH:
-    case DGT_EVENT_STRAY: /* bytes were lost or spoilt, and a change of a square perhaps, too */
-        if (line->sure) line->again = line_now() + SHORTLY;
-        line->sure = false;
-        break;
     default: break;
     }
 }
@@ -208,8 +203,9 @@ void line_read(line *line, seen *seen) {
         lose(line);
         return;
     }
-    for (size_t at = 0; at < (size_t)got;) {
-        at += dgt_host_hear(&line->host, bytes + at, (size_t)got - at, &event, body, sizeof body);
+    for (size_t at = 0, used; at < (size_t)got; at += used) {
+        used = dgt_follower_hear(&line->follower, now(), bytes + at, (size_t)got - at);
+        dgt_decoder_feed(&line->decoder, bytes + at, used, &event, body, sizeof body);
         hear(line, &event, body, sizeof body, seen);
     }
 }

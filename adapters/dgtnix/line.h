@@ -5,12 +5,12 @@
 #include "dgt.h"
 
 typedef struct line {
-    const char *name;    /* of the port */
-    int port;            /* its descriptor, or -1 while the port is lost */
-    dgt_host host;       /* hears the bytes */
-    bool sure;           /* nothing was lost or spoilt since all squares were told */
-    long long again;     /* when to ask again, or to look for the port again */
-    int texts;           /* how many of the texts below were told */
+    const char *name;      /* of the port */
+    int port;              /* its descriptor, or -1 while the port is lost */
+    long long look;        /* when to look for the lost port again */
+    dgt_follower follower; /* decides when to ask and what, and knows the squares */
+    dgt_decoder decoder;   /* gets the same bytes, and reports the events: the follower doesn't */
+    int texts;             /* how many of the texts below were told */
     char serial[8], version[16], trademark[128];
 } line;
 
@@ -26,8 +26,14 @@ bool line_open(line *line, const char *name);
 /* Reads what has come, and calls `seen` where the board is known by it. */
 void line_read(line *line, seen *seen);
 
-/* Asks again, or looks for the port again, where it is time for that. */
+/* Asks again, or looks for the port again, if it is time for that. */
 void line_keep(line *line);
+
+/* When line_keep has something to do next, if nothing is read before. */
+long long line_due(line *line);
+
+/* All squares are known, and nothing says that they may be wrong. */
+bool line_is_sure(line *line);
 
 /* Asks for the serial number, the version and the trademark. */
 void line_ask_texts(line *line);

@@ -38,7 +38,6 @@ class Board:
         self.codes = bytearray(START)
         self.lock = threading.Lock()
         self.said = []  # of each message: the bytes so far, the time, and where the pieces stand
-        self.asked = []  # the times at which all squares were asked for
         self.moves = 0
         self.is_on = True
         self.ends = ()
@@ -98,7 +97,6 @@ class Board:
                 elif byte == 0x44:
                     self.tells = True
                 elif byte == 0x42:
-                    self.asked.append(time.time())
                     self.write(b"\x86\x00\x43" + self.codes)
 
     def play(self):

@@ -130,10 +130,11 @@ class Room:
     def make_boards(self, count):
         self.boards = boards.Boards(self.path, count)
 
-    def broadcast(self, name, seconds=30):
+    def broadcast(self, name, period=10):
         """Has a board told to the broker, under its number."""
-        words = [self.boards[name - 1].path, name, "-h", "127.0.0.1", "-p", self.broker_port]
-        return self.start(EXAMPLES / "broadcast", *words, BROADCAST_SECONDS=str(seconds))
+        words = [self.boards[name - 1].path, name, "--period", period]
+        broker = ["--broker", "127.0.0.1", "--broker-port", self.broker_port]
+        return self.start(EXAMPLES / "broadcast", *words, *broker)
 
     def serve(self):
         words = ["--broker", "127.0.0.1", "--broker-port", self.broker_port]
