@@ -172,17 +172,20 @@ def monitor(data):
     return "".join(lines).encode()
 
 
-def picture(data):
-    """What `dgt picture` writes."""
-    decoder, lines, squares = Decoder(), [], None
+def picture(data, doubt=False):
+    """What `dgt picture` writes, or `dgt picture --doubt`."""
+    decoder, lines, squares, sure = Decoder(), [], None, False
     for offset, byte in enumerate(data, 1):
         text = decoder.take(byte) or ""
         if text.startswith("dump "):
-            squares = list(decoder.message[1])
+            squares, sure = list(decoder.message[1]), True
         elif text.startswith("field ") and squares:
             square, piece = decoder.message[1]
             squares[square] = piece
         else:
+            if text.startswith(("refused ", "cut ", "badlength", "stray ")):
+                lines += [f"{offset:08} doubt\n"] if doubt and sure else []
+                sure = False
             continue
         lines.append(f"{offset:08} {placement(squares)}\n")
     return "".join(lines).encode()

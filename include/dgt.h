@@ -4,19 +4,21 @@
  *
  * Nothing here opens a line, takes memory or waits. You read bytes from the serial line and hand
  * them in, in pieces of any length; you write out what a call wrote into your buffer. All memory is
- * yours. A host that follows a board:
+ * yours. A program that follows a board on a serial line, with a time in milliseconds:
  *
- *     static dgt_host host;                         // 16 KB
- *     uint8_t out[DGT_RESTART_LENGTH], body[DGT_MAX_BODY];
- *     dgt_event event;
- *     if (!dgt_host_new(&host)) return 1;           // the library has another size for it
- *     dgt_sent sent = dgt_host_restart(&host, out, sizeof out);
- *     write(line, out, sent.bytes);
- *     while ((n = read(line, piece, sizeof piece)) > 0)
- *         for (size_t at = 0; at < n;) {
- *             at += dgt_host_hear(&host, piece + at, n - at, &event, body, sizeof body);
- *             if (event.kind == DGT_EVENT_FIELD) ...
- *         }
+ *     static dgt_follower follower;                 // 16 KB
+ *     uint8_t out[DGT_MAX_ASKING], chunk[256];
+ *     uint64_t due;
+ *     if (!dgt_follower_new(&follower, 10000, 6)) return 1; // the library has another size for it
+ *     for (;;) {
+ *         dgt_sent asked = dgt_follower_ask(&follower, now(), out, sizeof out);
+ *         write(line, out, asked.bytes);            // 0 bytes if it is not due
+ *         dgt_follower_due_at(&follower, &due);     // true with such a period
+ *         ...                                       // wait for bytes until `due`, and read n
+ *         dgt_follower_hear_all(&follower, now(), chunk, n);
+ *     }
+ *
+ * A follower asks again by itself. A host is asked by rules of your own, and reports each event.
  *
  * THE LIBRARY IS PROVED; WHAT FOLLOWS IS YOUR PART. Where you keep it, no call reads or writes
  * outside the memory that it is given, fails to return, or does other than is said here, whatever
@@ -248,6 +250,22 @@ typedef struct dgt_command {
 
 /* ---- A host: asks a board, and keeps a picture of it from what it hears. */
 
+/* Its events, one after another:
+ *
+ *     static dgt_host host;                         // 16 KB
+ *     uint8_t out[DGT_RESTART_LENGTH], body[DGT_MAX_BODY];
+ *     dgt_event event;
+ *     if (!dgt_host_new(&host)) return 1;           // the library has another size for it
+ *     dgt_sent sent = dgt_host_restart(&host, out, sizeof out);
+ *     write(line, out, sent.bytes);
+ *     while ((n = read(line, piece, sizeof piece)) > 0)
+ *         for (size_t at = 0; at < n;) {
+ *             at += dgt_host_hear(&host, piece + at, n - at, &event, body, sizeof body);
+ *             if (event.kind == DGT_EVENT_FIELD) ...
+ *         }
+ *
+ * After a fault of the line it has to be asked again: a follower does that by itself. */
+
 /* How many bytes a dgt_host takes, by the library that is linked. */
 size_t dgt_host_size(void);
 
@@ -352,20 +370,10 @@ void dgt_host_line_lost(dgt_host *host);
 
 /* ---- A follower: a host that keeps its picture right by asking for the whole board again. */
 
-/* A follower asks the board for all its squares once in each period. You hand in the time, as
- * milliseconds of a clock that doesn't go back, and hand on what it writes:
- *
- *     static dgt_follower follower;
- *     uint8_t out[DGT_MAX_ASKING];
- *     uint64_t due;
- *     if (!dgt_follower_new(&follower, 10000, 6)) return 1;
- *     for (;;) {
- *         dgt_sent asked = dgt_follower_ask(&follower, now(), out, sizeof out);
- *         write(line, out, asked.bytes);            // 0 bytes if it is not due
- *         bool asks = dgt_follower_due_at(&follower, &due);
- *         ...                                       // wait for bytes, if `asks` until `due`
- *         dgt_follower_hear_all(&follower, now(), chunk, read(line, chunk, sizeof chunk));
- *     }
+/* A follower asks the board for all its squares once in each period, as the program at the head of
+ * this file has it do. You hand in the time, as milliseconds of a clock that doesn't go back, and
+ * hand on what it writes. It reports no events. A dgt_decoder reports them, if it gets the same
+ * bytes and is reset whenever the line is lost.
  *
  * An asking is a heartbeat: the command of the mode and DGT_SEND_DUMP, 2 bytes. Or it begins anew:
  * 255 zeros, which end whatever command the board is in the middle of, 44 42 and the command of the

@@ -1,0 +1,396 @@
+"""The world of checks/follower_trial.c once more, over the package for Python and with followers
+alone; and the games that both play.
+
+What is played and what is printed is said there. For the same arguments both print the same, to the
+last digit. So the same acts come in the same order here, and each generator of numbers is asked for
+the same ones. With python/ in PYTHONPATH, the first line writes the file GAMES, and the second one
+plays:
+
+    python3 checks/follower_trial.py GAMES SEED
+    python3 checks/follower_trial.py GAMES SEED HOURS RUNS
+"""
+
+from __future__ import annotations
+
+import itertools
+import pathlib
+import random
+import sys
+
+import dgt
+
+BYTE_TIME, MILLISECOND = 25, 24
+SECOND = 1000 * MILLISECOND
+HOUR = 3600 * SECOND
+NEVER = 1 << 64
+PERIOD, PATIENCE = 10, 6
+LATE = SECOND // 10
+LONGEST_WORD, DUMP_LENGTH = 257, 67
+END = 64
+ROWS = [("none", 0, 0), ("power", 0, 7200), ("10000", 10000, 7200),
+        ("1000", 1000, 7200), ("100", 100, 7200)]
+GAMES, MOVES = 32, 80
+LEDS = bytes([0x00, 0x2B, 0x40, 0x42, 0x44, 0x60, 0x05, 0xFF])
+BURST = bytes([0x60, 0xFF, 0x2B, 0x42, 0x86, 0x00, 0x43, 0x8E])
+Step = tuple[int, int]
+
+
+# ---- Games
+
+
+def choose(chance: random.Random, state: dgt.GameState) -> dgt.GameState | None:
+    """The state after a legal move, if there is one. Moves that take or castle are made more
+    often."""
+    states = list(state.moves().values())
+    if not states:
+        return None
+    weights = [6 if after.letters.count(".") != state.letters.count(".")
+               or sum(map(str.__ne__, state.letters, after.letters)) == 4 else 1
+               for after in states]
+    return chance.choices(states, weights)[0]
+
+
+def steps_of(chance: random.Random, before: str, after: str) -> list[Step]:
+    """What a move changes: its pieces are lifted in any order, and then put in any order."""
+    changed = [square for square in range(64) if before[square] != after[square]]
+    lifts = [(square, 0) for square in changed if before[square] != "."]
+    puts = [(square, dgt.piece_code(after[square])) for square in changed if after[square] != "."]
+    chance.shuffle(lifts)
+    chance.shuffle(puts)
+    return [*lifts, *puts, (END, 0)]
+
+
+def make_games(chance: random.Random) -> bytes:
+    """A file of games."""
+    steps = []
+    for _ in range(GAMES):
+        state = dgt.GameState.start()
+        for _ in range(MOVES):
+            after = choose(chance, state)
+            if after is None:
+                break
+            steps += steps_of(chance, state.letters, after.letters)
+            state = after
+        steps.append((END, 1))
+    return bytes(itertools.chain.from_iterable(steps))
+
+
+# ---- A line
+
+
+class Chance:
+    """The generator splitmix64."""
+
+    def __init__(self, state: int) -> None:
+        self.state = state
+
+    def below(self, n: int) -> int:
+        self.state = mixed = self.state + 0x9E3779B97F4A7C15 & NEVER - 1
+        mixed = (mixed ^ mixed >> 30) * 0xBF58476D1CE4E5B9 & NEVER - 1
+        mixed = (mixed ^ mixed >> 27) * 0x94D049BB133111EB & NEVER - 1
+        return ((mixed ^ mixed >> 31) >> 32) * n >> 32
+
+
+class Tally:
+    """What is measured of a row."""
+
+    time = wrong = silent = doubtful = asked = dumps = faults = losses = 0
+
+    def __init__(self) -> None:
+        self.times: list[int] = []
+
+    def sums(self) -> list[int]:
+        return [self.time, self.wrong, self.silent, self.doubtful, self.asked, self.dumps,
+                self.faults, self.losses]
+
+
+class Line:
+    def __init__(self, chance: Chance, tally: Tally) -> None:
+        self.chance, self.tally, self.held = chance, tally, bytearray()
+        self.due = self.rate = 0
+
+    def put(self, now: int, data: bytes) -> None:
+        if not self.held:
+            self.due = now + BYTE_TIME
+        self.held += data
+
+    def carry(self) -> bytes:
+        """Takes the byte that has arrived, and returns what the line makes of it."""
+        byte, chance = self.held.pop(0), self.chance
+        self.due += BYTE_TIME
+        if not self.rate or chance.below(self.rate):
+            return bytes([byte])
+        self.tally.faults += 1
+        match chance.below(4):
+            case 0:
+                return b""
+            case 1:
+                return bytes([byte, byte])
+            case 2:
+                return bytes([chance.below(256), byte])
+        mask = 1 + chance.below(255) if chance.below(2) else 1 << chance.below(8)
+        return bytes([byte ^ mask])
+
+
+# ---- The world
+
+
+class World:
+    def __init__(self, steps: list[Step], seed: int, number: int, tally: Tally) -> None:
+        self.steps, self.tally, self.now = steps, tally, 0
+        chances = [Chance((seed << 40 ^ number << 8) + stream) for stream in range(5)]
+        self.up, self.down = Line(chances[0], tally), Line(chances[1], tally)
+        self.hand_chance, self.power_chance, self.leds_chance = chances[2:]
+        self.first = dgt.Position.start().codes
+        self.pieces = bytearray(self.first)
+        self.begin_game(True)
+        self.earlier, self.changed = bytes(self.pieces), 0
+        self.board, self.inbox = dgt.Board(dgt.Position(bytes(self.pieces))), bytearray()
+        self.is_off, self.power_due, self.hand_due = False, NEVER, SECOND
+        self.has_leds = self.is_measured = self.is_wrong = self.is_doubtful = False
+        self.has_stopped = self.is_unhealed = False
+        self.began = self.askings = self.needed = self.healed = 0
+        self.follower = dgt.Follower(PERIOD, PATIENCE)
+        self.look()
+
+    # The follower
+
+    def look(self) -> None:
+        """Notes what the follower says of itself."""
+        picture, due = self.follower.picture, self.follower.due_at
+        self.codes = None if picture is None else picture.codes
+        self.is_doubtful = picture is None or self.follower.in_doubt
+        self.ask_due = NEVER if due is None else round(due * 1000) * MILLISECOND
+
+    def hear(self, data: bytes) -> None:
+        self.follower.hear(data, self.now // MILLISECOND / 1000)
+        self.look()
+
+    def ask(self) -> None:
+        if self.now < self.ask_due:
+            return
+        asked = self.follower.ask(self.now // MILLISECOND / 1000)
+        if not asked:
+            sys.exit("follower_trial.py: what is due isn't asked")
+        self.down.put(self.now, asked)
+        self.askings += 1
+        self.tally.asked += len(asked)
+        self.look()
+
+    def send_leds(self) -> None:
+        count = self.leds_chance.below(17)
+        leds = bytes(LEDS[self.leds_chance.below(8)] for _ in range(count))
+        self.down.put(self.now, self.follower.send_leds(leds))
+
+    # The board, and the hands at it
+
+    def serve(self) -> None:
+        if self.is_off:
+            return
+        while self.inbox:
+            try:
+                used, _ = self.board.take(self.inbox[:LONGEST_WORD])
+            except dgt.Busy:
+                break
+            del self.inbox[:used]
+        if not self.up.held and (message := self.board.poll()):
+            self.up.put(self.now, message)
+            self.tally.dumps += len(message) if len(message) == DUMP_LENGTH else 0
+
+    def give_board(self, data: bytes) -> None:
+        if not self.is_off:
+            self.inbox += data
+
+    def next_loss(self, mean: int) -> int:
+        if not mean:
+            return NEVER
+        seconds = 1
+        while self.power_chance.below(mean):
+            seconds += 1
+        return self.now + seconds * SECOND
+
+    def switch_power(self, mean: int) -> None:
+        self.is_off = not self.is_off
+        if self.is_off:
+            self.tally.losses += 1
+            self.up.held.clear()
+            self.inbox.clear()
+            self.power_due = self.now + SECOND + self.power_chance.below(4 * SECOND)
+            return
+        self.board.line_lost()
+        self.power_due = self.next_loss(mean)
+
+    def change(self, square: int, piece: int) -> None:
+        self.earlier, self.changed = bytes(self.pieces), self.now
+        self.pieces[square] = piece
+        self.board.change(dgt.SQUARES[square], dgt.LETTERS[piece])
+
+    def begin_game(self, anywhere: bool) -> None:
+        ends = [at for at, step in enumerate(self.steps, 1) if step == (END, 1)]
+        game = self.hand_chance.below(len(ends))
+        self.step = ends[game - 1] if game else 0
+        if not anywhere:
+            return
+        skipped = self.hand_chance.below(ends[game] - self.step)
+        for square, piece in self.steps[self.step:self.step + skipped]:
+            if square < END:
+                self.pieces[square] = piece
+        self.step += skipped
+
+    def set_up(self) -> None:
+        for square in range(64):
+            if self.pieces[square] != self.first[square]:
+                self.change(square, 0 if self.pieces[square] else self.first[square])
+                return
+        self.begin_game(False)
+
+    def move_pieces(self) -> None:
+        square, piece = self.steps[self.step]
+        wait = SECOND * 15 // 100 + self.hand_chance.below(SECOND * 60 // 100)
+        if square < END:
+            self.change(square, piece)
+            self.step += 1
+        elif piece == 1:
+            self.set_up()
+        else:
+            if self.has_leds:
+                self.send_leds()
+            wait = SECOND // 2 + self.hand_chance.below(11 * SECOND)
+            self.step += 1
+        self.hand_due = self.now + wait
+
+    # Time
+
+    def judge_healing(self, is_same: bool) -> None:
+        if is_same and self.is_unhealed:
+            self.healed, self.is_unhealed = self.now, False
+        if is_same or self.up.held or self.down.held or self.board.owes:
+            return
+        self.is_unhealed, self.needed = True, self.askings + 1
+
+    def end_wrong(self) -> None:
+        if self.is_wrong and self.is_measured:
+            self.tally.times.append(self.now - self.began)
+        self.is_wrong = False
+
+    def judge(self) -> None:
+        is_same = self.codes == self.pieces
+        if is_same or self.now < self.changed + LATE and self.codes == self.earlier:
+            self.end_wrong()
+        elif not self.is_wrong:
+            self.is_wrong, self.began = True, self.now
+        if self.has_stopped:
+            self.judge_healing(is_same)
+
+    def next_time(self, end: int) -> int:
+        times = [end, self.hand_due, self.power_due, self.ask_due]
+        times += [line.due for line in (self.up, self.down) if line.held]
+        if self.now < self.changed + LATE:
+            times.append(self.changed + LATE)
+        return max(min(times), self.now)
+
+    def wait(self, time: int) -> None:
+        self.now += time
+        if self.is_measured:
+            self.tally.time += time
+            self.tally.doubtful += time * self.is_doubtful
+            self.tally.wrong += time * self.is_wrong
+            self.tally.silent += time * (self.is_wrong and not self.is_doubtful)
+
+    def play(self, end: int, mean: int) -> None:
+        while self.now < end:
+            self.wait(self.next_time(end) - self.now)
+            if self.up.held and self.up.due == self.now:
+                self.hear(self.up.carry())
+            if self.down.held and self.down.due == self.now:
+                self.give_board(self.down.carry())
+            if self.power_due == self.now:
+                self.switch_power(mean)
+            if self.hand_due == self.now:
+                self.move_pieces()
+            self.ask()
+            self.serve()
+            self.judge()
+
+    def burst(self, has_codes: bool, has_field: bool) -> None:
+        for line, give in ((self.down, self.give_board), (self.up, self.hear)) if has_codes else ():
+            count = line.chance.below(33)
+            give(bytes(BURST[line.chance.below(8)] for _ in range(count)))
+        if has_field:
+            square = self.up.chance.below(64)
+            self.hear(bytes([0x8E, 0, 5, square, self.up.chance.below(13)]))
+
+
+# ---- What is measured
+
+
+def numbers_of(times: list[int]) -> list[int]:
+    """How many times there are, their median and the greatest."""
+    times.sort()
+    return [len(times), times[len(times) // 2], times[-1]] if times else [0, 0, 0]
+
+
+def play_hour(world: World, rate: int, mean: int) -> None:
+    world.up.rate = world.down.rate = rate
+    world.power_due = world.next_loss(mean)
+    world.play(SECOND, mean)
+    world.is_measured = True
+    world.play(SECOND + HOUR, mean)
+    world.end_wrong()
+
+
+def play_run(world: World, number: int) -> None:
+    world.up.rate = world.down.rate = (10, 100, 1000)[number % 3]
+    world.has_leds = bool(number & 1)
+    stop = 5 * SECOND + world.power_chance.below(55 * SECOND)
+    if number & 2:
+        world.power_due = world.power_chance.below(stop)
+    world.play(stop, 0)
+    if world.is_off:
+        world.switch_power(0)
+    world.power_due = NEVER
+    world.burst(bool(number & 4), bool(number & 8))
+    world.up.rate = world.down.rate = world.askings = 0
+    world.has_stopped = True
+    world.judge()
+    world.play(stop + 70 * SECOND, 0)
+    world.hand_due = NEVER
+    world.play(stop + 80 * SECOND, 0)
+    world.healed -= stop if world.healed else 0
+
+
+def measure_row(steps: list[Step], seed: int, hours: int, row: tuple[str, int, int]) -> None:
+    name, rate, mean = row
+    tally = Tally()
+    for hour in range(hours):
+        play_hour(World(steps, seed, hour, tally), rate, mean)
+    print("row follower", name, *tally.sums(), *numbers_of(tally.times))
+
+
+def measure_runs(steps: list[Step], seed: int, runs: int) -> None:
+    failed, needed, times = 0, [0] * (PATIENCE + 2), []
+    for number in range(runs):
+        world = World(steps, seed, 1 << 20 | number, Tally())
+        play_run(world, number)
+        if world.is_unhealed or world.askings <= PATIENCE or world.needed > PATIENCE + 1:
+            failed += 1
+            continue
+        needed[world.needed] += 1
+        times += [world.healed] if world.needed else []
+    print("runs follower", runs, failed, *needed, *numbers_of(times))
+
+
+def main() -> None:
+    file, seed = pathlib.Path(sys.argv[1]), int(sys.argv[2])
+    if len(sys.argv) == 3:
+        file.write_bytes(make_games(random.Random(seed)))
+        return
+    data = file.read_bytes()
+    steps = list(zip(data[::2], data[1::2]))
+    for row in ROWS:
+        measure_row(steps, seed, int(sys.argv[3]), row)
+    measure_runs(steps, seed, int(sys.argv[4]))
+
+
+if __name__ == "__main__":
+    main()
