@@ -20,6 +20,8 @@ import threading
 import time
 import tty
 
+import late
+
 START = "rnbqkbnr/pppppppp/8/8/8/8/PPPPPPPP/RNBQKBNR"
 LIFTED = "rnbqkbnr/pppppppp/8/8/8/8/PPPP1PPP/RNBQKBNR"
 BOTH = "rnbqkbnr/pppppppp/8/8/4P3/8/PPPPPPPP/RNBQKBNR"
@@ -446,24 +448,28 @@ CASES = [changes, asks_when_due, heals, noise, silence, goes_and_comes, comes_la
          settings, waits, takes_nothing, handed, streams]
 
 
-def try_case(dgt, case, told):
-    """Notes what is wrong in a case, or nothing."""
+def try_case(dgt, case):
+    """Says what is wrong in a case, if anything."""
     with tempfile.TemporaryDirectory() as folder:
         line = Line(dgt, folder)
         try:
             case(dgt, line)
-            told[case] = None
         except (Wrong, OSError, dgt.DgtError) as wrong:
-            told[case] = str(wrong)
+            return str(wrong)
         finally:
             line.close()
+    return None
+
+
+def note_case(dgt, case, told):
+    told[case] = late.tried(case.__name__, lambda: try_case(dgt, case))
 
 
 def check(dgt, names=()):
     """Tries all cases, or those with these names. Returns how many there are."""
     cases = [case for case in CASES if not names or case.__name__ in names]
-    told, end = {}, time.monotonic() + 3 * SECONDS
-    threads = [threading.Thread(target=try_case, args=(dgt, case, told), daemon=True)
+    told, end = {}, time.monotonic() + 9 * SECONDS
+    threads = [threading.Thread(target=note_case, args=(dgt, case, told), daemon=True)
                for case in cases]
     for thread in threads:
         thread.start()
