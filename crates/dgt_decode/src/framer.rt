@@ -171,36 +171,41 @@ impl Framer {
             if let Some((square, piece)) = field_update(self.kept.as_slice()) {
                 return Event::Message(Message::Field { square, piece });
             }
+            return self.message_event();
         }
-        self.other_event(found)
-    }
-
-    // The same for any event. Not inlined: a field would then be copied through its room for an
-    // event.
-    #[inline(never)]
-    fn other_event(&self, found: Found) -> Event<'_>
-        requires { found ≡ Found.Message → IsWholeMessage self.now }
-        ensures { event_content result ≡ event_found_in self.now found }
-    {
+        // In one `match` with messages these would make a field take half as long again.
         match found {
-            Found::Message => match dump_position(self.kept.as_slice()) {
-                Some(position) => Event::Message(Message::Dump(position)),
-                None => whole_message(self.kept.as_slice()),
-            },
             Found::Cut { have } => Event::Cut { have },
-            Found::BadLength => Event::BadLength,
             Found::Stray(byte) => Event::Stray(byte),
+            Found::BadLength | Found::Message => Event::BadLength,
         }
     }
 
-    // Takes the front: between messages a stray byte, or a whole message as long as a field, at
-    // once, and else a run.
+    // The event of the message that is kept. Not inlined: a field would then be copied through its
+    // room for an event.
+    #[inline(never)]
+    fn message_event(&self) -> Event<'_>
+        requires { IsWholeMessage self.now }
+        ensures { event_content result ≡ message_event self.now }
+    {
+        match dump_position(self.kept.as_slice()) {
+            Some(position) => Event::Message(Message::Dump(position)),
+            None => whole_message(self.kept.as_slice()),
+        }
+    }
+
+    // Takes the front: at once between messages a stray byte or a whole message as long as a field,
+    // and within a message the byte that cuts it off; and else a run.
     #[inline(always)]
     fn take_front(&mut self, rest: &[u8]) -> Advanced
         requires { 0 < length rest.now }
         ensures { FramesFront self.old rest.now result.used self.new result.found }
     {
         if !self.is_between() {
+            if rest[0] >= TOP_BIT {
+                let found = self.begin_message(rest[0]);
+                return Advanced { used: 1, found };
+            }
             return self.take_run(rest);
         }
         if rest[0] < TOP_BIT {
