@@ -1,13 +1,14 @@
--- What stands in a slice after a host has begun anew and a mode's command follows it.
+-- What stands in a slice after a host has asked, and a mode's command and the clock's request with it.
 use Rattle.std.proofs.Common.{◌≡◌, ◌+◌, ◌<◌, ◌≤◌, ℕ, List, [], ◌∷◌, ◌++◌, Some, Ok, refl, sym, ap, ◌∙◌, append_assoc, length, drop, slice_set, arith}
 use Rattle.std.proofs.lemmas.List.{drop-drop, length-append, length-drop}
 use Rattle.std.proofs.Math.Seq.{set-append_seam}
 use Rattle.dgt_values.specs.declared.kinds.Kind.{Kind}
+use Rattle.dgt_command.specs.Content.{CommandContent}
 use Rattle.dgt_command.specs.Spelling.{command_spelling}
-use Rattle.dgt_host.specs.Host.{HostView, host_awaiting, restart_bytes, without_awaited}
+use Rattle.dgt_host.specs.Host.{HostView, follow_bytes, host_awaiting, restart_bytes, without_awaited}
 use Rattle.dgt_follow.specs.declared.asking.Asking.{Asking}
 use Rattle.dgt_follow.specs.declared.asking.UpdateMode.{UpdateMode}
-use Rattle.dgt_follow.specs.Pace.{mode_command}
+use Rattle.dgt_follow.specs.Pace.{clock_request, mode_command}
 use Rattle.dgt_follow.specs.Follower.{HostAsks}
 
 -- a byte that is set where the first bytes end follows them
@@ -24,17 +25,47 @@ set_in_slice bytes old n b long room =
     set_after bytes (drop n old) n b long (omega (arith, length-drop n old, room))
     ∙ ap (λ (kept : List ℕ). (bytes ++ b ∷ []) ++ kept) (drop-drop 1 n old)
 
-pub begun_anew : (mode : UpdateMode) (code written : ℕ) (before after : HostView) (old begun new : List ℕ)
-    → command_spelling (mode_command mode) ≡ code ∷ [] → 258 ≤ length old → written ≡ 257
-    → begun ≡ restart_bytes ++ drop written old → new ≡ slice_set begun written code
+-- ---- an asking
+
+-- the new slice has the clock's request after so many bytes of this one
+abbrev RequestFollows : UpdateMode → ℕ → ℕ → List ℕ → List ℕ → Type 0
+RequestFollows mode count written slice new =
+    (bytes old : List ℕ) → length bytes ≡ count → slice ≡ bytes ++ drop count old
+    → new ≡ (bytes ++ clock_request mode) ++ drop written old
+
+pub heartbeat_asks : (mode : UpdateMode) (code sent written : ℕ) (before after : HostView)
+    (old followed new : List ℕ)
+    → command_spelling (mode_command mode) ≡ code ∷ [] → sent ≡ 2 → followed ≡ follow_bytes ++ drop sent old
+    → after ≡ host_awaiting before (Some Kind.Dump) → written ≡ 2 + length (clock_request mode)
+    → written ≤ length old → RequestFollows mode 2 written (slice_set followed 0 code) new
+    → HostAsks Asking.Heartbeat mode before after old new (Ok written)
+heartbeat_asks mode code sent written before after old followed new spelled all e host count room follows =
+    let dump : List ℕ = command_spelling CommandContent.Dump in
+    let bytes : List ℕ = command_spelling (mode_command mode) ++ dump in
+    let two : length bytes ≡ 2 = ap (λ (bs : List ℕ). length (bs ++ dump)) spelled in
+    let front : followed ≡ follow_bytes ++ drop 2 old = e ∙ ap (λ (n : ℕ). follow_bytes ++ drop n old) all in
+    let set : slice_set followed 0 code ≡ bytes ++ drop 2 old
+    = ap (λ (bs : List ℕ). slice_set bs 0 code) front
+    ∙ ap (λ (bs : List ℕ). (bs ++ dump) ++ drop 2 old) (sym spelled) in
+    let long : written ≡ length (bytes ++ clock_request mode)
+    = omega (arith, count, two, length-append bytes (clock_request mode)) in
+    ((long, room, follows bytes old two set), host)
+
+pub anew_asks : (mode : UpdateMode) (code sent written : ℕ) (before after : HostView) (old begun new : List ℕ)
+    → command_spelling (mode_command mode) ≡ code ∷ [] → sent ≡ 257 → begun ≡ restart_bytes ++ drop sent old
     → after ≡ host_awaiting (without_awaited before) (Some Kind.Dump)
-    → HostAsks Asking.Anew mode before after old new (Ok 258)
-begun_anew mode code written before after old begun new spelled room all e f host =
-    let long : 258 ≡ length (restart_bytes ++ command_spelling (mode_command mode))
-    = sym (length-append restart_bytes (command_spelling (mode_command mode))
-    ∙ ap (λ (bytes : List ℕ). length restart_bytes + length bytes) spelled) in
+    → written ≡ 258 + length (clock_request mode) → written ≤ length old
+    → RequestFollows mode 258 written (slice_set begun sent code) new
+    → HostAsks Asking.Anew mode before after old new (Ok written)
+anew_asks mode code sent written before after old begun new spelled all e host count room follows =
+    let told : List ℕ = command_spelling (mode_command mode) in
+    let whole : length (restart_bytes ++ told) ≡ 258
+    = length-append restart_bytes told ∙ ap (λ (bs : List ℕ). length restart_bytes + length bs) spelled in
     let front : begun ≡ restart_bytes ++ drop 257 old = e ∙ ap (λ (n : ℕ). restart_bytes ++ drop n old) all in
-    let set : new ≡ slice_set begun 257 code = f ∙ ap (λ (n : ℕ). slice_set begun n code) all in
-    let stands : new ≡ (restart_bytes ++ command_spelling (mode_command mode)) ++ drop 258 old
-    = set ∙ ap (λ (bytes : List ℕ). slice_set bytes 257 code) front ∙ set_in_slice restart_bytes old 257 code refl room
-    ∙ ap (λ (bytes : List ℕ). (restart_bytes ++ bytes) ++ drop 258 old) (sym spelled) in ((long, room, stands), host)
+    let set : slice_set begun sent code ≡ (restart_bytes ++ told) ++ drop 258 old
+    = ap (λ (n : ℕ). slice_set begun n code) all ∙ ap (λ (bs : List ℕ). slice_set bs 257 code) front
+    ∙ set_in_slice restart_bytes old 257 code refl (omega (arith, count, room))
+    ∙ ap (λ (bs : List ℕ). (restart_bytes ++ bs) ++ drop 258 old) (sym spelled) in
+    let long : written ≡ length ((restart_bytes ++ told) ++ clock_request mode)
+    = omega (arith, count, whole, length-append (restart_bytes ++ told) (clock_request mode)) in
+    ((long, room, follows (restart_bytes ++ told) old whole set), host)

@@ -119,13 +119,22 @@ mode_command UpdateMode.Squares = CommandContent.UpdateBoard
 mode_command UpdateMode.Clock = CommandContent.Update
 mode_command UpdateMode.ClockChanges = CommandContent.UpdateNice
 
--- the bytes of an asking: of a heartbeat the mode's command and a dump request, of a new beginning
--- those of a host's restart and the mode's command
+-- the request of a reading of the clock, in the modes that report it
+abbrev pub clock_request : UpdateMode → List ℕ
+clock_request UpdateMode.Squares = []
+clock_request UpdateMode.Clock = command_spelling CommandContent.Clock
+clock_request UpdateMode.ClockChanges = command_spelling CommandContent.Clock
+
+-- The bytes of an asking: of a heartbeat the mode's command and a dump request, of a new beginning
+-- those of a host's restart and the mode's command. If the mode reports the clock, a reading of it
+-- is requested, too.
 abbrev pub asking_bytes : UpdateMode → Asking → List ℕ
 asking_bytes mode Asking.Nothing = []
 asking_bytes mode Asking.Heartbeat =
     command_spelling (mode_command mode) ++ command_spelling CommandContent.Dump
-asking_bytes mode Asking.Anew = restart_bytes ++ command_spelling (mode_command mode)
+    ++ clock_request mode
+asking_bytes mode Asking.Anew =
+    restart_bytes ++ command_spelling (mode_command mode) ++ clock_request mode
 
 -- the last asking has no answer yet
 abbrev pub is_unanswered : PaceView → Bool

@@ -1,22 +1,24 @@
 //! What a follower asks of its board.
 
-ghost use Rattle.std.specs.Prelude.{◌≡◌, ◌∷◌, []};
+ghost use Rattle.std.specs.Prelude.{◌≡◌, ◌≤◌, ◌∷◌, [], if◌then◌else◌, length};
 ghost use Rattle.dgt_command.specs.Spelling.{command_spelling};
-ghost use Rattle.dgt_follow.specs.Pace.{mode_command};
+ghost use Rattle.dgt_follow.specs.Pace.{clock_request, mode_command};
 
-/// What a follower asks.
+/// What a follower asks. If its mode reports the clock, the last byte requests a reading of it.
 #[derive(Clone, Copy, Debug, PartialEq, Eq)]
 pub enum Asking {
     /// Nothing: it isn't due.
     Nothing,
-    /// The mode's command and a dump request: 2 bytes.
+    /// The mode's command and a dump request: 2 bytes, or 3 if the clock is requested.
     Heartbeat,
     /// What a host's `restart` writes, which ends any part of a command that the board has, and
-    /// then the mode's command: 258 bytes. The host gives up the replies that it awaited.
+    /// then the mode's command: 258 bytes, or 259 if the clock is requested. The host gives up the
+    /// replies that it awaited.
     Anew,
 }
 
-/// What the board is asked to report by itself.
+/// What the board is asked to report by itself. In the modes that report the clock each asking
+/// requests a reading of it, by the command `41`, `Clock`.
 #[derive(Clone, Copy, Debug, PartialEq, Eq)]
 pub enum UpdateMode {
     /// Each changed square: the command `44`, `UpdateBoard`.
@@ -37,5 +39,24 @@ impl UpdateMode {
             UpdateMode::Clock => 0x43,
             UpdateMode::ClockChanges => 0x4b,
         }
+    }
+
+    /// Whether the mode reports the clock.
+    pub(crate) fn reports_clock(self) -> bool
+        ensures { clock_request self ≡ (if result then 0x41 ∷ [] else []) }
+    {
+        match self {
+            UpdateMode::Squares => false,
+            UpdateMode::Clock => true,
+            UpdateMode::ClockChanges => true,
+        }
+    }
+
+    /// How many bytes request a reading of the clock.
+    pub(crate) fn request_length(self) -> usize
+        ensures count { result ≡ length (clock_request self) }
+        ensures at_most { result ≤ 1 }
+    {
+        if self.reports_clock() { 1 } else { 0 }
     }
 }

@@ -1,6 +1,6 @@
 //! The follower.
 
-ghost use Rattle.std.specs.Prelude.{◌≡◌, ◌<◌, ◌≤◌, OnOk, Option, Some, false, length, option_map, take};
+ghost use Rattle.std.specs.Prelude.{◌≡◌, ◌<◌, ◌≤◌, ℕ, ◌+◌, List, ◌++◌, OnOk, Option, Some, false, drop, length, option_map, take};
 ghost use Rattle.std.specs.List.{FoldsTo};
 ghost use Rattle.dgt_values.specs.Board.{pieces_of};
 ghost use Rattle.dgt_values.specs.declared.kinds.Kind.{Kind};
@@ -10,7 +10,7 @@ ghost use Rattle.dgt_command.specs.Spelling.{SpellsCommand, command_spelling};
 ghost use Rattle.dgt_decode.specs.Grammar.{Event as EventSaid};
 ghost use Rattle.dgt_decode.specs.Feeding.{FirstEvent, at_place_if_any, event_content_if_any};
 ghost use Rattle.dgt_host.specs.Host.{Sends, awaits_too_many};
-ghost use Rattle.dgt_follow.specs.Pace.{due_at};
+ghost use Rattle.dgt_follow.specs.Pace.{clock_request, due_at};
 ghost use Rattle.dgt_follow.specs.Follower.{Asks, HostAsks, asking_of, follower_after, following, new_follower};
 
 use crate::asking::{Asking, UpdateMode};
@@ -21,11 +21,18 @@ use dgt_host::{Clock, Event, Host, MAX_AWAITED, Position, RESTART_LENGTH, SendFa
 use dgt_values::NoRoom;
 use std::marker::Model;
 
-/// How many bytes a heartbeat takes.
+// How many bytes a heartbeat has without a request of the clock.
 const HEARTBEAT_LENGTH: usize = 2;
 
-/// The most bytes that a follower writes when it asks: a host's restart and the mode's command.
-pub const MAX_ASKING: usize = RESTART_LENGTH + 1;
+// How many bytes a new beginning has without a request of the clock.
+const ANEW_LENGTH: usize = RESTART_LENGTH + 1;
+
+// The byte that requests a reading of the clock.
+const CLOCK_REQUEST: u8 = 0x41;
+
+/// The most bytes that a follower writes when it asks: a host's restart, the mode's command and a
+/// request of the clock.
+pub const MAX_ASKING: usize = RESTART_LENGTH + 2;
 
 /// A host that asks for the whole board again and again. See the [crate's page](crate).
 #[derive(Drop)]
@@ -42,32 +49,51 @@ impl Model for Follower {
     ghost view = { λ follower. record { host = follower.host; pace = follower.pace } };
 }
 
-// Writes a heartbeat: what a host's `follow` writes, with this mode's command.
+// Appends a request of the clock to the bytes that were written into the slice, if the mode reports
+// the clock. Returns how many bytes there are then.
+fn request_clock(mode: UpdateMode, written: usize, out: &mut [u8]) -> usize
+    requires { written + length (clock_request mode) ≤ length out.old }
+    ensures count { result ≡ written + length (clock_request mode) }
+    ensures follows { (bytes old : List ℕ) → length bytes ≡ written →
+        out.old ≡ bytes ++ drop written old →
+        out.new ≡ (bytes ++ clock_request mode) ++ drop result old }
+{
+    if mode.reports_clock() {
+        out[written] = CLOCK_REQUEST;
+        written + 1
+    } else {
+        written
+    }
+}
+
+// Writes a heartbeat: what a host's `follow` writes, with this mode's command, and the request of
+// the clock.
 fn heartbeat(host: &mut Host, mode: UpdateMode, out: &mut [u8]) -> Result<usize, NoRoom>
     requires { awaits_too_many host.old (Some Kind.Dump) ≡ false }
     ensures { HostAsks Asking.Heartbeat mode host.old host.new out.old out.new result }
 {
-    if out.len() < HEARTBEAT_LENGTH {
-        return Err(NoRoom {
-            need: HEARTBEAT_LENGTH,
-        });
+    let need = HEARTBEAT_LENGTH + mode.request_length();
+    if out.len() < need {
+        return Err(NoRoom { need });
     }
-    let written = host.follow(out).unwrap();
+    host.follow(out).unwrap();
     out[0] = mode.code();
-    Ok(written)
+    Ok(request_clock(mode, HEARTBEAT_LENGTH, out))
 }
 
-// Begins anew: the host gives up what it awaits, and the mode's command follows its restart.
+// Begins anew: the host gives up what it awaits, and the mode's command and the request of the
+// clock follow its restart.
 fn begin_anew(host: &mut Host, mode: UpdateMode, out: &mut [u8]) -> Result<usize, NoRoom>
     ensures { HostAsks Asking.Anew mode host.old host.new out.old out.new result }
 {
-    if out.len() < MAX_ASKING {
-        return Err(NoRoom { need: MAX_ASKING });
+    let need = ANEW_LENGTH + mode.request_length();
+    if out.len() < need {
+        return Err(NoRoom { need });
     }
     host.give_up_awaited();
     let written = host.restart(out).unwrap();
     out[written] = mode.code();
-    Ok(MAX_ASKING)
+    Ok(request_clock(mode, ANEW_LENGTH, out))
 }
 
 // Has the listener hear the event at this place, if there is one.
@@ -154,9 +180,12 @@ impl Follower {
     /// `42`, if a dump that was awaited came since the last asking, nothing disturbed it since,
     /// fewer than 16 replies are awaited and the patience has not run out. Else it begins anew: the
     /// host gives up what it awaits, and 255 zeros, `44 42` and the mode's command are written.
-    /// Either way the picture stays known, and a dump is awaited.
+    /// Either way the picture stays known, and a dump is awaited. If the mode reports the clock,
+    /// `41` follows, which requests a reading of it.
     ///
-    /// `NoRoom` if the slice is too short, and then nothing changes.
+    /// `NoRoom` if the slice is shorter than what is due in this mode, and then nothing changes. A
+    /// heartbeat needs 2 bytes with [`UpdateMode::Squares`] and 3 else, a new beginning 258 and
+    /// 259.
     pub fn ask(&mut self, now: u64, out: &mut [u8]) -> Result<usize, NoRoom>
         ensures { Asks (asking_of self.old now) now self.old self.new out.old out.new result }
     {

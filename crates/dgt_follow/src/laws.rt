@@ -1,17 +1,21 @@
 //! What holds of a follower whatever it hears. Nothing here runs: each function stands for the
 //! facts that its contract states.
 
-ghost use Rattle.std.specs.Prelude.{◌≡◌, ℕ, List};
+ghost use Rattle.std.specs.Prelude.{◌≡◌, ◌≤◌, ℕ, List, length};
 ghost use Rattle.dgt_values.specs.Equality.{CloneIsSame, EqualIsSame};
 ghost use Rattle.dgt_host.specs.Host.{host_after};
 ghost use Rattle.dgt_follow.specs.Follower.{FollowedInChunks, FollowerView, follower_after};
-ghost use Rattle.dgt_follow.specs.Pace.{KeepsCount};
+ghost use Rattle.dgt_follow.specs.Pace.{KeepsCount, asking_bytes};
+ghost use Rattle.dgt_follow.specs.declared.asking.Asking.{Asking};
+ghost use Rattle.dgt_follow.specs.declared.asking.UpdateMode.{UpdateMode};
 
 use crate::{Asking, MAX_ASKING, UpdateMode};
 
-/// The limits by their numbers.
+/// The limits by their numbers, and that no asking has more bytes.
 pub fn limits()
-    ensures { MAX_ASKING ≡ 258 }
+    ensures max_asking { MAX_ASKING ≡ 259 }
+    ensures enough { (mode : UpdateMode) (what : Asking) →
+        length (asking_bytes mode what) ≤ MAX_ASKING }
 {}
 
 /// Two values are equal, as `==` compares them, exactly if they are the same.

@@ -6,7 +6,8 @@
 //! be asked, if that is due: in each period a *heartbeat*, which is the mode's command and a dump
 //! request. If the last one had no answer, something disturbed the line, 16 replies are awaited, or
 //! the patience has run out, it *begins anew*: it ends whatever command the board may be in the
-//! middle of. [`Follower::due_at`] returns when it will write next, so a program can sleep as long.
+//! middle of. In a mode that reports the clock each asking requests a reading of it, too.
+//! [`Follower::due_at`] returns when it will write next, so a program can sleep as long.
 //!
 //! ```rust
 //! use dgt_follow::Follower;
@@ -22,9 +23,9 @@
 //! Times are milliseconds of a clock that doesn't go back. A time before the last asking is too
 //! early for the next one. No call takes memory.
 //!
-//! The picture stays known while the follower asks, and while it begins anew. A board that lost its
-//! power sends no changes and is found by the next heartbeat: the period is how long the picture
-//! may stay wrong then.
+//! The picture and the clock stay known while the follower asks, and while it begins anew. A board
+//! that lost its power sends no changes and is found by the next heartbeat: the period is how long
+//! the picture may stay wrong then, and the clock in a mode that reports it.
 //!
 //! Contracts see a follower as its host and its pace (`specs/Follower.antt`). The pace
 //! (`specs/Pace.antt`) is what it counts and notes: `due_time` is when it asks next, `asking` what
