@@ -6,13 +6,13 @@ use Rattle.dgt_command.specs.Content.{CommandContent}
 use Rattle.dgt_command.specs.Spelling.{AreBytes, SpellsCommand, command_spelling}
 use Rattle.dgt_follow.specs.declared.asking.Asking.{Asking}
 use Rattle.dgt_follow.specs.declared.asking.UpdateMode.{UpdateMode}
-use Rattle.dgt_follow.specs.Pace.{PaceView, asking, asking_bytes, due_time, mode_command, trusts}
+use Rattle.dgt_follow.specs.Pace.{PaceView, asking, asking_bytes, clock_request, due_time, mode_command, trusts}
 use Rattle.dgt_follow.specs.Follower.{Asks, FollowerView, asking_of, host_after_asking}
 use Rattle.dgt_host.specs.Host.{HostView, awaits_too_many, host_awaiting, restart_bytes, without_awaited}
 use Rattle.dgt_link.specs.declared.acts.Outcome.{Outcome}
 use Rattle.dgt_link.specs.Faults.{FaultyContent, FaultyStep}
 use Rattle.dgt_link.specs.View.{LineContents, WorldView, overflows, with_bytes}
-use Rattle.dgt_followed.specs.Followed.{HasRoom, RunsDone, asking_acts, sends}
+use Rattle.dgt_followed.specs.Followed.{HasRoom, RunsDone, asking_acts, reading_acts, sends}
 
 -- ---- a heartbeat is sent only while replies and patience are left
 
@@ -102,6 +102,19 @@ dump_done world few room =
       leaves = (record { are_bytes = one_byte 0x42 (search rules); spelled = refl }, refl);
     }
 
+clock_done : (world : WorldView) → HasRoom world.down (command_spelling CommandContent.Clock)
+    → FaultyStep (sends CommandContent.Clock) world Outcome.Done
+    (record world { down = with_bytes world.down (command_spelling CommandContent.Clock) })
+clock_done world room =
+    let free = fits world.down (command_spelling CommandContent.Clock) room in
+    record {
+      answers = rw free refl;
+      leaves = (
+        record { are_bytes = one_byte 0x41 (search rules); spelled = refl },
+        same_host world (command_spelling CommandContent.Clock),
+      );
+    }
+
 restart_done : (world : WorldView) → HasRoom world.down restart_bytes
     → FaultyStep FaultyContent.Restart world Outcome.Done (record world {
       host = host_awaiting (without_awaited world.host) (Some Kind.Dump);
@@ -112,22 +125,51 @@ restart_done world room =
 
 -- ---- an asking
 
--- there is room for the first bytes, and then for the later ones
-room_first : (line : LineContents) (first later : List ℕ) → HasRoom line (first ++ later) → HasRoom line first
-room_first line first later room = omega (arith, room, length-append first later)
+-- the request of the clock, if the mode reports it
+reading_done : (mode : UpdateMode) (world : WorldView) → HasRoom world.down (clock_request mode)
+    → RunsDone (reading_acts mode) world (record world { down = with_bytes world.down (clock_request mode) })
+reading_done UpdateMode.Squares world room =
+    ap (λ (bytes : List ℕ). record world { down = record world.down { bytes = bytes } }) (append-nil world.down.bytes)
+reading_done UpdateMode.Clock world room = (_, clock_done world room, refl)
+reading_done UpdateMode.ClockChanges world room = (_, clock_done world room, refl)
 
-room_later : (line : LineContents) (first later : List ℕ) → HasRoom line (first ++ later)
-    → HasRoom (with_bytes line first) later
-room_later line first later room =
-    omega (arith, room, length-append first later, length-append line.bytes first)
+-- there is room for the first bytes, for the next and for the last
+room_first : (line : LineContents) (first next last : List ℕ) → HasRoom line (first ++ next ++ last)
+    → HasRoom line first
+room_first line first next last room =
+    omega (arith, room, length-append (first ++ next) last, length-append first next)
 
--- the line with both, one after the other
-in_a_row : (world : WorldView) (host : HostView) (first later : List ℕ)
-    → record world { host = host; down = with_bytes world.down (first ++ later) }
-    ≡ record world { host = host; down = with_bytes (with_bytes world.down first) later }
-in_a_row world host first later =
+room_next : (line : LineContents) (first next last : List ℕ) → HasRoom line (first ++ next ++ last)
+    → HasRoom (with_bytes line first) next
+room_next line first next last room =
+    omega (
+      arith,
+      room,
+      length-append (first ++ next) last,
+      length-append first next,
+      length-append line.bytes first,
+    )
+
+room_last : (line : LineContents) (first next last : List ℕ) → HasRoom line (first ++ next ++ last)
+    → HasRoom (with_bytes (with_bytes line first) next) last
+room_last line first next last room =
+    omega (
+      arith,
+      room,
+      length-append (first ++ next) last,
+      length-append first next,
+      length-append (line.bytes ++ first) next,
+      length-append line.bytes first,
+    )
+
+-- the line with all of them, one after the other
+in_a_row : (world : WorldView) (host : HostView) (first next last : List ℕ)
+    → record world { host = host; down = with_bytes (with_bytes (with_bytes world.down first) next) last }
+    ≡ record world { host = host; down = with_bytes world.down (first ++ next ++ last) }
+in_a_row world host first next last =
     ap (λ (bytes : List ℕ). record world { host = host; down = record world.down { bytes = bytes } })
-    (sym (append_assoc world.down.bytes first later))
+    (ap (λ (bytes : List ℕ). bytes ++ last) (append_assoc world.down.bytes first next)
+    ∙ append_assoc world.down.bytes (first ++ next) last)
 
 -- what an asking leaves of a world with room for it
 abbrev after_acts : UpdateMode → Asking → WorldView → WorldView
@@ -137,6 +179,23 @@ after_acts mode what world =
       down = with_bytes world.down (asking_bytes mode what);
     }
 
+-- two acts, and the request of the clock
+acts_and_reading : (mode : UpdateMode) (one two : FaultyContent) (first next : List ℕ)
+    (world second third : WorldView) (host : HostView)
+    → FaultyStep one world Outcome.Done second → FaultyStep two second Outcome.Done third
+    → third ≡ record world { host = host; down = with_bytes (with_bytes world.down first) next }
+    → HasRoom world.down (first ++ next ++ clock_request mode)
+    → RunsDone (one ∷ two ∷ reading_acts mode) world
+    (record world { host = host; down = with_bytes world.down (first ++ next ++ clock_request mode) })
+acts_and_reading mode one two first next world second third host step later is room =
+    let read : RunsDone (reading_acts mode) third (record third { down = with_bytes third.down (clock_request mode) })
+    = reading_done mode third (rw is (room_last world.down first next (clock_request mode) room)) in
+    let ends : record third { down = with_bytes third.down (clock_request mode) }
+    ≡ record world { host = host; down = with_bytes world.down (first ++ next ++ clock_request mode) }
+    = rw is (in_a_row world host first next (clock_request mode)) in
+    let P : WorldView → Type 0 = λ w. RunsDone (reading_acts mode) third w in
+    (second, step, (third, later, subst P ends read))
+
 acts_done : (mode : UpdateMode) (what : Asking) (world : WorldView)
     → (what ≡ Asking.Heartbeat → awaits_too_many world.host (Some Kind.Dump) ≡ false)
     → HasRoom world.down (asking_bytes mode what)
@@ -145,33 +204,21 @@ acts_done mode Asking.Nothing world few room =
     ap (λ (bytes : List ℕ). record world { down = record world.down { bytes = bytes } }) (append-nil world.down.bytes)
 acts_done mode Asking.Heartbeat world few room =
     let first = command_spelling (mode_command mode) in
-    let later = command_spelling CommandContent.Dump in
-    let between : WorldView = record world { down = with_bytes world.down first } in (
-      between,
-      mode_done mode world (room_first world.down first later room),
-      (
-        record between {
-          host = host_awaiting world.host (Some Kind.Dump);
-          down = with_bytes between.down later;
-        },
-        dump_done between (few refl) (room_later world.down first later room),
-        in_a_row world (host_awaiting world.host (Some Kind.Dump)) first later,
-      ),
-    )
+    let next = command_spelling CommandContent.Dump in
+    let last = clock_request mode in
+    let between : WorldView = record world { down = with_bytes world.down first } in
+    acts_and_reading mode (sends (mode_command mode)) (sends CommandContent.Dump) first next world between _
+    (host_awaiting world.host (Some Kind.Dump))
+    (mode_done mode world (room_first world.down first next last room))
+    (dump_done between (few refl) (room_next world.down first next last room)) refl room
 acts_done mode Asking.Anew world few room =
-    let later = command_spelling (mode_command mode) in
-    let between : WorldView = record world {
-      host = host_awaiting (without_awaited world.host) (Some Kind.Dump);
-      down = with_bytes world.down restart_bytes;
-    } in (
-      between,
-      restart_done world (room_first world.down restart_bytes later room),
-      (
-        record between { down = with_bytes between.down later },
-        mode_done mode between (room_later world.down restart_bytes later room),
-        in_a_row world between.host restart_bytes later,
-      ),
-    )
+    let next = command_spelling (mode_command mode) in
+    let last = clock_request mode in
+    let host : HostView = host_awaiting (without_awaited world.host) (Some Kind.Dump) in
+    let between : WorldView = record world { host = host; down = with_bytes world.down restart_bytes } in
+    acts_and_reading mode FaultyContent.Restart (sends (mode_command mode)) restart_bytes next world between _ host
+    (restart_done world (room_first world.down restart_bytes next last room))
+    (mode_done mode between (room_next world.down restart_bytes next last room)) refl room
 
 -- the bytes that stand at the front of a slice
 pub front_of : (bytes old new : List ℕ) (written : ℕ) → written ≡ length bytes → new ≡ bytes ++ drop written old

@@ -10,7 +10,7 @@ use Rattle.dgt_link.specs.Act.{ActContent}
 use Rattle.dgt_link.specs.Faults.{FaultyContent}
 use Rattle.dgt_link.specs.Step.{moves_nothing}
 use Rattle.dgt_link.specs.View.{LineContents, with_bytes, without_first}
-use Rattle.dgt_followed.specs.Followed.{FollowedStep, FollowedView, Happening, HasRoom, count_after, count_after_asking, follower_of, sends}
+use Rattle.dgt_followed.specs.Followed.{FollowedStep, FollowedView, Happening, HasRoom, clock_count_after, clock_count_after_asking, count_after, count_after_asking, follower_of, sends}
 use Rattle.dgt_followed.proofs.Acts.{asking_is_acts, fits, front_of}
 
 pub ask_happens : (before : FollowedView) (after : FollowerView) (now written : ℕ) (old new : List ℕ)
@@ -23,9 +23,10 @@ pub ask_happens : (before : FollowedView) (after : FollowerView) (now written : 
       };
       pace = after.pace;
       since = count_after_asking (asking_of (follower_of before) now) before.since;
+      clock_since = clock_count_after_asking before.pace.mode (asking_of (follower_of before) now) before.clock_since;
     })
 ask_happens before after now written old new asked room =
-    (asking_is_acts (follower_of before) after now written old new before.world asked refl room, asked.1, refl)
+    (asking_is_acts (follower_of before) after now written old new before.world asked refl room, asked.1, refl, refl)
 
 moves_some : (line : LineContents) (count : ℕ) → 0 < count → 0 < length line.bytes
     → moves_nothing count line ≡ false
@@ -44,6 +45,7 @@ pub hear_happens :
       };
       pace = (follower_after (follower_of before) now (take count before.world.up.bytes)).pace;
       since = before.since;
+      clock_since = before.clock_since;
     })
 hear_happens hosts counts before now count asked some =
     let bytes = take count before.world.up.bytes in
@@ -56,6 +58,7 @@ hear_happens hosts counts before now count asked some =
             (hosts (follower_of before) now bytes);
       },
       record { patience = kept.patience; left = kept.left },
+      refl,
       refl,
     )
 
@@ -71,6 +74,7 @@ pub send_happens : (before : FollowedView) (command : CommandContent) (after : H
       };
       pace = before.pace;
       since = count_after (sends command) before.since;
+      clock_since = clock_count_after (sends command) before.clock_since;
     })
 send_happens before command after written old new sent spells room =
     let free = fits before.world.down (command_spelling command) room in
@@ -83,5 +87,6 @@ send_happens before command after written old new sent spells room =
         leaves = (spells, rw (front, host) refl);
       },
       record { patience = refl; left = refl },
+      refl,
       refl,
     )

@@ -1,38 +1,52 @@
 -- Askings after the last fault heal the picture: the patience and one more.
 use Rattle.std.proofs.Common.{◌≡◌, ◌⊎◌, inl, inr, ◌+◌, ◌-◌, ◌<◌, ◌≤◌, Bool, true, false, ◌||◌, if◌then◌else◌, Some, refl, ℕ, List, [], ◌∷◌, arith}
 use Rattle.dgt_values.specs.declared.kinds.Kind.{Kind}
-use Rattle.dgt_command.specs.Content.{CommandContent}
 use Rattle.dgt_follow.specs.declared.asking.Asking.{Asking}
 use Rattle.dgt_follow.specs.declared.asking.UpdateMode.{UpdateMode}
-use Rattle.dgt_follow.specs.Pace.{mode_command, pace_after_asking}
+use Rattle.dgt_follow.specs.Pace.{PaceView, mode_command, pace_after_asking}
 use Rattle.dgt_follow.specs.Follower.{asking_of}
 use Rattle.dgt_host.specs.Host.{awaits_too_many}
 use Rattle.dgt_link.specs.declared.acts.Outcome.{Outcome}
-use Rattle.dgt_link.specs.Faults.{FaultyContent, FaultyRuns, FaultyStep, begins_anew, is_fault, stops}
+use Rattle.dgt_link.specs.Faults.{AreCalm, FaultyContent, FaultyRuns, FaultyStep, begins_anew, is_fault, stops}
 use Rattle.dgt_link.specs.Healing.{IsPromisedWorld, IsSane}
 use Rattle.dgt_link.specs.View.{WorldView}
-use Rattle.dgt_followed.specs.Followed.{FollowedRuns, FollowedStep, FollowedView, Happening, RunsDone, asking_acts, count_after_asking, follower_of, sends, unsettles}
+use Rattle.dgt_followed.specs.Followed.{FollowedRuns, FollowedStep, FollowedView, Happening, RunsDone, all_done, asking_acts, count_after_asking, follower_of, reading_acts, sends, unsettles}
 use Rattle.dgt_followed.proofs.Acts.{heartbeat_is_left}
 
--- What always holds: the world is promised to heal, or the follower has not yet asked often enough.
+-- The world is promised to heal, or the follower has not yet asked often enough.
+abbrev Hope : FollowedView → Type 0
+Hope followed = IsPromisedWorld followed.world ⊎ (followed.since + followed.pace.left ≤ followed.pace.patience)
+
+-- what always holds
 record Hopes (followed : FollowedView) : Type 0 where
   sane : IsSane followed.world
   left : followed.pace.left ≤ followed.pace.patience
-  hope : IsPromisedWorld followed.world ⊎ (followed.since + followed.pace.left ≤ followed.pace.patience)
+  hope : Hope followed
 
-mode_goes_on : (mode : UpdateMode) → stops (sends (mode_command mode)) ≡ false
-mode_goes_on UpdateMode.Squares = refl
-mode_goes_on UpdateMode.Clock = refl
-mode_goes_on UpdateMode.ClockChanges = refl
-
-neither : (a b : Bool) → (a || b) ≡ false → (a ≡ false) × (b ≡ false)
+pub neither : (a b : Bool) → (a || b) ≡ false → (a ≡ false) × (b ≡ false)
 neither false false e = (refl, refl)
 neither false true e = cc
 neither true b e = cc
 
 -- one asking more, with a heartbeat less left
-one_more : (since left patience : ℕ) → 0 < left → since + left ≤ patience → (since + 1) + (left - 1) ≤ patience
+pub one_more : (since left patience : ℕ) → 0 < left → since + left ≤ patience
+    → (since + 1) + (left - 1) ≤ patience
 one_more since left patience some few = omega (arith, some, few)
+
+pub left_after : (what : Asking) (now : ℕ) (before after : PaceView) → after ≡ pace_after_asking what before now
+    → before.left ≤ before.patience → after.left ≤ after.patience
+left_after Asking.Nothing now before after e few = rw e few
+left_after Asking.Heartbeat now before after e few = rw e (omega (arith, few))
+left_after Asking.Anew now before after e few = rw e (omega arith)
+
+-- after the mode's command and the clock's request the board goes on reporting its changes
+told_is_calm : (mode : UpdateMode) → AreCalm (sends (mode_command mode) ∷ reading_acts mode)
+told_is_calm UpdateMode.Squares = ((refl, refl), tt)
+told_is_calm UpdateMode.Clock = ((refl, refl), ((refl, refl), tt))
+told_is_calm UpdateMode.ClockChanges = ((refl, refl), ((refl, refl), tt))
+
+heartbeat_is_calm : (mode : UpdateMode) → AreCalm (asking_acts mode Asking.Heartbeat)
+heartbeat_is_calm mode = let told = told_is_calm mode in (told.0, ((refl, refl), told.1))
 
 module _
     (stay_sane : (acts : List FaultyContent) (world after : WorldView) (answers : List Outcome)
@@ -47,13 +61,19 @@ module _
   sane_after act world after answer sane step =
       stay_sane (act ∷ []) world after (answer ∷ []) sane (after, step, refl)
 
+  kept_by_all : (acts : List FaultyContent) (world after : WorldView) → AreCalm acts → IsSane world
+      → IsPromisedWorld world → RunsDone acts world after → IsPromisedWorld after
+  kept_by_all [] world after calm sane promised same = rw same promised
+  kept_by_all (act ∷ acts) world after calm sane promised (between, step, later) =
+      kept_by_all acts between after calm.1 (sane_after act world between Outcome.Done sane step)
+      (kept act world between Outcome.Done calm.0.0 calm.0.1 sane promised step) later
+
   -- ---- anything but an asking
 
   other_hope : (act : FaultyContent) (before after : FollowedView) (answer : Outcome) (ends : Bool)
       → unsettles act ≡ ends → FaultyStep act before.world answer after.world
       → after.pace.patience ≡ before.pace.patience → after.pace.left ≡ before.pace.left
-      → after.since ≡ (if ends then 0 else before.since) → Hopes before
-      → IsPromisedWorld after.world ⊎ (after.since + after.pace.left ≤ after.pace.patience)
+      → after.since ≡ (if ends then 0 else before.since) → Hopes before → Hope after
   other_hope act before after answer true e step patience left since hopes =
       inr (omega (arith, patience, left, since, hopes.left))
   other_hope act before after answer false e step patience left since hopes =
@@ -66,47 +86,41 @@ module _
 
   -- ---- an asking
 
-  ask_keeps : (what : Asking) (now : ℕ) (before after : FollowedView)
+  ask_hope : (what : Asking) (now : ℕ) (before after : FollowedView)
       → asking_of (follower_of before) now ≡ what
       → RunsDone (asking_acts before.pace.mode what) before.world after.world
       → after.pace ≡ pace_after_asking what before.pace now → after.since ≡ count_after_asking what before.since
-      → Hopes before → Hopes after
-  ask_keeps Asking.Nothing now before after e runs pace since hopes =
-      rw (runs, pace, since) (record { sane = hopes.sane; left = hopes.left; hope = hopes.hope })
-  ask_keeps Asking.Heartbeat now before after e (first, step, (second, dump, same)) pace since hopes =
+      → Hopes before → Hope after
+  ask_hope Asking.Nothing now before after e same pace since hopes = rw (same, pace, since) hopes.hope
+  ask_hope Asking.Heartbeat now before after e runs pace since hopes =
       let mode = before.pace.mode in
-      let sane = sane_after (sends (mode_command mode)) before.world first Outcome.Done hopes.sane step in
       let some = heartbeat_is_left before.pace (awaits_too_many before.world.host (Some Kind.Dump)) now e in
-      let still : IsPromisedWorld before.world → IsPromisedWorld second
-      = λ promised. kept (sends CommandContent.Dump) first second Outcome.Done refl refl sane
-      (kept (sends (mode_command mode)) before.world first Outcome.Done refl (mode_goes_on mode) hopes.sane promised
-      step) dump in
-      rw (same, pace, since) (record {
-        sane = sane_after (sends CommandContent.Dump) first second Outcome.Done sane dump;
-        left = omega (arith, hopes.left);
-        hope = elim hopes.hope [
-          | inl promised ↦ inl (still promised)
-          | inr few ↦ inr (one_more before.since before.pace.left before.pace.patience some few)
-        ];
-      })
-  ask_keeps Asking.Anew now before after e (first, step, (second, told, same)) pace since hopes =
+      elim hopes.hope [
+        | inl promised ↦ inl
+            (kept_by_all (asking_acts mode Asking.Heartbeat) before.world after.world (heartbeat_is_calm mode)
+            hopes.sane promised runs)
+        | inr few ↦ inr
+            (rw (pace, since) (one_more before.since before.pace.left before.pace.patience some few))
+      ]
+  ask_hope Asking.Anew now before after e (first, step, later) pace since hopes =
       let mode = before.pace.mode in
-      let sane = sane_after FaultyContent.Restart before.world first Outcome.Done hopes.sane step in
-      let promised = anew FaultyContent.Restart before.world first refl hopes.sane step in
-      rw (same, pace, since) (record {
-        sane = sane_after (sends (mode_command mode)) first second Outcome.Done sane told;
-        left = omega arith;
-        hope = inl (kept (sends (mode_command mode)) first second Outcome.Done refl (mode_goes_on mode) sane promised
-            told);
-      })
+      inl (kept_by_all (sends (mode_command mode) ∷ reading_acts mode) first after.world (told_is_calm mode)
+      (sane_after FaultyContent.Restart before.world first Outcome.Done hopes.sane step)
+      (anew FaultyContent.Restart before.world first refl hopes.sane step) later)
 
   -- ---- all that happens
 
   happening_keeps : (happening : Happening) (before after : FollowedView) → FollowedStep happening before after
       → Hopes before → Hopes after
-  happening_keeps (Happening.Ask now) before after (runs, pace, since) hopes =
-      ask_keeps (asking_of (follower_of before) now) now before after refl runs pace since hopes
-  happening_keeps (Happening.Other act) before after (answer, step, keeps, since) hopes =
+  happening_keeps (Happening.Ask now) before after (runs, pace, since, clock_since) hopes =
+      let what = asking_of (follower_of before) now in
+      let acts = asking_acts before.pace.mode what in
+      record {
+        sane = stay_sane acts before.world after.world (all_done acts) hopes.sane runs;
+        left = left_after what now before.pace after.pace pace hopes.left;
+        hope = ask_hope what now before after refl runs pace since hopes;
+      }
+  happening_keeps (Happening.Other act) before after (answer, step, keeps, since, clock_since) hopes =
       record {
         sane = sane_after act before.world after.world answer hopes.sane step;
         left = omega (arith, keeps.patience, keeps.left, hopes.left);

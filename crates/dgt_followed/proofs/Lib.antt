@@ -1,3 +1,4 @@
 mod Acts
 mod Calls
+mod ClockHeals
 mod Heals

@@ -7,6 +7,7 @@ use Rattle.dgt_follow.specs.Pace.{PaceView, mode_command, pace_after_asking}
 use Rattle.dgt_follow.specs.Follower.{FollowerView, asking_of, following}
 use Rattle.dgt_link.specs.declared.acts.Outcome.{Outcome}
 use Rattle.dgt_link.specs.Act.{ActContent}
+use Rattle.dgt_link.specs.Clocks.{stops_clock}
 use Rattle.dgt_link.specs.Faults.{FaultyContent, FaultyRuns, FaultyStep, is_fault, stops}
 use Rattle.dgt_link.specs.View.{LineContents, WorldView}
 
@@ -16,11 +17,18 @@ use Rattle.dgt_link.specs.View.{LineContents, WorldView}
 abbrev pub sends : CommandContent → FaultyContent
 sends command = FaultyContent.Plain (ActContent.Host command)
 
+-- the acts that request a reading of the clock, in the modes that report it
+abbrev pub reading_acts : UpdateMode → List FaultyContent
+reading_acts UpdateMode.Squares = []
+reading_acts UpdateMode.Clock = sends CommandContent.Clock ∷ []
+reading_acts UpdateMode.ClockChanges = sends CommandContent.Clock ∷ []
+
 -- the acts that an asking is
 abbrev pub asking_acts : UpdateMode → Asking → List FaultyContent
 asking_acts mode Asking.Nothing = []
-asking_acts mode Asking.Heartbeat = sends (mode_command mode) ∷ sends CommandContent.Dump ∷ []
-asking_acts mode Asking.Anew = FaultyContent.Restart ∷ sends (mode_command mode) ∷ []
+asking_acts mode Asking.Heartbeat =
+    sends (mode_command mode) ∷ sends CommandContent.Dump ∷ reading_acts mode
+asking_acts mode Asking.Anew = FaultyContent.Restart ∷ sends (mode_command mode) ∷ reading_acts mode
 
 -- each of these acts is done
 abbrev pub all_done : List FaultyContent → List Outcome
@@ -35,11 +43,14 @@ HasRoom line bytes = length line.bytes + length bytes ≤ line.capacity
 
 -- ---- what happens
 
--- a world whose host is a follower's, the follower's pace, and a count
+-- a world whose host is a follower's, the follower's pace, and two counts
 pub record FollowedView : Type 0 where
   pub world : WorldView
   pub pace : PaceView
   pub since : ℕ  -- how often it has asked since the last fault, break or reset
+  -- how often it has asked in a mode that reports the clock, since the last act that unsettles the
+  -- clock and since it last asked in another mode
+  pub clock_since : ℕ
 
 abbrev pub follower_of : FollowedView → FollowerView
 follower_of followed = following followed.world.host followed.pace
@@ -62,6 +73,18 @@ abbrev pub count_after_asking : Asking → ℕ → ℕ
 count_after_asking Asking.Nothing since = since
 count_after_asking _ since = since + 1
 
+-- after it no reading of the clock that was requested before counts
+abbrev pub unsettles_clock : FaultyContent → Bool
+unsettles_clock act = is_fault act || stops_clock act
+
+abbrev pub clock_count_after : FaultyContent → ℕ → ℕ
+clock_count_after act since = if unsettles_clock act then 0 else since
+
+abbrev pub clock_count_after_asking : UpdateMode → Asking → ℕ → ℕ
+clock_count_after_asking mode Asking.Nothing since = since
+clock_count_after_asking UpdateMode.Squares _ since = 0
+clock_count_after_asking _ _ since = since + 1
+
 -- the patience, and how much of it is left, are the same
 pub record KeepsPatience (before after : PaceView) : Type 0 where
   pub patience : after.patience ≡ before.patience
@@ -75,10 +98,13 @@ FollowedStep (Happening.Ask now) before after =
     RunsDone (asking_acts before.pace.mode what) before.world after.world
     × (after.pace ≡ pace_after_asking what before.pace now)
     × (after.since ≡ count_after_asking what before.since)
+    × (after.clock_since
+    ≡ clock_count_after_asking before.pace.mode what before.clock_since)
 FollowedStep (Happening.Other act) before after =
     (answer : Outcome) × FaultyStep act before.world answer after.world
     × KeepsPatience before.pace after.pace
     × (after.since ≡ count_after act before.since)
+    × (after.clock_since ≡ clock_count_after act before.clock_since)
 
 abbrev pub FollowedRuns : List Happening → FollowedView → FollowedView → Type 0
 FollowedRuns [] before after = after ≡ before

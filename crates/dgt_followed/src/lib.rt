@@ -1,10 +1,11 @@
 //! A DGT board and a follower on lines that lose and alter bytes, and what the follower's askings
-//! promise of its picture.
+//! promise of its picture and its clock.
 //!
 //! Nothing here runs: each function stands for the facts that its contract states.
 //! [`asking_is_acts`] says that what [`Follower::ask`](dgt_follow::Follower::ask) writes and leaves
 //! are acts of a [`FaultyWorld`](dgt_link::FaultyWorld). [`askings_heal`] says how many askings
-//! after the last fault are enough: one more than the patience.
+//! after the last fault are enough: one more than the patience. [`clocks_heal`] says the same of
+//! the clock, in the modes that report it.
 //!
 //! `FollowedRuns` of `specs/Followed.antt` is what happens to a world and a follower's pace, one
 //! thing after another: the follower asks at some time, or anything else is done. No premise is
@@ -17,15 +18,17 @@ ghost use Rattle.dgt_command.specs.Spelling.{SpellsCommand, command_spelling};
 ghost use Rattle.dgt_host.specs.Host.{HostView, Sends};
 ghost use Rattle.dgt_follow.specs.Pace.{asking_bytes};
 ghost use Rattle.dgt_follow.specs.Follower.{Asks, FollowerView, asking_of, follower_after};
-ghost use Rattle.dgt_followed.specs.Followed.{FollowedRuns, FollowedStep, FollowedView, Happening, HasRoom, RunsDone, asking_acts, count_after, count_after_asking, follower_of, sends};
+ghost use Rattle.dgt_followed.specs.Followed.{FollowedRuns, FollowedStep, FollowedView, Happening, HasRoom, RunsDone, asking_acts, clock_count_after, clock_count_after_asking, count_after, count_after_asking, follower_of, sends};
 ghost use Rattle.dgt_link.specs.Act.{ActContent};
+ghost use Rattle.dgt_link.specs.Clocks.{IsClockPromisedWorld};
 ghost use Rattle.dgt_link.specs.Faults.{FaultyContent};
 ghost use Rattle.dgt_link.specs.Healing.{IsPromisedWorld, IsSane};
 ghost use Rattle.dgt_link.specs.View.{IsQuietWorld, WorldView, with_bytes, without_first};
 
 /// What a follower's `ask` writes and leaves are acts of the faulty world of its host, each of them
-/// done: `Host(mode)` and `Host(Dump)`, or `Restart` and `Host(mode)`, or none. The bytes that it
-/// wrote follow those in the down line, if that has room for them.
+/// done: `Host(mode)` and `Host(Dump)`, or `Restart` and `Host(mode)`, or none. In a mode that
+/// reports the clock `Host(Clock)` follows either. The bytes that it wrote follow those in the down
+/// line, if that has room for them.
 pub fn asking_is_acts()
     ensures { (follower after : FollowerView) (now written : ℕ) (old new : List ℕ)
         (world : WorldView) → let what = asking_of follower now in
@@ -37,7 +40,7 @@ pub fn asking_is_acts()
         }) }
 {}
 
-/// What the calls of a follower do to it, to its host's world and to the count is a step of
+/// What the calls of a follower do to it, to its host's world and to the counts is a step of
 /// `FollowedStep`: `ask` asks, `hear` and `hear_all` of bytes of the up line are the act `ToHost`,
 /// and `send` is the act `Host(command)`. So what holds of all happenings holds of these calls.
 pub fn calls_are_happenings()
@@ -52,6 +55,7 @@ pub fn calls_are_happenings()
           };
           pace = after.pace;
           since = count_after_asking what before.since;
+          clock_since = clock_count_after_asking before.pace.mode what before.clock_since;
         }) }
     ensures hear { (before : FollowedView) (now count : ℕ) → 0 < count →
         0 < length before.world.up.bytes →
@@ -64,6 +68,7 @@ pub fn calls_are_happenings()
           };
           pace = heard.pace;
           since = before.since;
+          clock_since = before.clock_since;
         }) }
     ensures send { (before : FollowedView) (command : CommandContent) (after : HostView)
         (written : ℕ) (old new : List ℕ) →
@@ -78,6 +83,7 @@ pub fn calls_are_happenings()
           };
           pace = before.pace;
           since = count_after (sends command) before.since;
+          clock_since = clock_count_after (sends command) before.clock_since;
         }) }
 {
     asking_is_acts();
@@ -102,4 +108,25 @@ pub fn askings_heal()
     dgt_link::healing::faults_heal();
     dgt_link::healing::promised_worlds_heal();
     dgt_link::healing::steps_heal();
+}
+
+/// Whatever failed, and whatever else is sent, delivered and noted: once the follower has asked
+/// more often than its patience allows heartbeats, each time in a mode that reports the clock, the
+/// world's clock is promised to heal. If the world is quiet, the host's clock is the board's.
+///
+/// An asking with `Squares` begins the count anew, and so does any other act that unsettles the
+/// clock: a fault, a break, a restart, a reset or the command `UpdateBoard`.
+pub fn clocks_heal()
+    ensures clock_promised { (happenings : List Happening) (before after : FollowedView) →
+        IsSane before.world → before.pace.left ≤ before.pace.patience → before.clock_since ≡ 0 →
+        FollowedRuns happenings before after → after.pace.patience < after.clock_since →
+        IsClockPromisedWorld after.world }
+    ensures clock { (happenings : List Happening) (before after : FollowedView) →
+        IsSane before.world → before.pace.left ≤ before.pace.patience → before.clock_since ≡ 0 →
+        FollowedRuns happenings before after → after.pace.patience < after.clock_since →
+        IsQuietWorld after.world →
+        after.world.host.clock ≡ Some after.world.board.state.clock }
+{
+    dgt_link::healing::faults_heal();
+    dgt_link::healing::clocks_heal();
 }
