@@ -68,7 +68,7 @@ extern "C" {
 #define DGT_MAX_LEDS 255        /* the most bytes that an LED frame carries */
 #define DGT_MAX_AWAITED 16      /* the most replies that a host awaits */
 #define DGT_RESTART_LENGTH 257  /* how many bytes dgt_host_restart writes */
-#define DGT_MAX_ASKING 258      /* the most bytes that dgt_follower_ask writes */
+#define DGT_MAX_ASKING 259      /* the most bytes that dgt_follower_ask writes */
 #define DGT_MAX_OWED 8          /* the most replies that a board owes */
 #define DGT_MAX_SENT 67         /* the most bytes that dgt_board_poll writes */
 #define DGT_MAX_KEPT 64         /* the most bytes of a trademark, a battery body or a long serial
@@ -377,10 +377,15 @@ void dgt_host_line_lost(dgt_host *host);
  *
  * An asking is a heartbeat: the command of the mode and DGT_SEND_DUMP, 2 bytes. Or it begins anew:
  * 255 zeros, which end whatever command the board is in the middle of, 44 42 and the command of the
- * mode, DGT_MAX_ASKING bytes. The host gives up the replies that it awaits then. A heartbeat is
- * enough if a dump that was awaited came since the last asking, nothing disturbed the line since,
- * fewer than 16 replies are awaited, and the patience has not run out. A disturbance is a cut,
- * refused, misstated or stray message, or one that is not asked for. */
+ * mode, 258 bytes. The host gives up the replies that it awaits then. A heartbeat is enough if a
+ * dump that was awaited came since the last asking, nothing disturbed the line since, fewer than 16
+ * replies are awaited, and the patience has not run out. A disturbance is a cut, refused, misstated
+ * or stray message, or one that is not asked for.
+ *
+ * In a mode that reports the clock, DGT_MODE_UPDATE or DGT_MODE_UPDATE_NICE, an asking ends with
+ * DGT_SEND_CLOCK, which requests a reading of the clock: a heartbeat has 3 bytes then, and a new
+ * beginning DGT_MAX_ASKING. The reading is not awaited: without it the next asking is a heartbeat
+ * all the same. */
 
 /* How many bytes a dgt_follower takes, by the library that is linked. */
 size_t dgt_follower_size(void);
@@ -426,7 +431,7 @@ dgt_sent dgt_follower_ask(dgt_follower *follower, uint64_t now, uint8_t *out, si
 bool dgt_follower_due_at(dgt_follower *follower, uint64_t *time);
 
 /* What each asking asks the board to report by itself: DGT_MODE_UPDATE_BOARD, DGT_MODE_UPDATE or
- * DGT_MODE_UPDATE_NICE, which are declared with dgt_board_mode. */
+ * DGT_MODE_UPDATE_NICE, which are declared with dgt_board_mode. The latter two report the clock. */
 uint8_t dgt_follower_mode(dgt_follower *follower);
 
 /* Has each asking from now on ask for this mode. When the next one is due stays as it was. False,

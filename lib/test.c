@@ -315,14 +315,29 @@ static void chunks(void) {
     free(decoder);
 }
 
+/* What follows the zeros of an asking of so many bytes. Those that request the clock are of the
+ * mode UPDATE_NICE, the others of UPDATE_BOARD. */
+enum { HEARTBEAT = 2, CLOCK_HEARTBEAT = 3, ANEW = 258, CLOCK_ANEW = 259 };
+static const char *wanted_end(size_t bytes) {
+    switch (bytes) {
+    case HEARTBEAT: return "\x44\x42";
+    case CLOCK_HEARTBEAT: return "\x4b\x42\x41";
+    case ANEW: return "\x44\x42\x44";
+    case CLOCK_ANEW: return "\x44\x42\x4b\x41";
+    default: return "";
+    }
+}
+
 /* Whether a follower asks at this time, and writes so many bytes. */
 static bool asks(dgt_follower *follower, uint64_t now, size_t bytes) {
     uint8_t *out = room(DGT_MAX_ASKING);
     dgt_sent asked = dgt_follower_ask(follower, now, out, DGT_MAX_ASKING);
+    const char *end = wanted_end(bytes);
+    size_t zeros = bytes - strlen(end);
     bool right = asked.status == DGT_SENT && asked.bytes == bytes;
+    for (size_t i = 0; i < zeros; i++) right = right && out[i] == 0;
+    right = right && !memcmp(out + zeros, end, strlen(end));
     for (size_t i = bytes; i < DGT_MAX_ASKING; i++) right = right && out[i] == 0xa5;
-    if (bytes == 2) right = right && out[0] == 0x44 && out[1] == 0x42;
-    if (bytes == DGT_MAX_ASKING) right = right && !memcmp(out + 254, "\0\x44\x42\x44", 4);
     free(out);
     return right;
 }
@@ -338,18 +353,18 @@ static void follower(void) {
     CHECK(!dgt_follower_last_heard(follower, &time) && time == 0);
     CHECK(!dgt_follower_picture(follower, pieces) && !dgt_follower_placement(follower, text));
     dgt_sent asked = dgt_follower_ask(follower, 7, out, 257);
-    CHECK(asked.status == DGT_NO_ROOM && asked.bytes == DGT_MAX_ASKING);
+    CHECK(asked.status == DGT_NO_ROOM && asked.bytes == ANEW);
 
     /* A heartbeat follows an answer, and none a heartbeat that has used up the patience. */
-    CHECK(asks(follower, 7, DGT_MAX_ASKING) && asks(follower, 1006, 0));
+    CHECK(asks(follower, 7, ANEW) && asks(follower, 1006, 0));
     CHECK(dgt_follower_heartbeats_left(follower) == 1);
     CHECK(dgt_follower_hear(follower, 100, dump, sizeof dump) == 67);
     CHECK(dgt_follower_last_heard(follower, &time) && time == 100);
     CHECK(dgt_follower_due_at(follower, &time) && time == 1007);
-    CHECK(asks(follower, 1006, 0) && asks(follower, 1007, 2));
+    CHECK(asks(follower, 1006, 0) && asks(follower, 1007, HEARTBEAT));
     CHECK(dgt_follower_heartbeats_left(follower) == 0);
     dgt_follower_hear_all(follower, 1010, dump, sizeof dump);
-    CHECK(asks(follower, 2007, DGT_MAX_ASKING) && !dgt_follower_in_doubt(follower));
+    CHECK(asks(follower, 2007, ANEW) && !dgt_follower_in_doubt(follower));
 
     /* A stray byte disturbs: the next asking is due after a quarter of the period. */
     dgt_follower_hear_all(follower, 2010, dump, sizeof dump);
@@ -357,9 +372,9 @@ static void follower(void) {
     CHECK(dgt_follower_in_doubt(follower));
     CHECK(dgt_follower_due_at(follower, &time) && time == 2257);
     CHECK(dgt_follower_placement(follower, text) && !strcmp(text, "8/8/8/8/8/8/4P3/8"));
-    CHECK(asks(follower, 2256, 0) && asks(follower, 2257, DGT_MAX_ASKING));
+    CHECK(asks(follower, 2256, 0) && asks(follower, 2257, ANEW));
     CHECK(dgt_follower_picture(follower, pieces) && pieces[52] == 1);
-    CHECK(asks(follower, 3257, DGT_MAX_ASKING));
+    CHECK(asks(follower, 3257, ANEW));
 
     CHECK(dgt_follower_mode(follower) == DGT_MODE_UPDATE_BOARD);
     CHECK(!dgt_follower_set_mode(follower, DGT_MODE_IDLE));
@@ -375,6 +390,19 @@ static void follower(void) {
     dgt_follower_clock(follower, &clock);
     CHECK(clock.kind == DGT_CLOCK_UNKNOWN);
 
+    /* In this mode each asking requests the clock. A reading that doesn't come is no doubt. */
+    asked = dgt_follower_ask(follower, 4257, out, 257);
+    CHECK(asked.status == DGT_NO_ROOM && asked.bytes == CLOCK_ANEW);
+    CHECK(asks(follower, 4257, CLOCK_ANEW));
+    dgt_follower_hear_all(follower, 4260, dump, sizeof dump);
+    CHECK(!dgt_follower_in_doubt(follower));
+    asked = dgt_follower_ask(follower, 5257, out, 2);
+    CHECK(asked.status == DGT_NO_ROOM && asked.bytes == CLOCK_HEARTBEAT);
+    CHECK(asks(follower, 5257, CLOCK_HEARTBEAT));
+    dgt_follower_hear_all(follower, 5260, BYTES(0x8d, 0, 10, 1, 2, 3, 4, 5, 6, 9));
+    dgt_follower_clock(follower, &clock);
+    CHECK(clock.kind == DGT_CLOCK_TIMES && clock.second.minutes == 5);
+
     dgt_follower_line_lost(follower);
     CHECK(!dgt_follower_picture(follower, pieces) && !dgt_follower_in_doubt(follower));
     CHECK(dgt_follower_mode(follower) == DGT_MODE_UPDATE_NICE);
@@ -382,7 +410,7 @@ static void follower(void) {
 
     /* A time past the last one never comes. */
     dgt_follower_start(follower, UINT64_MAX, 1);
-    CHECK(asks(follower, 1, DGT_MAX_ASKING) && asks(follower, UINT64_MAX, 0));
+    CHECK(asks(follower, 1, ANEW) && asks(follower, UINT64_MAX, 0));
     CHECK(!dgt_follower_due_at(follower, &time) && time == 0);
     free(follower);
 }

@@ -34,9 +34,11 @@ class Follower(Asker):
     >>> follower.ask(9.9), follower.ask(10.0), follower.in_doubt
     (b'', b'DB', False)
 
-    In each period it asks once, by the mode's command and a dump request. It begins anew, by 258
-    bytes that also end whatever command the board is in the middle of, if the last dump didn't
-    come, if the line lost or altered bytes, or after `patience` askings in a row that didn't.
+    In each period it asks once, by the mode's command and a dump request. In the modes that report
+    the clock, `UPDATE` and `UPDATE_NICE`, it also requests a reading of the clock. It begins anew,
+    by 258 bytes (259 in these modes) that also end whatever command the board is in the middle of,
+    if the last dump didn't come, if the line lost or altered bytes, or after `patience` askings in
+    a row that didn't.
     """
 
     _prefix = "dgt_follower"

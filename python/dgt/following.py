@@ -299,7 +299,8 @@ def follow(port: str | os.PathLike[str] | SerialLine, period: float = 10.0, *, p
 
     All squares are asked for every `period` seconds, so that a change that was lost becomes known.
     `patience` and `mode` are those of `Follower`. A board reports its clock in the modes `UPDATE`
-    and `UPDATE_NICE`. `BadValue` if the period is below 0.1, or as of `Follower`."""
+    and `UPDATE_NICE`, and is then asked for a reading of it in each period, too. `BadValue` if the
+    period is below 0.1, or as of `Follower`."""
     return Following(port, period, patience=patience, mode=mode, wait_for_port=wait_for_port)
 
 
