@@ -189,6 +189,23 @@ def heals(dgt, line):
         wanted("healed", expect_at_last("healed", board, right)[-1], right)
 
 
+def clock_heals(dgt, line):
+    """The line loses a reading of the clock without a trace, and the next asking brings another."""
+    early, late = dgt.Times(dgt.Time(0, 5, 0)), dgt.Times(dgt.Time(0, 4, 59))
+    line.board.hand_clock(early)
+    with dgt.follow(line.path, 1.5, mode=dgt.Mode.UPDATE_NICE) as board:
+        view = expect("at first", board, *[(START, False, None)] * 2)
+        wanted("its clock", view.clock, early)
+        with line.lock:
+            line.board.hand_clock(late)
+            lost = list(line.board.messages())
+        wanted("readings that are lost", len(lost), 1)
+        no_more("after a reading was lost", board)
+        view = expect("after the next asking", board, (START, False, None))
+        wanted("its clock", view.clock, late)
+    wanted("bytes asked", [len(each) for _, each in line.asked[:2]], [259, 3])
+
+
 def noise(dgt, line):
     """A field that isn't so, after bytes that are no message."""
     with dgt.follow(line.path, 1.0) as board:
@@ -444,8 +461,8 @@ def streams(dgt, line):
                              (LIFTED, False, None)])
 
 
-CASES = [changes, asks_when_due, heals, noise, silence, goes_and_comes, comes_late, faults, closing,
-         settings, waits, takes_nothing, handed, streams]
+CASES = [changes, asks_when_due, heals, clock_heals, noise, silence, goes_and_comes, comes_late,
+         faults, closing, settings, waits, takes_nothing, handed, streams]
 
 
 def try_case(dgt, case):
