@@ -8,12 +8,14 @@
  * none), 64 0 after each move and 64 1 after each game. HOST is one of these:
  *
  *     follower     a follower with a period of 10 s and a patience of 6
+ *     clock        the same in the mode UPDATE_NICE, at a board whose clock goes
  *     heartbeats   the same, but each new beginning is cut to the 2 bytes of a heartbeat
  *     at-faults    a host that begins anew at each fault that it notices
  *     once         a host that asks once, at the start
  *
  * It prints a line for each row of faults, of HOURS hours, and one for RUNS runs, in which the
- * faults stop and the picture has to become right. Times are in 24ths of a millisecond. */
+ * faults stop and the picture has to become right, and the clock with it if the host is `clock`.
+ * Times are in 24ths of a millisecond. */
 #include "dgt.h"
 
 #include <stdio.h>
@@ -124,8 +126,9 @@ static size_t carry(line *from, uint8_t out[2]) {
 
 /* ---- The world. */
 
-enum { FOLLOWER, HEARTBEATS, AT_FAULTS, ONCE, HOSTS };
-static const char *const host_names[HOSTS] = {"follower", "heartbeats", "at-faults", "once"};
+enum { FOLLOWER, CLOCK, HEARTBEATS, AT_FAULTS, ONCE, HOSTS };
+static const char *const host_names[HOSTS] = {"follower", "clock", "heartbeats", "at-faults",
+                                              "once"};
 
 static struct {
     int kind;
@@ -137,6 +140,7 @@ static struct {
     size_t waiting;
     bool is_off;
     uint64_t power_due, power_chance; /* when the power goes or comes */
+    uint64_t clock_due;               /* when the board's clock shows another time */
 
     dgt_follower follower;
     dgt_host host;
@@ -157,7 +161,7 @@ static struct {
 } world;
 
 static bool is_follower(void) {
-    return world.kind == FOLLOWER || world.kind == HEARTBEATS;
+    return world.kind == FOLLOWER || world.kind == CLOCK || world.kind == HEARTBEATS;
 }
 
 /* ---- The host. */
@@ -217,6 +221,15 @@ static void hear(const uint8_t *bytes, size_t n) {
 static bool read_picture(uint8_t shown[64]) {
     return is_follower() ? dgt_follower_picture(&world.follower, shown)
                          : dgt_host_picture(&world.host, shown);
+}
+
+/* Whether the host knows what the board's clock shows, if its mode reports that. */
+static bool is_clock_right(void) {
+    dgt_clock heard, shown; /* bytes alone, with none between */
+    if (world.kind != CLOCK) return true;
+    dgt_follower_clock(&world.follower, &heard);
+    dgt_board_clock(&world.board, &shown);
+    return !memcmp(&heard, &shown, sizeof heard);
 }
 
 /* A frame for the LEDs whose bytes are commands as well, if a part of it is lost. */
@@ -279,6 +292,17 @@ static void switch_power(uint64_t mean) {
     }
     dgt_board_line_lost(&world.board);
     world.power_due = next_loss(mean);
+}
+
+/* The clock shows the next second, from 9:59:59 on. */
+static void tick(void) {
+    uint64_t left = 35999 - world.now / SECOND % 36000;
+    dgt_clock clock = {DGT_CLOCK_TIMES, 0, {0}, {0}, {0}};
+    clock.first.hours = (uint8_t)(left / 3600);
+    clock.first.minutes = (uint8_t)(left / 60 % 60);
+    clock.first.seconds = (uint8_t)(left % 60);
+    check(dgt_board_hand_clock(&world.board, &clock), "no such time");
+    world.clock_due = world.now + SECOND;
 }
 
 static void change(uint8_t square, uint8_t piece) {
@@ -346,9 +370,11 @@ static void start(int kind, uint64_t seed, uint64_t number) {
     world.has_to_ask = true;
     world.power_due = NEVER;
     world.hand_due = SECOND;
+    world.clock_due = kind == CLOCK ? SECOND : NEVER;
+    if (kind == CLOCK) dgt_follower_set_mode(&world.follower, DGT_MODE_UPDATE_NICE);
 }
 
-/* After the faults: notes each time that nothing is under way and the picture isn't the board's. */
+/* After the faults: notes each time that nothing is under way and something isn't the board's. */
 static void judge_healing(bool is_same) {
     if (is_same && world.is_unhealed) world.healed = world.now, world.is_unhealed = false;
     if (is_same || world.up.count > 0 || world.down.count > 0 || dgt_board_owes(&world.board))
@@ -376,7 +402,7 @@ static void judge(void) {
         world.is_wrong = true;
         world.began = world.now;
     }
-    if (world.has_stopped) judge_healing(is_same);
+    if (world.has_stopped) judge_healing(is_same && is_clock_right());
 }
 
 static uint64_t least(uint64_t one, uint64_t other) { return one < other ? one : other; }
@@ -384,6 +410,7 @@ static uint64_t least(uint64_t one, uint64_t other) { return one < other ? one :
 /* When something happens next, but not after `end`. */
 static uint64_t next_time(uint64_t end) {
     uint64_t next = least(least(end, world.hand_due), least(world.power_due, ask_due()));
+    next = least(next, world.clock_due);
     if (world.up.count > 0) next = least(next, world.up.due);
     if (world.down.count > 0) next = least(next, world.down.due);
     if (world.now < world.changed + LATE) next = least(next, world.changed + LATE);
@@ -410,6 +437,7 @@ static void play(uint64_t end, uint64_t power_mean) {
             give_board(arrived, carry(&world.down, arrived));
         if (world.power_due == world.now) switch_power(power_mean);
         if (world.hand_due == world.now) move_pieces();
+        if (world.clock_due == world.now) tick();
         ask();
         serve();
         judge();
@@ -489,7 +517,8 @@ static void burst(bool has_codes, bool has_field) {
     hear(field, sizeof field);
 }
 
-/* Faults for 5 to 60 s, and then none for 80 s, in the last 10 of which no piece is moved. */
+/* Faults for 5 to 60 s, and then none for 80 s, in the last 10 of which no piece is moved and the
+ * clock stands. In half of the runs the clock stands once the faults have stopped. */
 static void play_run(int kind, uint64_t seed, uint64_t number) {
     static const uint64_t rates[3] = {10, 100, 1000};
     start(kind, seed, 1 << 20 | number);
@@ -504,14 +533,15 @@ static void play_run(int kind, uint64_t seed, uint64_t number) {
     world.up.rate = world.down.rate = 0;
     world.askings = 0;
     world.has_stopped = true;
+    if (number & 16) world.clock_due = NEVER;
     judge();
     play(stop + 70 * SECOND, 0);
-    world.hand_due = NEVER;
+    world.hand_due = world.clock_due = NEVER;
     play(stop + 80 * SECOND, 0);
     world.healed -= world.healed > 0 ? stop : 0;
 }
 
-/* The picture became right, and that of a follower after at most patience and one more askings. */
+/* All became right, and for a follower after at most patience and one more askings. */
 static bool is_healed(void) {
     if (world.is_unhealed) return false;
     return !is_follower() || (world.askings > PATIENCE && world.needed <= PATIENCE + 1);

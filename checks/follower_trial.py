@@ -1,5 +1,5 @@
-"""The world of checks/follower_trial.c once more, over the package for Python and with followers
-alone; and the games that both play.
+"""The world of checks/follower_trial.c once more, over the package for Python and with the host
+`follower` alone; and the games that both play.
 
 What is played and what is printed is said there. For the same arguments both print the same, to the
 last digit. So the same acts come in the same order here, and each generator of numbers is asked for
