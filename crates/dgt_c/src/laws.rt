@@ -80,7 +80,7 @@ pub fn limits()
     ensures max_leds { MAX_LED_BYTES ≡ 255 }
     ensures max_awaited { MAX_AWAITED ≡ 16 }
     ensures restart_length { RESTART_LENGTH ≡ 257 }
-    ensures max_asking { MAX_ASKING ≡ 258 }
+    ensures max_asking { MAX_ASKING ≡ 259 }
     ensures max_owed { MAX_OWED ≡ 8 }
     ensures max_sent { MAX_SENT ≡ 67 }
     ensures max_kept { MAX_KEPT_BODY ≡ 64 }

@@ -1,6 +1,6 @@
 use crate::{asking, decoding, differing, following, pictures, trying};
 use dgt_board::{Board, Identity};
-use dgt_follow::Follower;
+use dgt_follow::{Follower, UpdateMode};
 use dgt_lines::{Bytes, Device};
 use dgt_message::{Clock, Reading, Status, Times};
 use dgt_values::{Body, Piece, Position, SevenBit, Square};
@@ -85,20 +85,29 @@ fn follows(rt: HostRuntime) -> Result<(), Fail> {
 
 #[test]
 fn asks_when_due(rt: HostRuntime) -> Result<(), Fail> {
-    let mut sent = Vec::with_capacity(rt.alloc(), 260)?;
-    let mut follower = Follower::new(10_000, 6);
-    asking::keep_right(&mut follower, 0, &[], &mut Device::new(&mut sent))?;
-    asking::keep_right(&mut follower, 80, &DUMP, &mut Device::new(&mut sent))?;
-    assert_eq!(rt; sent.len(), 258);
-    assert!(rt; follower.picture() == Some(&Position::start()));
-    asking::keep_right(&mut follower, 10_000, &[], &mut Device::new(&mut sent))?;
-    let mut asked = [0; 260];
-    asked[255] = 0x44;
-    asked[256] = 0x42;
-    asked[257] = 0x44;
-    asked[258] = 0x44;
-    asked[259] = 0x42;
-    assert_eq!(rt; sent.as_slice(), asked.as_slice());
+    // what follows the 255 zeros: the rest of a new beginning, and a heartbeat
+    let modes: [(UpdateMode, &'static [u8]); 3] = [
+        (UpdateMode::Squares, &[0x44, 0x42, 0x44, 0x44, 0x42]),
+        (
+            UpdateMode::Clock,
+            &[0x44, 0x42, 0x43, 0x41, 0x43, 0x42, 0x41],
+        ),
+        (
+            UpdateMode::ClockChanges,
+            &[0x44, 0x42, 0x4b, 0x41, 0x4b, 0x42, 0x41],
+        ),
+    ];
+    for (mode, asked) in modes {
+        let mut sent = Vec::with_capacity(rt.alloc(), 262)?;
+        let mut follower = Follower::new(10_000, 6);
+        follower.set_mode(mode);
+        asking::keep_right(&mut follower, 0, &[], &mut Device::new(&mut sent))?;
+        asking::keep_right(&mut follower, 80, &DUMP, &mut Device::new(&mut sent))?;
+        assert!(rt; follower.picture() == Some(&Position::start()));
+        asking::keep_right(&mut follower, 10_000, &[], &mut Device::new(&mut sent))?;
+        assert!(rt; sent.iter().take(255).all(|byte| *byte == 0));
+        assert!(rt; sent.as_slice().get(255..) == Some(asked));
+    }
     Ok(())
 }
 

@@ -100,26 +100,91 @@ fn askings_follow_the_period_the_answers_and_the_disturbances(rt: HostRuntime) {
     assert!(rt; follower.last_heard() == Some(5260));
 }
 
+/// What a follower asks in a mode. A byte 7 stands where it writes nothing.
+#[derive(Drop)]
+struct ModeRow {
+    mode: UpdateMode,
+    /// How many bytes a new beginning has, and those after its 255 zeros.
+    anew: usize,
+    tail: [u8; 4],
+    /// How many bytes a heartbeat has, and which.
+    heartbeat: usize,
+    bytes: [u8; 3],
+}
+
+fn modes() -> [ModeRow; 3] {
+    [
+        ModeRow {
+            mode: UpdateMode::Squares,
+            anew: 258,
+            tail: [0x44, 0x42, 0x44, 7],
+            heartbeat: 2,
+            bytes: [0x44, 0x42, 7],
+        },
+        ModeRow {
+            mode: UpdateMode::Clock,
+            anew: 259,
+            tail: [0x44, 0x42, 0x43, 0x41],
+            heartbeat: 3,
+            bytes: [0x43, 0x42, 0x41],
+        },
+        ModeRow {
+            mode: UpdateMode::ClockChanges,
+            anew: 259,
+            tail: [0x44, 0x42, 0x4b, 0x41],
+            heartbeat: 3,
+            bytes: [0x4b, 0x42, 0x41],
+        },
+    ]
+}
+
 #[test]
-fn askings_carry_the_mode_and_times_have_a_limit(rt: HostRuntime) {
-    let modes = [
-        (UpdateMode::Squares, 0x44),
-        (UpdateMode::Clock, 0x43),
-        (UpdateMode::ClockChanges, 0x4b),
-    ];
-    for (mode, code) in modes {
-        let mut follower = Follower::new(u64::MAX, 1);
+fn askings_carry_the_mode_and_the_clocks_request(rt: HostRuntime) {
+    for row in modes() {
+        let mut follower = Follower::new(1000, 1);
+        follower.set_mode(row.mode);
+        let mut out = [7; MAX_ASKING];
+        let short = follower.ask(1, &mut out[2..]);
+        assert!(rt; short == Err(NoRoom { need: row.anew }));
+        assert!(rt; follower.due_at() == Some(0));
+        assert!(rt; follower.ask(1, &mut out) == Ok(row.anew));
+        assert!(rt; out[..255].iter().all(|byte| *byte == 0));
+        assert_eq!(rt; &out[255..], row.tail.as_slice());
+        follower.hear_all(2, &DUMP);
+        let mut beat = [7; 3];
+        let short = follower.ask(1001, &mut beat[2..]);
+        let need = row.heartbeat;
+        assert!(rt; short == Err(NoRoom { need }));
+        assert!(rt; follower.due_at() == Some(1001));
+        assert!(rt; follower.ask(1001, &mut beat) == Ok(need));
+        assert_eq!(rt; beat.as_slice(), row.bytes.as_slice());
+    }
+}
+
+#[test]
+fn the_clocks_request_needs_a_byte_more(rt: HostRuntime) {
+    for mode in [UpdateMode::Clock, UpdateMode::ClockChanges] {
+        let mut follower = Follower::new(1000, 1);
         follower.set_mode(mode);
         let mut out = [7; MAX_ASKING];
         let short = follower.ask(1, &mut out[1..]);
-        assert!(rt; short == Err(NoRoom { need: 258 }));
-        assert!(rt; follower.due_at() == Some(0));
-        assert!(rt; follower.ask(1, &mut out) == Ok(258));
-        assert!(rt; out[..255].iter().all(|byte| *byte == 0));
-        assert_eq!(rt; &out[255..], [0x44, 0x42, code].as_slice());
-        assert!(rt; follower.due_at().is_none());
-        assert!(rt; follower.ask(u64::MAX, &mut out) == Ok(0));
-        follower.hear_all(2, &STRAY);
-        assert!(rt; follower.due_at() == Some(1 + u64::MAX / 4));
+        assert!(rt; short == Err(NoRoom { need: 259 }));
+        assert!(rt; out.iter().all(|byte| *byte == 7));
+        assert!(rt; follower.ask(1, &mut out) == Ok(259));
+        follower.hear_all(2, &DUMP);
+        let short = follower.ask(1001, &mut out[..2]);
+        assert!(rt; short == Err(NoRoom { need: 3 }));
+        assert!(rt; follower.ask(1001, &mut out[..3]) == Ok(3));
     }
+}
+
+#[test]
+fn times_have_a_limit(rt: HostRuntime) {
+    let mut follower = Follower::new(u64::MAX, 1);
+    let mut out = [7; MAX_ASKING];
+    assert!(rt; follower.ask(1, &mut out) == Ok(258));
+    assert!(rt; follower.due_at().is_none());
+    assert!(rt; follower.ask(u64::MAX, &mut out) == Ok(0));
+    follower.hear_all(2, &STRAY);
+    assert!(rt; follower.due_at() == Some(1 + u64::MAX / 4));
 }
