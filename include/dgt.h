@@ -384,8 +384,8 @@ void dgt_host_line_lost(dgt_host *host);
  *
  * In a mode that reports the clock, DGT_MODE_UPDATE or DGT_MODE_UPDATE_NICE, an asking ends with
  * DGT_SEND_CLOCK, which requests a reading of the clock: a heartbeat has 3 bytes then, and a new
- * beginning DGT_MAX_ASKING. The reading is not awaited: without it the next asking is a heartbeat
- * all the same. */
+ * beginning DGT_MAX_ASKING. The reading is not awaited, so no asking begins anew because it has not
+ * come. */
 
 /* How many bytes a dgt_follower takes, by the library that is linked. */
 size_t dgt_follower_size(void);
