@@ -12,7 +12,7 @@ from ._library import (MAX_KEPT, MAX_SENT, MAX_WORD, BodyStruct, ClockStruct, Co
                        IdentityStruct, dgt)
 from .commands import Word, read_word
 from .errors import BadValue, Busy
-from .values import (Clock, Position, Times, byte, clock_struct, piece_code, plain_bytes,
+from .values import (Clock, Position, Times, clock_struct, number, piece_code, plain_bytes,
                      read_clock, square_number)
 
 _STARTED, _START_BAD_PIECES, _START_BAD_CLOCK, _START_BAD_IDENTITY = range(4)
@@ -30,8 +30,13 @@ class Mode(IntEnum):
 
 @dataclass(frozen=True, slots=True)
 class Identity:
-    """What a board reports about itself. The serial number has five bytes, and each body has at
-    most 64. Each of these bytes is below 128."""
+    """What a board reports about itself.
+
+    `serial` has five bytes, and `trademark`, `battery` and `long_serial` have at most 64 each. Each
+    of these bytes is from 0 to 127, as are `main` and `sub`, the version of the board's program.
+    `clock_version` is from 0 to 255: the clock's main number in the high four bits, and its sub
+    number in the low four. `BadValue` if one of them is not.
+    """
 
     serial: bytes = b"00001"
     trademark: bytes = b"SIMULATED BOARD"
@@ -41,21 +46,31 @@ class Identity:
     clock_version: int = 0x14
     long_serial: bytes = b"0000000001"
 
+    def __post_init__(self) -> None:
+        for name, most in (("main", 127), ("sub", 127), ("clock_version", 255)):
+            object.__setattr__(self, name, number(getattr(self, name), most, name))
+        for name, least, most in (("serial", 5, 5), ("trademark", 0, MAX_KEPT),
+                                  ("battery", 0, MAX_KEPT), ("long_serial", 0, MAX_KEPT)):
+            object.__setattr__(self, name, _seven_bit(getattr(self, name), least, most, name))
+
     def _struct(self) -> IdentityStruct:
-        serial = plain_bytes(self.serial)
-        if serial is None or len(serial) != 5:
-            raise BadValue(f"a serial number is five bytes: {self.serial!r}")
         return IdentityStruct(
-            (c_uint8 * 5)(*serial), byte(self.main, "a version"), byte(self.sub, "a version"),
-            byte(self.clock_version, "a version"), _body(self.trademark), _body(self.battery),
-            _body(self.long_serial))
+            (c_uint8 * 5)(*self.serial), self.main, self.sub, self.clock_version,
+            _body(self.trademark), _body(self.battery), _body(self.long_serial))
+
+
+def _seven_bit(held: object, least: int, most: int, what: str) -> bytes:
+    """Returns the bytes, from `least` to `most` of them, each from 0 to 127. `BadValue` that names
+    `what` they are, if they are none."""
+    plain = plain_bytes(held)
+    if plain is None or not least <= len(plain) <= most or max(plain, default=0) > 127:
+        count = f"{most}" if least == most else f"at most {most}"
+        raise BadValue(f"{what} must be {count} bytes from 0 to 127: {held!r}")
+    return plain
 
 
 def _body(body: bytes) -> BodyStruct:
-    plain = plain_bytes(body)
-    if plain is None or len(plain) > MAX_KEPT:
-        raise BadValue(f"no body of at most {MAX_KEPT} bytes: {body!r}")
-    return BodyStruct(len(plain), (c_uint8 * MAX_KEPT)(*plain))
+    return BodyStruct(len(body), (c_uint8 * MAX_KEPT)(*body))
 
 
 class Board(Handle):
@@ -97,8 +112,7 @@ class Board(Handle):
         self._call(dgt.dgt_board_change, square_number(square), piece_code(piece))
 
     def hand_clock(self, clock: Clock) -> None:
-        """Sets what the clock shows. `BadValue` if a part of it is out of its range, `TypeError` if
-        it is no clock."""
+        """Sets what the clock shows. `TypeError` if it is no clock."""
         shown = clock_struct(clock)
         if not self._call(dgt.dgt_board_hand_clock, byref(shown)):
             raise BadValue(f"no clock shows this: {clock!r}")

@@ -2,6 +2,7 @@
 
 from __future__ import annotations
 
+from collections.abc import Iterator, Sequence
 from ctypes import c_char, c_uint8
 from dataclasses import dataclass
 
@@ -51,7 +52,7 @@ def plain_bytes(held: object) -> bytes | None:
 
 
 @dataclass(frozen=True, slots=True)
-class Position:
+class Position(Sequence[str]):
     """What stands on the 64 squares. `position["e4"]` is the letter of a piece.
 
     >>> start = Position.start()
@@ -59,6 +60,15 @@ class Position:
     ('P', '.')
     >>> start.changes(Position.parse("rnbqkbnr/pppppppp/8/8/4P3/8/PPPP1PPP/RNBQKBNR"))
     {'e4': 'P', 'e2': '.'}
+
+    It is an immutable sequence of 64 letters, from a8 to h1, and a number is the index of a square:
+
+    >>> start[0], start[-1], len(start), start.count("p"), "X" in start
+    ('r', 'R', 64, 8, False)
+    >>> start[:8], [SQUARES[number] for number, piece in enumerate(start) if piece == "N"]
+    ('rnbqkbnr', ['b1', 'g1'])
+
+    A name that is no square is a `BadValue`, and a number out of range is an `IndexError`.
     """
 
     codes: bytes
@@ -103,8 +113,17 @@ class Position:
         """The 64 letters, from a8 to h1."""
         return "".join(LETTERS[code] for code in self.codes)
 
-    def __getitem__(self, square: str) -> str:
-        return LETTERS[self.codes[square_number(square)]]
+    def __getitem__(self, square: str | int | slice) -> str:
+        if isinstance(square, slice):
+            return self.letters[square]
+        at = square if isinstance(square, int) else square_number(square)
+        return LETTERS[self.codes[at]]
+
+    def __len__(self) -> int:
+        return len(self.codes)
+
+    def __iter__(self) -> Iterator[str]:
+        return iter(self.letters)
 
     def changes(self, newer: Position) -> dict[str, str]:
         """Returns the squares on which a newer position differs, each with its letter there."""
@@ -115,26 +134,71 @@ class Position:
         return self.placement
 
 
+def number(held: object, most: int, what: str) -> int:
+    """Returns the number, from 0 to `most`. `BadValue` that names `what` it is, if it is none."""
+    plain = int.__index__(held) if isinstance(held, int) else -1
+    if not 0 <= plain <= most:
+        raise BadValue(f"{what} must be a number from 0 to {most}: {held!r}")
+    return plain
+
+
+_TIME_FIELDS = (("hours", 9), ("minutes", 59), ("seconds", 59), ("flags", 7))
+
+
 @dataclass(frozen=True, slots=True)
 class Time:
-    """The time of one player, and three flags as they came."""
+    """The time of one side of a clock, and three flags as they came.
+
+    `hours` are from 0 to 9, `minutes` and `seconds` from 0 to 59, and `flags` from 0 to 7.
+    `BadValue` if one of them is not.
+
+    >>> str(Time(1, 29, 55))
+    '1:29:55'
+    """
 
     hours: int = 0
     minutes: int = 0
     seconds: int = 0
     flags: int = 0
 
+    def __post_init__(self) -> None:
+        for name, most in _TIME_FIELDS:
+            object.__setattr__(self, name, number(getattr(self, name), most, name))
+
     def __str__(self) -> str:
         return f"{self.hours}:{self.minutes:02}:{self.seconds:02}"
 
 
+_STATUS_ABSENT = 0x20
+
+
+def _status(held: object, is_absent: bool) -> int:
+    """Returns the status of a clock. `BadValue` if it is none, or its bit 20 says otherwise."""
+    plain = number(held, 127, "status")
+    if bool(plain & _STATUS_ABSENT) != is_absent:
+        side = "with" if is_absent else "without"
+        raise BadValue(f"status must be {side} the bit 20 (no clock is connected): {held!r}")
+    return plain
+
+
 @dataclass(frozen=True, slots=True)
 class Times:
-    """A clock, and the times that it shows."""
+    """A clock, and the times that it shows.
+
+    `first` and `second` are the times of the clock's two sides, in the order of the message. They
+    say nothing of colours. `status` is from 0 to 127, without the bit 20 (hexadecimal), which says
+    that no clock is connected. `BadValue` if one of them is not.
+    """
 
     first: Time = Time()
     second: Time = Time()
     status: int = 0
+
+    def __post_init__(self) -> None:
+        for name, side in (("first", self.first), ("second", self.second)):
+            if not isinstance(side, Time):
+                raise BadValue(f"{name} must be a Time: {side!r}")
+        object.__setattr__(self, "status", _status(self.status, is_absent=False))
 
     @property
     def running(self) -> bool:
@@ -164,10 +228,25 @@ class Times:
 
 @dataclass(frozen=True, slots=True)
 class NoClock:
-    """No clock is connected. `raw` has the six bytes of the report as they came."""
+    """No clock is connected.
+
+    `raw` has the six bytes of the report as they came, each from 0 to 127. The low half of the
+    first and of the fourth is not `a` (hexadecimal), which marks an acknowledgement. `status` is
+    from 0 to 127, with the bit 20. `BadValue` if one of them is not.
+    """
 
     raw: bytes = bytes(6)
-    status: int = 0x20
+    status: int = _STATUS_ABSENT
+
+    def __post_init__(self) -> None:
+        raw = plain_bytes(self.raw)
+        if raw is None or len(raw) != 6 or max(raw) > 127:
+            raise BadValue(f"raw must be six bytes from 0 to 127: {self.raw!r}")
+        if 0x0A in (raw[0] & 0x0F, raw[3] & 0x0F):
+            raise BadValue("raw must be without a low half of a in the first or fourth byte: "
+                           f"{self.raw!r}")
+        object.__setattr__(self, "raw", raw)
+        object.__setattr__(self, "status", _status(self.status, is_absent=True))
 
 
 Clock = Times | NoClock
@@ -184,28 +263,20 @@ def read_clock(told: ClockStruct) -> Clock:
     return Times(first, second, told.status)
 
 
-def byte(number: int, what: str) -> int:
-    """Returns the number, from 0 to 255. `BadValue` if it is no byte, with `what` it should be."""
-    plain = int.__index__(number) if isinstance(number, int) else -1
-    if not 0 <= plain <= 255:
-        raise BadValue(f"{what} is no byte: {number!r}")
-    return plain
+def byte(held: int, what: str) -> int:
+    """Returns the number, from 0 to 255. `BadValue` that names `what` it is, if it is none."""
+    return number(held, 255, what)
 
 
 def _time_struct(time: Time) -> TimeStruct:
-    return TimeStruct(*(byte(each, "a time") for each in (
-        time.hours, time.minutes, time.seconds, time.flags)))
+    return TimeStruct(time.hours, time.minutes, time.seconds, time.flags)
 
 
 def clock_struct(clock: Clock) -> ClockStruct:
-    """Returns the clock for the library, which checks its ranges. `TypeError` if it is no clock,
-    `BadValue` if a part of it is no byte, or `raw` is not six bytes."""
+    """Returns the clock for the library. `TypeError` if it is no clock."""
     if isinstance(clock, Times):
-        return ClockStruct(_CLOCK_TIMES, byte(clock.status, "a status"), (c_uint8 * 6)(),
+        return ClockStruct(_CLOCK_TIMES, clock.status, (c_uint8 * 6)(),
                            _time_struct(clock.first), _time_struct(clock.second))
     if isinstance(clock, NoClock):
-        raw = plain_bytes(clock.raw)
-        if raw is None or len(raw) != 6:
-            raise BadValue(f"no six bytes: {clock.raw!r}")
-        return ClockStruct(_CLOCK_NONE, byte(clock.status, "a status"), (c_uint8 * 6)(*raw))
+        return ClockStruct(_CLOCK_NONE, clock.status, (c_uint8 * 6)(*clock.raw))
     raise TypeError(f"no clock: {clock!r}")
