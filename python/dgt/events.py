@@ -1,4 +1,5 @@
-"""The events in a board's bytes: messages and faults."""
+"""The events in a board's bytes: messages and faults. The text of an event (`str`) is its line of
+`dgt monitor`, without the offset."""
 
 from __future__ import annotations
 
@@ -11,12 +12,24 @@ from ._library import EventStruct
 from .values import LETTERS, SQUARES, NoClock, Position, Times, read_clock
 
 
+def _text(body: bytes) -> str:
+    """The bytes in hexadecimal digits, or a hyphen if there are none."""
+    return body.hex() or "-"
+
+
 @dataclass(frozen=True, slots=True)
 class Dump:
-    """The board reported all squares."""
+    """The board reported all squares.
+
+    >>> print(Dump(Position.start()))
+    dump rnbqkbnr/pppppppp/8/8/8/8/PPPPPPPP/RNBQKBNR
+    """
 
     position: Position
     unasked: bool = False
+
+    def __str__(self) -> str:
+        return f"dump {self.position}"
 
 
 @dataclass(frozen=True, slots=True)
@@ -26,6 +39,9 @@ class Field:
     square: str
     piece: str
 
+    def __str__(self) -> str:
+        return f"field {self.square} {self.piece}"
+
 
 @dataclass(frozen=True, slots=True)
 class Ack:
@@ -34,6 +50,9 @@ class Ack:
     ack: bytes
     status: int
 
+    def __str__(self) -> str:
+        return f"ack {self.ack.hex(' ')} {self.status:02x}"
+
 
 @dataclass(frozen=True, slots=True)
 class Serial:
@@ -41,6 +60,9 @@ class Serial:
 
     serial: bytes
     unasked: bool = False
+
+    def __str__(self) -> str:
+        return f"serial {_text(self.serial)}"
 
 
 @dataclass(frozen=True, slots=True)
@@ -51,6 +73,9 @@ class Version:
     sub: int
     unasked: bool = False
 
+    def __str__(self) -> str:
+        return f"version {self.main}.{self.sub}"
+
 
 @dataclass(frozen=True, slots=True)
 class Trademark:
@@ -58,6 +83,9 @@ class Trademark:
 
     body: bytes
     unasked: bool = False
+
+    def __str__(self) -> str:
+        return f"trademark {_text(self.body)}"
 
 
 @dataclass(frozen=True, slots=True)
@@ -67,6 +95,9 @@ class Battery:
     body: bytes
     unasked: bool = False
 
+    def __str__(self) -> str:
+        return f"battery {_text(self.body)}"
+
 
 @dataclass(frozen=True, slots=True)
 class LongSerial:
@@ -75,6 +106,9 @@ class LongSerial:
     body: bytes
     unasked: bool = False
 
+    def __str__(self) -> str:
+        return f"longserial {_text(self.body)}"
+
 
 @dataclass(frozen=True, slots=True)
 class Other:
@@ -82,6 +116,9 @@ class Other:
 
     code: int
     body: bytes
+
+    def __str__(self) -> str:
+        return f"other {self.code:02x} {_text(self.body)}"
 
 
 class Fault(IntEnum):
@@ -101,6 +138,11 @@ class Refused:
     fault: Fault
     at: int
 
+    def __str__(self) -> str:
+        fault = self.fault.name.replace("_", "").lower()
+        place = "" if self.fault is Fault.WRONG_SIZE else f" {self.at}"
+        return f"refused {self.code:02x} {fault}{place}"
+
 
 @dataclass(frozen=True, slots=True)
 class Cut:
@@ -108,10 +150,16 @@ class Cut:
 
     have: int
 
+    def __str__(self) -> str:
+        return f"cut {self.have}"
+
 
 @dataclass(frozen=True, slots=True)
 class BadLength:
     """The header of a message gives a length that is shorter than the header."""
+
+    def __str__(self) -> str:
+        return "badlength"
 
 
 @dataclass(frozen=True, slots=True)
@@ -119,6 +167,9 @@ class Stray:
     """A byte outside any message."""
 
     byte: int
+
+    def __str__(self) -> str:
+        return f"stray {self.byte:02x}"
 
 
 Message = (Dump | Field | Times | NoClock | Ack | Serial | Version | Trademark | Battery

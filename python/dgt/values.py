@@ -187,7 +187,11 @@ class Times:
 
     `first` and `second` are the times of the clock's two sides, in the order of the message. They
     say nothing of colours. `status` is from 0 to 127, without the bit 20 (hexadecimal), which says
-    that no clock is connected. `BadValue` if one of them is not.
+    that no clock is connected. `BadValue` if one of them is not. The text is that of `dgt monitor`:
+    each side's time and flags, and the status in hexadecimal.
+
+    >>> print(Times(Time(1, 30), Time(1, 29, 55), 0x11))
+    times 1:30:00 0 1:29:55 0 11
     """
 
     first: Time = Time()
@@ -225,6 +229,10 @@ class Times:
         """Whether it is white's turn."""
         return bool(self.status & 0x10)
 
+    def __str__(self) -> str:
+        first, second = (f"{side} {side.flags}" for side in (self.first, self.second))
+        return f"times {first} {second} {self.status:02x}"
+
 
 @dataclass(frozen=True, slots=True)
 class NoClock:
@@ -247,6 +255,9 @@ class NoClock:
                            f"{self.raw!r}")
         object.__setattr__(self, "raw", raw)
         object.__setattr__(self, "status", _status(self.status, is_absent=True))
+
+    def __str__(self) -> str:
+        return f"noclock {self.raw.hex()} {self.status:02x}"
 
 
 Clock = Times | NoClock

@@ -1,0 +1,45 @@
+"""Checks the texts of events of the package for Python: they are those of `dgt monitor`, as the
+table of whole messages in docs/PROTOCOL.md has them."""
+
+import pathlib
+import re
+import typing
+
+import model
+
+PROTOCOL = pathlib.Path(__file__).resolve().parent.parent / "docs" / "PROTOCOL.md"
+LINE = re.compile(r"`\d{8} ([^`]*)`")
+
+
+class Wrong(Exception):
+    """A text is not as it should be."""
+
+
+def rows(section):
+    """The cells of each row of the table in a section of docs/PROTOCOL.md, but for its heading."""
+    _, _, text = PROTOCOL.read_text().partition(f"\n## {section}\n")
+    lines = [line for line in text.partition("\n## ")[0].splitlines() if line.startswith("| ")]
+    return [[cell.strip() for cell in line.strip("| ").split(" | ")] for line in lines[1:]]
+
+
+def messages():
+    """The bytes of each row, and the texts of their events."""
+    dump = model.spell(model.DUMP, model.read_placement(model.START)[0])
+    yield dump, [f"dump {model.START}"]
+    for data, lines, *_ in rows("Whole messages and their lines"):
+        texts = [text for text in LINE.findall(lines) if not text.startswith("unfinished")]
+        yield bytes.fromhex(data.strip("`")), texts
+
+
+def check(dgt):
+    """Returns how many texts there are. Each kind of event has one."""
+    count, kinds = 0, set()
+    for data, texts in messages():
+        events = dgt.Decoder().feed(data)
+        told = [str(event) for event in events]
+        if told != texts:
+            raise Wrong(f"the texts of {data.hex(' ')}: {told} in place of {texts}")
+        count, kinds = count + len(texts), kinds | {type(event) for event in events}
+    if missing := set(typing.get_args(dgt.Event)) - kinds:
+        raise Wrong(f"no text of {missing}")
+    return count
