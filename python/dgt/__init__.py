@@ -41,6 +41,7 @@ ever.
 """
 
 from .board import Board, Identity, Mode
+from .clock_commands import ClockCommands
 from .commands import (Ask, Asked, BadEnd, BadSize, BadStart, ClockId, ClockMessage, Command, Leds,
                        StrayByte, Word)
 from .decoder import CommandDecoder, Decoder
@@ -60,12 +61,12 @@ __version__ = "0.1.0"
 
 __all__ = [
     "Ack", "Ask", "Asked", "BadEnd", "BadFen", "BadLength", "BadPlacement", "BadSize", "BadStart",
-    "BadValue", "Battery", "Board", "BoardView", "Busy", "Clock", "ClockId", "ClockMessage",
-    "Closed", "Command", "CommandDecoder", "Cut", "Decoder", "DgtError", "Dump", "Event", "Fault",
-    "Field", "Follower", "Following", "GameBegun", "GameState", "Host", "Identity", "IllegalMove",
-    "LETTERS", "Leds", "LongSerial", "Message", "Mode", "MoveEvent", "MoveMade", "MoveRecogniser",
-    "MoveTakenBack", "Nested", "NoClock", "NoSuchCommand", "Other", "Position", "Refused",
-    "SQUARES", "START_FEN", "Serial", "SerialLine", "Stray", "StrayByte", "Time", "Times",
-    "TooManyAwaited", "Trademark", "Version", "Word", "follow", "follow_async", "piece_code",
-    "segment", "square_number",
+    "BadValue", "Battery", "Board", "BoardView", "Busy", "Clock", "ClockCommands", "ClockId",
+    "ClockMessage", "Closed", "Command", "CommandDecoder", "Cut", "Decoder", "DgtError", "Dump",
+    "Event", "Fault", "Field", "Follower", "Following", "GameBegun", "GameState", "Host",
+    "Identity", "IllegalMove", "LETTERS", "Leds", "LongSerial", "Message", "Mode", "MoveEvent",
+    "MoveMade", "MoveRecogniser", "MoveTakenBack", "Nested", "NoClock", "NoSuchCommand", "Other",
+    "Position", "Refused", "SQUARES", "START_FEN", "Serial", "SerialLine", "Stray", "StrayByte",
+    "Time", "Times", "TooManyAwaited", "Trademark", "Version", "Word", "follow", "follow_async",
+    "piece_code", "segment", "square_number",
 ]

@@ -8,6 +8,7 @@ from typing import Any
 
 from ._handle import Bytes, Handle, readable, writable
 from ._library import MAX_ASKING, MAX_WORD, PLACEMENT_ROOM, ClockStruct, SentStruct, dgt
+from .clock_commands import ClockCommands
 from .commands import Ask, ClockId
 from .errors import NoSuchCommand, TooManyAwaited
 from .values import Clock, Position, byte, read_clock
@@ -15,7 +16,7 @@ from .values import Clock, Position, byte, read_clock
 _SENT, _TOO_MANY, _NO_ROOM, _NO_COMMAND = range(4)
 
 
-class Asker(Handle):
+class Asker(Handle, ClockCommands[bytes]):
     """A host, or a follower."""
 
     def __init__(self) -> None:
@@ -44,11 +45,16 @@ class Asker(Handle):
         return self._sent("send", byte(ask, "a command"))
 
     def send_clock(self, id: ClockId | int, payload: Bytes = b"") -> bytes:
-        """Returns a message to the clock. `BadValue` if the id is no byte, `NoSuchCommand` if the
-        payload has more than 252 bytes, `TypeError` if it is no bytes."""
+        """Returns a message to the clock, with the payload as it is, also if messages of this id
+        have another length: `display`, `text` and the like make whole ones. `BadValue` if the id is
+        no byte, `NoSuchCommand` if the payload has more than 252 bytes, `TypeError` if it is no
+        bytes."""
         number = byte(id, "an id")
         held, address = readable(payload)
         return self._sent("send_clock", number, address, len(held))
+
+    def _clock_message(self, id: ClockId, payload: bytes) -> bytes:
+        return self.send_clock(id, payload)
 
     def send_leds(self, leds: Bytes) -> bytes:
         """Returns an LED frame, of at most 255 bytes. `NoSuchCommand` if there are more."""

@@ -15,6 +15,8 @@ from typing import TYPE_CHECKING, Protocol, Self
 from ._handle import Bytes
 from ._port import Port
 from .board import Mode
+from .clock_commands import ClockCommands
+from .commands import ClockId
 from .errors import BadValue, Closed
 from .follower import Follower
 from .values import Clock, Position
@@ -157,9 +159,14 @@ class _Given:
         """Leaves it open: it is the caller's."""
 
 
-class Following:
+class Following(ClockCommands[None]):
     """A board on a serial port that is followed, as `follow` returns it. It is an iterator of
-    `BoardView`s, and its `wait` waits no longer than until a time. It is for one thread."""
+    `BoardView`s, and its `wait` waits no longer than until a time. The calls of `ClockCommands`
+    send a command to the board's clock. It is for one thread.
+
+    >>> with dgt.follow("/dev/ttyUSB0") as board:
+    ...     board.text("hello")
+    """
 
     _line: Port | _Given | None
 
@@ -193,6 +200,9 @@ class Following:
         self._check_open()
         if self._line is not None:
             self._line.write(bytes(chunk))
+
+    def _clock_message(self, id: ClockId, payload: bytes) -> None:
+        self.write(self.follower.send_clock(id, payload))
 
     def wait(self, until: float | None = None) -> BoardView | None:
         """Returns what is known after the next change, or `None` if there was none until a time of

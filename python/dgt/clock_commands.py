@@ -1,0 +1,101 @@
+"""Commands for the board's clock. Their payloads are checked, and a short text is padded."""
+
+from __future__ import annotations
+
+from typing import Generic, TypeVar
+
+from ._handle import Bytes, readable
+from ._library import MAX_PAYLOAD, NO_SUCH, dgt
+from .commands import ClockId
+from .errors import BadValue
+from .values import Time, number
+
+_Sent = TypeVar("_Sent")
+
+
+class ClockCommands(Generic[_Sent]):
+    """The commands for the clock of a board. A `Host` and a `Follower` return the bytes of each, to
+    write to the line. What `follow` returns sends them, and returns `None`.
+
+    >>> Host().display("12-34").hex(" ")
+    '2b 0b 03 01 40 5b 06 00 66 4f 00 00 00'
+    >>> Host().text("Résumé")
+    Traceback (most recent call last):
+    dgt.errors.BadValue: text must be at most 8 ASCII characters: 'Résumé'
+
+    A board that has a clock acknowledges each of them by an `Ack`. A number is sent as it is, in a
+    byte of its own. `BadValue` names what is wrong, and then nothing is sent.
+    """
+
+    def _clock_message(self, id: ClockId, payload: bytes) -> _Sent:
+        raise NotImplementedError
+
+    def display(self, text: str, dots: int = 0, beep: int = 0) -> _Sent:
+        """Shows at most six digits, spaces and hyphens on the display, from left to right. A
+        shorter text has spaces after it. `dots` and `beep` are from 0 to 255. `BadValue` if one of
+        them is not."""
+        shown = [int(dgt.dgt_segment(each)) for each in _characters(text, 6)]
+        if len(shown) != 6 or NO_SUCH in shown:
+            raise BadValue(f"text must be at most 6 digits, spaces and hyphens: {text!r}")
+        a, b, c, d, e, f = shown
+        payload = bytes((c, b, a, f, e, d, number(dots, 255, "dots"), number(beep, 255, "beep")))
+        return self._clock_message(ClockId.DISPLAY, payload)
+
+    def text(self, text: str, beep: int = 0) -> _Sent:
+        """Shows at most eight ASCII characters, from left to right. A shorter text has spaces after
+        it. `beep` is from 0 to 255. `BadValue` if one of them is not."""
+        letters = _characters(text, 8)
+        if len(letters) != 8:
+            raise BadValue(f"text must be at most 8 ASCII characters: {text!r}")
+        return self._clock_message(ClockId.TEXT, letters + bytes([number(beep, 255, "beep")]))
+
+    def beep(self, duration: int) -> _Sent:
+        """Beeps for this duration, from 0 to 255. `BadValue` if it is not."""
+        return self._clock_message(ClockId.BEEP, bytes([number(duration, 255, "duration")]))
+
+    def set_and_run(self, left: Time, right: Time, control: int) -> _Sent:
+        """Sets the times of the two sides, and has the clock do what `control` says.
+
+        >>> Host().set_and_run(Time(1, 0, 0), Time(0, 59, 30), control=1).hex(" ")
+        '2b 0a 03 0a 01 00 00 00 3b 1e 01 00'
+
+        The flags of both times are 0. `control` is from 0 to 255; what its bits mean is the
+        clock's. `BadValue` if one of them is not."""
+        sides = _side(left, "left") + _side(right, "right")
+        control = number(control, 255, "control")
+        return self._clock_message(ClockId.SET_AND_RUN, bytes([*sides, control]))
+
+    def icons(self, payload: Bytes) -> _Sent:
+        """Shows the icons of these bytes, of which there are at most 252, in any values. `BadValue`
+        if there are more, `TypeError` if the payload is no bytes."""
+        held, _ = readable(payload)
+        if len(held) > MAX_PAYLOAD:
+            raise BadValue(f"payload must be at most {MAX_PAYLOAD} bytes: {len(held)}")
+        return self._clock_message(ClockId.ICONS, held)
+
+    def end(self) -> _Sent:
+        """Ends what is shown. The clock then shows its times again."""
+        return self._clock_message(ClockId.END, b"")
+
+    def button(self) -> _Sent:
+        """Asks for the state of the clock's buttons."""
+        return self._clock_message(ClockId.BUTTON, b"")
+
+    def clock_version(self) -> _Sent:
+        """Asks for the version of the clock."""
+        return self._clock_message(ClockId.VERSION, b"")
+
+
+def _characters(text: object, count: int) -> bytes:
+    """Returns the characters of a text, with spaces after them if they are fewer than `count`.
+    Returns no bytes if the text is none, or isn't ASCII."""
+    try:
+        return str.encode(text, "ascii").ljust(count) if isinstance(text, str) else b""
+    except UnicodeEncodeError:
+        return b""
+
+
+def _side(time: Time, what: str) -> tuple[int, int, int]:
+    if not isinstance(time, Time) or time.flags:
+        raise BadValue(f"{what} must be a Time whose flags are 0: {time!r}")
+    return time.hours, time.minutes, time.seconds
