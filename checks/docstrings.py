@@ -60,7 +60,7 @@ class OwnPort(Port):
     def ask(self, chunk):
         self.write(chunk)
 
-    def exchange(self, seconds):
+    def exchange(self, seconds, wakes=None):
         self.timeout = seconds
         return self.read(self.in_waiting or 1)
 

@@ -364,6 +364,35 @@ def how_it_waits(board):
     return time.monotonic() - begun, time.thread_time() - used
 
 
+def wakes(dgt, line):
+    """A wait ends once another descriptor has something to read, with a port and without."""
+    readable, writable = os.pipe()
+    with dgt.follow(line.path, 60) as board:
+        expect("at first", board, (START, False, None))
+        for what in ("a port that is there", "a port that has gone"):
+            wake = threading.Timer(0.3, os.write, (writable, b"w"))
+            wake.start()
+            begun = time.monotonic()
+            wanted(what, board.wait(begun + 10, readable), None)
+            wanted(f"how long, {what}", 0.25 < time.monotonic() - begun < 0.3 + LATE, True)
+            wanted(f"it, again, {what}", board.wait(None, readable), None)
+            os.read(readable, 1)
+            if what == "a port that is there":
+                line.put(("e2", "."))
+                wanted("a change first", see(board.wait(None, readable)), (LIFTED, False, None))
+                line.unplug()
+                expect("gone", board, (LIFTED, True, GONE))
+        line.plug()
+    with dgt.follow(Handed(line.board)) as board:
+        try:
+            board.wait(None, readable)
+            raise Wrong("a line that was handed over waits for another descriptor")
+        except dgt.BadValue:
+            pass
+    os.close(readable)
+    os.close(writable)
+
+
 def takes_nothing(dgt, line):
     """A port that takes nothing holds nobody up, and is sent what is due once it does."""
     with line.lock:
@@ -462,7 +491,7 @@ def streams(dgt, line):
 
 
 CASES = [changes, asks_when_due, heals, clock_heals, noise, silence, goes_and_comes, comes_late,
-         faults, closing, settings, waits, takes_nothing, handed, streams]
+         faults, closing, settings, waits, wakes, takes_nothing, handed, streams]
 
 
 def try_case(dgt, case):

@@ -17,7 +17,8 @@ _ADVICE = {
     errno.EWOULDBLOCK: "in use by another program (end that one first)",
     errno.ENOTTY: "not a serial port",
 }
-_CHUNK = 4096
+_CHUNK = 256
+"""How many bytes one call returns at most: the package hears as many in some 8 ms at worst."""
 
 
 def _take(line: int) -> None:
@@ -70,11 +71,16 @@ class Port:
     def _send(self) -> None:
         self._unsent = self._unsent[self._file.write(self._unsent) or 0:]
 
-    def exchange(self, seconds: float) -> bytes:
+    def exchange(self, seconds: float, wakes: int | None = None) -> bytes:
         """Sends what the port takes, and returns the bytes that come. Returns nothing after so many
-        seconds, or once the port took something. `OSError` if the port has gone."""
+        seconds, once the port took something, or if the descriptor `wakes` has something to read.
+        `OSError` if the port has gone."""
         self._poll.register(self._line, select.POLLIN | (select.POLLOUT if self._unsent else 0))
+        if wakes is not None:
+            self._poll.register(wakes, select.POLLIN)
         events = dict(self._poll.poll(1000 * seconds)).get(self._line, 0)
+        if wakes is not None:
+            self._poll.unregister(wakes)
         if events & select.POLLOUT:
             self._send()
         others = events & ~select.POLLOUT

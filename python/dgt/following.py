@@ -6,6 +6,7 @@ from __future__ import annotations
 import contextlib
 import errno
 import os
+import select
 import time
 from collections import deque
 from collections.abc import AsyncGenerator
@@ -139,6 +140,15 @@ class _Steps:
             self.changes.append(view)
 
 
+def _has_input(descriptor: int | None, seconds: float) -> bool:
+    """Waits until a descriptor has something to read, for so many seconds at most, and returns
+    whether it has."""
+    poll = select.poll()
+    if descriptor is not None:
+        poll.register(descriptor, select.POLLIN)
+    return bool(poll.poll(1000 * seconds))
+
+
 class _Given:
     """A line that the caller has opened."""
 
@@ -146,9 +156,11 @@ class _Given:
         self._line = line
         self.ask = self.write = line.write
 
-    def exchange(self, seconds: float) -> bytes:
-        """Returns bytes once they come, or nothing after so many seconds. `Closed` if the line
-        is."""
+    def exchange(self, seconds: float, wakes: int | None = None) -> bytes:
+        """Returns bytes once they come, or nothing after so many seconds. `Closed` if the line is.
+        `BadValue` with `wakes`."""
+        if wakes is not None:
+            raise BadValue("a line that was handed over can't wait for another descriptor")
         self._line.timeout = seconds
         chunk = self._line.read(self._line.in_waiting or 1) if self._line.is_open else b""
         if not chunk and not self._line.is_open:
@@ -204,36 +216,39 @@ class Following(ClockCommands[None]):
     def _clock_message(self, id: ClockId, payload: bytes) -> None:
         self.write(self.follower.send_clock(id, payload))
 
-    def wait(self, until: float | None = None) -> BoardView | None:
+    def wait(self, until: float | None = None, wakes: int | None = None) -> BoardView | None:
         """Returns what is known after the next change, or `None` if there was none until a time of
-        `time.monotonic`. `Closed` if this is closed, or if the line that it was handed is. A line
-        that it was handed may raise exceptions of its own."""
+        `time.monotonic`, or until the descriptor `wakes` has something to read. `Closed` if this is
+        closed, or if the line that it was handed is. `BadValue` for `wakes` with a line that it was
+        handed, which may also raise exceptions of its own."""
         changes = self._steps.changes
         self._check_open()
         while not changes:
-            self._turn(until)
+            self._turn(until, wakes)
             self._check_open()
-            if not changes and until is not None and time.monotonic() >= until:
+            is_over = until is not None and time.monotonic() >= until
+            if not changes and (is_over or _has_input(wakes, 0.0)):
                 return None
         return changes.popleft()
 
-    def _turn(self, until: float | None) -> None:
+    def _turn(self, until: float | None, wakes: int | None) -> None:
         """Asks what is due, and hears what comes, or else waits until something is due."""
         now = time.monotonic()
         if self._line is None and now >= self._look_at:
             self._look()
         elif self._line is None:
             end = self._look_at if until is None else min(self._look_at, until)
-            time.sleep(max(0.0, end - now))
+            _has_input(wakes, max(0.0, end - now))
         else:
-            self._converse(self._line, now, until)
+            self._converse(self._line, now, until, wakes)
 
-    def _converse(self, line: Port | _Given, now: float, until: float | None) -> None:
+    def _converse(self, line: Port | _Given, now: float, until: float | None,
+                  wakes: int | None) -> None:
         if asked := self._steps.ask(now):
             line.ask(asked)
         wait = 0.0 if self._steps.changes else self._steps.seconds_left(now, until)
         try:
-            chunk = line.exchange(wait)
+            chunk = line.exchange(wait, wakes)
         except OSError:
             if isinstance(line, _Given):
                 raise
@@ -241,7 +256,10 @@ class Following(ClockCommands[None]):
             self._line, self._look_at = None, time.monotonic() + _LOOK
             self._steps.lose(_GONE)
         else:
-            self._steps.hear(chunk, time.monotonic())
+            self._hear(chunk, time.monotonic())
+
+    def _hear(self, chunk: bytes, now: float) -> None:
+        self._steps.hear(chunk, now)
 
     def _look(self, is_first: bool = False) -> None:
         """Opens the port if it is there. At the first time this may be an `OSError`."""
