@@ -1,0 +1,186 @@
+"""Plays whole fast games over UCI with a simulated board, and compares each move that the engine
+sends with the one that was made on the board.
+
+A third of the games begin with a FEN. In half of them the board has Black, in some it is turned,
+and in half of them the line loses and alters bytes. Moves are made as people make them: pieces are
+slid, taken ones are lifted first or last, castling begins with the king or the rook, a pawn is put
+on the last rank before the piece that it becomes, moves are begun and taken back, and the own move
+may come before the answer was put.
+"""
+
+import pathlib
+import random
+import tempfile
+import time
+
+import engines
+import games
+from engines import Wrong, wanted
+
+SETTLE = 0.3
+PLIES = 40
+# A hand that the machine holds up for longer than this has made another move meanwhile.
+MOST_LATE = SETTLE - 0.05
+
+
+class Late(Exception):
+    """The machine was so busy that the hands have rested in the middle of a move."""
+
+
+class Game:
+    """A game that is played. It counts what it has tried."""
+
+    def __init__(self, dgt, seed, folder):
+        self.dgt, self.seed = dgt, seed
+        self.chance = random.Random(1000 + seed)
+        self.line = engines.Line(dgt, folder)
+        self.hands = engines.Hands(dgt, self.line, seed)
+        options = [("Settle", round(1000 * SETTLE))]
+        self.engine = engines.Engine(self.line.path, "--period", "1", options=options)
+        self.counts = dict.fromkeys(["moves", "castlings", "en passant", "promotions", "mates",
+                                     "early", "faults", "quick answers", "answers"], 0)
+        self.fen = games.PERFT[1 + seed // 3 % 6][0] if seed % 3 == 2 else games.START
+        self.is_white = seed % 2 == 0
+        self.state, self.before, self.moves = dgt.GameState.parse(self.fen), None, []
+
+    def close(self):
+        try:
+            self.engine.end()
+        finally:
+            self.line.close()
+        self.counts["faults"] = self.line.faults
+
+    def begin(self):
+        if self.chance.random() < 0.3:
+            self.hands.turned = True
+            self.hands.letters.reverse()
+        self.hands.set_up(self.state.letters)
+        if self.seed % 4 > 1:
+            self.line.chance = self.chance
+        self.engine.say("ucinewgame", self.where())
+        self.ask()
+
+    def where(self):
+        start = "startpos" if self.fen == games.START else f"fen {self.fen}"
+        return f"position {start}" + (f" moves {' '.join(self.moves)}" if self.moves else "")
+
+    def choose(self):
+        """A move by chance: those that take, castle or promote are made more often."""
+        legal = self.state.moves()
+        weights = [8 if len(move) == 5 or self.kind(move, after) != 2 else 2
+                   if after.letters.count(".") != self.state.letters.count(".") else 1
+                   for move, after in legal.items()]
+        return self.chance.choices(list(legal), weights)[0] if legal else None
+
+    def kind(self, move, after):
+        """How many squares a move changes."""
+        return sum(map(str.__ne__, self.state.letters, after.letters))
+
+    def note(self, move):
+        after = self.state.after(move)
+        self.counts["castlings"] += self.kind(move, after) == 4
+        self.counts["en passant"] += self.kind(move, after) == 3
+        self.counts["promotions"] += len(move) == 5
+        self.before, self.state = self.state, after
+        self.moves.append(move)
+
+    def ask(self):
+        delay = self.engine.delay()
+        self.counts["answers"] += 1
+        self.counts["quick answers"] += delay < 0.05
+
+    def put_answer(self):
+        """Puts the last move of the other side, if it isn't on the board yet."""
+        if self.moves and "".join(self.hands.letters) != self.state.letters:
+            self.hands.move(self.before, self.moves[-1])
+
+    def move(self, move):
+        """The player's turn: the answer is put, and the move is made, in this order or not."""
+        self.engine.say(self.where(), "go wtime 60000 btime 60000 winc 1000 binc 1000")
+        is_first = len(self.moves) < 2
+        if is_first or not self.can_be_early(move):
+            self.put_answer()
+            if is_first or self.chance.random() < 0.3:
+                self.engine.inform("white is to move", "black is to move")
+        else:
+            self.counts["early"] += 1
+        if "".join(self.hands.letters) == self.state.letters:
+            self.hands.move(self.state, move)
+        else:
+            self.make_early(move)
+        if self.chance.random() < 0.2:
+            self.ask()
+        try:
+            got = self.engine.move()
+        finally:
+            if self.hands.slowest > MOST_LATE:
+                raise Late(f"{self.hands.slowest:.2f} s between two steps of a hand")
+        wanted(f"the move in {self.state.fen} after {self.engine.lines[-4:]}", got, move)
+        self.counts["moves"] += 1
+
+    def can_be_early(self, move):
+        """Whether the move is made before the answer is put. Both must not meet."""
+        if not self.moves or self.chance.random() > 0.2:
+            return False
+        answered = self.squares(self.before.letters, self.state.letters)
+        return not answered & self.squares(self.state.letters, self.state.after(move).letters)
+
+    def squares(self, one, other):
+        return {square for square in range(64) if one[square] != other[square]}
+
+    def make_early(self, move):
+        """Makes the own move first, and then puts the answer."""
+        after = self.state.after(move).letters
+        for squares in (self.squares(self.state.letters, after),
+                        self.squares(self.before.letters, self.state.letters)):
+            for square in sorted(squares, key=lambda each: after[each] != "."):
+                self.hands.put(square, after[square])
+        self.hands.put_at = None
+
+    def play(self):
+        self.begin()
+        while len(self.moves) < PLIES and (move := self.choose()):
+            if self.state.white == self.is_white:
+                self.move(move)
+            self.note(move)
+        self.finish()
+
+    def finish(self):
+        """The last position: without a legal move the engine says that there is none."""
+        if self.state.white == self.is_white and not self.state.moves():
+            self.engine.say(self.where(), "go")
+            wanted("the move of a game that is over", self.engine.move(), "0000")
+            self.counts["mates"] += 1
+
+
+def play(dgt, seed):
+    """Plays a game. Returns what is wrong with it, and what was tried."""
+    for _ in range(3):
+        with tempfile.TemporaryDirectory() as folder:
+            game = Game(dgt, seed, pathlib.Path(folder))
+            try:
+                game.play()
+                return None, game.counts
+            except Late as late:
+                wrong = f"the machine is too busy: {late}"
+            except (Wrong, OSError) as fault:
+                wrong = str(fault)
+                break
+            finally:
+                game.close()
+    return f"game {seed}: {wrong}", game.counts
+
+
+def check(dgt, pool, count):
+    """Plays so many games. Returns what was tried."""
+    begun, total = time.monotonic(), {}
+    for wrong, counts in pool.map(lambda seed: play(dgt, seed), range(count)):
+        if wrong:
+            raise Wrong(wrong)
+        for name, number in counts.items():
+            total[name] = total.get(name, 0) + number
+    quick, answers = total["quick answers"], total["answers"]
+    if quick < answers / 4:  # a busy machine makes the others late
+        raise Wrong(f"of {answers} answers {quick} came within 50 ms")
+    told = ", ".join(f"{number} {name}" for name, number in total.items())
+    return f"{count} games with {told} ({time.monotonic() - begun:.0f} s)"

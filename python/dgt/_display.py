@@ -1,0 +1,92 @@
+"""What a DGT clock is sent, so that it shows moves."""
+
+from __future__ import annotations
+
+from .commands import ClockId
+from .events import Ack
+from .values import segment
+
+_ANSWER_WAIT = 2.0
+"""For how long a message to the clock may stay without an acknowledgement, in seconds."""
+_VERSION_WAIT = 10.0
+"""How often a clock that didn't answer is asked for its version again."""
+_WITH_TEXT = 2
+"""The first main version of a clock that shows text."""
+_BEEP = 3
+_DONE = 0x10
+_SEGMENTS = {"a": 0x5F, "b": 0x7C, "c": 0x58, "d": 0x5E, "e": 0x7B, "f": 0x71, "g": 0x3D, "h": 0x74,
+             "n": 0x54, "q": 0x67, "r": 0x50}
+"""The segments that show the letters of moves."""
+
+Message = tuple[ClockId, bytes]
+
+
+def message_of(move: str, version: int) -> Message:
+    """Returns the message that makes a clock of this version show a move, with a short beep."""
+    if version >> 4 >= _WITH_TEXT:
+        return ClockId.TEXT, move.ljust(8)[:8].encode() + bytes([_BEEP])
+    a, b, c, d, e, f = (_SEGMENTS.get(each) or segment(each) for each in move.ljust(6)[:6])
+    return ClockId.DISPLAY, bytes([c, b, a, f, e, d, 0, _BEEP])
+
+
+class Display:
+    """Decides what the clock is sent, and when: one message at a time. A clock has to report its
+    version first. Write what `take` returns to the board at the time `due`, and hand over what the
+    clock acknowledges.
+
+    >>> from dgt._display import Display
+    >>> display = Display()
+    >>> display.show("e7e5")
+    >>> display.take(0.0)[0].name
+    'VERSION'
+    >>> display.acknowledge(Ack(bytes([0x10, 0x09, 0x20, 0]), 0))  # the version is 2.0
+    >>> display.take(0.1)
+    (<ClockId.TEXT: 12>, b'e7e5    \\x03')
+    """
+
+    def __init__(self) -> None:
+        self._move: str | None = None
+        self._is_new = self._is_shown = False
+        self._version: int | None = None
+        self._sent_at: float | None = None
+        self._version_at: float | None = None
+
+    def plug(self) -> None:
+        """Notes that the board was opened: its clock isn't known."""
+        self._version = self._sent_at = self._version_at = None
+        self._is_new = self._move is not None
+
+    def show(self, move: str) -> None:
+        """Has the clock show a move."""
+        self._move, self._is_new = move, True
+
+    def end(self) -> None:
+        """Has the clock show its times again, if it shows a move."""
+        self._move, self._is_new = None, self._is_shown
+
+    def acknowledge(self, ack: Ack) -> None:
+        """Notes what the clock acknowledges."""
+        self._sent_at = None
+        if ack.ack[0] == _DONE and ack.ack[1] == ClockId.VERSION:
+            self._version = ack.ack[2]
+
+    @property
+    def due(self) -> float | None:
+        """The time from which on `take` returns a message."""
+        times = []
+        if self._sent_at is not None:
+            times.append(self._sent_at + _ANSWER_WAIT)
+        if self._version is None and self._version_at is not None:
+            times.append(self._version_at + _VERSION_WAIT)
+        return max(times, default=0.0) if self._is_new else None
+
+    def take(self, time: float) -> Message | None:
+        """Returns the message to send at this time, if any. It counts as sent."""
+        if self.due is None or time < self.due:
+            return None
+        self._sent_at = time
+        if self._version is None:
+            self._version_at = time
+            return ClockId.VERSION, b""
+        self._is_new, self._is_shown = False, self._move is not None
+        return message_of(self._move, self._version) if self._move else (ClockId.END, b"")

@@ -1,0 +1,444 @@
+"""A board as a UCI engine, whose moves are those that a person makes on the board.
+
+A chess program starts it as it starts any engine: `dgt-uci /dev/ttyUSB0`, or `python -m dgt uci
+/dev/ttyUSB0`. It speaks UCI on its standard input and output, opens the port when the first
+position comes, and closes it at the end. What the player has to do comes as `info string` and on
+standard error; the clock of the board shows the move of the other side.
+
+Options that the chess program shows in its engine settings:
+
+    Port     the board's serial port
+    Turned   whether White's pieces begin on the ranks 8 and 7 of the board: no, yes, or auto, which
+             is decided by what the board shows
+    Settle   for how many milliseconds a move has to rest
+    Clock    whether the clock shows the moves of the other side
+"""
+
+from __future__ import annotations
+
+import argparse
+import contextlib
+import errno
+import os
+import select
+import signal
+import time
+from collections.abc import Callable
+
+from . import _port, following
+from ._board_line import BoardLine
+from ._turn import Turn
+from .errors import BadFen, IllegalMove
+from .following import BoardView
+from .rules import START_FEN, GameState
+
+_PERIOD = 2.0
+"""How often the board is asked for all squares, in seconds."""
+_DUMP_WAIT = 1.0
+"""After how many seconds a dump that didn't come is requested again."""
+_LONGEST_LINE = 1 << 20
+_EMPTY = "<empty>"
+_TURNED = ("auto", "no", "yes")
+_SETTLE = (50, 300, 5000)
+"""The least, the default and the greatest rest of a move, in milliseconds."""
+_WORDS = ("uci", "isready", "setoption", "ucinewgame", "position", "go", "stop", "ponderhit",
+          "quit", "debug", "register")
+_NO_MOVE = "0000"
+_OWN_WORDS = {
+    _port._ADVICE[errno.EACCES]: "this user may not open it (join the group dialout)",
+    **{text: text for text in (following._GONE, following._SILENT)},
+    **{text: text for number, text in _port._ADVICE.items() if number != errno.EACCES},
+}
+"""What is said of a board that is away. xboard ends an engine that prints a text of the system such
+as `Permission denied`, so no such text is passed on."""
+
+
+def _why(away: str) -> str:
+    return _OWN_WORDS.get(away, "it can't be opened")
+
+
+def _print(line: str) -> None:
+    """Prints a line at once. The program ends if nobody reads it."""
+    try:
+        print(line, flush=True)
+    except BrokenPipeError:
+        os.dup2(os.open(os.devnull, os.O_WRONLY), 1)
+        raise SystemExit(0) from None
+
+
+def _warn(text: str) -> None:
+    """Prints a text on standard error, if that is another file than standard output and takes it
+    without waiting."""
+    with contextlib.suppress(OSError):
+        poll = select.poll()
+        poll.register(2, select.POLLOUT)
+        if not os.path.sameopenfile(1, 2) and poll.poll(0):
+            os.write(2, f"dgt-uci: {text}\n".encode(errors="replace")[:select.PIPE_BUF])
+
+
+def _time_text(milliseconds: str) -> str:
+    seconds = max(0, int(milliseconds)) // 1000
+    return f"{seconds // 3600}:{seconds // 60 % 60:02}:{seconds % 60:02}"
+
+
+def _is_number(word: str) -> bool:
+    digits = word.removeprefix("-")
+    return digits.isascii() and digits.isdigit() and len(digits) < 16
+
+
+class Game:
+    """The position that the chess program has set, and how it came about."""
+
+    def __init__(self) -> None:
+        self.state: GameState | None = None
+        self.before: GameState | None = None
+        """The position before the last move, if that is known."""
+        self.first: GameState | None = None
+        self.last_move: str | None = None
+        """The last move, if it is known."""
+        self._fen, self._moves = "", list[str]()
+
+    def set(self, words: list[str]) -> None:
+        """Sets what the words after `position` say. `BadFen` or `IllegalMove` if they say no
+        position: then there is none."""
+        at = words.index("moves") if "moves" in words else len(words)
+        where, moves = words[:at], words[at + 1:]
+        fen = START_FEN if where[:1] == ["startpos"] else " ".join(where[1:])
+        if where[:1] not in (["startpos"], ["fen"]):
+            raise BadFen("neither startpos nor fen")
+        if fen != self._fen or moves[:len(self._moves)] != self._moves or self.state is None:
+            self.state = None
+            self.first, self.before, self.last_move = GameState.parse(fen), None, None
+            self._fen, self._moves, state = fen, [], self.first
+        else:
+            state, self.state = self.state, None
+        for move in moves[len(self._moves):]:
+            self.before, state, self.last_move = state, state.after(move), move
+        self.state, self._moves = state, moves
+
+    def forget(self) -> None:
+        """Forgets the position."""
+        self.state = None
+
+
+class Engine:
+    """Takes the lines of a chess program, and prints the answers. Times are those of
+    `time.monotonic`."""
+
+    def __init__(self, port: str = "", period: float = _PERIOD,
+                 say: Callable[[str], None] = _print) -> None:
+        self.port, self._period, self._say = port, period, say
+        self.line: BoardLine | None = None
+        self.is_over = False
+        self._turn_setting, self._is_turned = "auto", False
+        self._settle, self._shows_moves = _SETTLE[1] / 1000, True
+        self._is_greeted, self._kept = False, list[str]()
+        self._faulty = self._away = ""
+        self._game, self._turn = Game(), None
+        self._answered: GameState | None = None
+        self._was_shown: set[str] = set()
+        self._other: str | None = None
+        self._begin()
+
+    _turn: Turn | None
+
+    def _begin(self) -> None:
+        """No move is asked for."""
+        self._goes = self._is_held = False
+        self._asked: tuple[str, int, float] | None = None
+        self._told = ""
+
+    # ---- What the chess program says
+
+    def obey(self, text: str, now: float) -> None:
+        """Obeys a line. Words before a known one are ignored, and so is a line without one."""
+        words = text.split()
+        while words and words[0] not in _WORDS:
+            words.pop(0)
+        if not words:
+            return
+        word, *rest = words
+        match word:
+            case "uci":
+                self._greet()
+            case "isready":
+                self._say("readyok")
+            case "setoption":
+                self._set_option(text.partition("setoption")[2])
+            case "ucinewgame":
+                self._begin()
+                self._answered = None
+            case "position":
+                self._set_position(rest, now)
+            case "go":
+                self._go(rest, now)
+            case "stop":
+                self._stop()
+            case "ponderhit":
+                self._hit()
+            case "quit":
+                self.is_over = True
+
+    def _greet(self) -> None:
+        least, default, most = _SETTLE
+        turned = " ".join(f"var {each}" for each in _TURNED)
+        port = " ".join(self.port.split()) or _EMPTY
+        for line in ("id name DGT board", "id author the authors of dgt",
+                     f"option name Port type string default {port}",
+                     f"option name Turned type combo default {_TURNED[0]} {turned}",
+                     f"option name Settle type spin default {default} min {least} max {most}",
+                     "option name Clock type check default true", "uciok"):
+            self._say(line)
+        self._is_greeted = True
+        kept, self._kept = self._kept, []
+        for text in kept:
+            self._inform(text)
+
+    def _set_option(self, text: str) -> None:
+        name, _, value = text.partition(" name ")[2].partition(" value ")
+        name, value = name.strip().lower(), value.strip()
+        if name == "port":
+            self._set_port("" if value == _EMPTY else value)
+        elif name == "turned" and value.lower() in _TURNED:
+            self._turn_setting = value.lower()
+            self._is_turned = self._turn_setting == "yes"
+        elif name == "settle" and _is_number(value) and _SETTLE[0] <= int(value) <= _SETTLE[2]:
+            self._settle = int(value) / 1000
+        elif name == "clock" and value.lower() in ("true", "false"):
+            self._shows_moves = value.lower() == "true"
+        else:
+            self._inform(f"there is no option {name!r} with the value {value!r}")
+
+    def _set_port(self, port: str) -> None:
+        if port != self.port:
+            self.close()
+            self.port, self._faulty = port, ""
+
+    def _set_position(self, words: list[str], now: float) -> None:
+        self._begin()
+        self._turn = self._other = None
+        self.open()
+        try:
+            self._game.set(words)
+        except (BadFen, IllegalMove) as wrong:
+            self._game.forget()
+            self._answered = None
+            self._inform(f"this position isn't understood: {str(wrong)[:200]}")
+            return
+        state, before, self._other = self._game.state, None, self._game.last_move
+        assert state is not None
+        # A program may send a FEN alone: the other side's move is found by what it changes.
+        if self._answered is not None:
+            for move, after in self._answered.moves().items():
+                if (after.letters, after.white) == (state.letters, state.white):
+                    self._other, before = move, self._answered.letters
+        self._turn = Turn(state, self._settle, before)
+        self._turn.is_set_up = state.letters in self._was_shown
+        if self.line is not None:
+            self._look(self.line.view, now)
+
+    def _go(self, words: list[str], now: float) -> None:
+        self._begin()
+        if self._turn is None:
+            self._inform("no move can be made: there is no position")
+            self._end(_NO_MOVE)
+            return
+        only = words[words.index("searchmoves") + 1:] if "searchmoves" in words else []
+        self._turn.await_moves(tuple(only))
+        self._turn.ask(now)
+        self._goes, self._is_held = True, not {"infinite", "ponder"}.isdisjoint(words)
+        self._tell_times(words)
+        if self._other and self._shows_moves and self.line is not None:
+            self.line.display.show(self._other)
+        self.work(now)
+
+    def _tell_times(self, words: list[str]) -> None:
+        """Says which move the other side has made, and what time is left to each."""
+        pairs = dict(zip(words, words[1:]))
+        times = [f"{side} {_time_text(pairs[word])}" for side, word in
+                 (("white", "wtime"), ("black", "btime"), ("this move", "movetime"))
+                 if _is_number(pairs.get(word, ""))]
+        moved = f"the other side has moved {self._other}" if self._other else "a move is asked for"
+        if self._other or times:
+            self._inform(f"{moved}{' (' + ', '.join(times) + ')' if times else ''}")
+
+    def _stop(self) -> None:
+        if not self._goes or self._turn is None:
+            return
+        move = self._turn.shown
+        if move is None:
+            self._inform("no move was made on the board")
+        self._end(move or _NO_MOVE)
+
+    def _hit(self) -> None:
+        """The move that was pondered over is asked for."""
+        self._is_held = False
+        if self._turn is not None and self._told and self._told == self._turn.shown:
+            self._end(self._told)
+        self._told = ""
+
+    # ---- What is said
+
+    def _inform(self, text: str) -> None:
+        """Says something to the player. Nothing is said before `uciok`."""
+        if not self._is_greeted:
+            self._kept.append(text)
+            return
+        line = " ".join(text.split())
+        self._say(f"info string {line}")
+        _warn(line)
+
+    def _end(self, move: str) -> None:
+        """Ends what `go` has begun."""
+        self._begin()
+        legal = self._turn.legal if self._turn else {}
+        self._answered = legal.get(move)
+        self._was_shown.clear()
+        if self.line is not None:
+            self.line.display.end()
+        self._say(f"bestmove {move}")
+
+    # ---- The board
+
+    def open(self) -> None:
+        """Opens the port, or has it looked for. What is at fault is said once."""
+        if self.line is not None:
+            return
+        fault = "no port is set (start dgt-uci with it, or set the option Port)"
+        try:
+            if self.port:
+                self.line, fault = BoardLine(self.port, self._period), ""
+        except OSError as refused:
+            fault = f"{self.port}: {_why(refused.strerror or '')}"
+        except ValueError:
+            fault = f"{self.port!r} is no name of a port"
+        if fault and fault != self._faulty:
+            self._inform(fault)
+        self._faulty, self._away = fault, ""
+
+    def close(self) -> None:
+        """Closes the port."""
+        if self.line is not None:
+            self.line.close()
+            self.line = None
+
+    def see(self, view: BoardView, now: float) -> None:
+        """Notes what is known of the board."""
+        away = view.away or ""
+        if away != self._away:
+            self._inform(f"{self.port}: {_why(away) if away else 'the board is back'}")
+            self._away = away
+        self._look(view, now)
+
+    def _look(self, view: BoardView, now: float) -> None:
+        if self._turn is None or view.picture is None:
+            return
+        letters = view.picture.letters
+        if self._turn_setting == "auto" and not self._turn.is_set_up:
+            self._orient(letters)
+        letters = letters[::-1] if self._is_turned else letters
+        self._was_shown.add(letters)
+        self._turn.see(letters, now, not view.in_doubt)
+
+    def _orient(self, letters: str) -> None:
+        """Decides whether the board is turned: it is if it shows, turned, exactly what it has to
+        show, what it had to show before the last move, or how the game began."""
+        game = self._game
+        known = [each.letters for each in (game.state, game.before, game.first) if each]
+        if letters in known:
+            self._is_turned = False
+        elif letters[::-1] in known:
+            self._is_turned = True
+
+    # ---- What is due
+
+    def work(self, now: float) -> float | None:
+        """Does what is due, and returns when something will be."""
+        due = self._await_move(now) if self._goes else None
+        clock = self.line.tend_clock(now) if self.line is not None else None
+        return min((each for each in (due, clock) if each is not None), default=None)
+
+    def _await_move(self, now: float) -> float | None:
+        turn = self._turn
+        assert turn is not None
+        if not turn.legal:
+            if not self._is_held:
+                self._inform("mate" if turn.state.check else "stalemate")
+                self._end(_NO_MOVE)
+            return None
+        if turn.due is not None:
+            return self._confirm(turn, now) if turn.made(now) else turn.due
+        self._asked = None
+        text, due = turn.hint(now)
+        if text:
+            self._inform(text)
+        return due
+
+    def _confirm(self, turn: Turn, now: float) -> float | None:
+        """Ends with the move that has rested, once a dump that was requested then confirms it: the
+        last messages may have been lost. A move that is held is only named."""
+        move, line = turn.shown, self.line
+        if move is None or line is None or self._told == move:
+            return None
+        if self._asked is None or self._asked[0] != move:
+            self._asked = move, line.dumps, now
+            line.request_dump()
+        elif line.dumps != self._asked[1]:
+            if not self._is_held:
+                self._end(move)
+            else:
+                self._told = move
+                self._inform(f"{move} was made on the board")
+            return None
+        elif now >= self._asked[2] + _DUMP_WAIT:
+            self._asked = move, self._asked[1], now
+            line.request_dump()
+        return self._asked[2] + _DUMP_WAIT
+
+
+def _serve(engine: Engine) -> None:
+    """Obeys the lines of standard input, and attends to the board meanwhile."""
+    rest = b""
+    while not engine.is_over:
+        due = engine.work(time.monotonic())
+        if engine.line is None:
+            left = 3600.0 if due is None else due - time.monotonic()
+            following._has_input(0, max(0.0, left))
+        elif view := engine.line.wait(due, 0):
+            engine.see(view, time.monotonic())
+        if not following._has_input(0, 0.0):
+            continue
+        chunk = os.read(0, 65536)
+        if not chunk:
+            break
+        *lines, rest = (rest + chunk).split(b"\n")
+        rest = rest[-_LONGEST_LINE:]
+        for line in lines:
+            engine.obey(line.decode(errors="replace"), time.monotonic())
+            if engine.is_over:
+                break
+
+
+def _period(text: str) -> float:
+    seconds = float(text)
+    if not 0.1 <= seconds <= 3600:
+        raise ValueError
+    return seconds
+
+
+def main(arguments: list[str] | None = None) -> None:
+    """Runs the program `dgt-uci` with these arguments, or those of the process."""
+    parser = argparse.ArgumentParser(
+        prog="dgt-uci", description=__doc__, allow_abbrev=False,
+        formatter_class=argparse.RawDescriptionHelpFormatter)
+    parser.add_argument("port", nargs="?", default="",
+                        help="the board's serial port, such as /dev/ttyUSB0")
+    parser.add_argument("--period", type=_period, default=_PERIOD, metavar="SECONDS",
+                        help="how often the board is asked for all squares (%(default)s)")
+    words = parser.parse_args(arguments)
+    signal.signal(signal.SIGINT, signal.SIG_DFL)
+    engine = Engine(words.port, words.period)
+    try:
+        _serve(engine)
+    finally:
+        engine.close()
