@@ -420,10 +420,10 @@ def _serve(engine: Engine) -> None:
 
 
 def _period(text: str) -> float:
-    seconds = float(text)
-    if not 0.1 <= seconds <= 3600:
-        raise ValueError
-    return seconds
+    with contextlib.suppress(ValueError):
+        if 0.1 <= (seconds := float(text)) <= 3600:
+            return seconds
+    raise argparse.ArgumentTypeError(f"not 0.1 to 3600 seconds: {text!r}")
 
 
 def main(arguments: list[str] | None = None) -> None:
