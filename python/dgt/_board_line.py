@@ -20,7 +20,7 @@ class BoardLine(Following):
         """`OSError` if the port is a file that is no serial port."""
         self.dumps = 0
         """How many times the board has reported all squares."""
-        self.display = Display()
+        self.shown_move = Display()
         self._decoder = Decoder()
         super().__init__(port, period, wait_for_port=True)
 
@@ -31,7 +31,7 @@ class BoardLine(Following):
             if isinstance(event, Dump):
                 self.dumps += 1
             elif isinstance(event, Ack):
-                self.display.acknowledge(event)
+                self.shown_move.acknowledge(event)
             else:
                 continue
             is_news = True
@@ -40,7 +40,7 @@ class BoardLine(Following):
 
     def _look(self, is_first: bool = False) -> None:
         self._decoder.reset()
-        self.display.plug()
+        self.shown_move.plug()
         super()._look(is_first)
 
     def request_dump(self) -> None:
@@ -50,13 +50,13 @@ class BoardLine(Following):
 
     def tend_clock(self, now: float) -> float | None:
         """Sends the clock what is due, and returns when there will be something to send."""
-        if self.view.away is None and (message := self.display.take(now)):
+        if self.view.away is None and (message := self.shown_move.take(now)):
             self.write(self.follower.send_clock(*message))
-        return self.display.due
+        return self.shown_move.due
 
     def close(self) -> None:
         """As `Following.close`. The clock shows its times again."""
-        self.display.end()
-        if message := self.display.take(float("inf")):
+        self.shown_move.end()
+        if message := self.shown_move.take(float("inf")):
             self.write(self.follower.send_clock(*message))
         super().close()

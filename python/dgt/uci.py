@@ -249,7 +249,7 @@ class Engine:
         self._goes, self._is_held = True, not {"infinite", "ponder"}.isdisjoint(words)
         self._tell_times(words)
         if self._other and self._shows_moves and self.line is not None:
-            self.line.display.show(self._other)
+            self.line.shown_move.show(self._other)
         self.work(now)
 
     def _tell_times(self, words: list[str]) -> None:
@@ -295,7 +295,7 @@ class Engine:
         self._answered = legal.get(move)
         self._was_shown.clear()
         if self.line is not None:
-            self.line.display.end()
+            self.line.shown_move.end()
         self._say(f"bestmove {move}")
 
     # ---- The board
