@@ -1,9 +1,10 @@
 """Checks the calls of the package for Python that make commands for the clock: on a host, on a
-follower, and on a board that is followed. Their bytes are those of docs/PROTOCOL.md."""
+follower, and on a board that is followed. Their bytes are those of docs/PROTOCOL.md
+and docs/PROGRAM.md."""
 
 import pathlib
 
-PROTOCOL = pathlib.Path(__file__).resolve().parent.parent / "docs" / "PROTOCOL.md"
+DOCS = pathlib.Path(__file__).resolve().parent.parent / "docs"
 # The call, its arguments, and the bytes: the tables of clock messages, segments, commands by name
 # and lines of commands.
 ROWS = [
@@ -98,7 +99,7 @@ def check_rows(dgt):
         wanted(f"{call}, taken", board.take(sent), (len(sent), message))
         [answer] = dgt.Decoder().feed(b"".join(board.messages()))
         wanted(f"{call}, acknowledged", tuple(answer.ack[:2]), (0x10, sent[3]))
-    text = PROTOCOL.read_text()
+    text = "".join((DOCS / page).read_text() for page in ("PROTOCOL.md", "PROGRAM.md"))
     wanted("rows that are not shown", [row for row in SHOWN if f"| `{row}` |" not in text], [])
 
 

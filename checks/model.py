@@ -1,7 +1,7 @@
-"""docs/PROTOCOL.md once more, as plain as it can be said in Python: what `dgt monitor`, `dgt picture`, `dgt commands`,
+"""docs/PROTOCOL.md and docs/PROGRAM.md once more, as plain as it can be said in Python: what `dgt monitor`, `dgt picture`, `dgt commands`,
 `dgt ask`, `dgt board` and `dgt simulate` write.
 
-Written from that page, README.md and the program's help, and not from its sources, so that both can be held against each other:
+Written from these pages and the program's help, and not from its sources, so that both can be held against each other:
 checks/hostile does that. Squares are numbers, pieces their codes, a position is a list of 64 pieces. A clock is the seven bytes
 of its message's body, since each times or no-clock message has one spelling.
 """

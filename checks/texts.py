@@ -1,5 +1,5 @@
 """Checks the texts of events of the package for Python: they are those of `dgt monitor`, as the
-table of whole messages in docs/PROTOCOL.md has them."""
+table of whole messages in docs/PROGRAM.md has them."""
 
 import pathlib
 import re
@@ -7,7 +7,7 @@ import typing
 
 import model
 
-PROTOCOL = pathlib.Path(__file__).resolve().parent.parent / "docs" / "PROTOCOL.md"
+PROGRAM = pathlib.Path(__file__).resolve().parent.parent / "docs" / "PROGRAM.md"
 LINE = re.compile(r"`\d{8} ([^`]*)`")
 
 
@@ -16,8 +16,8 @@ class Wrong(Exception):
 
 
 def rows(section):
-    """The cells of each row of the table in a section of docs/PROTOCOL.md, but for its heading."""
-    _, _, text = PROTOCOL.read_text().partition(f"\n## {section}\n")
+    """The cells of each row of the table in a section of docs/PROGRAM.md, but for its heading."""
+    _, _, text = PROGRAM.read_text().partition(f"\n## {section}\n")
     lines = [line for line in text.partition("\n## ")[0].splitlines() if line.startswith("| ")]
     return [[cell.strip() for cell in line.strip("| ").split(" | ")] for line in lines[1:]]
 
