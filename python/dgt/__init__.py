@@ -56,6 +56,7 @@ from .moves import GameBegun, MoveEvent, MoveMade, MoveRecogniser, MoveTakenBack
 from .rules import START_FEN, GameState
 from .values import (LETTERS, SQUARES, Clock, NoClock, Position, Time, Times, piece_code, segment,
                      square_number)
+from .world import Outcome, World
 
 __version__ = "0.1.0"
 
@@ -66,7 +67,7 @@ __all__ = [
     "Event", "Fault", "Field", "Follower", "Following", "GameBegun", "GameState", "Host",
     "Identity", "IllegalMove", "LETTERS", "Leds", "LongSerial", "Message", "Mode", "MoveEvent",
     "MoveMade", "MoveRecogniser", "MoveTakenBack", "Nested", "NoClock", "NoSuchCommand", "Other",
-    "Position", "Refused", "SQUARES", "START_FEN", "Serial", "SerialLine", "Stray", "StrayByte",
-    "Time", "Times", "TooManyAwaited", "Trademark", "Version", "Word", "follow", "follow_async",
-    "piece_code", "segment", "square_number",
+    "Outcome", "Position", "Refused", "SQUARES", "START_FEN", "Serial", "SerialLine", "Stray",
+    "StrayByte", "Time", "Times", "TooManyAwaited", "Trademark", "Version", "Word", "World",
+    "follow", "follow_async", "piece_code", "segment", "square_number",
 ]

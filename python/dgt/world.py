@@ -1,0 +1,236 @@
+"""A board and a host joined by two lines of bytes, to test a program without any line."""
+
+from __future__ import annotations
+
+from collections.abc import Callable
+from enum import StrEnum
+from typing import Any
+
+from ._handle import Bytes, readable, writable
+from ._library import MAX_SENT, MAX_WORD, dgt
+from .board import Board, Identity
+from .commands import Ask, Asked, ClockMessage, Command, Leds
+from .errors import BadValue, Busy, NoSuchCommand
+from .host import Host
+from .values import Clock, Position, byte, number
+
+_SENT, _TOO_MANY, _NO_ROOM, _NO_COMMAND = range(4)
+_NOTHING, _WROTE, _NEED_ROOM = range(3)
+_RESTART = 257
+_MOST = 65535
+
+
+class Outcome(StrEnum):
+    """What came of an act. One that is not `DONE` changed nothing."""
+
+    DONE = "done"
+    NOTHING = "nothing"
+    NO_ROOM = "noroom"
+    BUSY = "busy"
+    TOO_MANY = "toomany"
+
+
+_SENDING = {_SENT: Outcome.DONE, _TOO_MANY: Outcome.TOO_MANY, _NO_ROOM: Outcome.NO_ROOM}
+_POLLING = {_NOTHING: Outcome.NOTHING, _WROTE: Outcome.DONE, _NEED_ROOM: Outcome.NO_ROOM}
+
+
+class World:
+    """A board and a host, with a line of bytes each way between them. Nothing moves by itself: each
+    call is one act, and returns its `Outcome`. The lines hold as many bytes as `up` (from the
+    board, at least 67) and `down` (from the host, at least 257) say.
+
+    >>> world = World()
+    >>> for ask in Ask.UPDATE_BOARD, Ask.DUMP:
+    ...     outcome = world.host_sends(ask)
+    >>> world.to_board(2), world.board_sends(), world.to_host(30)
+    (<Outcome.DONE: 'done'>, <Outcome.DONE: 'done'>, <Outcome.DONE: 'done'>)
+    >>> world.change("e2", ".")             # while the dump is under way
+    <Outcome.DONE: 'done'>
+    >>> world.settle(), world.quiet
+    (3, True)
+    >>> print(world.host.picture)
+    rnbqkbnr/pppppppp/8/8/8/8/PPPP1PPP/RNBQKBNR
+    """
+
+    def __init__(self, position: Position | None = None, clock: Clock | None = None,
+                 identity: Identity | None = None, *, up: int = 1024, down: int = 1024) -> None:
+        for name, room, least in (("up", up, MAX_SENT), ("down", down, MAX_WORD)):
+            if number(room, _MOST, name) < least:
+                raise BadValue(f"{name} must be a number from {least} to {_MOST}: {room!r}")
+        self._board, self._host = Board(position, clock, identity), Host()
+        self._up_room, self._down_room = up, down
+        self._up, self._down = bytearray(), bytearray()
+        self._partial = 0  # bytes that the board holds of an unfinished command
+        self._out, self._out_at = writable(MAX_WORD)
+
+    @property
+    def board(self) -> Board:
+        """The board, to look at. To act on it, use the calls of the world."""
+        return self._board
+
+    @property
+    def host(self) -> Host:
+        """The host, to look at. To act on it, use the calls of the world."""
+        return self._host
+
+    @property
+    def up(self) -> bytes:
+        """The bytes that are under way to the host."""
+        return bytes(self._up)
+
+    @property
+    def down(self) -> bytes:
+        """The bytes that are under way to the board."""
+        return bytes(self._down)
+
+    @property
+    def quiet(self) -> bool:
+        """Whether nothing is under way: both lines are empty, neither side holds a part of a
+        message or command, and the board has nothing to send."""
+        held = self._up or self._down or self._partial or self._host.unread
+        return not held and not self._board.owes
+
+    # ---- What happens on the board, and what both sides send
+
+    def change(self, square: str, piece: str) -> Outcome:
+        """Puts the piece with this letter on a square of the board. A dot empties the square."""
+        self._board.change(square, piece)
+        return Outcome.DONE
+
+    def hand_clock(self, clock: Clock) -> Outcome:
+        """Sets what the board's clock shows."""
+        self._board.hand_clock(clock)
+        return Outcome.DONE
+
+    def host_sends(self, command: Ask | Command) -> Outcome:
+        """The host sends a command. `TOO_MANY` if it asks for a reply and 16 are awaited already,
+        `NO_ROOM` if the line has no room for all its bytes. `NoSuchCommand` if it is none of
+        `Ask`, or has more bytes than a command may have."""
+        if isinstance(command, ClockMessage):
+            held, address = readable(command.payload)
+            id = byte(command.id, "an id")
+            return self._sent(dgt.dgt_host_send_clock, id, address, len(held))
+        if isinstance(command, Leds):
+            held, address = readable(command.leds)
+            return self._sent(dgt.dgt_host_send_leds, address, len(held))
+        ask = command.ask if isinstance(command, Asked) else command
+        return self._sent(dgt.dgt_host_send, byte(ask, "a command"))
+
+    def _sent(self, send: Callable[..., Any], *what: int) -> Outcome:
+        room = min(self._down_room - len(self._down), len(self._out))
+        sent = self._host._call(send, *what, self._out_at, room)
+        if sent.status == _NO_COMMAND:
+            raise NoSuchCommand("there is no such command")
+        self._down += self._out[:sent.bytes] if sent.status == _SENT else b""
+        return _SENDING[sent.status]
+
+    def board_sends(self) -> Outcome:
+        """The board sends its next message. `NOTHING` if it has none, `NO_ROOM` if the line has no
+        room for all its bytes."""
+        room = min(self._up_room - len(self._up), len(self._out))
+        polled = self._board._call(dgt.dgt_board_poll, self._out_at, room)
+        self._up += self._out[:polled.bytes] if polled.status == _WROTE else b""
+        return _POLLING[polled.status]
+
+    # ---- What the lines deliver
+
+    def to_board(self, count: int) -> Outcome:
+        """The board takes up to `count` bytes from the line, and stops when it owes eight replies.
+        `NOTHING` if there is no byte to take, `BUSY` if it owes eight replies already."""
+        left = min(number(count, _MOST, "count"), len(self._down))
+        if left == 0:
+            return Outcome.NOTHING
+        if self._is_busy():
+            return Outcome.BUSY
+        while left and not self._is_busy():
+            used, word = self._board.take(self._down[:left])
+            del self._down[:used]
+            left -= used
+            self._partial = 0 if word is not None else self._partial + used
+        return Outcome.DONE
+
+    def _is_busy(self) -> bool:
+        try:
+            self._board.take(b"")
+        except Busy:
+            return True
+        return False
+
+    def to_host(self, count: int) -> Outcome:
+        """The host hears up to `count` bytes from the line. `NOTHING` if there is none."""
+        heard = bytes(self._up[:number(count, _MOST, "count")])
+        if not heard:
+            return Outcome.NOTHING
+        del self._up[:len(heard)]
+        self._host.hear(heard)
+        return Outcome.DONE
+
+    def settle(self) -> int:
+        """Delivers what is under way and has the board send what it has to send, until there is
+        nothing more. Returns the number of acts."""
+        acts = 0
+        while True:
+            if self._up:
+                self.to_host(_MOST)
+            elif self._board.owes:
+                self.board_sends()
+            elif self._down:
+                self.to_board(_MOST)
+            else:
+                return acts
+            acts += 1
+
+    # ---- Breaks and faults
+
+    def both_disconnect(self) -> Outcome:
+        """Both sides see the line break: all bytes on it are lost, and both are as after
+        `line_lost`."""
+        self._up.clear()
+        self._down.clear()
+        self._host.line_lost()
+        self._board_forgets()
+        return Outcome.DONE
+
+    def host_disconnects(self) -> Outcome:
+        """Only the host sees the line break: all bytes on it are lost, the host is as after
+        `line_lost`, and then sends what `restart` returns."""
+        self._up.clear()
+        self._host.line_lost()
+        self._down[:] = self._host.restart()
+        return Outcome.DONE
+
+    def garble_up(self, chunk: Bytes) -> Outcome:
+        """The line to the host loses its bytes and has these instead. `NO_ROOM` if they are too
+        many."""
+        return self._garbled(self._up, self._up_room, chunk)
+
+    def garble_down(self, chunk: Bytes) -> Outcome:
+        """The line to the board loses its bytes and has these instead. `NO_ROOM` if they are too
+        many."""
+        return self._garbled(self._down, self._down_room, chunk)
+
+    def _garbled(self, line: bytearray, room: int, chunk: Bytes) -> Outcome:
+        held, _ = readable(chunk)
+        if len(held) > room:
+            return Outcome.NO_ROOM
+        line[:] = held
+        return Outcome.DONE
+
+    def board_loses_power(self) -> Outcome:
+        """The board loses its power and gets it back: it is as after `line_lost`. The lines keep
+        their bytes."""
+        self._board_forgets()
+        return Outcome.DONE
+
+    def host_restarts(self) -> Outcome:
+        """The host gives up the replies that it awaits, and sends what `restart` returns. `NO_ROOM`
+        if the line has no room for its 257 bytes."""
+        if self._down_room - len(self._down) < _RESTART:
+            return Outcome.NO_ROOM
+        self._host.give_up_awaited()
+        self._down += self._host.restart()
+        return Outcome.DONE
+
+    def _board_forgets(self) -> None:
+        self._board.line_lost()
+        self._partial = 0
