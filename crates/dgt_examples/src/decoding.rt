@@ -2,7 +2,7 @@ use dgt_decode::{Decoder, Event, Listener};
 use dgt_message::Message;
 use dgt_values::{Piece, Square};
 
-/// The square that a board told last, and the piece on it.
+/// The square that a board reported last, and the piece on it.
 #[derive(Drop)]
 pub struct Last(pub Option<(Square, Piece)>);
 
@@ -18,7 +18,7 @@ impl Listener for Last {
     }
 }
 
-/// What the bytes of a board tell last of a square, whatever pieces they come in.
+/// What the bytes of a board report last of a square, in chunks of any length.
 pub fn last_field(pieces: &[&[u8]]) -> Option<(Square, Piece)> {
     let mut decoder = Decoder::new();
     let mut last = Last(None);

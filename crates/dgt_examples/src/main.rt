@@ -1,5 +1,5 @@
-//! What a program does with the libraries. README.md shows these files, and `checks/readme` finds
-//! each block of Rust of that page in one of them.
+//! What a program does with the libraries. README.md and docs/USING.md show these files, and
+//! `checks/readme` finds each of their blocks of Rust in one of them.
 //!
 //! The program itself, `pictures`, shows where the pieces stand after each change that the board on
 //! standard input reports. Beside it: following a board over a source and a sink, asking it again
