@@ -4,9 +4,11 @@ at the end, are those of `dgt simulate --faults` for the same acts."""
 import random
 import subprocess
 
-SCRIPTS, ACTS, SEED = 300, 60, 14
+SCRIPTS, ACTS, SEED = 150, 60, 14
 SQUARES = [f"{file}{rank}" for rank in "87654321" for file in "abcdefgh"]
 LETTERS = ".PRNBKQprnbkqXYZ"
+# How often each act comes: in most scripts, and in those of a host that asks more than is answered.
+WEIGHTS = ((14, 3, 20, 20, 14, 14, 1, 1, 4), (4, 1, 50, 1, 10, 2, 0, 0, 0))
 ASKS = (0x40, 0x41, 0x42, 0x43, 0x44, 0x45, 0x47, 0x4B, 0x4C, 0x4D, 0x55)
 # Whole messages and parts of them, and parts of commands.
 GARBAGE = ("8e000534", "860043080909", "8e00052401", "8e000534008e000540", "05", "2b04", "60ff4242",
@@ -48,9 +50,9 @@ def any_clock(dgt, chance):
     return dgt.Times(*(dgt.Time(*side) for side in sides), 0x11), bytes([*digits, 0x11])
 
 
-def any_act(dgt, world, chance):
+def any_act(dgt, world, chance, weights):
     """The line of an act, and the call that does it."""
-    kind = chance.choices(range(9), (14, 3, 20, 20, 14, 14, 1, 1, 4))[0]
+    kind = chance.choices(range(9), weights)[0]
     if kind == 0:
         square, letter = chance.choice(SQUARES), chance.choice(LETTERS)
         return f"change {square} {letter}", lambda: world.change(square, letter)
@@ -82,7 +84,7 @@ def any_fault(world, chance):
         return word, world.board_loses_power
     if word == "restart":
         return word, world.host_restarts
-    data = bytes.fromhex(chance.choice(("", *GARBAGE, 120 * "8e")))
+    data = bytes.fromhex(chance.choice(("", *GARBAGE, 67 * "8e", 68 * "05", 120 * "8e")))
     return f"{word} {data.hex() or '-'}", lambda: call(data)
 
 
@@ -102,8 +104,9 @@ def check_script(dgt, program, chance):
     """One script, by the package and by the program."""
     up, down = chance.choice((67, 68, 150, 1024)), chance.choice((257, 258, 600, 1024))
     world, lines, outcomes = dgt.World(up=up, down=down), [], []
+    weights = chance.choice(WEIGHTS)
     for _ in range(ACTS):
-        line, act = any_act(dgt, world, chance)
+        line, act = any_act(dgt, world, chance, weights)
         before = closing(world), world.up, world.down
         outcomes.append(str(act()))
         lines.append(line)
