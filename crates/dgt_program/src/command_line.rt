@@ -14,7 +14,7 @@ use std::io;
 /// What the command line asks for.
 #[derive(Drop)]
 pub enum Task<'a> {
-    /// Print this text of help.
+    /// Print this text: help, or the version.
     Help(clap::Error),
     /// Show what the bytes of this hexadecimal word make known.
     Show {
@@ -46,6 +46,9 @@ pub enum Task<'a> {
         faults: bool,
     },
 }
+
+/// What `--version` prints, after the name.
+const VERSION: &str = "1.0.0";
 
 /// The placement in which a game begins.
 const START: &str = "rnbqkbnr/pppppppp/8/8/8/8/PPPPPPPP/RNBQKBNR";
@@ -155,6 +158,7 @@ fn simulate<'a>(alloc: Global) -> Result<Command<'a>, AllocError> {
 
 fn command<'a>(alloc: Global) -> Result<Command<'a>, AllocError> {
     Command::new(alloc, "dgt")
+        .version(VERSION)
         .about("Shows what a DGT electronic chess board says, and stands in for one")
         .after_help(PROGRAM_NOTES)
         .subcommand_required(true)
@@ -181,10 +185,10 @@ pub fn read<'a>(alloc: Global, words: &'a [String]) -> Result<Task<'a>, Fault> {
     }
 }
 
-// A plea for help is a task, and any other error of clap a fault.
+// A request for help or for the version is a task, and any other error of clap a fault.
 fn unmatched<'a>(error: clap::Error) -> Result<Task<'a>, Fault> {
     match error.kind() {
-        ErrorKind::DisplayHelp => Ok(Task::Help(error)),
+        ErrorKind::DisplayHelp | ErrorKind::DisplayVersion => Ok(Task::Help(error)),
         ErrorKind::OutOfMemory => Err(Fault::OutOfMemory),
         _ => Err(Fault::CommandLine(error)),
     }

@@ -22,7 +22,8 @@ Commands:
   help      Print this message or the help of the given subcommand(s)
 
 Options:
-  -h, --help  Print help
+  -h, --help     Print help
+  -V, --version  Print version
 
 ";
 
@@ -120,6 +121,8 @@ fn shows_help(rt: HostRuntime) -> Result<(), Fail> {
     let rows = [
         ("dgt --help", PROGRAM, PROGRAM_NOTES),
         ("dgt help", PROGRAM, PROGRAM_NOTES),
+        ("dgt --version", "dgt 1.0.0", ""),
+        ("dgt -V", "dgt 1.0.0", ""),
         ("dgt show --help", SHOW, SHOW_NOTES),
         ("dgt monitor --help", MONITOR, MONITOR_NOTES),
         ("dgt picture --help", PICTURE, PICTURE_NOTES),
