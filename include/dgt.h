@@ -45,6 +45,18 @@
  * PLATFORM: Linux on x86-64 processors, with pointers of 64 bits (not x32). lib/build compiles the
  * library for any x86-64 processor, also the first ones. Elsewhere sizes and calls would differ.
  *
+ * VERSIONS. DGT_VERSION is the version of this header. The shared library's soname has its first
+ * number: libdgt.so.1. A program that was compiled with this header runs with each library of this
+ * soname that isn't older. Among all versions with one soname
+ *
+ *  - each call keeps its name, its parameters and what it is said to do here;
+ *  - each struct and each handle keeps its size, its alignment and its members;
+ *  - each constant keeps its number, and no call returns a number that isn't listed here for it.
+ *
+ * What may grow are the calls, the constants and the structs that come with new calls: then the
+ * second number grows. The third one grows with a correction. Whatever breaks one of these rules
+ * has another first number, and so another soname.
+ *
  * Squares are numbered rank by rank from 8 down: a8 is 0, b8 is 1, h8 is 7, a7 is 8 and h1 is 63.
  * Pieces are numbered as on the line: 0 is none; 1 to 6 white and 7 to 12 black pawn, rook, knight,
  * bishop, king and queen; 13 to 15 are three extra pieces without a meaning.
@@ -59,6 +71,14 @@
 #ifdef __cplusplus
 extern "C" {
 #endif
+
+/* ---- The version of this header, by which conditions can be compiled. */
+
+#define DGT_VERSION_MAJOR 1
+#define DGT_VERSION_MINOR 0
+#define DGT_VERSION_PATCH 0
+#define DGT_VERSION \
+    (DGT_VERSION_MAJOR * 1000000 + DGT_VERSION_MINOR * 1000 + DGT_VERSION_PATCH)
 
 /* ---- Limits. */
 
