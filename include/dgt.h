@@ -131,7 +131,7 @@ typedef struct dgt_board {
 
 /* ---- What a clock tells. */
 
-/* The time of one player. */
+/* The time of one side of a clock. */
 typedef struct dgt_time {
     uint8_t hours;   /* 0 to 9 */
     uint8_t minutes; /* 0 to 59 */
@@ -142,7 +142,7 @@ typedef struct dgt_time {
 /* dgt_clock.kind */
 enum {
     DGT_CLOCK_UNKNOWN = 0, /* nothing was told: all else is 0 */
-    DGT_CLOCK_TIMES = 1,   /* the times of both players, and the status; raw is 0 */
+    DGT_CLOCK_TIMES = 1,   /* the times of both sides, and the status; raw is 0 */
     DGT_CLOCK_NONE = 2     /* no clock is connected: raw and the status; the times are 0 */
 };
 
@@ -156,7 +156,9 @@ enum {
     DGT_STATUS_ABSENT = 0x20 /* set where the kind is DGT_CLOCK_NONE, and only there */
 };
 
-/* Where it is handed in, members that its kind doesn't set are not looked at. */
+/* A report of a clock. `first` and `second` are the clock's two sides, in the order of the message.
+ * They say nothing of colours. If it is handed in, members that its kind doesn't set are not looked
+ * at. */
 typedef struct dgt_clock {
     uint8_t kind;
     uint8_t status; /* 0 to 127 */
