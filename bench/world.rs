@@ -1,5 +1,5 @@
-//! Times the deliveries of a world, the squares that differ and the polls of a board: the last two beside a scan of the
-//! squares, proved too.
+//! Times the deliveries of a world, the squares that differ and the polls of a board: the last two
+//! beside a scan of the squares, proved too.
 use super::{garbage, timed};
 
 // A parameter of the type `Global` takes no place.
@@ -22,8 +22,8 @@ const DUMP: u64 = 67;
 /// So many replies does a host await.
 const MOST_DUMPS: u64 = 16;
 
-/// One `ToHost(65535)` delivers all dumps that a line takes. A line is emptied in no other way, so the time of filling is
-/// taken over new worlds, and the time of making those is subtracted.
+/// One `ToHost(65535)` delivers all dumps that a line takes. A line is emptied in no other way, so
+/// the time of filling is taken over new worlds, and the time of making those is subtracted.
 fn deliver(capacity: usize) {
     let dumps = MOST_DUMPS.min(capacity as u64 / DUMP);
     let bytes = dumps * DUMP;
@@ -36,8 +36,9 @@ fn deliver(capacity: usize) {
     let made = each(timed(|| unsafe { dgt_bench_fill(capacity, 0, ROUNDS) }), 0);
     let fill = filled - made;
     println!(
-        "deliver by one ToHost(65535), {dumps} dumps ({bytes} bytes) in a line of {capacity}: {:.2} ns a byte \
-         (filling and delivering one world over and over {both:.2} ns, less filling new worlds {fill:.2} ns)",
+        "deliver by one ToHost(65535), {dumps} dumps ({bytes} bytes) in a line of {capacity}: \
+         {:.2} ns a byte (filling and delivering one world over and over {both:.2} ns, less \
+         filling new worlds {fill:.2} ns)",
         both - fill,
     );
 }
@@ -58,8 +59,8 @@ fn print_scan(name: &str, lanes: f64, scan: f64, turns: u64) {
     );
 }
 
-/// Polls of boards on which one square changed a while ago: 64 boards are changed, and then all are polled. The time of
-/// the same changes with no poll is subtracted.
+/// Polls of boards on which one square changed a while ago: 64 boards are changed, and then all are
+/// polled. The time of the same changes with no poll is subtracted.
 fn poll_later(squares: &[u8]) {
     let lanes =
         |poll| timed(|| unsafe { dgt_bench_poll_later(squares.as_ptr(), squares.len(), poll) });

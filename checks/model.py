@@ -1,9 +1,10 @@
-"""docs/PROTOCOL.md and docs/PROGRAM.md once more, as plain as it can be said in Python: what `dgt monitor`, `dgt picture`, `dgt commands`,
-`dgt ask`, `dgt board` and `dgt simulate` write.
+"""docs/PROTOCOL.md and docs/PROGRAM.md once more, as plain as it can be said in Python: what `dgt
+monitor`, `dgt picture`, `dgt commands`, `dgt ask`, `dgt board` and `dgt simulate` write.
 
-Written from these pages and the program's help, and not from its sources, so that both can be held against each other:
-checks/hostile does that. Squares are numbers, pieces their codes, a position is a list of 64 pieces. A clock is the seven bytes
-of its message's body, since each times or no-clock message has one spelling.
+Written from these pages and the program's help, and not from its sources, so that both can
+be held against each other: checks/hostile does that. Squares are numbers, pieces their codes, a
+position is a list of 64 pieces. A clock is the seven bytes of its message's body, since each times
+or no-clock message has one spelling.
 """
 
 import re
@@ -12,11 +13,29 @@ LETTERS = ".PRNBKQprnbkqXYZ"
 START = "rnbqkbnr/pppppppp/8/8/8/8/PPPPPPPP/RNBQKBNR"
 
 # Codes of messages, and the size of the body where a code has but one.
-DUMP, CLOCK, FIELD, SERIAL, TRADEMARK, VERSION, BATTERY, LONG_SERIAL = 0x06, 0x0D, 0x0E, 0x11, 0x12, 0x13, 0x20, 0x22
+DUMP, CLOCK, FIELD, SERIAL, TRADEMARK, VERSION, BATTERY, LONG_SERIAL = (
+    0x06,
+    0x0D,
+    0x0E,
+    0x11,
+    0x12,
+    0x13,
+    0x20,
+    0x22,
+)
 SIZES = {DUMP: 64, CLOCK: 7, FIELD: 2, SERIAL: 5, VERSION: 2}
 
-# The commands of one byte: those that ask for a message, with its code, and those that set the mode.
-REPLIES = {0x41: CLOCK, 0x42: DUMP, 0x45: SERIAL, 0x47: TRADEMARK, 0x4C: BATTERY, 0x4D: VERSION, 0x55: LONG_SERIAL}
+# The commands of one byte: those that ask for a message, with its code, and those that set the
+# mode.
+REPLIES = {
+    0x41: CLOCK,
+    0x42: DUMP,
+    0x45: SERIAL,
+    0x47: TRADEMARK,
+    0x4C: BATTERY,
+    0x4D: VERSION,
+    0x55: LONG_SERIAL,
+}
 IDLE, UPDATE, UPDATE_BOARD, UPDATE_NICE = MODES = 0x40, 0x43, 0x44, 0x4B
 # The first bytes of the commands of several bytes.
 CLOCK_MESSAGE, LIGHTS = 0x2B, 0x60
@@ -24,7 +43,13 @@ CLOCK_VERSION_ID = 0x09
 
 # What the program's board is.
 FIRST_CLOCK = bytes(7)
-BODIES = {SERIAL: b"00001", TRADEMARK: b"SIMULATED BOARD", VERSION: bytes([1, 3]), BATTERY: b"\x64", LONG_SERIAL: b"0000000001"}
+BODIES = {
+    SERIAL: b"00001",
+    TRADEMARK: b"SIMULATED BOARD",
+    VERSION: bytes([1, 3]),
+    BATTERY: b"\x64",
+    LONG_SERIAL: b"0000000001",
+}
 CLOCK_VERSION = 0x14
 MOST_OWED = 8
 MOST_AWAITED = 16
@@ -43,7 +68,8 @@ def placement(position):
 
 
 def read_placement(text):
-    """The position and None, or None and the offset of the first byte with which the text begins no placement."""
+    """The position and None, or None and the offset of the first byte with which the text begins no
+    placement."""
     position = []
     rank = 1  # how many have been begun
     for offset, letter in enumerate(text):
@@ -60,7 +86,8 @@ def read_placement(text):
 
 
 def spell(code, body):
-    """The bytes of a message: its head, with the total in two halves of seven bits, and its body."""
+    """The bytes of a message: its head, with the total in two halves of seven bits, and its
+    body."""
     total = 3 + len(body)
     return bytes([0x80 | code, total >> 7, total & 0x7F, *body])
 
@@ -75,14 +102,16 @@ def is_acknowledgement(body):
 
 
 def acknowledgement(ack0, ack1, ack2, ack3):
-    """The body of an acknowledgement with status 00: b3 and b6 hold the mark, and the top bits of the four bytes."""
+    """The body of an acknowledgement with status 00: b3 and b6 hold the mark, and the top bits of
+    the four bytes."""
     b3 = 0x0A | (ack2 & 0x80) >> 3 | (ack3 & 0x80) >> 2
     b6 = 0x0A | (ack0 & 0x80) >> 3 | (ack1 & 0x80) >> 2
     return bytes([b3, ack0 & 0x7F, ack1 & 0x7F, b6, ack2 & 0x7F, ack3 & 0x7F, 0x00])
 
 
 def clock_text(body):
-    """The tests are made in this order: an acknowledgement, no clock, a bad digit. Else these are times."""
+    """The tests are made in this order: an acknowledgement, no clock, a bad digit. Else these are
+    times."""
     b3, b4, b5, b6, b7, b8, status = body
     if is_acknowledgement(body):
         ack0, ack1 = b4 | b6 << 3 & 0x80, b5 | b6 << 2 & 0x80
@@ -118,7 +147,8 @@ def field_text(body):
 
 
 def message_text(code, body):
-    """The text of a whole message, or of its refusal: for its size, or for the first byte that its place doesn't allow."""
+    """The text of a whole message, or of its refusal: for its size, or for the first byte that its
+    place doesn't allow."""
     if code in SIZES and len(body) != SIZES[code]:
         return f"refused {code:02x} wrongsize"
     if code in (DUMP, CLOCK, FIELD):
@@ -126,7 +156,12 @@ def message_text(code, body):
         return f"refused {code:02x} {text}" if text.startswith("bad") else text
     if code == VERSION:
         return f"version {body[0]}.{body[1]}"
-    names = {SERIAL: "serial", TRADEMARK: "trademark", BATTERY: "battery", LONG_SERIAL: "longserial"}
+    names = {
+        SERIAL: "serial",
+        TRADEMARK: "trademark",
+        BATTERY: "battery",
+        LONG_SERIAL: "longserial",
+    }
     return f"{names.get(code, f'other {code:02x}')} {hexadecimal(body)}"
 
 
@@ -213,7 +248,14 @@ def word_kind(word):
 
 
 # The words for commands, and for clock messages that carry nothing, by their ids.
-NAMES = {0x40: "reset", 0x41: "clock", 0x42: "dump", 0x43: "update", 0x44: "updateboard", 0x4B: "updatenice"}
+NAMES = {
+    0x40: "reset",
+    0x41: "clock",
+    0x42: "dump",
+    0x43: "update",
+    0x44: "updateboard",
+    0x4B: "updatenice",
+}
 NAMES |= {0x45: "serial", 0x47: "trademark", 0x4C: "battery", 0x4D: "version", 0x55: "longserial"}
 EMPTY = {0x03: "end", 0x08: "button", 0x09: "clockversion"}
 SEGMENTS = dict(zip(bytes.fromhex("3f065b4f666d7d077f6f0040"), "0123456789 -"))
@@ -372,7 +414,8 @@ class CommandReader:
         self.unfinished = bytearray()
 
     def take(self, byte):
-        """The command that this byte completes, or None. A word that is no command is passed over."""
+        """The command that this byte completes, or None. A word that is no command is passed
+        over."""
         self.unfinished.append(byte)
         kind = word_kind(self.unfinished)
         if kind is None:
@@ -398,7 +441,9 @@ class Board:
 
     def hand_clock(self, clock):
         self.clock = clock
-        self.owes_times = self.mode == UPDATE or self.mode == UPDATE_NICE and self.told_clock != clock
+        self.owes_times = (
+            self.mode == UPDATE or self.mode == UPDATE_NICE and self.told_clock != clock
+        )
 
     def line_lost(self):
         self.mode = IDLE
@@ -426,9 +471,14 @@ class Board:
         return spell(code, BODIES.get(code) or {DUMP: self.squares, CLOCK: self.clock}[code])
 
     def next_message(self):
-        """The message that is to be sent first, or None: owed replies, then fields, then the clock."""
+        """The message that is to be sent first, or None: owed replies, then fields, then the
+        clock."""
         if self.owed:
-            return spell(CLOCK, self.owed[0]) if isinstance(self.owed[0], bytes) else self.form(self.owed[0])
+            return (
+                spell(CLOCK, self.owed[0])
+                if isinstance(self.owed[0], bytes)
+                else self.form(self.owed[0])
+            )
         if self.mode != IDLE:
             for square in range(64):
                 if self.squares[square] != self.told_squares[square]:
@@ -481,7 +531,8 @@ class Host:
 
 
 class World:
-    """A board and a host, with a line each way. Each act gives its outcome; what isn't done changes nothing."""
+    """A board and a host, with a line each way. Each act gives its outcome; what isn't done changes
+    nothing."""
 
     def __init__(self, squares, up_room, down_room):
         self.board, self.host = Board(squares), Host()
@@ -577,7 +628,9 @@ class World:
         return "done"
 
     def is_quiet(self):
-        unread = self.up or self.down or self.host.decoder.unfinished or self.board.reader.unfinished
+        unread = (
+            self.up or self.down or self.host.decoder.unfinished or self.board.reader.unfinished
+        )
         return not unread and self.board.next_message() is None
 
     def closing_lines(self):
@@ -585,14 +638,20 @@ class World:
         picture = placement(host.picture) if host.picture else "unknown"
         clock = clock_text(host.clock) if host.clock else "unknown"
         quiet = "yes" if self.is_quiet() else "no"
-        return f"board {placement(self.board.squares)}\nhost {picture}\nhostclock {clock}\nquiet {quiet}\n"
+        board = placement(self.board.squares)
+        return f"board {board}\nhost {picture}\nhostclock {clock}\nquiet {quiet}\n"
 
 
-# How the words of a script's line are read. Each gives what the word means, or None where it isn't allowed.
+# How the words of a script's line are read. Each gives what the word means, or None where it isn't
+# allowed.
 
 
 def read_square(word):
-    return 8 * (ord("8") - word[1]) + word[0] - ord("a") if re.fullmatch(rb"[a-h][1-8]", word) else None
+    return (
+        8 * (ord("8") - word[1]) + word[0] - ord("a")
+        if re.fullmatch(rb"[a-h][1-8]", word)
+        else None
+    )
 
 
 def read_letter(word):
@@ -646,7 +705,8 @@ FAULTS = {
 
 
 def read_line(line, acts):
-    """The act of a script's line, its arguments and None; or None twice, and the offset where the line goes bad."""
+    """The act of a script's line, its arguments and None; or None twice, and the offset where the
+    line goes bad."""
     if len(line) > LONGEST_LINE:
         return None, None, LONGEST_LINE
     name, *words = line.split(b" ")
@@ -664,7 +724,8 @@ def read_line(line, acts):
 
 
 def simulate(script, squares, up_room, down_room, has_faults):
-    """What `dgt simulate` gives, with --faults or without: its status, standard output and standard error."""
+    """What `dgt simulate` gives, with --faults or without: its status, standard output and standard
+    error."""
     world, output = World(squares, up_room, down_room), ""
     acts = ACTS | FAULTS if has_faults else ACTS
     lines = script.split(b"\n")

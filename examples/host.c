@@ -117,8 +117,8 @@ static void hear(board *board, const uint8_t *chunk, size_t n) {
     static uint8_t body[DGT_MAX_BODY];
     dgt_event event;
     for (size_t at = 0, used; at < n; at += used) {
-        used = dgt_follower_hear(&board->follower, now(), chunk + at, n - at);
-        dgt_decoder_feed(&board->decoder, chunk + at, used, &event, body, sizeof body);
+        used = dgt_decoder_feed(&board->decoder, chunk + at, n - at, &event, body, sizeof body);
+        dgt_follower_hear_all(&board->follower, now(), chunk + at, used);
         if (event.kind == DGT_EVENT_TRADEMARK)
             fprintf(stderr, "board: %.*s\n", (int)event.body_len, (const char *)body);
         show(board);

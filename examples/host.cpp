@@ -86,8 +86,9 @@ public:
         for (std::size_t at = 0, used; at < n; at += used) {
             Heard heard{};
             dgt_event &event = heard.event;
-            used = dgt_follower_hear(&follower_, std::uint64_t(now.count()), bytes + at, n - at);
-            dgt_decoder_feed(&decoder_, bytes + at, used, &event, body_.data(), body_.size());
+            used = dgt_decoder_feed(&decoder_, bytes + at, n - at, &event, body_.data(),
+                                    body_.size());
+            dgt_follower_hear_all(&follower_, std::uint64_t(now.count()), bytes + at, used);
             if (event.kind == DGT_EVENT_NONE) continue;
             heard.body.assign(body_.data(), body_.data() + event.body_len);
             tell(heard);

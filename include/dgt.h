@@ -13,7 +13,7 @@
  *     for (;;) {
  *         dgt_sent asked = dgt_follower_ask(&follower, now(), out, sizeof out);
  *         write(line, out, asked.bytes);            // 0 bytes if it is not due
- *         dgt_follower_due_at(&follower, &due);     // true with such a period
+ *         if (!dgt_follower_due_at(&follower, &due)) return 1; // not with such a period
  *         ...                                       // wait for bytes until `due`, and read n
  *         dgt_follower_hear_all(&follower, now(), chunk, n);
  *     }
@@ -22,12 +22,13 @@
  *
  * THE LIBRARY IS PROVED; WHAT FOLLOWS IS YOUR PART. Where you keep it, no call reads or writes
  * outside the memory that it is given, fails to return, or does other than is said here, whatever
- * the bytes are. Where you don't, nothing is promised, and nothing is tested when the program runs.
+ * the bytes are. Where you don't, nothing is promised. Unless NDEBUG is defined, each call asserts
+ * that its handle stands where it was made. Nothing tests the rest when the program runs.
  *
- *  - No pointer is null, also where its length is 0 (pass any address then), and each is aligned as
- *    its type is. A length is at most 2^63 - 1, and so many bytes may be read or written there: of
- *    an array of events, `capacity` times sizeof(dgt_event). An array parameter has its stated
- *    length. What a call reads is initialised.
+ *  - A pointer whose length is the next parameter may be NULL if that length is 0, in each call. No
+ *    other pointer is null. Each is aligned as its type is. A length is at most 2^63 - 1, and so
+ *    many bytes may be read or written there: of an array of events, `capacity` times
+ *    sizeof(dgt_event). An array parameter has its stated length. What a call reads is initialised.
  *  - A handle is a dgt_host, a dgt_follower, a dgt_decoder, a dgt_command_decoder or a dgt_board.
  *    It is made by its _new or its _init before any other call. Afterwards it is not copied and not
  *    moved, neither by assignment nor by memcpy or realloc: it points into itself. Don't touch its
@@ -45,6 +46,18 @@
  * PLATFORM: Linux on x86-64 processors, with pointers of 64 bits (not x32). lib/build compiles the
  * library for any x86-64 processor, also the first ones. Elsewhere sizes and calls would differ.
  *
+ * VERSIONS. DGT_VERSION is the version of this header. The shared library's soname has its first
+ * number: libdgt.so.1. A program that was compiled with this header runs with each library of this
+ * soname that isn't older. Among all versions with one soname
+ *
+ *  - each call keeps its name, its parameters and what it is said to do here;
+ *  - each struct and each handle keeps its size, its alignment and its members;
+ *  - each constant keeps its number, and no call returns a number that isn't listed here for it.
+ *
+ * What may grow are the calls, the constants and the structs that come with new calls: then the
+ * second number grows. The third one grows with a correction. Whatever breaks one of these rules
+ * has another first number, and so another soname.
+ *
  * Squares are numbered rank by rank from 8 down: a8 is 0, b8 is 1, h8 is 7, a7 is 8 and h1 is 63.
  * Pieces are numbered as on the line: 0 is none; 1 to 6 white and 7 to 12 black pawn, rook, knight,
  * bishop, king and queen; 13 to 15 are three extra pieces without a meaning.
@@ -55,10 +68,50 @@
 #include <stdbool.h>
 #include <stddef.h>
 #include <stdint.h>
+#ifndef NDEBUG
+#include <assert.h>
+#endif
 
 #ifdef __cplusplus
 extern "C" {
 #endif
+
+/* ---- What compilers are told, if they have the attribute. Names that end with _ are for this
+ * header alone. */
+
+#ifdef __has_attribute
+#define DGT_HAS_(attribute) __has_attribute(attribute)
+#else
+#define DGT_HAS_(attribute) 0
+#endif
+
+#if DGT_HAS_(nonnull) /* these arguments are not null */
+#define DGT_NONNULL_(...) __attribute__((nonnull(__VA_ARGS__)))
+#else
+#define DGT_NONNULL_(...)
+#endif
+
+#if DGT_HAS_(warn_unused_result) /* the result says how far the call came, or whether it did */
+#define DGT_MUST_USE_ __attribute__((warn_unused_result))
+#else
+#define DGT_MUST_USE_
+#endif
+
+#if DGT_HAS_(access) /* an argument is read, or written; a second one is how much of it */
+#define DGT_READS_(...) __attribute__((access(read_only, __VA_ARGS__)))
+#define DGT_WRITES_(...) __attribute__((access(write_only, __VA_ARGS__)))
+#else
+#define DGT_READS_(...)
+#define DGT_WRITES_(...)
+#endif
+
+/* ---- The version of this header, by which conditions can be compiled. */
+
+#define DGT_VERSION_MAJOR 1
+#define DGT_VERSION_MINOR 0
+#define DGT_VERSION_PATCH 0
+#define DGT_VERSION \
+    (DGT_VERSION_MAJOR * 1000000 + DGT_VERSION_MINOR * 1000 + DGT_VERSION_PATCH)
 
 /* ---- Limits. */
 
@@ -111,7 +164,7 @@ typedef struct dgt_board {
 
 /* ---- What a clock tells. */
 
-/* The time of one player. */
+/* The time of one side of a clock. */
 typedef struct dgt_time {
     uint8_t hours;   /* 0 to 9 */
     uint8_t minutes; /* 0 to 59 */
@@ -122,7 +175,7 @@ typedef struct dgt_time {
 /* dgt_clock.kind */
 enum {
     DGT_CLOCK_UNKNOWN = 0, /* nothing was told: all else is 0 */
-    DGT_CLOCK_TIMES = 1,   /* the times of both players, and the status; raw is 0 */
+    DGT_CLOCK_TIMES = 1,   /* the times of both sides, and the status; raw is 0 */
     DGT_CLOCK_NONE = 2     /* no clock is connected: raw and the status; the times are 0 */
 };
 
@@ -136,7 +189,9 @@ enum {
     DGT_STATUS_ABSENT = 0x20 /* set where the kind is DGT_CLOCK_NONE, and only there */
 };
 
-/* Where it is handed in, members that its kind doesn't set are not looked at. */
+/* A report of a clock. `first` and `second` are the clock's two sides, in the order of the message.
+ * They say nothing of colours. If it is handed in, members that its kind doesn't set are not looked
+ * at. */
 typedef struct dgt_clock {
     uint8_t kind;
     uint8_t status; /* 0 to 127 */
@@ -271,10 +326,11 @@ size_t dgt_host_size(void);
 
 /* Makes the memory at `host`, of dgt_host_size() bytes and aligned to 8, a host that knows nothing
  * and awaits nothing. */
-void dgt_host_init(dgt_host *host);
+void dgt_host_init(dgt_host *host) DGT_NONNULL_(1);
 
 /* The same; false, and nothing done, where the library that is linked has another size for it than
  * this header. */
+DGT_MUST_USE_ DGT_NONNULL_(1)
 static inline bool dgt_host_new(dgt_host *host) {
     if (dgt_host_size() != sizeof *host) return false;
     dgt_host_init(host);
@@ -288,7 +344,8 @@ static inline bool dgt_host_new(dgt_host *host) {
  * The first awaited reply is then awaited no longer; another one is `unasked`. Call again with the
  * bytes that are left. */
 size_t dgt_host_hear(dgt_host *host, const uint8_t *bytes, size_t n, dgt_event *event,
-                     uint8_t *body, size_t room);
+                     uint8_t *body, size_t room)
+    DGT_MUST_USE_ DGT_NONNULL_(1, 4) DGT_READS_(2, 3) DGT_WRITES_(4) DGT_WRITES_(5, 6);
 
 /* How far dgt_host_hear_all and dgt_decoder_feed_all have come. */
 typedef struct dgt_told {
@@ -303,7 +360,8 @@ typedef struct dgt_told {
  * are left: at least 1 is used where n > 0 and capacity > 0. The structs behind those that are told
  * stay as they were, and so does `body` where no event has one. */
 dgt_told dgt_host_hear_all(dgt_host *host, const uint8_t *bytes, size_t n, dgt_event *events,
-                           size_t capacity, uint8_t *body, size_t room);
+                           size_t capacity, uint8_t *body, size_t room)
+    DGT_MUST_USE_ DGT_NONNULL_(1) DGT_READS_(2, 3) DGT_WRITES_(4, 5) DGT_WRITES_(6, 7);
 
 /* The status of a dgt_sent. */
 enum {
@@ -320,53 +378,61 @@ typedef struct dgt_sent {
 
 /* Asks for each change from now on, and for all squares: writes 44 42. A dump is awaited then.
  * DGT_TOO_MANY goes before DGT_NO_ROOM, here and below. */
-dgt_sent dgt_host_follow(dgt_host *host, uint8_t *out, size_t n);
+dgt_sent dgt_host_follow(dgt_host *host, uint8_t *out, size_t n)
+    DGT_MUST_USE_ DGT_NONNULL_(1) DGT_WRITES_(2, 3);
 
 /* The same behind 255 zeros, which end whatever command the board is in the middle of: writes
  * DGT_RESTART_LENGTH bytes. For a line on which another program may have talked to the board. */
-dgt_sent dgt_host_restart(dgt_host *host, uint8_t *out, size_t n);
+dgt_sent dgt_host_restart(dgt_host *host, uint8_t *out, size_t n)
+    DGT_MUST_USE_ DGT_NONNULL_(1) DGT_WRITES_(2, 3);
 
 /* Sends the command that is the byte `code` alone, DGT_SEND_RESET to DGT_SEND_LONG_SERIAL. A reply
  * is awaited then of a dump, a serial number, a trademark, a battery state, a version and a long
  * serial number. DGT_NO_COMMAND goes before all else. */
-dgt_sent dgt_host_send(dgt_host *host, uint8_t code, uint8_t *out, size_t n);
+dgt_sent dgt_host_send(dgt_host *host, uint8_t code, uint8_t *out, size_t n)
+    DGT_MUST_USE_ DGT_NONNULL_(1) DGT_WRITES_(3, 4);
 
 /* Sends the message with this id and this payload to the clock. DGT_NO_COMMAND where the payload
  * has more than DGT_MAX_PAYLOAD bytes. */
 dgt_sent dgt_host_send_clock(dgt_host *host, uint8_t id, const uint8_t *payload, size_t payload_len,
-                             uint8_t *out, size_t n);
+                             uint8_t *out, size_t n)
+    DGT_MUST_USE_ DGT_NONNULL_(1) DGT_READS_(3, 4) DGT_WRITES_(5, 6);
 
 /* Sends an LED frame. DGT_NO_COMMAND where it has more than DGT_MAX_LEDS bytes. */
 dgt_sent dgt_host_send_leds(dgt_host *host, const uint8_t *leds, size_t leds_len, uint8_t *out,
-                            size_t n);
+                            size_t n)
+    DGT_MUST_USE_ DGT_NONNULL_(1) DGT_READS_(2, 3) DGT_WRITES_(4, 5);
 
 /* The pieces on the squares, by their numbers. False, and nothing written, until a dump was heard.
  */
-bool dgt_host_picture(dgt_host *host, uint8_t pieces[64]);
+bool dgt_host_picture(dgt_host *host, uint8_t pieces[64])
+    DGT_MUST_USE_ DGT_NONNULL_(1, 2) DGT_WRITES_(2);
 
 /* The same as the placement of a FEN, with a zero at its end. */
-bool dgt_host_placement(dgt_host *host, char text[DGT_PLACEMENT_ROOM]);
+bool dgt_host_placement(dgt_host *host, char text[DGT_PLACEMENT_ROOM])
+    DGT_MUST_USE_ DGT_NONNULL_(1, 2) DGT_WRITES_(2);
 
 /* What the board told last of its clock. */
-void dgt_host_clock(dgt_host *host, dgt_clock *clock);
+void dgt_host_clock(dgt_host *host, dgt_clock *clock) DGT_NONNULL_(1, 2) DGT_WRITES_(2);
 
 /* How many replies are awaited. The codes of the commands that ask for them, as DGT_SEND_DUMP,
  * stand at the front of `codes`, the next one first. */
-size_t dgt_host_awaited(dgt_host *host, uint8_t codes[DGT_MAX_AWAITED]);
+size_t dgt_host_awaited(dgt_host *host, uint8_t codes[DGT_MAX_AWAITED])
+    DGT_NONNULL_(1, 2) DGT_WRITES_(2);
 
 /* Gives up all replies that are awaited, and returns how many there were. Nothing else changes: the
  * host keeps its picture, its clock and the bytes of a message that is not finished. Call it when a
  * reply is overdue. A lost reply stays the next one awaited: each reply after it is `unasked`, and
  * once 16 are awaited, each further question is DGT_TOO_MANY. A reply that comes after this call is
  * `unasked` as well. Ask again next, with dgt_host_restart or dgt_host_send. */
-size_t dgt_host_give_up_awaited(dgt_host *host);
+size_t dgt_host_give_up_awaited(dgt_host *host) DGT_NONNULL_(1);
 
 /* How many bytes were heard of a message that is not finished. */
-size_t dgt_host_unread(dgt_host *host);
+size_t dgt_host_unread(dgt_host *host) DGT_NONNULL_(1);
 
 /* The line is lost, and what was under way on it: the host is as new. Follow the board again once
  * the line is back. */
-void dgt_host_line_lost(dgt_host *host);
+void dgt_host_line_lost(dgt_host *host) DGT_NONNULL_(1);
 
 /* ---- A follower: a host that keeps its picture right by asking for the whole board again. */
 
@@ -393,15 +459,16 @@ size_t dgt_follower_size(void);
 /* Makes the memory at `follower`, of dgt_follower_size() bytes and aligned to 8, a follower that
  * has never asked, with a period of 10000 milliseconds, a patience of 6, and the mode
  * DGT_MODE_UPDATE_BOARD. */
-void dgt_follower_init(dgt_follower *follower);
+void dgt_follower_init(dgt_follower *follower) DGT_NONNULL_(1);
 
 /* Makes a follower anew: it has never asked, knows no picture, and has this period, this patience
  * and the mode DGT_MODE_UPDATE_BOARD. `period` is in milliseconds, from one asking to the next:
  * with 0 each call of dgt_follower_ask is due. `patience` is how many heartbeats may follow one
  * another before it begins anew whatever it has heard; with 0 it always begins anew. */
-void dgt_follower_start(dgt_follower *follower, uint64_t period, uint32_t patience);
+void dgt_follower_start(dgt_follower *follower, uint64_t period, uint32_t patience) DGT_NONNULL_(1);
 
 /* Both; false, and nothing done, if the sizes differ, as with dgt_host_new. */
+DGT_MUST_USE_ DGT_NONNULL_(1)
 static inline bool dgt_follower_new(dgt_follower *follower, uint64_t period, uint32_t patience) {
     if (dgt_follower_size() != sizeof *follower) return false;
     dgt_follower_init(follower);
@@ -412,11 +479,13 @@ static inline bool dgt_follower_new(dgt_follower *follower, uint64_t period, uin
 /* Uses bytes, which came at this time, up to and including the first that makes an event, or all of
  * them, and returns how many: at least 1 if n > 0. The host of the follower hears them, as
  * dgt_host_hear has a host do. Call again with the bytes that are left. */
-size_t dgt_follower_hear(dgt_follower *follower, uint64_t now, const uint8_t *bytes, size_t n);
+size_t dgt_follower_hear(dgt_follower *follower, uint64_t now, const uint8_t *bytes, size_t n)
+    DGT_MUST_USE_ DGT_NONNULL_(1) DGT_READS_(3, 4);
 
 /* Uses all of the bytes, as dgt_follower_hear does event by event. Whatever chunks the bytes of one
  * time come in, the follower is the same afterwards. */
-void dgt_follower_hear_all(dgt_follower *follower, uint64_t now, const uint8_t *bytes, size_t n);
+void dgt_follower_hear_all(dgt_follower *follower, uint64_t now, const uint8_t *bytes, size_t n)
+    DGT_NONNULL_(1) DGT_READS_(3, 4);
 
 /* Asks the board, if that is due at this time. DGT_SENT: `bytes` bytes stand at the front of the
  * buffer, and 0 bytes if it is not due; nothing changes then. DGT_NO_ROOM: the buffer has less than
@@ -424,55 +493,63 @@ void dgt_follower_hear_all(dgt_follower *follower, uint64_t now, const uint8_t *
  * It is due at any time if it has never asked. Else it is due a period after the last asking, or
  * a quarter of the period after it, rounded down, if there was a disturbance since. The picture
  * stays known, and a dump is awaited then. */
-dgt_sent dgt_follower_ask(dgt_follower *follower, uint64_t now, uint8_t *out, size_t n);
+dgt_sent dgt_follower_ask(dgt_follower *follower, uint64_t now, uint8_t *out, size_t n)
+    DGT_MUST_USE_ DGT_NONNULL_(1) DGT_WRITES_(3, 4);
 
 /* The first time at which dgt_follower_ask writes if nothing is heard before: 0 if it has never
  * asked. False, and nothing written, if that is past UINT64_MAX: it never asks then. */
-bool dgt_follower_due_at(dgt_follower *follower, uint64_t *time);
+bool dgt_follower_due_at(dgt_follower *follower, uint64_t *time)
+    DGT_MUST_USE_ DGT_NONNULL_(1, 2) DGT_WRITES_(2);
 
 /* What each asking asks the board to report by itself: DGT_MODE_UPDATE_BOARD, DGT_MODE_UPDATE or
  * DGT_MODE_UPDATE_NICE, which are declared with dgt_board_mode. The latter two report the clock. */
-uint8_t dgt_follower_mode(dgt_follower *follower);
+uint8_t dgt_follower_mode(dgt_follower *follower) DGT_NONNULL_(1);
 
 /* Has each asking from now on ask for this mode. When the next one is due stays as it was. False,
  * and nothing changed, if `mode` is none of the three. */
-bool dgt_follower_set_mode(dgt_follower *follower, uint8_t mode);
+bool dgt_follower_set_mode(dgt_follower *follower, uint8_t mode) DGT_NONNULL_(1);
 
 /* Sends the command that is the byte `code` alone, as dgt_host_send does. It doesn't count as an
  * asking. After DGT_SEND_RESET the board reports no change until the next asking. */
-dgt_sent dgt_follower_send(dgt_follower *follower, uint8_t code, uint8_t *out, size_t n);
+dgt_sent dgt_follower_send(dgt_follower *follower, uint8_t code, uint8_t *out, size_t n)
+    DGT_MUST_USE_ DGT_NONNULL_(1) DGT_WRITES_(3, 4);
 
 /* Sends a message to the clock, as dgt_host_send_clock does. */
 dgt_sent dgt_follower_send_clock(dgt_follower *follower, uint8_t id, const uint8_t *payload,
-                                 size_t payload_len, uint8_t *out, size_t n);
+                                 size_t payload_len, uint8_t *out, size_t n)
+    DGT_MUST_USE_ DGT_NONNULL_(1) DGT_READS_(3, 4) DGT_WRITES_(5, 6);
 
 /* Sends an LED frame, as dgt_host_send_leds does. */
 dgt_sent dgt_follower_send_leds(dgt_follower *follower, const uint8_t *leds, size_t leds_len,
-                                uint8_t *out, size_t n);
+                                uint8_t *out, size_t n)
+    DGT_MUST_USE_ DGT_NONNULL_(1) DGT_READS_(2, 3) DGT_WRITES_(4, 5);
 
 /* The pieces on the squares, by their numbers. False, and nothing written, until a dump was heard.
  * The picture stays known while the follower asks, also when it begins anew. */
-bool dgt_follower_picture(dgt_follower *follower, uint8_t pieces[64]);
+bool dgt_follower_picture(dgt_follower *follower, uint8_t pieces[64])
+    DGT_MUST_USE_ DGT_NONNULL_(1, 2) DGT_WRITES_(2);
 
 /* The same as the placement of a FEN, with a zero at its end. */
-bool dgt_follower_placement(dgt_follower *follower, char text[DGT_PLACEMENT_ROOM]);
+bool dgt_follower_placement(dgt_follower *follower, char text[DGT_PLACEMENT_ROOM])
+    DGT_MUST_USE_ DGT_NONNULL_(1, 2) DGT_WRITES_(2);
 
 /* What the board reported last of its clock. */
-void dgt_follower_clock(dgt_follower *follower, dgt_clock *clock);
+void dgt_follower_clock(dgt_follower *follower, dgt_clock *clock) DGT_NONNULL_(1, 2) DGT_WRITES_(2);
 
 /* Whether the picture may be wrong: since the last dump that was awaited there was a disturbance,
  * or an asking found the one before it unanswered. */
-bool dgt_follower_in_doubt(dgt_follower *follower);
+bool dgt_follower_in_doubt(dgt_follower *follower) DGT_NONNULL_(1);
 
 /* The time of the last whole message. False, and nothing written, if none was heard. */
-bool dgt_follower_last_heard(dgt_follower *follower, uint64_t *time);
+bool dgt_follower_last_heard(dgt_follower *follower, uint64_t *time)
+    DGT_MUST_USE_ DGT_NONNULL_(1, 2) DGT_WRITES_(2);
 
 /* How many heartbeats may still follow one another, of those that the patience allows. */
-uint32_t dgt_follower_heartbeats_left(dgt_follower *follower);
+uint32_t dgt_follower_heartbeats_left(dgt_follower *follower) DGT_NONNULL_(1);
 
 /* The line is lost, and what was under way on it: the follower is as new, with its period, its
  * patience and its mode. It knows no picture, and its next asking is due at once. */
-void dgt_follower_line_lost(dgt_follower *follower);
+void dgt_follower_line_lost(dgt_follower *follower) DGT_NONNULL_(1);
 
 /* ---- A decoder: tells the events of a board's bytes, and keeps no picture. */
 
@@ -481,9 +558,10 @@ size_t dgt_decoder_size(void);
 
 /* Makes the memory at `decoder`, of dgt_decoder_size() bytes and aligned to 8, a decoder that holds
  * nothing. */
-void dgt_decoder_init(dgt_decoder *decoder);
+void dgt_decoder_init(dgt_decoder *decoder) DGT_NONNULL_(1);
 
 /* The same; false, and nothing done, where the sizes differ, as with dgt_host_new. */
+DGT_MUST_USE_ DGT_NONNULL_(1)
 static inline bool dgt_decoder_new(dgt_decoder *decoder) {
     if (dgt_decoder_size() != sizeof *decoder) return false;
     dgt_decoder_init(decoder);
@@ -492,20 +570,22 @@ static inline bool dgt_decoder_new(dgt_decoder *decoder) {
 
 /* As dgt_host_hear, without what a host knows. `unasked` is 0. */
 size_t dgt_decoder_feed(dgt_decoder *decoder, const uint8_t *bytes, size_t n, dgt_event *event,
-                        uint8_t *body, size_t room);
+                        uint8_t *body, size_t room)
+    DGT_MUST_USE_ DGT_NONNULL_(1, 4) DGT_READS_(2, 3) DGT_WRITES_(4) DGT_WRITES_(5, 6);
 
 /* As dgt_host_hear_all, without what a host knows. `unasked` is 0 in each event. */
 dgt_told dgt_decoder_feed_all(dgt_decoder *decoder, const uint8_t *bytes, size_t n,
-                              dgt_event *events, size_t capacity, uint8_t *body, size_t room);
+                              dgt_event *events, size_t capacity, uint8_t *body, size_t room)
+    DGT_MUST_USE_ DGT_NONNULL_(1) DGT_READS_(2, 3) DGT_WRITES_(4, 5) DGT_WRITES_(6, 7);
 
 /* How many bytes have come of a message that is not finished: at most 16382. */
-size_t dgt_decoder_rest(dgt_decoder *decoder);
+size_t dgt_decoder_rest(dgt_decoder *decoder) DGT_NONNULL_(1);
 
 /* The same, at the end of the bytes. The decoder is as new then. */
-size_t dgt_decoder_finish(dgt_decoder *decoder);
+size_t dgt_decoder_finish(dgt_decoder *decoder) DGT_NONNULL_(1);
 
 /* Makes it as new. */
-void dgt_decoder_reset(dgt_decoder *decoder);
+void dgt_decoder_reset(dgt_decoder *decoder) DGT_NONNULL_(1);
 
 /* ---- A reader of commands: tells the commands in a host's bytes. */
 
@@ -514,9 +594,10 @@ size_t dgt_command_decoder_size(void);
 
 /* Makes the memory at `decoder`, of dgt_command_decoder_size() bytes and aligned to 8, a reader
  * that holds nothing. */
-void dgt_command_decoder_init(dgt_command_decoder *decoder);
+void dgt_command_decoder_init(dgt_command_decoder *decoder) DGT_NONNULL_(1);
 
 /* The same; false, and nothing done, where the sizes differ, as with dgt_host_new. */
+DGT_MUST_USE_ DGT_NONNULL_(1)
 static inline bool dgt_command_decoder_new(dgt_command_decoder *decoder) {
     if (dgt_command_decoder_size() != sizeof *decoder) return false;
     dgt_command_decoder_init(decoder);
@@ -528,16 +609,17 @@ static inline bool dgt_command_decoder_new(dgt_command_decoder *decoder) {
  * command's word, its bytes from the first to the last, as there is room for is written to the
  * front of `word`. */
 size_t dgt_command_decoder_feed(dgt_command_decoder *decoder, const uint8_t *bytes, size_t n,
-                                dgt_command *command, uint8_t *word, size_t room);
+                                dgt_command *command, uint8_t *word, size_t room)
+    DGT_MUST_USE_ DGT_NONNULL_(1, 4) DGT_READS_(2, 3) DGT_WRITES_(4) DGT_WRITES_(5, 6);
 
 /* How many bytes have come of a command that is not finished: at most 256. */
-size_t dgt_command_decoder_rest(dgt_command_decoder *decoder);
+size_t dgt_command_decoder_rest(dgt_command_decoder *decoder) DGT_NONNULL_(1);
 
 /* The same, at the end of the bytes. The reader is as new then. */
-size_t dgt_command_decoder_finish(dgt_command_decoder *decoder);
+size_t dgt_command_decoder_finish(dgt_command_decoder *decoder) DGT_NONNULL_(1);
 
 /* Makes it as new. */
-void dgt_command_decoder_reset(dgt_command_decoder *decoder);
+void dgt_command_decoder_reset(dgt_command_decoder *decoder) DGT_NONNULL_(1);
 
 /* ---- A board, as a host meets it on the line. */
 
@@ -547,9 +629,10 @@ size_t dgt_board_size(void);
 /* Makes the memory at `board`, of dgt_board_size() bytes and aligned to 8, a board in the position
  * in which a game begins, with a clock that shows 0:00:00 twice, and the identity of a simulated
  * board. */
-void dgt_board_init(dgt_board *board);
+void dgt_board_init(dgt_board *board) DGT_NONNULL_(1);
 
 /* The same; false, and nothing done, where the sizes differ, as with dgt_host_new. */
+DGT_MUST_USE_ DGT_NONNULL_(1)
 static inline bool dgt_board_new(dgt_board *board) {
     if (dgt_board_size() != sizeof *board) return false;
     dgt_board_init(board);
@@ -587,19 +670,21 @@ enum {
  * told and its clock not, and with nothing owed. Where something is out of its range, the first of
  * the three is told, and nothing changes. */
 uint8_t dgt_board_start(dgt_board *board, const uint8_t pieces[64], const dgt_clock *clock,
-                        const dgt_identity *identity);
+                        const dgt_identity *identity)
+    DGT_NONNULL_(1, 2, 3, 4) DGT_READS_(2) DGT_READS_(3) DGT_READS_(4);
 
 /* Puts a piece, or 0 for none, on a square. False, and nothing changed, where square > 63 or
  * piece > 15. */
-bool dgt_board_change(dgt_board *board, uint8_t square, uint8_t piece);
+bool dgt_board_change(dgt_board *board, uint8_t square, uint8_t piece) DGT_NONNULL_(1);
 
 /* Sets what the clock shows. False, and nothing changed, where dgt_board_start would answer
  * DGT_START_BAD_CLOCK. */
-bool dgt_board_hand_clock(dgt_board *board, const dgt_clock *clock);
+bool dgt_board_hand_clock(dgt_board *board, const dgt_clock *clock)
+    DGT_NONNULL_(1, 2) DGT_READS_(2);
 
 /* The line is lost, and what was under way on it: the board keeps its squares, its clock and its
  * identity, and is else as new. */
-void dgt_board_line_lost(dgt_board *board);
+void dgt_board_line_lost(dgt_board *board) DGT_NONNULL_(1);
 
 typedef struct dgt_taken {
     bool busy;   /* eight replies are owed, so poll first: nothing was used, and nothing changed */
@@ -610,7 +695,8 @@ typedef struct dgt_taken {
  * them. A command has its effect, and is told as dgt_command_decoder_feed does; where the board is
  * busy, DGT_NO_WORD is told. */
 dgt_taken dgt_board_take(dgt_board *board, const uint8_t *bytes, size_t n, dgt_command *command,
-                         uint8_t *word, size_t room);
+                         uint8_t *word, size_t room)
+    DGT_MUST_USE_ DGT_NONNULL_(1, 4) DGT_READS_(2, 3) DGT_WRITES_(4) DGT_WRITES_(5, 6);
 
 /* The status of a dgt_polled. */
 enum {
@@ -630,10 +716,11 @@ typedef struct dgt_polled {
  * order, then, where the mode asks for them, the squares that differ from what was told, then the
  * clock where it is to be told. DGT_MAX_SENT bytes are room for each. With no call in between that
  * changes the board, DGT_NOTHING comes after at most 73 messages. */
-dgt_polled dgt_board_poll(dgt_board *board, uint8_t *out, size_t n);
+dgt_polled dgt_board_poll(dgt_board *board, uint8_t *out, size_t n)
+    DGT_MUST_USE_ DGT_NONNULL_(1) DGT_WRITES_(2, 3);
 
 /* Whether there is anything to send. */
-bool dgt_board_owes(dgt_board *board);
+bool dgt_board_owes(dgt_board *board) DGT_NONNULL_(1);
 
 /* What dgt_board_mode answers: what the board tells unasked. */
 enum {
@@ -644,13 +731,13 @@ enum {
 };
 
 /* The mode, one of these. */
-uint8_t dgt_board_mode(dgt_board *board);
+uint8_t dgt_board_mode(dgt_board *board) DGT_NONNULL_(1);
 
 /* The pieces on the squares, by their numbers. */
-void dgt_board_position(dgt_board *board, uint8_t pieces[64]);
+void dgt_board_position(dgt_board *board, uint8_t pieces[64]) DGT_NONNULL_(1, 2) DGT_WRITES_(2);
 
 /* What the clock shows. */
-void dgt_board_clock(dgt_board *board, dgt_clock *clock);
+void dgt_board_clock(dgt_board *board, dgt_clock *clock) DGT_NONNULL_(1, 2) DGT_WRITES_(2);
 
 /* ---- Plain helpers. */
 
@@ -663,14 +750,15 @@ char dgt_piece_letter(uint8_t piece);
 uint8_t dgt_piece_code(uint8_t letter);
 
 /* Writes a name as "e4". False, and nothing written, where square > 63. */
-bool dgt_square_name(uint8_t square, char name[3]);
+bool dgt_square_name(uint8_t square, char name[3]) DGT_NONNULL_(2) DGT_WRITES_(2);
 
 /* The square with this file, 'a' to 'h', and this rank, '1' to '8', or DGT_NO_SUCH. */
 uint8_t dgt_square_number(uint8_t file, uint8_t rank);
 
 /* Writes the placement of a FEN, with a zero at its end. False, and nothing written, where a piece
  * is above 15. */
-bool dgt_placement(const uint8_t pieces[64], char text[DGT_PLACEMENT_ROOM]);
+bool dgt_placement(const uint8_t pieces[64], char text[DGT_PLACEMENT_ROOM])
+    DGT_NONNULL_(1, 2) DGT_READS_(1) DGT_WRITES_(2);
 
 typedef struct dgt_parsed {
     bool ok;
@@ -680,11 +768,131 @@ typedef struct dgt_parsed {
 
 /* Reads the placement of a FEN. Two digits may stand side by side. Where it is not ok, nothing is
  * written. */
-dgt_parsed dgt_parse_placement(const char *text, size_t n, uint8_t pieces[64]);
+dgt_parsed dgt_parse_placement(const char *text, size_t n, uint8_t pieces[64])
+    DGT_MUST_USE_ DGT_NONNULL_(3) DGT_READS_(1, 2) DGT_WRITES_(3);
 
 /* The segments of a digit, a space or a hyphen on the clock's display, or DGT_NO_SUCH. From bit 0
  * on: top, right top, right bottom, bottom, left bottom, left top, middle. */
 uint8_t dgt_segment(uint8_t character);
+
+/* ---- The sizes that the library has. Where they differ, the platform is another one. */
+
+#if defined(__cplusplus) || (defined(__STDC_VERSION__) && __STDC_VERSION__ >= 201112L)
+#ifdef __cplusplus
+#define DGT_SIZE_(type, size) static_assert(sizeof(type) == size, "dgt.h: another " #type)
+#else
+#define DGT_SIZE_(type, size) _Static_assert(sizeof(type) == size, "dgt.h: another " #type)
+#endif
+DGT_SIZE_(dgt_host, DGT_HOST_SIZE);
+DGT_SIZE_(dgt_follower, DGT_FOLLOWER_SIZE);
+DGT_SIZE_(dgt_decoder, DGT_DECODER_SIZE);
+DGT_SIZE_(dgt_command_decoder, DGT_COMMAND_DECODER_SIZE);
+DGT_SIZE_(dgt_board, DGT_BOARD_SIZE);
+DGT_SIZE_(dgt_time, 4);
+DGT_SIZE_(dgt_clock, 16);
+DGT_SIZE_(dgt_event, 128);
+DGT_SIZE_(dgt_told, 16);
+DGT_SIZE_(dgt_command, 16);
+DGT_SIZE_(dgt_sent, 16);
+DGT_SIZE_(dgt_body, 72);
+DGT_SIZE_(dgt_identity, 224);
+DGT_SIZE_(dgt_taken, 16);
+DGT_SIZE_(dgt_polled, 16);
+DGT_SIZE_(dgt_parsed, 16);
+#undef DGT_SIZE_
+#endif
+
+/* ---- Debugging: that a handle stands where it was made. */
+
+/* Unless NDEBUG is defined where this header is included, each call asserts that its handle was
+ * made, and was neither copied nor moved since. Each macro has the name of the call that it makes.
+ */
+#ifndef NDEBUG
+
+static inline dgt_host *dgt_host_(dgt_host *handle) {
+    assert(handle->at_ == handle->room_ && "this dgt_host was not made, or was copied or moved");
+    return handle;
+}
+#define dgt_host_hear(it, ...) dgt_host_hear(dgt_host_(it), __VA_ARGS__)
+#define dgt_host_hear_all(it, ...) dgt_host_hear_all(dgt_host_(it), __VA_ARGS__)
+#define dgt_host_follow(it, ...) dgt_host_follow(dgt_host_(it), __VA_ARGS__)
+#define dgt_host_restart(it, ...) dgt_host_restart(dgt_host_(it), __VA_ARGS__)
+#define dgt_host_send(it, ...) dgt_host_send(dgt_host_(it), __VA_ARGS__)
+#define dgt_host_send_clock(it, ...) dgt_host_send_clock(dgt_host_(it), __VA_ARGS__)
+#define dgt_host_send_leds(it, ...) dgt_host_send_leds(dgt_host_(it), __VA_ARGS__)
+#define dgt_host_picture(it, ...) dgt_host_picture(dgt_host_(it), __VA_ARGS__)
+#define dgt_host_placement(it, ...) dgt_host_placement(dgt_host_(it), __VA_ARGS__)
+#define dgt_host_clock(it, ...) dgt_host_clock(dgt_host_(it), __VA_ARGS__)
+#define dgt_host_awaited(it, ...) dgt_host_awaited(dgt_host_(it), __VA_ARGS__)
+#define dgt_host_give_up_awaited(it) dgt_host_give_up_awaited(dgt_host_(it))
+#define dgt_host_unread(it) dgt_host_unread(dgt_host_(it))
+#define dgt_host_line_lost(it) dgt_host_line_lost(dgt_host_(it))
+
+static inline dgt_follower *dgt_follower_(dgt_follower *handle) {
+    assert(handle->at_ == handle->room_ &&
+           "this dgt_follower was not made, or was copied or moved");
+    return handle;
+}
+#define dgt_follower_start(it, ...) dgt_follower_start(dgt_follower_(it), __VA_ARGS__)
+#define dgt_follower_hear(it, ...) dgt_follower_hear(dgt_follower_(it), __VA_ARGS__)
+#define dgt_follower_hear_all(it, ...) dgt_follower_hear_all(dgt_follower_(it), __VA_ARGS__)
+#define dgt_follower_ask(it, ...) dgt_follower_ask(dgt_follower_(it), __VA_ARGS__)
+#define dgt_follower_due_at(it, ...) dgt_follower_due_at(dgt_follower_(it), __VA_ARGS__)
+#define dgt_follower_mode(it) dgt_follower_mode(dgt_follower_(it))
+#define dgt_follower_set_mode(it, ...) dgt_follower_set_mode(dgt_follower_(it), __VA_ARGS__)
+#define dgt_follower_send(it, ...) dgt_follower_send(dgt_follower_(it), __VA_ARGS__)
+#define dgt_follower_send_clock(it, ...) dgt_follower_send_clock(dgt_follower_(it), __VA_ARGS__)
+#define dgt_follower_send_leds(it, ...) dgt_follower_send_leds(dgt_follower_(it), __VA_ARGS__)
+#define dgt_follower_picture(it, ...) dgt_follower_picture(dgt_follower_(it), __VA_ARGS__)
+#define dgt_follower_placement(it, ...) dgt_follower_placement(dgt_follower_(it), __VA_ARGS__)
+#define dgt_follower_clock(it, ...) dgt_follower_clock(dgt_follower_(it), __VA_ARGS__)
+#define dgt_follower_in_doubt(it) dgt_follower_in_doubt(dgt_follower_(it))
+#define dgt_follower_last_heard(it, ...) dgt_follower_last_heard(dgt_follower_(it), __VA_ARGS__)
+#define dgt_follower_heartbeats_left(it) dgt_follower_heartbeats_left(dgt_follower_(it))
+#define dgt_follower_line_lost(it) dgt_follower_line_lost(dgt_follower_(it))
+
+static inline dgt_decoder *dgt_decoder_(dgt_decoder *handle) {
+    assert(handle->at_ == handle->room_ && "this dgt_decoder was not made, or was copied or moved");
+    return handle;
+}
+#define dgt_decoder_feed(it, ...) dgt_decoder_feed(dgt_decoder_(it), __VA_ARGS__)
+#define dgt_decoder_feed_all(it, ...) dgt_decoder_feed_all(dgt_decoder_(it), __VA_ARGS__)
+#define dgt_decoder_rest(it) dgt_decoder_rest(dgt_decoder_(it))
+#define dgt_decoder_finish(it) dgt_decoder_finish(dgt_decoder_(it))
+#define dgt_decoder_reset(it) dgt_decoder_reset(dgt_decoder_(it))
+
+static inline dgt_command_decoder *dgt_command_decoder_(dgt_command_decoder *handle) {
+    assert(handle->at_ == handle->room_ &&
+           "this dgt_command_decoder was not made, or was copied or moved");
+    return handle;
+}
+#define dgt_command_decoder_feed(it, ...) \
+    dgt_command_decoder_feed(dgt_command_decoder_(it), __VA_ARGS__)
+#define dgt_command_decoder_rest(it) dgt_command_decoder_rest(dgt_command_decoder_(it))
+#define dgt_command_decoder_finish(it) dgt_command_decoder_finish(dgt_command_decoder_(it))
+#define dgt_command_decoder_reset(it) dgt_command_decoder_reset(dgt_command_decoder_(it))
+
+static inline dgt_board *dgt_board_(dgt_board *handle) {
+    assert(handle->at_ == handle->room_ && "this dgt_board was not made, or was copied or moved");
+    return handle;
+}
+#define dgt_board_start(it, ...) dgt_board_start(dgt_board_(it), __VA_ARGS__)
+#define dgt_board_change(it, ...) dgt_board_change(dgt_board_(it), __VA_ARGS__)
+#define dgt_board_hand_clock(it, ...) dgt_board_hand_clock(dgt_board_(it), __VA_ARGS__)
+#define dgt_board_line_lost(it) dgt_board_line_lost(dgt_board_(it))
+#define dgt_board_take(it, ...) dgt_board_take(dgt_board_(it), __VA_ARGS__)
+#define dgt_board_poll(it, ...) dgt_board_poll(dgt_board_(it), __VA_ARGS__)
+#define dgt_board_owes(it) dgt_board_owes(dgt_board_(it))
+#define dgt_board_mode(it) dgt_board_mode(dgt_board_(it))
+#define dgt_board_position(it, ...) dgt_board_position(dgt_board_(it), __VA_ARGS__)
+#define dgt_board_clock(it, ...) dgt_board_clock(dgt_board_(it), __VA_ARGS__)
+#endif
+
+#undef DGT_HAS_
+#undef DGT_NONNULL_
+#undef DGT_MUST_USE_
+#undef DGT_READS_
+#undef DGT_WRITES_
 
 #ifdef __cplusplus
 }

@@ -476,6 +476,87 @@ static void helpers(void) {
     CHECK(!dgt_placement(pieces, text));
 }
 
+/* Each call takes NULL for a slice of no bytes, and for an array of no events. */
+static void no_bytes_of_hosts(void) {
+    dgt_host *host = room(dgt_host_size());
+    dgt_decoder *decoder = room(dgt_decoder_size());
+    CHECK(dgt_host_new(host) && dgt_decoder_new(decoder));
+    uint8_t out[6];
+    dgt_event event;
+    CHECK(dgt_host_hear(host, NULL, 0, &event, NULL, 0) == 0 && event.kind == DGT_EVENT_NONE);
+    CHECK(dgt_host_hear(host, BYTES(0x92, 0, 4, 'D'), &event, NULL, 0) == 4);
+    CHECK(event.kind == DGT_EVENT_TRADEMARK && event.body_len == 1);
+    dgt_told all = dgt_host_hear_all(host, NULL, 0, NULL, 0, NULL, 0);
+    CHECK(all.used == 0 && all.count == 0);
+    all = dgt_host_hear_all(host, BYTES(0x92, 0, 4, 'D'), &event, 1, NULL, 0);
+    CHECK(all.used == 4 && all.count == 1 && event.body_len == 1);
+    all = dgt_host_hear_all(host, BYTES(0x92, 0, 4, 'D'), NULL, 0, NULL, 0);
+    CHECK(all.used == 0 && all.count == 0);
+    CHECK(dgt_host_follow(host, NULL, 0).status == DGT_NO_ROOM);
+    CHECK(dgt_host_restart(host, NULL, 0).status == DGT_NO_ROOM);
+    CHECK(dgt_host_send(host, DGT_SEND_DUMP, NULL, 0).status == DGT_NO_ROOM);
+    dgt_sent sent = dgt_host_send_clock(host, DGT_ID_END, NULL, 0, NULL, 0);
+    CHECK(sent.status == DGT_NO_ROOM && sent.bytes == 5);
+    sent = dgt_host_send_clock(host, DGT_ID_END, NULL, 0, out, sizeof out);
+    CHECK(sent.status == DGT_SENT && sent.bytes == 5 && !memcmp(out, "\x2b\3\3\3\0", 5));
+    sent = dgt_host_send_leds(host, NULL, 0, NULL, 0);
+    CHECK(sent.status == DGT_NO_ROOM && sent.bytes == 2);
+    sent = dgt_host_send_leds(host, NULL, 0, out, sizeof out);
+    CHECK(sent.status == DGT_SENT && sent.bytes == 2 && !memcmp(out, "\x60\0", 2));
+
+    CHECK(dgt_decoder_feed(decoder, NULL, 0, &event, NULL, 0) == 0 && event.kind == 0);
+    CHECK(dgt_decoder_feed(decoder, BYTES(0x92, 0, 4, 'D'), &event, NULL, 0) == 4);
+    CHECK(event.kind == DGT_EVENT_TRADEMARK && event.body_len == 1);
+    all = dgt_decoder_feed_all(decoder, NULL, 0, NULL, 0, NULL, 0);
+    CHECK(all.used == 0 && all.count == 0);
+    all = dgt_decoder_feed_all(decoder, BYTES(0x92, 0, 4, 'D'), &event, 1, NULL, 0);
+    CHECK(all.used == 4 && all.count == 1 && event.body_len == 1);
+    free(host), free(decoder);
+}
+
+static void no_bytes_of_followers(void) {
+    dgt_follower *follower = room(dgt_follower_size());
+    CHECK(dgt_follower_new(follower, 1000, 1));
+    uint8_t out[6];
+    CHECK(dgt_follower_hear(follower, 1, NULL, 0) == 0);
+    dgt_follower_hear_all(follower, 1, NULL, 0);
+    dgt_sent sent = dgt_follower_ask(follower, 1, NULL, 0);
+    CHECK(sent.status == DGT_NO_ROOM && sent.bytes == 258);
+    CHECK(dgt_follower_send(follower, DGT_SEND_DUMP, NULL, 0).status == DGT_NO_ROOM);
+    CHECK(dgt_follower_send_clock(follower, DGT_ID_END, NULL, 0, NULL, 0).status == DGT_NO_ROOM);
+    sent = dgt_follower_send_clock(follower, DGT_ID_END, NULL, 0, out, sizeof out);
+    CHECK(sent.status == DGT_SENT && sent.bytes == 5 && !memcmp(out, "\x2b\3\3\3\0", 5));
+    CHECK(dgt_follower_send_leds(follower, NULL, 0, NULL, 0).status == DGT_NO_ROOM);
+    sent = dgt_follower_send_leds(follower, NULL, 0, out, sizeof out);
+    CHECK(sent.status == DGT_SENT && sent.bytes == 2 && !memcmp(out, "\x60\0", 2));
+    free(follower);
+}
+
+static void no_bytes_of_boards(void) {
+    dgt_command_decoder *reader = room(dgt_command_decoder_size());
+    dgt_board *board = room(dgt_board_size());
+    CHECK(dgt_command_decoder_new(reader) && dgt_board_new(board));
+    dgt_command command;
+    CHECK(dgt_command_decoder_feed(reader, NULL, 0, &command, NULL, 0) == 0);
+    CHECK(command.kind == DGT_NO_WORD);
+    CHECK(dgt_command_decoder_feed(reader, BYTES(DGT_SEND_DUMP), &command, NULL, 0) == 1);
+    CHECK(command.kind == DGT_COMMAND && command.word_len == 1);
+
+    dgt_taken taken = dgt_board_take(board, NULL, 0, &command, NULL, 0);
+    CHECK(!taken.busy && taken.used == 0 && command.kind == DGT_NO_WORD);
+    taken = dgt_board_take(board, BYTES(DGT_SEND_VERSION), &command, NULL, 0);
+    CHECK(!taken.busy && taken.used == 1 && command.code == DGT_SEND_VERSION);
+    dgt_polled polled = dgt_board_poll(board, NULL, 0);
+    CHECK(polled.status == DGT_NEED_ROOM && polled.bytes == 5);
+    dgt_board_line_lost(board);
+    CHECK(dgt_board_poll(board, NULL, 0).status == DGT_NOTHING);
+
+    uint8_t pieces[64];
+    dgt_parsed parsed = dgt_parse_placement(NULL, 0, pieces);
+    CHECK(!parsed.ok && parsed.at == 0);
+    free(reader), free(board);
+}
+
 int main(void) {
     CHECK(sizeof(dgt_host) == dgt_host_size() && sizeof(dgt_decoder) == dgt_decoder_size());
     CHECK(sizeof(dgt_board) == dgt_board_size() && sizeof(dgt_follower) == dgt_follower_size());
@@ -488,5 +569,8 @@ int main(void) {
     follower();
     decoders();
     helpers();
+    no_bytes_of_hosts();
+    no_bytes_of_followers();
+    no_bytes_of_boards();
     return 0;
 }

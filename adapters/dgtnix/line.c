@@ -204,8 +204,9 @@ void line_read(line *line, seen *seen) {
         return;
     }
     for (size_t at = 0, used; at < (size_t)got; at += used) {
-        used = dgt_follower_hear(&line->follower, now(), bytes + at, (size_t)got - at);
-        dgt_decoder_feed(&line->decoder, bytes + at, used, &event, body, sizeof body);
+        size_t left = (size_t)got - at;
+        used = dgt_decoder_feed(&line->decoder, bytes + at, left, &event, body, sizeof body);
+        dgt_follower_hear_all(&line->follower, now(), bytes + at, used);
         hear(line, &event, body, sizeof body, seen);
     }
 }

@@ -40,6 +40,7 @@ another thread was in a call of an object, it must not use that object: its call
 ever.
 """
 
+from ._version import VERSION
 from .board import Board, Identity, Mode
 from .clock_commands import ClockCommands
 from .commands import (Ask, Asked, BadEnd, BadSize, BadStart, ClockId, ClockMessage, Command, Leds,
@@ -58,7 +59,7 @@ from .values import (LETTERS, SQUARES, Clock, NoClock, Position, Time, Times, pi
                      square_number)
 from .world import Outcome, World
 
-__version__ = "0.1.0"
+__version__ = VERSION
 
 __all__ = [
     "Ack", "Ask", "Asked", "BadEnd", "BadFen", "BadLength", "BadPlacement", "BadSize", "BadStart",

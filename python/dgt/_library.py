@@ -9,6 +9,8 @@ from ctypes import (POINTER, Structure, c_bool, c_size_t, c_uint8, c_uint32, c_u
 from pathlib import Path
 from typing import Any
 
+from ._version import SONAME
+
 MAX_BODY = 16380
 MAX_WORD = 257
 MAX_PAYLOAD = 252
@@ -156,7 +158,7 @@ def _place() -> str:
     here = Path(__file__).resolve().parent
     places = [here / "libdgt.so", here.parent.parent / "lib" / "out" / "libdgt.so"]
     found = [str(place) for place in places if place.exists()]
-    return os.environ.get("DGT_LIBRARY") or (found + ["libdgt.so.0"])[0]
+    return os.environ.get("DGT_LIBRARY") or (found + [SONAME])[0]
 
 
 def _load() -> ctypes.CDLL:

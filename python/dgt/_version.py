@@ -1,0 +1,9 @@
+"""The version of the package, which is that of the library that it needs."""
+
+from __future__ import annotations
+
+from pathlib import Path
+
+VERSION = Path(__file__).with_name("VERSION").read_text(encoding="ascii").strip()
+SONAME = f"libdgt.so.{VERSION.partition('.')[0]}"
+"""The name of the system's library. It has the first number of the version."""
