@@ -1,12 +1,19 @@
-// Tries dgt.hpp. Without a word it makes each call once at least, exits with 1 and prints the first
-// thing that is not as dgt.hpp says, or exits with 0. With a word it reads standard input in chunks
-// of so many bytes as the second word says:
+// Tries dgt.hpp and dgt_port.hpp. Without a word it makes each call once at least, exits with 1 and
+// prints the first thing that is not as these headers say, or exits with 0. With a word it reads
+// standard input in chunks of so many bytes as the second word says:
 //
 //     events N, host N   writes the lines of `dgt monitor`, by a Decoder or a Host
 //     pictures N         writes the lines of `dgt picture`, by a Host
 //     words N            writes the lines of `dgt commands`, but those of clock messages as hex
 //     board N            writes what a Board answers
 #include "dgt.hpp"
+
+#pragma GCC diagnostic push
+#pragma GCC diagnostic ignored "-Wold-style-cast" // dgt_port.h is C
+#include "dgt_port.hpp"
+#pragma GCC diagnostic pop
+
+#include <stdlib.h>
 
 #include <cstdio>
 #include <cstdlib>
@@ -439,6 +446,41 @@ void views() {
     static_assert(!std::is_convertible_v<std::string, dgt::ByteView>);
 }
 
+std::string why_not(const std::string &port) {
+    try {
+        dgt::Port opened(port);
+    } catch (const dgt::PortError &error) {
+        return std::to_string(error.error()) + " " + error.what();
+    }
+    return "";
+}
+
+void ports() {
+    std::uint8_t bytes[300];
+    int line = posix_openpt(O_RDWR | O_NOCTTY);
+    CHECK(line >= 0 && grantpt(line) == 0 && unlockpt(line) == 0);
+    const std::string name = ptsname(line);
+    CHECK(why_not("/dev/null") == std::to_string(ENOTTY) + " /dev/null: not a serial port");
+    CHECK(why_not("/nowhere").find("/nowhere: no such port") != std::string::npos);
+    {
+        dgt::Port first(name);
+        CHECK(why_not(name).find("in use by another program") != std::string::npos);
+        dgt::Port port(std::move(first));
+        port.write(dgt::Bytes{0x44});
+        CHECK(read(line, bytes, sizeof bytes) == 1 && bytes[0] == 0x44);
+        CHECK(port.read(dgt::now()).empty() && write(line, "abc", 3) == 3);
+        CHECK(hex(port.read<2>()) == "6162" && hex(port.read()) == "63");
+        dgt::Follower follower(dgt::Milliseconds(200));
+        dgt::Milliseconds start = dgt::now();
+        CHECK(port.exchange(follower).empty() && dgt::now() - start >= dgt::Milliseconds(199));
+        CHECK(read(line, bytes, sizeof bytes) == 258 && port.descriptor() >= 0);
+    }
+    dgt::Port again(name), other = std::move(again);
+    close(line);
+    CHECK(throws<dgt::PortError>([&] { other.read(); }));
+    CHECK(throws<dgt::PortError>([&] { other.write(dgt::Bytes{0x44}); }));
+}
+
 } // namespace
 
 int main(int count, char **words) {
@@ -452,5 +494,6 @@ int main(int count, char **words) {
     followers();
     boards();
     views();
+    ports();
     return 0;
 }
