@@ -6,22 +6,11 @@
  * that ends with " ?" may be wrong: the answer to the next question puts it right. It ends when the
  * serial line does, or when nothing has come for as many seconds as a second argument says, 1 to
  * 1000000. */
-#define _XOPEN_SOURCE 700
 #define _DEFAULT_SOURCE
-#include "dgt.h"
+#include "dgt_port.h"
 
-#include <errno.h>
-#include <fcntl.h>
-#include <poll.h>
-#include <stdbool.h>
 #include <stdio.h>
 #include <stdlib.h>
-#include <string.h>
-#include <sys/file.h>
-#include <sys/ioctl.h>
-#include <termios.h>
-#include <time.h>
-#include <unistd.h>
 
 enum {
     PERIOD = 10000, /* milliseconds from one question to the next */
@@ -29,44 +18,10 @@ enum {
     SHOWN_ROOM = DGT_PLACEMENT_ROOM + 2
 };
 
-/* Opens a serial line for this program alone: 9600 bits a second, eight bits, no parity, one stop
- * bit, no flow control, raw. Each read waits for a byte. What is no terminal is opened as it is. -1
- * where it can't be opened, locked or set, with errno. */
-static int open_line(const char *name) {
-    int line = open(name, O_RDWR | O_NOCTTY);
-    struct termios settings;
-    if (line < 0 || tcgetattr(line, &settings) != 0) return line;
-    if (flock(line, LOCK_EX | LOCK_NB) != 0) return -1;
-    settings.c_iflag &= ~(tcflag_t)(IGNBRK | BRKINT | PARMRK | ISTRIP | INPCK);
-    settings.c_iflag &= ~(tcflag_t)(INLCR | IGNCR | ICRNL | IXON | IXOFF);
-    settings.c_oflag &= ~(tcflag_t)OPOST;
-    settings.c_lflag &= ~(tcflag_t)(ECHO | ECHONL | ICANON | ISIG | IEXTEN);
-    settings.c_cflag &= ~(tcflag_t)(CSIZE | PARENB | CSTOPB | CRTSCTS);
-    settings.c_cflag |= CS8 | CLOCAL | CREAD;
-    settings.c_cc[VMIN] = 1;
-    settings.c_cc[VTIME] = 0;
-    cfsetispeed(&settings, B9600);
-    cfsetospeed(&settings, B9600);
-    if (tcsetattr(line, TCSANOW, &settings) != 0) return -1;
-    return ioctl(line, TIOCEXCL) == 0 ? line : -1;
-}
-
 /* Says what is wrong with a line, by errno, and what to do about it. */
 static int complain(const char *name) {
-    const char *why = strerror(errno);
-    if (errno == ENOENT) why = "no such port (plug the board in)";
-    if (errno == EACCES) why = "permission denied (join the group dialout)";
-    if (errno == EBUSY || errno == EWOULDBLOCK)
-        why = "in use by another program (end that one first)";
-    fprintf(stderr, "host: %s: %s\n", name, why);
+    fprintf(stderr, "host: %s: %s\n", name, dgt_port_advice(errno));
     return 1;
-}
-
-/* Milliseconds of a clock that doesn't go back. */
-static uint64_t now(void) {
-    struct timespec time;
-    clock_gettime(CLOCK_MONOTONIC, &time);
-    return (uint64_t)time.tv_sec * 1000 + (uint64_t)time.tv_nsec / 1000000;
 }
 
 /* A board on a line, and what is known of it. */
@@ -77,28 +32,18 @@ typedef struct board {
     char shown[SHOWN_ROOM];
 } board;
 
-static bool write_all(int line, const uint8_t *bytes, size_t n) {
-    while (n > 0) {
-        ssize_t wrote = write(line, bytes, n);
-        if (wrote <= 0) return false;
-        bytes += wrote;
-        n -= (size_t)wrote;
-    }
-    return true;
-}
-
 /* Asks for all squares and for each change, if that is due. False, with errno, if the line can't be
  * written. */
 static bool ask(board *board) {
     uint8_t out[DGT_MAX_ASKING];
-    dgt_sent asked = dgt_follower_ask(&board->follower, now(), out, sizeof out);
-    return write_all(board->line, out, asked.bytes);
+    dgt_sent asked = dgt_follower_ask(&board->follower, dgt_port_now(), out, sizeof out);
+    return dgt_port_write(board->line, out, asked.bytes);
 }
 
 static bool ask_trademark(board *board) {
     uint8_t out[1];
     dgt_sent sent = dgt_follower_send(&board->follower, DGT_SEND_TRADEMARK, out, sizeof out);
-    return sent.status == DGT_SENT && write_all(board->line, out, sent.bytes);
+    return sent.status == DGT_SENT && dgt_port_write(board->line, out, sent.bytes);
 }
 
 /* Writes where the pieces stand, and whether that may be wrong, if either has changed. */
@@ -118,41 +63,36 @@ static void hear(board *board, const uint8_t *chunk, size_t n) {
     dgt_event event;
     for (size_t at = 0, used; at < n; at += used) {
         used = dgt_decoder_feed(&board->decoder, chunk + at, n - at, &event, body, sizeof body);
-        dgt_follower_hear_all(&board->follower, now(), chunk + at, used);
+        dgt_follower_hear_all(&board->follower, dgt_port_now(), chunk + at, used);
         if (event.kind == DGT_EVENT_TRADEMARK)
             fprintf(stderr, "board: %.*s\n", (int)event.body_len, (const char *)body);
         show(board);
     }
 }
 
-/* Waits for bytes until the next question is due, or until the end. Returns what poll does. */
-static int wait_for_bytes(board *board, struct pollfd *polled, uint64_t end) {
-    uint64_t time = now(), due;
+/* Waits for bytes until the next question is due, or until the end, and returns what dgt_port_read
+ * does. */
+static long wait_for_bytes(board *board, uint8_t *chunk, size_t n, uint64_t end) {
+    uint64_t due;
     if (dgt_follower_due_at(&board->follower, &due) && due < end) end = due;
-    return poll(polled, 1, end > time ? (int)(end - time) : 0);
+    return dgt_port_read(board->line, chunk, n, end);
 }
 
 /* Follows a board until its line ends, or nothing has come for so many milliseconds (for ever: 0).
- * False, with errno, if the line can't be written or read. A terminal that was hung up takes
- * nothing, has nothing more, and perhaps says so as EIO. */
+ * False, with errno, if the line takes no bytes. */
 static bool follow(board *board, uint64_t silence) {
     uint8_t chunk[256];
-    struct pollfd polled = {board->line, POLLIN, 0};
-    uint64_t end = silence ? now() + silence : UINT64_MAX;
-    if (!ask(board) || !ask_trademark(board)) return errno == EIO;
-    while (now() < end) {
-        int ready = wait_for_bytes(board, &polled, end);
-        if (ready < 0 && errno != EINTR) return false;
-        if (ready > 0) {
-            ssize_t n = read(board->line, chunk, sizeof chunk);
-            if (n <= 0) return n == 0 || (polled.revents & POLLHUP);
-            hear(board, chunk, (size_t)n);
-            if (silence) end = now() + silence;
-        }
-        if (!ask(board)) return errno == EIO;
+    uint64_t end = silence ? dgt_port_now() + silence : UINT64_MAX;
+    bool can_write = ask(board) && ask_trademark(board);
+    while (can_write && dgt_port_now() < end) {
+        long n = wait_for_bytes(board, chunk, sizeof chunk, end);
+        if (n < 0) return true;
+        hear(board, chunk, (size_t)n);
+        if (n > 0 && silence) end = dgt_port_now() + silence;
+        can_write = ask(board);
         show(board); /* the last question may have had no answer */
     }
-    return true;
+    return can_write || errno != ETIMEDOUT;
 }
 
 /* Reads a number of seconds, 1 to 1000000, as milliseconds. 0 where a text is something else. */
@@ -169,8 +109,8 @@ int main(int count, char **words) {
         return fprintf(stderr, "usage: host LINE [SECONDS], from 1 to 1000000\n"), 2;
     if (!dgt_follower_new(&board.follower, PERIOD, PATIENCE) || !dgt_decoder_new(&board.decoder))
         return fprintf(stderr, "this library has another header\n"), 1;
-    board.line = open_line(words[1]);
+    board.line = dgt_port_open(words[1]);
     if (board.line < 0 || !follow(&board, silence)) return complain(words[1]);
-    close(board.line);
+    dgt_port_close(board.line);
     return 0;
 }

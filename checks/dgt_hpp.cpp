@@ -1,0 +1,499 @@
+// Tries dgt.hpp and dgt_port.hpp. Without a word it makes each call once at least, exits with 1 and
+// prints the first thing that is not as these headers say, or exits with 0. With a word it reads
+// standard input in chunks of so many bytes as the second word says:
+//
+//     events N, host N   writes the lines of `dgt monitor`, by a Decoder or a Host
+//     pictures N         writes the lines of `dgt picture`, by a Host
+//     words N            writes the lines of `dgt commands`, but those of clock messages as hex
+//     board N            writes what a Board answers
+#include "dgt.hpp"
+
+#pragma GCC diagnostic push
+#pragma GCC diagnostic ignored "-Wold-style-cast" // dgt_port.h is C
+#include "dgt_port.hpp"
+#pragma GCC diagnostic pop
+
+#include <stdlib.h>
+
+#include <cstdio>
+#include <cstdlib>
+#include <functional>
+#include <iostream>
+#include <iterator>
+#include <memory>
+
+#if __cplusplus >= 202002L
+#include <span>
+#endif
+
+#define CHECK(...)                                                         \
+    do {                                                                   \
+        if (!(__VA_ARGS__)) {                                              \
+            std::fprintf(stderr, "line %d: %s\n", __LINE__, #__VA_ARGS__); \
+            std::exit(1);                                                  \
+        }                                                                  \
+    } while (0)
+
+namespace {
+
+const char *const START = "rnbqkbnr/pppppppp/8/8/8/8/PPPPPPPP/RNBQKBNR";
+
+template <class... Cases> struct Overloaded : Cases... {
+    using Cases::operator()...;
+};
+template <class... Cases> Overloaded(Cases...) -> Overloaded<Cases...>;
+
+std::string hex(dgt::ByteView bytes, const char *between = "") {
+    std::string text;
+    for (std::uint8_t byte : bytes) {
+        char digits[3];
+        std::snprintf(digits, sizeof digits, "%02x", byte);
+        text += (text.empty() ? "" : between) + std::string(digits);
+    }
+    return text.empty() ? "-" : text;
+}
+
+std::string hex(std::uint8_t byte) {
+    return hex({&byte, 1});
+}
+
+std::string side(const dgt::Time &time) {
+    return to_string(time) + " " + std::to_string(time.flags);
+}
+
+std::string fault(const dgt::Refused &refused) {
+    std::string at = " " + std::to_string(refused.at);
+    switch (refused.fault) {
+    case dgt::Fault::wrong_size: return "wrongsize";
+    case dgt::Fault::bad_piece: return "badpiece" + at;
+    case dgt::Fault::bad_square: return "badsquare" + at;
+    case dgt::Fault::bad_reading: return "badreading" + at;
+    }
+    return "no fault";
+}
+
+/// The text of an event, as `dgt monitor` writes it.
+std::string text(const dgt::Event &event) {
+    return std::visit(
+        Overloaded{
+            [](const dgt::Dump &it) { return "dump " + it.position.placement(); },
+            [](const dgt::Field &it) {
+                return "field " + it.square.name() + " " + dgt::letter(it.piece);
+            },
+            [](const dgt::Times &it) {
+                return "times " + side(it.first) + " " + side(it.second) + " " + hex(it.status);
+            },
+            [](const dgt::NoClock &it) { return "noclock " + hex(it.raw) + " " + hex(it.status); },
+            [](const dgt::Ack &it) { return "ack " + hex(it.ack, " ") + " " + hex(it.status); },
+            [](const dgt::Serial &it) { return "serial " + hex(it.serial); },
+            [](const dgt::Trademark &it) { return "trademark " + hex(it.body); },
+            [](const dgt::Version &it) {
+                return "version " + std::to_string(it.main_number) + "." +
+                       std::to_string(it.sub_number);
+            },
+            [](const dgt::Battery &it) { return "battery " + hex(it.body); },
+            [](const dgt::LongSerial &it) { return "longserial " + hex(it.body); },
+            [](const dgt::Other &it) { return "other " + hex(it.code) + " " + hex(it.body); },
+            [](const dgt::Refused &it) { return "refused " + hex(it.code) + " " + fault(it); },
+            [](const dgt::Cut &it) { return "cut " + std::to_string(it.have); },
+            [](const dgt::BadLength &) { return std::string("badlength"); },
+            [](const dgt::Stray &it) { return "stray " + hex(it.byte); },
+        },
+        event);
+}
+
+std::string name(dgt::Ask ask) {
+    switch (ask) {
+    case dgt::Ask::reset: return "reset";
+    case dgt::Ask::clock: return "clock";
+    case dgt::Ask::dump: return "dump";
+    case dgt::Ask::update: return "update";
+    case dgt::Ask::update_board: return "updateboard";
+    case dgt::Ask::serial: return "serial";
+    case dgt::Ask::trademark: return "trademark";
+    case dgt::Ask::update_nice: return "updatenice";
+    case dgt::Ask::battery: return "battery";
+    case dgt::Ask::version: return "version";
+    case dgt::Ask::long_serial: return "longserial";
+    }
+    return "no command";
+}
+
+/// The text of a word, as `dgt commands` writes it, but for a clock message.
+std::string text(const dgt::Word &word) {
+    return std::visit(
+        Overloaded{
+            [](const dgt::Asked &it) { return name(it.ask); },
+            [](const dgt::ClockMessage &it) { return "clock " + hex(it.id) + hex(it.payload); },
+            [](const dgt::Leds &it) { return "leds " + hex(it.leds); },
+            [](const dgt::BadSize &) { return std::string("badsize"); },
+            [](const dgt::BadStart &) { return std::string("badstart"); },
+            [](const dgt::BadEnd &) { return std::string("badend"); },
+            [](const dgt::StrayByte &it) { return "stray " + hex(it.byte); },
+        },
+        word);
+}
+
+void write_line(std::size_t place, const std::string &line) {
+    std::printf("%08zu %s\n", place, line.c_str());
+}
+
+// ---- As the program does.
+
+using Step = std::function<std::size_t(dgt::ByteView, std::size_t)>;
+
+/// Hands the bytes of standard input in chunks to a step that uses some of them, and is told how
+/// many came before. Returns how many there were.
+std::size_t in_chunks(std::size_t size, const Step &step) {
+    dgt::Bytes chunk(size);
+    for (std::size_t before = 0;;) {
+        std::size_t n = std::fread(chunk.data(), 1, size, stdin);
+        if (n == 0) return before;
+        for (dgt::ByteView left(chunk.data(), n); !left.empty();) {
+            std::size_t used = step(left, before);
+            before += used;
+            left = left.after(used);
+        }
+    }
+}
+
+void write_rest(std::size_t place, std::size_t rest) {
+    if (rest > 0) write_line(place, "unfinished " + std::to_string(rest));
+}
+
+std::size_t write_event(const dgt::Heard &heard, std::size_t before) {
+    if (heard.event) write_line(before + heard.used, text(*heard.event));
+    return heard.used;
+}
+
+std::size_t write_picture(dgt::Host &host, dgt::ByteView bytes, std::size_t before) {
+    dgt::Heard heard = host.hear_one(bytes);
+    bool sets = heard.event && (std::holds_alternative<dgt::Dump>(*heard.event) ||
+                                std::holds_alternative<dgt::Field>(*heard.event));
+    if (sets && host.picture()) {
+        CHECK(host.picture()->placement() == host.placement());
+        write_line(before + heard.used, *host.placement());
+    }
+    return heard.used;
+}
+
+int run(const std::string &what, std::size_t size) {
+    auto decoder = std::make_unique<dgt::Decoder>();
+    auto host = std::make_unique<dgt::Host>();
+    dgt::CommandDecoder reader;
+    dgt::Board board;
+    if (what == "events") {
+        std::size_t n = in_chunks(size, [&](dgt::ByteView bytes, std::size_t before) {
+            return write_event(decoder->feed_one(bytes), before);
+        });
+        write_rest(n, decoder->finish());
+    } else if (what == "host") {
+        std::size_t n = in_chunks(size, [&](dgt::ByteView bytes, std::size_t before) {
+            return write_event(host->hear_one(bytes), before);
+        });
+        write_rest(n, host->unread());
+    } else if (what == "pictures") {
+        in_chunks(size, [&](dgt::ByteView bytes, std::size_t before) {
+            return write_picture(*host, bytes, before);
+        });
+    } else if (what == "words") {
+        std::size_t n = in_chunks(size, [&](dgt::ByteView bytes, std::size_t before) {
+            dgt::Read read = reader.feed_one(bytes);
+            if (read.word) write_line(before + read.used, text(*read.word));
+            return read.used;
+        });
+        write_rest(n, reader.finish());
+    } else if (what == "board") {
+        in_chunks(size, [&](dgt::ByteView bytes, std::size_t) {
+            board.answer(bytes, [](const dgt::Message &message) {
+                std::fwrite(message.data(), 1, message.size(), stdout);
+            });
+            return bytes.size();
+        });
+    } else {
+        return 2;
+    }
+    return 0;
+}
+
+// ---- Each call.
+
+template <class Error, class Call> bool throws(Call &&call) {
+    try {
+        call();
+    } catch (const Error &) {
+        return true;
+    }
+    return false;
+}
+
+template <class Call> bool refuses(Call &&call) {
+    return throws<std::invalid_argument>(call);
+}
+
+template <class Object> constexpr bool stays =
+    !std::is_copy_constructible_v<Object> && !std::is_move_constructible_v<Object> &&
+    !std::is_copy_assignable_v<Object> && !std::is_move_assignable_v<Object>;
+static_assert(stays<dgt::Host> && stays<dgt::Follower> && stays<dgt::Decoder> &&
+              stays<dgt::CommandDecoder> && stays<dgt::Board>);
+
+void values() {
+    using dgt::Piece;
+    CHECK(dgt::letter(Piece::black_king) == 'k' && dgt::piece('X') == Piece::extra_x);
+    CHECK(refuses([] { dgt::piece('x'); }));
+    CHECK(dgt::Square("e4").number() == 36 && dgt::Square(63).name() == "h1");
+    CHECK(dgt::Square("a8") == dgt::Square(0u) && dgt::Square("a8") != dgt::Square("a7"));
+    for (const char *wrong : {"", "e", "i4", "e9", "e44"})
+        CHECK(refuses([&] { dgt::Square{std::string_view(wrong)}; }));
+    CHECK(refuses([] { dgt::Square(64); }) && refuses([] { dgt::Square(256); }));
+    dgt::Position start = dgt::Position::start(), none;
+    CHECK(start.placement() == START && start != none && start == dgt::Position(START));
+    CHECK(none.placement() == "8/8/8/8/8/8/8/8" && none[dgt::Square("e1")] == Piece::none);
+    CHECK(start[dgt::Square("e1")] == Piece::white_king && start.codes()[60] == 5);
+    CHECK(refuses([] { dgt::Position("8/8"); }) && refuses([] { dgt::Position(""); }));
+    std::array<std::uint8_t, 64> codes{};
+    codes[63] = 16;
+    CHECK(refuses([&] { dgt::Position{codes}; }));
+    CHECK(to_string(dgt::Time{1, 2, 33, 0}) == "1:02:33" && dgt::Time{1} != dgt::Time{1, 0, 0, 1});
+    dgt::Times times{{1, 2, 3, 4}, {5, 6, 7, 0}, 0x09};
+    CHECK(times.running() && times.black_turn() && !times.lever() && !times.white_turn());
+    CHECK(times != dgt::Times{} && !times.battery_low() && dgt::NoClock{} == dgt::NoClock{});
+}
+
+void hosts() {
+    dgt::Host host;
+    CHECK(!host.picture() && !host.placement() && !host.clock() && host.awaited().empty());
+    CHECK(hex(host.follow()) == "4442");
+    CHECK(host.awaited() == std::vector{dgt::Ask::dump});
+    CHECK(host.restart().size() == DGT_RESTART_LENGTH && hex(host.send(dgt::Ask::version)) == "4d");
+    dgt::Board board;
+    std::vector<dgt::Event> events;
+    auto hear = [&](const dgt::Message &message) {
+        host.hear(message, [&](const dgt::Event &event) { events.push_back(event); });
+    };
+    board.answer(host.send(dgt::Ask::dump), hear);
+    CHECK(events.size() == 1 && !std::get<dgt::Dump>(events[0]).unasked);
+    CHECK(host.picture() == dgt::Position::start() && host.placement() == START);
+    board.answer(host.send(dgt::Ask::trademark), hear);
+    auto body = std::get<dgt::Trademark>(events.at(1)).body;
+    CHECK(std::string(body.begin(), body.end()) == "SIMULATED BOARD");
+    board.answer(host.send(dgt::Ask::clock), hear);
+    CHECK(host.clock() == dgt::Clock(dgt::Times{}));
+    CHECK(std::get<dgt::Trademark>(events.at(1)).unasked); // two dumps and a version come first
+    CHECK(host.give_up_awaited() == 4 && host.give_up_awaited() == 0);
+    for (int i = 0; i < 16; i++) host.send(dgt::Ask::version);
+    CHECK(throws<dgt::TooManyAwaited>([&] { host.follow(); }) && host.awaited().size() == 16);
+    CHECK(hex(host.send(dgt::Ask::reset)) == "40" && hex(host.send_leds({})) == "6000");
+    CHECK(host.send_leds(dgt::Bytes(255)).size() == DGT_MAX_WORD);
+    CHECK(refuses([&] { host.send_leds(dgt::Bytes(256)); }));
+    CHECK(host.send_clock(0x55, dgt::Bytes(252)).size() == DGT_MAX_WORD);
+    CHECK(refuses([&] { host.send_clock(DGT_ID_ICONS, dgt::Bytes(253)); }));
+    dgt::Heard heard = host.hear_one(dgt::Bytes{0x93, 0});
+    CHECK(heard.used == 2 && !heard.event && host.unread() == 2 && host.hear_one({}).used == 0);
+    host.line_lost();
+    CHECK(host.unread() == 0 && !host.picture() && host.awaited().empty());
+}
+
+template <class Sender> void clock_commands(Sender &&sender) {
+    using dgt::Time;
+    CHECK(hex(sender.display("123456"), " ") == "2b 0b 03 01 4f 5b 06 7d 6d 66 00 00 00");
+    CHECK(hex(sender.display("-12345", 1), " ") == "2b 0b 03 01 5b 06 40 6d 66 4f 01 00 00");
+    CHECK(hex(sender.display("7890"), " ") == "2b 0b 03 01 6f 7f 07 00 00 3f 00 00 00");
+    CHECK(hex(sender.display("", 255, 254), " ") == "2b 0b 03 01 00 00 00 00 00 00 ff fe 00");
+    CHECK(hex(sender.text("hello"), " ") == "2b 0c 03 0c 68 65 6c 6c 6f 20 20 20 00 00");
+    CHECK(hex(sender.text("ABCDEFGH", 255), " ") == "2b 0c 03 0c 41 42 43 44 45 46 47 48 ff 00");
+    CHECK(hex(sender.beep(3), " ") == "2b 04 03 0b 03 00");
+    CHECK(hex(sender.set_and_run(Time{9, 8, 7}, Time{6, 5, 4}, 255), " ") ==
+          "2b 0a 03 0a 09 08 07 06 05 04 ff 00");
+    CHECK(hex(sender.icons(dgt::Bytes{1, 255}), " ") == "2b 05 03 02 01 ff 00");
+    CHECK(hex(sender.end(), " ") == "2b 03 03 03 00");
+    CHECK(hex(sender.button(), " ") == "2b 03 03 08 00");
+    CHECK(hex(sender.clock_version(), " ") == "2b 03 03 09 00");
+    for (const char *wrong : {"1234567", "12:34", "hello", "\xb2"})
+        CHECK(refuses([&] { sender.display(wrong); }));
+    for (const char *wrong : {"too long.", "Z\xfcg"}) CHECK(refuses([&] { sender.text(wrong); }));
+    for (Time wrong : {Time{10}, Time{0, 60}, Time{0, 0, 60}, Time{0, 0, 0, 1}}) {
+        CHECK(refuses([&] { sender.set_and_run(wrong, Time{}, 0); }));
+        CHECK(refuses([&] { sender.set_and_run(Time{}, wrong, 0); }));
+    }
+    CHECK(refuses([&] { sender.icons(dgt::Bytes(253)); }));
+}
+
+/// What a function throws that is handed in comes out, and nothing is heard twice or lost.
+void exceptions() {
+    const dgt::Bytes fields{0x8e, 0, 5, 52, 0, 0x8e, 0, 5, 36, 1, 0x31};
+    dgt::Decoder decoder;
+    int told = 0;
+    auto fail = [&](const dgt::Event &) {
+        told++;
+        throw 7;
+    };
+    CHECK(throws<int>([&] { decoder.feed(fields, fail); }) && told == 1);
+    std::vector<std::string> lines;
+    auto keep = [&](const dgt::Event &event) { lines.push_back(text(event)); };
+    decoder.feed(dgt::ByteView(fields).after(5), keep);
+    CHECK(lines == (std::vector<std::string>{"field e4 P", "stray 31"}));
+    dgt::Follower follower;
+    CHECK(throws<int>([&] { follower.hear(dgt::now(), fields, [] { throw 7; }); }));
+    dgt::Board board;
+    auto refuse = [](const dgt::Message &) { throw 7; };
+    CHECK(throws<int>([&] { board.answer(dgt::Bytes{0x4d, 0x45}, refuse); }) && !board.owes());
+    CHECK(board.take(dgt::Bytes{0x45}).used == 1 && board.owes());
+}
+
+void decoders() {
+    dgt::Decoder decoder;
+    CHECK(decoder.feed_one(dgt::Bytes{0x8e, 0}).used == 2 && decoder.rest() == 2);
+    CHECK(decoder.finish() == 2 && decoder.finish() == 0);
+    CHECK(decoder.feed_one(dgt::Bytes{0x8e, 0}).used == 2);
+    decoder.reset();
+    CHECK(decoder.rest() == 0);
+    std::vector<std::string> words;
+    dgt::CommandDecoder reader;
+    reader.feed(dgt::Bytes{0x2b, 4, 3, 0x0b, 9, 0, 0x60, 1, 2, 0x46, 0x2b, 2, 0x42},
+                [&](const dgt::Word &word) { words.push_back(text(word)); });
+    CHECK(words == (std::vector<std::string>{"clock 0b09", "leds 02", "stray 46", "badsize",
+                                             "dump"}));
+    CHECK(reader.feed_one(dgt::Bytes{0x60}).used == 1 && reader.rest() == 1);
+    reader.reset();
+    CHECK(reader.finish() == 0);
+}
+
+void followers() {
+    using std::chrono::seconds;
+    dgt::Follower follower(seconds(1), 1);
+    const dgt::Milliseconds zero(0);
+    CHECK(follower.due() == zero && !follower.last_heard() && !follower.picture());
+    CHECK(follower.ask(zero).size() == 258 && follower.due() == dgt::Milliseconds(1000));
+    CHECK(follower.ask(zero).empty() && !follower.placement() && !follower.clock());
+    dgt::Board board;
+    int looks = 0;
+    board.answer(dgt::Bytes{0x42, 0x4d}, [&](const dgt::Message &message) {
+        follower.hear(dgt::Milliseconds(5), message, [&] { looks++; });
+    });
+    CHECK(looks == 2 && follower.last_heard() == dgt::Milliseconds(5) && follower.in_doubt());
+    CHECK(follower.placement() == START && follower.picture() == dgt::Position::start());
+    CHECK(follower.due() == dgt::Milliseconds(250) && follower.heartbeats_left() == 1);
+    CHECK(follower.mode() == dgt::Mode::update_board && refuses([&] {
+        follower.set_mode(dgt::Mode::idle);
+    }));
+    follower.set_mode(dgt::Mode::update_nice);
+    CHECK(follower.ask(seconds(1)).size() == DGT_MAX_ASKING);
+    CHECK(follower.hear_one(seconds(1), dgt::Bytes{0x8d, 0, 10, 1, 2, 3, 4, 5, 6, 9, 1}) == 10);
+    CHECK(follower.clock() == dgt::Clock(dgt::Times{{1, 2, 3}, {4, 5, 6}, 9}));
+    CHECK(hex(follower.send(dgt::Ask::version)) == "4d" && follower.send_leds({}).size() == 2);
+    CHECK(refuses([&] { follower.ask(dgt::Milliseconds(-1)); }));
+    CHECK(refuses([&] { follower.hear(dgt::Milliseconds(-1), {}); }));
+    CHECK(refuses([] { dgt::Follower wrong(seconds(-1)); }));
+    CHECK(refuses([] { dgt::Follower wrong(seconds(1), 6, dgt::Mode::idle); }));
+    follower.line_lost();
+    CHECK(!follower.picture() && follower.due() == zero);
+    dgt::Follower never(dgt::Milliseconds::max());
+    CHECK(!never.ask(dgt::Milliseconds(1)).empty() && !never.due());
+    CHECK(dgt::now() <= dgt::now() && dgt::now() > zero);
+}
+
+void boards() {
+    dgt::Identity identity;
+    identity.serial = {1, 2, 3, 4, 5}, identity.main_number = 9, identity.sub_number = 8;
+    identity.trademark = {'M', 'I', 'N', 'E'};
+    dgt::NoClock none{{1, 2, 3, 4, 5, 6}, 0x20};
+    dgt::Board board(dgt::Position("8/8/8/8/8/8/8/K6k"), none, identity);
+    std::string sent;
+    auto keep = [&](const dgt::Message &message) { sent += hex(message) + " "; };
+    board.answer(dgt::Bytes{0x45, 0x47, 0x4d, 0x41}, keep);
+    CHECK(sent == "9100080102030405 9200074d494e45 9300050908 8d000a01020304050620 ");
+    CHECK(board.clock() == dgt::Clock(none) && board.mode() == dgt::Mode::idle && !board.owes());
+    sent.clear();
+    board.answer(dgt::Bytes{0x44}, keep);
+    board.change(dgt::Square("a1"), dgt::Piece::none);
+    board.change(dgt::Square("a2"), dgt::Piece::white_king);
+    board.answer({}, keep);
+    CHECK(sent == "8e00053005 8e00053800 " && !board.poll());
+    CHECK(board.position() == dgt::Position("8/8/8/8/8/8/K7/7k"));
+    for (int i = 0; i < 8; i++) CHECK(board.take(dgt::Bytes{0x42}).used == 1);
+    dgt::Taken busy = board.take(dgt::Bytes{0x42});
+    CHECK(busy.busy && busy.used == 0 && !busy.word);
+    board.line_lost();
+    CHECK(!board.owes() && board.mode() == dgt::Mode::idle);
+    board.hand_clock(dgt::Times{{9, 59, 59, 7}, {}, 0x5f});
+    CHECK(refuses([&] { board.hand_clock(dgt::Times{{10}, {}, 0}); }));
+    CHECK(refuses([&] { board.hand_clock(dgt::Times{{}, {}, 0x20}); }));
+    CHECK(refuses([&] { board.change(dgt::Square(0u), static_cast<dgt::Piece>(16)); }));
+    CHECK(board.clock() == dgt::Clock(dgt::Times{{9, 59, 59, 7}, {}, 0x5f}));
+    identity.battery = dgt::Bytes(65);
+    CHECK(refuses([&] { dgt::Board wrong(dgt::Position(), none, identity); }));
+    identity.battery = {128};
+    CHECK(refuses([&] { dgt::Board wrong(dgt::Position(), none, identity); }));
+}
+
+/// Bytes come from each container, and written ones go into each.
+void views() {
+    const std::uint8_t array[] = {0x44, 0x42};
+    dgt::Board board;
+    CHECK(board.take(array).used == 1 && board.take({array, 1}).used == 1);
+    CHECK(board.take(std::array<std::uint8_t, 1>{0x44}).used == 1);
+    CHECK(dgt::ByteView(array).copy() == (dgt::Bytes{0x44, 0x42}) && dgt::ByteView().empty());
+    dgt::Host host;
+    dgt::Commands commands = host.follow();
+    CHECK(dgt::Bytes(commands.begin(), commands.end()) == (dgt::Bytes{0x44, 0x42}));
+#if __cplusplus >= 202002L
+    std::span<const std::uint8_t> span(commands);
+    CHECK(span.size() == 2 && board.take(span.last(1)).used == 1);
+    CHECK(board.take(std::span(array)).used == 1);
+    static_assert(!std::is_convertible_v<std::span<const char>, dgt::ByteView>);
+#endif
+    static_assert(!std::is_convertible_v<std::string, dgt::ByteView>);
+}
+
+std::string why_not(const std::string &port) {
+    try {
+        dgt::Port opened(port);
+    } catch (const dgt::PortError &error) {
+        return std::to_string(error.error()) + " " + error.what();
+    }
+    return "";
+}
+
+void ports() {
+    std::uint8_t bytes[300];
+    int line = posix_openpt(O_RDWR | O_NOCTTY);
+    CHECK(line >= 0 && grantpt(line) == 0 && unlockpt(line) == 0);
+    const std::string name = ptsname(line);
+    CHECK(why_not("/dev/null") == std::to_string(ENOTTY) + " /dev/null: not a serial port");
+    CHECK(why_not("/nowhere").find("/nowhere: no such port") != std::string::npos);
+    {
+        dgt::Port first(name);
+        CHECK(why_not(name).find("in use by another program") != std::string::npos);
+        dgt::Port port(std::move(first));
+        port.write(dgt::Bytes{0x44});
+        CHECK(read(line, bytes, sizeof bytes) == 1 && bytes[0] == 0x44);
+        CHECK(port.read(dgt::now()).empty() && write(line, "abc", 3) == 3);
+        CHECK(hex(port.read<2>()) == "6162" && hex(port.read()) == "63");
+        dgt::Follower follower(dgt::Milliseconds(200));
+        dgt::Milliseconds start = dgt::now();
+        CHECK(port.exchange(follower).empty() && dgt::now() - start >= dgt::Milliseconds(199));
+        CHECK(read(line, bytes, sizeof bytes) == 258 && port.descriptor() >= 0);
+    }
+    dgt::Port again(name), other = std::move(again);
+    close(line);
+    CHECK(throws<dgt::PortError>([&] { other.read(); }));
+    CHECK(throws<dgt::PortError>([&] { other.write(dgt::Bytes{0x44}); }));
+}
+
+} // namespace
+
+int main(int count, char **words) {
+    if (count == 3) return run(words[1], static_cast<std::size_t>(std::atoi(words[2])));
+    values();
+    hosts();
+    clock_commands(dgt::Host());
+    clock_commands(dgt::Follower());
+    exceptions();
+    decoders();
+    followers();
+    boards();
+    views();
+    ports();
+    return 0;
+}

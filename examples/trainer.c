@@ -1,0 +1,40 @@
+/* Follows a board on a serial port: prints where the pieces stand after each change, and each time
+ * of its clock, which shows how many changes there were. A port that goes is looked for. */
+#define _DEFAULT_SOURCE
+#include <dgt_port.h>
+#include <stdio.h>
+
+static void show(dgt_follower *board, int port) {
+    static char shown[DGT_PLACEMENT_ROOM], text[DGT_PLACEMENT_ROOM];
+    static dgt_clock shown_clock, clock;
+    static int changes;
+    uint8_t number[9], out[DGT_MAX_WORD];
+    dgt_follower_clock(board, &clock);
+    if (clock.kind == DGT_CLOCK_TIMES && memcmp(&clock, &shown_clock, sizeof clock) != 0) {
+        dgt_time one = clock.first, two = clock.second;
+        printf("clock %d:%02d:%02d %d:%02d:%02d\n", one.hours, one.minutes, one.seconds,
+               two.hours, two.minutes, two.seconds);
+        shown_clock = clock;
+    }
+    if (dgt_follower_in_doubt(board) || !dgt_follower_placement(board, text)) return;
+    if (strcmp(text, shown) == 0) return;
+    puts(strcpy(shown, text));
+    snprintf((char *)number, sizeof number, "%-8d", ++changes); /* ends with 0: no beep */
+    dgt_sent sent = dgt_follower_send_clock(board, DGT_ID_TEXT, number, 9, out, sizeof out);
+    dgt_port_write(port, out, sent.bytes); /* if the port has gone, dgt_port_exchange finds it */
+}
+
+int main(int count, char **words) {
+    static dgt_follower board;
+    uint8_t chunk[256];
+    if (count != 2 || !dgt_follower_new(&board, 10000, 6)) return 2;
+    dgt_follower_set_mode(&board, DGT_MODE_UPDATE_NICE); /* it reports its clock, too */
+    setlinebuf(stdout);
+    for (int port; /* ever */; dgt_port_close(port), dgt_follower_line_lost(&board)) {
+        for (int why = 0; (port = dgt_port_open(words[1])) < 0; sleep(2))
+            if (errno != why) fprintf(stderr, "%s: %s\n", words[1], dgt_port_advice(why = errno));
+        for (long n; (n = dgt_port_exchange(port, &board, chunk, sizeof chunk)) >= 0;)
+            for (long at = 0; at < n; show(&board, port))
+                at += (long)dgt_follower_hear(&board, dgt_port_now(), chunk + at, (size_t)(n - at));
+    }
+}

@@ -1,0 +1,38 @@
+// Follows a board on a serial port: prints where the pieces stand after each change, and each time
+// of its clock, which shows how many changes there were. A port that goes is looked for.
+#include <dgt_port.hpp>
+#include <iostream>
+#include <thread>
+
+using std::chrono::seconds;
+
+static void show(dgt::Follower &board, dgt::Port &port) {
+    static std::optional<dgt::Position> shown;
+    static dgt::Clock shown_clock = dgt::NoClock();
+    static int changes = 0;
+    dgt::Clock clock = board.clock().value_or(shown_clock);
+    auto *times = std::get_if<dgt::Times>(&clock);
+    if (times && clock != shown_clock)
+        std::cout << "clock " << to_string(times->first) << ' ' << to_string(times->second) << '\n';
+    shown_clock = clock;
+    auto picture = board.in_doubt() ? std::nullopt : board.picture();
+    if (!picture || picture == shown) return;
+    std::cout << (shown = picture)->placement() << '\n';
+    port.write(board.text(std::to_string(++changes)));
+}
+
+int main(int count, char **words) {
+    if (count != 2) return 2;
+    dgt::Follower board(seconds(10), 6, dgt::Mode::update_nice); // it reports its clock, too
+    std::cout << std::unitbuf;
+    for (std::string why;; std::this_thread::sleep_for(seconds(2))) {
+        try {
+            board.line_lost();
+            dgt::Port port(words[1]);
+            for (;;)
+                board.hear(dgt::now(), port.exchange(board), [&] { show(board, port); });
+        } catch (const dgt::PortError &error) {
+            if (error.what() != why) std::cerr << (why = error.what()) << '\n';
+        }
+    }
+}

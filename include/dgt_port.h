@@ -1,0 +1,152 @@
+/*
+ * dgt_port.h: the serial port of a DGT board, for programs in C on Linux.
+ *
+ * Each function is static: the library has none of them, and dgt.h doesn't need them. A program
+ * that follows a board:
+ *
+ *     int port = dgt_port_open("/dev/ttyUSB0");
+ *     if (port < 0) return fprintf(stderr, "%s\n", dgt_port_advice(errno)), 1;
+ *     while ((n = dgt_port_exchange(port, &follower, chunk, sizeof chunk)) >= 0)
+ *         dgt_follower_hear_all(&follower, dgt_port_now(), chunk, (size_t)n);
+ *     fprintf(stderr, "%s\n", dgt_port_advice(errno));        // the port has gone
+ *     dgt_port_close(port);                                   // open it again once it is back
+ *
+ * One process has a port: others are refused, by flock and by TIOCEXCL. A port that comes back may
+ * have another number; its name in /dev/serial/by-id stays. examples/trainer.c waits for it.
+ *
+ * With -std=c99 or -std=c11 define _DEFAULT_SOURCE before the first #include. With -std=gnu11 and
+ * the like, and in C++, nothing has to be defined.
+ */
+#ifndef DGT_PORT_H
+#define DGT_PORT_H
+
+#include "dgt.h"
+
+#include <errno.h>
+#include <fcntl.h>
+#include <poll.h>
+#include <stdbool.h>
+#include <stddef.h>
+#include <stdint.h>
+#include <string.h>
+#include <sys/file.h>
+#include <sys/ioctl.h>
+#include <termios.h>
+#include <time.h>
+#include <unistd.h>
+
+#ifndef CRTSCTS
+#error "dgt_port.h: define _DEFAULT_SOURCE before the first #include"
+#endif
+
+enum {
+    DGT_PORT_PATIENCE = 2000,  /* for how many milliseconds dgt_port_write waits at most */
+    DGT_PORT_LONGEST = 3600000 /* for how many dgt_port_read does */
+};
+
+/* The time in milliseconds, by a clock that doesn't go back: for dgt_follower_ask and its like. */
+static inline uint64_t dgt_port_now(void) {
+    struct timespec time;
+    clock_gettime(CLOCK_MONOTONIC, &time);
+    return (uint64_t)time.tv_sec * 1000 + (uint64_t)time.tv_nsec / 1000000;
+}
+
+/* Locks an open port, and sets it up. False, with errno, if it can't. */
+static inline bool dgt_port_take_(int port) {
+    struct termios settings;
+    if (flock(port, LOCK_EX | LOCK_NB) != 0 || tcgetattr(port, &settings) != 0) return false;
+    settings.c_iflag = settings.c_oflag = settings.c_lflag = 0;
+    settings.c_cflag = (settings.c_cflag & HUPCL) | CS8 | CREAD | CLOCAL;
+    settings.c_cc[VMIN] = 1;
+    settings.c_cc[VTIME] = 0;
+    cfsetispeed(&settings, B9600);
+    cfsetospeed(&settings, B9600);
+    return tcsetattr(port, TCSANOW, &settings) == 0 && ioctl(port, TIOCEXCL) == 0;
+}
+
+/* Opens a port for this process alone: 9600 baud, 8 bits, no parity, 1 stop bit, no flow control,
+ * raw. Returns its descriptor, which doesn't block. -1, with errno, if it can't be opened or locked
+ * or is no serial port. It never waits. */
+static inline int dgt_port_open(const char *name) {
+    int port = open(name, O_RDWR | O_NOCTTY | O_NONBLOCK | O_CLOEXEC);
+    if (port < 0 || dgt_port_take_(port)) return port;
+    int why = errno;
+    close(port);
+    errno = why;
+    return -1;
+}
+
+/* What an errno of these functions says of a port, and what to do about it. */
+static inline const char *dgt_port_advice(int why) {
+    switch (why) {
+    case ENOENT: return "no such port (plug the board in; /dev/serial/by-id lists the ports)";
+    case EACCES: return "permission denied (join the group dialout)";
+    case EBUSY:
+    case EWOULDBLOCK: return "in use by another program (end that one first)";
+    case ENOTTY: return "not a serial port";
+    case ENXIO:
+    case EIO:
+    case ENODEV: return "the port has gone";
+    case ETIMEDOUT: return "the port takes no bytes";
+    default: return strerror(why);
+    }
+}
+
+/* Waits until there is something to do with a port, or until a time. Returns what poll does. */
+static inline int dgt_port_wait_(int port, short events, uint64_t until) {
+    uint64_t now = dgt_port_now(), left = until > now ? until - now : 0;
+    struct pollfd polled = {port, events, 0};
+    return poll(&polled, 1, left > DGT_PORT_LONGEST ? DGT_PORT_LONGEST : (int)left);
+}
+
+/* Sends all of the bytes. False, with errno, if the port has gone, or hasn't taken them for
+ * DGT_PORT_PATIENCE. The system keeps what the line has not carried yet, so that this seldom
+ * waits. */
+static inline bool dgt_port_write(int port, const uint8_t *bytes, size_t n) {
+    uint64_t end = dgt_port_now() + DGT_PORT_PATIENCE;
+    while (n > 0) {
+        ssize_t wrote = write(port, bytes, n);
+        if (wrote >= 0) {
+            bytes += wrote;
+            n -= (size_t)wrote;
+        } else if (errno != EAGAIN && errno != EINTR) {
+            return false;
+        } else if (dgt_port_wait_(port, POLLOUT, end) == 0) {
+            errno = ETIMEDOUT;
+            return false;
+        }
+    }
+    return true;
+}
+
+/* Waits until bytes come, or until a time of dgt_port_now, and reads as many as there are, `n` at
+ * most. Returns how many: 0 if none came by then, after a signal, and after DGT_PORT_LONGEST. -1,
+ * with errno, if the port has gone. */
+static inline long dgt_port_read(int port, uint8_t *bytes, size_t n, uint64_t until) {
+    int ready = dgt_port_wait_(port, POLLIN, until);
+    if (ready <= 0) return ready == 0 || errno == EINTR ? 0 : -1;
+    ssize_t got = read(port, bytes, n);
+    if (got > 0) return (long)got;
+    if (got < 0) return errno == EAGAIN || errno == EINTR ? 0 : -1;
+    errno = ENODEV; /* the line was hung up */
+    return -1;
+}
+
+/* Sends what a follower asks the board for, if it asks now, and reads until it asks next, as
+ * dgt_port_read does. The follower has yet to hear the bytes. */
+static inline long dgt_port_exchange(int port, dgt_follower *follower, uint8_t *bytes, size_t n) {
+    uint8_t out[DGT_MAX_ASKING];
+    uint64_t now = dgt_port_now(), due;
+    dgt_sent asked = dgt_follower_ask(follower, now, out, sizeof out);
+    if (!dgt_port_write(port, out, asked.bytes)) return -1;
+    if (!dgt_follower_due_at(follower, &due)) due = UINT64_MAX;
+    return dgt_port_read(port, bytes, n, due);
+}
+
+/* Closes a port, for others to open. */
+static inline void dgt_port_close(int port) {
+    ioctl(port, TIOCNXCL);
+    close(port);
+}
+
+#endif

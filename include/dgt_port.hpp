@@ -1,0 +1,80 @@
+// dgt_port.hpp: the serial port of a DGT board, for programs in C++17 and later on Linux. It is
+// dgt_port.h as a class, with the bytes and times of dgt.hpp.
+#ifndef DGT_PORT_HPP
+#define DGT_PORT_HPP
+
+#include "dgt.hpp"
+#include "dgt_port.h"
+
+#include <cerrno>
+
+namespace dgt {
+
+/// A port can't be opened, or has gone. The text says why, and what to do.
+class PortError : public std::runtime_error {
+public:
+    PortError(const std::string &name, int error)
+        : std::runtime_error(name + ": " + dgt_port_advice(error)), error_(error) {}
+
+    /// The errno, such as ENOENT.
+    int error() const noexcept { return error_; }
+
+private:
+    int error_;
+};
+
+/// A serial port that this process alone has: 9600 baud, 8 bits, no parity, 1 stop bit, raw. It is
+/// closed with the object. Each call may throw a PortError.
+class Port {
+public:
+    explicit Port(const std::string &name) : name_(name), port_(dgt_port_open(name.c_str())) {
+        if (port_ < 0) throw PortError(name_, errno);
+    }
+    ~Port() {
+        if (port_ >= 0) dgt_port_close(port_);
+    }
+    Port(Port &&other) noexcept
+        : name_(std::move(other.name_)), port_(std::exchange(other.port_, -1)) {}
+    Port &operator=(Port &&other) noexcept {
+        std::swap(port_, other.port_);
+        std::swap(name_, other.name_);
+        return *this;
+    }
+
+    /// Sends all of the bytes. It fails if the port has gone, or hasn't taken them for two seconds.
+    void write(ByteView bytes) {
+        if (!dgt_port_write(port_, bytes.data(), bytes.size()))
+            throw PortError(name_, errno);
+    }
+
+    /// Waits until bytes come, or until a time of dgt::now, if one is given. Returns what is there,
+    /// at most `Room` bytes: none if none came by then, or after a signal. It fails if the port has
+    /// gone.
+    template <std::size_t Room = 256>
+    Written<Room> read(std::optional<Milliseconds> until = std::nullopt) {
+        Written<Room> chunk;
+        auto end = until ? detail::count(*until) : UINT64_MAX;
+        long n = dgt_port_read(port_, chunk.room(), Room, end);
+        if (n < 0) throw PortError(name_, errno);
+        chunk.resize(static_cast<std::size_t>(n));
+        return chunk;
+    }
+
+    /// Sends what a follower asks the board for, if it asks now, and reads until it asks next. The
+    /// follower has yet to hear the bytes.
+    template <std::size_t Room = 256> Written<Room> exchange(Follower &follower) {
+        write(follower.ask(now()));
+        return read<Room>(follower.due());
+    }
+
+    /// The descriptor, for poll and its like. It doesn't block.
+    int descriptor() const noexcept { return port_; }
+
+private:
+    std::string name_;
+    int port_;
+};
+
+} // namespace dgt
+
+#endif

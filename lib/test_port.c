@@ -1,0 +1,126 @@
+/* Tries dgt_port.h on a pseudo-terminal. Exits with 1 and tells the first thing that is not as
+ * dgt_port.h says, or 0. */
+#define _GNU_SOURCE
+#include "dgt_port.h"
+
+#include <signal.h>
+#include <stdio.h>
+#include <stdlib.h>
+#include <sys/time.h>
+#include <sys/wait.h>
+
+#define CHECK(holds)                                                              \
+    do {                                                                          \
+        if (!(holds)) {                                                           \
+            fprintf(stderr, "line %d: %s (%s)\n", __LINE__, #holds, strerror(errno)); \
+            exit(1);                                                              \
+        }                                                                         \
+    } while (0)
+
+enum { MANY = 100000 };
+static int line, port;
+static char name[64];
+static uint8_t bytes[MANY];
+
+static void opening(void) {
+    struct termios settings;
+    line = posix_openpt(O_RDWR | O_NOCTTY);
+    CHECK(line >= 0 && grantpt(line) == 0 && unlockpt(line) == 0);
+    CHECK(ptsname_r(line, name, sizeof name) == 0);
+    int next = dup(0);
+    close(next);
+    CHECK(dgt_port_open("/dev/nowhere") == -1 && errno == ENOENT);
+    CHECK(dgt_port_open("/dev/null") == -1 && errno == ENOTTY);
+    CHECK(!strcmp(dgt_port_advice(errno), "not a serial port"));
+    port = dgt_port_open(name);
+    CHECK(port == next); /* so those that failed were closed */
+    CHECK(tcgetattr(port, &settings) == 0);
+    CHECK(settings.c_iflag == 0 && settings.c_oflag == 0 && settings.c_lflag == 0);
+    CHECK((settings.c_cflag & (CSIZE | PARENB | CSTOPB | CRTSCTS)) == CS8);
+    CHECK(cfgetispeed(&settings) == B9600 && cfgetospeed(&settings) == B9600);
+    CHECK((fcntl(port, F_GETFL) & O_NONBLOCK) && (fcntl(port, F_GETFD) & FD_CLOEXEC));
+    CHECK(dgt_port_open(name) == -1 && (errno == EWOULDBLOCK || errno == EBUSY));
+    CHECK(!strncmp(dgt_port_advice(errno), "in use by another program", 25));
+    dgt_port_close(port);
+    port = dgt_port_open(name);
+    CHECK(port >= 0);
+}
+
+static void ignore(int number) {
+    (void)number;
+}
+
+static void reading(void) {
+    uint64_t start = dgt_port_now();
+    CHECK(dgt_port_read(port, bytes, sizeof bytes, start + 100) == 0);
+    CHECK(dgt_port_now() - start >= 100 && dgt_port_now() - start < 5000);
+    CHECK(write(line, "\x8e\r\n", 3) == 3);
+    CHECK(dgt_port_read(port, bytes, 1, UINT64_MAX) == 1 && bytes[0] == 0x8e);
+    CHECK(dgt_port_read(port, bytes, sizeof bytes, 0) == 2 && !memcmp(bytes, "\r\n", 2));
+
+    /* A signal ends the wait. */
+    struct sigaction action = {.sa_handler = ignore};
+    struct itimerval soon = {.it_value = {.tv_usec = 50000}};
+    CHECK(sigaction(SIGALRM, &action, NULL) == 0 && setitimer(ITIMER_REAL, &soon, NULL) == 0);
+    start = dgt_port_now();
+    CHECK(dgt_port_read(port, bytes, sizeof bytes, start + 60000) == 0);
+    CHECK(dgt_port_now() - start < 30000);
+}
+
+static void writing(void) {
+    uint8_t given[4];
+    CHECK(dgt_port_write(port, (const uint8_t *)"\x44\n", 2) && read(line, given, 4) == 2);
+    CHECK(!memcmp(given, "\x44\n", 2) && dgt_port_write(port, NULL, 0));
+
+    /* More than the system keeps, to a side that reads slowly. */
+    for (size_t i = 0; i < MANY; i++) bytes[i] = (uint8_t)(i % 251);
+    pid_t reader = fork();
+    if (reader == 0) {
+        for (size_t i = 0; i < MANY; i++)
+            if (read(line, given, 1) != 1 || given[0] != i % 251) _exit(1);
+        _exit(0);
+    }
+    int status = 1;
+    CHECK(dgt_port_write(port, bytes, MANY));
+    CHECK(waitpid(reader, &status, 0) == reader && status == 0);
+
+    /* Nobody reads. */
+    uint64_t start = dgt_port_now();
+    CHECK(!dgt_port_write(port, bytes, MANY) && errno == ETIMEDOUT);
+    CHECK(dgt_port_now() - start >= DGT_PORT_PATIENCE && dgt_port_now() - start < 30000);
+    CHECK(!strcmp(dgt_port_advice(errno), "the port takes no bytes"));
+    CHECK(tcflush(port, TCIOFLUSH) == 0 && tcflush(line, TCIOFLUSH) == 0);
+}
+
+static void exchanging(void) {
+    static dgt_follower follower;
+    const uint8_t dump[67] = {0x86, 0, 67, [3 + 52] = 1};
+    char text[DGT_PLACEMENT_ROOM];
+    CHECK(dgt_follower_new(&follower, 200, 6));
+    uint64_t start = dgt_port_now();
+    CHECK(dgt_port_exchange(port, &follower, bytes, sizeof bytes) == 0);
+    CHECK(dgt_port_now() - start >= 199 && dgt_port_now() - start < 5000);
+    CHECK(read(line, bytes, sizeof bytes) == 258 && !memcmp(bytes + 255, "\x44\x42\x44", 3));
+    CHECK(write(line, dump, sizeof dump) == sizeof dump);
+    CHECK(dgt_port_exchange(port, &follower, bytes, sizeof bytes) == sizeof dump);
+    dgt_follower_hear_all(&follower, dgt_port_now(), bytes, sizeof dump);
+    CHECK(dgt_follower_placement(&follower, text) && !strcmp(text, "8/8/8/8/8/8/4P3/8"));
+
+    /* A follower that asks never again waits for bytes. */
+    CHECK(dgt_follower_new(&follower, UINT64_MAX, 6) && write(line, dump, 1) == 1);
+    CHECK(dgt_port_exchange(port, &follower, bytes, sizeof bytes) == 1);
+    CHECK(close(line) == 0);
+    CHECK(dgt_port_exchange(port, &follower, bytes, sizeof bytes) == -1);
+    CHECK(!strcmp(dgt_port_advice(errno), "the port has gone"));
+    CHECK(dgt_port_read(port, bytes, sizeof bytes, UINT64_MAX) == -1);
+    CHECK(!dgt_port_write(port, bytes, 1) && !strcmp(dgt_port_advice(errno), "the port has gone"));
+    dgt_port_close(port);
+}
+
+int main(void) {
+    opening();
+    reading();
+    writing();
+    exchanging();
+    return 0;
+}
