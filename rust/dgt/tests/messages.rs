@@ -1,0 +1,155 @@
+//! What a decoder and a host make of a board's bytes, by the tables of docs/PROTOCOL.md and in each
+//! cutting.
+
+mod common;
+
+use common::{Chance, bytes, cuttings, monitor_lines, shown_after, start_dump};
+use dgt::*;
+
+const TABLE: &str = "## Whole messages and their lines";
+
+#[test]
+fn messages_are_as_the_protocol_shows() {
+    let mut decoder = Decoder::new();
+    for (bytes, lines) in shown_after(TABLE) {
+        for chunks in cuttings(&bytes) {
+            assert_eq!(monitor_lines(&mut decoder, &chunks), lines, "{chunks:02x?}");
+        }
+    }
+    let line = "00000067 dump rnbqkbnr/pppppppp/8/8/8/8/PPPPPPPP/RNBQKBNR";
+    for chunks in cuttings(&start_dump()) {
+        assert_eq!(monitor_lines(&mut decoder, &chunks), [line]);
+    }
+}
+
+/// What a host hears of these chunks: the events, and which were not asked for.
+fn heard(host: &mut Host, chunks: &[&[u8]]) -> Vec<(String, bool)> {
+    let mut all = Vec::new();
+    for chunk in chunks {
+        let mut rest = *chunk;
+        while !rest.is_empty() {
+            let Heard { used, event, unasked } = host.hear(rest);
+            assert!(used > 0);
+            all.extend(event.map(|event| (event.to_string(), unasked)));
+            rest = &rest[used..];
+        }
+    }
+    all
+}
+
+#[test]
+fn a_host_hears_them_too() {
+    let kinds = ["dump", "serial", "trademark", "version", "battery", "longserial"];
+    for (bytes, lines) in shown_after(TABLE) {
+        let ended = lines.last().and_then(|line| line[9..].strip_prefix("unfinished "));
+        let events = lines.iter().map(|line| line[9..].to_string());
+        let right: Vec<_> = events
+            .filter(|event| !event.starts_with("unfinished"))
+            .map(|event| (event.clone(), kinds.contains(&event.split(' ').next().unwrap())))
+            .collect();
+        for chunks in cuttings(&bytes) {
+            let mut host = Host::new();
+            assert_eq!(heard(&mut host, &chunks), right, "{chunks:02x?}");
+            assert_eq!(host.unread(), ended.map_or(0, |have| have.parse().unwrap()));
+        }
+    }
+}
+
+#[test]
+fn messages_have_their_types() {
+    let seven = |byte| SevenBit::try_from(byte).unwrap();
+    let body = |text| Body::new(text).unwrap();
+    let status = |code| Status::new(seven(code));
+    let read =
+        |hours, minutes, seconds, flags| Reading::new(hours, minutes, seconds, flags).unwrap();
+    let rows: Vec<(&str, Message<'_>)> = vec![
+        (
+            "86 00 43 08090a0c0b0a0908 0707070707070707 0000000000000000 0000000000000000
+          0000000000000000 0000000000000000 0101010101010101 0203040605040302",
+            Message::Dump(Position::start()),
+        ),
+        (
+            "8e 00 05 24 01",
+            Message::Field { square: Square::parse("e4").unwrap(), piece: Piece::WhitePawn },
+        ),
+        (
+            "8d 00 0a 19 59 59 60 00 01 06",
+            Message::Times(Times::new(read(9, 59, 59, 1), read(0, 0, 1, 6), status(6)).unwrap()),
+        ),
+        (
+            "8d 00 0a 7f 60 00 0b 00 7f 20",
+            Message::NoClock(
+                NoClock::new([0x7f, 0x60, 0, 0x0b, 0, 0x7f].map(seven), status(0x20)).unwrap(),
+            ),
+        ),
+        (
+            "8d 00 0a 3a 10 08 21 00 31 20",
+            Message::Ack(ClockAck { ack: [0x10, 0x88, 0x80, 0xb1], status: seven(0x20) }),
+        ),
+        ("91 00 08 30 30 30 30 31", Message::Serial([48, 48, 48, 48, 49].map(seven))),
+        ("92 00 03", Message::Trademark(body(b""))),
+        ("93 00 05 01 03", Message::Version { main: seven(1), sub: seven(3) }),
+        ("a0 00 04 64", Message::Battery(body(b"\x64"))),
+        ("a2 00 05 30 31", Message::LongSerial(body(b"01"))),
+        (
+            "b0 00 05 01 7f",
+            Message::Other { code: OtherCode::new(seven(0x30)).unwrap(), body: body(b"\x01\x7f") },
+        ),
+    ];
+    let mut decoder = Decoder::new();
+    for (spelled, message) in rows {
+        let spelled = bytes(spelled);
+        let fed = Fed { used: spelled.len(), event: Some(Event::Message(message)) };
+        assert_eq!(decoder.feed(&spelled), fed);
+    }
+}
+
+#[test]
+fn the_longest_body_is_lent_whole() {
+    let (mut decoder, mut host) = (Decoder::new(), Host::new());
+    let body: Vec<u8> = (0..MAX_BODY).map(|at| (at % 128) as u8).collect();
+    let message = [&[0x92, 0x7f, 0x7f][..], &body].concat();
+    assert_eq!(message.len(), MAX_TOTAL);
+    for at in [0, 1, 2, 3, 4, 8000, MAX_TOTAL - 1] {
+        let trademark = Event::Message(Message::Trademark(Body::new(&body).unwrap()));
+        assert_eq!(decoder.feed(&message[..at]).event, None);
+        assert_eq!((decoder.rest(), host.hear(&message[..at]).event), (at, None));
+        assert_eq!(decoder.feed(&message[at..]).event, Some(trademark));
+        assert_eq!(host.hear(&message[at..]).event, Some(trademark));
+    }
+}
+
+#[test]
+fn chunks_make_no_difference() {
+    let mut chance = Chance(1);
+    let table: Vec<_> = shown_after(TABLE).into_iter().map(|(bytes, _)| bytes).collect();
+    for _ in 0..300 {
+        let mut all = Vec::new();
+        for _ in 0..chance.below(6) {
+            match chance.below(3) {
+                0 => all.push(chance.byte()),
+                _ => all.extend(&table[chance.below(table.len())]),
+            }
+        }
+        let whole = monitor_lines(&mut Decoder::new(), &[&all]);
+        let (mut chunks, mut rest) = (Vec::new(), &all[..]);
+        while !rest.is_empty() {
+            let (chunk, left) = rest.split_at(chance.below(rest.len() + 1));
+            chunks.push(chunk);
+            rest = left;
+        }
+        assert_eq!(monitor_lines(&mut Decoder::new(), &chunks), whole, "{chunks:02x?}");
+    }
+}
+
+#[test]
+fn a_decoder_is_as_new() {
+    let mut decoder = Decoder::default();
+    decoder.feed(&[0x8e, 0]);
+    decoder.reset();
+    assert_eq!((decoder.rest(), decoder.finish()), (0, None));
+    assert_eq!(decoder.feed(&[]), Fed { used: 0, event: None });
+    decoder.feed(&[0x8e, 0, 5]);
+    assert_eq!(decoder.finish(), Some(Unfinished { have: 3 }));
+    assert_eq!(decoder.feed(&[5]).event, Some(Event::Stray(5)));
+}
