@@ -1,0 +1,147 @@
+/* A follower, which hears any bytes at any times, and is asked when it is due and when it isn't. */
+#include "input.h"
+#include "model.h"
+
+#include <string.h>
+
+static dgt_follower *follower;
+static model_follower model;
+static uint64_t now; /* it doesn't go back */
+
+static void hear(chunk given, bool by_events) {
+    for (size_t at = 0, used = 1; used > 0; at += used) {
+        used = model_follower_hear(&model, now, given.bytes + at, given.n - at);
+        if (by_events)
+            CHECK(dgt_follower_hear(follower, now, given.bytes + at, given.n - at) == used);
+    }
+    if (!by_events) dgt_follower_hear_all(follower, now, given.bytes, given.n);
+}
+
+static void hear_chunk(bool by_events) {
+    chunk given = input_chunk();
+    hear(given, by_events);
+    check_same_chunk(given);
+}
+
+/* The reply to an asking, as a board sends it: a dump with the same piece on each square. */
+static void hear_dump(bool by_events) {
+    uint8_t *dump = guarded(IN, 67);
+    memset(dump, input_byte() % 16, 67);
+    memcpy(dump, "\x86\x00\x43", 3);
+    hear((chunk){dump, 67}, by_events);
+}
+
+static void check_sent(dgt_sent sent, dgt_sent right, const uint8_t *out, size_t room,
+                       const model_sending *sending) {
+    CHECK(sent.status == right.status && sent.bytes == right.bytes);
+    check_written(out, room, sending->bytes, sent.status == DGT_SENT ? sent.bytes : 0);
+}
+
+static void ask(size_t room) {
+    model_sending asking;
+    uint8_t *out = guarded(OUT, room);
+    dgt_sent sent = dgt_follower_ask(follower, now, out, room);
+    check_sent(sent, model_ask(&model, now, room, &asking), out, room, &asking);
+}
+
+static void send(uint8_t how) {
+    size_t room = input_room(DGT_MAX_WORD + 3);
+    uint8_t *out = guarded(OUT, room), code = input_byte();
+    chunk payload = input_chunk();
+    model_sending sending;
+    dgt_sent sent;
+    if (how == 0) {
+        sending = model_command(code);
+        sent = dgt_follower_send(follower, code, out, room);
+    } else if (how == 1) {
+        sending = model_clock_message(code, payload.bytes, payload.n);
+        sent = dgt_follower_send_clock(follower, code, payload.bytes, payload.n, out, room);
+    } else {
+        sending = model_leds(payload.bytes, payload.n);
+        sent = dgt_follower_send_leds(follower, payload.bytes, payload.n, out, room);
+    }
+    check_sent(sent, model_send(&model.host, &sending, room), out, room, &sending);
+}
+
+static void pass_time(void) {
+    static const uint64_t some[] = {1, 2, 3, 250, 999, 1000, 10000, UINT64_MAX / 2};
+    uint64_t wait = some[input_byte() % (sizeof some / sizeof *some)];
+    now = wait < UINT64_MAX - now ? now + wait : UINT64_MAX;
+}
+
+static void set_mode(void) {
+    uint8_t mode = input_byte() % 6;
+    bool is_mode = mode >= DGT_MODE_UPDATE && mode <= DGT_MODE_UPDATE_NICE;
+    CHECK(dgt_follower_set_mode(follower, mode) == is_mode);
+    if (is_mode) model.mode = mode;
+}
+
+static void start(void) {
+    static const uint64_t periods[] = {0, 1, 3, 7, 1000, 10000, UINT64_MAX - 999, UINT64_MAX};
+    static const uint32_t patiences[] = {0, 1, 2, 6, UINT32_MAX};
+    uint64_t period = periods[input_byte() % (sizeof periods / sizeof *periods)];
+    uint32_t patience = patiences[input_byte() % (sizeof patiences / sizeof *patiences)];
+    dgt_follower_start(follower, period, patience);
+    model_follower_start(&model, period, patience);
+}
+
+static void check_time(bool (*get)(dgt_follower *, uint64_t *), bool is_known, uint64_t right) {
+    uint64_t *time = guarded(LOOK, sizeof *time);
+    CHECK(get(follower, time) == is_known);
+    check_written(time, sizeof *time, &right, is_known ? sizeof right : 0);
+}
+
+static void look_at_picture(void) {
+    const model_host *host = &model.host;
+    uint8_t *picture = guarded(LOOK, 64);
+    CHECK(dgt_follower_picture(follower, picture) == host->knows_picture);
+    check_written(picture, 64, host->picture, host->knows_picture ? 64 : 0);
+
+    char *text = guarded(LOOK, DGT_PLACEMENT_ROOM), right[DGT_PLACEMENT_ROOM] = "";
+    if (host->knows_picture) model_placement(host->picture, right);
+    CHECK(dgt_follower_placement(follower, text) == host->knows_picture);
+    check_written(text, DGT_PLACEMENT_ROOM, right, host->knows_picture ? strlen(right) + 1 : 0);
+
+    dgt_clock *clock = guarded(LOOK, sizeof *clock);
+    dgt_follower_clock(follower, clock);
+    CHECK(memcmp(clock, &host->clock, sizeof *clock) == 0);
+}
+
+static void look(void) {
+    uint64_t due = 0;
+    bool is_due = model_due_at(&model, &due);
+    check_time(dgt_follower_due_at, is_due, due);
+    check_time(dgt_follower_last_heard, model.has_heard, model.heard);
+    CHECK(dgt_follower_in_doubt(follower) == model.is_doubtful);
+    CHECK(dgt_follower_heartbeats_left(follower) == model.left);
+    CHECK(dgt_follower_mode(follower) == model.mode);
+    look_at_picture();
+}
+
+int LLVMFuzzerTestOneInput(const uint8_t *data, size_t n) {
+    input_begin(data, n);
+    follower = guarded(HANDLE, sizeof *follower);
+    dgt_follower_init(follower);
+    CHECK(dgt_follower_size() == sizeof *follower);
+    model_follower_start(&model, 10000, 6);
+    now = 0;
+    look();
+    while (input_is_left()) {
+        uint8_t act = input_byte() % 16;
+        if (act < 4) hear_chunk(act % 2 == 0);
+        else if (act < 6) hear_dump(act % 2 == 0);
+        else if (act < 9) ask(DGT_MAX_ASKING);
+        else if (act == 9) ask(input_room(DGT_MAX_ASKING + 3));
+        else if (act == 10) send(0);
+        else if (act == 11) send(1 + input_byte() % 2);
+        else if (act == 12) pass_time();
+        else if (act == 13) set_mode();
+        else if (act == 14) start();
+        else {
+            dgt_follower_line_lost(follower);
+            model_follower_line_lost(&model);
+        }
+        look();
+    }
+    return 0;
+}

@@ -1,0 +1,78 @@
+/* The plain helpers: placements, letters and names of pieces and squares, and segments. */
+#include "input.h"
+#include "model.h"
+
+#include <string.h>
+
+/* A text, mostly of letters that placements have. */
+static void parse_placement(bool is_any) {
+    static const char letters[] = "12345678/PRNBKQprnbkqXYZ8/8/0 9.";
+    size_t n = input_byte() % 100;
+    char *text = guarded(IN, n);
+    for (size_t i = 0; i < n; i++) {
+        uint8_t each = input_byte();
+        text[i] = (char)(is_any ? each : letters[each % (sizeof letters - 1)]);
+    }
+    uint8_t *pieces = guarded(LOOK, 64), right[64];
+    dgt_parsed wanted = model_parse_placement(text, n, right);
+    dgt_parsed parsed = dgt_parse_placement(text, n, pieces);
+    CHECK(parsed.ok == wanted.ok && parsed.at == wanted.at);
+    check_written(pieces, 64, right, parsed.ok ? 64 : 0);
+}
+
+/* A position, mostly of pieces, is written and read back. */
+static void write_placement(uint8_t most) {
+    uint8_t *pieces = guarded(IN, 64), other = input_byte() % 16;
+    bool is_position = true;
+    for (size_t i = 0; i < 64; i++) {
+        pieces[i] = i < 12 ? input_byte() % most : other;
+        is_position = is_position && pieces[i] < 16;
+    }
+    char *text = guarded(OUT, DGT_PLACEMENT_ROOM), right[DGT_PLACEMENT_ROOM] = "";
+    if (is_position) model_placement(pieces, right);
+    CHECK(dgt_placement(pieces, text) == is_position);
+    check_written(text, DGT_PLACEMENT_ROOM, right, is_position ? strlen(right) + 1 : 0);
+    if (!is_position) return;
+    uint8_t *again = guarded(LOOK, 64);
+    CHECK(dgt_parse_placement(text, strlen(right), again).ok);
+    CHECK(memcmp(again, pieces, 64) == 0);
+}
+
+/* Where a byte stands in a text, or DGT_NO_SUCH. */
+static uint8_t place_in(const char *text, uint8_t byte) {
+    const char *found = byte > 0 && byte < 128 ? strchr(text, byte) : NULL;
+    return found ? (uint8_t)(found - text) : DGT_NO_SUCH;
+}
+
+static void names(uint8_t a, uint8_t b) {
+    static const char shown[] = "0123456789 -";
+    static const uint8_t segments[] = {0x3f, 0x06, 0x5b, 0x4f, 0x66, 0x6d,
+                                       0x7d, 0x07, 0x7f, 0x6f, 0x00, 0x40};
+    CHECK(dgt_piece_letter(a) == (a < 16 ? model_letters[a] : 0));
+    CHECK(dgt_piece_code(a) == place_in(model_letters, a));
+    uint8_t segment = place_in(shown, a);
+    CHECK(dgt_segment(a) == (segment == DGT_NO_SUCH ? DGT_NO_SUCH : segments[segment]));
+
+    char *name = guarded(LOOK, 3), right[3] = {(char)('a' + a % 8), (char)('8' - a / 8 % 8), '\0'};
+    CHECK(dgt_square_name(a, name) == (a < 64));
+    check_written(name, 3, right, a < 64 ? 3 : 0);
+    uint8_t file = place_in("abcdefgh", a), rank = place_in("87654321", b);
+    bool is_square = file != DGT_NO_SUCH && rank != DGT_NO_SUCH;
+    CHECK(dgt_square_number(a, b) == (is_square ? 8 * rank + file : DGT_NO_SUCH));
+}
+
+int LLVMFuzzerTestOneInput(const uint8_t *data, size_t n) {
+    input_begin(data, n);
+    while (input_is_left()) {
+        uint8_t act = input_byte() % 8;
+        if (act < 4) {
+            parse_placement(act == 0);
+        } else if (act < 6) {
+            write_placement(act == 4 ? 17 : 16);
+        } else {
+            uint8_t a = input_byte();
+            names(a, input_byte());
+        }
+    }
+    return 0;
+}

@@ -1,0 +1,56 @@
+/* What the harnesses share: choices that an input makes, and memory between guard pages. */
+#ifndef INPUT_H
+#define INPUT_H
+
+#include "dgt.h"
+
+/* Stops unless this holds. libFuzzer keeps the input then. */
+#define CHECK(holds) ((holds) ? (void)0 : stop(__FILE__, __LINE__, #holds))
+__attribute__((noreturn)) void stop(const char *file, int line, const char *what);
+
+/* ---- Choices. Each reads some bytes of the input; after its end each byte is 0. */
+
+/* Begins a run. The first byte of the input says on which side memory is guarded. */
+void input_begin(const uint8_t *data, size_t n);
+
+/* Whether bytes of the input are left. */
+bool input_is_left(void);
+
+/* A number from 0 to 255. */
+uint8_t input_byte(void);
+
+/* A length from 0 to `most`: mostly a small one, and sometimes `most`. */
+size_t input_room(size_t most);
+
+#define MOST_CHUNK 20000 /* more than the longest message */
+
+typedef struct chunk {
+    const uint8_t *bytes;
+    size_t n;
+} chunk;
+
+/* Bytes as a line may deliver them, at the place IN: those of the input itself, a whole command or
+ * message, or many equal bytes. */
+chunk input_chunk(void);
+
+/* Stops unless a chunk is as it was made. */
+void check_same_chunk(chunk made);
+
+/* ---- Memory. Each place has an unmapped page on either side. */
+
+enum place { HANDLE, IN, OUT, BODY, EVENTS, LOOK, PLACES };
+
+#define FILL 0xa5 /* what memory holds before a call */
+
+/* Memory of n bytes, each FILL, that ends or begins at an unmapped page. It is aligned to 8 if n is
+ * a multiple of 8. */
+void *guarded(enum place which, size_t n);
+
+/* Stops unless the bytes from `from` on are still FILL, of n bytes. */
+void check_kept(const void *memory, size_t from, size_t n);
+
+/* Stops unless memory of n bytes begins with as much of `right` as there is room for, and is still
+ * FILL after it. */
+void check_written(const void *memory, size_t n, const void *right, size_t right_n);
+
+#endif
