@@ -57,7 +57,9 @@ static size_t bad_digit(const uint8_t *body) {
     return at;
 }
 
-static uint8_t from_decimal(uint8_t packed) { return (uint8_t)((packed >> 4) * 10 + (packed & 15)); }
+static uint8_t from_decimal(uint8_t packed) {
+    return (uint8_t)((packed >> 4) * 10 + (packed & 15));
+}
 
 static dgt_time time_of(const uint8_t *body) {
     return (dgt_time){body[0] & 0x0f, from_decimal(body[1]), from_decimal(body[2]), body[0] >> 4};
