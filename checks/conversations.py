@@ -45,6 +45,12 @@ class Ends(RuleBasedStateMachine):
         self.board.change(square, piece)
         self.plain.change(dgt.SQUARES.index(square), dgt.piece_code(piece))
 
+    @rule(position=some.POSITIONS)
+    def set_up(self, position: dgt.Position) -> None:
+        """All pieces are put where they stand in a position."""
+        for square, piece in zip(dgt.SQUARES, position):
+            self.change(square, piece)
+
     @rule(clock=some.CLOCKS)
     def hand_clock(self, clock: dgt.Clock) -> None:
         self.board.hand_clock(clock)

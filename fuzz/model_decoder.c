@@ -58,7 +58,7 @@ static size_t bad_digit(const uint8_t *body) {
 }
 
 static uint8_t from_decimal(uint8_t packed) {
-    return (uint8_t)((packed >> 4) * 10 + (packed & 15));
+    return (uint8_t)((packed >> 4) * 10 + (packed & 0x0f));
 }
 
 static dgt_time time_of(const uint8_t *body) {
