@@ -213,44 +213,53 @@ fn a_board_takes_words() {
 }
 
 #[test]
-fn a_host_awaits_and_gives_up() {
-    let (mut host, mut out) = (Host::default(), [0; RESTART_LENGTH]);
+fn a_host_begins() {
+    let (mut host, mut out) = (Host::default(), [0xa5; RESTART_LENGTH]);
     assert_eq!((host.picture(), host.clock(), host.awaited().len()), (None, None, 0));
     assert_eq!(host.follow(&mut out[..1]), Err(SendFault::NoRoom { need: 2 }));
     assert_eq!(host.restart(&mut out[..256]), Err(SendFault::NoRoom { need: 257 }));
-    assert_eq!((host.follow(&mut out), &out[..2]), (Ok(2), &[0x44, 0x42][..]));
+    assert!(out.iter().all(|byte| *byte == 0xa5));
+    assert_eq!((host.follow(&mut out), &out[..3]), (Ok(2), &[0x44, 0x42, 0xa5][..]));
     assert_eq!(host.restart(&mut out), Ok(257));
     assert_eq!(out.to_vec(), [&[0; 255][..], &[0x44, 0x42]].concat());
-    for command in [
-        Command::Serial,
-        Command::Trademark,
-        Command::Version,
-        Command::Battery,
-        Command::LongSerial,
-        Command::Clock,
-        Command::Reset,
+    assert!(host.awaited().eq([Kind::Dump; 2]));
+}
+
+#[test]
+fn a_host_awaits_replies() {
+    let mut host = Host::new();
+    for (command, kind) in [
+        (Command::Dump, Some(Kind::Dump)),
+        (Command::Reset, None),
+        (Command::Serial, Some(Kind::Serial)),
+        (Command::Clock, None),
+        (Command::Trademark, Some(Kind::Trademark)),
+        (Command::Version, Some(Kind::Version)),
+        (Command::Battery, Some(Kind::Battery)),
+        (Command::LongSerial, Some(Kind::LongSerial)),
+        (Command::ClockMessage(ClockCommand::End), None),
     ] {
-        assert_eq!(host.send(&command, &mut out), Ok(1));
+        let before: Vec<_> = host.awaited().collect();
+        host.send(&command, &mut [0; 5]).unwrap();
+        assert!(host.awaited().eq(before.into_iter().chain(kind)), "{command}");
     }
-    let kinds = [
-        Kind::Dump,
-        Kind::Dump,
-        Kind::Serial,
-        Kind::Trademark,
-        Kind::Version,
-        Kind::Battery,
-        Kind::LongSerial,
-    ];
-    assert!(host.awaited().eq(kinds));
+    let awaited: Vec<_> = host.awaited().collect();
     assert!(host.hear(&bytes("93 00 05 01 03")).unasked);
+    assert!(host.awaited().eq(awaited.iter().copied()));
     assert!(!host.hear(&start_dump()).unasked);
-    assert!(host.awaited().eq(kinds[1..].iter().copied()));
-    for _ in 6..MAX_AWAITED {
-        host.send(&Command::Dump, &mut out).unwrap();
+    assert!(host.awaited().eq(awaited[1..].iter().copied()));
+}
+
+#[test]
+fn a_host_gives_up() {
+    let mut host = Host::new();
+    host.hear_all(&start_dump());
+    for _ in 0..MAX_AWAITED {
+        host.send(&Command::Dump, &mut [0]).unwrap();
     }
     assert_eq!(host.follow(&mut []), Err(SendFault::TooMany));
     assert_eq!(host.restart(&mut []), Err(SendFault::TooMany));
-    assert_eq!(host.send(&Command::Dump, &mut out), Err(SendFault::TooMany));
+    assert_eq!(host.send(&Command::Dump, &mut [0]), Err(SendFault::TooMany));
     assert_eq!(host.send(&Command::Reset, &mut []), Err(SendFault::NoRoom { need: 1 }));
     assert_eq!((host.give_up_awaited(), host.awaited().len()), (16, 0));
     assert_eq!((host.picture(), host.give_up_awaited()), (Some(Position::start()), 0));

@@ -55,53 +55,44 @@ fn a_host_hears_them_too() {
     }
 }
 
+fn seven(byte: u8) -> SevenBit {
+    SevenBit::try_from(byte).unwrap()
+}
+
+/// The bytes of a whole message make this one.
+fn check_message(spelled: &str, message: Message<'_>) {
+    let (mut decoder, spelled) = (Decoder::new(), bytes(spelled));
+    let fed = Fed { used: spelled.len(), event: Some(Event::Message(message)) };
+    assert_eq!(decoder.feed(&spelled), fed);
+}
+
 #[test]
 fn messages_have_their_types() {
-    let seven = |byte| SevenBit::try_from(byte).unwrap();
     let body = |text| Body::new(text).unwrap();
+    let square = Square::parse("e4").unwrap();
+    check_message("8e 00 05 24 01", Message::Field { square, piece: Piece::WhitePawn });
+    check_message("91 00 08 30 30 30 30 31", Message::Serial([48, 48, 48, 48, 49].map(seven)));
+    check_message("92 00 03", Message::Trademark(body(b"")));
+    check_message("93 00 05 01 03", Message::Version { main: seven(1), sub: seven(3) });
+    check_message("a0 00 04 64", Message::Battery(body(b"\x64")));
+    check_message("a2 00 05 30 31", Message::LongSerial(body(b"01")));
+    let code = OtherCode::new(seven(0x30)).unwrap();
+    check_message("b0 00 05 01 7f", Message::Other { code, body: body(b"\x01\x7f") });
+    let dump = format!("86 00 43 {}", common::START_CODES);
+    check_message(&dump, Message::Dump(Position::start()));
+}
+
+#[test]
+fn messages_of_the_clock_have_their_types() {
     let status = |code| Status::new(seven(code));
-    let read =
-        |hours, minutes, seconds, flags| Reading::new(hours, minutes, seconds, flags).unwrap();
-    let rows: Vec<(&str, Message<'_>)> = vec![
-        (
-            "86 00 43 08090a0c0b0a0908 0707070707070707 0000000000000000 0000000000000000
-          0000000000000000 0000000000000000 0101010101010101 0203040605040302",
-            Message::Dump(Position::start()),
-        ),
-        (
-            "8e 00 05 24 01",
-            Message::Field { square: Square::parse("e4").unwrap(), piece: Piece::WhitePawn },
-        ),
-        (
-            "8d 00 0a 19 59 59 60 00 01 06",
-            Message::Times(Times::new(read(9, 59, 59, 1), read(0, 0, 1, 6), status(6)).unwrap()),
-        ),
-        (
-            "8d 00 0a 7f 60 00 0b 00 7f 20",
-            Message::NoClock(
-                NoClock::new([0x7f, 0x60, 0, 0x0b, 0, 0x7f].map(seven), status(0x20)).unwrap(),
-            ),
-        ),
-        (
-            "8d 00 0a 3a 10 08 21 00 31 20",
-            Message::Ack(ClockAck { ack: [0x10, 0x88, 0x80, 0xb1], status: seven(0x20) }),
-        ),
-        ("91 00 08 30 30 30 30 31", Message::Serial([48, 48, 48, 48, 49].map(seven))),
-        ("92 00 03", Message::Trademark(body(b""))),
-        ("93 00 05 01 03", Message::Version { main: seven(1), sub: seven(3) }),
-        ("a0 00 04 64", Message::Battery(body(b"\x64"))),
-        ("a2 00 05 30 31", Message::LongSerial(body(b"01"))),
-        (
-            "b0 00 05 01 7f",
-            Message::Other { code: OtherCode::new(seven(0x30)).unwrap(), body: body(b"\x01\x7f") },
-        ),
-    ];
-    let mut decoder = Decoder::new();
-    for (spelled, message) in rows {
-        let spelled = bytes(spelled);
-        let fed = Fed { used: spelled.len(), event: Some(Event::Message(message)) };
-        assert_eq!(decoder.feed(&spelled), fed);
-    }
+    let (first, second) = (Reading::new(9, 59, 59, 1).unwrap(), Reading::new(0, 0, 1, 6).unwrap());
+    let times = Times::new(first, second, status(6)).unwrap();
+    check_message("8d 00 0a 19 59 59 60 00 01 06", Message::Times(times));
+    let raw = [0x7f, 0x60, 0, 0x0b, 0, 0x7f].map(seven);
+    let absence = NoClock::new(raw, status(0x20)).unwrap();
+    check_message("8d 00 0a 7f 60 00 0b 00 7f 20", Message::NoClock(absence));
+    let ack = ClockAck { ack: [0x10, 0x88, 0x80, 0xb1], status: seven(0x20) };
+    check_message("8d 00 0a 3a 10 08 21 00 31 20", Message::Ack(ack));
 }
 
 #[test]
