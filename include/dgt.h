@@ -4,7 +4,8 @@
  *
  * Nothing here opens a line, takes memory or waits. You read bytes from the serial line and hand
  * them in, in pieces of any length; you write out what a call wrote into your buffer. All memory is
- * yours. A program that follows a board on a serial line, with a time in milliseconds:
+ * yours. (dgt_port.h opens a serial port and waits for its bytes. In C++ dgt.hpp has classes.) A
+ * program that follows a board on a serial line, with a time in milliseconds:
  *
  *     static dgt_follower follower;                 // 16 KB
  *     uint8_t out[DGT_MAX_ASKING], chunk[256];

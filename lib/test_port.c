@@ -41,7 +41,12 @@ static void opening(void) {
     CHECK((fcntl(port, F_GETFL) & O_NONBLOCK) && (fcntl(port, F_GETFD) & FD_CLOEXEC));
     CHECK(dgt_port_open(name) == -1 && (errno == EWOULDBLOCK || errno == EBUSY));
     CHECK(!strncmp(dgt_port_advice(errno), "in use by another program", 25));
+    int is_refused = 0;
+    CHECK(ioctl(port, TIOCGEXCL, &is_refused) == 0 && is_refused == 1); /* any other opener */
     dgt_port_close(port);
+    port = open(name, O_RDWR | O_NOCTTY);
+    CHECK(port >= 0 && ioctl(port, TIOCGEXCL, &is_refused) == 0 && is_refused == 0);
+    close(port);
     port = dgt_port_open(name);
     CHECK(port >= 0);
 }
