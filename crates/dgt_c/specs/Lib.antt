@@ -13,15 +13,6 @@ pub mod Starting
 pub mod PlainBoard
 pub mod Following
 pub mod PlainFollower
--- Where handles and what they own lie.
+-- Structs of C in memory.
 pub mod Layouts
-pub mod HostLending
-pub mod HostPlace
-pub mod DecoderLending
-pub mod DecoderPlace
-pub mod CommandDecoderLending
-pub mod CommandDecoderPlace
-pub mod BoardLending
-pub mod BoardPlace
-pub mod FollowerLending
-pub mod FollowerPlace
+pub mod Rooms

@@ -23,52 +23,37 @@
 //! Rust has by its type, as that it points to something, and that no other refers to it.
 #![tactic(auto)]
 
-mod board;
 mod board_calls;
-mod board_place;
 mod checking;
 mod chunks;
 mod clocks;
-mod command_decoder;
-mod command_decoder_place;
 mod command_decoding;
 mod commands;
 mod copying;
-mod decoder;
-mod decoder_place;
 mod decoding;
 mod events;
-mod follower;
-mod follower_place;
 mod follower_sending;
 mod following;
+mod handles;
 mod hearing;
-mod host;
-mod host_place;
 pub mod laws;
 mod looking;
 mod placements;
+mod places;
 mod plain;
 mod plain_board;
 mod plain_follower;
+mod sender;
 mod sending;
 mod starting;
 
-pub use board::DgtBoard;
 pub use board_calls::{DgtPolled, DgtTaken};
-pub use board_place::BoardPlace;
 pub use chunks::DgtTold;
 pub use clocks::{DgtClock, DgtTime};
-pub use command_decoder::DgtCommandDecoder;
-pub use command_decoder_place::CommandDecoderPlace;
 pub use commands::DgtCommand;
-pub use decoder::DgtDecoder;
-pub use decoder_place::DecoderPlace;
 pub use events::DgtEvent;
-pub use follower::DgtFollower;
-pub use follower_place::FollowerPlace;
-pub use host::DgtHost;
-pub use host_place::HostPlace;
+pub use handles::{DgtBoard, DgtCommandDecoder, DgtDecoder, DgtFollower, DgtHost};
 pub use placements::DgtParsed;
+pub use places::{BoardPlace, CommandDecoderPlace, DecoderPlace, FollowerPlace, HostPlace};
 pub use sending::DgtSent;
 pub use starting::{DgtBody, DgtIdentity};
