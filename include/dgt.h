@@ -75,6 +75,9 @@ extern "C" {
                                    number that a board keeps */
 #define DGT_PLACEMENT_ROOM 72   /* room for each placement and the zero at its end */
 
+/* The version of the library as one number, three digits a part: 1.2.3 is 1002003. */
+uint32_t dgt_version(void);
+
 /* ---- Handles. Their members are the library's. */
 
 /* How many bytes they take, as dgt_host_size() and its like answer, and _new compares. */

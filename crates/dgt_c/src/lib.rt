@@ -46,6 +46,7 @@ mod plain_follower;
 mod sender;
 mod sending;
 mod starting;
+mod version;
 
 pub use board_calls::{DgtPolled, DgtTaken};
 pub use chunks::DgtTold;
