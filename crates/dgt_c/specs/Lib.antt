@@ -7,6 +7,7 @@ pub mod Chunks
 pub mod Commands
 pub mod Reading
 pub mod Sent
+pub mod ClockSending
 pub mod Kinds
 pub mod Boards
 pub mod Starting

@@ -26,6 +26,7 @@
 mod board_calls;
 mod checking;
 mod chunks;
+mod clock_sending;
 mod clocks;
 mod command_decoding;
 mod commands;

@@ -5,10 +5,11 @@ ghost use Rattle.dgt_command.specs.Content.{CommandContent, command_content, kin
 ghost use Rattle.dgt_command.specs.Spelling.{command_spelling};
 ghost use Rattle.dgt_command.specs.declared.carried.TheConstants.{MAX_LED_BYTES, MAX_PAYLOAD};
 ghost use Rattle.dgt_host.specs.Host.{HostView, Sends};
+ghost use Rattle.dgt_c.specs.ClockSending.{SendsDisplay, SendsMessage};
 ghost use Rattle.dgt_c.specs.Sent.{RefusesCommand, SendsTold};
 
 use crate::sending::{DgtSent, NO_SUCH_COMMAND, sent_told};
-use dgt_command::{Command, LedBytes, MAX_PAYLOAD, MAX_WORD, view_command};
+use dgt_command::{ClockCommand, Command, LedBytes, MAX_PAYLOAD, MAX_WORD, display, view_command};
 use dgt_follow::Follower;
 use dgt_host::{Host, SendFault};
 
@@ -123,4 +124,39 @@ pub(crate) fn send_clock<S: Sender>(
     let word = &mut room[..payload.len() + 5];
     spell_clock(id, payload, word);
     send_word(sender, word, out)
+}
+
+/// Sends this message to the clock.
+pub(crate) fn send_message<S: Sender>(
+    sender: &mut S,
+    message: ClockCommand<'_>,
+    out: &mut [u8],
+) -> DgtSent
+    ensures sends { SendsMessage message.entry
+        (S.host sender.old) (S.host sender.new) out.old out.new result }
+    ensures keeps { S.keeps sender.old sender.new }
+{
+    sent_told(sender.send_command(&Command::ClockMessage(message), out))
+}
+
+/// Shows these six characters on the clock's display, if each has segments.
+pub(crate) fn send_display<S: Sender>(
+    sender: &mut S,
+    text: &[u8; 6],
+    dots: u8,
+    beep: u8,
+    out: &mut [u8],
+) -> DgtSent
+    ensures sends { SendsDisplay text.now dots beep
+        (S.host sender.old) (S.host sender.new) out.old out.new result }
+    ensures keeps { S.keeps sender.old sender.new }
+{
+    let [a, b, c, d, e, f] = *text;
+    let text = [
+        a as char, b as char, c as char, d as char, e as char, f as char,
+    ];
+    match display(text, dots, beep) {
+        Ok(message) => send_message(sender, message, out),
+        Err(_) => NO_SUCH_COMMAND,
+    }
 }
