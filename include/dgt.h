@@ -129,6 +129,9 @@ extern "C" {
                                    number that a board keeps */
 #define DGT_PLACEMENT_ROOM 72   /* room for each placement and the zero at its end */
 
+/* The version of the library as one number, three digits a part: 1.2.3 is 1002003. */
+uint32_t dgt_version(void);
+
 /* ---- Handles. Their members are the library's. */
 
 /* How many bytes they take, as dgt_host_size() and its like answer, and _new compares. */
@@ -399,6 +402,40 @@ dgt_sent dgt_host_send_clock(dgt_host *host, uint8_t id, const uint8_t *payload,
                              uint8_t *out, size_t n)
     DGT_MUST_USE_ DGT_NONNULL_(1) DGT_READS_(3, 4) DGT_WRITES_(5, 6);
 
+/* Clock messages by their meaning. Each number is sent as it is: what `dots`, `beep`, `duration`
+ * and `control` mean is the clock's. A board that has a clock acknowledges each of them by a
+ * DGT_EVENT_ACK. */
+
+/* Shows six digits, spaces and hyphens, from left to right. DGT_NO_COMMAND if there is another
+ * character among them; it goes before all else. */
+dgt_sent dgt_host_send_display(dgt_host *host, const char text[6], uint8_t dots, uint8_t beep,
+                               uint8_t *out, size_t n);
+
+/* Shows eight characters, from left to right, a byte each. */
+dgt_sent dgt_host_send_text(dgt_host *host, const char text[8], uint8_t beep, uint8_t *out,
+                            size_t n);
+
+/* Beeps for this duration. */
+dgt_sent dgt_host_send_beep(dgt_host *host, uint8_t duration, uint8_t *out, size_t n);
+
+/* Sets the times of both sides, in hours, minutes and seconds, and has the clock do what `control`
+ * says. */
+dgt_sent dgt_host_send_set_and_run(dgt_host *host, const uint8_t left[3], const uint8_t right[3],
+                                   uint8_t control, uint8_t *out, size_t n);
+
+/* Shows the icons of these bytes. DGT_NO_COMMAND if there are more than DGT_MAX_PAYLOAD. */
+dgt_sent dgt_host_send_icons(dgt_host *host, const uint8_t *icons, size_t icons_len, uint8_t *out,
+                             size_t n);
+
+/* Ends what is shown, so that the clock shows its times again. */
+dgt_sent dgt_host_send_end(dgt_host *host, uint8_t *out, size_t n);
+
+/* Asks for the state of the clock's buttons. */
+dgt_sent dgt_host_send_button(dgt_host *host, uint8_t *out, size_t n);
+
+/* Asks for the version of the clock. */
+dgt_sent dgt_host_send_clock_version(dgt_host *host, uint8_t *out, size_t n);
+
 /* Sends an LED frame. DGT_NO_COMMAND where it has more than DGT_MAX_LEDS bytes. */
 dgt_sent dgt_host_send_leds(dgt_host *host, const uint8_t *leds, size_t leds_len, uint8_t *out,
                             size_t n)
@@ -519,6 +556,21 @@ dgt_sent dgt_follower_send(dgt_follower *follower, uint8_t code, uint8_t *out, s
 dgt_sent dgt_follower_send_clock(dgt_follower *follower, uint8_t id, const uint8_t *payload,
                                  size_t payload_len, uint8_t *out, size_t n)
     DGT_MUST_USE_ DGT_NONNULL_(1) DGT_READS_(3, 4) DGT_WRITES_(5, 6);
+
+/* Sends what the calls of the same names send for a host. */
+dgt_sent dgt_follower_send_display(dgt_follower *follower, const char text[6], uint8_t dots,
+                                   uint8_t beep, uint8_t *out, size_t n);
+dgt_sent dgt_follower_send_text(dgt_follower *follower, const char text[8], uint8_t beep,
+                                uint8_t *out, size_t n);
+dgt_sent dgt_follower_send_beep(dgt_follower *follower, uint8_t duration, uint8_t *out, size_t n);
+dgt_sent dgt_follower_send_set_and_run(dgt_follower *follower, const uint8_t left[3],
+                                       const uint8_t right[3], uint8_t control, uint8_t *out,
+                                       size_t n);
+dgt_sent dgt_follower_send_icons(dgt_follower *follower, const uint8_t *icons, size_t icons_len,
+                                 uint8_t *out, size_t n);
+dgt_sent dgt_follower_send_end(dgt_follower *follower, uint8_t *out, size_t n);
+dgt_sent dgt_follower_send_button(dgt_follower *follower, uint8_t *out, size_t n);
+dgt_sent dgt_follower_send_clock_version(dgt_follower *follower, uint8_t *out, size_t n);
 
 /* Sends an LED frame, as dgt_host_send_leds does. */
 dgt_sent dgt_follower_send_leds(dgt_follower *follower, const uint8_t *leds, size_t leds_len,

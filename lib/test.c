@@ -417,6 +417,58 @@ static void follower(void) {
     free(follower);
 }
 
+/* Whether a command was sent that is these bytes. Fills the slice with rubbish afterwards. */
+static bool is_sent(dgt_sent sent, uint8_t *out, const uint8_t *bytes, size_t n) {
+    bool right = sent.status == DGT_SENT && sent.bytes == n && !memcmp(out, bytes, n);
+    memset(out, 0xa5, n);
+    return right;
+}
+
+/* Has a host and a follower send the same, and compares the bytes. */
+#define SENDS(name, bytes, ...)                                                                  \
+    do {                                                                                         \
+        CHECK(is_sent(dgt_host_send_##name(host, __VA_ARGS__), out, bytes));                     \
+        CHECK(is_sent(dgt_follower_send_##name(follower, __VA_ARGS__), out, bytes));             \
+    } while (0)
+
+/* Has a host and a follower send the same, which returns this status and this number. */
+#define REFUSES(name, said, count, ...)                                                          \
+    do {                                                                                         \
+        dgt_sent told = dgt_host_send_##name(host, __VA_ARGS__);                                 \
+        CHECK(told.status == (said) && told.bytes == (count));                                   \
+        told = dgt_follower_send_##name(follower, __VA_ARGS__);                                  \
+        CHECK(told.status == (said) && told.bytes == (count));                                   \
+    } while (0)
+
+static void clock_commands(void) {
+    dgt_host *host = room(dgt_host_size());
+    dgt_follower *follower = room(dgt_follower_size());
+    CHECK(dgt_host_new(host) && dgt_follower_new(follower, 1000, 1));
+    uint8_t *out = room(DGT_MAX_WORD), *many = room(DGT_MAX_PAYLOAD + 1);
+    uint8_t *left = copy("\1\0\0", 3), *right = copy("\0\73\36", 3);
+    char *digits = (char *)copy("-12345", 6), *other = (char *)copy("12345a", 6);
+    char *letters = (char *)copy("Resume!\377", 8);
+
+    SENDS(display, BYTES(0x2b, 11, 3, 1, 0x5b, 6, 0x40, 0x6d, 0x66, 0x4f, 1, 2, 0), digits, 1, 2,
+          out, 13);
+    REFUSES(display, DGT_NO_COMMAND, 0, other, 0, 0, out, 0);
+    REFUSES(display, DGT_NO_ROOM, 13, digits, 0, 0, out, 12);
+    SENDS(text, BYTES(0x2b, 12, 3, 12, 'R', 'e', 's', 'u', 'm', 'e', '!', 255, 7, 0), letters, 7,
+          out, 14);
+    SENDS(beep, BYTES(0x2b, 4, 3, 11, 3, 0), 3, out, 6);
+    SENDS(set_and_run, BYTES(0x2b, 10, 3, 10, 1, 0, 0, 0, 59, 30, 1, 0), left, right, 1, out, 12);
+    SENDS(icons, BYTES(0x2b, 5, 3, 2, 8, 9, 0), BYTES(8, 9), out, 7);
+    dgt_sent sent = dgt_host_send_icons(host, many, DGT_MAX_PAYLOAD, out, DGT_MAX_WORD);
+    CHECK(sent.status == DGT_SENT && sent.bytes == DGT_MAX_WORD && out[1] == 255 && out[4] == 0xa5);
+    REFUSES(icons, DGT_NO_COMMAND, 0, many, DGT_MAX_PAYLOAD + 1, out, DGT_MAX_WORD);
+    SENDS(end, BYTES(0x2b, 3, 3, 3, 0), out, 5);
+    SENDS(button, BYTES(0x2b, 3, 3, 8, 0), out, 5);
+    SENDS(clock_version, BYTES(0x2b, 3, 3, 9, 0), out, 5);
+    REFUSES(clock_version, DGT_NO_ROOM, 5, out, 4);
+    free(host), free(follower), free(out), free(many), free(left), free(right);
+    free(digits), free(other), free(letters);
+}
+
 static void decoders(void) {
     dgt_decoder *decoder = room(dgt_decoder_size());
     CHECK(dgt_decoder_new(decoder));
@@ -558,6 +610,7 @@ static void no_bytes_of_boards(void) {
 }
 
 int main(void) {
+    CHECK(dgt_version() == 1000000);
     CHECK(sizeof(dgt_host) == dgt_host_size() && sizeof(dgt_decoder) == dgt_decoder_size());
     CHECK(sizeof(dgt_board) == dgt_board_size() && sizeof(dgt_follower) == dgt_follower_size());
     CHECK(sizeof(dgt_command_decoder) == dgt_command_decoder_size());
@@ -567,6 +620,7 @@ int main(void) {
     events();
     chunks();
     follower();
+    clock_commands();
     decoders();
     helpers();
     no_bytes_of_hosts();

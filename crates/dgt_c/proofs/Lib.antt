@@ -1,3 +1,9 @@
+-- What the proofs of handles share.
+pub mod HandleRow
+pub mod HandleLending
+pub mod HandleMaking
+pub mod EachHandle
+-- Lemmas.
 pub mod AsciiLemmas
 pub mod ChunkLemmas
 pub mod Codes

@@ -7,21 +7,13 @@ pub mod Chunks
 pub mod Commands
 pub mod Reading
 pub mod Sent
+pub mod ClockSending
 pub mod Kinds
 pub mod Boards
 pub mod Starting
 pub mod PlainBoard
 pub mod Following
 pub mod PlainFollower
--- Where handles and what they own lie.
+-- Structs of C in memory.
 pub mod Layouts
-pub mod HostLending
-pub mod HostPlace
-pub mod DecoderLending
-pub mod DecoderPlace
-pub mod CommandDecoderLending
-pub mod CommandDecoderPlace
-pub mod BoardLending
-pub mod BoardPlace
-pub mod FollowerLending
-pub mod FollowerPlace
+pub mod Rooms

@@ -11,9 +11,9 @@ ghost use Rattle.dgt_board.specs.View.{view_after_line_lost};
 ghost use Rattle.dgt_c.specs.Clocks.{SaysClock, clock_told};
 ghost use Rattle.dgt_c.specs.Boards.{PollsTold, Takes, mode_number};
 
-use crate::board::DgtBoard;
 use crate::clocks::{DgtClock, clock_told, read_clock};
 use crate::commands::{DgtCommand, NO_WORD, tell_command};
+use crate::handles::DgtBoard;
 use dgt_board::{MAX_SENT, Mode, Polled};
 use dgt_values::{Piece, Square};
 

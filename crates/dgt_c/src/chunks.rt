@@ -7,10 +7,9 @@ ghost use Rattle.dgt_c.specs.Chunks.{TellsEach, UsesUpTo, bodies, each_told, eve
 ghost use Rattle.dgt_c.specs.Slices.{overwritten};
 
 use crate::copying::overwrite;
-use crate::decoder::DgtDecoder;
 use crate::events::{DgtEvent, body_of, tell};
+use crate::handles::{DgtDecoder, DgtHost};
 use crate::hearing::tell_heard;
-use crate::host::DgtHost;
 use dgt_decode::{Decoder, laws};
 use dgt_host::Host;
 

@@ -4,8 +4,8 @@ ghost use Rattle.std.specs.Prelude.{◌≡◌, ◌≤◌, ◌<◌, [], length};
 ghost use Rattle.dgt_command.specs.Words.{IsPartial};
 ghost use Rattle.dgt_c.specs.Reading.{FeedsWords};
 
-use crate::command_decoder::DgtCommandDecoder;
 use crate::commands::{DgtCommand, tell_command};
+use crate::handles::DgtCommandDecoder;
 use dgt_command::MAX_WORD;
 
 /// Uses bytes up to and including the first that completes a command or shows a fault, or all of

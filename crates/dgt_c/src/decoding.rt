@@ -5,8 +5,8 @@ ghost use Rattle.dgt_decode.specs.Grammar.{open_message};
 ghost use Rattle.dgt_c.specs.Hearing.{Feeds};
 
 use crate::copying::overwrite;
-use crate::decoder::DgtDecoder;
 use crate::events::{DgtEvent, body_of, tell};
+use crate::handles::DgtDecoder;
 use dgt_decode::MAX_TOTAL;
 
 /// Uses bytes up to and including the first that makes an event, or all of them, and answers how

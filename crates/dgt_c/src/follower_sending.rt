@@ -6,26 +6,9 @@ ghost use Rattle.dgt_command.specs.Spelling.{command_spelling};
 ghost use Rattle.dgt_command.specs.declared.carried.TheConstants.{MAX_LED_BYTES, MAX_PAYLOAD};
 ghost use Rattle.dgt_c.specs.Sent.{RefusesCommand, SendsTold};
 
-use crate::follower::DgtFollower;
-use crate::sending::{DgtSent, NO_SUCH_COMMAND, sent_told, spell_clock};
-use dgt_command::{Command, LedBytes, MAX_PAYLOAD, MAX_WORD, view_command};
-use dgt_follow::Follower;
-
-// Sends the command whose bytes these are, if there is one.
-fn send_word(follower: &mut Follower, word: &[u8], out: &mut [u8]) -> DgtSent
-    ensures sends { (said : CommandContent) → word.now ≡ command_spelling said →
-        SendsTold (record { kind = kind_of_command said; bytes = word.now })
-        follower.old.host follower.new.host out.old out.new result }
-    ensures refused { ((said : CommandContent) → word.now ≢ command_spelling said) →
-        RefusesCommand follower.old.host follower.new.host out.old out.new result }
-    ensures pace { follower.new.pace ≡ follower.old.pace }
-{
-    dgt_command::laws::spellings_tell_commands();
-    match view_command(word) {
-        Some(command) => sent_told(follower.send(&command, out)),
-        None => NO_SUCH_COMMAND,
-    }
-}
+use crate::handles::DgtFollower;
+use crate::sender::{send_clock, send_leds, send_word};
+use crate::sending::DgtSent;
 
 /// Sends the command that is this byte alone, if one is.
 #[unsafe(no_mangle)]
@@ -56,10 +39,7 @@ pub extern "C" fn dgt_follower_send_leds(
         RefusesCommand follower.old.inside.host follower.new.inside.host out.old out.new result }
     ensures pace { follower.new.inside.pace ≡ follower.old.inside.pace }
 {
-    match LedBytes::new(leds) {
-        Ok(leds) => sent_told(follower.get().send(&Command::Leds(leds), out)),
-        Err(_) => NO_SUCH_COMMAND,
-    }
+    send_leds(follower.get(), leds, out)
 }
 
 /// Sends the clock message of this id that carries these bytes.
@@ -82,11 +62,5 @@ pub extern "C" fn dgt_follower_send_clock(
         RefusesCommand follower.old.inside.host follower.new.inside.host out.old out.new result }
     ensures pace { follower.new.inside.pace ≡ follower.old.inside.pace }
 {
-    if payload.len() > MAX_PAYLOAD {
-        return NO_SUCH_COMMAND;
-    }
-    let mut room = [0; MAX_WORD];
-    let word = &mut room[..payload.len() + 5];
-    spell_clock(id, payload, word);
-    send_word(follower.get(), word, out)
+    send_clock(follower.get(), id, payload, out)
 }

@@ -8,7 +8,7 @@ ghost use Rattle.dgt_follow.specs.Follower.{follower_after, following, new_follo
 ghost use Rattle.dgt_c.specs.Following.{AsksTold, asked_told, update_mode_number};
 
 use crate::board_calls::{MODE_UPDATE, MODE_UPDATE_BOARD, MODE_UPDATE_NICE};
-use crate::follower::DgtFollower;
+use crate::handles::DgtFollower;
 use crate::sending::{DgtSent, SENT, SENT_NO_ROOM};
 use dgt_follow::{Follower, UpdateMode};
 use dgt_values::NoRoom;

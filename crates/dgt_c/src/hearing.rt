@@ -9,7 +9,7 @@ ghost use Rattle.dgt_c.specs.Told.{event_told};
 
 use crate::copying::overwrite;
 use crate::events::{DgtEvent, body_of, tell};
-use crate::host::DgtHost;
+use crate::handles::DgtHost;
 use dgt_decode::Event;
 
 // Tells an event, and whether it was not asked for.

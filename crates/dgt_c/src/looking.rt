@@ -9,8 +9,7 @@ ghost use Rattle.dgt_c.specs.Slices.{with_text};
 
 use crate::clocks::{DgtClock, UNKNOWN_CLOCK, clock_told};
 use crate::copying::{PLACEMENT_ROOM, put_placement};
-use crate::follower::DgtFollower;
-use crate::host::DgtHost;
+use crate::handles::{DgtFollower, DgtHost};
 use dgt_host::{Host, MAX_AWAITED};
 use dgt_values::Kind;
 

@@ -1,6 +1,6 @@
 //! What C has a host send.
 
-ghost use Rattle.std.specs.Prelude.{◌≡◌, ◌≢◌, ◌≤◌, ◌<◌, ◌+◌, ◌∷◌, [], Some, None, length};
+ghost use Rattle.std.specs.Prelude.{◌≡◌, ◌≢◌, ◌≤◌, ◌<◌, ◌∷◌, [], Some, None, length};
 ghost use Rattle.dgt_command.specs.Content.{CommandContent, kind_of_command};
 ghost use Rattle.dgt_command.specs.Spelling.{command_spelling};
 ghost use Rattle.dgt_command.specs.declared.carried.TheConstants.{MAX_LED_BYTES, MAX_PAYLOAD};
@@ -8,9 +8,9 @@ ghost use Rattle.dgt_values.specs.declared.kinds.Kind.TheVariants as kind;
 ghost use Rattle.dgt_host.specs.Host.{follow_bytes, restart_bytes};
 ghost use Rattle.dgt_c.specs.Sent.{RefusesCommand, SendsTold, sent_told};
 
-use crate::host::DgtHost;
-use dgt_command::{Command, LedBytes, MAX_PAYLOAD, MAX_WORD, view_command};
-use dgt_host::{Host, SendFault};
+use crate::handles::DgtHost;
+use crate::sender::{send_clock, send_leds, send_word};
+use dgt_host::SendFault;
 
 pub const SENT: u8 = 0;
 
@@ -73,21 +73,6 @@ pub extern "C" fn dgt_host_restart(host: &mut DgtHost, out: &mut [u8]) -> DgtSen
     sent_told(host.get().restart(out))
 }
 
-// Sends the command that is spelled so, if there is one.
-fn send_word(host: &mut Host, word: &[u8], out: &mut [u8]) -> DgtSent
-    ensures sends { (said : CommandContent) → word.now ≡ command_spelling said →
-        SendsTold (record { kind = kind_of_command said; bytes = word.now })
-        host.old host.new out.old out.new result }
-    ensures refused { ((said : CommandContent) → word.now ≢ command_spelling said) →
-        RefusesCommand host.old host.new out.old out.new result }
-{
-    dgt_command::laws::spellings_tell_commands();
-    match view_command(word) {
-        Some(command) => sent_told(host.send(&command, out)),
-        None => NO_SUCH_COMMAND,
-    }
-}
-
 /// Sends the command that is this byte alone, if one is.
 #[unsafe(no_mangle)]
 pub extern "C" fn dgt_host_send(host: &mut DgtHost, code: u8, out: &mut [u8]) -> DgtSent
@@ -111,24 +96,7 @@ pub extern "C" fn dgt_host_send_leds(host: &mut DgtHost, leds: &[u8], out: &mut 
     ensures refused { MAX_LED_BYTES < length leds.now →
         RefusesCommand host.old.inside host.new.inside out.old out.new result }
 {
-    match LedBytes::new(leds) {
-        Ok(leds) => sent_told(host.get().send(&Command::Leds(leds), out)),
-        Err(_) => NO_SUCH_COMMAND,
-    }
-}
-
-// Fills the slice with the clock message of this id that carries these bytes.
-pub(crate) fn spell_clock(id: u8, payload: &[u8], out: &mut [u8])
-    requires short { length payload.now ≤ MAX_PAYLOAD }
-    requires fits { length out.old ≡ length payload.now + 5 }
-    ensures { out.new ≡ command_spelling
-        (CommandContent.ClockMessage (record { id = id; payload = payload.now })) }
-{
-    let (head, tail) = out.split_at_mut(4);
-    head.copy_from_slice(&[0x2b, payload.len() as u8 + 3, 0x03, id]);
-    let (body, end) = tail.split_at_mut(payload.len());
-    body.copy_from_slice(payload);
-    end.copy_from_slice(&[0x00]);
+    send_leds(host.get(), leds, out)
 }
 
 /// Sends the clock message of this id that carries these bytes.
@@ -150,11 +118,5 @@ pub extern "C" fn dgt_host_send_clock(
     ensures refused { MAX_PAYLOAD < length payload.now →
         RefusesCommand host.old.inside host.new.inside out.old out.new result }
 {
-    if payload.len() > MAX_PAYLOAD {
-        return NO_SUCH_COMMAND;
-    }
-    let mut room = [0; MAX_WORD];
-    let word = &mut room[..payload.len() + 5];
-    spell_clock(id, payload, word);
-    send_word(host.get(), word, out)
+    send_clock(host.get(), id, payload, out)
 }

@@ -8,9 +8,9 @@ ghost use Rattle.dgt_message.specs.Clock.{ClockState};
 ghost use Rattle.dgt_c.specs.Clocks.{SaysClock};
 ghost use Rattle.dgt_c.specs.Starting.{ArePieces, IsBody, IsIdentity, Starts, body_in, identity_in};
 
-use crate::board::DgtBoard;
 use crate::checking::{are_seven_bit, read_position};
 use crate::clocks::{DgtClock, read_clock};
+use crate::handles::DgtBoard;
 use dgt_board::{Board, Identity, MAX_KEPT_BODY};
 use dgt_values::{Body, SevenBit};
 

@@ -1,0 +1,63 @@
+-- A handle of C's as a row: a struct of one pointer, which owns what lies there.
+use Rattle.std.proofs.Common.{◌≡◌, [], ◌∷◌}
+use base.Fraction.{full_share}
+use base.Shift.{Keyless}
+use base.Stored.{Coded}
+use mir.Syntax.{Sym}
+use denote.Param.Laws.{Laws}
+use denote.Param.Send.{IsSend, owning_send, part_keyless, sendable}
+use denote.RattleType.{RattleType}
+use denote.RawPtr.{Ptr, block_ptr, null_ptr, lies_at}
+use denote.Struct.Field.{RawPtr-field}
+use denote.Struct.Owning.{Owning, owning, row}
+use denote.Struct.Record.{Record, Also, Done}
+use denote.Struct.Values.{Values}
+
+lies : (R : RattleType) → IsSend R → (p : Ptr) (x : R.Denot) → Keyless (lies_at R full_share p x)
+lies R s (block_ptr b o) x = part_keyless R s full_share x b o
+lies R s null_ptr x = tt
+
+-- the type of what is inside, the struct's name, and the record D that contracts see, with its fields
+pub record Handle : Type 2 where
+  pub inside_row : RattleType
+  pub laws : Laws inside_row
+  pub name : Sym
+  pub D : Type 0
+  pub at : D → Ptr
+  pub inside : D → inside_row.Denot
+  pub make : Ptr → inside_row.Denot → D
+  pub made : (d : D) → make (at d) (inside d) ≡ d
+  pub at_is : (p : Ptr) (x : inside_row.Denot) → at (make p x) ≡ p
+  pub inside_is : (p : Ptr) (x : inside_row.Denot) → inside (make p x) ≡ x
+  pub codes : (v : Values (RawPtr-field ∷ [])) → Coded (Also inside_row.Denot (λ _. Done))
+
+module _ (K : Handle) where
+  abbrev struct : Record
+  struct = record {
+    name = K.name;
+    args = [];
+    types = [];
+    parts = RawPtr-field ∷ [];
+    D = K.D;
+    as_values = λ d. (K.at d, tt);
+    Ghost = λ v. Also K.inside_row.Denot (λ _. Done);
+    ghosts = λ d. (K.inside d, tt);
+    make = λ v g. K.make v.0 g.0;
+    eta = K.made;
+    beta = λ v g i. (K.at_is v.0 g.0 i, tt);
+  }
+
+  abbrev pub handle_type : Owning
+  handle_type = owning struct K.codes (λ d. lies_at K.inside_row full_share (K.at d) (K.inside d))
+
+  abbrev pub handle_row : RattleType
+  handle_row = row handle_type
+
+  -- the handle of what is inside now
+  abbrev pub with_inside : K.D → K.inside_row.Denot → K.D
+  with_inside h w = K.make (K.at h) w
+
+  -- it may go to another thread if what is inside may
+  pub sends : IsSend K.inside_row → IsSend handle_row
+  sends s =
+      owning_send handle_type (search sendable, tt) (λ d. lies K.inside_row s (K.at d) (K.inside d)) (λ k x w. tt)

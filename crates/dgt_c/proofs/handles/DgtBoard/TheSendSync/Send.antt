@@ -1,0 +1,9 @@
+-- A handle may go to another thread, as what it owns may.
+use denote.Param.Send.{IsSend}
+use Rattle.dgt_board.proofs.boards.Board.TheSendSync.{the_send}
+use Rattle.dgt_c.specs.contracts.handles.DgtBoard.{the_row}
+use Rattle.dgt_c.proofs.EachHandle.{board}
+use Rattle.dgt_c.proofs.HandleRow.{sends}
+
+pub send : IsSend the_row
+send = sends board the_send

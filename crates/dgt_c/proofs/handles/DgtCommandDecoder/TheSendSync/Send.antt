@@ -1,0 +1,9 @@
+-- A handle may go to another thread, as what it owns may.
+use denote.Param.Send.{IsSend}
+use Rattle.dgt_command.proofs.decoder.CommandDecoder.TheSendSync.{the_send}
+use Rattle.dgt_c.specs.contracts.handles.DgtCommandDecoder.{the_row}
+use Rattle.dgt_c.proofs.EachHandle.{command_decoder}
+use Rattle.dgt_c.proofs.HandleRow.{sends}
+
+pub send : IsSend the_row
+send = sends command_decoder the_send

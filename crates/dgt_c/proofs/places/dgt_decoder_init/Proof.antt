@@ -1,0 +1,15 @@
+-- `dgt_decoder_init` makes the handle and what it owns.
+use Rattle.std.proofs.Common.{[]}
+use Rattle.dgt_decode.proofs.decoder.Decoder.new.Symbol.{name as new}
+use Rattle.dgt_decode.proofs.decoder.Decoder.new.Met.{met}
+use Rattle.dgt_c.specs.contracts.places.DecoderPlace.{struct}
+use Rattle.dgt_c.specs.contracts.places.dgt_decoder_init.Key.{name}
+use Rattle.dgt_c.proofs.EachHandle.{decoder}
+use Rattle.dgt_c.proofs.HandleMaking.{makes}
+use Rattle.dgt_c.proofs.places.dgt_decoder_init.Statement.{statement}
+use Rattle.dgt_c.proofs.places.dgt_decoder_init.Code as code
+
+pub dgt_decoder_init_spec : {M : Type 1} → statement M
+dgt_decoder_init_spec 𝓤 𝓛 𝓜 𝓡 wired =
+    makes decoder struct.name new [] 𝓤 𝓛 𝓜 𝓡 name (code.unfolded 𝓤 𝓛.H 𝓜 𝓡 wired)
+    (met 𝓤 𝓛 𝓜 𝓡 (code.calls-dgt_decode::decoder::Decoder::new 𝓡.env wired))

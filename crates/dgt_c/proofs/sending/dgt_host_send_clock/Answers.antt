@@ -1,9 +1,0 @@
-use Rattle.dgt_command.specs.Content.{ClockContent, CommandContent}
-use Rattle.dgt_c.proofs.sending.dgt_host_send_clock.Goals as goal
-
-pub returns-clause-sends : goal.returns-clause-sends
-returns-clause-sends c = λ short.
-    let message : ClockContent = record { id = c.args.id; payload = c.args.payload.now } in
-    let said : CommandContent = CommandContent.ClockMessage message in
-    let sent = c.send_word.ensures.sends said c.spell_clock.ensures in
-    rw (c.spell_clock.ensures, c.get.ensures.value) at sent

@@ -1,0 +1,160 @@
+//! The handles of C. Each points to what it owns in memory of C's. Contracts see that as `inside`.
+
+ghost use Rattle.std.specs.Prelude.{◌≡◌, ℕ, List};
+ghost use Rattle.std.specs.Borrow.{Lends, full_share, sem};
+ghost use Rattle.std.specs.Ptr.{lies_at};
+ghost use Rattle.dgt_board.specs.View.{BoardView};
+ghost use Rattle.dgt_board.specs.contracts.boards.Board.{the_row as board_row};
+ghost use Rattle.dgt_command.specs.contracts.decoder.CommandDecoder.{the_row as command_decoder_row};
+ghost use Rattle.dgt_decode.specs.contracts.decoder.Decoder.{the_row as decoder_row};
+ghost use Rattle.dgt_follow.specs.Follower.{FollowerView};
+ghost use Rattle.dgt_follow.specs.contracts.follower.Follower.{the_row as follower_row};
+ghost use Rattle.dgt_host.specs.Host.{HostView};
+ghost use Rattle.dgt_host.specs.contracts.host.Host.{the_row as host_row};
+
+use dgt_board::Board;
+use dgt_command::CommandDecoder;
+use dgt_decode::Decoder;
+use dgt_follow::Follower;
+use dgt_host::Host;
+use std::marker::{Model, Send};
+
+/// A host in memory of C's.
+#[repr(C)]
+#[derive(Drop)]
+pub struct DgtHost {
+    pub(crate) at: *mut u8,
+    ghost inside: { HostView },
+}
+
+impl Model for DgtHost {
+    ghost also_owns = { λ handle. lies_at host_row full_share handle.at handle.inside };
+}
+
+// It may go to another thread, as what it points to may.
+unsafe impl Send for DgtHost {}
+
+impl DgtHost {
+    ghost use Rattle.dgt_c.specs.contracts.handles.DgtHost.{the_row};
+
+    /// The host, lent. The handle follows what is done to it.
+    pub(crate) fn get(&mut self) -> &mut Host
+        ensures* writes_back { sem 𝓛 (Lends the_row host_row self.entry result
+            (λ inside. record self.old { inside = inside })) }
+        ensures value { result.now ≡ self.old.inside }
+    {
+        unsafe { &mut *(self.at as *mut Host) }
+    }
+}
+
+/// A follower in memory of C's.
+#[repr(C)]
+#[derive(Drop)]
+pub struct DgtFollower {
+    pub(crate) at: *mut u8,
+    ghost inside: { FollowerView },
+}
+
+impl Model for DgtFollower {
+    ghost also_owns = { λ handle. lies_at follower_row full_share handle.at handle.inside };
+}
+
+// It may go to another thread, as what it points to may.
+unsafe impl Send for DgtFollower {}
+
+impl DgtFollower {
+    ghost use Rattle.dgt_c.specs.contracts.handles.DgtFollower.{the_row};
+
+    /// The follower, lent. The handle follows what is done to it.
+    pub(crate) fn get(&mut self) -> &mut Follower
+        ensures* writes_back { sem 𝓛 (Lends the_row follower_row self.entry result
+            (λ inside. record self.old { inside = inside })) }
+        ensures value { result.now ≡ self.old.inside }
+    {
+        unsafe { &mut *(self.at as *mut Follower) }
+    }
+}
+
+/// A decoder in memory of C's.
+#[repr(C)]
+#[derive(Drop)]
+pub struct DgtDecoder {
+    pub(crate) at: *mut u8,
+    ghost inside: { List ℕ },
+}
+
+impl Model for DgtDecoder {
+    ghost also_owns = { λ handle. lies_at decoder_row full_share handle.at handle.inside };
+}
+
+// It may go to another thread, as what it points to may.
+unsafe impl Send for DgtDecoder {}
+
+impl DgtDecoder {
+    ghost use Rattle.dgt_c.specs.contracts.handles.DgtDecoder.{the_row};
+
+    /// The decoder, lent. The handle follows what is done to it.
+    pub(crate) fn get(&mut self) -> &mut Decoder
+        ensures* writes_back { sem 𝓛 (Lends the_row decoder_row self.entry result
+            (λ inside. record self.old { inside = inside })) }
+        ensures value { result.now ≡ self.old.inside }
+    {
+        unsafe { &mut *(self.at as *mut Decoder) }
+    }
+}
+
+/// A reader of commands in memory of C's.
+#[repr(C)]
+#[derive(Drop)]
+pub struct DgtCommandDecoder {
+    pub(crate) at: *mut u8,
+    ghost inside: { List ℕ },
+}
+
+impl Model for DgtCommandDecoder {
+    ghost also_owns = { λ handle. lies_at command_decoder_row full_share handle.at handle.inside };
+}
+
+// It may go to another thread, as what it points to may.
+unsafe impl Send for DgtCommandDecoder {}
+
+impl DgtCommandDecoder {
+    ghost use Rattle.dgt_c.specs.contracts.handles.DgtCommandDecoder.{the_row};
+
+    /// The reader of commands, lent. The handle follows what is done to it.
+    pub(crate) fn get(&mut self) -> &mut CommandDecoder
+        ensures* writes_back { sem 𝓛 (Lends the_row command_decoder_row self.entry result
+            (λ inside. record self.old { inside = inside })) }
+        ensures value { result.now ≡ self.old.inside }
+    {
+        unsafe { &mut *(self.at as *mut CommandDecoder) }
+    }
+}
+
+/// A board in memory of C's.
+#[repr(C)]
+#[derive(Drop)]
+pub struct DgtBoard {
+    pub(crate) at: *mut u8,
+    ghost inside: { BoardView },
+}
+
+impl Model for DgtBoard {
+    ghost also_owns = { λ handle. lies_at board_row full_share handle.at handle.inside };
+}
+
+// It may go to another thread, as what it points to may.
+unsafe impl Send for DgtBoard {}
+
+impl DgtBoard {
+    ghost use Rattle.dgt_c.specs.contracts.handles.DgtBoard.{the_row};
+
+    /// The board, lent. The handle follows what is done to it.
+    pub(crate) fn get(&mut self) -> &mut Board
+        ensures* writes_back { sem 𝓛 (Lends the_row board_row self.entry result
+            (λ inside. record self.old { inside = inside })) }
+        ensures value { result.now ≡ self.old.inside }
+    {
+        unsafe { &mut *(self.at as *mut Board) }
+    }
+}

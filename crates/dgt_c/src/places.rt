@@ -1,0 +1,194 @@
+//! How each handle and what it owns lie in memory of C's, and how both are made there.
+
+ghost use Rattle.std.specs.Prelude.{◌≡◌, []};
+ghost use Rattle.std.specs.Borrow.{full_share, sem};
+ghost use Rattle.std.specs.Ptr.{lies_at, room_at};
+ghost use denote.RawPtr.{◌+ₚ◌};
+ghost use Rattle.dgt_host.specs.Host.{new_host};
+ghost use Rattle.dgt_c.specs.PlainBoard.{plain_board};
+ghost use Rattle.dgt_c.specs.PlainFollower.{plain_follower};
+ghost use Rattle.dgt_c.specs.Rooms.{board_room, command_decoder_room, decoder_room, follower_room, host_room};
+ghost use Rattle.dgt_c.specs.contracts.handles.DgtBoard.{the_row as board_handle};
+ghost use Rattle.dgt_c.specs.contracts.handles.DgtCommandDecoder.{the_row as command_decoder_handle};
+ghost use Rattle.dgt_c.specs.contracts.handles.DgtDecoder.{the_row as decoder_handle};
+ghost use Rattle.dgt_c.specs.contracts.handles.DgtFollower.{the_row as follower_handle};
+ghost use Rattle.dgt_c.specs.contracts.handles.DgtHost.{the_row as host_handle};
+ghost use Rattle.dgt_c.specs.contracts.places.BoardPlace.{the_row as board_place};
+ghost use Rattle.dgt_c.specs.contracts.places.CommandDecoderPlace.{the_row as command_decoder_place};
+ghost use Rattle.dgt_c.specs.contracts.places.DecoderPlace.{the_row as decoder_place};
+ghost use Rattle.dgt_c.specs.contracts.places.FollowerPlace.{the_row as follower_place};
+ghost use Rattle.dgt_c.specs.contracts.places.HostPlace.{the_row as host_place};
+
+use crate::handles::{DgtBoard, DgtCommandDecoder, DgtDecoder, DgtFollower, DgtHost};
+use crate::plain_board::plain_board;
+use crate::plain_follower::plain_follower;
+use dgt_board::Board;
+use dgt_command::CommandDecoder;
+use dgt_decode::Decoder;
+use dgt_follow::Follower;
+use dgt_host::Host;
+
+/// What C calls a `dgt_host`: the handle, and the room that it points to.
+#[repr(C)]
+pub struct HostPlace {
+    at: *mut u8,
+    inside: Host,
+}
+
+/// Makes a host that knows nothing yet and awaits nothing. There is room for a `dgt_host` where
+/// `host` points.
+#[unsafe(no_mangle)]
+pub unsafe extern "C" fn dgt_host_init(host: *mut DgtHost)
+    requires* { sem 𝓛 (room_at host_place host) }
+    ensures* { sem 𝓛 (lies_at host_handle full_share host
+        (record { at = host +ₚ 8; inside = new_host })) }
+{
+    let place = host as *mut HostPlace;
+    unsafe {
+        let inside = &raw mut (*place).inside;
+        inside.write(Host::new());
+        host.write(DgtHost {
+            at: inside as *mut u8,
+        });
+    }
+}
+
+/// How many bytes a `dgt_host` takes.
+#[unsafe(no_mangle)]
+pub extern "C" fn dgt_host_size() -> usize
+    ensures { result ≡ host_room }
+{
+    std::mem::size_of::<HostPlace>()
+}
+
+/// What C calls a `dgt_follower`: the handle, and the room that it points to.
+#[repr(C)]
+pub struct FollowerPlace {
+    at: *mut u8,
+    inside: Follower,
+}
+
+/// Makes a follower that has never asked, with a period of ten seconds and a patience of six
+/// heartbeats. There is room for a `dgt_follower` where `follower` points.
+#[unsafe(no_mangle)]
+pub unsafe extern "C" fn dgt_follower_init(follower: *mut DgtFollower)
+    requires* { sem 𝓛 (room_at follower_place follower) }
+    ensures* { sem 𝓛 (lies_at follower_handle full_share follower
+        (record { at = follower +ₚ 8; inside = plain_follower })) }
+{
+    let place = follower as *mut FollowerPlace;
+    unsafe {
+        let inside = &raw mut (*place).inside;
+        inside.write(plain_follower());
+        follower.write(DgtFollower {
+            at: inside as *mut u8,
+        });
+    }
+}
+
+/// How many bytes a `dgt_follower` takes.
+#[unsafe(no_mangle)]
+pub extern "C" fn dgt_follower_size() -> usize
+    ensures { result ≡ follower_room }
+{
+    std::mem::size_of::<FollowerPlace>()
+}
+
+/// What C calls a `dgt_decoder`: the handle, and the room that it points to.
+#[repr(C)]
+pub struct DecoderPlace {
+    at: *mut u8,
+    inside: Decoder,
+}
+
+/// Makes a decoder that has read nothing. There is room for a `dgt_decoder` where `decoder`
+/// points.
+#[unsafe(no_mangle)]
+pub unsafe extern "C" fn dgt_decoder_init(decoder: *mut DgtDecoder)
+    requires* { sem 𝓛 (room_at decoder_place decoder) }
+    ensures* { sem 𝓛 (lies_at decoder_handle full_share decoder
+        (record { at = decoder +ₚ 8; inside = [] })) }
+{
+    let place = decoder as *mut DecoderPlace;
+    unsafe {
+        let inside = &raw mut (*place).inside;
+        inside.write(Decoder::new());
+        decoder.write(DgtDecoder {
+            at: inside as *mut u8,
+        });
+    }
+}
+
+/// How many bytes a `dgt_decoder` takes.
+#[unsafe(no_mangle)]
+pub extern "C" fn dgt_decoder_size() -> usize
+    ensures { result ≡ decoder_room }
+{
+    std::mem::size_of::<DecoderPlace>()
+}
+
+/// What C calls a `dgt_command_decoder`: the handle, and the room that it points to.
+#[repr(C)]
+pub struct CommandDecoderPlace {
+    at: *mut u8,
+    inside: CommandDecoder,
+}
+
+/// Makes a reader of commands that holds nothing. There is room for a `dgt_command_decoder`
+/// where `command_decoder` points.
+#[unsafe(no_mangle)]
+pub unsafe extern "C" fn dgt_command_decoder_init(command_decoder: *mut DgtCommandDecoder)
+    requires* { sem 𝓛 (room_at command_decoder_place command_decoder) }
+    ensures* { sem 𝓛 (lies_at command_decoder_handle full_share command_decoder
+        (record { at = command_decoder +ₚ 8; inside = [] })) }
+{
+    let place = command_decoder as *mut CommandDecoderPlace;
+    unsafe {
+        let inside = &raw mut (*place).inside;
+        inside.write(CommandDecoder::new());
+        command_decoder.write(DgtCommandDecoder {
+            at: inside as *mut u8,
+        });
+    }
+}
+
+/// How many bytes a `dgt_command_decoder` takes.
+#[unsafe(no_mangle)]
+pub extern "C" fn dgt_command_decoder_size() -> usize
+    ensures { result ≡ command_decoder_room }
+{
+    std::mem::size_of::<CommandDecoderPlace>()
+}
+
+/// What C calls a `dgt_board`: the handle, and the room that it points to.
+#[repr(C)]
+pub struct BoardPlace {
+    at: *mut u8,
+    inside: Board,
+}
+
+/// Makes a board in the position in which a game begins, with the clock and the identity of the
+/// board of the program `dgt`. There is room for a `dgt_board` where `board` points.
+#[unsafe(no_mangle)]
+pub unsafe extern "C" fn dgt_board_init(board: *mut DgtBoard)
+    requires* { sem 𝓛 (room_at board_place board) }
+    ensures* { sem 𝓛 (lies_at board_handle full_share board
+        (record { at = board +ₚ 8; inside = plain_board })) }
+{
+    let place = board as *mut BoardPlace;
+    unsafe {
+        let inside = &raw mut (*place).inside;
+        inside.write(plain_board());
+        board.write(DgtBoard {
+            at: inside as *mut u8,
+        });
+    }
+}
+
+/// How many bytes a `dgt_board` takes.
+#[unsafe(no_mangle)]
+pub extern "C" fn dgt_board_size() -> usize
+    ensures { result ≡ board_room }
+{
+    std::mem::size_of::<BoardPlace>()
+}
