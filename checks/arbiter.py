@@ -1,5 +1,6 @@
 """Plays whole fast games over UCI with a simulated board, and compares each move that the engine
-sends with the one that was made on the board.
+sends with the one that was made on the board. The board's side moves by chance, and the other side
+plays to win, so most games end with a mate.
 
 A third of the games begin with a FEN. In half of them the board has Black, in some it is turned,
 and in half of them the line loses and alters bytes. Moves are made as people make them: pieces are
@@ -18,9 +19,11 @@ import games
 from engines import Wrong, wanted
 
 SETTLE = 0.3
-PLIES = 40
-# A hand that the machine holds up for longer than this has made another move meanwhile.
-MOST_LATE = SETTLE - 0.05
+# How much longer a move rests in each further try, if the machine holds the hands up.
+SLOWER = 4
+# A game that lasts longer is cut off.
+PLIES = 200
+WORTH = dict(zip("PNBRQKpnbrqk", (1, 3, 3, 5, 9, 0) * 2))
 
 
 class Late(Exception):
@@ -30,15 +33,18 @@ class Late(Exception):
 class Game:
     """A game that is played. It counts what it has tried."""
 
-    def __init__(self, dgt, seed, folder):
+    def __init__(self, dgt, seed, folder, settle):
         self.dgt, self.seed = dgt, seed
+        # A hand that the machine holds up for longer than this has made another move meanwhile.
+        self.most_late = settle - 0.05
         self.chance = random.Random(1000 + seed)
         self.line = engines.Line(dgt, folder)
         self.hands = engines.Hands(dgt, self.line, seed)
-        options = [("Settle", round(1000 * SETTLE))]
+        options = [("Settle", round(1000 * settle))]
         self.engine = engines.Engine(self.line.path, "--period", "1", options=options)
         self.counts = dict.fromkeys(["moves", "castlings", "en passant", "promotions", "mates",
-                                     "early", "faults", "quick answers", "answers"], 0)
+                                     "stalemates", "cut off", "early", "faults", "quick answers",
+                                     "answers"], 0)
         self.fen = games.PERFT[1 + seed // 3 % 6][0] if seed % 3 == 2 else games.START
         self.is_white = seed % 2 == 0
         self.state, self.before, self.moves = dgt.GameState.parse(self.fen), None, []
@@ -65,12 +71,37 @@ class Game:
         return f"position {start}" + (f" moves {' '.join(self.moves)}" if self.moves else "")
 
     def choose(self):
-        """A move by chance: those that take, castle or promote are made more often."""
-        legal = self.state.moves()
-        weights = [8 if len(move) == 5 or self.kind(move, after) != 2 else 2
+        """The next move, or `None` if there is none."""
+        if not (legal := self.state.moves()):
+            return None
+        if self.is_own_turn:
+            return self.by_chance(legal)
+        return max(legal, key=lambda each: self.value(legal[each]))
+
+    @property
+    def is_own_turn(self):
+        return self.state.white == self.is_white
+
+    def by_chance(self, legal):
+        """A move by chance: nearly always one that castles, promotes or takes in passing, and more
+        often one that takes."""
+        weights = [40 if len(move) == 5 or self.kind(move, after) != 2 else 2
                    if after.letters.count(".") != self.state.letters.count(".") else 1
                    for move, after in legal.items()]
-        return self.chance.choices(list(legal), weights)[0] if legal else None
+        return self.chance.choices(list(legal), weights)[0]
+
+    def value(self, state):
+        """How good a position is for the side that has moved: its pieces after the best answer, and
+        how few answers there are."""
+        answers = state.moves().values()
+        if not answers:
+            return 1000 if state.check else -1000
+        worst = min(self.balance(answer.letters, not state.white) for answer in answers)
+        return worst - len(answers) / 40 + self.chance.random() / 2
+
+    def balance(self, letters, white):
+        return sum(WORTH[each] * (1 if each.isupper() == white else -1)
+                   for each in letters if each != ".")
 
     def kind(self, move, after):
         """How many squares a move changes."""
@@ -113,7 +144,7 @@ class Game:
         try:
             got = self.engine.move()
         finally:
-            if self.hands.slowest > MOST_LATE:
+            if self.hands.slowest > self.most_late:
                 raise Late(f"{self.hands.slowest:.2f} s between two steps of a hand")
         wanted(f"the move in {self.state.fen} after {self.engine.lines[-4:]}", got, move)
         self.counts["moves"] += 1
@@ -140,24 +171,27 @@ class Game:
     def play(self):
         self.begin()
         while len(self.moves) < PLIES and (move := self.choose()):
-            if self.state.white == self.is_white:
+            if self.is_own_turn:
                 self.move(move)
             self.note(move)
+        self.counts["cut off"] += bool(self.state.moves())
         self.finish()
 
     def finish(self):
         """The last position: without a legal move the engine says that there is none."""
-        if self.state.white == self.is_white and not self.state.moves():
+        if self.state.moves():
+            return
+        self.counts["mates" if self.state.check else "stalemates"] += 1
+        if self.is_own_turn:
             self.engine.say(self.where(), "go")
             wanted("the move of a game that is over", self.engine.move(), "0000")
-            self.counts["mates"] += 1
 
 
 def play(dgt, seed):
     """Plays a game. Returns what is wrong with it, and what was tried."""
-    for _ in range(3):
+    for number in range(3):
         with tempfile.TemporaryDirectory() as folder:
-            game = Game(dgt, seed, pathlib.Path(folder))
+            game = Game(dgt, seed, pathlib.Path(folder), SETTLE * SLOWER ** number)
             try:
                 game.play()
                 return None, game.counts

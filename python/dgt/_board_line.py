@@ -3,13 +3,14 @@
 from __future__ import annotations
 
 import contextlib
+import time
 
 from ._display import Display
 from .commands import Ask
 from .decoder import Decoder
 from .errors import TooManyAwaited
 from .events import Ack, Dump
-from .following import Following
+from .following import BoardView, Following
 
 
 class BoardLine(Following):
@@ -20,6 +21,8 @@ class BoardLine(Following):
         """`OSError` if the port is a file that is no serial port."""
         self.dumps = 0
         """How many times the board has reported all squares."""
+        self.last_dump: tuple[str, float] | None = None
+        """The letters of the last report of all squares, and when it came."""
         self.shown_move = Display()
         self._decoder = Decoder()
         super().__init__(port, period, wait_for_port=True)
@@ -30,6 +33,7 @@ class BoardLine(Following):
         for event in self._decoder.feed(chunk):
             if isinstance(event, Dump):
                 self.dumps += 1
+                self.last_dump = event.position.letters, now
             elif isinstance(event, Ack):
                 self.shown_move.acknowledge(event)
             else:
@@ -47,6 +51,19 @@ class BoardLine(Following):
         """Requests a report of all squares, if it can be awaited."""
         with contextlib.suppress(TooManyAwaited):
             self.write(self.follower.send(Ask.DUMP))
+
+    def hear_dump(self, until: float) -> list[BoardView]:
+        """Requests a report of all squares, and hears the board until one comes, or until a time.
+        Returns what is known after each change."""
+        dumps, views = self.dumps, list[BoardView]()
+        self.request_dump()
+        while self.dumps == dumps and time.monotonic() < until:
+            if view := self.wait(until):
+                views.append(view)
+        changes = self._steps.changes
+        views += changes
+        changes.clear()
+        return views
 
     def tend_clock(self, now: float) -> float | None:
         """Sends the clock what is due, and returns when there will be something to send."""

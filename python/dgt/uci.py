@@ -5,6 +5,9 @@ A chess program starts it as it starts any engine: `dgt-uci /dev/ttyUSB0`, or `p
 position comes, and closes it at the end. What the player has to do comes as `info string` and on
 standard error; the clock of the board shows the move of the other side.
 
+A pawn becomes the piece that is put on its last square. A rook there is a rook, also upside down:
+for a queen, put a queen there, or leave the pawn for two seconds.
+
 Options that the chess program shows in its engine settings:
 
     Port     the board's serial port
@@ -24,6 +27,7 @@ import select
 import signal
 import time
 from collections.abc import Callable
+from dataclasses import dataclass
 
 from . import _port, following
 from ._board_line import BoardLine
@@ -36,6 +40,12 @@ _PERIOD = 2.0
 """How often the board is asked for all squares, in seconds."""
 _DUMP_WAIT = 1.0
 """After how many seconds a dump that didn't come is requested again."""
+_CONFIRM_PERIOD = 0.2
+"""How often a dump is requested while the board shows a legal move, in seconds."""
+_CONFIRMED = 0.25
+"""For how many seconds a dump confirms what it shows, if `stop` comes."""
+_STOP_WAIT = 0.04
+"""For how many seconds `stop` waits for a dump at most."""
 _LONGEST_LINE = 1 << 20
 _EMPTY = "<empty>"
 _TURNED = ("auto", "no", "yes")
@@ -84,6 +94,18 @@ def _time_text(milliseconds: str) -> str:
 def _is_number(word: str) -> bool:
     digits = word.removeprefix("-")
     return digits.isascii() and digits.isdigit() and len(digits) < 16
+
+
+@dataclass(frozen=True, slots=True)
+class _Request:
+    """A dump that was requested, to confirm a move."""
+
+    move: str
+    time: float
+    dumps: int
+    """How many dumps had come before."""
+    has_rested: bool
+    """Whether the move had rested by then."""
 
 
 class Game:
@@ -145,7 +167,7 @@ class Engine:
     def _begin(self) -> None:
         """No move is asked for."""
         self._goes = self._is_held = False
-        self._asked: tuple[str, int, float] | None = None
+        self._request: _Request | None = None
         self._told = ""
 
     # ---- What the chess program says
@@ -263,19 +285,30 @@ class Engine:
             self._inform(f"{moved}{' (' + ', '.join(times) + ')' if times else ''}")
 
     def _stop(self) -> None:
+        """Ends with the move that the board shows, if a dump has just confirmed it."""
         if not self._goes or self._turn is None:
             return
+        if self._turn.shown and self.line is not None:
+            for view in self.line.hear_dump(time.monotonic() + _STOP_WAIT):
+                self.see(view, time.monotonic())
         move = self._turn.shown
         if move is None:
             self._inform("no move was made on the board")
+        elif not self._is_confirmed(time.monotonic()):
+            self._inform(f"{move} isn't confirmed by the board")
+            move = None
         self._end(move or _NO_MOVE)
 
+    def _is_confirmed(self, now: float) -> bool:
+        """Whether a dump has just shown what the board shows."""
+        if self.line is None or self.line.last_dump is None or self.line.view.picture is None:
+            return False
+        letters, time_of_dump = self.line.last_dump
+        return letters == self.line.view.picture.letters and now <= time_of_dump + _CONFIRMED
+
     def _hit(self) -> None:
-        """The move that was pondered over is asked for."""
-        self._is_held = False
-        if self._turn is not None and self._told and self._told == self._turn.shown:
-            self._end(self._told)
-        self._told = ""
+        """The move that was pondered over is asked for. If it was made, it is confirmed anew."""
+        self._is_held, self._told, self._request = False, "", None
 
     # ---- What is said
 
@@ -367,33 +400,35 @@ class Engine:
                 self._end(_NO_MOVE)
             return None
         if turn.due is not None:
-            return self._confirm(turn, now) if turn.made(now) else turn.due
-        self._asked = None
+            return self._confirm(turn, turn.due, now)
+        self._request = None
         text, due = turn.hint(now)
         if text:
             self._inform(text)
         return due
 
-    def _confirm(self, turn: Turn, now: float) -> float | None:
-        """Ends with the move that has rested, once a dump that was requested then confirms it: the
-        last messages may have been lost. A move that is held is only named."""
-        move, line = turn.shown, self.line
-        if move is None or line is None or self._told == move:
+    def _confirm(self, turn: Turn, rested_at: float, now: float) -> float | None:
+        """Ends with the move that the board shows, once it has rested and a dump that was requested
+        then confirms it: the last messages may have been lost. A move that is held is only named.
+        Dumps are requested all the time, since `stop` may come."""
+        move, line, last = turn.shown, self.line, self._request
+        if move is None or line is None:
             return None
-        if self._asked is None or self._asked[0] != move:
-            self._asked = move, line.dumps, now
-            line.request_dump()
-        elif line.dumps != self._asked[1]:
+        if last is not None and last.move != move:
+            last = None
+        is_answered = last is not None and line.dumps != last.dumps
+        if last is not None and is_answered and last.has_rested and self._told != move:
             if not self._is_held:
                 self._end(move)
-            else:
-                self._told = move
-                self._inform(f"{move} was made on the board")
-            return None
-        elif now >= self._asked[2] + _DUMP_WAIT:
-            self._asked = move, self._asked[1], now
+                return None
+            self._told = move
+            self._inform(f"{move} was made on the board")
+        has_rested, wait = now >= rested_at, _CONFIRM_PERIOD if is_answered else _DUMP_WAIT
+        if last is None or now >= last.time + wait or has_rested > last.has_rested:
+            last, wait = _Request(move, now, line.dumps, has_rested), _DUMP_WAIT
+            self._request = last
             line.request_dump()
-        return self._asked[2] + _DUMP_WAIT
+        return last.time + wait if has_rested else min(rested_at, last.time + wait)
 
 
 def _serve(engine: Engine) -> None:
