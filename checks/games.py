@@ -264,12 +264,18 @@ def on_the_way(chance, before, move, number):
 class Game:
     """A game made by chance. `moves` has those that stand."""
 
+    long = 2.5  # for how long a position rests that is then looked at
+
     def __init__(self, dgt, seed, fen):
         self.chance = random.Random(seed)
         self.number = dgt.square_number
+        self.dgt, self.fen, self.made = dgt, fen, 0
         self.states, self.moves = [dgt.GameState.parse(fen or START)], []
-        self.hand = Hand(dgt, self.states[0].letters, fen, self.chance.random() < 0.3)
-        self.made = 0
+        self.hand = self.sit_down(self.chance.random() < 0.3)
+
+    def sit_down(self, turned):
+        """Returns the hand that plays it."""
+        return Hand(self.dgt, self.states[0].letters, self.fen, turned)
 
     @property
     def state(self):
@@ -398,12 +404,17 @@ class Game:
             self.answer_first(move)
         else:
             self.put_all(self.steps(move))
-        rest = self.chance.choice([0, 0.1, 0.4, 2.5])
+        rest = self.chance.choice([0, 0.1, 0.4, self.long])
         self.hand.rest(rest)
-        if rest == 2.5 and self.hand.recogniser.due is None:
+        if rest == self.long:
+            self.look()
+        return True
+
+    def look(self):
+        """Looks at a position that has rested."""
+        if self.hand.recogniser.due is None:
             wanted("moves", self.hand.recogniser.moves, self.moves)
             wanted("the state", self.hand.recogniser.state, self.state)
-        return True
 
 
 def check_games(dgt, seeds):

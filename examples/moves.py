@@ -19,6 +19,9 @@ ends it, or nobody reads what it prints.
 
 Standard error shows where the pieces stand when the board first reports them, and again after it
 was away, and why it is away.
+
+This is an example for programs of one's own. The command dgt-game of the package prints moves in
+short notation with the players' times, knows results, and keeps a PGN file.
 """
 
 import argparse

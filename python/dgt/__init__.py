@@ -54,6 +54,7 @@ from .follower import Follower
 from .following import BoardView, Following, SerialLine, follow, follow_async
 from .host import Host
 from .moves import GameBegun, MoveEvent, MoveMade, MoveRecogniser, MoveTakenBack
+from .pgn import PgnGame, PgnMove, san
 from .rules import START_FEN, GameState
 from .values import (LETTERS, SQUARES, Clock, NoClock, Position, Time, Times, piece_code, segment,
                      square_number)
@@ -68,7 +69,7 @@ __all__ = [
     "Event", "Fault", "Field", "Follower", "Following", "GameBegun", "GameState", "Host",
     "Identity", "IllegalMove", "LETTERS", "Leds", "LongSerial", "Message", "Mode", "MoveEvent",
     "MoveMade", "MoveRecogniser", "MoveTakenBack", "Nested", "NoClock", "NoSuchCommand", "Other",
-    "Outcome", "Position", "Refused", "SQUARES", "START_FEN", "Serial", "SerialLine", "Stray",
-    "StrayByte", "Time", "Times", "TooManyAwaited", "Trademark", "Version", "Word", "World",
-    "follow", "follow_async", "piece_code", "segment", "square_number",
+    "Outcome", "PgnGame", "PgnMove", "Position", "Refused", "SQUARES", "START_FEN", "Serial",
+    "SerialLine", "Stray", "StrayByte", "Time", "Times", "TooManyAwaited", "Trademark", "Version",
+    "Word", "World", "follow", "follow_async", "piece_code", "san", "segment", "square_number",
 ]

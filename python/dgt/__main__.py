@@ -1,14 +1,17 @@
-"""The programs of the package: `python -m dgt uci [PORT]`."""
+"""The programs of the package: `python -m dgt game PORT` and `python -m dgt uci [PORT]`."""
 
 import sys
 
-from . import uci
+from . import game, uci
 
-_USAGE = "usage: python -m dgt uci [PORT]   (python -m dgt uci --help describes it)"
+_PROGRAMS = {"game": game.main, "uci": uci.main}
+_USAGE = """\
+usage: python -m dgt game PORT    (python -m dgt game --help describes it)
+       python -m dgt uci [PORT]   (python -m dgt uci --help describes it)"""
 
 if __name__ == "__main__":
-    if sys.argv[1:2] == ["uci"]:
-        uci.main(sys.argv[2:])
+    if sys.argv[1:2] and sys.argv[1] in _PROGRAMS:
+        _PROGRAMS[sys.argv[1]](sys.argv[2:])
     elif sys.argv[1:] in (["--help"], ["-h"]):
         print(_USAGE)
     else:

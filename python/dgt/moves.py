@@ -3,9 +3,10 @@
 from __future__ import annotations
 
 import contextlib
-from collections.abc import Callable, Iterable, Iterator
+from collections import deque
+from collections.abc import Callable, Collection, Iterable, Iterator
 from dataclasses import dataclass, replace
-from functools import lru_cache
+from functools import lru_cache, partial
 
 from .errors import BadFen
 from .rules import START_FEN, GameState
@@ -17,10 +18,14 @@ _LONG_WAIT = 1.0
 """For how long a position rests that was set up, or that two moves lead to."""
 _REPLACED_WAIT = 3.0
 """For how long a position rests that replaces more than the last move."""
+_LOST_WAIT = 5.0
+"""For how long a position rests that no move leads to, once moves may have been missed."""
 _REPLACED = 4
 """How many moves at most a single new one replaces."""
 _REMEMBERED = 16
 """How many readings are remembered that were shown since the last report."""
+_PUT = 16
+"""How many pieces are remembered that were put on squares."""
 _HALVES = {"h1f1": "e1g1", "a1d1": "e1c1", "h8f8": "e8g8", "a8d8": "e8c8"}
 """The move of a rook that castling may begin with, and the castling."""
 
@@ -85,18 +90,23 @@ def _one_move(state: GameState, shown: str) -> _Moves:
     return (reply,) if reply else ()
 
 
-def _two_moves(state: GameState, shown: str) -> _Moves:
+def _two_moves(state: GameState, shown: str, put: Collection[tuple[int, str]]) -> _Moves:
     """Returns two moves that lead from a state to what is shown, or nothing. Each changes two to
-    four squares, and leaves one."""
+    four squares, and leaves one. Of several first moves it is one whose piece was put where the
+    move leads, if there is one: a pawn that is taken in passing was seen."""
     changed = _differing(state.letters, shown)
     left = "".join(state.letters[square] for square in changed).replace(".", "")
     if not 2 <= len(changed) <= 8 or left in (left.upper(), left.lower()):
         return ()
+    found: _Moves = ()
     for move, middle in _replies(state).values():
         if square_number(move[:2]) in changed and len(_differing(middle.letters, shown)) <= 4:
             if last := _one_move(middle, shown):
-                return ((move, middle), *last)
-    return ()
+                to = square_number(move[2:4])
+                if (to, middle.letters[to]) in put:
+                    return ((move, middle), *last)
+                found = found or ((move, middle), *last)
+    return found
 
 
 class MoveRecogniser:
@@ -134,23 +144,29 @@ class MoveRecogniser:
       seconds if it replaces more than the last move.
     - The position in which a game begins, also on a turned board, begins a new game, unless one of
       the first two moves is taken back.
-    - Any other position begins a game when the board is first seen, or when both kings were taken
-      off and are back, once it has rested for a second. The first move decides whose turn it was.
+    - Any other position begins a game when the board is first seen, once it has rested for a
+      second, or when both kings were taken off and are back, once it has rested for `set_up`. The
+      first move decides whose turn it was.
+    - So does a position that no move leads to after `lose_track`, once it has rested for five
+      seconds.
     """
 
-    def __init__(self, fen: str | None = None, settle: float = 0.3) -> None:
+    def __init__(self, fen: str | None = None, settle: float = 0.3, set_up: float = _LONG_WAIT
+                 ) -> None:
         """With a FEN, the game begins when the board shows its position, also turned, and other
-        positions begin none before. `settle` is in the unit of all times here, seconds. `BadFen` if
-        the text is none."""
+        positions begin none before. `settle` and `set_up` are in the unit of all times here,
+        seconds. `BadFen` if the text is none."""
         self._start = GameState.parse(START_FEN)
         self._first = None if fen is None else GameState.parse(fen)
-        self._settle = settle
+        self._settle, self._set_up_wait = settle, set_up
         self._turned = False
         self._roots: tuple[GameState, ...] = ()
         self._moves: list[tuple[str, GameState]] = []
         self._set_up = self._first is None
+        self._is_lost = False
         self._shown = ""
         self._changed: set[int] = set()
+        self._put: deque[tuple[int, str]] = deque(maxlen=_PUT)
         self._seen: list[_Reading] = []
         self._next: _Reading | tuple[GameState, ...] = ()
         self._due: float | None = None
@@ -184,6 +200,7 @@ class MoveRecogniser:
         if shown == self._shown:
             return events
         self._changed = set(_differing(self._shown, shown) if self._shown else ())
+        self._put.extend((each, shown[each]) for each in self._changed if shown[each] != ".")
         self._shown = shown
         return events + self._look(time)
 
@@ -199,6 +216,24 @@ class MoveRecogniser:
         """Drops what is due. Call it when the picture is in doubt; the next `see` looks anew."""
         self._shown, self._due = "", None
 
+    @property
+    def lost(self) -> bool:
+        """Whether moves may have been missed: `lose_track` was called, and nothing has been
+        reported since, nor has the board shown again what it should."""
+        return self._is_lost
+
+    def lose_track(self) -> None:
+        """As `hold`, where moves may have been missed: the board was away. If it then shows a
+        position that no move of the game leads to, with more than lifted pieces, that begins a
+        game."""
+        self.hold()
+        self._is_lost = bool(self._roots)
+
+    def end_game(self) -> None:
+        """Notes that the game is over, as the players have shown by their kings. Before another
+        position is set up, both kings have to be taken off again."""
+        self._set_up = False
+
     def _look(self, time: float) -> list[MoveEvent]:
         """Reads the position that is shown, and decides for how long it must rest."""
         self._due = None
@@ -206,8 +241,9 @@ class MoveRecogniser:
         if root := self._new_game(reading):
             return self._begin((root,))
         if base is None or reading is None:
-            if self._set_up and not self._is_early() and (roots := self._roots_shown()):
-                self._next, self._due = roots, time + _LONG_WAIT
+            wait = self._wait_for_game()
+            if wait is not None and (roots := self._roots_shown()):
+                self._next, self._due = roots, time + wait
             return []
         self._set_up = False
         events: list[MoveEvent] = []
@@ -242,8 +278,9 @@ class MoveRecogniser:
         near = earlier[:0 if self._set_up else 1 if self._is_early() else _REPLACED]
         one = [*_extended(told + seen, shown, _one_move),
                *((base, base) for base in earlier if base.state.letters == shown)]
-        two = [*_extended(seen + told, shown, _two_moves)]
-        other = [*_extended(near, shown, _one_move), *_extended(near[:2], shown, _two_moves)]
+        find_two = partial(_two_moves, put=self._put)
+        two = [*_extended(seen + told, shown, find_two)]
+        other = [*_extended(near, shown, _one_move), *_extended(near[:2], shown, find_two)]
         likely = [each for each in one + two if self._has_changed_last(each[1])]
         unseen = [each for each in two if each[0] not in self._seen]
         other.sort(key=lambda each: not self._has_changed_last(each[1]))
@@ -273,6 +310,16 @@ class MoveRecogniser:
             if self._shown[::-1] == state.letters:
                 return state
         return None
+
+    def _wait_for_game(self) -> float | None:
+        """Returns for how long a position must rest to begin a game, if no move leads to it. `None`
+        if it begins none."""
+        if self._set_up and not self._is_early():
+            return self._set_up_wait if self._roots else _LONG_WAIT
+        told = self._bases([len(self._moves)])
+        is_other = all(any(letter not in (".", right) for letter, right
+                           in zip(self._shown, base.state.letters)) for base in told)
+        return max(self._settle, _LOST_WAIT) if self._is_lost and is_other else None
 
     def _roots_shown(self) -> tuple[GameState, ...]:
         """Returns the states of what is shown, with each side's turn that is possible. Before the
@@ -323,7 +370,8 @@ class MoveRecogniser:
     def _forget(self) -> None:
         """What the board shows is what was reported."""
         self._seen.clear()
-        self._set_up, self._due = False, None
+        self._set_up = self._is_lost = False
+        self._due = None
 
 
 def _extended(bases: Iterable[_Reading], shown: str, find: Callable[[GameState, str], _Moves]

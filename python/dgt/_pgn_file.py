@@ -1,0 +1,158 @@
+"""A file of games that grows while games are played."""
+
+from __future__ import annotations
+
+import contextlib
+import errno
+import fcntl
+import os
+import stat
+import time
+from collections.abc import Iterator
+from dataclasses import dataclass
+
+_TRIES = 200
+_TRY_EACH = 0.01
+"""How often, and after how many seconds, the lock of a folder that another program has is asked
+for again: for two seconds, in which a port keeps what the board sends."""
+_MODE = 0o666
+"""The mode of a new file, but for what the umask takes away."""
+_NEW = os.O_WRONLY | os.O_CREAT | os.O_EXCL | os.O_CLOEXEC
+
+
+@dataclass(slots=True)
+class _Kept:
+    """A game: its text now, and the one that the file has. Neither has the line feeds at its
+    end."""
+
+    text: bytes = b""
+    written: bytes = b""
+
+    def put_into(self, content: bytes) -> bytes:
+        """Returns the content of a file with this game in the place of its earlier text, or else at
+        the end."""
+        at = content.rfind(self.written) if self.written else -1
+        if at >= 0:
+            return content[:at] + self.text + content[at + len(self.written):]
+        feeds = len(content) - len(content.rstrip(b"\n"))
+        return content + b"\n" * (max(0, 2 - feeds) if content else 0) + self.text + b"\n\n"
+
+
+class PgnFile:
+    """A file to which games are appended, and in which a game is replaced as it grows. What else
+    the file has stays, also if another program writes it meanwhile. A file that has gone gets all
+    games of this object again.
+
+    The file is whole at any time: a new one takes its place once it is on the disk."""
+
+    def __init__(self, name: str) -> None:
+        """`OSError` if there is no such folder, no file can be made there, or the name is that of
+        something else than a file."""
+        self.name = name
+        self._games: list[_Kept] = []
+        with self._locked() as folder:
+            self._read()
+            with self._new(folder) as (_, path):
+                os.unlink(path)
+
+    def begin(self) -> None:
+        """A game begins. `put` is about this one from now on."""
+        self._games.append(_Kept())
+
+    def put(self, text: str) -> None:
+        """Sets the text of the game, for `save` to write."""
+        self._games[-1].text = text.rstrip("\n").encode(errors="replace")
+
+    @property
+    def unsaved(self) -> str:
+        """The games that the file doesn't have as they are."""
+        texts = [each.text for each in self._games if each.text != each.written]
+        return b"\n\n".join(texts).decode()
+
+    def save(self) -> None:
+        """Writes the games that have changed. `OSError` if that fails: then the file is as it was,
+        and the next call tries again."""
+        if not any(each.text != each.written for each in self._games):
+            return
+        with self._locked() as folder:
+            content = self._read()
+            games = [each for each in self._games if each.text
+                     and (each.text != each.written or content is None)]
+            content = content or b""
+            for each in games:
+                content = each.put_into(content)
+            self._replace(folder, content)
+            for each in games:
+                each.written = each.text
+
+    @property
+    def _path(self) -> str:
+        return os.path.realpath(self.name)
+
+    @contextlib.contextmanager
+    def _locked(self) -> Iterator[str]:
+        """Locks the folder of the file while the file is read and replaced, and yields its name. At
+        the end the folder is on the disk."""
+        folder = os.path.dirname(self._path)
+        try:
+            number = os.open(folder, os.O_RDONLY | os.O_DIRECTORY)
+        except FileNotFoundError as fault:
+            raise OSError(fault.errno, "there is no such folder") from None
+        try:
+            _lock(number)
+            yield folder
+            with contextlib.suppress(OSError):  # not each file system can do it
+                os.fsync(number)
+        finally:
+            os.close(number)
+
+    def _read(self) -> bytes | None:
+        """Returns what the file has, or `None` if there is none."""
+        with contextlib.suppress(FileNotFoundError):
+            number = os.open(self._path, os.O_RDWR | os.O_NONBLOCK | os.O_NOCTTY)
+            with open(number, "rb") as opened:
+                if not stat.S_ISREG(os.fstat(number).st_mode):
+                    raise OSError(errno.EINVAL, "not a file")
+                return opened.read()
+        return None
+
+    @contextlib.contextmanager
+    def _new(self, folder: str) -> Iterator[tuple[int, str]]:
+        """Makes a file beside this one, and yields its descriptor and its path. It is removed if
+        that ends with an exception."""
+        name = os.path.basename(self._path)[:200]
+        path = os.path.join(folder, f".{name}.{os.getpid()}.new")
+        with contextlib.suppress(FileNotFoundError):  # a process that was killed has left it
+            os.unlink(path)
+        number = os.open(path, _NEW, _MODE)
+        try:
+            yield number, path
+        except BaseException:
+            with contextlib.suppress(OSError):
+                os.unlink(path)
+            raise
+        finally:
+            os.close(number)
+
+    def _replace(self, folder: str, content: bytes) -> None:
+        """Puts a new file in the place of the old one, with its mode."""
+        with self._new(folder) as (number, path):
+            with open(number, "wb", closefd=False) as opened:
+                opened.write(content)
+            with contextlib.suppress(FileNotFoundError):
+                os.fchmod(number, stat.S_IMODE(os.stat(self._path).st_mode))
+            os.fsync(number)
+            os.replace(path, self._path)
+
+
+def _lock(number: int) -> None:
+    """Locks a folder, if its file system can. `OSError` if others hold its lock for two seconds."""
+    for left in range(_TRIES, -1, -1):
+        try:
+            return fcntl.flock(number, fcntl.LOCK_EX | fcntl.LOCK_NB)
+        except BlockingIOError:
+            if not left:
+                raise OSError(errno.EWOULDBLOCK, "in use by another program") from None
+            time.sleep(_TRY_EACH)
+        except OSError:
+            return None

@@ -1,0 +1,165 @@
+"""Games as text: moves in short algebraic notation (SAN), and whole games in the export format of
+PGN."""
+
+from __future__ import annotations
+
+from collections.abc import Iterable, Iterator
+from dataclasses import dataclass, field
+
+from .errors import BadValue
+from .rules import START_FEN, GameState
+from .values import Time, square_number
+
+RESULTS = ("1-0", "0-1", "1/2-1/2", "*")
+"""What a game may end with. `*` is a game that goes on, or was broken off."""
+
+_WIDTH = 79
+"""How many columns a line of moves has at most: PGN asks for fewer than 80."""
+_TAGS = {"Event": "?", "Site": "?", "Date": "????.??.??", "Round": "?", "White": "?", "Black": "?"}
+"""The tags that each game has, with what stands for a value that isn't known. `Result` is the
+seventh."""
+
+
+def _origin(state: GameState, move: str) -> str:
+    """Returns what tells the piece of a move from others of its kind that may go to its square."""
+    letter = state.letters[square_number(move[:2])]
+    others = [other for other in state.moves() if other[2:] == move[2:] and other != move
+              and state.letters[square_number(other[:2])] == letter]
+    if not others:
+        return ""
+    if all(other[0] != move[0] for other in others):
+        return move[0]
+    return move[1] if all(other[1] != move[1] for other in others) else move[:2]
+
+
+def san(state: GameState, move: str) -> str:
+    """Returns a legal move in short algebraic notation. `IllegalMove` if it is none.
+
+    >>> san(GameState.start(), "g1f3")
+    'Nf3'
+    >>> san(GameState.parse("3r3k/2P5/8/8/8/8/8/K7 w - - 0 1"), "c7d8n")
+    'cxd8=N'
+    """
+    after, to = state.after(move), move[2:4]
+    kind = state.letters[square_number(move[:2])].upper()
+    takes = "x" if state.letters[square_number(to)] != "." else ""
+    if kind == "K" and move[0] == "e" and to[0] in "cg":
+        text = "O-O" if to[0] == "g" else "O-O-O"
+    elif kind == "P":
+        text = (f"{move[0]}x" if move[0] != to[0] else "") + to
+        text += f"={move[4].upper()}" if move[4:] else ""
+    else:
+        text = f"{kind}{_origin(state, move)}{takes}{to}"
+    if not after.check:
+        return text
+    return text + ("+" if after.moves() else "#")
+
+
+def numbered(state: GameState, text: str) -> str:
+    """Returns the text of a move after its number in this state, such as `1. e4` or `1... e5`."""
+    return f"{state.number}{'.' if state.white else '...'} {text}"
+
+
+@dataclass(slots=True)
+class PgnMove:
+    """A move of a `PgnGame`."""
+
+    move: str
+    """The move, named as in UCI."""
+    san: str
+    before: GameState
+    after: GameState
+    clock: Time | None = None
+    """The time that is left to the player who has made it, if that is known."""
+
+
+@dataclass(slots=True)
+class PgnGame:
+    """A game that is written as PGN. `tags` are in the order in which they are written; the seven
+    tags of each game needn't be named, and `Result`, `FEN` and `SetUp` are made.
+
+    >>> game = PgnGame({"White": "Ann", "Round": "3"})
+    >>> game.add("e2e4", Time(1, 30)).san, game.add("e7e5").san
+    ('e4', 'e5')
+    >>> print(game.text(), end="")
+    [Event "?"]
+    [Site "?"]
+    [Date "????.??.??"]
+    [Round "3"]
+    [White "Ann"]
+    [Black "?"]
+    [Result "*"]
+    <BLANKLINE>
+    1. e4 {[%clk 1:30:00]} 1... e5 *
+    """
+
+    tags: dict[str, str] = field(default_factory=dict)
+    start: GameState = field(default_factory=GameState.start)
+    """The position in which it begins. Another one than that of all games is written as `FEN`."""
+    moves: list[PgnMove] = field(default_factory=list)
+    result: str = "*"
+    comment: str = ""
+    """What is said after the last move."""
+
+    @property
+    def state(self) -> GameState:
+        """The state after the last move."""
+        return self.moves[-1].after if self.moves else self.start
+
+    def add(self, move: str, clock: Time | None = None) -> PgnMove:
+        """Adds a move. `IllegalMove` if it is none."""
+        before = self.state
+        added = PgnMove(move, san(before, move), before, before.after(move), clock)
+        self.moves.append(added)
+        return added
+
+    def text(self) -> str:
+        """Returns the game in the export format: its tags, an empty line, and its moves in lines of
+        fewer than 80 columns. `BadValue` if a tag has no name, or the result is none."""
+        if self.result not in RESULTS:
+            raise BadValue(f"result must be one of {', '.join(RESULTS)}: {self.result!r}")
+        given = {name: value for name, value in self.tags.items()
+                 if name not in ("Result", "FEN", "SetUp")}
+        tags = {**_TAGS, **{name: given.pop(name) for name in _TAGS if name in given},
+                "Result": self.result, **given}
+        if self.start.fen != START_FEN:
+            tags |= {"FEN": self.start.fen, "SetUp": "1"}
+        heads = [_head(name, value) for name, value in tags.items()]
+        return "\n".join([*heads, "", *_lines(self._words()), ""])
+
+    def _words(self) -> Iterator[str]:
+        """Yields what the lines of moves consist of. None of it is divided."""
+        is_told = False  # whether the number of the move stands before it
+        for made in self.moves:
+            if made.before.white or not is_told:
+                yield from numbered(made.before, made.san).split()
+            else:
+                yield made.san
+            is_told = made.clock is None
+            if made.clock is not None:
+                yield f"{{[%clk {made.clock}]}}"
+        if self.comment:
+            yield from f"{{{self.comment.replace('}', ')')}}}".split()
+        yield self.result
+
+
+def _head(name: str, value: str) -> str:
+    """Returns the line of a tag. In its value a backslash stands before each quote and backslash,
+    and a space in place of what can't be printed."""
+    if not name.replace("_", "").isalnum() or not name.isascii():
+        raise BadValue(f"a tag is named by letters, digits and underscores: {name!r}")
+    plain = "".join(each if each.isprintable() else " " for each in value)
+    escaped = plain.replace("\\", "\\\\").replace('"', '\\"')
+    return f'[{name} "{escaped}"]'
+
+
+def _lines(words: Iterable[str]) -> Iterator[str]:
+    """Yields lines that are as long as may be."""
+    line = ""
+    for word in words:
+        if line and len(line) + 1 + len(word) > _WIDTH:
+            yield line
+            line = word
+        else:
+            line = f"{line} {word}" if line else word
+    yield line
