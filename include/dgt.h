@@ -409,32 +409,40 @@ dgt_sent dgt_host_send_clock(dgt_host *host, uint8_t id, const uint8_t *payload,
 /* Shows six digits, spaces and hyphens, from left to right. DGT_NO_COMMAND if there is another
  * character among them; it goes before all else. */
 dgt_sent dgt_host_send_display(dgt_host *host, const char text[6], uint8_t dots, uint8_t beep,
-                               uint8_t *out, size_t n);
+                               uint8_t *out, size_t n)
+    DGT_MUST_USE_ DGT_NONNULL_(1, 2) DGT_READS_(2) DGT_WRITES_(5, 6);
 
 /* Shows eight characters, from left to right, a byte each. */
 dgt_sent dgt_host_send_text(dgt_host *host, const char text[8], uint8_t beep, uint8_t *out,
-                            size_t n);
+                            size_t n)
+    DGT_MUST_USE_ DGT_NONNULL_(1, 2) DGT_READS_(2) DGT_WRITES_(4, 5);
 
 /* Beeps for this duration. */
-dgt_sent dgt_host_send_beep(dgt_host *host, uint8_t duration, uint8_t *out, size_t n);
+dgt_sent dgt_host_send_beep(dgt_host *host, uint8_t duration, uint8_t *out, size_t n)
+    DGT_MUST_USE_ DGT_NONNULL_(1) DGT_WRITES_(3, 4);
 
 /* Sets the times of both sides, in hours, minutes and seconds, and has the clock do what `control`
  * says. */
 dgt_sent dgt_host_send_set_and_run(dgt_host *host, const uint8_t left[3], const uint8_t right[3],
-                                   uint8_t control, uint8_t *out, size_t n);
+                                   uint8_t control, uint8_t *out, size_t n)
+    DGT_MUST_USE_ DGT_NONNULL_(1, 2, 3) DGT_READS_(2) DGT_READS_(3) DGT_WRITES_(5, 6);
 
 /* Shows the icons of these bytes. DGT_NO_COMMAND if there are more than DGT_MAX_PAYLOAD. */
 dgt_sent dgt_host_send_icons(dgt_host *host, const uint8_t *icons, size_t icons_len, uint8_t *out,
-                             size_t n);
+                             size_t n)
+    DGT_MUST_USE_ DGT_NONNULL_(1) DGT_READS_(2, 3) DGT_WRITES_(4, 5);
 
 /* Ends what is shown, so that the clock shows its times again. */
-dgt_sent dgt_host_send_end(dgt_host *host, uint8_t *out, size_t n);
+dgt_sent dgt_host_send_end(dgt_host *host, uint8_t *out, size_t n)
+    DGT_MUST_USE_ DGT_NONNULL_(1) DGT_WRITES_(2, 3);
 
 /* Asks for the state of the clock's buttons. */
-dgt_sent dgt_host_send_button(dgt_host *host, uint8_t *out, size_t n);
+dgt_sent dgt_host_send_button(dgt_host *host, uint8_t *out, size_t n)
+    DGT_MUST_USE_ DGT_NONNULL_(1) DGT_WRITES_(2, 3);
 
 /* Asks for the version of the clock. */
-dgt_sent dgt_host_send_clock_version(dgt_host *host, uint8_t *out, size_t n);
+dgt_sent dgt_host_send_clock_version(dgt_host *host, uint8_t *out, size_t n)
+    DGT_MUST_USE_ DGT_NONNULL_(1) DGT_WRITES_(2, 3);
 
 /* Sends an LED frame. DGT_NO_COMMAND where it has more than DGT_MAX_LEDS bytes. */
 dgt_sent dgt_host_send_leds(dgt_host *host, const uint8_t *leds, size_t leds_len, uint8_t *out,
@@ -559,18 +567,26 @@ dgt_sent dgt_follower_send_clock(dgt_follower *follower, uint8_t id, const uint8
 
 /* Sends what the calls of the same names send for a host. */
 dgt_sent dgt_follower_send_display(dgt_follower *follower, const char text[6], uint8_t dots,
-                                   uint8_t beep, uint8_t *out, size_t n);
+                                   uint8_t beep, uint8_t *out, size_t n)
+    DGT_MUST_USE_ DGT_NONNULL_(1, 2) DGT_READS_(2) DGT_WRITES_(5, 6);
 dgt_sent dgt_follower_send_text(dgt_follower *follower, const char text[8], uint8_t beep,
-                                uint8_t *out, size_t n);
-dgt_sent dgt_follower_send_beep(dgt_follower *follower, uint8_t duration, uint8_t *out, size_t n);
+                                uint8_t *out, size_t n)
+    DGT_MUST_USE_ DGT_NONNULL_(1, 2) DGT_READS_(2) DGT_WRITES_(4, 5);
+dgt_sent dgt_follower_send_beep(dgt_follower *follower, uint8_t duration, uint8_t *out, size_t n)
+    DGT_MUST_USE_ DGT_NONNULL_(1) DGT_WRITES_(3, 4);
 dgt_sent dgt_follower_send_set_and_run(dgt_follower *follower, const uint8_t left[3],
                                        const uint8_t right[3], uint8_t control, uint8_t *out,
-                                       size_t n);
+                                       size_t n)
+    DGT_MUST_USE_ DGT_NONNULL_(1, 2, 3) DGT_READS_(2) DGT_READS_(3) DGT_WRITES_(5, 6);
 dgt_sent dgt_follower_send_icons(dgt_follower *follower, const uint8_t *icons, size_t icons_len,
-                                 uint8_t *out, size_t n);
-dgt_sent dgt_follower_send_end(dgt_follower *follower, uint8_t *out, size_t n);
-dgt_sent dgt_follower_send_button(dgt_follower *follower, uint8_t *out, size_t n);
-dgt_sent dgt_follower_send_clock_version(dgt_follower *follower, uint8_t *out, size_t n);
+                                 uint8_t *out, size_t n)
+    DGT_MUST_USE_ DGT_NONNULL_(1) DGT_READS_(2, 3) DGT_WRITES_(4, 5);
+dgt_sent dgt_follower_send_end(dgt_follower *follower, uint8_t *out, size_t n)
+    DGT_MUST_USE_ DGT_NONNULL_(1) DGT_WRITES_(2, 3);
+dgt_sent dgt_follower_send_button(dgt_follower *follower, uint8_t *out, size_t n)
+    DGT_MUST_USE_ DGT_NONNULL_(1) DGT_WRITES_(2, 3);
+dgt_sent dgt_follower_send_clock_version(dgt_follower *follower, uint8_t *out, size_t n)
+    DGT_MUST_USE_ DGT_NONNULL_(1) DGT_WRITES_(2, 3);
 
 /* Sends an LED frame, as dgt_host_send_leds does. */
 dgt_sent dgt_follower_send_leds(dgt_follower *follower, const uint8_t *leds, size_t leds_len,
@@ -872,6 +888,14 @@ static inline dgt_host *dgt_host_(dgt_host *handle) {
 #define dgt_host_restart(it, ...) dgt_host_restart(dgt_host_(it), __VA_ARGS__)
 #define dgt_host_send(it, ...) dgt_host_send(dgt_host_(it), __VA_ARGS__)
 #define dgt_host_send_clock(it, ...) dgt_host_send_clock(dgt_host_(it), __VA_ARGS__)
+#define dgt_host_send_display(it, ...) dgt_host_send_display(dgt_host_(it), __VA_ARGS__)
+#define dgt_host_send_text(it, ...) dgt_host_send_text(dgt_host_(it), __VA_ARGS__)
+#define dgt_host_send_beep(it, ...) dgt_host_send_beep(dgt_host_(it), __VA_ARGS__)
+#define dgt_host_send_set_and_run(it, ...) dgt_host_send_set_and_run(dgt_host_(it), __VA_ARGS__)
+#define dgt_host_send_icons(it, ...) dgt_host_send_icons(dgt_host_(it), __VA_ARGS__)
+#define dgt_host_send_end(it, ...) dgt_host_send_end(dgt_host_(it), __VA_ARGS__)
+#define dgt_host_send_button(it, ...) dgt_host_send_button(dgt_host_(it), __VA_ARGS__)
+#define dgt_host_send_clock_version(it, ...) dgt_host_send_clock_version(dgt_host_(it), __VA_ARGS__)
 #define dgt_host_send_leds(it, ...) dgt_host_send_leds(dgt_host_(it), __VA_ARGS__)
 #define dgt_host_picture(it, ...) dgt_host_picture(dgt_host_(it), __VA_ARGS__)
 #define dgt_host_placement(it, ...) dgt_host_placement(dgt_host_(it), __VA_ARGS__)
@@ -895,6 +919,16 @@ static inline dgt_follower *dgt_follower_(dgt_follower *handle) {
 #define dgt_follower_set_mode(it, ...) dgt_follower_set_mode(dgt_follower_(it), __VA_ARGS__)
 #define dgt_follower_send(it, ...) dgt_follower_send(dgt_follower_(it), __VA_ARGS__)
 #define dgt_follower_send_clock(it, ...) dgt_follower_send_clock(dgt_follower_(it), __VA_ARGS__)
+#define dgt_follower_send_display(it, ...) dgt_follower_send_display(dgt_follower_(it), __VA_ARGS__)
+#define dgt_follower_send_text(it, ...) dgt_follower_send_text(dgt_follower_(it), __VA_ARGS__)
+#define dgt_follower_send_beep(it, ...) dgt_follower_send_beep(dgt_follower_(it), __VA_ARGS__)
+#define dgt_follower_send_set_and_run(it, ...) \
+    dgt_follower_send_set_and_run(dgt_follower_(it), __VA_ARGS__)
+#define dgt_follower_send_icons(it, ...) dgt_follower_send_icons(dgt_follower_(it), __VA_ARGS__)
+#define dgt_follower_send_end(it, ...) dgt_follower_send_end(dgt_follower_(it), __VA_ARGS__)
+#define dgt_follower_send_button(it, ...) dgt_follower_send_button(dgt_follower_(it), __VA_ARGS__)
+#define dgt_follower_send_clock_version(it, ...) \
+    dgt_follower_send_clock_version(dgt_follower_(it), __VA_ARGS__)
 #define dgt_follower_send_leds(it, ...) dgt_follower_send_leds(dgt_follower_(it), __VA_ARGS__)
 #define dgt_follower_picture(it, ...) dgt_follower_picture(dgt_follower_(it), __VA_ARGS__)
 #define dgt_follower_placement(it, ...) dgt_follower_placement(dgt_follower_(it), __VA_ARGS__)

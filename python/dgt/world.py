@@ -16,8 +16,7 @@ from .values import Clock, Position, byte, number
 
 _SENT, _TOO_MANY, _NO_ROOM, _NO_COMMAND = range(4)
 _NOTHING, _WROTE, _NEED_ROOM = range(3)
-_RESTART = 257
-_MOST = 65535
+_RESTART_LENGTH = 257
 
 
 class Outcome(StrEnum):
@@ -52,11 +51,13 @@ class World:
     rnbqkbnr/pppppppp/8/8/8/8/PPPP1PPP/RNBQKBNR
     """
 
+    _most = 65535  # bytes that a line may hold
+
     def __init__(self, position: Position | None = None, clock: Clock | None = None,
                  identity: Identity | None = None, *, up: int = 1024, down: int = 1024) -> None:
         for name, room, least in (("up", up, MAX_SENT), ("down", down, MAX_WORD)):
-            if number(room, _MOST, name) < least:
-                raise BadValue(f"{name} must be a number from {least} to {_MOST}: {room!r}")
+            if number(room, self._most, name) < least:
+                raise BadValue(f"{name} must be a number from {least} to {self._most}: {room!r}")
         self._board, self._host = Board(position, clock, identity), Host()
         self._up_room, self._down_room = up, down
         self._up, self._down = bytearray(), bytearray()
@@ -137,7 +138,7 @@ class World:
     def to_board(self, count: int) -> Outcome:
         """The board takes up to `count` bytes from the line, and stops when it owes eight replies.
         `NOTHING` if there is no byte to take, `BUSY` if it owes eight replies already."""
-        left = min(number(count, _MOST, "count"), len(self._down))
+        left = min(number(count, self._most, "count"), len(self._down))
         if left == 0:
             return Outcome.NOTHING
         if self._is_busy():
@@ -158,7 +159,7 @@ class World:
 
     def to_host(self, count: int) -> Outcome:
         """The host hears up to `count` bytes from the line. `NOTHING` if there is none."""
-        heard = bytes(self._up[:number(count, _MOST, "count")])
+        heard = bytes(self._up[:number(count, self._most, "count")])
         if not heard:
             return Outcome.NOTHING
         del self._up[:len(heard)]
@@ -171,11 +172,11 @@ class World:
         acts = 0
         while True:
             if self._up:
-                self.to_host(_MOST)
+                self.to_host(self._most)
             elif self._board.owes:
                 self.board_sends()
             elif self._down:
-                self.to_board(_MOST)
+                self.to_board(self._most)
             else:
                 return acts
             acts += 1
@@ -225,7 +226,7 @@ class World:
     def host_restarts(self) -> Outcome:
         """The host gives up the replies that it awaits, and sends what `restart` returns. `NO_ROOM`
         if the line has no room for its 257 bytes."""
-        if self._down_room - len(self._down) < _RESTART:
+        if self._down_room - len(self._down) < _RESTART_LENGTH:
             return Outcome.NO_ROOM
         self._host.give_up_awaited()
         self._down += self._host.restart()
