@@ -5,10 +5,10 @@
 #include <stdio.h>
 
 static void show(dgt_follower *board, int port) {
-    static char shown[DGT_PLACEMENT_ROOM], text[DGT_PLACEMENT_ROOM];
+    static char shown[DGT_PLACEMENT_ROOM], text[DGT_PLACEMENT_ROOM], number[12];
     static dgt_clock shown_clock, clock;
     static int changes;
-    uint8_t number[9], out[DGT_MAX_WORD];
+    uint8_t out[DGT_MAX_WORD];
     dgt_follower_clock(board, &clock);
     if (clock.kind == DGT_CLOCK_TIMES && memcmp(&clock, &shown_clock, sizeof clock) != 0) {
         dgt_time one = clock.first, two = clock.second;
@@ -19,8 +19,8 @@ static void show(dgt_follower *board, int port) {
     if (dgt_follower_in_doubt(board) || !dgt_follower_placement(board, text)) return;
     if (strcmp(text, shown) == 0) return;
     puts(strcpy(shown, text));
-    snprintf((char *)number, sizeof number, "%-8d", ++changes); /* ends with 0: no beep */
-    dgt_sent sent = dgt_follower_send_clock(board, DGT_ID_TEXT, number, 9, out, sizeof out);
+    snprintf(number, sizeof number, "%-8d", ++changes);
+    dgt_sent sent = dgt_follower_send_text(board, number, 0, out, sizeof out);
     dgt_port_write(port, out, sent.bytes); /* if the port has gone, dgt_port_exchange finds it */
 }
 
