@@ -551,6 +551,10 @@ static void no_bytes_of_hosts(void) {
     CHECK(sent.status == DGT_NO_ROOM && sent.bytes == 5);
     sent = dgt_host_send_clock(host, DGT_ID_END, NULL, 0, out, sizeof out);
     CHECK(sent.status == DGT_SENT && sent.bytes == 5 && !memcmp(out, "\x2b\3\3\3\0", 5));
+    sent = dgt_host_send_icons(host, NULL, 0, NULL, 0);
+    CHECK(sent.status == DGT_NO_ROOM && sent.bytes == 5);
+    sent = dgt_host_send_icons(host, NULL, 0, out, sizeof out);
+    CHECK(sent.status == DGT_SENT && sent.bytes == 5 && !memcmp(out, "\x2b\3\3\2\0", 5));
     sent = dgt_host_send_leds(host, NULL, 0, NULL, 0);
     CHECK(sent.status == DGT_NO_ROOM && sent.bytes == 2);
     sent = dgt_host_send_leds(host, NULL, 0, out, sizeof out);
@@ -564,6 +568,23 @@ static void no_bytes_of_hosts(void) {
     all = dgt_decoder_feed_all(decoder, BYTES(0x92, 0, 4, 'D'), &event, 1, NULL, 0);
     CHECK(all.used == 4 && all.count == 1 && event.body_len == 1);
     free(host), free(decoder);
+}
+
+/* The same of the clock's commands, which need from 5 to 14 bytes. */
+static void no_bytes_for_commands(void) {
+    dgt_host *host = room(dgt_host_size());
+    dgt_follower *follower = room(dgt_follower_size());
+    CHECK(dgt_host_new(host) && dgt_follower_new(follower, 1000, 1));
+    const uint8_t time[3] = {0};
+    REFUSES(display, DGT_NO_ROOM, 13, "123456", 0, 0, NULL, 0);
+    REFUSES(text, DGT_NO_ROOM, 14, "in eight", 0, NULL, 0);
+    REFUSES(beep, DGT_NO_ROOM, 6, 3, NULL, 0);
+    REFUSES(set_and_run, DGT_NO_ROOM, 12, time, time, 0, NULL, 0);
+    REFUSES(icons, DGT_NO_ROOM, 5, NULL, 0, NULL, 0);
+    REFUSES(end, DGT_NO_ROOM, 5, NULL, 0);
+    REFUSES(button, DGT_NO_ROOM, 5, NULL, 0);
+    REFUSES(clock_version, DGT_NO_ROOM, 5, NULL, 0);
+    free(host), free(follower);
 }
 
 static void no_bytes_of_followers(void) {
@@ -624,6 +645,7 @@ int main(void) {
     decoders();
     helpers();
     no_bytes_of_hosts();
+    no_bytes_for_commands();
     no_bytes_of_followers();
     no_bytes_of_boards();
     return 0;
