@@ -106,13 +106,17 @@ extern "C" {
 #define DGT_WRITES_(...)
 #endif
 
-/* ---- The version of this header, by which conditions can be compiled. */
+/* ---- The version of this header, by which conditions can be compiled, and of the library. */
 
 #define DGT_VERSION_MAJOR 1
 #define DGT_VERSION_MINOR 0
 #define DGT_VERSION_PATCH 0
 #define DGT_VERSION \
     (DGT_VERSION_MAJOR * 1000000 + DGT_VERSION_MINOR * 1000 + DGT_VERSION_PATCH)
+
+/* The version of the library that is linked, as one number, three digits a part: 1.2.3 is 1002003.
+ * If it is DGT_VERSION or more, with the same first part, it has all that this header says. */
+uint32_t dgt_version(void);
 
 /* ---- Limits. */
 
@@ -128,9 +132,6 @@ extern "C" {
 #define DGT_MAX_KEPT 64         /* the most bytes of a trademark, a battery body or a long serial
                                    number that a board keeps */
 #define DGT_PLACEMENT_ROOM 72   /* room for each placement and the zero at its end */
-
-/* The version of the library as one number, three digits a part: 1.2.3 is 1002003. */
-uint32_t dgt_version(void);
 
 /* ---- Handles. Their members are the library's. */
 

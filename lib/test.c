@@ -631,7 +631,7 @@ static void no_bytes_of_boards(void) {
 }
 
 int main(void) {
-    CHECK(dgt_version() == 1000000);
+    CHECK(dgt_version() == DGT_VERSION);
     CHECK(sizeof(dgt_host) == dgt_host_size() && sizeof(dgt_decoder) == dgt_decoder_size());
     CHECK(sizeof(dgt_board) == dgt_board_size() && sizeof(dgt_follower) == dgt_follower_size());
     CHECK(sizeof(dgt_command_decoder) == dgt_command_decoder_size());
