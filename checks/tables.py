@@ -17,6 +17,10 @@ INCREMENT = 5
 MOST_STEPS = 1000  # so many steps without any time between them are a busy wait
 CENTRE = {"1-0": ("e4", "d5"), "0-1": ("e5", "d4"), "1/2-1/2": ("d4", "d5")}
 RUNS, WHITE_TURN, BLACK_TURN = 0x01, 0x10, 0x08
+# What is counted of games that were played. Positions are those that had rested, and the last are
+# those of them whose moves weren't all known.
+COUNTED = ["games", "moves", "castlings", "captures in passing", "promotions",
+           "promotions to other pieces than a queen", "take-backs", "positions", "unresolved"]
 
 
 class Wrong(Exception):
@@ -168,7 +172,7 @@ class Played(games.Game):
 
     def __init__(self, dgt, seed, fen, file):
         self.file, self.clocks, self.pending = file, [], None
-        self.looked = self.unresolved = self.fast = 0
+        self.looked = self.unresolved = self.fast = self.backs = 0
         super().__init__(dgt, seed, fen)
 
     def sit_down(self, turned):
@@ -237,6 +241,7 @@ class Played(games.Game):
         if len(self.moves) <= 3:
             return
         self.press()
+        self.backs += 1
         super().take_back()
         del self.clocks[len(self.moves):]
         self.hand.timer.run(0 if self.state.white else 1, self.hand.time)
@@ -294,8 +299,7 @@ def room():
 
 def play(dgt, seeds, most):
     """Plays games, one for each seed, into one file, and compares them with what the file has.
-    Returns how many games, moves with their clocks and looks at positions there were, and how many
-    of the last found that a move was missing."""
+    Returns how many of each of `COUNTED` there were."""
     with tempfile.TemporaryDirectory(dir=room()) as folder:
         path = pathlib.Path(folder, "games.pgn")
         played, results = [], []
@@ -310,8 +314,15 @@ def play(dgt, seeds, most):
                 raise Wrong(f"game {seed}: {game.hand.warned}")
             played.append(game)
         compare(dgt, seeds, path, played, results)
-    counts = [(1, len(game.moves), game.looked, game.unresolved) for game in played]
-    return [sum(each) for each in zip(*counts)]
+    return [sum(each) for each in zip(*map(counts, played))]
+
+
+def counts(game):
+    changed = [sum(map(str.__ne__, one.letters, two.letters))
+               for one, two in zip(game.states, game.states[1:])]
+    promoted = [move[4] for move in game.moves if len(move) == 5]
+    return (1, len(game.moves), changed.count(4), changed.count(3), len(promoted),
+            len(promoted) - promoted.count("q"), game.backs, game.looked, game.unresolved)
 
 
 def compare(dgt, seeds, path, played, results):
