@@ -135,12 +135,16 @@ class PgnFile:
             os.close(number)
 
     def _replace(self, folder: str, content: bytes) -> None:
-        """Puts a new file in the place of the old one, with its mode."""
+        """Puts a new file in the place of the old one, with its mode, and its owner if that may
+        be."""
         with self._new(folder) as (number, path):
             with open(number, "wb", closefd=False) as opened:
                 opened.write(content)
             with contextlib.suppress(FileNotFoundError):
-                os.fchmod(number, stat.S_IMODE(os.stat(self._path).st_mode))
+                old = os.stat(self._path)
+                with contextlib.suppress(PermissionError):
+                    os.fchown(number, old.st_uid, old.st_gid)
+                os.fchmod(number, stat.S_IMODE(old.st_mode))
             os.fsync(number)
             os.replace(path, self._path)
 
