@@ -22,6 +22,16 @@
 use core::ffi::{c_char, c_void};
 use core::marker::{PhantomData, PhantomPinned};
 
+/// The first number of the version of the header that this crate declares.
+pub const DGT_VERSION_MAJOR: u32 = 1;
+/// The second number of the version of the header.
+pub const DGT_VERSION_MINOR: u32 = 0;
+/// The third number of the version of the header.
+pub const DGT_VERSION_PATCH: u32 = 0;
+/// The version of the header as one number, three digits a part: 1.2.3 is 1002003.
+pub const DGT_VERSION: u32 =
+    DGT_VERSION_MAJOR * 1_000_000 + DGT_VERSION_MINOR * 1_000 + DGT_VERSION_PATCH;
+
 /// The most bytes of a message's body.
 pub const DGT_MAX_BODY: usize = 16380;
 /// The most bytes of a command.
@@ -417,6 +427,9 @@ pub struct dgt_parsed {
 }
 
 unsafe extern "C" {
+    /// The version of the library that is linked, as one number like [`DGT_VERSION`].
+    pub safe fn dgt_version() -> u32;
+
     /// How many bytes a [`dgt_host`] takes in the library that is linked.
     pub safe fn dgt_host_size() -> usize;
     /// Makes the memory a host.
@@ -463,6 +476,53 @@ unsafe extern "C" {
         out: *mut u8,
         n: usize,
     ) -> dgt_sent;
+    /// Sends a message to the clock that shows six digits, spaces and hyphens.
+    pub fn dgt_host_send_display(
+        host: *mut dgt_host,
+        text: *const [c_char; 6],
+        dots: u8,
+        beep: u8,
+        out: *mut u8,
+        n: usize,
+    ) -> dgt_sent;
+    /// Sends a message to the clock that shows eight characters.
+    pub fn dgt_host_send_text(
+        host: *mut dgt_host,
+        text: *const [c_char; 8],
+        beep: u8,
+        out: *mut u8,
+        n: usize,
+    ) -> dgt_sent;
+    /// Sends a message to the clock that has it beep.
+    pub fn dgt_host_send_beep(
+        host: *mut dgt_host,
+        duration: u8,
+        out: *mut u8,
+        n: usize,
+    ) -> dgt_sent;
+    /// Sends a message to the clock that sets the times of both sides.
+    pub fn dgt_host_send_set_and_run(
+        host: *mut dgt_host,
+        left: *const [u8; 3],
+        right: *const [u8; 3],
+        control: u8,
+        out: *mut u8,
+        n: usize,
+    ) -> dgt_sent;
+    /// Sends a message to the clock that shows the icons of these bytes.
+    pub fn dgt_host_send_icons(
+        host: *mut dgt_host,
+        icons: *const u8,
+        icons_len: usize,
+        out: *mut u8,
+        n: usize,
+    ) -> dgt_sent;
+    /// Sends a message to the clock that ends what is shown.
+    pub fn dgt_host_send_end(host: *mut dgt_host, out: *mut u8, n: usize) -> dgt_sent;
+    /// Sends a message to the clock that asks for the state of its buttons.
+    pub fn dgt_host_send_button(host: *mut dgt_host, out: *mut u8, n: usize) -> dgt_sent;
+    /// Sends a message to the clock that asks for its version.
+    pub fn dgt_host_send_clock_version(host: *mut dgt_host, out: *mut u8, n: usize) -> dgt_sent;
     /// The pieces of all squares. False until a dump was heard.
     pub fn dgt_host_picture(host: *mut dgt_host, pieces: *mut [u8; 64]) -> bool;
     /// The same as a placement with a zero at its end.
@@ -528,6 +588,61 @@ unsafe extern "C" {
         follower: *mut dgt_follower,
         leds: *const u8,
         leds_len: usize,
+        out: *mut u8,
+        n: usize,
+    ) -> dgt_sent;
+    /// Sends a message to the clock that shows six digits, spaces and hyphens.
+    pub fn dgt_follower_send_display(
+        follower: *mut dgt_follower,
+        text: *const [c_char; 6],
+        dots: u8,
+        beep: u8,
+        out: *mut u8,
+        n: usize,
+    ) -> dgt_sent;
+    /// Sends a message to the clock that shows eight characters.
+    pub fn dgt_follower_send_text(
+        follower: *mut dgt_follower,
+        text: *const [c_char; 8],
+        beep: u8,
+        out: *mut u8,
+        n: usize,
+    ) -> dgt_sent;
+    /// Sends a message to the clock that has it beep.
+    pub fn dgt_follower_send_beep(
+        follower: *mut dgt_follower,
+        duration: u8,
+        out: *mut u8,
+        n: usize,
+    ) -> dgt_sent;
+    /// Sends a message to the clock that sets the times of both sides.
+    pub fn dgt_follower_send_set_and_run(
+        follower: *mut dgt_follower,
+        left: *const [u8; 3],
+        right: *const [u8; 3],
+        control: u8,
+        out: *mut u8,
+        n: usize,
+    ) -> dgt_sent;
+    /// Sends a message to the clock that shows the icons of these bytes.
+    pub fn dgt_follower_send_icons(
+        follower: *mut dgt_follower,
+        icons: *const u8,
+        icons_len: usize,
+        out: *mut u8,
+        n: usize,
+    ) -> dgt_sent;
+    /// Sends a message to the clock that ends what is shown.
+    pub fn dgt_follower_send_end(follower: *mut dgt_follower, out: *mut u8, n: usize) -> dgt_sent;
+    /// Sends a message to the clock that asks for the state of its buttons.
+    pub fn dgt_follower_send_button(
+        follower: *mut dgt_follower,
+        out: *mut u8,
+        n: usize,
+    ) -> dgt_sent;
+    /// Sends a message to the clock that asks for its version.
+    pub fn dgt_follower_send_clock_version(
+        follower: *mut dgt_follower,
         out: *mut u8,
         n: usize,
     ) -> dgt_sent;

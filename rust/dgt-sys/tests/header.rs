@@ -41,6 +41,7 @@ macro_rules! structs {
 
 fn all_numbers() -> Vec<(&'static str, u64)> {
     numbers! {
+        DGT_VERSION DGT_VERSION_MAJOR DGT_VERSION_MINOR DGT_VERSION_PATCH
         DGT_MAX_BODY DGT_MAX_WORD DGT_MAX_PAYLOAD DGT_MAX_LEDS DGT_MAX_AWAITED DGT_RESTART_LENGTH
         DGT_MAX_ASKING DGT_MAX_OWED DGT_MAX_SENT DGT_MAX_KEPT DGT_PLACEMENT_ROOM DGT_HOST_SIZE
         DGT_FOLLOWER_SIZE DGT_DECODER_SIZE DGT_COMMAND_DECODER_SIZE DGT_BOARD_SIZE
@@ -259,6 +260,15 @@ fn every_member_is_compared() {
         let declared: Vec<_> = declared.filter(|member| !member.ends_with('_')).collect();
         assert_eq!(declared, members.iter().map(|(member, _)| *member).collect::<Vec<_>>());
     }
+}
+
+/// Which is the version of the crates, too.
+#[test]
+fn the_library_has_the_version_of_the_header() {
+    assert_eq!(dgt_version(), DGT_VERSION);
+    let numbers = [DGT_VERSION_MAJOR, DGT_VERSION_MINOR, DGT_VERSION_PATCH];
+    let version = numbers.map(|number| number.to_string()).join(".");
+    assert_eq!(env!("CARGO_PKG_VERSION"), version);
 }
 
 /// The sizes of handles are those of the library that is linked, so each `_new` makes one.

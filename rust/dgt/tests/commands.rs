@@ -1,5 +1,5 @@
 //! The bytes of each command, and what a reader makes of a host's bytes, by the tables of
-//! docs/PROTOCOL.md and in each cutting.
+//! docs/PROGRAM.md and docs/PROTOCOL.md and in each cutting.
 
 mod common;
 

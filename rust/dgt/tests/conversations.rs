@@ -1,4 +1,5 @@
-//! Conversations of a host and a board, whose bytes are those of docs/PROTOCOL.md.
+//! Conversations of a host and a board, whose bytes are those of docs/PROTOCOL.md and
+//! docs/PROGRAM.md.
 
 mod common;
 
@@ -16,7 +17,7 @@ fn asks(host: &mut Host, board: &mut Board, command: Command<'_>) -> Vec<u8> {
     answers(board, &out[..count])
 }
 
-/// A short dialogue of docs/PROTOCOL.md.
+/// A short dialogue of docs/PROGRAM.md.
 #[test]
 fn a_short_dialogue() {
     let (mut host, mut board) = (Host::new(), Board::default());

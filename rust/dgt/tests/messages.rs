@@ -1,4 +1,4 @@
-//! What a decoder and a host make of a board's bytes, by the tables of docs/PROTOCOL.md and in each
+//! What a decoder and a host make of a board's bytes, by the table of docs/PROGRAM.md and in each
 //! cutting.
 
 mod common;

@@ -54,6 +54,7 @@ impl World {
             let Ok(taken) = self.board.take(&self.down[..left]) else {
                 return false;
             };
+            assert!(taken.used > 0);
             left -= taken.used;
             self.down.drain(..taken.used);
         }

@@ -1,4 +1,4 @@
-//! What the tests share: the tables of docs/PROTOCOL.md, and numbers made by chance.
+//! What the tests share: the tables of the protocol and of the program, and numbers made by chance.
 #![allow(dead_code)]
 
 use dgt::{Board, Decoder, Event, Polled};
@@ -21,11 +21,12 @@ pub fn start_dump() -> Vec<u8> {
     bytes(&format!("86 00 43 {START_CODES}"))
 }
 
-/// The rows of the tables after a line of docs/PROTOCOL.md, up to the next heading: of each cell
-/// what stands in backticks, or the text if nothing does.
+/// The rows of the tables after a line of docs/PROTOCOL.md or docs/PROGRAM.md, up to the next
+/// heading: of each cell what stands in backticks, or the text if nothing does.
 pub fn rows_after(line: &str) -> Vec<Vec<Vec<String>>> {
-    let page = Path::new(env!("CARGO_MANIFEST_DIR")).join("../../docs/PROTOCOL.md");
-    let text = fs::read_to_string(page).unwrap();
+    let docs = Path::new(env!("CARGO_MANIFEST_DIR")).join("../../docs");
+    let pages = ["PROTOCOL.md", "PROGRAM.md"].map(|name| fs::read_to_string(docs.join(name)));
+    let text = pages.map(Result::unwrap).join("\n");
     let (_, rest) = text.split_once(&format!("\n{line}\n")).expect(line);
     let lines = rest.lines().take_while(|line| !line.starts_with('#'));
     let rows = lines.filter(|line| line.starts_with('|') && !line.starts_with("|---"));
