@@ -61,7 +61,7 @@ pub extern "C" fn dgt_host_send_beep(host: &mut DgtHost, duration: u8, out: &mut
     send_message(host.get(), ClockCommand::Beep(duration), out)
 }
 
-/// Sets the times of both sides, in hours, minutes and seconds, and lets the clock run.
+/// Sets the times of both sides, in hours, minutes and seconds. What `control` does is the clock's.
 #[unsafe(no_mangle)]
 pub extern "C" fn dgt_host_send_set_and_run(
     host: &mut DgtHost,
@@ -180,7 +180,7 @@ pub extern "C" fn dgt_follower_send_beep(
     send_message(follower.get(), ClockCommand::Beep(duration), out)
 }
 
-/// Sets the times of both sides, in hours, minutes and seconds, and lets the clock run.
+/// Sets the times of both sides, in hours, minutes and seconds. What `control` does is the clock's.
 #[unsafe(no_mangle)]
 pub extern "C" fn dgt_follower_send_set_and_run(
     follower: &mut DgtFollower,
