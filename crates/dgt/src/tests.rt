@@ -14,7 +14,7 @@ use std::test::Fail;
 /// Room for all that a run writes, so that the writers take no memory.
 const ROOM: usize = 8192;
 
-/// What a run told.
+/// What a run returned and wrote.
 #[derive(Drop)]
 struct Ran {
     status: u8,
@@ -52,7 +52,7 @@ fn run<I: Read + Drop>(
     })
 }
 
-// Compares all that a run of this line told.
+// Compares all that a run of this line returned and wrote.
 fn compare(rt: &impl Abort, line: &str, ran: &Ran, status: u8, output: &[u8], errors: &str) {
     assert_eq!(rt; ran.output.as_slice(), output, "output of {line}");
     assert_eq!(rt;
@@ -64,7 +64,7 @@ fn compare(rt: &impl Abort, line: &str, ran: &Ran, status: u8, output: &[u8], er
 }
 
 // Runs the words of a line with an input that refuses each read, and compares all that the run
-// told.
+// returned and wrote.
 fn check(
     rt: &(impl Abort + AllocGlobal),
     line: &str,
@@ -77,7 +77,8 @@ fn check(
     Ok(())
 }
 
-/// A writer that takes so many bytes, and then refuses each write, and each flush where it is to.
+/// A writer that takes `room` bytes, and then refuses each write. It refuses each flush unless
+/// `flushes` is true.
 #[derive(Drop)]
 struct Taking<'a> {
     taken: &'a mut Vec<u8>,
@@ -163,6 +164,8 @@ fn stops_at_a_refused_read(rt: HostRuntime) -> Result<(), Fail> {
         "dgt monitor",
         "dgt picture",
         "dgt picture --doubt",
+        "dgt picture --clock",
+        "dgt picture --doubt --clock",
         "dgt commands",
         "dgt board",
         "dgt simulate",
@@ -189,7 +192,7 @@ fn stops_at_a_refused_read(rt: HostRuntime) -> Result<(), Fail> {
     Ok(())
 }
 
-// Tells a fault, and compares the status and the text.
+// Reports a fault, and compares the status and the text.
 fn check_told(
     rt: &(impl Abort + AllocGlobal),
     fault: Fault,
@@ -240,6 +243,8 @@ fn program_has_memory(rt: HostRuntime) -> Result<(), Fail> {
         ("dgt monitor", b"\x8e"),
         ("dgt picture", b"\x8e"),
         ("dgt picture --doubt", b"\x8e"),
+        ("dgt picture --clock", b"\x8e"),
+        ("dgt picture --clock --doubt", b"\x8e"),
         ("dgt commands", b"\x42\x2b"),
         ("dgt show 8e00052401", b""),
         ("dgt --help", b""),

@@ -1,4 +1,4 @@
--- The derived `==` of a clock tells whether two clocks show the same.
+-- The derived `==` of a clock says whether two clocks show the same.
 use Rattle.std.proofs.Common.{arith, ◌≡◌, refl, ap, List, [], ◌∷◌, Bool, ◌&&◌, ◌==◌, map, Option, Some, None, option_map}
 use Rattle.std.proofs.lemmas.Grind.{common_steps}
 use lib.Pointwise.{pointwise}
@@ -27,7 +27,7 @@ eq-clock_eq (clock.NoClock a) (clock.NoClock b) = ap (λ same. same && a.status.
 eq-clock_eq (clock.Times a) (clock.NoClock b) = refl
 eq-clock_eq (clock.NoClock a) (clock.Times b) = refl
 
--- what `==` answers at a clock that was told, or none, and at a clock
+-- what `==` answers at a clock that was reported, or none, and at a clock
 pub option_eq-is_told : (told : Option Clock) (shown : Clock)
     → option_eq (derived.eq-value).it told (Some shown) ≡ is_told (option_map clock_seen told) (clock_seen shown)
 option_eq-is_told None shown = refl

@@ -76,7 +76,7 @@ left_is board =
     let fields = length-map squares (field_of board) in
     omega (arith, all, rest, replies, fields)
 
--- a list has no first element exactly where nothing is in it
+-- a list has no first element exactly if nothing is in it
 pub none_first : {X : Type 0} (xs : List X) → (slice_get xs 0 ≡ None) ↔ (length xs ≡ 0)
 none_first [] = (λ _. refl, λ _. refl)
 none_first (x ∷ xs) = (λ h. cc, λ h. absurd (omega (arith, h)))
@@ -105,11 +105,11 @@ news_fewer true true m n h = omega arith
 news_fewer true false m n h = absurd (false≢true (sym (h refl)))
 news_fewer false b m n h = omega arith
 
--- a square that holds what was told doesn't differ
+-- a square that holds what was reported doesn't differ
 same_square : (a b : Piece) → a ≡ b → not (piece_code a == piece_code b) ≡ false
 same_square a b e = ap not (eq-eqb (piece_code a) (piece_code b) (ap piece_code e))
 
--- telling the clock alters no square
+-- sending the clock alters no square
 after_clock : (board : BoardState) (clock : ClockState)
     → after_telling board (clock_message clock) ≡ record board { told_clock = Some board.clock; times_owed = false }
 after_clock board (ClockState.times readings) = refl
@@ -147,14 +147,14 @@ reply_lowers asks board reply rest e =
 
 -- ---- a field is sent
 
--- the square is then told
+-- the square is then reported
 field_told : (board : BoardState) (square k : ℕ) → square < length board.told_squares → k ≡ square
     → differs (after_telling board (field_of board square)) k ≡ false
 field_told board square k within e =
     rw e (same_square _ _
     (get_or-set_same board.told_squares square (piece_on board.squares square) Piece.Empty within))
 
--- and each other one is told where it was
+-- and each other one is reported where it was
 field_tells : (board : BoardState) (square k : ℕ) → square < length board.told_squares → differs board k ≡ false
     → differs (after_telling board (field_of board square)) k ≡ false
 field_tells board square k within h = go (k == square) refl
@@ -168,7 +168,7 @@ field_tells board square k within h = go (k == square) refl
         let other : k ≢ square = λ f. false≢true (sym e ∙ eq-eqb k square f) in
         rw (get_or-set_other board.told_squares square k piece Piece.Empty other) h
 
--- fewer squares are left where one of them is told
+-- fewer squares are left where one of them is reported
 fewer_squares : (own asks : Bool) (less test : ℕ → Bool) (at : ℕ) (rest : List ℕ) → (own ≡ true → asks ≡ true)
     → ((k : ℕ) → test k ≡ false → less k ≡ false) → less at ≡ false → cond own (filter test every_square) [] ≡ at ∷ rest
     → length (cond asks (filter less every_square) []) < length (cond asks (filter test every_square) [])

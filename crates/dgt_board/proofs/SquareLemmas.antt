@@ -1,4 +1,4 @@
--- The squares that differ from what was told, the first of them.
+-- The squares that differ from what was reported, the first of them.
 use Rattle.std.proofs.Common.{arith, ◌≡◌, refl, ap, sym, ◌∙◌, ◌^◌, ℕ, zero, suc, ◌+◌, ◌<◌, [], Some, None, Bool, true, false, not, add-zero, zero-add}
 use Rattle.std.proofs.lemmas.Bool.{eq-eqb, ne_eqb, false≢true}
 use Rattle.std.proofs.lemmas.Nat.{bit_set_by_shift}
@@ -36,7 +36,7 @@ first_passes test a (suc n) (suc k) within before holds =
     (first_passes test (a + 1) n k (omega arith) (λ j l. rw (next j) (before (suc j) (omega arith)))
     (rw (next k) holds))
 
--- where no square passes, there is no first
+-- if no square passes, there is no first
 no_square : (test : ℕ → Bool) → ((k : ℕ) → k < 64 → test k ≡ false) → slice_get (filter test every_square) 0 ≡ None
 unfolding every_square
 no_square test h = rw (none_passes test 0 64 (λ k l. rw (zero-add k) (h k l))) refl

@@ -20,7 +20,7 @@ state_of kept =
       identity = kept.identity;
     }
 
--- the message that tells what is due
+-- the message that reports what is due
 abbrev pub due_message : BoardState → Due → Content
 due_message board (Due.Reply reply) = reply_message board reply
 due_message board (Due.Field square) = field_of board (square_number square)

@@ -29,7 +29,7 @@ reply_message board (Reply.Ack id version) =
 abbrev pub piece_on : List Piece → ℕ → Piece
 piece_on squares square = slice_index_or squares square Piece.Empty
 
--- whether a square differs from what was told
+-- whether a square differs from what was reported
 abbrev pub differs : BoardState → ℕ → Bool
 differs board square =
     let told = piece_code (piece_on board.told_squares square) in
@@ -39,7 +39,7 @@ differs board square =
 unfoldable pub every_square : List ℕ
 every_square = range_with_len 0 64
 
--- the squares that an update mode has still to tell, by number
+-- the squares that an update mode has still to report, by number
 abbrev pub untold_squares : BoardState → List ℕ
 untold_squares board = if updates board.mode then filter (differs board) every_square else []
 
@@ -85,7 +85,7 @@ times_owed_after board (Content.times readings) = false
 times_owed_after board (Content.no_clock absence) = false
 times_owed_after board _ = board.times_owed
 
--- the board after it has told a message, which leaves what it owes of replies
+-- the board after it has sent a message, which leaves what it owes of replies
 abbrev pub after_telling : BoardState → Content → BoardState
 after_telling board message =
     record board {

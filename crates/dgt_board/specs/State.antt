@@ -11,7 +11,7 @@ use Rattle.dgt_board.specs.declared.identities.TheConstants.{MAX_KEPT_BODY}
 use Rattle.dgt_board.specs.declared.modes.Mode.{Mode}
 use Rattle.dgt_board.specs.declared.replies.Reply.{Reply}
 
--- what a board tells of itself when it is asked
+-- what a board reports of itself when it is asked
 pub record IdentityContent : Type 0 where
   pub serial : List ℕ
   pub trademark : List ℕ
@@ -65,7 +65,7 @@ follows_clock Mode.Update = true
 follows_clock Mode.UpdateNice = true
 follows_clock _ = false
 
--- whether what was told of the clock is what it shows
+-- whether what was reported of the clock is what it shows
 abbrev pub is_told : Option ClockState → ClockState → Bool
 is_told None clock = false
 is_told (Some told) clock = clock_eq told clock
@@ -74,7 +74,7 @@ is_told (Some told) clock = clock_eq told clock
 abbrev pub after_change : BoardState → ℕ → Piece → BoardState
 after_change board square piece = record board { squares = slice_set board.squares square piece }
 
--- whether a clock that is handed in is then owed, by the mode and by whether it was told
+-- whether a clock that is handed in is then owed, by the mode and by whether it was reported
 abbrev pub owed_when_handed : Mode → Bool → Bool
 owed_when_handed Mode.Update told = true
 owed_when_handed Mode.UpdateNice told = not told
@@ -113,8 +113,8 @@ replies_to board (CommandContent.ClockMessage message) =
     acknowledgements board.clock board.identity message
 replies_to board command = map Reply.Of (option_to_list (kind_of_command command))
 
--- The board after a command. A mode that is set follows the clock where it differs from what was
--- told, whatever was owed before.
+-- The board after a command. A mode that is set follows the clock if it differs from what was
+-- reported, whatever was owed before.
 abbrev pub after_command : BoardState → CommandContent → BoardState
 after_command board command =
     record board {

@@ -62,8 +62,8 @@ impl Model for Board {
 impl Board {
     ghost use Rattle.dgt_board.specs.contracts.boards.Board.{the_row};
 
-    /// A board with these pieces, this clock and this identity. It is idle, has told its pieces and
-    /// not its clock, and owes nothing.
+    /// A board with these pieces, this clock and this identity. It is idle, has reported its pieces
+    /// and not its clock, and owes nothing.
     pub fn new(position: Position, clock: Clock, identity: Identity) -> Self
         ensures { result ≡ new_view (pieces_of position) (clock_seen clock) identity }
     {
@@ -73,8 +73,9 @@ impl Board {
         }
     }
 
-    /// Puts a piece on a square, or takes one off. The square is to be told in each mode of
-    /// updates, the present one or a later one, for as long as it differs from what was told of it.
+    /// Puts a piece on a square, or takes one off. The square is to be sent in each mode of
+    /// updates, the present one or a later one, for as long as it differs from what was reported of
+    /// it.
     pub fn change(&mut self, square: Square, piece: Piece)
         ensures { self.new ≡
             record self.old { state = after_change self.old.state (square_number square) piece } }
@@ -82,9 +83,9 @@ impl Board {
         self.state.change(square, piece);
     }
 
-    /// Sets what the clock shows. In `Update` it is then to be told, in `UpdateNice` exactly if it
-    /// differs from what was told of it, and in the other modes it isn't, whatever was to be told
-    /// before.
+    /// Sets what the clock shows. In `Update` it is then to be sent, and in `UpdateNice` exactly if
+    /// it differs from what was reported of it. In the other modes it isn't, whatever was to be
+    /// sent before.
     pub fn hand_clock(&mut self, clock: Clock)
         ensures { self.new ≡
             record self.old { state = after_hand_clock self.old.state (clock_seen clock) } }
@@ -93,11 +94,11 @@ impl Board {
     }
 
     /// The line to the host is lost, and what was under way on it. The board keeps its squares, its
-    /// clock and its identity, and is else as new: idle, with its squares told, its clock not told,
-    /// nothing owed, and no byte held of an unfinished command.
+    /// clock and its identity. Otherwise it is as new: it is idle, its squares count as reported
+    /// and its clock does not, it owes nothing, and it holds no byte of an unfinished command.
     ///
-    /// A change made before is so no longer to be told as a field update. A dump tells of it, which
-    /// the host asks for where it follows the board anew.
+    /// So a change made before is no longer sent as a field update. Only a dump reports it, which a
+    /// host requests when it follows the board anew.
     pub fn line_lost(&mut self)
         ensures { self.new ≡ view_after_line_lost self.old }
     {
@@ -106,10 +107,10 @@ impl Board {
         self.state.line_lost();
     }
 
-    /// Uses bytes up to and including the first that completes a command or shows a fault, or the
-    /// whole piece. A command that was read has its effect, a fault has none.
+    /// Uses bytes up to and including the first that completes a command or shows a fault. If none
+    /// does, it uses the whole chunk. A command that was read has its effect; a fault has none.
     ///
-    /// It is `Busy` exactly where `MAX_OWED` replies are owed, whatever the piece is, and then
+    /// It is `Busy` exactly if `MAX_OWED` replies are owed, whatever the chunk is, and then
     /// nothing changes.
     pub fn take(&mut self, piece: &[u8]) -> Result<Taken<'_>, Busy>
         ensures* after_borrow { sem 𝓛 (Rests the_row self.entry (λ new. MatchResult result
@@ -147,9 +148,9 @@ impl Board {
         })
     }
 
-    /// Writes the next message into the front of the slice, and takes it for sent; the bytes past
-    /// it stay. A slice that is too short for it stays as it is, and so does the board. No message
-    /// has more than `MAX_SENT` bytes.
+    /// Writes the next message into the slice, from its beginning, and counts it as sent. The bytes
+    /// after it stay as they were. If the slice is too short, it stays as it is, and so does the
+    /// board. No message has more than `MAX_SENT` bytes.
     pub fn poll(&mut self, out: &mut [u8]) -> Polled
         ensures polls { Polls result (next_message self.old.state)
             self.old self.new out.old out.new }
@@ -190,7 +191,7 @@ impl Board {
         self.framer.partial()
     }
 
-    /// What the board tells unasked.
+    /// Which changes the board sends by itself.
     pub fn mode(&self) -> Mode
         ensures { result ≡ self.now.state.mode }
     {

@@ -1,4 +1,4 @@
-//! What a board tells of itself.
+//! What a board reports of itself.
 
 ghost use Rattle.std.specs.Prelude.{◌≡◌, ◌<◌, ◌≤◌, ◌⊎◌, ◌↔◌, length, map, All, IfOk, IsErr, MatchResult};
 ghost use Rattle.dgt_values.specs.Bytes.{body_bytes, number};
@@ -17,9 +17,8 @@ pub const MAX_KEPT_BODY: usize = 64;
 #[error("a body has more than {MAX_KEPT_BODY} bytes")]
 pub struct TooLong;
 
-/// What a board tells of itself when it is asked: its serial number, its trademark, its version,
-/// its battery, the version of its clock, and its long serial number. It keeps its own copy of the
-/// bodies.
+/// What a board reports of itself when it is asked: its serial number, trademark, version, battery,
+/// the version of its clock, and its long serial number. It keeps its own copy of the bodies.
 #[derive(Drop)]
 pub struct Identity {
     serial: [SevenBit; 5],
@@ -66,8 +65,8 @@ fn kept_body(body: Body<'_>) -> Result<ArrayVec<u8, MAX_KEPT_BODY>, TooLong>
 }
 
 impl Identity {
-    /// The serial number, the trademark, main and sub number of the version, the body of battery
-    /// messages, the byte that tells the version of the clock, and the long serial number. A
+    /// An identity of the serial number, the trademark, the main and sub number of the version, the
+    /// body of battery messages, the version byte of the clock, and the long serial number. A
     /// trademark, a battery body or a long serial number of more than `MAX_KEPT_BODY` bytes is
     /// `TooLong`.
     pub fn new(

@@ -20,7 +20,7 @@ pub fn limits()
     ensures sent { MAX_SENT ≡ 67 }
 {}
 
-/// Two values are equal, as `==` compares them, exactly where they are the same. Of lent bytes the
+/// Two values are equal, as `==` compares them, exactly if they are the same. Of lent bytes the
 /// bytes count, and not where they lie.
 pub fn equal_is_same()
     ensures mode { EqualIsSame ⟦<Mode as PartialEq>⟧.eq }
@@ -44,16 +44,16 @@ pub fn clone_is_same()
     ensures taken { CloneIsSame ⟦<Taken<'static> as Clone>⟧ }
 {}
 
-/// A board has nothing to send exactly where nothing is left to send, and then it owes no reply.
+/// A board has nothing to send exactly if nothing is left to send, and then it owes no reply.
 pub fn nothing_to_send()
     ensures nothing_left { (board : BoardState)
         → (next_message board ≡ None) ↔ (left_to_send board ≡ 0) }
     ensures none_owed { (board : BoardState) → next_message board ≡ None → board.owed ≡ [] }
 {}
 
-/// What is left to send are the owed replies, the squares that an update mode has still to tell,
-/// and the clock if it is to be told: at most the replies, 64 squares and the clock. It falls with
-/// each message that is sent.
+/// How much is left to send: the owed replies, the squares that an update mode has still to report,
+/// and the clock if it is to be sent. That is at most the replies, 64 squares and the clock. The
+/// number falls with each message that is sent.
 pub fn bounded_sending()
     ensures parts { (board : BoardState) → left_to_send board
         ≡ length board.owed + length (untold_squares board) + length (clock_news board) }

@@ -1,24 +1,26 @@
-//! A DGT board of this project, as a program runs it and as a host meets it on the line.
+//! A DGT board of this project: it takes commands, and sends messages.
 //!
-//! A [`Board`] keeps what stands on its squares, what its clock shows, what it has told of both,
-//! its [`Mode`], and the replies that it owes, at most [`MAX_OWED`]. What happens on the table is
-//! handed to it by `change` and `hand_clock`, and what the host sends by `take`, in any pieces.
-//! `poll` writes one message a call, of at most [`MAX_SENT`] bytes: the owed replies in their
-//! order, then the squares that differ from what was told, then the clock. Where the line breaks,
-//! `line_lost` makes the board forget all that was said on it. No call takes memory, waits or fails
-//! for good.
+//! A program hands a [`Board`] what happens on the table (`change`, `hand_clock`) and what the host
+//! sends (`take`, in chunks of any length). `poll` writes one message a call, of at most
+//! [`MAX_SENT`] bytes: the owed replies in their order, then the squares that differ from what was
+//! reported, then the clock. `line_lost` makes the board forget all that was said on a line that is
+//! lost. No call takes memory or waits.
 //!
 //! ```text
-//! take(44)                 from now on each change is told
+//! take(44)                 each change is reported from now on
 //! change(e2, empty)
 //! poll(..)                 8e 00 05 34 00, then nothing
 //! ```
 //!
 //! The commands and what they ask for are those of the DGT Electronic Board Protocol Description
-//! (the `dgtbrd` header), single-board mode. This project's own choice are the order of sending,
-//! the limit of owed replies, that a reply is formed when it is sent, that a square is told by what
-//! it holds then, that a board acknowledges each clock message unless it has no clock, and the
-//! bytes of that. [`laws`] says what holds of what is to be sent and of what was taken.
+//! (the `dgtbrd` header), single-board mode. This project's own choices are:
+//!
+//! - the order of sending, and the limit of [`MAX_OWED`] owed replies;
+//! - that a reply is formed when it is sent, and a square is sent with what it holds then;
+//! - that a board acknowledges each clock message unless it has no clock, and the bytes of that.
+//!
+//! [`laws`] has the facts about what is to be sent and what was taken. The definitions that
+//! contracts cite are in `specs/State.antt`, `Sending.antt` and `View.antt`.
 #![tactic(auto)]
 
 mod boards;

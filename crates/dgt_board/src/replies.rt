@@ -11,7 +11,7 @@ pub enum Reply {
     Of(Kind),
     #[default]
     Clock,
-    /// The acknowledgement of a clock message: its id, and the clock's version where the id asks
+    /// The acknowledgement of a clock message: its id, and the clock's version if the id asks
     /// for it, else 0.
     Ack { id: u8, version: u8 },
 }

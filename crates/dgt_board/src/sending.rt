@@ -21,9 +21,9 @@ pub const MAX_SENT: usize = 67;
 /// What a board answers that is asked to send.
 #[derive(Clone, Copy, Debug, PartialEq, Eq)]
 pub enum Polled {
-    /// The front of the slice, so many bytes, is the message that was sent.
+    /// The message that was sent is at the beginning of the slice, and has this number of bytes.
     Wrote(usize),
-    /// The next message has so many bytes and the slice has fewer, so nothing was sent.
+    /// The next message has this number of bytes and the slice has fewer, so nothing was sent.
     NeedRoom(usize),
     /// There is nothing to send.
     Nothing,
@@ -51,7 +51,7 @@ fn acknowledgement<'a>(id: u8, version: u8) -> Message<'a>
 impl State {
     ghost use Rattle.dgt_board.specs.Kept.{state_of};
 
-    // The first square that differs from what was told.
+    // The first square that differs from what was reported.
     fn differing_square(&self) -> Option<Square>
         ensures { slice_get (filter (differs (state_of self.now)) every_square) 0
             ≡ option_map square_number result }
@@ -63,7 +63,7 @@ impl State {
         Some(Square::from_small(differing.trailing_zeros() as u8))
     }
 
-    // The first square that is left to tell in this mode.
+    // The first square that is left to report in this mode.
     fn untold_square(&self) -> Option<Square>
         ensures { slice_get (untold_squares (state_of self.now)) 0
             ≡ option_map square_number result }
@@ -94,9 +94,9 @@ impl State {
         }
     }
 
-    // Writes an owed reply to the front of the slice, as the board stands. Each message is encoded
-    // where it is made: one that is first brought together with the others is copied as long as a
-    // dump is.
+    // Writes an owed reply at the beginning of the slice, as the board stands. Each message is
+    // encoded in the arm that makes it: one that is first brought together with the others is
+    // copied as long as a dump is.
     fn write_reply(&self, reply: Reply, out: &mut [u8]) -> Result<usize, NoRoom>
         ensures written { let message = reply_message (state_of self.now) reply in
             WritesFront (spelling message) out.old out.new result }
@@ -123,7 +123,7 @@ impl State {
         }
     }
 
-    // Writes what the clock shows to the front of the slice.
+    // Writes what the clock shows at the beginning of the slice.
     fn write_clock(&self, out: &mut [u8]) -> Result<usize, NoRoom>
         ensures written { let message = clock_message (state_of self.now).clock in
             WritesFront (spelling message) out.old out.new result }
@@ -137,7 +137,7 @@ impl State {
         }
     }
 
-    // Writes what is due to the front of the slice, as the board stands.
+    // Writes what is due at the beginning of the slice, as the board stands.
     fn write(&self, due: Due, out: &mut [u8]) -> Result<usize, NoRoom>
         ensures written { let message = due_message (state_of self.now) due in
             WritesFront (spelling message) out.old out.new result }
@@ -152,7 +152,7 @@ impl State {
         }
     }
 
-    // The clock is told.
+    // The clock is reported.
     fn note_clock(&mut self)
         ensures { state_of self.new ≡ record (state_of self.old) {
           told_clock = Some (state_of self.old).clock;
@@ -163,7 +163,7 @@ impl State {
         self.times_owed = false;
     }
 
-    // What a reply tells is told.
+    // What a reply reports counts as reported.
     fn note_reply(&mut self, reply: Reply)
         ensures { state_of self.new
             ≡ after_telling (state_of self.old) (reply_message (state_of self.old) reply) }
@@ -175,7 +175,7 @@ impl State {
         }
     }
 
-    // What was due is told.
+    // What was due counts as reported.
     fn note_told(&mut self, due: Due)
         ensures { state_of self.new
             ≡ after_telling (state_of self.old) (due_message (state_of self.old) due) }
@@ -190,7 +190,7 @@ impl State {
         }
     }
 
-    // The first reply is owed no longer. Where none is owed, nothing changes.
+    // The first reply is owed no longer. If none is owed, nothing changes.
     fn drop_reply(&mut self)
         ensures { state_of self.new
             ≡ record (state_of self.old) { owed = drop 1 (state_of self.old).owed } }
@@ -198,7 +198,7 @@ impl State {
         let _ = self.owed.pop_at(0);
     }
 
-    /// Writes the next message into the front of the slice, and takes it for sent.
+    /// Writes the next message into the slice, from its beginning, and counts it as sent.
     pub fn send(&mut self, out: &mut [u8]) -> Polled
         ensures polls { (partial : List ℕ) → Polls result (next_message (state_of self.old))
             (record { state = state_of self.old; partial = partial })

@@ -24,11 +24,11 @@ pub struct State {
     pub squares: Position,
     pub clock: Clock,
     pub mode: Mode,
-    /// The squares as the board has told them.
+    /// The squares as the board has reported them.
     pub told_squares: Position,
-    /// The clock as it has told it.
+    /// The clock as the board has reported it.
     pub told_clock: Option<Clock>,
-    /// Whether the clock is to be told.
+    /// Whether the clock is to be sent.
     pub times_owed: bool,
     /// The replies that were asked for and are not sent, the oldest first.
     pub owed: ArrayVec<Reply, MAX_OWED>,
@@ -38,7 +38,7 @@ pub struct State {
 impl State {
     ghost use Rattle.dgt_board.specs.Kept.{state_of};
 
-    /// A board just made, which has told its squares.
+    /// A board just made, which has reported its squares.
     pub fn new(position: Position, clock: Clock, identity: Identity) -> Self
         ensures { state_of result ≡ new_board (pieces_of position) (clock_seen clock) identity }
     {
@@ -62,7 +62,7 @@ impl State {
         self.squares.set(square, piece);
     }
 
-    // Whether a clock differs from what was told.
+    // Whether a clock differs from what was reported.
     fn is_news(&self, clock: Clock) -> bool
         ensures { result ≡ not (is_told (state_of self.now).told_clock (clock_seen clock)) }
     {
@@ -81,7 +81,7 @@ impl State {
         self.clock = clock;
     }
 
-    /// The line is lost: what was asked for is forgotten, and the squares count as told.
+    /// The line is lost: what was asked for is forgotten, and the squares count as reported.
     pub fn line_lost(&mut self)
         ensures { state_of self.new ≡ after_line_lost (state_of self.old) }
     {
@@ -123,7 +123,7 @@ impl State {
         }
     }
 
-    // A mode that follows the clock owes it where it differs from what was told, whatever was owed
+    // A mode that follows the clock owes it if it differs from what was reported, whatever was owed
     // before.
     fn enter(&mut self, mode: Mode)
         ensures { state_of self.new ≡ record (state_of self.old) {

@@ -1,19 +1,19 @@
 -- The events of a chunk, reported one after another.
-use Rattle.std.proofs.Common.{◌≡◌, ◌↔◌, refl, sym, ap, ◌∙◌, ℕ, ◌+◌, ◌-◌, ◌<◌, ◌≤◌, List, [], ◌∷◌, ◌++◌, append_assoc, append-nil, length, take, drop, set, Some, None, Option, is_some, Bool, true, false, IsTrue, arith, inl, inr}
+use Rattle.std.proofs.Common.{◌≡◌, ◌↔◌, refl, sym, ap, ◌∙◌, ℕ, ◌+◌, ◌-◌, ◌<◌, ◌≤◌, List, [], ◌∷◌, ◌++◌, append_assoc, append-nil, length, take, drop, set, Some, None, Option, is_some, Bool, true, false, IsTrue, arith, inl, inr, subst}
 use Rattle.std.proofs.Math.Seq.{take-add}
 use Rattle.std.proofs.lemmas.Bool.{cases_lt}
 use Rattle.std.proofs.lemmas.Grind.{flat_map-append}
-use Rattle.std.proofs.lemmas.List.{drop-drop, drop-set-lt, length-append, length-drop, length-set, map-append, nil_from_length, take-append-drop, take_all, take_more_set}
+use Rattle.std.proofs.lemmas.List.{drop-drop, drop-set-lt, length-append, length-drop, length-set, length-take, map-append, nil_from_length, take-append-drop, take_all, take_more_set}
 use Rattle.dgt_decode.specs.Grammar.{Event, Placed, at_place, events, events_behind, open_message}
 use Rattle.dgt_decode.specs.Feeding.{FirstEvent, event_content, event_content_if_any}
 use Rattle.dgt_decode.specs.declared.event.Event as code
-use Rattle.dgt_decode.specs.Laws.{EventsAppend, OpenAppend, OpenIsQuiet}
-use Rattle.dgt_host.specs.Host.{HeardInPieces, HostView, IsUnasked, host_after, host_after_event, host_after_events}
+use Rattle.dgt_decode.specs.Laws.{EventsAppend, OpenAppend, OpenIsPart, OpenIsQuiet}
+use Rattle.dgt_host.specs.Host.{HostView, IsUnasked, host_after, host_after_event, host_after_events}
 use Rattle.dgt_c.specs.Chunks.{GoesOn, Tells, TellsEach, UsesUpTo, bodies, each_told, events_up_to}
 use Rattle.dgt_c.specs.Hearing.{flag}
 use Rattle.dgt_c.specs.Slices.{overwritten}
-use Rattle.dgt_c.specs.Told.{body_said, event_told}
-use Rattle.dgt_c.specs.declared.events.DgtEvent.{DgtEvent}
+use Rattle.dgt_c.specs.Told.{body_said, told_at}
+use Rattle.dgt_c.specs.declared.header.DgtEvent.{DgtEvent}
 
 -- ---- More bytes
 
@@ -75,6 +75,12 @@ abbrev next_place : List ℕ → List ℕ → ℕ → ℕ → ℕ
 next_place held chunk i n =
     let s : List ℕ = held ++ take i chunk in
     (length s - length (open_message s)) + (length (open_message s) + n)
+
+-- in the chunk it is the number of bytes that are used then
+place_in_chunk : OpenIsPart → (held chunk : List ℕ) (i n : ℕ) → i ≤ length chunk
+    → next_place held chunk i n - length held ≡ i + n
+place_in_chunk part held chunk i n h =
+    omega (arith, h, part (held ++ take i chunk), length-append held (take i chunk), length-take i chunk)
 
 one_used : EventsAppend → (held chunk : List ℕ) (i n : ℕ) (event : Event)
     → FirstEvent (open_message (held ++ take i chunk)) (drop i chunk) n (Some event)
@@ -192,17 +198,20 @@ module _ (later : EventsAppend) (held chunk : List ℕ) (old : List DgtEvent) (o
       }
 
   -- at the end of the loop
-  pub uses_up_to : (used count body_len : ℕ) (now : List DgtEvent) (body : List ℕ)
+  uses_up_to : (used count body_len : ℕ) (now : List DgtEvent) (body : List ℕ)
       → HasRead held chunk used count old now body_len old_body body
-      → (used < length chunk → count < length now → body_len ≡ 0 → ⊥) → UsesUpTo held chunk (length old) used
+      → ((used < length chunk) × (count < length now) × (body_len ≡ 0) → ⊥) → UsesUpTo held chunk (length old) used
   uses_up_to used count body_len now body before ended = record {
     within = before.within;
     least = before.least;
-    ends = λ more on.
-        ended more (omega (arith, on.0, before.count_is, before.all)) (before.body_len_is ∙ ap length on.1);
+    ends = λ more on. ended (
+      more,
+      omega (arith, on.0, before.count_is, before.all),
+      before.body_len_is ∙ ap length on.1,
+    );
   }
 
-  pub progress : (used : ℕ) → events (held ++ []) ≡ [] → UsesUpTo held chunk (length old) used → 0 < length chunk
+  progress : (used : ℕ) → events (held ++ []) ≡ [] → UsesUpTo held chunk (length old) used → 0 < length chunk
       → 0 < length old → 0 < used
   progress used none uses some room = elim (cases_lt 0 used) [
     | inl some_used ↦ some_used
@@ -212,199 +221,165 @@ module _ (later : EventsAppend) (held chunk : List ℕ) (old : List DgtEvent) (o
         absurd (uses.ends (omega (arith, zero, some)) (rw made (room, refl)))
   ]
 
--- ---- What is reported
+-- ---- What hears a chunk: a host, or a decoder
 
-tells_more : (host : HostView) (made : List Placed) (told : List DgtEvent) (x : Placed) (one : DgtEvent)
-    → TellsEach host made told → Tells (host_after_events host made).awaited x.event one
-    → TellsEach host (made ++ x ∷ []) (told ++ one ∷ [])
-tells_more host [] [] x one are is = (is, tt)
-tells_more host (y ∷ made) (t ∷ told) x one are is =
-    (are.0, tells_more (host_after_event host y.event) made told x one are.1 is)
-tells_more host [] (t ∷ told) x one are is = absurd are
-tells_more host (y ∷ made) [] x one are is = absurd are
+-- what it has of an unfinished message, what it is after some bytes, and whether a struct holds the event that it
+-- makes then, with this place, and structs the events that it has made
+pub record Hearer : Type 1 where
+  pub S : Type 0
+  pub held : S → List ℕ
+  pub after : S → List ℕ → S
+  pub Tells : S → ℕ → Option Event → DgtEvent → Type 0
+  pub TellsAll : S → List Placed → List DgtEvent → Type 0
+  pub held_after : (x : S) (bytes : List ℕ) → held (after x bytes) ≡ open_message (held x ++ bytes)
+  pub none_told : (x : S) → TellsAll x [] []
+  pub one_told : (x : S) (bytes : List ℕ) (told : List DgtEvent) (y : Placed) (one : DgtEvent)
+      → TellsAll x (events (held x ++ bytes)) told
+      → Tells (after x bytes) (y.place - length (held x)) (Some y.event) one
+      → TellsAll x (events (held x ++ bytes) ++ y ∷ []) (told ++ one ∷ [])
 
-pub one_told : EventsAppend → (host : HostView) (chunk : List ℕ) (used n count : ℕ) (now : List DgtEvent)
-    (event : Event) (told : DgtEvent)
-    → FirstEvent (open_message (host.unread ++ take used chunk)) (drop used chunk) n (Some event)
-    → count < length now
-    → TellsEach host (events_up_to host.unread chunk used) (take count now)
-    → Tells (host_after_events host (events_up_to host.unread chunk used)).awaited event told
-    → TellsEach host (events_up_to host.unread chunk (used + n)) (take (count + 1) (set now count told))
-one_told later host chunk used n count now event told first room are is =
-    rw (one_used later host.unread chunk used n event first, take_more_set now count told room)
-    (tells_more host (events_up_to host.unread chunk used) (take count now)
-    (at_place (next_place host.unread chunk used n) event) told are is)
+pub tells_more : (before : ℕ) (host : HostView) (made : List Placed) (told : List DgtEvent) (x : Placed)
+    (one : DgtEvent)
+    → TellsEach before host made told → Tells before (host_after_events host made).awaited x one
+    → TellsEach before host (made ++ x ∷ []) (told ++ one ∷ [])
+tells_more before host [] [] x one are is = (is, tt)
+tells_more before host (y ∷ made) (t ∷ told) x one are is =
+    (are.0, tells_more before (host_after_event host y.event) made told x one are.1 is)
+tells_more before host [] (t ∷ told) x one are is = absurd are
+tells_more before host (y ∷ made) [] x one are is = absurd are
 
-pub none_told : EventsAppend → (host : HostView) (chunk : List ℕ) (used n : ℕ) (told : List DgtEvent)
-    → FirstEvent (open_message (host.unread ++ take used chunk)) (drop used chunk) n None
-    → TellsEach host (events_up_to host.unread chunk used) told
-    → TellsEach host (events_up_to host.unread chunk (used + n)) told
-none_told later host chunk used n told first are = rw (quiet_used later host.unread chunk used n first) are
+abbrev pub host : Hearer
+host = record {
+  S = HostView;
+  held = λ x. x.unread;
+  after = host_after;
+  Tells = λ x place event told. (unasked : Bool) × (IsTrue unasked ↔ IsUnasked x.awaited event)
+      × (told ≡ record (told_at place event) { unasked = flag unasked });
+  TellsAll = λ x. TellsEach (length x.unread) x;
+  held_after = λ x bytes. refl;
+  none_told = λ x. tt {0};
+  one_told = λ x bytes. tells_more (length x.unread) x (events (x.unread ++ bytes));
+}
 
-pub one_fed : EventsAppend → (held chunk : List ℕ) (used n count : ℕ) (now : List DgtEvent) (event : Event)
-    → FirstEvent (open_message (held ++ take used chunk)) (drop used chunk) n (Some event)
-    → count < length now → take count now ≡ each_told (events_up_to held chunk used)
-    → take (count + 1) (set now count (event_told (Some event))) ≡ each_told (events_up_to held chunk (used + n))
-one_fed later held chunk used n count now event first room are =
-    let x : Placed = at_place (next_place held chunk used n) event in
-    let front = take_more_set now count (event_told (Some event)) room in
-    let more = map-append (λ (y : Placed). event_told (Some y.event)) (events_up_to held chunk used) (x ∷ []) in
-    rw (one_used later held chunk used n event first, front, are, more) refl
+pub fed_more : (held bytes : List ℕ) (told : List DgtEvent) (y : Placed) (one : DgtEvent)
+    → told ≡ each_told (length held) (events (held ++ bytes))
+    → one ≡ told_at (y.place - length held) (Some y.event)
+    → told ++ one ∷ [] ≡ each_told (length held) (events (held ++ bytes) ++ y ∷ [])
+fed_more held bytes told y one are is =
+    let more = map-append (λ (x : Placed). told_at (x.place - length held) (Some x.event)) (events (held ++ bytes))
+    (y ∷ []) in
+    rw (more, are, is) refl
 
-pub none_fed : EventsAppend → (held chunk : List ℕ) (used n : ℕ) (told : List DgtEvent)
-    → FirstEvent (open_message (held ++ take used chunk)) (drop used chunk) n None
-    → told ≡ each_told (events_up_to held chunk used) → told ≡ each_told (events_up_to held chunk (used + n))
-none_fed later held chunk used n told first are = rw (quiet_used later held chunk used n first) are
+abbrev pub decoder : Hearer
+decoder = record {
+  S = List ℕ;
+  held = λ x. x;
+  after = λ x bytes. open_message (x ++ bytes);
+  Tells = λ x place event told. told ≡ told_at place event;
+  TellsAll = λ x made told. told ≡ each_told (length x) made;
+  held_after = λ x bytes. refl;
+  none_told = λ x. refl;
+  one_told = fed_more;
+}
 
--- ---- The loop of a host, and that of a decoder
+-- what hears bytes in two pieces is what hears them in one
+abbrev pub InPieces : Hearer → Type 0
+InPieces K = (x : K.S) (bytes more : List ℕ) → K.after (K.after x bytes) more ≡ K.after x (bytes ++ more)
 
-pub record HasHeard (host before : HostView) (chunk : List ℕ) (used count : ℕ) (old now : List DgtEvent)
+pub fed_in_pieces : OpenAppend → InPieces decoder
+fed_in_pieces still x bytes more = sym (still (x ++ bytes) more) ∙ ap open_message (append_assoc x bytes more)
+
+-- It has heard `used` bytes and reported `count` events.
+pub record HasHeard (K : Hearer) (x now : K.S) (chunk : List ℕ) (used count : ℕ) (old told : List DgtEvent)
     (body_len : ℕ) (old_body body : List ℕ) : Type 0 where
-  pub read : HasRead host.unread chunk used count old now body_len old_body body
-  pub heard : before ≡ host_after host (take used chunk)
-  pub tells : TellsEach host (events_up_to host.unread chunk used) (take count now)
+  pub read : HasRead (K.held x) chunk used count old told body_len old_body body
+  pub heard : now ≡ K.after x (take used chunk)
+  pub tells : K.TellsAll x (events_up_to (K.held x) chunk used) (take count told)
 
-pub record HasFed (held before chunk : List ℕ) (used count : ℕ) (old now : List DgtEvent) (body_len : ℕ)
-    (old_body body : List ℕ) : Type 0 where
-  pub read : HasRead held chunk used count old now body_len old_body body
-  pub left : before ≡ open_message (held ++ take used chunk)
-  pub tells : take count now ≡ each_told (events_up_to held chunk used)
+module _ (K : Hearer) (later : EventsAppend) (x : K.S) (chunk : List ℕ) (old : List DgtEvent) (old_body : List ℕ) where
+  -- What is open makes no event.
+  no_event : OpenIsQuiet → open_message (K.held x) ≡ K.held x → events (K.held x ++ []) ≡ []
+  no_event quiet same = ap events (append-nil (K.held x) ∙ sym same) ∙ quiet.no_event (K.held x)
 
--- What is open makes no event.
-pub no_event : OpenIsQuiet → (held : List ℕ) → open_message held ≡ held → events (held ++ []) ≡ []
-no_event quiet held same = ap events (append-nil held ∙ sym same) ∙ quiet.no_event held
+  pub heard_nothing : OpenIsQuiet → open_message (K.held x) ≡ K.held x → K.after x [] ≡ x
+      → HasHeard K x x chunk 0 0 old old 0 old_body old_body
+  heard_nothing quiet same still =
+      let none = no_event quiet same in
+      record {
+        read = nothing_read later (K.held x) chunk old old_body none;
+        heard = sym still;
+        tells = rw none (K.none_told x);
+      }
 
-pub heard_nothing : EventsAppend → OpenIsQuiet → (host : HostView) (chunk : List ℕ) (old : List DgtEvent)
-    (old_body : List ℕ) → open_message host.unread ≡ host.unread → host_after host [] ≡ host
-    → HasHeard host host chunk 0 0 old old 0 old_body old_body
-heard_nothing later quiet host chunk old old_body same still =
-    let none = no_event quiet host.unread same in
-    record {
-      read = nothing_read later host.unread chunk old old_body none;
-      heard = sym still;
-      tells = rw none (tt {0});
-    }
+  heard_more : InPieces K → (before after : K.S) (i n : ℕ) → before ≡ K.after x (take i chunk)
+      → after ≡ K.after before (take n (drop i chunk)) → after ≡ K.after x (take (i + n) chunk)
+  heard_more in_pieces before after i n e f =
+      f ∙ ap (λ (s : K.S). K.after s (take n (drop i chunk))) e
+      ∙ in_pieces x (take i chunk) (take n (drop i chunk))
+      ∙ ap (K.after x) (sym (take-add i n chunk))
 
-pub fed_nothing : EventsAppend → OpenIsQuiet → (held chunk : List ℕ) (old : List DgtEvent) (old_body : List ℕ)
-    → open_message held ≡ held → HasFed held held chunk 0 0 old old 0 old_body old_body
-fed_nothing later quiet held chunk old old_body same =
-    let none = no_event quiet held same in
-    record {
-      read = nothing_read later held chunk old old_body none;
-      left = sym (ap open_message (append-nil held) ∙ same);
-      tells = rw none refl;
-    }
+  pub one_heard : OpenIsPart → InPieces K → (before after : K.S) (used n count body_len : ℕ) (now : List DgtEvent)
+      (body said new_body : List ℕ) (event : Option code.Event) (told : DgtEvent)
+      → HasHeard K x before chunk used count old now body_len old_body body
+      → (used < length chunk) × (count < length now) × (body_len ≡ 0)
+      → FirstEvent (K.held before) (drop used chunk) n (event_content_if_any event)
+      → after ≡ K.after before (take n (drop used chunk)) → is_some event ≡ true
+      → K.Tells before (used + n) (event_content_if_any event) told
+      → said ≡ body_said (event_content_if_any event) → new_body ≡ overwritten body said
+      → HasHeard K x after chunk (used + n) (count + 1) old (set now count told) (length said) old_body new_body
+  one_heard part in_pieces before after used n count body_len now body said new_body None told has on first hears some
+      is_told is_said is_body = absurd cc
+  one_heard part in_pieces before after used n count body_len now body said new_body (Some e) told has on first hears
+      some is_told is_said is_body =
+      let event : Event = event_content e in
+      let held : K.held before ≡ open_message (K.held x ++ take used chunk) =
+      ap K.held has.heard ∙ K.held_after x (take used chunk) in
+      let first_here = rw held at first in
+      let said_here : said ≡ body_said (Some event) = is_said in
+      let body_here : new_body ≡ overwritten body (body_said (Some event)) =
+      is_body ∙ ap (overwritten body) is_said in
+      let y : Placed = at_place (next_place (K.held x) chunk used n) event in
+      let made = one_used later (K.held x) chunk used n event first_here in
+      let place = place_in_chunk part (K.held x) chunk used n has.read.within in
+      let told_then = subst (λ (s : K.S). K.Tells s (used + n) (Some event) told) has.heard is_told in
+      let told_there = subst (λ (k : ℕ). K.Tells (K.after x (take used chunk)) k (Some event) told) (sym place)
+      told_then in
+      record {
+        read = rw (said_here, body_here)
+            (one_read later (K.held x) chunk old old_body used n count body_len now body event told has.read on.1 on.2
+            on.0 first_here);
+        heard = heard_more in_pieces before after used n has.heard hears;
+        tells = rw (made, take_more_set now count told on.1)
+            (K.one_told x (take used chunk) (take count now) y told has.tells told_there);
+      }
 
--- the host after some more bytes of a chunk
-heard_more : HeardInPieces → (host before after : HostView) (chunk : List ℕ) (i n : ℕ)
-    → before ≡ host_after host (take i chunk) → after ≡ host_after before (take n (drop i chunk))
-    → after ≡ host_after host (take (i + n) chunk)
-heard_more in_pieces host before after chunk i n e f =
-    f ∙ ap (λ (h : HostView). host_after h (take n (drop i chunk))) e
-    ∙ in_pieces host (take i chunk) (take n (drop i chunk))
-    ∙ ap (host_after host) (sym (take-add i n chunk))
+  pub none_heard : InPieces K → (before after : K.S) (used n count body_len : ℕ) (now : List DgtEvent)
+      (body : List ℕ) (event : Option code.Event)
+      → HasHeard K x before chunk used count old now body_len old_body body
+      → (used < length chunk) × (count < length now) × (body_len ≡ 0)
+      → FirstEvent (K.held before) (drop used chunk) n (event_content_if_any event)
+      → after ≡ K.after before (take n (drop used chunk)) → is_some event ≡ false
+      → HasHeard K x after chunk (used + n) count old now body_len old_body body
+  none_heard in_pieces before after used n count body_len now body (Some e) has on first hears none = absurd cc
+  none_heard in_pieces before after used n count body_len now body None has on first hears none =
+      let held : K.held before ≡ open_message (K.held x ++ take used chunk) =
+      ap K.held has.heard ∙ K.held_after x (take used chunk) in
+      let first_here = rw held at first in
+      record {
+        read = none_read later (K.held x) chunk old old_body used n count body_len now body has.read on.1 on.2 on.0
+            first_here;
+        heard = heard_more in_pieces before after used n has.heard hears;
+        tells = rw (quiet_used later (K.held x) chunk used n first_here) has.tells;
+      }
 
-fed_more : OpenAppend → (held before after chunk : List ℕ) (i n : ℕ) → before ≡ open_message (held ++ take i chunk)
-    → after ≡ open_message (before ++ take n (drop i chunk)) → after ≡ open_message (held ++ take (i + n) chunk)
-fed_more still held before after chunk i n e f =
-    f ∙ ap (λ (xs : List ℕ). open_message (xs ++ take n (drop i chunk))) e
-    ∙ sym (still (held ++ take i chunk) (take n (drop i chunk)))
-    ∙ ap open_message (append_assoc held (take i chunk) (take n (drop i chunk)))
-    ∙ ap (λ (xs : List ℕ). open_message (held ++ xs)) (sym (take-add i n chunk))
+  pub uses : (now : K.S) (used count body_len : ℕ) (told : List DgtEvent) (body : List ℕ)
+      → HasHeard K x now chunk used count old told body_len old_body body
+      → ((used < length chunk) × (count < length told) × (body_len ≡ 0) → IsTrue false)
+      → UsesUpTo (K.held x) chunk (length old) used
+  uses now used count body_len told body has ended =
+      uses_up_to later (K.held x) chunk old old_body used count body_len told body has.read
+      (λ on. let no : false ≡ true = ended on in absurd cc)
 
-pub one_heard : EventsAppend → HeardInPieces → (host before after : HostView) (chunk : List ℕ)
-    (used n count body_len : ℕ) (old now : List DgtEvent) (old_body body said new_body : List ℕ)
-    (event : Option code.Event) (unasked : Bool) (told : DgtEvent)
-    → HasHeard host before chunk used count old now body_len old_body body
-    → used < length chunk → count < length now → body_len ≡ 0
-    → FirstEvent before.unread (drop used chunk) n (event_content_if_any event)
-    → (IsTrue unasked ↔ IsUnasked before.awaited (event_content_if_any event))
-    → after ≡ host_after before (take n (drop used chunk)) → is_some event ≡ true
-    → told ≡ record (event_told (event_content_if_any event)) { unasked = flag unasked }
-    → said ≡ body_said (event_content_if_any event) → new_body ≡ overwritten body said
-    → HasHeard host after chunk (used + n) (count + 1) old (set now count told) (length said) old_body new_body
-one_heard later in_pieces host before after chunk used n count body_len old now old_body body said new_body None
-    unasked told has more room no_body first asked hears some is_told is_said is_body = absurd cc
-one_heard later in_pieces host before after chunk used n count body_len old now old_body body said new_body (Some e)
-    unasked told has more room no_body first asked hears some is_told is_said is_body =
-    let event : Event = event_content e in
-    let held : before.unread ≡ open_message (host.unread ++ take used chunk) =
-    ap (λ (h : HostView). h.unread) has.heard in
-    let awaited : before.awaited ≡ (host_after_events host (events_up_to host.unread chunk used)).awaited =
-    ap (λ (h : HostView). h.awaited) has.heard in
-    let first_here = rw held at first in
-    let said_here : said ≡ body_said (Some event) = is_said in
-    let body_here : new_body ≡ overwritten body (body_said (Some event)) = is_body ∙ ap (overwritten body) is_said in
-    record {
-      read = rw (said_here, body_here)
-          (one_read later host.unread chunk old old_body used n count body_len now body event told has.read room no_body
-          more first_here);
-      heard = heard_more in_pieces host before after chunk used n has.heard hears;
-      tells = one_told later host chunk used n count now event told first_here room has.tells
-          (rw (← awaited) (unasked, asked, is_told));
-    }
-
-pub none_heard : EventsAppend → HeardInPieces → (host before after : HostView) (chunk : List ℕ)
-    (used n count body_len : ℕ) (old now : List DgtEvent) (old_body body : List ℕ) (event : Option code.Event)
-    → HasHeard host before chunk used count old now body_len old_body body
-    → used < length chunk → count < length now → body_len ≡ 0
-    → FirstEvent before.unread (drop used chunk) n (event_content_if_any event)
-    → after ≡ host_after before (take n (drop used chunk)) → is_some event ≡ false
-    → HasHeard host after chunk (used + n) count old now body_len old_body body
-none_heard later in_pieces host before after chunk used n count body_len old now old_body body (Some e) has more room
-    no_body first hears none = absurd cc
-none_heard later in_pieces host before after chunk used n count body_len old now old_body body None has more room
-    no_body first hears none =
-    let held : before.unread ≡ open_message (host.unread ++ take used chunk) =
-    ap (λ (h : HostView). h.unread) has.heard in
-    let first_here = rw held at first in
-    record {
-      read = none_read later host.unread chunk old old_body used n count body_len now body has.read room no_body more
-          first_here;
-      heard = heard_more in_pieces host before after chunk used n has.heard hears;
-      tells = none_told later host chunk used n (take count now) first_here has.tells;
-    }
-
-pub one_fed_more : EventsAppend → OpenAppend → (held before after chunk : List ℕ) (used n count body_len : ℕ)
-    (old now : List DgtEvent) (old_body body said new_body : List ℕ) (event : Option code.Event) (told : DgtEvent)
-    → HasFed held before chunk used count old now body_len old_body body
-    → used < length chunk → count < length now → body_len ≡ 0
-    → FirstEvent before (drop used chunk) n (event_content_if_any event)
-    → after ≡ open_message (before ++ take n (drop used chunk)) → is_some event ≡ true
-    → told ≡ event_told (event_content_if_any event)
-    → said ≡ body_said (event_content_if_any event) → new_body ≡ overwritten body said
-    → HasFed held after chunk (used + n) (count + 1) old (set now count told) (length said) old_body new_body
-one_fed_more later still held before after chunk used n count body_len old now old_body body said new_body None told
-    has more room no_body first feeds some is_told is_said is_body = absurd cc
-one_fed_more later still held before after chunk used n count body_len old now old_body body said new_body (Some e)
-    told has more room no_body first feeds some is_told is_said is_body =
-    let event : Event = event_content e in
-    let first_here = rw has.left at first in
-    let said_here : said ≡ body_said (Some event) = is_said in
-    let body_here : new_body ≡ overwritten body (body_said (Some event)) = is_body ∙ ap (overwritten body) is_said in
-    record {
-      read = rw (said_here, body_here)
-          (one_read later held chunk old old_body used n count body_len now body event told has.read room no_body more
-          first_here);
-      left = fed_more still held before after chunk used n has.left feeds;
-      tells = rw is_told (one_fed later held chunk used n count now event first_here room has.tells);
-    }
-
-pub none_fed_more : EventsAppend → OpenAppend → (held before after chunk : List ℕ) (used n count body_len : ℕ)
-    (old now : List DgtEvent) (old_body body : List ℕ) (event : Option code.Event)
-    → HasFed held before chunk used count old now body_len old_body body
-    → used < length chunk → count < length now → body_len ≡ 0
-    → FirstEvent before (drop used chunk) n (event_content_if_any event)
-    → after ≡ open_message (before ++ take n (drop used chunk)) → is_some event ≡ false
-    → HasFed held after chunk (used + n) count old now body_len old_body body
-none_fed_more later still held before after chunk used n count body_len old now old_body body (Some e) has more room
-    no_body first feeds none = absurd cc
-none_fed_more later still held before after chunk used n count body_len old now old_body body None has more room
-    no_body first feeds none =
-    let first_here = rw has.left at first in
-    record {
-      read = none_read later held chunk old old_body used n count body_len now body has.read room no_body more
-          first_here;
-      left = fed_more still held before after chunk used n has.left feeds;
-      tells = none_fed later held chunk used n (take count now) first_here has.tells;
-    }
+  pub uses_some : OpenIsQuiet → open_message (K.held x) ≡ K.held x → (used : ℕ)
+      → UsesUpTo (K.held x) chunk (length old) used → 0 < length chunk → 0 < length old → 0 < used
+  uses_some quiet same used = progress later (K.held x) chunk old old_body used (no_event quiet same)

@@ -33,7 +33,7 @@ use denote.Struct.Struct.{Struct}
 use denote.Triple.Clauses.{Clauses, Ended, closing}
 use denote.Triple.Spec.{Meets}
 use denote.Triple.Walked.{Stays, walk_of, says, stay_dropped, Goes-spent_ref, ends_at}
-use Rattle.dgt_c.proofs.HandleRow.{Handle, handle_row, handle_type, with_inside}
+use Rattle.dgt_c.proofs.HandleRow.{Handle, code_of, handle_row, handle_type, with_inside}
 
 module _ (K : Handle) where
   abbrev T : RattleType
@@ -44,21 +44,14 @@ module _ (K : Handle) where
 
   -- the code, its types written out
   abbrev pub lending : Fn
-  lending = record {
-    lifetimes = 1;
-    outlives = [];
-    ty_params = [];
-    givens = 0;
-    params = 1;
-    locals = local (ty_ref (named 0) mut (pointee T.written)) value_local
-        ∷ local (ty_ref (named 0) mut (pointee R.written)) value_local
-        ∷ local (ty_ref erased mut (pointee T.written)) value_local
-        ∷ local ty_ptr value_local ∷ local ty_ptr value_local ∷ [];
-    body = seq (block (seq (assign (place 3 []) (rv_opd (copy (place 1 (deref (lone R.mir) ∷ field 0 ∷ [])))))
-        (seq (assign (place 4 []) (rv_opd (copy (place 3 []))))
-        (assign (place 2 []) (addr_of (place 4 (deref (lone T.mir) ∷ [])))))))
-        (seq (assign (place 0 []) (rv_opd (copy (place 2 [])))) return);
-  }
+  lending = code_of 1 (local (ty_ref (named 0) mut (pointee T.written)) value_local
+      ∷ local (ty_ref (named 0) mut (pointee R.written)) value_local
+      ∷ local (ty_ref erased mut (pointee T.written)) value_local
+      ∷ local ty_ptr value_local ∷ local ty_ptr value_local ∷ [])
+      (seq (block (seq (assign (place 3 []) (rv_opd (copy (place 1 (deref (lone R.mir) ∷ field 0 ∷ [])))))
+      (seq (assign (place 4 []) (rv_opd (copy (place 3 []))))
+      (assign (place 2 []) (addr_of (place 4 (deref (lone T.mir) ∷ [])))))))
+      (seq (assign (place 0 []) (rv_opd (copy (place 2 [])))) return))
 
   abbrev pub ended : Ended
   ended = record {

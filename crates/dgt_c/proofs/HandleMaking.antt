@@ -1,5 +1,5 @@
--- The code of each handle's `init` makes a handle in C's memory: the room is cut in two, what the
--- handle owns is written behind, and the handle that points to it in front.
+-- The code of each handle's `init` makes a handle in C's memory. It cuts the room in two: it writes
+-- what the handle owns to the second part, and the handle, which points to it, to the first.
 use Rattle.std.proofs.Common.{◌≡◌, ℕ, ◌+◌, List, [], ◌∷◌, refl, sym, subst}
 use native.Mathlib.Nat.{add-zero}
 use Rattle.std.proofs.raw_atomic.Walks.{proved}
@@ -37,7 +37,7 @@ use denote.Triple.Entry.{on_entry}
 use denote.Triple.Spec.{Meets, triple_of}
 use denote.Triple.Table.{framed}
 use denote.Triple.Walked.{Stays, walk_of, stay_dropped, Goes-dropped, ends_at}
-use Rattle.dgt_c.proofs.HandleRow.{Handle, handle_row, handle_type}
+use Rattle.dgt_c.proofs.HandleRow.{Handle, code_of, handle_row, handle_type}
 
 -- what makes the value that is put inside
 module _ (T : RattleType) (x : T.Denot) where
@@ -72,24 +72,17 @@ module _ (K : Handle) (place_name : Sym) (new : Callee) where
   behind = up (align (lone T.mir)) 8
 
   abbrev pub making : Fn
-  making = record {
-    lifetimes = 0;
-    outlives = [];
-    ty_params = [];
-    givens = 0;
-    params = 1;
-    locals = local ty_unit value_local ∷ local ty_ptr value_local ∷ local ty_ptr value_local
-        ∷ local ty_ptr value_local ∷ local (lone T.mir) value_local ∷ local ty_ptr value_local
-        ∷ local (lone R.mir) value_local ∷ [];
-    body = seq (assign (place 2 []) (rv_opd (copy (place 1 []))))
-        (seq (block (seq (assign (place 3 []) (addr_of (place 2 (deref whole ∷ field 1 ∷ []))))
-        (seq (call new [] (place 4 []))
-        (seq (assign (place 3 (deref (lone T.mir) ∷ [])) (rv_opd (copy (place 4 []))))
-        (seq (assign (place 5 []) (rv_opd (copy (place 3 []))))
-        (seq (assign (place 6 []) (aggregate (copy (place 5 []) ∷ [])))
-        (assign (place 1 (deref (lone R.mir) ∷ [])) (rv_opd (copy (place 6 []))))))))))
-        (seq (assign (place 0 []) (rv_opd opd_unit)) return));
-  }
+  making = code_of 0 (local ty_unit value_local ∷ local ty_ptr value_local ∷ local ty_ptr value_local
+      ∷ local ty_ptr value_local ∷ local (lone T.mir) value_local ∷ local ty_ptr value_local
+      ∷ local (lone R.mir) value_local ∷ [])
+      (seq (assign (place 2 []) (rv_opd (copy (place 1 []))))
+      (seq (block (seq (assign (place 3 []) (addr_of (place 2 (deref whole ∷ field 1 ∷ []))))
+      (seq (call new [] (place 4 []))
+      (seq (assign (place 3 (deref (lone T.mir) ∷ [])) (rv_opd (copy (place 4 []))))
+      (seq (assign (place 5 []) (rv_opd (copy (place 3 []))))
+      (seq (assign (place 6 []) (aggregate (copy (place 5 []) ∷ [])))
+      (assign (place 1 (deref (lone R.mir) ∷ [])) (rv_opd (copy (place 6 []))))))))))
+      (seq (assign (place 0 []) (rv_opd opd_unit)) return)))
 
   abbrev pub ended : Ended
   ended = record {

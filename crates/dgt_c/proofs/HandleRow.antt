@@ -1,9 +1,9 @@
 -- A handle of C's as a row: a struct of one pointer, which owns what lies there.
-use Rattle.std.proofs.Common.{◌≡◌, [], ◌∷◌}
+use Rattle.std.proofs.Common.{◌≡◌, ℕ, List, [], ◌∷◌}
 use base.Fraction.{full_share}
 use base.Shift.{Keyless}
 use base.Stored.{Coded}
-use mir.Syntax.{Sym}
+use mir.Syntax.{Sym, Fn, Local, Body}
 use denote.Param.Laws.{Laws}
 use denote.Param.Send.{IsSend, owning_send, part_keyless, sendable}
 use denote.RattleType.{RattleType}
@@ -30,6 +30,37 @@ pub record Handle : Type 2 where
   pub at_is : (p : Ptr) (x : inside_row.Denot) → at (make p x) ≡ p
   pub inside_is : (p : Ptr) (x : inside_row.Denot) → inside (make p x) ≡ x
   pub codes : (v : Values (RawPtr-field ∷ [])) → Coded (Also inside_row.Denot (λ _. Done))
+
+-- that of a struct, as contracts see it
+abbrev pub handle : (R : RattleType) → Laws R → (N : Record)
+    → ((v : Values (RawPtr-field ∷ [])) → Coded (Also R.Denot (λ _. Done))) → (at : N.D → Ptr)
+    → (inside : N.D → R.Denot) → (make : Ptr → R.Denot → N.D) → ((d : N.D) → make (at d) (inside d) ≡ d)
+    → ((p : Ptr) (x : R.Denot) → at (make p x) ≡ p) → ((p : Ptr) (x : R.Denot) → inside (make p x) ≡ x) → Handle
+handle R laws N codes at inside make made at_is inside_is = record {
+  inside_row = R;
+  laws = laws;
+  name = N.name;
+  D = N.D;
+  at = at;
+  inside = inside;
+  make = make;
+  made = made;
+  at_is = at_is;
+  inside_is = inside_is;
+  codes = codes;
+}
+
+-- code with one parameter and no type parameters
+abbrev pub code_of : ℕ → List Local → Body → Fn
+code_of lifetimes locals body = record {
+  lifetimes = lifetimes;
+  outlives = [];
+  ty_params = [];
+  givens = 0;
+  params = 1;
+  locals = locals;
+  body = body;
+}
 
 module _ (K : Handle) where
   abbrev struct : Record

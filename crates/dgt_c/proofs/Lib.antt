@@ -7,3 +7,4 @@ pub mod EachHandle
 pub mod AsciiLemmas
 pub mod ChunkLemmas
 pub mod Codes
+pub mod EncodingLemmas

@@ -1,4 +1,4 @@
--- What C is told of a board.
+-- What C receives from a board.
 use Rattle.std.specs.Prelude.{◌≡◌, ℕ, List, take, Option, None, true, false}
 use Rattle.dgt_command.specs.Content.{EventContent}
 use Rattle.dgt_board.specs.declared.modes.Mode.{Mode}
@@ -7,9 +7,9 @@ use Rattle.dgt_board.specs.Sending.{next_message}
 use Rattle.dgt_board.specs.View.{BoardView, HasTaken, Polls, after_bytes}
 use Rattle.dgt_c.specs.Commands.{CommandTelling, TellsCommand}
 use Rattle.dgt_c.specs.Reading.{ReadsWord}
-use Rattle.dgt_c.specs.declared.board_calls.DgtPolled.{DgtPolled}
-use Rattle.dgt_c.specs.declared.board_calls.DgtTaken.{DgtTaken}
-use Rattle.dgt_c.specs.declared.board_calls.TheConstants.{MODE_IDLE, MODE_UPDATE, MODE_UPDATE_BOARD, MODE_UPDATE_NICE, POLLED_NEED_ROOM, POLLED_NOTHING, POLLED_WROTE}
+use Rattle.dgt_c.specs.declared.header.DgtPolled.{DgtPolled}
+use Rattle.dgt_c.specs.declared.header.DgtTaken.{DgtTaken}
+use Rattle.dgt_c.specs.declared.header.TheConstants.{MODE_IDLE, MODE_UPDATE, MODE_UPDATE_BOARD, MODE_UPDATE_NICE, POLLED_NEED_ROOM, POLLED_NOTHING, POLLED_WROTE}
 
 abbrev pub mode_number : Mode → ℕ
 mode_number Mode.Idle = MODE_IDLE
@@ -17,15 +17,15 @@ mode_number Mode.Update = MODE_UPDATE
 mode_number Mode.UpdateBoard = MODE_UPDATE_BOARD
 mode_number Mode.UpdateNice = MODE_UPDATE_NICE
 
--- The board used so many bytes, up to and including the first that completes a word, or all of
--- them, and the word is told.
+-- The board used the first `used` bytes: up to and including the first that completes a word, or
+-- all of them. The word is reported.
 abbrev pub TakesBytes : BoardView → List ℕ → ℕ → CommandTelling → BoardView → Type 0
 TakesBytes before piece used told after =
     (event : Option EventContent) × ReadsWord before.partial piece used event
     × TellsCommand event told × (after ≡ after_bytes before (take used piece) event)
     × HasTaken before (take used piece) after
 
--- It did so, or was busy, and then nothing is told or changes.
+-- The board did so; or it was busy, and then no word is reported and nothing changes.
 abbrev pub Takes : BoardView → List ℕ → DgtTaken → CommandTelling → BoardView → Type 0
 Takes before piece taken told after =
     (taken.busy ≡ false → TakesBytes before piece taken.used told after)
@@ -36,7 +36,7 @@ polled_told Polled.Nothing = record { status = POLLED_NOTHING; bytes = 0 }
 polled_told (Polled.Wrote bytes) = record { status = POLLED_WROTE; bytes = bytes }
 polled_told (Polled.NeedRoom bytes) = record { status = POLLED_NEED_ROOM; bytes = bytes }
 
--- the struct says what polling answers: the board before and after, the slice before and after
+-- the struct says what polling returns: the board before and after, the slice before and after
 abbrev pub PollsTold : DgtPolled → BoardView → BoardView → List ℕ → List ℕ → Type 0
 PollsTold told before after old new =
     (polled : Polled) × Polls polled (next_message before.state) before after old new

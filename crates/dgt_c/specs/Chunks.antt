@@ -1,12 +1,12 @@
 -- What C gets for a whole chunk that a decoder is fed, or a host hears.
-use Rattle.std.specs.Prelude.{◌≡◌, ◌↔◌, ◌≤◌, ◌<◌, ℕ, List, [], ◌∷◌, ◌++◌, length, map, take, Some, Bool, IsTrue}
+use Rattle.std.specs.Prelude.{◌≡◌, ◌↔◌, ◌≤◌, ◌<◌, ◌-◌, ℕ, List, [], ◌∷◌, ◌++◌, length, map, take, Some, Bool, IsTrue}
 use Rattle.std.specs.List.{flat_map}
 use Rattle.dgt_values.specs.declared.kinds.Kind.{Kind}
-use Rattle.dgt_decode.specs.Grammar.{Event, Placed, events}
+use Rattle.dgt_decode.specs.Grammar.{Placed, events}
 use Rattle.dgt_host.specs.Host.{HostView, IsUnasked, host_after_event}
 use Rattle.dgt_c.specs.Hearing.{flag}
-use Rattle.dgt_c.specs.Told.{body_said, event_told}
-use Rattle.dgt_c.specs.declared.events.DgtEvent.{DgtEvent}
+use Rattle.dgt_c.specs.Told.{body_said, told_at}
+use Rattle.dgt_c.specs.declared.header.DgtEvent.{DgtEvent}
 
 -- the events that the first `used` bytes of a chunk make after an unfinished message
 abbrev pub events_up_to : List ℕ → List ℕ → ℕ → List Placed
@@ -27,19 +27,21 @@ pub record UsesUpTo (held chunk : List ℕ) (capacity used : ℕ) : Type 0 where
   pub least : (k : ℕ) → k < used → GoesOn capacity (events_up_to held chunk k)
   pub ends : used < length chunk → ¬ (GoesOn capacity (events_up_to held chunk used))
 
--- the struct holds this event, and whether it is a message that was not asked for
-abbrev pub Tells : List Kind → Event → DgtEvent → Type 0
-Tells awaited event told =
-    (unasked : Bool) × (IsTrue unasked ↔ IsUnasked awaited (Some event))
-    × (told ≡ record (event_told (Some event)) { unasked = flag unasked })
+-- The struct holds this event, and whether it is a message that was not asked for. Its place is the
+-- number of bytes of the chunk up to and including the one that makes it. `before` bytes came
+-- before the chunk.
+abbrev pub Tells : ℕ → List Kind → Placed → DgtEvent → Type 0
+Tells before awaited x told =
+    (unasked : Bool) × (IsTrue unasked ↔ IsUnasked awaited (Some x.event))
+    × (told ≡ record (told_at (x.place - before) (Some x.event)) { unasked = flag unasked })
 
 -- the structs hold these events, each as it is for the host that has heard those before it
-abbrev pub TellsEach : HostView → List Placed → List DgtEvent → Type 0
-TellsEach host [] [] = Unit {0}
-TellsEach host (x ∷ made) (told ∷ more) =
-    Tells host.awaited x.event told × TellsEach (host_after_event host x.event) made more
-TellsEach host _ _ = ⊥
+abbrev pub TellsEach : ℕ → HostView → List Placed → List DgtEvent → Type 0
+TellsEach before host [] [] = Unit {0}
+TellsEach before host (x ∷ made) (told ∷ more) =
+    Tells before host.awaited x told × TellsEach before (host_after_event host x.event) made more
+TellsEach before host _ _ = ⊥
 
--- the structs that hold these events for a decoder
-abbrev pub each_told : List Placed → List DgtEvent
-each_told made = map (λ x. event_told (Some x.event)) made
+-- the structs that hold these events for a decoder, with their places in the chunk
+abbrev pub each_told : ℕ → List Placed → List DgtEvent
+each_told before made = map (λ x. told_at (x.place - before) (Some x.event)) made

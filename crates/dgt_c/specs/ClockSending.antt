@@ -6,7 +6,7 @@ use Rattle.dgt_command.specs.Spelling.{command_spelling}
 use Rattle.dgt_command.specs.declared.clock.ClockCommand.{ClockCommand}
 use Rattle.dgt_host.specs.Host.{HostView}
 use Rattle.dgt_c.specs.Sent.{RefusesCommand, SendsTold}
-use Rattle.dgt_c.specs.declared.sending.DgtSent.{DgtSent}
+use Rattle.dgt_c.specs.declared.header.DgtSent.{DgtSent}
 
 -- this clock message is sent: the host before and after, the slice before and after
 abbrev pub SendsClock : ClockContent → HostView → HostView → List ℕ → List ℕ → DgtSent → Type 0

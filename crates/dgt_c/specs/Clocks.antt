@@ -1,9 +1,9 @@
--- What C is told of a clock, and tells of one.
+-- What C receives about a clock, and what it sends about one.
 use Rattle.std.specs.Prelude.{◌≡◌, replicate, Option, Some, None}
 use Rattle.dgt_message.specs.Clock.{Absence, AreTimes, ClockState, IsAbsence, Time, Times, absence_of, time_of, times_of}
-use Rattle.dgt_c.specs.declared.clocks.DgtClock.{DgtClock}
-use Rattle.dgt_c.specs.declared.clocks.DgtTime.{DgtTime}
-use Rattle.dgt_c.specs.declared.clocks.TheConstants.{CLOCK_NONE, CLOCK_TIMES, UNKNOWN_CLOCK}
+use Rattle.dgt_c.specs.declared.header.DgtClock.{DgtClock}
+use Rattle.dgt_c.specs.declared.header.DgtTime.{DgtTime}
+use Rattle.dgt_c.specs.declared.header.TheConstants.{CLOCK_NONE, CLOCK_TIMES, UNKNOWN_CLOCK}
 
 abbrev pub time_told : Time → DgtTime
 time_told time = record {
@@ -13,11 +13,11 @@ time_told time = record {
   flags = time.flags;
 }
 
--- where nothing is said of a time
+-- the value of a time of which nothing is said
 abbrev pub no_time : DgtTime
 no_time = time_told (time_of 0 0 0 0)
 
--- the struct that tells this clock
+-- the struct that holds this clock
 abbrev pub clock_told : ClockState → DgtClock
 clock_told (ClockState.times readings) = record {
   kind = CLOCK_TIMES;
@@ -34,7 +34,7 @@ clock_told (ClockState.no_clock absence) = record {
   second = no_time;
 }
 
--- the same, or that none was told
+-- the same, or that no clock was reported
 abbrev pub clock_if_told : Option ClockState → DgtClock
 clock_if_told None = UNKNOWN_CLOCK
 clock_if_told (Some clock) = clock_told clock

@@ -1,11 +1,11 @@
--- What C is told of a word of a host: a struct, whose kind says which fields are set, and the bytes
--- of a command.
+-- What C receives about a word of a host: a struct, whose kind says which fields are set, and the
+-- bytes of a command.
 use Rattle.std.specs.Prelude.{◌≡◌, ℕ, List, [], length, Option, Some, None}
 use Rattle.dgt_command.specs.Content.{CommandContent, EventContent, Read, BadSize, BadStart, BadEnd, Stray}
 use Rattle.dgt_command.specs.Spelling.{command_code, command_spelling}
 use Rattle.dgt_c.specs.Slices.{overwritten}
-use Rattle.dgt_c.specs.declared.commands.DgtCommand.{DgtCommand}
-use Rattle.dgt_c.specs.declared.commands.TheConstants.{NO_WORD, COMMAND_READ, COMMAND_BAD_SIZE, COMMAND_BAD_START, COMMAND_BAD_END, COMMAND_STRAY}
+use Rattle.dgt_c.specs.declared.header.DgtCommand.{DgtCommand}
+use Rattle.dgt_c.specs.declared.header.TheConstants.{NO_WORD, COMMAND_READ, COMMAND_BAD_SIZE, COMMAND_BAD_START, COMMAND_BAD_END, COMMAND_STRAY}
 
 -- the id of a clock message
 abbrev pub id_of : CommandContent → ℕ
@@ -20,7 +20,7 @@ read_told command = record NO_WORD {
   word_len = length (command_spelling command);
 }
 
--- the struct that tells this command or fault, or that there is none
+-- the struct that holds this command or fault, or says that there is none
 abbrev pub command_told : Option EventContent → DgtCommand
 command_told None = NO_WORD
 command_told (Some (Read command)) = read_told command
@@ -34,13 +34,13 @@ abbrev pub word_said : Option EventContent → List ℕ
 word_said (Some (Read command)) = command_spelling command
 word_said _ = []
 
--- What is told of a piece: a struct, and a slice before and after.
+-- What is reported of a chunk: a struct, and a slice before and after.
 pub record CommandTelling : Type 0 where
   pub command : DgtCommand
   pub old : List ℕ
   pub new : List ℕ
 
--- This is told, and the bytes of a command were copied, as many as there is room for.
+-- This event is reported, and the bytes of a command were copied, as many as there is room for.
 abbrev pub TellsCommand : Option EventContent → CommandTelling → Type 0
 TellsCommand event told =
     (told.command ≡ command_told event) × (told.new ≡ overwritten told.old (word_said event))

@@ -1,11 +1,11 @@
--- What C is told of a follower.
+-- What C receives from a follower.
 use Rattle.std.specs.Prelude.{◌≡◌, ℕ, List, Result, Ok, Err}
 use Rattle.dgt_values.specs.declared.refusals.NoRoom.{NoRoom}
 use Rattle.dgt_follow.specs.declared.asking.UpdateMode.{UpdateMode}
 use Rattle.dgt_follow.specs.Follower.{Asks, FollowerView, asking_of}
-use Rattle.dgt_c.specs.declared.board_calls.TheConstants.{MODE_UPDATE, MODE_UPDATE_BOARD, MODE_UPDATE_NICE}
-use Rattle.dgt_c.specs.declared.sending.DgtSent.{DgtSent}
-use Rattle.dgt_c.specs.declared.sending.TheConstants.{SENT, SENT_NO_ROOM}
+use Rattle.dgt_c.specs.declared.header.TheConstants.{MODE_UPDATE, MODE_UPDATE_BOARD, MODE_UPDATE_NICE}
+use Rattle.dgt_c.specs.declared.header.DgtSent.{DgtSent}
+use Rattle.dgt_c.specs.declared.header.TheConstants.{SENT, SENT_NO_ROOM}
 
 -- the number of the mode into which the command of this one brings a board
 abbrev pub update_mode_number : UpdateMode → ℕ

@@ -1,13 +1,13 @@
--- What C is told of a piece that a decoder is fed, or a host hears.
+-- What C receives about a chunk that a decoder is fed, or that a host hears.
 use Rattle.std.specs.Prelude.{◌≡◌, ◌↔◌, ℕ, List, Option, Bool, true, false, IsTrue}
 use Rattle.dgt_decode.specs.Grammar.{Event}
 use Rattle.dgt_decode.specs.Feeding.{FirstEvent}
 use Rattle.dgt_host.specs.Host.{HostView, IsUnasked}
 use Rattle.dgt_c.specs.Slices.{overwritten}
-use Rattle.dgt_c.specs.Told.{body_said, event_told}
-use Rattle.dgt_c.specs.declared.events.DgtEvent.{DgtEvent}
+use Rattle.dgt_c.specs.Told.{body_said, told_at}
+use Rattle.dgt_c.specs.declared.header.DgtEvent.{DgtEvent}
 
--- What is told of a piece: a struct, and a slice before and after.
+-- What is reported of a chunk: a struct, and a slice before and after.
 pub record Telling : Type 0 where
   pub event : DgtEvent
   pub old : List ℕ
@@ -17,19 +17,21 @@ abbrev pub flag : Bool → ℕ
 flag true = 1
 flag false = 0
 
--- This event is told, and its body was copied into the slice, as much of it as there is room for.
-abbrev pub TellsEvent : Option Event → Bool → Telling → Type 0
-TellsEvent event unasked told =
-    (told.event ≡ record (event_told event) { unasked = flag unasked })
+-- This event is reported with its place, and its body was copied into the slice, as much of it as
+-- there is room for.
+abbrev pub TellsEvent : ℕ → Option Event → Bool → Telling → Type 0
+TellsEvent place event unasked told =
+    (told.event ≡ record (told_at place event) { unasked = flag unasked })
     × (told.new ≡ overwritten told.old (body_said event))
 
--- the first event that the piece makes is told, if it makes one
+-- The first event that the chunk makes is reported, if it makes one. Its place is the number of
+-- bytes of the chunk that were used.
 abbrev pub Feeds : List ℕ → List ℕ → ℕ → Telling → Type 0
 Feeds held piece used told =
-    (event : Option Event) × FirstEvent held piece used event × TellsEvent event false told
+    (event : Option Event) × FirstEvent held piece used event × TellsEvent used event false told
 
 -- the same, with whether the event is a message that was not asked for
 abbrev pub HearsTold : HostView → List ℕ → ℕ → Telling → Type 0
 HearsTold host piece used told =
     (event : Option Event) × (unasked : Bool) × FirstEvent host.unread piece used event
-    × (IsTrue unasked ↔ IsUnasked host.awaited event) × TellsEvent event unasked told
+    × (IsTrue unasked ↔ IsUnasked host.awaited event) × TellsEvent used event unasked told

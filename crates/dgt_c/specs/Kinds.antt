@@ -1,4 +1,4 @@
--- The kinds of replies as C is told of them.
+-- The kinds of replies as C receives them.
 use Rattle.std.specs.Prelude.{ℕ}
 use Rattle.dgt_values.specs.declared.kinds.Kind.{Kind}
 use Rattle.dgt_command.specs.Content.CommandContent.{Battery, Dump, LongSerial, Serial, Trademark, Version}

@@ -8,7 +8,7 @@ use prog.Offsets.{Lies}
 abbrev pub bit_alone : ℕ → ℕ
 bit_alone k = 2 ^ k
 
--- a value in front of a tuple
+-- a value before a tuple
 infixr 70 ◌⊗◌
 abbrev pub ◌⊗◌ : {A B : Type 0} → A → B → A × B
 a ⊗ b = (a, b)
@@ -18,7 +18,7 @@ abbrev pub Ascend : List ℕ → Type 0
 Ascend (a ∷ b ∷ rest) = (a < b) × Ascend (b ∷ rest)
 Ascend _ = ⊤
 
--- A value of the type takes so many bytes and lies at a multiple of this alignment. Its members
+-- A value of the type takes `size` bytes and lies at a multiple of this alignment. Its members
 -- begin at these offsets, in the order of their declaration.
 abbrev pub LiesAs : RattleType → ℕ → ℕ → List ℕ → Type 0
 LiesAs row size alignment offsets = Lies (lone row.mir) size alignment offsets

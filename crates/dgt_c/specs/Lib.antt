@@ -1,4 +1,4 @@
--- What C is told and tells, in the order to read.
+-- What C receives and sends, in the order to read.
 pub mod Slices
 pub mod Clocks
 pub mod Told
@@ -8,6 +8,7 @@ pub mod Commands
 pub mod Reading
 pub mod Sent
 pub mod ClockSending
+pub mod Encoding
 pub mod Kinds
 pub mod Boards
 pub mod Starting

@@ -7,9 +7,9 @@ use Rattle.dgt_message.specs.Clock.{ClockState}
 use Rattle.dgt_board.specs.State.{IdentityContent}
 use Rattle.dgt_board.specs.View.{BoardView, new_view}
 use Rattle.dgt_board.specs.declared.identities.TheConstants.{MAX_KEPT_BODY}
-use Rattle.dgt_c.specs.declared.clocks.DgtClock.{DgtClock}
-use Rattle.dgt_c.specs.declared.starting.DgtBody.{DgtBody}
-use Rattle.dgt_c.specs.declared.starting.DgtIdentity.{DgtIdentity}
+use Rattle.dgt_c.specs.declared.header.DgtClock.{DgtClock}
+use Rattle.dgt_c.specs.declared.header.DgtBody.{DgtBody}
+use Rattle.dgt_c.specs.declared.header.DgtIdentity.{DgtIdentity}
 use Rattle.dgt_c.specs.Clocks.{SaysClock}
 
 -- each number is the code of a piece

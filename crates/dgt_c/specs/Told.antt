@@ -1,5 +1,5 @@
--- What C is told of an event: a struct, whose kind says which fields are set, and the bytes of a
--- body that is carried unread.
+-- What C receives about an event: a struct, whose kind says which fields are set, and the bytes of
+-- a body that is carried unread.
 use Rattle.std.specs.Prelude.{ℕ, List, [], length, map, Option, Some, None}
 use Rattle.dgt_values.specs.Board.{piece_code}
 use Rattle.dgt_message.specs.declared.known.KnownCode.{KnownCode}
@@ -9,8 +9,8 @@ use Rattle.dgt_message.specs.Code.{known_with}
 use Rattle.dgt_message.specs.Content.{Content}
 use Rattle.dgt_decode.specs.Grammar.{Event, Message, Refused, Cut, BadLength, Stray}
 use Rattle.dgt_c.specs.Clocks.{clock_told}
-use Rattle.dgt_c.specs.declared.events.DgtEvent.{DgtEvent}
-use Rattle.dgt_c.specs.declared.events.TheConstants.{NOTHING, EVENT_DUMP, EVENT_FIELD, EVENT_TIMES, EVENT_NO_CLOCK, EVENT_ACK, EVENT_SERIAL, EVENT_TRADEMARK, EVENT_VERSION, EVENT_BATTERY, EVENT_LONG_SERIAL, EVENT_OTHER, EVENT_REFUSED, EVENT_CUT, EVENT_BAD_LENGTH, EVENT_STRAY, FAULT_WRONG_SIZE, FAULT_BAD_PIECE, FAULT_BAD_SQUARE, FAULT_BAD_READING}
+use Rattle.dgt_c.specs.declared.header.DgtEvent.{DgtEvent}
+use Rattle.dgt_c.specs.declared.header.TheConstants.{NOTHING, EVENT_DUMP, EVENT_FIELD, EVENT_TIMES, EVENT_NO_CLOCK, EVENT_ACK, EVENT_SERIAL, EVENT_TRADEMARK, EVENT_VERSION, EVENT_BATTERY, EVENT_LONG_SERIAL, EVENT_OTHER, EVENT_REFUSED, EVENT_CUT, EVENT_BAD_LENGTH, EVENT_STRAY, FAULT_WRONG_SIZE, FAULT_BAD_PIECE, FAULT_BAD_SQUARE, FAULT_BAD_READING}
 
 -- the kind of a message whose body is carried unread
 abbrev pub carried_kind : Option KnownCode → ℕ
@@ -42,7 +42,7 @@ fault_number (BodyFault.BadPiece at) = FAULT_BAD_PIECE
 fault_number (BodyFault.BadSquare at) = FAULT_BAD_SQUARE
 fault_number (BodyFault.BadReading at) = FAULT_BAD_READING
 
--- the place of a fault in the body, where it has one
+-- the place of a fault in the body, if it has one
 abbrev pub fault_place : BodyFault → ℕ
 fault_place BodyFault.WrongSize = 0
 fault_place (BodyFault.BadPiece at) = at
@@ -57,7 +57,7 @@ refused_told code fault = record NOTHING {
   at = fault_place fault;
 }
 
--- the struct that tells this event, or that there is none
+-- the struct that holds this event, or says that there is none
 abbrev pub event_told : Option Event → DgtEvent
 event_told None = NOTHING
 event_told (Some (Message said)) = message_told said
@@ -65,6 +65,11 @@ event_told (Some (Refused code fault)) = refused_told code fault
 event_told (Some (Cut have)) = record NOTHING { kind = EVENT_CUT; have = have }
 event_told (Some BadLength) = record NOTHING { kind = EVENT_BAD_LENGTH }
 event_told (Some (Stray byte)) = record NOTHING { kind = EVENT_STRAY; byte = byte }
+
+-- the same, and the place of the byte that made the event
+abbrev pub told_at : ℕ → Option Event → DgtEvent
+told_at place None = NOTHING
+told_at place (Some event) = record (event_told (Some event)) { place = place }
 
 -- the body of a message that is carried unread
 abbrev pub body_said : Option Event → List ℕ

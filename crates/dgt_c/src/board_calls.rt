@@ -5,49 +5,25 @@ ghost use Rattle.dgt_values.specs.Board.{piece_code};
 ghost use Rattle.dgt_values.specs.declared.pieces.Piece.{Piece};
 ghost use Rattle.dgt_message.specs.Clock.{ClockState};
 ghost use Rattle.dgt_message.specs.Spelling.{spelling};
+ghost use Rattle.dgt_command.specs.Words.{IsPartial};
 ghost use Rattle.dgt_board.specs.State.{after_change, after_hand_clock};
 ghost use Rattle.dgt_board.specs.Sending.{left_to_send, next_message};
 ghost use Rattle.dgt_board.specs.View.{view_after_line_lost};
 ghost use Rattle.dgt_c.specs.Clocks.{SaysClock, clock_told};
 ghost use Rattle.dgt_c.specs.Boards.{PollsTold, Takes, mode_number};
 
-use crate::clocks::{DgtClock, clock_told, read_clock};
-use crate::commands::{DgtCommand, NO_WORD, tell_command};
+use crate::clocks::{clock_told, read_clock};
+use crate::commands::tell_command;
 use crate::handles::DgtBoard;
-use dgt_board::{MAX_SENT, Mode, Polled};
+use crate::header::{
+    DgtClock, DgtCommand, DgtPolled, DgtTaken, MODE_IDLE, MODE_UPDATE, MODE_UPDATE_BOARD,
+    MODE_UPDATE_NICE, NO_WORD, POLLED_NEED_ROOM, POLLED_NOTHING, POLLED_WROTE,
+};
+use dgt_board::{MAX_OWED, MAX_SENT, Mode, Polled};
+use dgt_command::MAX_WORD;
 use dgt_values::{Piece, Square};
 
-pub const POLLED_NOTHING: u8 = 0;
-
-pub const POLLED_WROTE: u8 = 1;
-
-pub const POLLED_NEED_ROOM: u8 = 2;
-
-pub const MODE_IDLE: u8 = 0;
-
-pub const MODE_UPDATE: u8 = 1;
-
-pub const MODE_UPDATE_BOARD: u8 = 2;
-
-pub const MODE_UPDATE_NICE: u8 = 3;
-
-/// How a taking went, as dgt.h says it.
-#[repr(C)]
-#[derive(Clone, Copy)]
-pub struct DgtTaken {
-    pub busy: bool,
-    pub used: usize,
-}
-
-/// How a poll went, as dgt.h says it.
-#[repr(C)]
-#[derive(Clone, Copy)]
-pub struct DgtPolled {
-    pub status: u8,
-    pub bytes: usize,
-}
-
-/// Puts a piece on a square, or takes one off. False where there is no such square or piece.
+/// Puts a piece on a square, or takes one off. False if there is no such square or piece.
 #[unsafe(no_mangle)]
 pub extern "C" fn dgt_board_change(board: &mut DgtBoard, square: u8, piece: u8) -> bool
     ensures place { board.new.at ≡ board.old.at }
@@ -67,7 +43,7 @@ pub extern "C" fn dgt_board_change(board: &mut DgtBoard, square: u8, piece: u8) 
     true
 }
 
-/// Sets what the clock shows. False where no clock shows that.
+/// Sets what the clock shows. False if no clock shows that.
 #[unsafe(no_mangle)]
 pub extern "C" fn dgt_board_hand_clock(board: &mut DgtBoard, clock: &DgtClock) -> bool
     ensures place { board.new.at ≡ board.old.at }
@@ -96,7 +72,7 @@ pub extern "C" fn dgt_board_line_lost(board: &mut DgtBoard)
 }
 
 /// Uses bytes up to and including the first that completes a command or shows a fault, or all of
-/// them. What it is is told, and the bytes of a command copied, as many as there is room for.
+/// them. Reports what it is, and copies the bytes of a command, as many as there is room for.
 #[unsafe(no_mangle)]
 pub extern "C" fn dgt_board_take(
     board: &mut DgtBoard,
@@ -111,25 +87,20 @@ pub extern "C" fn dgt_board_take(
         (record { command = command.new; old = word.old; new = word.new }) board.new.inside }
     ensures progress { result.busy ≡ false → 0 < length bytes.now → 0 < result.used }
 {
-    match board.get().take(bytes) {
+    let (busy, used) = match board.get().take(bytes) {
         Ok(taken) => {
             *command = tell_command(&taken.event, word);
-            DgtTaken {
-                busy: false,
-                used: taken.used,
-            }
+            (false, taken.used)
         }
         Err(_) => {
             *command = NO_WORD;
-            DgtTaken {
-                busy: true,
-                used: 0,
-            }
+            (true, 0)
         }
-    }
+    };
+    DgtTaken { busy, used }
 }
 
-/// Writes the next message into the front of the slice, and takes it for sent.
+/// Writes the next message at the beginning of the slice, and counts it as sent.
 #[unsafe(no_mangle)]
 pub extern "C" fn dgt_board_poll(board: &mut DgtBoard, out: &mut [u8]) -> DgtPolled
     ensures place { board.new.at ≡ board.old.at }
@@ -144,20 +115,12 @@ pub extern "C" fn dgt_board_poll(board: &mut DgtBoard, out: &mut [u8]) -> DgtPol
         ≤ length board.old.inside.state.owed + 65 }
     ensures room { result.status ≡ POLLED_NEED_ROOM → length out.old < MAX_SENT }
 {
-    match board.get().poll(out) {
-        Polled::Nothing => DgtPolled {
-            status: POLLED_NOTHING,
-            bytes: 0,
-        },
-        Polled::Wrote(bytes) => DgtPolled {
-            status: POLLED_WROTE,
-            bytes,
-        },
-        Polled::NeedRoom(bytes) => DgtPolled {
-            status: POLLED_NEED_ROOM,
-            bytes,
-        },
-    }
+    let (status, bytes) = match board.get().poll(out) {
+        Polled::Nothing => (POLLED_NOTHING, 0),
+        Polled::Wrote(bytes) => (POLLED_WROTE, bytes),
+        Polled::NeedRoom(bytes) => (POLLED_NEED_ROOM, bytes),
+    };
+    DgtPolled { status, bytes }
 }
 
 /// Whether there is anything to send.
@@ -170,7 +133,30 @@ pub extern "C" fn dgt_board_owes(board: &mut DgtBoard) -> bool
     board.get().owes()
 }
 
-/// What the board tells unasked.
+/// How many replies are owed.
+#[unsafe(no_mangle)]
+pub extern "C" fn dgt_board_owed_len(board: &mut DgtBoard) -> usize
+    ensures place { board.new.at ≡ board.old.at }
+    ensures same { board.new.inside ≡ board.old.inside }
+    ensures length { result ≡ length board.old.inside.state.owed }
+    ensures limit { result ≤ MAX_OWED }
+{
+    board.get().owed_len()
+}
+
+/// How many bytes are held of an unfinished command.
+#[unsafe(no_mangle)]
+pub extern "C" fn dgt_board_partial(board: &mut DgtBoard) -> usize
+    ensures place { board.new.at ≡ board.old.at }
+    ensures same { board.new.inside ≡ board.old.inside }
+    ensures length { result ≡ length board.old.inside.partial }
+    ensures unfinished { IsPartial board.old.inside.partial }
+    ensures limit { result < MAX_WORD }
+{
+    board.get().partial()
+}
+
+/// The board's mode: what it sends unasked.
 #[unsafe(no_mangle)]
 pub extern "C" fn dgt_board_mode(board: &mut DgtBoard) -> u8
     ensures place { board.new.at ≡ board.old.at }

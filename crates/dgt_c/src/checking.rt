@@ -2,16 +2,30 @@
 
 ghost use Rattle.std.specs.Prelude.{◌≡◌, ◌↔◌, IsTrue, MatchOption, map};
 ghost use Rattle.dgt_values.specs.Board.{piece_code, pieces_of};
-ghost use Rattle.dgt_values.specs.Bytes.{AreSevenBit};
+ghost use Rattle.dgt_values.specs.Bytes.{AreSevenBit, number};
 ghost use Rattle.dgt_c.specs.Starting.{ArePieces};
 
-use dgt_values::{Piece, Position, Square};
+use dgt_values::{Piece, Position, SevenBit, Square};
 
-/// Whether no byte has its top bit set.
-pub(crate) fn are_seven_bit(bytes: &[u8]) -> bool
+fn are_seven_bit(bytes: &[u8]) -> bool
     ensures { IsTrue result ↔ AreSevenBit bytes.now }
 {
     bytes.iter().all(|byte| *byte < 128)
+}
+
+/// The seven-bit bytes that these are, if no byte has its top bit set.
+pub(crate) fn read_seven_bits<const N: usize>(bytes: &[u8; N]) -> Option<[SevenBit; N]>
+    ensures { MatchOption result (¬ (AreSevenBit bytes.now))
+        (λ read. (map number read ≡ bytes.now) × AreSevenBit bytes.now) }
+{
+    if !are_seven_bit(bytes) {
+        return None;
+    }
+    let mut read = [SevenBit::from_small(0); N];
+    for (index, byte) in bytes.iter().enumerate() {
+        read[index] = SevenBit::from_small(*byte);
+    }
+    Some(read)
 }
 
 /// The position of these codes, from a8 to h1, where each is the code of a piece.

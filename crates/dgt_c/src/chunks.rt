@@ -1,32 +1,34 @@
 //! What C has a host hear, and a decoder be fed, as a whole chunk.
 
-ghost use Rattle.std.specs.Prelude.{◌≡◌, ◌<◌, ◌++◌, length, take, drop};
+ghost use Rattle.std.specs.Prelude.{◌≡◌, ◌<◌, ◌++◌, ◌↔◌, IsTrue, length, take, drop};
 ghost use Rattle.dgt_decode.specs.Grammar.{open_message};
 ghost use Rattle.dgt_host.specs.Host.{host_after};
 ghost use Rattle.dgt_c.specs.Chunks.{TellsEach, UsesUpTo, bodies, each_told, events_up_to};
 ghost use Rattle.dgt_c.specs.Slices.{overwritten};
 
 use crate::copying::overwrite;
-use crate::events::{DgtEvent, body_of, tell};
+use crate::events::{body_of, tell_at};
 use crate::handles::{DgtDecoder, DgtHost};
+use crate::header::{DgtEvent, DgtTold};
 use crate::hearing::tell_heard;
 use dgt_decode::{Decoder, laws};
 use dgt_host::Host;
 
-/// How far a chunk was read, as dgt.h says it.
-#[repr(C)]
-#[derive(Clone, Copy)]
-pub struct DgtTold {
-    pub used: usize,
-    pub count: usize,
+// Whether more of a chunk is to be read. An event with a body is the last: the slice has room for
+// the body of one.
+#[inline(always)]
+fn goes_on(used: usize, chunk: &[u8], count: usize, told: &[DgtEvent], body_len: usize) -> bool
+    ensures { IsTrue result
+        ↔ (used < length chunk.now) × (count < length told.now) × (body_len ≡ 0) }
+{
+    used < chunk.len() && count < told.len() && body_len == 0
 }
 
-// An event with a body is the last: the slice has the body of one.
 fn hear_each(host: &mut Host, chunk: &[u8], told: &mut [DgtEvent], body: &mut [u8]) -> DgtTold
     ensures after { host.new ≡ host_after host.old (take result.used chunk.now) }
     ensures uses { UsesUpTo host.old.unread chunk.now (length told.old) result.used }
     ensures tells { let made = events_up_to host.old.unread chunk.now result.used in
-        TellsEach host.old made (take result.count told.new) }
+        TellsEach (length host.old.unread) host.old made (take result.count told.new) }
     ensures count { result.count
         ≡ length (events_up_to host.old.unread chunk.now result.used) }
     ensures rest { drop result.count told.new ≡ drop result.count told.old }
@@ -35,16 +37,17 @@ fn hear_each(host: &mut Host, chunk: &[u8], told: &mut [DgtEvent], body: &mut [u
     ensures progress { 0 < length chunk.now → 0 < length told.old → 0 < result.used }
 {
     laws::events_append();
+    laws::open_is_part();
     laws::open_is_quiet();
     dgt_host::laws::heard_in_pieces();
     dgt_host::laws::nothing_heard();
     let _ = host.unread(); // It says that what is unread makes no event.
     let (mut used, mut count, mut body_len) = (0, 0, 0);
-    while used < chunk.len() && count < told.len() && body_len == 0 {
+    while goes_on(used, chunk, count, told, body_len) {
         let heard = host.hear(&chunk[used..]);
         used += heard.used;
         if heard.event.is_some() {
-            tell_heard(&heard.event, heard.unasked, &mut told[count]);
+            tell_heard(&heard.event, heard.unasked, used, &mut told[count]);
             let said = body_of(&heard.event);
             overwrite(said, body);
             body_len = said.len();
@@ -68,7 +71,8 @@ pub extern "C" fn dgt_host_hear_all(
     ensures after { host.new.inside ≡ host_after host.old.inside (take result.used chunk.now) }
     ensures uses { UsesUpTo host.old.inside.unread chunk.now (length told.old) result.used }
     ensures tells { let made = events_up_to host.old.inside.unread chunk.now result.used in
-        TellsEach host.old.inside made (take result.count told.new) }
+        TellsEach (length host.old.inside.unread) host.old.inside made
+        (take result.count told.new) }
     ensures count { result.count
         ≡ length (events_up_to host.old.inside.unread chunk.now result.used) }
     ensures rest { drop result.count told.new ≡ drop result.count told.old }
@@ -83,7 +87,7 @@ fn feed_each(decoder: &mut Decoder, chunk: &[u8], told: &mut [DgtEvent], body: &
     ensures after { decoder.new ≡ open_message (decoder.old ++ take result.used chunk.now) }
     ensures uses { UsesUpTo decoder.old chunk.now (length told.old) result.used }
     ensures tells { take result.count told.new
-        ≡ each_told (events_up_to decoder.old chunk.now result.used) }
+        ≡ each_told (length decoder.old) (events_up_to decoder.old chunk.now result.used) }
     ensures count { result.count ≡ length (events_up_to decoder.old chunk.now result.used) }
     ensures rest { drop result.count told.new ≡ drop result.count told.old }
     ensures body { let made = events_up_to decoder.old chunk.now result.used in
@@ -92,14 +96,15 @@ fn feed_each(decoder: &mut Decoder, chunk: &[u8], told: &mut [DgtEvent], body: &
 {
     laws::events_append();
     laws::open_append();
+    laws::open_is_part();
     laws::open_is_quiet();
     let _ = decoder.rest(); // It says that what is held makes no event.
     let (mut used, mut count, mut body_len) = (0, 0, 0);
-    while used < chunk.len() && count < told.len() && body_len == 0 {
+    while goes_on(used, chunk, count, told, body_len) {
         let fed = decoder.feed(&chunk[used..]);
         used += fed.used;
         if fed.event.is_some() {
-            tell(&fed.event, &mut told[count]);
+            tell_at(&fed.event, used, &mut told[count]);
             let said = body_of(&fed.event);
             overwrite(said, body);
             body_len = said.len();
@@ -124,7 +129,8 @@ pub extern "C" fn dgt_decoder_feed_all(
         ≡ open_message (decoder.old.inside ++ take result.used chunk.now) }
     ensures uses { UsesUpTo decoder.old.inside chunk.now (length told.old) result.used }
     ensures tells { take result.count told.new
-        ≡ each_told (events_up_to decoder.old.inside chunk.now result.used) }
+        ≡ each_told (length decoder.old.inside)
+        (events_up_to decoder.old.inside chunk.now result.used) }
     ensures count { result.count
         ≡ length (events_up_to decoder.old.inside chunk.now result.used) }
     ensures rest { drop result.count told.new ≡ drop result.count told.old }

@@ -1,60 +1,14 @@
-//! What C is told of a clock, and tells of one.
+//! A clock as C has it, in both directions.
 
-ghost use Rattle.std.specs.Prelude.{◌≡◌, ◌≤◌, ◌<◌, map, MatchOption};
-ghost use Rattle.dgt_values.specs.Bytes.{AreSevenBit, number};
+ghost use Rattle.std.specs.Prelude.{◌≡◌, ◌≤◌, ◌<◌, MatchOption};
 ghost use Rattle.dgt_message.specs.Clock.{AreTimes, ClockState, IsAbsence, IsTime};
 ghost use Rattle.dgt_message.specs.Content.{absence_seen, clock_seen, status_code, time_seen, times_seen};
 ghost use Rattle.dgt_c.specs.Clocks.{SaysClock, absence_said, clock_told, time_said, time_told, times_said};
 
-use crate::checking::are_seven_bit;
+use crate::checking::read_seven_bits;
+use crate::header::{CLOCK_NONE, CLOCK_TIMES, DgtClock, DgtTime, NO_TIME};
 use dgt_message::{Clock, NoClock, Reading, Status, Times};
 use dgt_values::SevenBit;
-
-/// No clock was told.
-pub const CLOCK_UNKNOWN: u8 = 0;
-
-/// The clock shows the times of both players.
-pub const CLOCK_TIMES: u8 = 1;
-
-/// No clock is connected.
-pub const CLOCK_NONE: u8 = 2;
-
-/// The time of one player, as dgt.h says it.
-#[repr(C)]
-#[derive(Clone, Copy)]
-pub struct DgtTime {
-    pub hours: u8,
-    pub minutes: u8,
-    pub seconds: u8,
-    pub flags: u8,
-}
-
-/// What a clock tells, as dgt.h says it.
-#[repr(C)]
-#[derive(Clone, Copy)]
-pub struct DgtClock {
-    pub kind: u8,
-    pub status: u8,
-    pub raw: [u8; 6],
-    pub first: DgtTime,
-    pub second: DgtTime,
-}
-
-const NO_TIME: DgtTime = DgtTime {
-    hours: 0,
-    minutes: 0,
-    seconds: 0,
-    flags: 0,
-};
-
-/// That no clock was told.
-pub const UNKNOWN_CLOCK: DgtClock = DgtClock {
-    kind: CLOCK_UNKNOWN,
-    status: 0,
-    raw: [0; 6],
-    first: NO_TIME,
-    second: NO_TIME,
-};
 
 fn time_told(reading: Reading) -> DgtTime
     ensures { result ≡ time_told (time_seen reading) }
@@ -94,7 +48,7 @@ pub(crate) fn absence_told(absence: NoClock) -> DgtClock
     }
 }
 
-/// What a clock tells.
+/// What a clock shows.
 pub(crate) fn clock_told(clock: &Clock) -> DgtClock
     ensures { result ≡ clock_told (clock_seen clock.now) }
 {
@@ -119,25 +73,8 @@ fn read_status(status: u8) -> Option<Status>
     Some(Status::new(code))
 }
 
-fn read_raw(raw: [u8; 6]) -> Option<[SevenBit; 6]>
-    ensures { MatchOption result (¬ (AreSevenBit raw))
-        (λ read. (map number read ≡ raw) × AreSevenBit raw) }
-{
-    if !are_seven_bit(&raw) {
-        return None;
-    }
-    let [a, b, c, d, e, f] = raw;
-    Some([
-        SevenBit::from_small(a),
-        SevenBit::from_small(b),
-        SevenBit::from_small(c),
-        SevenBit::from_small(d),
-        SevenBit::from_small(e),
-        SevenBit::from_small(f),
-    ])
-}
-
-fn read_times(clock: &DgtClock) -> Option<Times>
+/// The times that C says, if they are times.
+pub(crate) fn read_times(clock: &DgtClock) -> Option<Times>
     ensures { let times = times_said clock.now in MatchOption result (¬ (AreTimes times))
         (λ read. (times_seen read ≡ times) × AreTimes times) }
 {
@@ -147,11 +84,12 @@ fn read_times(clock: &DgtClock) -> Option<Times>
     Times::new(first, second, status).ok()
 }
 
-fn read_absence(clock: &DgtClock) -> Option<NoClock>
+/// What C says of a board without a clock, if it is that.
+pub(crate) fn read_absence(clock: &DgtClock) -> Option<NoClock>
     ensures { let absence = absence_said clock.now in MatchOption result (¬ (IsAbsence absence))
         (λ read. (absence_seen read ≡ absence) × IsAbsence absence) }
 {
-    let raw = read_raw(clock.raw)?;
+    let raw = read_seven_bits(&clock.raw)?;
     let status = read_status(clock.status)?;
     NoClock::new(raw, status).ok()
 }

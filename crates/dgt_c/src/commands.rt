@@ -1,4 +1,4 @@
-//! What C is told of a command that a board is sent.
+//! A command that a board was sent, as C has it.
 
 ghost use Rattle.std.specs.Prelude.{◌≡◌, option_map};
 ghost use Rattle.dgt_command.specs.Content.{command_content, command_event_content};
@@ -7,39 +7,11 @@ ghost use Rattle.dgt_c.specs.Commands.{command_told, id_of, read_told, word_said
 ghost use Rattle.dgt_c.specs.Slices.{overwritten};
 
 use crate::copying::overwrite;
-use dgt_command::{Command, CommandEvent, MAX_WORD, clock_id, encode};
-
-pub const COMMAND_NONE: u8 = 0;
-
-pub const COMMAND_READ: u8 = 1;
-
-pub const COMMAND_BAD_SIZE: u8 = 2;
-
-pub const COMMAND_BAD_START: u8 = 3;
-
-pub const COMMAND_BAD_END: u8 = 4;
-
-pub const COMMAND_STRAY: u8 = 5;
-
-/// What a word of a host tells, as dgt.h says it.
-#[repr(C)]
-#[derive(Clone, Copy)]
-pub struct DgtCommand {
-    pub kind: u8,
-    pub code: u8,
-    pub id: u8,
-    pub byte: u8,
-    pub word_len: usize,
-}
-
-/// That no word was completed.
-pub const NO_WORD: DgtCommand = DgtCommand {
-    kind: COMMAND_NONE,
-    code: 0,
-    id: 0,
-    byte: 0,
-    word_len: 0,
+use crate::header::{
+    COMMAND_BAD_END, COMMAND_BAD_SIZE, COMMAND_BAD_START, COMMAND_NONE, COMMAND_READ,
+    COMMAND_STRAY, DgtCommand, NO_WORD,
 };
+use dgt_command::{Command, CommandEvent, MAX_WORD, clock_id, encode};
 
 fn id_of(command: &Command<'_>) -> u8
     ensures { result ≡ id_of (command_content command.now) }
@@ -51,7 +23,7 @@ fn id_of(command: &Command<'_>) -> u8
 }
 
 // A command that was read. Its bytes are copied, as many as there is room for.
-fn tell_read(command: &Command<'_>, out: &mut [u8]) -> DgtCommand
+pub(crate) fn tell_read(command: &Command<'_>, out: &mut [u8]) -> DgtCommand
     ensures told { result ≡ read_told (command_content command.now) }
     ensures word { out.new
         ≡ overwritten out.old (command_spelling (command_content command.now)) }
@@ -72,32 +44,24 @@ fn tell_read(command: &Command<'_>, out: &mut [u8]) -> DgtCommand
     }
 }
 
-/// Tells of a command or a fault, or that there is none. Where it is a command, its bytes are
-/// copied, as many as there is room for.
+/// Reports a command or a fault, or that there is none. If it is a command, its bytes are copied,
+/// as many as there is room for.
 pub(crate) fn tell_command(event: &Option<CommandEvent<'_>>, out: &mut [u8]) -> DgtCommand
     ensures told { result ≡ command_told (option_map command_event_content event.now) }
     ensures word { out.new
         ≡ overwritten out.old (word_said (option_map command_event_content event.now)) }
 {
-    match event {
-        None => NO_WORD,
-        Some(CommandEvent::Command(command)) => tell_read(command, out),
-        Some(CommandEvent::BadSize) => DgtCommand {
-            kind: COMMAND_BAD_SIZE,
-            ..NO_WORD
-        },
-        Some(CommandEvent::BadStart) => DgtCommand {
-            kind: COMMAND_BAD_START,
-            ..NO_WORD
-        },
-        Some(CommandEvent::BadEnd) => DgtCommand {
-            kind: COMMAND_BAD_END,
-            ..NO_WORD
-        },
-        Some(CommandEvent::Stray(byte)) => DgtCommand {
-            kind: COMMAND_STRAY,
-            byte: *byte,
-            ..NO_WORD
-        },
+    let (kind, byte) = match event {
+        None => (COMMAND_NONE, 0),
+        Some(CommandEvent::Command(command)) => return tell_read(command, out),
+        Some(CommandEvent::BadSize) => (COMMAND_BAD_SIZE, 0),
+        Some(CommandEvent::BadStart) => (COMMAND_BAD_START, 0),
+        Some(CommandEvent::BadEnd) => (COMMAND_BAD_END, 0),
+        Some(CommandEvent::Stray(byte)) => (COMMAND_STRAY, *byte),
+    };
+    DgtCommand {
+        kind,
+        byte,
+        ..NO_WORD
     }
 }

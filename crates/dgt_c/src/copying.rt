@@ -5,12 +5,10 @@ ghost use Rattle.dgt_values.specs.Board.{pieces_of};
 ghost use Rattle.dgt_values.specs.Placement.{placement_text};
 ghost use Rattle.dgt_c.specs.Slices.{overwritten, with_text};
 
+use crate::header::PLACEMENT_ROOM;
 use dgt_values::Position;
 
-/// Room for each placement and a zero.
-pub const PLACEMENT_ROOM: usize = 72;
-
-/// Writes as many of the bytes as there is room for to the front of the slice.
+/// Writes as many of the bytes as there is room for at the beginning of the slice.
 #[inline(always)]
 pub(crate) fn overwrite(bytes: &[u8], out: &mut [u8])
     ensures { out.new ≡ overwritten out.old bytes.now }
@@ -25,7 +23,7 @@ pub(crate) fn overwrite(bytes: &[u8], out: &mut [u8])
     }
 }
 
-/// Writes the placement of a position and a zero to the front of the slice.
+/// Writes the placement of a position and a zero at the beginning of the slice.
 pub(crate) fn put_placement(position: &Position, text: &mut [u8; PLACEMENT_ROOM])
     ensures { text.new ≡ with_text (placement_text (pieces_of position.now)) text.old }
 {

@@ -1,102 +1,22 @@
-//! What C is told of an event.
+//! An event as C has it.
 
 ghost use Rattle.std.specs.Prelude.{◌≡◌, length, map};
 ghost use Rattle.dgt_values.specs.Bytes.{body_bytes, number};
 ghost use Rattle.dgt_message.specs.Code.{known_number};
 ghost use Rattle.dgt_message.specs.Content.{content};
 ghost use Rattle.dgt_decode.specs.Feeding.{event_content_if_any};
-ghost use Rattle.dgt_c.specs.Told.{body_said, event_told, message_told, refused_told};
+ghost use Rattle.dgt_c.specs.Told.{body_said, event_told, message_told, refused_told, told_at};
 
-use crate::clocks::{DgtClock, UNKNOWN_CLOCK, absence_told, times_told};
+use crate::clocks::{absence_told, times_told};
+use crate::header::{
+    DgtEvent, EVENT_ACK, EVENT_BAD_LENGTH, EVENT_BATTERY, EVENT_CUT, EVENT_DUMP, EVENT_FIELD,
+    EVENT_LONG_SERIAL, EVENT_NO_CLOCK, EVENT_OTHER, EVENT_REFUSED, EVENT_SERIAL, EVENT_STRAY,
+    EVENT_TIMES, EVENT_TRADEMARK, EVENT_VERSION, FAULT_BAD_PIECE, FAULT_BAD_READING,
+    FAULT_BAD_SQUARE, FAULT_WRONG_SIZE, NOTHING,
+};
 use dgt_decode::Event;
 use dgt_message::{BodyFault, KnownCode, Message};
 use dgt_values::{Body, SevenBit};
-
-pub const EVENT_NONE: u8 = 0;
-
-pub const EVENT_DUMP: u8 = 1;
-
-pub const EVENT_FIELD: u8 = 2;
-
-pub const EVENT_TIMES: u8 = 3;
-
-pub const EVENT_NO_CLOCK: u8 = 4;
-
-pub const EVENT_ACK: u8 = 5;
-
-pub const EVENT_SERIAL: u8 = 6;
-
-pub const EVENT_TRADEMARK: u8 = 7;
-
-pub const EVENT_VERSION: u8 = 8;
-
-pub const EVENT_BATTERY: u8 = 9;
-
-pub const EVENT_LONG_SERIAL: u8 = 10;
-
-pub const EVENT_OTHER: u8 = 11;
-
-pub const EVENT_REFUSED: u8 = 12;
-
-pub const EVENT_CUT: u8 = 13;
-
-pub const EVENT_BAD_LENGTH: u8 = 14;
-
-pub const EVENT_STRAY: u8 = 15;
-
-pub const FAULT_NONE: u8 = 0;
-
-pub const FAULT_WRONG_SIZE: u8 = 1;
-
-pub const FAULT_BAD_PIECE: u8 = 2;
-
-pub const FAULT_BAD_SQUARE: u8 = 3;
-
-pub const FAULT_BAD_READING: u8 = 4;
-
-/// An event, as dgt.h says it.
-#[repr(C)]
-#[derive(Clone, Copy)]
-pub struct DgtEvent {
-    pub kind: u8,
-    pub unasked: u8,
-    pub code: u8,
-    pub square: u8,
-    pub piece: u8,
-    pub main_number: u8,
-    pub sub_number: u8,
-    pub byte: u8,
-    pub fault: u8,
-    pub ack_status: u8,
-    pub ack: [u8; 4],
-    pub serial: [u8; 5],
-    pub clock: DgtClock,
-    pub pieces: [u8; 64],
-    pub have: usize,
-    pub at: usize,
-    pub body_len: usize,
-}
-
-/// That nothing was made known.
-pub const NOTHING: DgtEvent = DgtEvent {
-    kind: EVENT_NONE,
-    unasked: 0,
-    code: 0,
-    square: 0,
-    piece: 0,
-    main_number: 0,
-    sub_number: 0,
-    byte: 0,
-    fault: FAULT_NONE,
-    ack_status: 0,
-    ack: [0; 4],
-    serial: [0; 5],
-    clock: UNKNOWN_CLOCK,
-    pieces: [0; 64],
-    have: 0,
-    at: 0,
-    body_len: 0,
-};
 
 fn serial_numbers(serial: &[SevenBit; 5]) -> [u8; 5]
     ensures { result ≡ map number serial.now }
@@ -105,8 +25,8 @@ fn serial_numbers(serial: &[SevenBit; 5]) -> [u8; 5]
     [a.get(), b.get(), c.get(), d.get(), e.get()]
 }
 
-// Each struct is written where it lies for C: to copy one takes longer than to write it. What tells
-// an event is inlined, so that the event itself is not copied once more.
+// Each struct is written where it lies for C: to copy one takes longer than to write it. What
+// reports an event is inlined, so that the event itself is not copied once more.
 fn tell_carried(kind: u8, code: u8, body: Body<'_>, out: &mut DgtEvent)
     ensures { out.new ≡ record out.old {
       kind = kind;
@@ -192,7 +112,7 @@ fn tell_refused(code: u8, fault: BodyFault, out: &mut DgtEvent)
     };
 }
 
-/// Tells an event, or that there is none.
+/// Reports an event, or that there is none.
 #[inline(always)]
 pub(crate) fn tell(event: &Option<Event<'_>>, out: &mut DgtEvent)
     ensures { out.new ≡ event_told (event_content_if_any event.now) }
@@ -211,6 +131,17 @@ pub(crate) fn tell(event: &Option<Event<'_>>, out: &mut DgtEvent)
             out.kind = EVENT_STRAY;
             out.byte = *byte;
         }
+    }
+}
+
+/// Writes an event and its place to the struct, or that there is none.
+#[inline(always)]
+pub(crate) fn tell_at(event: &Option<Event<'_>>, place: usize, out: &mut DgtEvent)
+    ensures { out.new ≡ told_at place (event_content_if_any event.now) }
+{
+    tell(event, out);
+    if event.is_some() {
+        out.place = place;
     }
 }
 

@@ -7,10 +7,11 @@ ghost use Rattle.dgt_follow.specs.Pace.{due_at};
 ghost use Rattle.dgt_follow.specs.Follower.{follower_after, following, new_follower};
 ghost use Rattle.dgt_c.specs.Following.{AsksTold, asked_told, update_mode_number};
 
-use crate::board_calls::{MODE_UPDATE, MODE_UPDATE_BOARD, MODE_UPDATE_NICE};
 use crate::handles::DgtFollower;
-use crate::sending::{DgtSent, SENT, SENT_NO_ROOM};
+use crate::header::{DgtSent, MODE_UPDATE, MODE_UPDATE_BOARD, MODE_UPDATE_NICE};
+use crate::sending::sent_told;
 use dgt_follow::{Follower, UpdateMode};
+use dgt_host::SendFault;
 use dgt_values::NoRoom;
 
 /// Makes the follower anew, with this period in milliseconds and this patience.
@@ -49,19 +50,10 @@ pub extern "C" fn dgt_follower_hear_all(follower: &mut DgtFollower, now: u64, ch
 fn asked_told(outcome: Result<usize, NoRoom>) -> DgtSent
     ensures { result ≡ asked_told outcome }
 {
-    match outcome {
-        Ok(bytes) => DgtSent {
-            status: SENT,
-            bytes,
-        },
-        Err(NoRoom { need }) => DgtSent {
-            status: SENT_NO_ROOM,
-            bytes: need,
-        },
-    }
+    sent_told(outcome.map_err(|NoRoom { need }| SendFault::NoRoom { need }))
 }
 
-/// Writes what the board has to be asked at this time into the front of the slice, if it is due.
+/// Writes what the board has to be asked at this time at the beginning of the slice, if it is due.
 #[unsafe(no_mangle)]
 pub extern "C" fn dgt_follower_ask(follower: &mut DgtFollower, now: u64, out: &mut [u8]) -> DgtSent
     ensures place { follower.new.at ≡ follower.old.at }

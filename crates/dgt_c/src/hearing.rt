@@ -1,29 +1,34 @@
-//! What C has a host hear.
+//! What C has a host hear, and decoders be fed.
 
-ghost use Rattle.std.specs.Prelude.{◌≡◌, ◌≤◌, ◌<◌, length, take};
+ghost use Rattle.std.specs.Prelude.{◌≡◌, ◌≤◌, ◌<◌, length, take, ◌++◌, []};
 ghost use Rattle.dgt_decode.specs.Feeding.{event_content_if_any};
 ghost use Rattle.dgt_decode.specs.Grammar.{open_message};
 ghost use Rattle.dgt_host.specs.Host.{host_after, new_host, without_awaited};
-ghost use Rattle.dgt_c.specs.Hearing.{HearsTold, flag};
-ghost use Rattle.dgt_c.specs.Told.{event_told};
+ghost use Rattle.dgt_c.specs.Hearing.{HearsTold, flag, Feeds};
+ghost use Rattle.dgt_c.specs.Told.{told_at};
+ghost use Rattle.dgt_command.specs.Words.{IsPartial};
+ghost use Rattle.dgt_c.specs.Reading.{FeedsWords};
 
+use crate::commands::tell_command;
 use crate::copying::overwrite;
-use crate::events::{DgtEvent, body_of, tell};
-use crate::handles::DgtHost;
-use dgt_decode::Event;
+use crate::events::{body_of, tell_at};
+use crate::handles::{DgtCommandDecoder, DgtDecoder, DgtHost};
+use crate::header::{DgtCommand, DgtEvent};
+use dgt_command::MAX_WORD;
+use dgt_decode::{Event, MAX_TOTAL};
 
-// Tells an event, and whether it was not asked for.
+/// Writes an event to the struct, with its place and whether it was not asked for.
 #[inline(always)]
-pub(crate) fn tell_heard(event: &Option<Event<'_>>, unasked: bool, out: &mut DgtEvent)
+pub(crate) fn tell_heard(event: &Option<Event<'_>>, unasked: bool, place: usize, out: &mut DgtEvent)
     ensures { out.new ≡
-        record (event_told (event_content_if_any event.now)) { unasked = flag unasked } }
+        record (told_at place (event_content_if_any event.now)) { unasked = flag unasked } }
 {
-    tell(event, out);
+    tell_at(event, place, out);
     out.unasked = if unasked { 1 } else { 0 };
 }
 
-/// Uses bytes up to and including the first that makes an event, or all of them, and answers how
-/// many. The event is told, and its body copied, as much of it as there is room for.
+/// Uses bytes up to and including the first that makes an event, or all of them, and returns how
+/// many. Reports the event, and copies its body, as much of it as there is room for.
 #[unsafe(no_mangle)]
 pub extern "C" fn dgt_host_hear(
     host: &mut DgtHost,
@@ -39,7 +44,7 @@ pub extern "C" fn dgt_host_hear(
     ensures progress { 0 < length bytes.now → 0 < result }
 {
     let heard = host.get().hear(bytes);
-    tell_heard(&heard.event, heard.unasked, event);
+    tell_heard(&heard.event, heard.unasked, heard.used, event);
     overwrite(body_of(&heard.event), body);
     heard.used
 }
@@ -63,13 +68,115 @@ pub extern "C" fn dgt_host_give_up_awaited(host: &mut DgtHost) -> usize
     host.get().give_up_awaited()
 }
 
-/// How many bytes were heard of an unfinished message.
+/// Uses bytes up to and including the first that makes an event, or all of them, and returns how
+/// many. Reports the event, and copies its body, as much of it as there is room for.
 #[unsafe(no_mangle)]
-pub extern "C" fn dgt_host_unread(host: &mut DgtHost) -> usize
-    ensures place { host.new.at ≡ host.old.at }
-    ensures same { host.new.inside ≡ host.old.inside }
-    ensures length { result ≡ length host.old.inside.unread }
-    ensures all_open { open_message host.old.inside.unread ≡ host.old.inside.unread }
+pub extern "C" fn dgt_decoder_feed(
+    decoder: &mut DgtDecoder,
+    bytes: &[u8],
+    event: &mut DgtEvent,
+    body: &mut [u8],
+) -> usize
+    ensures place { decoder.new.at ≡ decoder.old.at }
+    ensures after { decoder.new.inside
+        ≡ open_message (decoder.old.inside ++ take result bytes.now) }
+    ensures within { result ≤ length bytes.now }
+    ensures feeds { Feeds decoder.old.inside bytes.now result
+        (record { event = event.new; old = body.old; new = body.new }) }
+    ensures progress { 0 < length bytes.now → 0 < result }
 {
-    host.get().unread()
+    let fed = decoder.get().feed(bytes);
+    tell_at(&fed.event, fed.used, event);
+    overwrite(body_of(&fed.event), body);
+    fed.used
+}
+
+/// How many bytes have come of an unfinished message.
+#[unsafe(no_mangle)]
+pub extern "C" fn dgt_decoder_rest(decoder: &mut DgtDecoder) -> usize
+    ensures place { decoder.new.at ≡ decoder.old.at }
+    ensures same { decoder.new.inside ≡ decoder.old.inside }
+    ensures length { result ≡ length decoder.old.inside }
+    ensures unfinished { open_message decoder.old.inside ≡ decoder.old.inside }
+    ensures limit { result < MAX_TOTAL }
+{
+    decoder.get().rest()
+}
+
+/// How many bytes had come of an unfinished message, or 0. The decoder is as new.
+#[unsafe(no_mangle)]
+pub extern "C" fn dgt_decoder_finish(decoder: &mut DgtDecoder) -> usize
+    ensures place { decoder.new.at ≡ decoder.old.at }
+    ensures new { decoder.new.inside ≡ [] }
+    ensures length { result ≡ length decoder.old.inside }
+{
+    match decoder.get().finish() {
+        Some(unfinished) => unfinished.have,
+        None => 0,
+    }
+}
+
+/// Makes the decoder as new.
+#[unsafe(no_mangle)]
+pub extern "C" fn dgt_decoder_reset(decoder: &mut DgtDecoder)
+    ensures place { decoder.new.at ≡ decoder.old.at }
+    ensures new { decoder.new.inside ≡ [] }
+{
+    decoder.get().reset();
+}
+
+/// Uses bytes up to and including the first that completes a command or shows a fault, or all of
+/// them, and returns how many. Reports what it is, and copies the bytes of a command, as many as
+/// there is room for.
+#[unsafe(no_mangle)]
+pub extern "C" fn dgt_command_decoder_feed(
+    command_decoder: &mut DgtCommandDecoder,
+    bytes: &[u8],
+    command: &mut DgtCommand,
+    word: &mut [u8],
+) -> usize
+    ensures place { command_decoder.new.at ≡ command_decoder.old.at }
+    ensures within { result ≤ length bytes.now }
+    ensures reads { FeedsWords command_decoder.old.inside bytes.now result
+        (record { command = command.new; old = word.old; new = word.new })
+        command_decoder.new.inside }
+    ensures progress { 0 < length bytes.now → 0 < result }
+{
+    let fed = command_decoder.get().feed(bytes);
+    *command = tell_command(&fed.event, word);
+    fed.used
+}
+
+/// How many bytes are held of an unfinished command.
+#[unsafe(no_mangle)]
+pub extern "C" fn dgt_command_decoder_rest(command_decoder: &mut DgtCommandDecoder) -> usize
+    ensures place { command_decoder.new.at ≡ command_decoder.old.at }
+    ensures same { command_decoder.new.inside ≡ command_decoder.old.inside }
+    ensures length { result ≡ length command_decoder.old.inside }
+    ensures unfinished { IsPartial command_decoder.old.inside }
+    ensures limit { result < MAX_WORD }
+{
+    command_decoder.get().partial()
+}
+
+/// How many bytes were held of an unfinished command, or 0. The reader is as new.
+#[unsafe(no_mangle)]
+pub extern "C" fn dgt_command_decoder_finish(command_decoder: &mut DgtCommandDecoder) -> usize
+    ensures place { command_decoder.new.at ≡ command_decoder.old.at }
+    ensures new { command_decoder.new.inside ≡ [] }
+    ensures length { result ≡ length command_decoder.old.inside }
+{
+    let reader = command_decoder.get();
+    let have = reader.partial();
+    reader.reset();
+    have
+}
+
+/// Makes the reader as new.
+#[unsafe(no_mangle)]
+pub extern "C" fn dgt_command_decoder_reset(command_decoder: &mut DgtCommandDecoder)
+    ensures place { command_decoder.new.at ≡ command_decoder.old.at }
+    ensures new { command_decoder.new.inside ≡ [] }
+{
+    command_decoder.get().reset();
 }

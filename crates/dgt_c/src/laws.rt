@@ -9,56 +9,37 @@ ghost use Rattle.dgt_command.specs.Spelling.{command_code};
 ghost use Rattle.dgt_command.specs.declared.ids.KnownId.{KnownId};
 ghost use Rattle.dgt_c.specs.Layouts.{◌⊗◌, Ascend, LiesAs, bit_alone};
 ghost use Rattle.dgt_c.specs.Rooms.{board_room, command_decoder_room, decoder_room, follower_room, host_room};
-ghost use Rattle.dgt_c.specs.contracts.board_calls.DgtPolled.{the_row as polled_row, the_type as polled_type};
-ghost use Rattle.dgt_c.specs.contracts.board_calls.DgtTaken.{the_row as taken_row, the_type as taken_type};
-ghost use Rattle.dgt_c.specs.contracts.chunks.DgtTold.{the_row as told_row, the_type as told_type};
-ghost use Rattle.dgt_c.specs.contracts.clocks.DgtClock.{the_row as clock_row, the_type as clock_type};
-ghost use Rattle.dgt_c.specs.contracts.clocks.DgtTime.{the_row as time_row, the_type as time_type};
-ghost use Rattle.dgt_c.specs.contracts.commands.DgtCommand.{the_row as command_row, the_type as command_type};
-ghost use Rattle.dgt_c.specs.contracts.events.DgtEvent.{the_row as event_row, the_type as event_type};
-ghost use Rattle.dgt_c.specs.contracts.placements.DgtParsed.{the_row as parsed_row, the_type as parsed_type};
+ghost use Rattle.dgt_c.specs.contracts.header.DgtBody.{the_row as body_row, the_type as body_type};
+ghost use Rattle.dgt_c.specs.contracts.header.DgtClock.{the_row as clock_row, the_type as clock_type};
+ghost use Rattle.dgt_c.specs.contracts.header.DgtCommand.{the_row as command_row, the_type as command_type};
+ghost use Rattle.dgt_c.specs.contracts.header.DgtEncoded.{the_row as encoded_row, the_type as encoded_type};
+ghost use Rattle.dgt_c.specs.contracts.header.DgtEvent.{the_row as event_row, the_type as event_type};
+ghost use Rattle.dgt_c.specs.contracts.header.DgtIdentity.{the_row as identity_row, the_type as identity_type};
+ghost use Rattle.dgt_c.specs.contracts.header.DgtParsed.{the_row as parsed_row, the_type as parsed_type};
+ghost use Rattle.dgt_c.specs.contracts.header.DgtPolled.{the_row as polled_row, the_type as polled_type};
+ghost use Rattle.dgt_c.specs.contracts.header.DgtSent.{the_row as sent_row, the_type as sent_type};
+ghost use Rattle.dgt_c.specs.contracts.header.DgtTaken.{the_row as taken_row, the_type as taken_type};
+ghost use Rattle.dgt_c.specs.contracts.header.DgtTime.{the_row as time_row, the_type as time_type};
+ghost use Rattle.dgt_c.specs.contracts.header.DgtTold.{the_row as told_row, the_type as told_type};
 ghost use Rattle.dgt_c.specs.contracts.places.BoardPlace.{the_row as board_row};
 ghost use Rattle.dgt_c.specs.contracts.places.CommandDecoderPlace.{the_row as command_decoder_row};
 ghost use Rattle.dgt_c.specs.contracts.places.DecoderPlace.{the_row as decoder_row};
 ghost use Rattle.dgt_c.specs.contracts.places.FollowerPlace.{the_row as follower_row};
 ghost use Rattle.dgt_c.specs.contracts.places.HostPlace.{the_row as host_row};
-ghost use Rattle.dgt_c.specs.contracts.sending.DgtSent.{the_row as sent_row, the_type as sent_type};
-ghost use Rattle.dgt_c.specs.contracts.starting.DgtBody.{the_row as body_row, the_type as body_type};
-ghost use Rattle.dgt_c.specs.contracts.starting.DgtIdentity.{the_row as identity_row, the_type as identity_type};
-ghost use Rattle.dgt_c.specs.declared.board_calls.DgtPolled.{DgtPolled};
-ghost use Rattle.dgt_c.specs.declared.board_calls.DgtTaken.{DgtTaken};
-ghost use Rattle.dgt_c.specs.declared.chunks.DgtTold.{DgtTold};
-ghost use Rattle.dgt_c.specs.declared.clocks.DgtClock.{DgtClock};
-ghost use Rattle.dgt_c.specs.declared.clocks.DgtTime.{DgtTime};
-ghost use Rattle.dgt_c.specs.declared.commands.DgtCommand.{DgtCommand};
-ghost use Rattle.dgt_c.specs.declared.events.DgtEvent.{DgtEvent};
-ghost use Rattle.dgt_c.specs.declared.placements.DgtParsed.{DgtParsed};
-ghost use Rattle.dgt_c.specs.declared.sending.DgtSent.{DgtSent};
-ghost use Rattle.dgt_c.specs.declared.starting.DgtBody.{DgtBody};
-ghost use Rattle.dgt_c.specs.declared.starting.DgtIdentity.{DgtIdentity};
+ghost use Rattle.dgt_c.specs.declared.header.DgtBody.{DgtBody};
+ghost use Rattle.dgt_c.specs.declared.header.DgtClock.{DgtClock};
+ghost use Rattle.dgt_c.specs.declared.header.DgtCommand.{DgtCommand};
+ghost use Rattle.dgt_c.specs.declared.header.DgtEncoded.{DgtEncoded};
+ghost use Rattle.dgt_c.specs.declared.header.DgtEvent.{DgtEvent};
+ghost use Rattle.dgt_c.specs.declared.header.DgtIdentity.{DgtIdentity};
+ghost use Rattle.dgt_c.specs.declared.header.DgtParsed.{DgtParsed};
+ghost use Rattle.dgt_c.specs.declared.header.DgtPolled.{DgtPolled};
+ghost use Rattle.dgt_c.specs.declared.header.DgtSent.{DgtSent};
+ghost use Rattle.dgt_c.specs.declared.header.DgtTaken.{DgtTaken};
+ghost use Rattle.dgt_c.specs.declared.header.DgtTime.{DgtTime};
+ghost use Rattle.dgt_c.specs.declared.header.DgtTold.{DgtTold};
 
-use crate::board_calls::{
-    MODE_IDLE, MODE_UPDATE, MODE_UPDATE_BOARD, MODE_UPDATE_NICE, POLLED_NEED_ROOM, POLLED_NOTHING,
-    POLLED_WROTE,
-};
-use crate::clocks::{CLOCK_NONE, CLOCK_TIMES, CLOCK_UNKNOWN};
-use crate::commands::{
-    COMMAND_BAD_END, COMMAND_BAD_SIZE, COMMAND_BAD_START, COMMAND_NONE, COMMAND_READ, COMMAND_STRAY,
-};
-use crate::copying::PLACEMENT_ROOM;
-use crate::events::{
-    EVENT_ACK, EVENT_BAD_LENGTH, EVENT_BATTERY, EVENT_CUT, EVENT_DUMP, EVENT_FIELD,
-    EVENT_LONG_SERIAL, EVENT_NO_CLOCK, EVENT_NONE, EVENT_OTHER, EVENT_REFUSED, EVENT_SERIAL,
-    EVENT_STRAY, EVENT_TIMES, EVENT_TRADEMARK, EVENT_VERSION, FAULT_BAD_PIECE, FAULT_BAD_READING,
-    FAULT_BAD_SQUARE, FAULT_NONE, FAULT_WRONG_SIZE,
-};
-use crate::plain::NONE;
-use crate::sending::{SENT, SENT_NO_COMMAND, SENT_NO_ROOM, SENT_TOO_MANY};
-use crate::starting::{START_BAD_CLOCK, START_BAD_IDENTITY, START_BAD_PIECES, STARTED};
-use crate::{
-    DgtBody, DgtClock, DgtCommand, DgtEvent, DgtIdentity, DgtParsed, DgtPolled, DgtSent, DgtTaken,
-    DgtTime, DgtTold,
-};
+use crate::header::*;
 use dgt_board::{MAX_KEPT_BODY, MAX_OWED, MAX_SENT};
 use dgt_command::{MAX_LED_BYTES, MAX_PAYLOAD, MAX_WORD};
 use dgt_follow::MAX_ASKING;
@@ -153,6 +134,9 @@ pub fn limits()
     ensures start_bad_pieces { START_BAD_PIECES ≡ 1 }
     ensures start_bad_clock { START_BAD_CLOCK ≡ 2 }
     ensures start_bad_identity { START_BAD_IDENTITY ≡ 3 }
+    ensures encoded { ENCODED ≡ 0 }
+    ensures too_short { TOO_SHORT ≡ 1 }
+    ensures not_encoded { NOT_ENCODED ≡ 2 }
     ensures nothing { POLLED_NOTHING ≡ 0 }
     ensures wrote { POLLED_WROTE ≡ 1 }
     ensures need_room { POLLED_NEED_ROOM ≡ 2 }
@@ -176,6 +160,7 @@ pub fn cases_differ()
     ensures sendings { Ascend (SENT ∷ SENT_TOO_MANY ∷ SENT_NO_ROOM ∷ SENT_NO_COMMAND ∷ []) }
     ensures starts { Ascend (STARTED ∷ START_BAD_PIECES ∷ START_BAD_CLOCK ∷ START_BAD_IDENTITY
         ∷ []) }
+    ensures encodings { Ascend (ENCODED ∷ TOO_SHORT ∷ NOT_ENCODED ∷ []) }
     ensures polls { Ascend (POLLED_NOTHING ∷ POLLED_WROTE ∷ POLLED_NEED_ROOM ∷ []) }
     ensures modes { Ascend (MODE_IDLE ∷ MODE_UPDATE ∷ MODE_UPDATE_BOARD ∷ MODE_UPDATE_NICE ∷ []) }
 {}
@@ -190,8 +175,9 @@ pub fn layouts()
     ensures board { LiesAs board_row 712 8 (0 ∷ 8 ∷ []) }
     ensures time { LiesAs time_row 4 1 (0 ∷ 1 ∷ 2 ∷ 3 ∷ []) }
     ensures clock { LiesAs clock_row 16 1 (0 ∷ 1 ∷ 2 ∷ 8 ∷ 12 ∷ []) }
-    ensures event { LiesAs event_row 128 8 (0 ∷ 1 ∷ 2 ∷ 3 ∷ 4 ∷ 5 ∷ 6 ∷ 7 ∷ 8 ∷ 9 ∷ 10 ∷ 14 ∷ 19
-        ∷ 35 ∷ 104 ∷ 112 ∷ 120 ∷ []) }
+    ensures event { LiesAs event_row 136 8 (0 ∷ 1 ∷ 2 ∷ 3 ∷ 4 ∷ 5 ∷ 6 ∷ 7 ∷ 8 ∷ 9 ∷ 10 ∷ 14 ∷ 19
+        ∷ 35 ∷ 104 ∷ 112 ∷ 120 ∷ 128 ∷ []) }
+    ensures encoded { LiesAs encoded_row 16 8 (0 ∷ 8 ∷ []) }
     ensures told { LiesAs told_row 16 8 (0 ∷ 8 ∷ []) }
     ensures command { LiesAs command_row 16 8 (0 ∷ 1 ∷ 2 ∷ 3 ∷ 8 ∷ []) }
     ensures sent { LiesAs sent_row 16 8 (0 ∷ 8 ∷ []) }
@@ -211,7 +197,8 @@ pub fn members()
     ensures event { (it : DgtEvent) → event_type.as_values it ≡ it.kind ⊗ it.unasked ⊗ it.code
         ⊗ it.square ⊗ it.piece ⊗ it.main_number ⊗ it.sub_number ⊗ it.byte ⊗ it.fault
         ⊗ it.ack_status ⊗ it.ack ⊗ it.serial ⊗ it.clock ⊗ it.pieces ⊗ it.have ⊗ it.at
-        ⊗ it.body_len ⊗ tt }
+        ⊗ it.body_len ⊗ it.place ⊗ tt }
+    ensures encoded { (it : DgtEncoded) → encoded_type.as_values it ≡ it.status ⊗ it.bytes ⊗ tt }
     ensures told { (it : DgtTold) → told_type.as_values it ≡ it.used ⊗ it.count ⊗ tt }
     ensures command { (it : DgtCommand) → command_type.as_values it ≡ it.kind ⊗ it.code ⊗ it.id
         ⊗ it.byte ⊗ it.word_len ⊗ tt }
@@ -230,6 +217,7 @@ pub fn clone_is_same()
     ensures body { CloneIsSame ⟦<DgtBody as Clone>⟧ }
     ensures clock { CloneIsSame ⟦<DgtClock as Clone>⟧ }
     ensures command { CloneIsSame ⟦<DgtCommand as Clone>⟧ }
+    ensures encoded { CloneIsSame ⟦<DgtEncoded as Clone>⟧ }
     ensures event { CloneIsSame ⟦<DgtEvent as Clone>⟧ }
     ensures identity { CloneIsSame ⟦<DgtIdentity as Clone>⟧ }
     ensures parsed { CloneIsSame ⟦<DgtParsed as Clone>⟧ }

@@ -1,6 +1,8 @@
 //! A host, a follower, a decoder, a reader of commands and a board for programs in C, and by it for
-//! programs in other languages. The header is `include/dgt.h`, which says of each call what it does
-//! and what a caller owes; `lib/build` makes the archive and the shared object.
+//! programs in other languages.
+//!
+//! The header is `include/dgt.h`, which says of each call what it does and what a caller owes.
+//! `lib/build` makes the archive and the shared object.
 //!
 //! C has a *handle*, an object of a stated size: a pointer, followed by the room for what it points
 //! to. `DgtHost` is that pointer. Contracts see what the handle owns as its ghost field `inside`,
@@ -11,31 +13,30 @@
 //! `dgt_host_hear_all` and `dgt_decoder_feed_all` wrap as many calls as a chunk takes, and say what
 //! these return in a row (`specs/Chunks.antt`).
 //!
-//! An enum can't cross to C, and neither can what a value lends. An event crosses as a struct,
-//! whose kind says which fields are set (`event_told`, `specs/Told.antt`), and its body as bytes
-//! that are copied into a slice of the caller's, as many as there is room for (`overwritten`,
-//! `specs/Slices.antt`). A result crosses as a status and a number. What C says is looked at: a
-//! clock, an identity and the codes of pieces are taken exactly where they are ones (`SaysClock`,
-//! `specs/Clocks.antt`; `IsIdentity`, `ArePieces`, `specs/Starting.antt`).
+//! | In Rust | In C |
+//! |---|---|
+//! | an event, which lends its body | a struct, whose kind says which fields count (`event_told`) |
+//! | its body | bytes in a slice of the caller's, as many as there is room for (`overwritten`) |
+//! | a result | a status and a number |
+//! | a clock, an identity, pieces | taken exactly if they are ones (`SaysClock`, `IsIdentity`) |
 //!
 //! `dgt_host_init` and its like make a handle in memory of C's, which holds nothing yet. Beyond
-//! them no call has a `requires`: what is left to a caller in C are the facts that a reference in
-//! Rust has by its type, as that it points to something, and that no other refers to it.
+//! them no call has a `requires`. What is left to a caller in C are the facts that a reference in
+//! Rust has by its type: it points to something, and no other refers to it.
 #![tactic(auto)]
 
 mod board_calls;
 mod checking;
 mod chunks;
-mod clock_sending;
 mod clocks;
-mod command_decoding;
+mod command_encoding;
 mod commands;
 mod copying;
-mod decoding;
+mod encoding;
 mod events;
-mod follower_sending;
 mod following;
 mod handles;
+mod header;
 mod hearing;
 pub mod laws;
 mod looking;
@@ -49,13 +50,9 @@ mod sending;
 mod starting;
 mod version;
 
-pub use board_calls::{DgtPolled, DgtTaken};
-pub use chunks::DgtTold;
-pub use clocks::{DgtClock, DgtTime};
-pub use commands::DgtCommand;
-pub use events::DgtEvent;
 pub use handles::{DgtBoard, DgtCommandDecoder, DgtDecoder, DgtFollower, DgtHost};
-pub use placements::DgtParsed;
+pub use header::{
+    DgtBody, DgtClock, DgtCommand, DgtEncoded, DgtEvent, DgtIdentity, DgtParsed, DgtPolled,
+    DgtSent, DgtTaken, DgtTime, DgtTold,
+};
 pub use places::{BoardPlace, CommandDecoderPlace, DecoderPlace, FollowerPlace, HostPlace};
-pub use sending::DgtSent;
-pub use starting::{DgtBody, DgtIdentity};

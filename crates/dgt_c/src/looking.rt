@@ -3,13 +3,15 @@
 ghost use Rattle.std.specs.Prelude.{◌≡◌, ◌↔◌, ◌≤◌, ◌++◌, length, drop, map, IsTrue, IsSome, MatchOption};
 ghost use Rattle.dgt_values.specs.Board.{piece_code};
 ghost use Rattle.dgt_values.specs.Placement.{placement_text};
+ghost use Rattle.dgt_decode.specs.Grammar.{open_message};
 ghost use Rattle.dgt_c.specs.Clocks.{clock_if_told};
 ghost use Rattle.dgt_c.specs.Kinds.{asking_code};
 ghost use Rattle.dgt_c.specs.Slices.{with_text};
 
-use crate::clocks::{DgtClock, UNKNOWN_CLOCK, clock_told};
-use crate::copying::{PLACEMENT_ROOM, put_placement};
+use crate::clocks::clock_told;
+use crate::copying::put_placement;
 use crate::handles::{DgtFollower, DgtHost};
+use crate::header::{DgtClock, PLACEMENT_ROOM, UNKNOWN_CLOCK};
 use dgt_host::{Host, MAX_AWAITED};
 use dgt_values::Kind;
 
@@ -124,6 +126,29 @@ pub extern "C" fn dgt_follower_clock(follower: &mut DgtFollower, clock: &mut Dgt
     *clock = clock_if_told(follower.get().host());
 }
 
+/// How many bytes were heard of an unfinished message.
+#[unsafe(no_mangle)]
+pub extern "C" fn dgt_host_unread(host: &mut DgtHost) -> usize
+    ensures place { host.new.at ≡ host.old.at }
+    ensures same { host.new.inside ≡ host.old.inside }
+    ensures length { result ≡ length host.old.inside.unread }
+    ensures all_open { open_message host.old.inside.unread ≡ host.old.inside.unread }
+{
+    host.get().unread()
+}
+
+/// How many bytes the follower's host has heard of an unfinished message.
+#[unsafe(no_mangle)]
+pub extern "C" fn dgt_follower_unread(follower: &mut DgtFollower) -> usize
+    ensures place { follower.new.at ≡ follower.old.at }
+    ensures same { follower.new.inside ≡ follower.old.inside }
+    ensures length { result ≡ length follower.old.inside.host.unread }
+    ensures all_open { open_message follower.old.inside.host.unread
+        ≡ follower.old.inside.host.unread }
+{
+    follower.get().host().unread()
+}
+
 // The byte of the command that asks for a reply of this kind.
 fn asking_code(kind: Kind) -> u8
     ensures { result ≡ asking_code kind }
@@ -138,7 +163,7 @@ fn asking_code(kind: Kind) -> u8
     }
 }
 
-// Writes the bytes of the commands that ask for these kinds to the front of the slice.
+// Writes the bytes of the commands that ask for these kinds at the beginning of the slice.
 fn put_kinds(kinds: &[Kind], codes: &mut [u8; MAX_AWAITED])
     requires { length kinds.now ≤ MAX_AWAITED }
     ensures { codes.new ≡ map asking_code kinds.now ++ drop (length kinds.now) codes.old }
@@ -148,8 +173,8 @@ fn put_kinds(kinds: &[Kind], codes: &mut [u8; MAX_AWAITED])
     }
 }
 
-/// How many replies are awaited. The bytes of the commands that asked for them stand at the front
-/// of the slice, in their order.
+/// How many replies are awaited. The bytes of the commands that asked for them are written at the
+/// beginning of the slice, in their order.
 #[unsafe(no_mangle)]
 pub extern "C" fn dgt_host_awaited(host: &mut DgtHost, codes: &mut [u8; MAX_AWAITED]) -> usize
     ensures place { host.new.at ≡ host.old.at }

@@ -2,22 +2,15 @@
 
 ghost use Rattle.std.specs.Prelude.{◌≡◌, ◌≤◌, ◌<◌, ℕ, List, false, length, map, slice_index, IsTrue};
 ghost use Rattle.dgt_values.specs.declared.pieces.Piece.{Piece};
-ghost use Rattle.dgt_values.specs.Board.{piece_code};
+ghost use Rattle.dgt_values.specs.Board.{DifferingSquares, piece_code};
 ghost use Rattle.dgt_values.specs.Placement.{IsFirstBadOffset, IsPlacement, ParsesPlacement, placement_text};
 ghost use Rattle.dgt_c.specs.Starting.{ArePieces};
 ghost use Rattle.dgt_c.specs.Slices.{with_text};
 
 use crate::checking::read_position;
-use crate::copying::{PLACEMENT_ROOM, put_placement};
+use crate::copying::put_placement;
+use crate::header::{DgtParsed, PLACEMENT_ROOM};
 use dgt_values::{BadPlacement, Position};
-
-/// What a text is read as, as dgt.h says it.
-#[repr(C)]
-#[derive(Clone, Copy)]
-pub struct DgtParsed {
-    pub ok: bool,
-    pub at: usize,
-}
 
 /// Writes the placement of the pieces with these codes, and a zero. False where one of them is the
 /// code of none, and then the slice stays.
@@ -34,6 +27,23 @@ pub extern "C" fn dgt_placement(pieces: &[u8; 64], text: &mut [u8; PLACEMENT_ROO
         }
         None => false,
     }
+}
+
+/// The squares on which two positions differ: bit n is set exactly if square n differs. False if a
+/// code is that of no piece, and then the mask stays.
+#[unsafe(no_mangle)]
+pub extern "C" fn dgt_differ(pieces: &[u8; 64], others: &[u8; 64], squares: &mut u64) -> bool
+    ensures differ { IsTrue result → (stand : List Piece) × (other : List Piece)
+        × (map piece_code stand ≡ pieces.now) × (map piece_code other ≡ others.now)
+        × DifferingSquares stand other squares.new }
+    ensures none { result ≡ false → ¬ (ArePieces pieces.now × ArePieces others.now)
+        × (squares.new ≡ squares.old) }
+{
+    let (Some(position), Some(other)) = (read_position(pieces), read_position(others)) else {
+        return false;
+    };
+    *squares = position.differ(&other);
+    true
 }
 
 // The offset of the first byte that is no ASCII, or the length.
@@ -66,8 +76,8 @@ fn parse_text(text: &[u8]) -> Result<Position, BadPlacement>
     }
 }
 
-/// Reads a placement. Where the text is none, the slice stays, and the offset is told from which on
-/// it is none.
+/// Reads a placement. If the text is none, the slice stays, and the offset is reported from which
+/// on it is none.
 #[unsafe(no_mangle)]
 pub extern "C" fn dgt_parse_placement(text: &[u8], pieces: &mut [u8; 64]) -> DgtParsed
     ensures read { IsTrue result.ok → (stand : List Piece) × IsPlacement text.now stand

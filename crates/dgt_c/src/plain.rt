@@ -5,10 +5,8 @@ ghost use Rattle.dgt_values.specs.declared.pieces.Piece.{Piece};
 ghost use Rattle.dgt_values.specs.Board.{piece_code, piece_letter, square_name};
 ghost use Rattle.dgt_values.specs.Segment.{IsShownBy};
 
+use crate::header::NONE;
 use dgt_values::{Piece, Square, segment};
-
-/// What stands for no piece, no square and no segments.
-pub const NONE: u8 = 255;
 
 /// The letter of a piece by its code, or 0.
 #[unsafe(no_mangle)]
@@ -36,7 +34,7 @@ pub extern "C" fn dgt_piece_code(letter: u8) -> u8
     }
 }
 
-/// Writes the name of a square and a zero. False where there is no such square, and then the slice
+/// Writes the name of a square and a zero. False if there is no such square, and then the slice
 /// stays.
 #[unsafe(no_mangle)]
 pub extern "C" fn dgt_square_name(square: u8, name: &mut [u8; 3]) -> bool

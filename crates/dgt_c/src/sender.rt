@@ -8,7 +8,8 @@ ghost use Rattle.dgt_host.specs.Host.{HostView, Sends};
 ghost use Rattle.dgt_c.specs.ClockSending.{SendsDisplay, SendsMessage};
 ghost use Rattle.dgt_c.specs.Sent.{RefusesCommand, SendsTold};
 
-use crate::sending::{DgtSent, NO_SUCH_COMMAND, sent_told};
+use crate::header::{DgtSent, NO_SUCH_COMMAND};
+use crate::sending::sent_told;
 use dgt_command::{ClockCommand, Command, LedBytes, MAX_PAYLOAD, MAX_WORD, display, view_command};
 use dgt_follow::Follower;
 use dgt_host::{Host, SendFault};
@@ -85,8 +86,8 @@ pub(crate) fn send_leds<S: Sender>(sender: &mut S, leds: &[u8], out: &mut [u8]) 
     }
 }
 
-// Fills the slice with the clock message of this id that carries these bytes.
-fn spell_clock(id: u8, payload: &[u8], out: &mut [u8])
+/// Fills the slice with the clock message of this id that carries these bytes.
+pub(crate) fn spell_clock(id: u8, payload: &[u8], out: &mut [u8])
     requires short { length payload.now ≤ MAX_PAYLOAD }
     requires fits { length out.old ≡ length payload.now + 5 }
     ensures { out.new ≡ command_spelling

@@ -1,56 +1,31 @@
-//! What C has a host send.
+//! What C has a host and a follower send.
 
 ghost use Rattle.std.specs.Prelude.{◌≡◌, ◌≢◌, ◌≤◌, ◌<◌, ◌∷◌, [], Some, None, length};
-ghost use Rattle.dgt_command.specs.Content.{CommandContent, kind_of_command};
+ghost use Rattle.dgt_command.specs.Content.{CommandContent, kind_of_command, known_clock};
 ghost use Rattle.dgt_command.specs.Spelling.{command_spelling};
 ghost use Rattle.dgt_command.specs.declared.carried.TheConstants.{MAX_LED_BYTES, MAX_PAYLOAD};
 ghost use Rattle.dgt_values.specs.declared.kinds.Kind.TheVariants as kind;
 ghost use Rattle.dgt_host.specs.Host.{follow_bytes, restart_bytes};
 ghost use Rattle.dgt_c.specs.Sent.{RefusesCommand, SendsTold, sent_told};
+ghost use Rattle.dgt_command.specs.declared.clock.ClockCommand.TheVariants as clock;
+ghost use Rattle.dgt_command.specs.declared.ids.KnownId.{KnownId};
+ghost use Rattle.dgt_c.specs.ClockSending.{SendsClock, SendsDisplay, SendsMessage};
 
-use crate::handles::DgtHost;
-use crate::sender::{send_clock, send_leds, send_word};
+use crate::handles::{DgtFollower, DgtHost};
+use crate::header::{DgtSent, SENT, SENT_NO_ROOM, SENT_TOO_MANY};
+use crate::sender::{send_clock, send_display, send_leds, send_message, send_word};
+use dgt_command::{ClockCommand, KnownId};
 use dgt_host::SendFault;
-
-pub const SENT: u8 = 0;
-
-pub const SENT_TOO_MANY: u8 = 1;
-
-pub const SENT_NO_ROOM: u8 = 2;
-
-pub const SENT_NO_COMMAND: u8 = 3;
-
-/// How a sending went, as dgt.h says it.
-#[repr(C)]
-#[derive(Clone, Copy)]
-pub struct DgtSent {
-    pub status: u8,
-    pub bytes: usize,
-}
-
-/// That there is no such command.
-pub const NO_SUCH_COMMAND: DgtSent = DgtSent {
-    status: SENT_NO_COMMAND,
-    bytes: 0,
-};
 
 pub(crate) fn sent_told(outcome: Result<usize, SendFault>) -> DgtSent
     ensures { result ≡ sent_told outcome }
 {
-    match outcome {
-        Ok(bytes) => DgtSent {
-            status: SENT,
-            bytes,
-        },
-        Err(SendFault::TooMany) => DgtSent {
-            status: SENT_TOO_MANY,
-            bytes: 0,
-        },
-        Err(SendFault::NoRoom { need }) => DgtSent {
-            status: SENT_NO_ROOM,
-            bytes: need,
-        },
-    }
+    let (status, bytes) = match outcome {
+        Ok(bytes) => (SENT, bytes),
+        Err(SendFault::TooMany) => (SENT_TOO_MANY, 0),
+        Err(SendFault::NoRoom { need }) => (SENT_NO_ROOM, need),
+    };
+    DgtSent { status, bytes }
 }
 
 /// Asks for all squares, and for each change from then on.
@@ -63,7 +38,7 @@ pub extern "C" fn dgt_host_follow(host: &mut DgtHost, out: &mut [u8]) -> DgtSent
     sent_told(host.get().follow(out))
 }
 
-/// The same, behind zeros that end whatever command the board is in the middle of.
+/// The same, after zeros that end whatever command the board is in the middle of.
 #[unsafe(no_mangle)]
 pub extern "C" fn dgt_host_restart(host: &mut DgtHost, out: &mut [u8]) -> DgtSent
     ensures place { host.new.at ≡ host.old.at }
@@ -119,4 +94,303 @@ pub extern "C" fn dgt_host_send_clock(
         RefusesCommand host.old.inside host.new.inside out.old out.new result }
 {
     send_clock(host.get(), id, payload, out)
+}
+
+/// Sends the command that is this byte alone, if one is.
+#[unsafe(no_mangle)]
+pub extern "C" fn dgt_follower_send(follower: &mut DgtFollower, code: u8, out: &mut [u8]) -> DgtSent
+    ensures place { follower.new.at ≡ follower.old.at }
+    ensures sends { (said : CommandContent) → code ∷ [] ≡ command_spelling said →
+        SendsTold (record { kind = kind_of_command said; bytes = code ∷ [] })
+        follower.old.inside.host follower.new.inside.host out.old out.new result }
+    ensures refused { ((said : CommandContent) → code ∷ [] ≢ command_spelling said) →
+        RefusesCommand follower.old.inside.host follower.new.inside.host out.old out.new result }
+    ensures pace { follower.new.inside.pace ≡ follower.old.inside.pace }
+{
+    send_word(follower.get(), &[code], out)
+}
+
+/// Lights these LEDs.
+#[unsafe(no_mangle)]
+pub extern "C" fn dgt_follower_send_leds(
+    follower: &mut DgtFollower,
+    leds: &[u8],
+    out: &mut [u8],
+) -> DgtSent
+    ensures place { follower.new.at ≡ follower.old.at }
+    ensures sends { length leds.now ≤ MAX_LED_BYTES →
+        SendsTold (record { kind = None; bytes = command_spelling (CommandContent.Leds leds.now) })
+        follower.old.inside.host follower.new.inside.host out.old out.new result }
+    ensures refused { MAX_LED_BYTES < length leds.now →
+        RefusesCommand follower.old.inside.host follower.new.inside.host out.old out.new result }
+    ensures pace { follower.new.inside.pace ≡ follower.old.inside.pace }
+{
+    send_leds(follower.get(), leds, out)
+}
+
+/// Sends the clock message of this id that carries these bytes.
+#[unsafe(no_mangle)]
+pub extern "C" fn dgt_follower_send_clock(
+    follower: &mut DgtFollower,
+    id: u8,
+    payload: &[u8],
+    out: &mut [u8],
+) -> DgtSent
+    ensures place { follower.new.at ≡ follower.old.at }
+    ensures sends { length payload.now ≤ MAX_PAYLOAD →
+        SendsTold (record {
+          kind = None;
+          bytes = command_spelling
+              (CommandContent.ClockMessage (record { id = id; payload = payload.now }));
+        })
+        follower.old.inside.host follower.new.inside.host out.old out.new result }
+    ensures refused { MAX_PAYLOAD < length payload.now →
+        RefusesCommand follower.old.inside.host follower.new.inside.host out.old out.new result }
+    ensures pace { follower.new.inside.pace ≡ follower.old.inside.pace }
+{
+    send_clock(follower.get(), id, payload, out)
+}
+
+/// Shows six digits, spaces and hyphens on the display, from left to right.
+#[unsafe(no_mangle)]
+pub extern "C" fn dgt_host_send_display(
+    host: &mut DgtHost,
+    text: &[u8; 6],
+    dots: u8,
+    beep: u8,
+    out: &mut [u8],
+) -> DgtSent
+    ensures place { host.new.at ≡ host.old.at }
+    ensures sends { SendsDisplay text.now dots beep
+        host.old.inside host.new.inside out.old out.new result }
+{
+    send_display(host.get(), text, dots, beep, out)
+}
+
+/// Shows eight characters, from left to right.
+#[unsafe(no_mangle)]
+pub extern "C" fn dgt_host_send_text(
+    host: &mut DgtHost,
+    text: &[u8; 8],
+    beep: u8,
+    out: &mut [u8],
+) -> DgtSent
+    ensures place { host.new.at ≡ host.old.at }
+    ensures sends { SendsMessage (clock.Text text.now beep)
+        host.old.inside host.new.inside out.old out.new result }
+{
+    send_message(
+        host.get(),
+        ClockCommand::Text {
+            letters: *text,
+            beep,
+        },
+        out,
+    )
+}
+
+/// Beeps for this duration.
+#[unsafe(no_mangle)]
+pub extern "C" fn dgt_host_send_beep(host: &mut DgtHost, duration: u8, out: &mut [u8]) -> DgtSent
+    ensures place { host.new.at ≡ host.old.at }
+    ensures sends { SendsMessage (clock.Beep duration)
+        host.old.inside host.new.inside out.old out.new result }
+{
+    send_message(host.get(), ClockCommand::Beep(duration), out)
+}
+
+/// Sets the times of both sides, in hours, minutes and seconds. What `control` does is the clock's.
+#[unsafe(no_mangle)]
+pub extern "C" fn dgt_host_send_set_and_run(
+    host: &mut DgtHost,
+    left: &[u8; 3],
+    right: &[u8; 3],
+    control: u8,
+    out: &mut [u8],
+) -> DgtSent
+    ensures place { host.new.at ≡ host.old.at }
+    ensures sends { SendsMessage (clock.SetAndRun left.now right.now control)
+        host.old.inside host.new.inside out.old out.new result }
+{
+    let (left, right) = (*left, *right);
+    let message = ClockCommand::SetAndRun {
+        left,
+        right,
+        control,
+    };
+    send_message(host.get(), message, out)
+}
+
+/// Shows the icons of these bytes.
+#[unsafe(no_mangle)]
+pub extern "C" fn dgt_host_send_icons(host: &mut DgtHost, icons: &[u8], out: &mut [u8]) -> DgtSent
+    ensures place { host.new.at ≡ host.old.at }
+    ensures sends { length icons.now ≤ MAX_PAYLOAD →
+        SendsClock (known_clock KnownId.Icons icons.now)
+        host.old.inside host.new.inside out.old out.new result }
+    ensures refused { MAX_PAYLOAD < length icons.now →
+        RefusesCommand host.old.inside host.new.inside out.old out.new result }
+{
+    send_clock(host.get(), KnownId::Icons.number(), icons, out)
+}
+
+/// Ends what is shown, so that the times are shown again.
+#[unsafe(no_mangle)]
+pub extern "C" fn dgt_host_send_end(host: &mut DgtHost, out: &mut [u8]) -> DgtSent
+    ensures place { host.new.at ≡ host.old.at }
+    ensures sends { SendsMessage clock.End host.old.inside host.new.inside out.old out.new result }
+{
+    send_message(host.get(), ClockCommand::End, out)
+}
+
+/// Asks for the state of the clock's buttons.
+#[unsafe(no_mangle)]
+pub extern "C" fn dgt_host_send_button(host: &mut DgtHost, out: &mut [u8]) -> DgtSent
+    ensures place { host.new.at ≡ host.old.at }
+    ensures sends { SendsMessage clock.Button
+        host.old.inside host.new.inside out.old out.new result }
+{
+    send_message(host.get(), ClockCommand::Button, out)
+}
+
+/// Asks for the version of the clock.
+#[unsafe(no_mangle)]
+pub extern "C" fn dgt_host_send_clock_version(host: &mut DgtHost, out: &mut [u8]) -> DgtSent
+    ensures place { host.new.at ≡ host.old.at }
+    ensures sends { SendsMessage clock.Version
+        host.old.inside host.new.inside out.old out.new result }
+{
+    send_message(host.get(), ClockCommand::Version, out)
+}
+
+/// Shows six digits, spaces and hyphens on the display, from left to right.
+#[unsafe(no_mangle)]
+pub extern "C" fn dgt_follower_send_display(
+    follower: &mut DgtFollower,
+    text: &[u8; 6],
+    dots: u8,
+    beep: u8,
+    out: &mut [u8],
+) -> DgtSent
+    ensures place { follower.new.at ≡ follower.old.at }
+    ensures sends { SendsDisplay text.now dots beep
+        follower.old.inside.host follower.new.inside.host out.old out.new result }
+    ensures pace { follower.new.inside.pace ≡ follower.old.inside.pace }
+{
+    send_display(follower.get(), text, dots, beep, out)
+}
+
+/// Shows eight characters, from left to right.
+#[unsafe(no_mangle)]
+pub extern "C" fn dgt_follower_send_text(
+    follower: &mut DgtFollower,
+    text: &[u8; 8],
+    beep: u8,
+    out: &mut [u8],
+) -> DgtSent
+    ensures place { follower.new.at ≡ follower.old.at }
+    ensures sends { SendsMessage (clock.Text text.now beep)
+        follower.old.inside.host follower.new.inside.host out.old out.new result }
+    ensures pace { follower.new.inside.pace ≡ follower.old.inside.pace }
+{
+    send_message(
+        follower.get(),
+        ClockCommand::Text {
+            letters: *text,
+            beep,
+        },
+        out,
+    )
+}
+
+/// Beeps for this duration.
+#[unsafe(no_mangle)]
+pub extern "C" fn dgt_follower_send_beep(
+    follower: &mut DgtFollower,
+    duration: u8,
+    out: &mut [u8],
+) -> DgtSent
+    ensures place { follower.new.at ≡ follower.old.at }
+    ensures sends { SendsMessage (clock.Beep duration)
+        follower.old.inside.host follower.new.inside.host out.old out.new result }
+    ensures pace { follower.new.inside.pace ≡ follower.old.inside.pace }
+{
+    send_message(follower.get(), ClockCommand::Beep(duration), out)
+}
+
+/// Sets the times of both sides, in hours, minutes and seconds. What `control` does is the clock's.
+#[unsafe(no_mangle)]
+pub extern "C" fn dgt_follower_send_set_and_run(
+    follower: &mut DgtFollower,
+    left: &[u8; 3],
+    right: &[u8; 3],
+    control: u8,
+    out: &mut [u8],
+) -> DgtSent
+    ensures place { follower.new.at ≡ follower.old.at }
+    ensures sends { SendsMessage (clock.SetAndRun left.now right.now control)
+        follower.old.inside.host follower.new.inside.host out.old out.new result }
+    ensures pace { follower.new.inside.pace ≡ follower.old.inside.pace }
+{
+    let (left, right) = (*left, *right);
+    let message = ClockCommand::SetAndRun {
+        left,
+        right,
+        control,
+    };
+    send_message(follower.get(), message, out)
+}
+
+/// Shows the icons of these bytes.
+#[unsafe(no_mangle)]
+pub extern "C" fn dgt_follower_send_icons(
+    follower: &mut DgtFollower,
+    icons: &[u8],
+    out: &mut [u8],
+) -> DgtSent
+    ensures place { follower.new.at ≡ follower.old.at }
+    ensures sends { length icons.now ≤ MAX_PAYLOAD →
+        SendsClock (known_clock KnownId.Icons icons.now)
+        follower.old.inside.host follower.new.inside.host out.old out.new result }
+    ensures refused { MAX_PAYLOAD < length icons.now →
+        RefusesCommand follower.old.inside.host follower.new.inside.host out.old out.new result }
+    ensures pace { follower.new.inside.pace ≡ follower.old.inside.pace }
+{
+    send_clock(follower.get(), KnownId::Icons.number(), icons, out)
+}
+
+/// Ends what is shown, so that the times are shown again.
+#[unsafe(no_mangle)]
+pub extern "C" fn dgt_follower_send_end(follower: &mut DgtFollower, out: &mut [u8]) -> DgtSent
+    ensures place { follower.new.at ≡ follower.old.at }
+    ensures sends { SendsMessage clock.End
+        follower.old.inside.host follower.new.inside.host out.old out.new result }
+    ensures pace { follower.new.inside.pace ≡ follower.old.inside.pace }
+{
+    send_message(follower.get(), ClockCommand::End, out)
+}
+
+/// Asks for the state of the clock's buttons.
+#[unsafe(no_mangle)]
+pub extern "C" fn dgt_follower_send_button(follower: &mut DgtFollower, out: &mut [u8]) -> DgtSent
+    ensures place { follower.new.at ≡ follower.old.at }
+    ensures sends { SendsMessage clock.Button
+        follower.old.inside.host follower.new.inside.host out.old out.new result }
+    ensures pace { follower.new.inside.pace ≡ follower.old.inside.pace }
+{
+    send_message(follower.get(), ClockCommand::Button, out)
+}
+
+/// Asks for the version of the clock.
+#[unsafe(no_mangle)]
+pub extern "C" fn dgt_follower_send_clock_version(
+    follower: &mut DgtFollower,
+    out: &mut [u8],
+) -> DgtSent
+    ensures place { follower.new.at ≡ follower.old.at }
+    ensures sends { SendsMessage clock.Version
+        follower.old.inside.host follower.new.inside.host out.old out.new result }
+    ensures pace { follower.new.inside.pace ≡ follower.old.inside.pace }
+{
+    send_message(follower.get(), ClockCommand::Version, out)
 }

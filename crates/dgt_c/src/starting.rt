@@ -3,45 +3,19 @@
 ghost use Rattle.std.specs.Prelude.{◌≡◌, ◌≢◌, ◌≤◌, List, MatchOption, map};
 ghost use Rattle.dgt_values.specs.Board.{piece_code};
 ghost use Rattle.dgt_values.specs.declared.pieces.Piece.{Piece};
-ghost use Rattle.dgt_values.specs.Bytes.{AreSevenBit, body_bytes, number};
+ghost use Rattle.dgt_values.specs.Bytes.{body_bytes};
 ghost use Rattle.dgt_message.specs.Clock.{ClockState};
 ghost use Rattle.dgt_c.specs.Clocks.{SaysClock};
 ghost use Rattle.dgt_c.specs.Starting.{ArePieces, IsBody, IsIdentity, Starts, body_in, identity_in};
 
-use crate::checking::{are_seven_bit, read_position};
-use crate::clocks::{DgtClock, read_clock};
+use crate::checking::{read_position, read_seven_bits};
+use crate::clocks::read_clock;
 use crate::handles::DgtBoard;
+use crate::header::{
+    DgtBody, DgtClock, DgtIdentity, START_BAD_CLOCK, START_BAD_IDENTITY, START_BAD_PIECES, STARTED,
+};
 use dgt_board::{Board, Identity, MAX_KEPT_BODY};
 use dgt_values::{Body, SevenBit};
-
-pub const STARTED: u8 = 0;
-
-pub const START_BAD_PIECES: u8 = 1;
-
-pub const START_BAD_CLOCK: u8 = 2;
-
-pub const START_BAD_IDENTITY: u8 = 3;
-
-/// The bytes of a body, as dgt.h says it.
-#[repr(C)]
-#[derive(Clone, Copy)]
-pub struct DgtBody {
-    pub len: usize,
-    pub bytes: [u8; MAX_KEPT_BODY],
-}
-
-/// What a board tells of itself, as dgt.h says it.
-#[repr(C)]
-#[derive(Clone, Copy)]
-pub struct DgtIdentity {
-    pub serial: [u8; 5],
-    pub main_number: u8,
-    pub sub_number: u8,
-    pub clock_version: u8,
-    pub trademark: DgtBody,
-    pub battery: DgtBody,
-    pub long_serial: DgtBody,
-}
 
 // The body that C says, where it is one.
 fn read_body<'a>(said: &'a DgtBody) -> Option<Body<'a>>
@@ -54,29 +28,12 @@ fn read_body<'a>(said: &'a DgtBody) -> Option<Body<'a>>
     Body::new(&said.bytes[..said.len]).ok()
 }
 
-fn read_serial(serial: [u8; 5]) -> Option<[SevenBit; 5]>
-    ensures { MatchOption result (¬ (AreSevenBit serial))
-        (λ read. (map number read ≡ serial) × AreSevenBit serial) }
-{
-    if !are_seven_bit(&serial) {
-        return None;
-    }
-    let [a, b, c, d, e] = serial;
-    Some([
-        SevenBit::from_small(a),
-        SevenBit::from_small(b),
-        SevenBit::from_small(c),
-        SevenBit::from_small(d),
-        SevenBit::from_small(e),
-    ])
-}
-
 // The identity that C says, where it is one.
 fn read_identity(said: &DgtIdentity) -> Option<Identity>
     ensures { MatchOption result (¬ (IsIdentity said.now))
         (λ identity. IsIdentity said.now × (identity ≡ identity_in said.now)) }
 {
-    let serial = read_serial(said.serial)?;
+    let serial = read_seven_bits(&said.serial)?;
     let main = SevenBit::try_from(said.main_number).ok()?;
     let sub = SevenBit::try_from(said.sub_number).ok()?;
     let trademark = read_body(&said.trademark)?;

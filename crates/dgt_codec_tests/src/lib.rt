@@ -5,12 +5,4 @@
 #![tactic(auto)]
 
 #[cfg(test)]
-mod asserting;
-#[cfg(test)]
-mod commanding;
-#[cfg(test)]
-mod decoding;
-#[cfg(test)]
-mod messages;
-#[cfg(test)]
-mod values;
+mod tests;

@@ -46,14 +46,14 @@ is_bare (command.ClockMessage message) = false
 is_bare (command.Leds leds) = false
 is_bare _ = true
 
--- such a command is spelled by its code
+-- such a command is encoded by its code
 spelled_by_code : (each : Command) → is_bare each ≡ true
     → HasForm (Read (command_content each)) (command_code (command_content each) ∷ [])
 spelled_by_code (command.ClockMessage message) h = cc
 spelled_by_code (command.Leds leds) h = cc
 spelled_by_code _ h = refl
 
--- the command that is found is spelled by the byte
+-- the command that is found is encoded by the byte
 pub bare_form : (byte : ℕ) (each : Command) → bare_command byte ≡ Some each
     → HasForm (Read (command_content each)) (byte ∷ [])
 bare_form byte each e =

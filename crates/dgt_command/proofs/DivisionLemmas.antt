@@ -14,21 +14,21 @@ use Rattle.dgt_command.specs.Laws.{EachDividesOnce, NoWordBeginsAPart, NoWordBeg
 use Rattle.dgt_command.proofs.WordLemmas.{body_length, form_length, same_word, begins, clock_word}
 use Rattle.dgt_command.proofs.CodeLemmas.{no_command}
 
--- so many zeros
+-- this many zeros
 abbrev pub zeros : ℕ → List ℕ
 zeros n = replicate n 0
 
--- so many zeros are so many bytes
+-- this many zeros are this many bytes
 length_zeros : (n : ℕ) → length (zeros n) ≡ n
 length_zeros n = length-replicate {A = ℕ} n 0
 
--- bytes behind bytes are bytes
+-- bytes after bytes are bytes
 pub bytes_append : (xs ys : List ℕ) → AreBytes xs → AreBytes ys → AreBytes (xs ++ ys)
 bytes_append [] ys h k i = k i
 bytes_append (x ∷ xs) ys h k zero = h 0
 bytes_append (x ∷ xs) ys h k (suc i) = bytes_append xs ys (λ j. h (suc j)) k i
 
--- the front of bytes is bytes
+-- the beginning of bytes is bytes
 pub bytes_left : (xs ys : List ℕ) → AreBytes (xs ++ ys) → AreBytes xs
 bytes_left [] ys h i = omega arith
 bytes_left (x ∷ xs) ys h zero = h 0
@@ -189,7 +189,7 @@ short_from_IsPartial r partial = elim (cases_lt (length r) (word_length r)) [
 pub no_word_within : NoWordBeginsAPart
 no_word_within e w x word partial = not_both (w ++ x) e w x partial word.form refl
 
--- bytes behind a part of a word are bytes with it
+-- bytes after a part of a word are bytes with it
 pub partial_bytes : (r more : List ℕ) → IsPartial r → AreBytes more → AreBytes (r ++ more)
 partial_bytes r more partial are =
     bytes_append r more (bytes_left r (partial.next ∷ partial.more) partial.word.are_bytes) are
@@ -276,7 +276,7 @@ no_word_begins_another e f w v more h k is =
     let same = same_word e f w v more [] h.form k.form (sym is ∙ sym (append-nil v)) in
     (same.event, same.after)
 
--- spellings in a row divide into their commands
+-- encodings in a row divide into their commands
 read_back : (cs : List CommandContent) → AllByRecursion (λ c. SpellsCommand c (command_spelling c)) cs
     → Divides (flat_map command_spelling cs) (map Read cs) []
 read_back [] h = (refl, nothing_is_partial)
@@ -309,7 +309,7 @@ divides_front s t (e ∷ es) (f ∷ fs) r q h k =
       on.2,
     )
 
--- so they do behind words
+-- so they do after words
 pub commands_are_read_back : CommandsAreReadBack
 commands_are_read_back bytes es cs h all = Divides-append bytes (flat_map command_spelling cs) es (map Read cs) [] [] h
     (read_back cs all)

@@ -12,7 +12,7 @@ use Rattle.dgt_values.specs.Equality.{EqualIsSameReadOf}
 use Rattle.dgt_command.specs.Equality.{HasArrays}
 use Rattle.dgt_command.specs.Ids.{has_own_case}
 use Rattle.dgt_command.specs.contracts.clock.ClockCommandPartialEq.TheImpl as derived_clock
-use Rattle.dgt_command.proofs.ListLemmas.{three, six, eight}
+use Rattle.dgt_command.proofs.ListLemmas.{members}
 
 -- two lists of numbers are equal exactly where they are the same
 pub equal_bytes : (xs ys : List ℕ) → IsTrue (pointwise nat_eq xs ys) ↔ (xs ≡ ys)
@@ -62,7 +62,7 @@ same_display : (places others : List ℕ) (dots more beep long : ℕ) → length
     ↔ (clock_content (clock.Display places dots beep) ≡ clock_content (clock.Display others more long))
 same_display places others dots more beep long h k = (
   λ parts. λ i. clock_content (clock.Display (parts.0 i) (parts.1.0 i) (parts.1.1 i)),
-  λ e. (six places h ∙ ap places_of e ∙ sym (six others k), (ap (byte_of 6) e, ap (byte_of 7) e)),
+  λ e. (members 6 places h ∙ ap places_of e ∙ sym (members 6 others k), (ap (byte_of 6) e, ap (byte_of 7) e)),
 )
 
 -- settings say the same exactly where their parts are the same
@@ -73,8 +73,8 @@ same_setting : (left other right another : List ℕ) (control byte : ℕ)
 same_setting left other right another control byte h k m n = (
   λ parts. λ i. clock_content (clock.SetAndRun (parts.0 i) (parts.1.0 i) (parts.1.1 i)),
   λ e. (
-    three left h ∙ ap left_of e ∙ sym (three other k),
-    (three right m ∙ ap right_of e ∙ sym (three another n), ap (byte_of 6) e),
+    members 3 left h ∙ ap left_of e ∙ sym (members 3 other k),
+    (members 3 right m ∙ ap right_of e ∙ sym (members 3 another n), ap (byte_of 6) e),
   ),
 )
 
@@ -84,7 +84,7 @@ same_text : (letters others : List ℕ) (beep long : ℕ) → length letters ≡
     ↔ (clock_content (clock.Text letters beep) ≡ clock_content (clock.Text others long))
 same_text letters others beep long h k = (
   λ parts. λ i. clock_content (clock.Text (parts.0 i) (parts.1 i)),
-  λ e. (eight letters h ∙ ap letters_of e ∙ sym (eight others k), ap (byte_of 8) e),
+  λ e. (members 8 letters h ∙ ap letters_of e ∙ sym (members 8 others k), ap (byte_of 8) e),
 )
 
 -- a raw clock message says nothing that has a case of its own

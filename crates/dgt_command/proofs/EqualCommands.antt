@@ -1,4 +1,4 @@
--- What the derived `==` says of commands and of events. Different commands are told apart by their codes, and events by
+-- What the derived `==` says of commands and of events. Different commands differ in their codes, and events by
 -- a number a case.
 use Rattle.std.proofs.Common.{◌≡◌, ℕ, refl, ap, List, []}
 use Rattle.std.proofs.lemmas.Bool.Decides.{Decides-and, Decides-eqb}
@@ -55,7 +55,7 @@ event_case_of content.BadStart = 2
 event_case_of content.BadEnd = 3
 event_case_of (content.Stray byte) = 4
 
--- the command that an event tells, and the byte of a stray one
+-- the command that an event reports, and the byte of a stray one
 abbrev read_of : EventContent → CommandContent
 read_of (content.Read read) = read
 read_of _ = content.Reset
@@ -64,7 +64,7 @@ abbrev byte_of : EventContent → ℕ
 byte_of (content.Stray byte) = byte
 byte_of _ = 0
 
--- two events are equal exactly where they tell the same
+-- two events are equal exactly where they report the same
 pub equal_events : EqualIsSameReadOf EventHasArrays command_event_content (derived_event.eq-value).it
 equal_events (event.Command a) (event.Command b) h k =
     let same = equal_commands a b h k in
@@ -87,7 +87,7 @@ abbrev how_many : Option EventContent → ℕ
 how_many (Some told) = 1
 how_many None = 0
 
--- two events, or none, are equal exactly where they tell the same
+-- two events, or none, are equal exactly where they report the same
 equal_found : (a b : Option CommandEvent) → IfSome a EventHasArrays → IfSome b EventHasArrays
     → IsTrue (option_eq (derived_event.eq-value).it a b) ↔
     (option_map command_event_content a ≡ option_map command_event_content b)
@@ -98,7 +98,7 @@ equal_found None None h k = (λ _. refl, λ _. refl)
 equal_found (Some a) None h k = differ how_many (Some (command_event_content a)) None refl
 equal_found None (Some b) h k = differ how_many None (Some (command_event_content b)) refl
 
--- two answers are equal exactly where they use and tell the same
+-- two answers are equal exactly where they use and report the same
 pub equal_fed : EqualIsSameReadOf FedHasArrays fed_seen (derived_fed.eq-value).it
 equal_fed a b h k =
     let same = Decides-and _ _ (Decides-eqb a.used b.used) (equal_found a.event b.event h k) in

@@ -1,37 +1,20 @@
--- A list of so many members, by its places.
-use Rattle.std.proofs.Common.{◌≡◌, ℕ, List, [], ◌∷◌, length, get_or, refl, ap, arith}
+-- A list by its places.
+use Rattle.std.proofs.Common.{◌≡◌, ℕ, zero, suc, List, [], ◌∷◌, length, get_or, refl, sym, ◌∙◌, ap, arith}
 
-pub one : (xs : List ℕ) → length xs ≡ 1 → xs ≡ get_or xs 0 0 ∷ []
-one (a ∷ []) h = refl
-one [] h = absurd (omega arith)
-one (a ∷ b ∷ xs) h = absurd (omega arith)
+-- the members at the next places, from this one on
+abbrev pub at_places : ℕ → ℕ → List ℕ → List ℕ
+at_places from zero xs = []
+at_places from (suc count) xs = get_or xs from 0 ∷ at_places (suc from) count xs
 
-pub three : (xs : List ℕ) → length xs ≡ 3 → xs ≡ get_or xs 0 0 ∷ get_or xs 1 0 ∷ get_or xs 2 0 ∷ []
-three (a ∷ b ∷ xs) h = ap (λ ys. a ∷ b ∷ ys) (one xs (omega arith))
-three [] h = absurd (omega arith)
-three (a ∷ []) h = absurd (omega arith)
+-- each stands one place later in a list that has one member more before them
+one_later : (from count a : ℕ) (xs : List ℕ) → at_places (suc from) count (a ∷ xs) ≡ at_places from count xs
+one_later from zero a xs = refl
+one_later from (suc count) a xs = ap (λ l. get_or xs from 0 ∷ l) (one_later (suc from) count a xs)
 
-pub six : (xs : List ℕ) → length xs ≡ 6
-    → xs ≡ get_or xs 0 0 ∷ get_or xs 1 0 ∷ get_or xs 2 0 ∷ get_or xs 3 0 ∷ get_or xs 4 0 ∷ get_or xs 5 0 ∷ []
-six (a ∷ b ∷ c ∷ xs) h = ap (λ ys. a ∷ b ∷ c ∷ ys) (three xs (omega arith))
-six [] h = absurd (omega arith)
-six (a ∷ []) h = absurd (omega arith)
-six (a ∷ b ∷ []) h = absurd (omega arith)
-
-pub seven : (xs : List ℕ) → length xs ≡ 7
-    → xs ≡ get_or xs 0 0 ∷ get_or xs 1 0 ∷ get_or xs 2 0 ∷ get_or xs 3 0 ∷ get_or xs 4 0 ∷ get_or xs 5 0
-    ∷ get_or xs 6 0 ∷ []
-seven (a ∷ xs) h = ap (λ ys. a ∷ ys) (six xs (omega arith))
-seven [] h = absurd (omega arith)
-
-pub eight : (xs : List ℕ) → length xs ≡ 8
-    → xs ≡ get_or xs 0 0 ∷ get_or xs 1 0 ∷ get_or xs 2 0 ∷ get_or xs 3 0 ∷ get_or xs 4 0 ∷ get_or xs 5 0
-    ∷ get_or xs 6 0 ∷ get_or xs 7 0 ∷ []
-eight (a ∷ xs) h = ap (λ ys. a ∷ ys) (seven xs (omega arith))
-eight [] h = absurd (omega arith)
-
-pub nine : (xs : List ℕ) → length xs ≡ 9
-    → xs ≡ get_or xs 0 0 ∷ get_or xs 1 0 ∷ get_or xs 2 0 ∷ get_or xs 3 0 ∷ get_or xs 4 0 ∷ get_or xs 5 0
-    ∷ get_or xs 6 0 ∷ get_or xs 7 0 ∷ get_or xs 8 0 ∷ []
-nine (a ∷ xs) h = ap (λ ys. a ∷ ys) (eight xs (omega arith))
-nine [] h = absurd (omega arith)
+-- a list has the members at its places
+pub members : (count : ℕ) (xs : List ℕ) → length xs ≡ count → xs ≡ at_places 0 count xs
+members zero [] h = refl
+members zero (a ∷ xs) h = absurd (omega (arith, h))
+members (suc count) [] h = absurd (omega (arith, h))
+members (suc count) (a ∷ xs) h =
+    ap (λ l. a ∷ l) (members count xs (omega (arith, h)) ∙ sym (one_later 0 count a xs))

@@ -1,4 +1,4 @@
--- A spelling tells its command.
+-- An encoding reports its command.
 use Rattle.std.proofs.Common.{◌≡◌, ℕ, ◌-◌, List, [], ◌∷◌, ◌++◌, length, take, refl, sym, ap, ◌∙◌, arith, length-append, Option, Some, None}
 use Rattle.std.proofs.lemmas.List.{take_at}
 use Rattle.std.specs.Prelude.{IfSome, slice_index}
@@ -9,7 +9,7 @@ use Rattle.dgt_command.specs.Spelling.{IsSpelling, bare_command, command_in, com
 use Rattle.dgt_command.specs.Words.{IsWord}
 use Rattle.dgt_command.proofs.CodeLemmas.{bare_form}
 
--- the one spelling of a command tells it
+-- the one encoding of a command reports it
 spelled_command : (c : CommandContent) → command_in (command_spelling c) ≡ c
 unfolding command_in
 spelled_command (ClockMessage message) =
@@ -20,11 +20,11 @@ spelled_command (ClockMessage message) =
     ap (λ (p : List ℕ). ClockMessage (record { id = message.id; payload = p })) front
 spelled_command _ = refl
 
--- what spells a command tells it
+-- what encodes a command reports it
 pub spells_its_command : SpellingsTellCommands
 spells_its_command c word h = ap command_in h.spelled ∙ spelled_command c
 
--- a spelling is a word of the command that it tells
+-- an encoding is a word of the command that it reports
 pub told_word : (c : CommandContent) (word : List ℕ) → SpellsCommand c word → IsWord (Read (command_in word)) word
 told_word c word h = rw (spells_its_command c word h) (record { form = h.spelled; are_bytes = h.are_bytes })
 

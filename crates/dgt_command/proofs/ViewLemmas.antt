@@ -13,7 +13,7 @@ by_last (x ∷ xs) h =
     subst (λ (ys : List ℕ). ys ≡ take (length ys - 1) ys ++ get_or ys (length ys - 1) 0 ∷ []) (sym found.2)
     (rw (front found.0 found.1, last_of found.0 found.1) refl)
 
--- bytes that are framed as a clock message spell it
+-- bytes that are framed as a clock message encode it
 pub clock_view : (bytes : List ℕ) (message : ClockContent)
     → 5 ≤ length bytes → get_or bytes 0 0 ≡ 0x2b → get_or bytes 2 0 ≡ 0x03 → get_or bytes (length bytes - 1) 0 ≡ 0x00
     → message.id ≡ get_or bytes 3 0 → message.payload ≡ take (length bytes - 1 - 4) (drop 4 bytes)

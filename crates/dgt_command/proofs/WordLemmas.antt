@@ -39,7 +39,7 @@ spelling_length (ClockMessage message) x = rw (le-ltb (length message.payload + 
 spelling_length (Leds leds) x = omega arith
 spelling_length _ x = refl
 
--- a word with anything behind it tells its own length
+-- a word with anything after it reports its own length
 pub form_length : (e : EventContent) (w x : List ℕ) → HasForm e w → word_length (w ++ x) ≡ length w
 form_length (Read c) w x h = subst (λ (v : List ℕ). word_length (v ++ x) ≡ length v) (sym h) (spelling_length c x)
 form_length BadSize w x (size, small, is) = subst (λ (v : List ℕ). word_length (v ++ x) ≡ length v) (sym is)
@@ -70,7 +70,7 @@ end_event id more =
     (ClockMessage (record { id = id; payload = take (length more - 1) more }))
     else BadEnd
 
--- the same, behind the first byte of a clock message
+-- the same, after the first byte of a clock message
 abbrev pub clock_event : List ℕ → EventContent
 clock_event (size ∷ third ∷ id ∷ more) = end_event id more
 clock_event (size ∷ third ∷ []) = BadStart
@@ -99,7 +99,7 @@ end_read id p = rw (last_of p 0, front p 0) refl
 end_bad : (id : ℕ) (p : List ℕ) (x : ℕ) → x ≢ 0 → end_event id (p ++ x ∷ []) ≡ BadEnd
 end_bad id p x h = rw (last_of p x, ne_eqb x 0 h) refl
 
--- the event of a spelling is its command
+-- the event of an encoding is its command
 event_of_spelling : (c : CommandContent) → event_of (command_spelling c) ≡ Read c
 event_of_spelling (ClockMessage message) = end_read message.id message.payload
 event_of_spelling _ = refl
@@ -110,7 +110,7 @@ end_bad_long : (inner : List ℕ) (x : ℕ) (size : ℕ) → 0 < length inner �
 end_bad_long [] x size some h = absurd (omega arith)
 end_bad_long (id ∷ p) x size some h = end_bad id p x h
 
--- a word tells its event
+-- a word reports its event
 pub form_event : (e : EventContent) (w : List ℕ) → HasForm e w → event_of w ≡ e
 form_event (Read c) w h = ap event_of h ∙ event_of_spelling c
 form_event BadSize w (size, small, is) = ap event_of is

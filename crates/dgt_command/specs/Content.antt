@@ -1,4 +1,4 @@
--- Commands and what a reader of their bytes tells, without where they lie in memory.
+-- Commands and the events of a reader of their bytes, without where they lie in memory.
 use Rattle.std.specs.Prelude.{ℕ, List, [], ◌∷◌, slice_index as nth, Option, Some, None}
 use Rattle.dgt_values.specs.declared.kinds.Kind.{Kind}
 use Rattle.dgt_command.specs.declared.carried.LedBytes.{LedBytes}
@@ -13,7 +13,7 @@ use Rattle.dgt_command.specs.declared.command.CommandEvent.TheVariants as event
 use Rattle.dgt_command.specs.declared.ids.KnownId.{KnownId}
 use Rattle.dgt_command.specs.Ids.{id_number}
 
--- A clock message by its id and what it carries, which tell its case.
+-- A clock message by its id and what it carries, which determine its case.
 pub record ClockContent : Type 0 where
   pub id : ℕ
   pub payload : List ℕ

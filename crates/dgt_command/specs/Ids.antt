@@ -32,6 +32,6 @@ has_size SetAndRun size = size == 7
 has_size Beep size = size == 1
 has_size Text size = size == 9
 
--- the id is known, and has so many bytes
+-- the id is known, and carries this number of bytes
 abbrev pub has_own_case : ℕ → ℕ → Bool
 has_own_case number size = unwrap_or (option_map (λ id. has_size id size) (id_with number)) false

@@ -26,7 +26,7 @@ abbrev pub NoWordBeginsAPart : Type 0
 NoWordBeginsAPart =
     (event : EventContent) (word more : List ℕ) → IsWord event word → ¬ (IsPartial (word ++ more))
 
--- after bytes with no rest, spellings of commands in a row are read as those commands
+-- after bytes with no rest, encoded commands in a row are read as those commands
 abbrev pub CommandsAreReadBack : Type 0
 CommandsAreReadBack =
     (bytes : List ℕ) (events : List EventContent) (commands : List CommandContent) →
@@ -34,7 +34,7 @@ CommandsAreReadBack =
     AllByRecursion (λ command. SpellsCommand command (command_spelling command)) commands →
     Divides (bytes ++ flat_map command_spelling commands) (events ++ map Read commands) []
 
--- behind a part of a word, 255 zeros are noise and leave no rest
+-- after a part of a frame, 255 zeros are noise and leave no rest
 abbrev pub ZerosSettleTheReader : Type 0
 ZerosSettleTheReader =
     (rest : List ℕ) → IsPartial rest →
@@ -60,7 +60,7 @@ WordsAreShort =
     (event : EventContent) (word : List ℕ) →
     IsWord event word → (0 < length word) × (length word ≤ 257)
 
--- a spelling tells the command that it spells
+-- encoded bytes determine their command
 abbrev pub SpellingsTellCommands : Type 0
 SpellingsTellCommands =
     (command : CommandContent) (bytes : List ℕ) →

@@ -1,4 +1,4 @@
--- The length of the word that bytes begin, as far as the first three of them tell it.
+-- The length of the frame that bytes begin, as far as the first three of them determine it.
 use Rattle.std.specs.Prelude.{ℕ, ◌+◌, ◌==◌, List, slice_index as nth, nat_lt, if◌then◌else◌}
 
 -- A byte that hasn't come counts as 0: then this is more than those that have.

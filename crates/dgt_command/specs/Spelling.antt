@@ -1,4 +1,4 @@
--- How commands are spelled as bytes, and the command that a spelling tells.
+-- How commands are encoded as bytes, and the command of encoded bytes.
 use Rattle.std.specs.Prelude.{◌≡◌, ℕ, ◌+◌, ◌-◌, ◌<◌, ◌==◌, List, [], ◌∷◌, ◌++◌, length, take, drop}
 use Rattle.std.specs.Prelude.{slice_index as nth, find, Option, unwrap_or, if◌then◌else◌}
 use Rattle.std.specs.Option.{option_map}
@@ -41,7 +41,7 @@ pub record SpellsCommand (command : CommandContent) (bytes : List ℕ) : Type 0 
   pub are_bytes : AreBytes bytes
   pub spelled : bytes ≡ command_spelling command
 
--- some command has this spelling
+-- some command is encoded by these bytes
 abbrev pub IsSpelling : List ℕ → Type 0
 IsSpelling bytes = (command : CommandContent) × SpellsCommand command bytes
 
@@ -55,7 +55,7 @@ bare_commands =
 abbrev pub bare_command : ℕ → Option Command
 bare_command code = find (λ each. command_code (command_content each) == code) bare_commands
 
--- the command of which these bytes are the spelling
+-- the command that these bytes encode
 unfoldable pub command_in : List ℕ → CommandContent
 command_in word =
     if nth word 0 == 0x2b then

@@ -8,7 +8,7 @@ abbrev pub BeginsNoCommand : ℕ → Type 0
 BeginsNoCommand byte =
     (command : CommandContent) (rest : List ℕ) → command_spelling command ≢ byte ∷ rest
 
--- Each event has its words: a command its spelling, a fault what is read until it shows, and a
+-- Each event has its frames: a command its encoding, a fault what is read until it shows, and a
 -- stray byte itself.
 abbrev pub HasForm : EventContent → List ℕ → Type 0
 HasForm (Read command) word = word ≡ command_spelling command

@@ -81,9 +81,9 @@ pub enum ClockCommand<'a> {
     Icons(Payload<'a>),
     /// End what is shown, and show the times again.
     End,
-    /// Tell of the buttons.
+    /// Report the buttons.
     Button,
-    /// Tell the clock's version.
+    /// Report the clock's version.
     Version,
     /// Set the clock and let it run. `left` and `right` are hours, minutes and seconds.
     SetAndRun {

@@ -1,4 +1,4 @@
-//! The commands, and what a reader of their bytes tells.
+//! The commands, and the events that a reader of their bytes reports.
 
 use crate::carried::LedBytes;
 use crate::clock::ClockCommand;
@@ -34,10 +34,10 @@ pub enum Command<'a> {
     Leds(LedBytes<'a>),
 }
 
-/// What a word of the line from the host to the board tells: a command or a fault.
+/// The event of one frame on the line from the host to the board: a command or a fault.
 ///
-/// A fault is told with the byte that shows it, and the next byte begins a new word: this project's
-/// own choice. The bytes of an LED frame are not looked at, so it has no fault.
+/// A fault is the event of the byte that shows it, and the next byte begins a new frame. That is
+/// this project's own choice. The bytes of an LED frame are not looked at, so it has no fault.
 #[derive(Clone, Copy, Debug, PartialEq, Eq)]
 pub enum CommandEvent<'a> {
     /// A command.

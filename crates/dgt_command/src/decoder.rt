@@ -11,17 +11,17 @@ use crate::command::CommandEvent;
 use crate::framer::WordFramer;
 use std::marker::Model;
 
-/// What [`CommandDecoder::feed`] did with a piece.
+/// What [`CommandDecoder::feed`] did with a chunk.
 #[derive(Clone, Copy, Debug, PartialEq, Eq)]
 pub struct CommandFed<'a> {
-    /// How many bytes of the piece were used.
+    /// How many bytes of the chunk were used.
     pub used: usize,
     /// The event of the word that the last of them completed, if they completed one.
     pub event: Option<CommandEvent<'a>>,
 }
 
-/// Reads commands as their bytes come, in any pieces. Contracts see the bytes of the word that
-/// isn't finished yet.
+/// Reads commands as their bytes come, in chunks of any length. Contracts see the bytes of the
+/// unfinished frame.
 #[derive(Drop)]
 pub struct CommandDecoder {
     framer: WordFramer,
@@ -48,8 +48,8 @@ impl CommandDecoder {
         }
     }
 
-    /// Uses bytes of the piece up to and including the first that completes a word, and gives its
-    /// event; or uses all of it, where no byte completes one.
+    /// Uses bytes of the chunk up to and including the first that completes a frame, and gives its
+    /// event. If no byte completes one, it uses the whole chunk.
     ///
     /// A command lends what it carries from the reader until the next call.
     pub fn feed(&mut self, piece: &[u8]) -> CommandFed<'_>

@@ -33,10 +33,10 @@ pub enum FoundWord {
     Stray(u8),
 }
 
-/// What [`WordFramer::advance`] did with a piece.
+/// What [`WordFramer::advance`] did with a chunk.
 #[derive(Clone, Copy, Debug, PartialEq, Eq)]
 pub struct AdvancedWord {
-    /// How many bytes of the piece were used.
+    /// How many bytes of the chunk were used.
     pub used: usize,
     /// What the last of them made known, if they completed a word.
     pub found: Option<FoundWord>,
@@ -125,7 +125,7 @@ fn is_command(word: &[u8]) -> bool
     }
 }
 
-// What a word tells.
+// What a frame is.
 fn found_word(word: &[u8]) -> FoundWord
     requires { IsWholeWord word.now }
     ensures event { IsWord (word_found_in word.now result) word.now }
@@ -181,8 +181,8 @@ impl WordFramer {
         self.is_whole = false;
     }
 
-    /// Uses bytes of the piece up to and including the first that completes a word, and answers
-    /// what that word tells; or uses all of it, where no byte completes one.
+    /// Uses bytes of the chunk up to and including the first that completes a frame, and returns
+    /// what that frame is. If no byte completes one, it uses the whole chunk.
     pub fn advance(&mut self, piece: &[u8]) -> AdvancedWord
         ensures within { result.used ≤ length piece.now }
         ensures progress { 0 < length piece.now → 0 < result.used }

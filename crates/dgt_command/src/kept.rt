@@ -64,7 +64,7 @@ impl Kept {
         self.len += 1;
     }
 
-    /// Keeps so many bytes at the front of these, and none from before.
+    /// Keeps the first `len` of these bytes, and none from before.
     pub fn set_front(&mut self, bytes: &[u8], len: usize)
         requires within { len ≤ length bytes.now }
         requires fits { len ≤ MAX_WORD }

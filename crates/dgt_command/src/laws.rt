@@ -25,7 +25,7 @@ pub fn limits()
     ensures led_bytes { MAX_LED_BYTES ≡ 255 }
 {}
 
-/// Two values are equal, as `==` compares them, exactly where they say the same. Of lent bytes the
+/// Two values are equal, as `==` compares them, exactly if they say the same. Of lent bytes the
 /// bytes count, and not where they lie.
 pub fn equal_is_same()
     ensures payload { EqualIsSameRead payload_bytes ⟦<Payload<'static> as PartialEq>⟧.eq }
@@ -75,7 +75,7 @@ pub fn no_word_begins_another()
     ensures { NoWordBeginsAnother }
 {}
 
-/// After bytes that leave no rest, spellings of commands are read as those commands.
+/// After bytes that leave no rest, encoded commands are read as those commands.
 pub fn commands_are_read_back()
     ensures { CommandsAreReadBack }
 {}
@@ -86,18 +86,18 @@ pub fn zeros_settle_the_reader()
     ensures { ZerosSettleTheReader }
 {}
 
-/// Bytes that come in pieces divide as they do together: what follows is divided from the rest on.
+/// Bytes that come in chunks divide as they do together: what follows is divided from the rest on.
 pub fn divisions_append()
     ensures { DivisionsAppend }
 {}
 
-/// Where bytes and a front of them divide, the events of the front come first, and its rest goes
-/// on.
+/// If bytes and a prefix of them divide, the events of the prefix come first, and its rest is
+/// continued.
 pub fn fronts_divide_first()
     ensures { FrontsDivideFirst }
 {}
 
-/// Parts of words: no byte at all is one, none begins with a whole word, and with bytes behind it
+/// Parts of frames. No byte at all is one. None begins with a whole frame, and with bytes after it
 /// each is bytes. What a division leaves is one.
 pub fn parts_of_words()
     ensures nothing { IsPartial [] }
@@ -113,7 +113,7 @@ pub fn words_are_short()
     ensures { WordsAreShort }
 {}
 
-/// A spelling spells one command, which its bytes tell.
+/// The bytes of a command are those of no other command: they determine it.
 pub fn spellings_tell_commands()
     ensures { SpellingsTellCommands }
 {}

@@ -15,7 +15,7 @@ pub(crate) fn is_whole(bytes: &[u8]) -> bool
     length_so_far(bytes) <= bytes.len()
 }
 
-// How long the word is that these bytes begin, as far as its first three tell it.
+// How long the frame is that these bytes begin, as far as its first three determine it.
 pub(crate) fn length_so_far(bytes: &[u8]) -> usize
     ensures { result ≡ word_length bytes.now }
 {

@@ -1,19 +1,30 @@
-//! Commands from a host to a DGT board: how they are spelled, and how their bytes are read.
+//! The commands that a host sends to a DGT board, as values and as bytes.
 //!
-//! A [`Command`] is one byte, a clock message `2b size 03 id payload 00`, whose size counts all
-//! bytes after itself, or an LED frame `60 size` with size further bytes. These forms, the command
-//! bytes and the [`KnownId`]s are those of the DGT Electronic Board Protocol Description (the
-//! `dgtbrd` header), single-board mode. That other bytes are passed over one by one, and what each
-//! fault of a clock message ends, is this project's own choice: see [`CommandEvent`].
+//! A [`Command`] is one byte, a clock message `2b size 03 id payload 00`, or an LED frame `60 size`
+//! with `size` further bytes. The size of a clock message counts all bytes after itself.
 //!
-//! A host writes by [`encode`], whose room [`length`] tells. A board hands what came, in any
-//! pieces, to a [`CommandDecoder`], which tells one event after another; the event lends what the
-//! command carries. A type that owns a reader beside a state of its own, and hands events on, keeps
-//! a [`WordFramer`]. [`view_command`] reads one whole command. [`kind_of_command`] tells what a
-//! command asks for. Nothing here allocates.
+//! ```text
+//! encode(Command::Dump, ..)    42
+//! encode(a beep of 3, ..)      2b 04 03 0b 03 00
+//! ```
 //!
-//! [`laws`] says what holds of the bytes themselves: they divide into words in one way, what was
-//! encoded is read back, and zeros settle a reader that was left in the middle of a word.
+//! | To | Use |
+//! |---|---|
+//! | write a command | [`encode`]; [`length`] returns how many bytes it needs |
+//! | read what a host sends, cut anywhere | [`CommandDecoder`]: one [`CommandEvent`] a call |
+//! | read one whole command | [`view_command`] |
+//! | know which reply a command requests | [`kind_of_command`] |
+//! | read in a type that keeps a state of its own beside the reader | [`WordFramer`] |
+//!
+//! Nothing here allocates. An event lends what its command carries until the next call.
+//!
+//! These forms, the command bytes and the [`KnownId`]s are those of the DGT Electronic Board
+//! Protocol Description (the `dgtbrd` header), single-board mode. That other bytes are reported one
+//! by one, and where reading continues after a fault of a clock message, is this project's own
+//! choice: see [`CommandEvent`].
+//!
+//! [`laws`] has the facts about the bytes themselves. They divide into frames in one way, and what
+//! was encoded is read back. 255 zeros settle a reader that was left in the middle of a frame.
 #![tactic(auto)]
 
 mod carried;

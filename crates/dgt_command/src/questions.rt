@@ -6,7 +6,7 @@ ghost use Rattle.dgt_command.specs.Content.{command_content, kind_of_command};
 use crate::command::Command;
 use dgt_values::Kind;
 
-/// The kind of the reply that a command asks for, where it has one.
+/// The kind of the reply that a command requests, if it has one.
 pub fn kind_of_command(command: &Command<'_>) -> Option<Kind>
     ensures { result ≡ kind_of_command (command_content command.now) }
 {

@@ -10,7 +10,7 @@ use crate::codes::{CLOCK_MESSAGE, END, LEDS, START, bare_command};
 use crate::command::Command;
 use crate::ids::KnownId;
 
-/// The command whose bytes are exactly these, or `None` where there is no such command.
+/// The command whose bytes are exactly these, or `None` if they are those of no command.
 ///
 /// The command lends what it carries from the slice.
 pub fn view_command(bytes: &[u8]) -> Option<Command<'_>>

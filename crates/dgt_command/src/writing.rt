@@ -25,8 +25,8 @@ pub fn length(command: &Command) -> usize
     }
 }
 
-/// Writes the command at the front of the slice, and answers how many bytes it has. The bytes
-/// behind them stay as they were. `NoRoom` says that the slice is shorter than the command; then
+/// Writes the command at the beginning of the slice, and returns how many bytes it has. The bytes
+/// after it stay as they were. It returns `NoRoom` if the slice is shorter than the command; then
 /// nothing is written.
 pub fn encode(command: &Command, out: &mut [u8]) -> Result<usize, NoRoom>
     ensures written { WritesFront (command_spelling (command_content command.now))
@@ -76,7 +76,7 @@ fn write_clock(message: &ClockCommand, out: &mut [u8])
     end.copy_from_slice(&[END]);
 }
 
-/// The id of a clock message, the byte that tells its case.
+/// The id of a clock message: the byte that says which case it is.
 pub fn clock_id(message: &ClockCommand) -> u8
     ensures { result ≡ clock_id (clock_content message.now) }
 {

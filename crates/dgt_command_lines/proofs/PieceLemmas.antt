@@ -91,7 +91,7 @@ told_on each held piece text offset i are tells =
 
 -- ---- what was gathered of a piece
 
--- bytes that come after so many have a text, which the sink took but for what is gathered, and leave this rest
+-- bytes that come after this many have a text, which the sink took but for what is gathered, and leave this rest
 pub record Gathers {S : Type 0} (W : Sink S) (old new : S) (gathered : List ℕ) (offset : ℕ) (bytes rest : List ℕ) :
     Type 0 where
   pub text : List ℕ

@@ -10,7 +10,7 @@ use Rattle.dgt_lines.specs.Marks.{Waits}
 use Rattle.dgt_lines.specs.Writing.{Stopped, Writes}
 use Rattle.dgt_command_lines.specs.CommandWords.{command_event_text}
 
--- the line of an event that the byte at the end of so many bytes makes
+-- the line of an event that the last of this number of bytes makes
 abbrev pub command_line : ℕ → EventContent → List ℕ
 command_line offset event = line offset (command_event_text event)
 
@@ -19,7 +19,7 @@ pub record Word : Type 0 where
   pub event : EventContent
   pub bytes : List ℕ
 
--- a line for each of some words in a row, which come after so many bytes
+-- a line for each of some words in a row, which come after this number of bytes
 abbrev pub word_lines : ℕ → List Word → List ℕ
 word_lines offset [] = []
 word_lines offset (word ∷ words) =
@@ -32,14 +32,14 @@ pub record AreWords (bytes : List ℕ) (words : List Word) (rest : List ℕ) : T
   pub whole : bytes ≡ flat_map (λ word. word.bytes) words ++ rest
   pub partial : IsPartial rest
 
--- bytes that come after so many have this text, and leave this rest of a word
+-- bytes that come after this number of others have this text, and leave this rest of a word
 pub record Tells (offset : ℕ) (bytes rest text : List ℕ) : Type 0 where
   pub words : List Word
   pub are_words : AreWords bytes words rest
   pub said : text ≡ word_lines offset words
 
--- a call that writes the text of a piece that comes after so many bytes, of which `held` is a part
--- of a word, and then keeps `held'`; it flushes nothing, so that the text waits for a flush
+-- A call that writes the text of a chunk that comes after this number of bytes, of which `held` is
+-- a part of a word, and then keeps `held'`. It flushes nothing, so that the text waits for a flush.
 pub record WritesPiece {S A : Type 0} (W : Sink S) (old new : S) (r : Result A RunFault)
     (offset : ℕ) (held piece held' : List ℕ) : Type 0 where
   pub text : List ℕ

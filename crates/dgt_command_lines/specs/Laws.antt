@@ -6,7 +6,7 @@ use Rattle.dgt_command.specs.Spelling.{AreBytes}
 use Rattle.dgt_command_lines.specs.CommandLines.{Tells}
 use Rattle.dgt_command_lines.specs.CommandWords.{shown_character}
 
--- bytes that come after so many have some text
+-- bytes that come after this number of others have some text
 abbrev pub EachIsTold : Type 0
 EachIsTold =
     (offset : ℕ) (bytes : List ℕ) → AreBytes bytes →
@@ -18,7 +18,7 @@ EachIsToldOnce =
     (offset : ℕ) (bytes rest other text also : List ℕ) →
     Tells offset bytes rest text → Tells offset bytes other also → (rest ≡ other) × (text ≡ also)
 
--- bytes that follow others are told from the rest on that those left
+-- bytes that follow others are read from the rest on that those left
 abbrev pub TextsAppend : Type 0
 TextsAppend =
     (offset : ℕ) (bytes more rest last text others : List ℕ) →

@@ -11,7 +11,8 @@ pub fn limits()
     ensures commands { COMMANDS_ROOM ≡ 32768 }
 {}
 
-/// One text: bytes that come after so many have a text and a rest of a word, and only one of each.
+/// One text: bytes that come after others have a text and a rest of a word, and only one of
+/// each.
 pub fn one_text()
     ensures told { EachIsTold }
     ensures once { EachIsToldOnce }

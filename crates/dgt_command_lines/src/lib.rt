@@ -1,12 +1,11 @@
-//! The lines that say what a host sends to a DGT board.
+//! The lines of text of what a host sends to a DGT board.
 //!
 //! [`write_command`] writes the line of one event of the host's bytes, as `00000001 dump`: how many
-//! bytes had come, and what they ask for, in the words of the command line. [`write_commands`]
-//! writes the lines of a piece of what a host sends, and [`write_commands_end`] the one of what is
-//! unfinished at the end.
+//! bytes had come, and the command in the words of `dgt ask`. [`write_commands`] writes the lines
+//! of a chunk, and [`write_commands_end`] the line of what is unfinished at the end.
 //!
-//! The format of lines is this project's own choice. No call takes memory. [`laws`] says what holds
-//! of lines as such.
+//! The format of lines is this project's own choice. No call takes memory. [`laws`] has the facts
+//! about lines as such, and `specs/CommandLines.antt` the definitions that contracts cite.
 #![tactic(auto)]
 
 pub mod laws;

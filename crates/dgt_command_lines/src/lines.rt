@@ -43,7 +43,7 @@ fn make_room<W: Sink, const ROOM: usize>(
     Ok(())
 }
 
-/// Gathers the line of an event that the byte at the end of so many bytes makes.
+/// Gathers the line of an event that the last of this number of bytes makes.
 pub(crate) fn put_command<W: Sink, const ROOM: usize>(
     outgoing: &mut Outgoing<ROOM>,
     writer: &mut W,

@@ -14,12 +14,12 @@ use dgt_lines::{Outgoing, RunFault, Sink, flush, write_unfinished};
 /// Room for some 1,500 lines of commands that carry nothing.
 pub const COMMANDS_ROOM: usize = 32768;
 
-/// Writes the lines of a piece that comes after so many bytes, in one write where there is room for
+/// Writes the lines of a chunk that comes after `offset` bytes, in one write if there is room for
 /// them.
 ///
 /// `framer` holds what is unfinished of the bytes before. Nothing is flushed.
 ///
-/// `WriteFailed` comes if the writer refuses. Then `framer` has read a prefix of the piece and no
+/// `WriteFailed` comes if the writer refuses. Then `framer` has read a prefix of the chunk and no
 /// more, the writer took a prefix of its lines, and what was gathered is dropped.
 pub fn write_commands<W: Sink>(
     framer: &mut WordFramer,
@@ -54,7 +54,7 @@ pub fn write_commands<W: Sink>(
     outgoing.write_out(writer)
 }
 
-/// Writes and flushes a last line after so many bytes, where a command is unfinished.
+/// Writes and flushes a last line after `offset` bytes, if a command is unfinished.
 pub fn write_commands_end<W: Sink>(
     framer: &WordFramer,
     offset: u64,

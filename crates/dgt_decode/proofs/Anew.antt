@@ -12,7 +12,7 @@ use Rattle.dgt_decode.proofs.Open.{IsOpen, nothing, waiting, IsOpen-open, length
 has_top : (b : ℕ) → 128 ≤ b → has_top_bit b ≡ true
 has_top b top = le-leb 128 b top
 
--- behind one segment with no verdict
+-- after one segment with no verdict
 events_behind_open : (o : List ℕ) → IsOpen o → (b : ℕ) (p : List ℕ) → 128 ≤ b
     → events (o ++ b ∷ p) ≡ events_behind (length o) (cut_of o ++ events (b ∷ p))
 unfolding events

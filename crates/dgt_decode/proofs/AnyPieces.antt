@@ -1,4 +1,4 @@
--- Bytes in any pieces.
+-- Bytes in any chunks.
 use Rattle.std.proofs.Common.{◌≡◌, ℕ, ◌+◌, ◌-◌, ◌≤◌, List, [], ◌∷◌, ◌++◌, length, take, Option, Some, None, sym, ap, subst, ◌∙◌, append_assoc, arith}
 use Rattle.std.proofs.lemmas.List.{append-nil, append_cancel_left, length-append, length-take}
 use Rattle.std.proofs.Math.Seq.{take-length}
@@ -23,7 +23,7 @@ first_told : (held piece : List ℕ) (used : ℕ) (x : Option Event) → FirstEv
 first_told held piece used None h = rw (h.0, take-length piece) h.1
 first_told held piece used (Some event) h = h.1
 
--- and behind bytes of which these are held
+-- and after bytes of which these are held
 pub call_told : (s : List ℕ) (call : Call) → FirstEvent (open_message s) call.piece call.used call.event
     → events (s ++ take call.used call.piece) ≡ events s ++ at_place_if_any (length s + call.used) call.event
 call_told s call first =
@@ -53,7 +53,7 @@ in_any_pieces s (call ∷ calls) are =
     (append_assoc (events s) (at_place_if_any (length s + call.used) call.event)
     (events_in_pieces (length s + call.used) calls))
 
--- what is told in pieces is told of the whole
+-- what is reported in chunks is reported of the whole
 pub spelling_in_pieces : AreRead → AreSpelled → (s : List ℕ) (said : Content) (calls : List Call)
     → IsMessage said → AreCalls (open_message s) calls → used_bytes calls ≡ spelling said
     → events_in_pieces (length s) calls ≡ events_behind (length s) (cut_of (open_message s)) ++ at_place

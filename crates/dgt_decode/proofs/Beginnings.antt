@@ -13,7 +13,7 @@ use Rattle.dgt_decode.proofs.Framing.{after, tells-after}
 use Rattle.dgt_decode.proofs.Runs.{seven-before, seven-take}
 use Rattle.dgt_decode.proofs.SevenBit.{SevenByRecursion, are_seven, by_recursion}
 
--- so many bytes at the front are a header and a run of its body
+-- this many bytes at the front are a header and a run of its body
 pub record IsBeginning (total : ℕ) (rest : List ℕ) (used : ℕ) : Type 0 where
   pub header : 3 ≤ used
   pub within : used ≤ length rest
@@ -21,7 +21,7 @@ pub record IsBeginning (total : ℕ) (rest : List ℕ) (used : ℕ) : Type 0 whe
   pub short : total ≤ 16383
   pub seven : SevenByRecursion (take (used - 3) (drop 3 rest))
 
--- these are those before the next set top bit behind the header
+-- these are those before the next set top bit after the header
 pub beginning : (total run : ℕ) (rest : List ℕ) → Begins total rest
     → run ≡ position_or_len has_top_bit (take (min (length rest) total - 3) (drop 3 rest))
     → IsBeginning total rest (3 + run)
@@ -60,7 +60,7 @@ early b h l (suc n) total (x ∷ more) two low seven within fits is =
     shorter : SevenByRecursion (take n (x ∷ more))
     shorter = rw (← fewer) (seven-take n (take (suc n) (x ∷ more)) seven)
 
--- A message that begins is whole where none of it is missing then, and tells nothing otherwise.
+-- A message that begins is whole where none of it is missing then, and reports nothing otherwise.
 pub frames-beginning : (kept rest : List ℕ) (total used : ℕ) → open_message kept ≡ [] → Begins total rest
     → IsBeginning total rest used
     → FramesFront kept rest used (take used rest) (after (total - used)).1
@@ -109,7 +109,7 @@ frames-beginning kept (b ∷ h ∷ l ∷ more) total (suc (suc (suc n))) none be
       t.1,
     )
 
--- A message that has come whole is told at once.
+-- A message that has come whole is reported at once.
 pub frames-whole : (kept rest : List ℕ) (total : ℕ) → open_message kept ≡ [] → total ≤ length rest
     → IsWholeMessage (take total rest)
     → FramesFront kept rest total (take total rest) (Some found.Message)

@@ -24,7 +24,7 @@ quiet_open s = rw (append-nil (open_message s)) (events-of_open (open_message s)
 
 -- ---- what is held begins a message, and has room for one more byte
 
--- each of seven-bit bytes, and the zero behind their end, is below 128
+-- each of seven-bit bytes, and the zero after their end, is below 128
 seven-get : (bytes : List ℕ) (i : ℕ) → SevenByRecursion bytes → get_or bytes i 0 < 128
 seven-get [] i h = omega arith
 seven-get (b ∷ bytes) zero h = h.0

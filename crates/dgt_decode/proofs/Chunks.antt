@@ -1,4 +1,4 @@
--- The first element that passes a test, seen so many at a time.
+-- The first element that passes a test, seen this many at a time.
 use Rattle.std.proofs.Common.{◌≡◌, ℕ, ◌+◌, ◌%◌, ◌^◌, ◌<◌, ◌≤◌, Bool, not, cond, eqb, zero, suc, true, false, List, [], ◌∷◌, map, length, drop, replicate, sym, ap, ◌∙◌, arith, w8}
 use Rattle.std.proofs.lemmas.Simd.{chunk-drop, length-chunk, tops_compared, zip2_splat_left, mask_l-mod}
 use Rattle.std.proofs.lemmas.List.{length-drop, length-map, take_all}
@@ -18,7 +18,7 @@ splat_mask test y n lanes long few =
 
 -- the next n places from one on
 module _ (test : ℕ → Bool) (xs : List ℕ) (at n : ℕ) (room : at + n ≤ length xs) where
-  -- the search among them, and then behind them
+  -- the search among them, and then after them
   joined : position_or_len test
       (drop at xs) ≡ cond (eqb (position_or_len test (chunk at n xs)) (length (chunk at n xs)))
       (length (chunk at n xs) + position_or_len test (drop (at + n) xs)) (position_or_len test (chunk at n xs))

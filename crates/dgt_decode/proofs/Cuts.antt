@@ -2,12 +2,12 @@
 use Rattle.std.proofs.Common.{◌≡◌, ℕ, Bool, true, false, cond, List, [], ◌∷◌, ◌++◌, refl, sym, ap, ◌∙◌}
 use Rattle.dgt_decode.specs.Grammar.{has_top_bit, lead, segments}
 
--- the lead with p behind bytes of this lead and these segments
+-- the lead with p after bytes of this lead and these segments
 abbrev pub lead_with : List ℕ → List ℕ → List (List ℕ) → List ℕ
 lead_with p front [] = front ++ lead p
 lead_with p front (segment ∷ others) = front
 
--- the segments with p behind these
+-- the segments with p after these
 abbrev pub segments_with : List ℕ → List (List ℕ) → List (List ℕ)
 segments_with p [] = segments p
 segments_with p (segment ∷ []) = (segment ++ lead p) ∷ segments p
@@ -19,7 +19,7 @@ lead_with-cons : (p : List ℕ) (b : ℕ) (front : List ℕ) (gs : List (List �
 lead_with-cons p b front [] = refl
 lead_with-cons p b front (g ∷ gs) = refl
 
--- the lead with more bytes behind
+-- the lead with more bytes after
 pub lead-append : (s p : List ℕ) → lead (s ++ p) ≡ lead_with p (lead s) (segments s)
 lead-append [] p = refl
 lead-append (b ∷ s) p = go (has_top_bit b) (lead-append s p)
@@ -35,7 +35,7 @@ segments_with-first : (p : List ℕ) (b : ℕ) (front : List ℕ) (gs : List (Li
 segments_with-first p b front [] = refl
 segments_with-first p b front (g ∷ gs) = refl
 
--- the segments with more bytes behind
+-- the segments with more bytes after
 pub segments-append : (s p : List ℕ) → segments (s ++ p) ≡ segments_with p (segments s)
 segments-append [] p = refl
 segments-append (b ∷ s) p = go (has_top_bit b) (segments-append s p)

@@ -41,7 +41,7 @@ lead_all bytes i end seven =
     = subst (λ (n : ℕ). SevenByRecursion (take n bytes)) end seven in
     sym (lead_split bytes (length bytes) all ∙ rw (drop-length bytes) (append-nil (take (length bytes) bytes)))
 
--- behind the lead stands a byte with a set top bit, or none
+-- after the lead stands a byte with a set top bit, or none
 pub lead_stops : (bytes : List ℕ) (i : ℕ) → take i bytes ≡ lead bytes → lead (drop i bytes) ≡ []
 lead_stops bytes i is =
     let seven : SevenByRecursion (take i bytes)
@@ -49,7 +49,7 @@ lead_stops bytes i is =
     append_cancel_left (take i bytes) (lead (drop i bytes)) []
     (sym (lead_split bytes i seven) ∙ sym is ∙ sym (append-nil (take i bytes)))
 
--- the segments stand behind the lead
+-- the segments stand after the lead
 segments_behind : (bytes : List ℕ) (i : ℕ) → take i bytes ≡ lead bytes → segments bytes ≡ segments (drop i bytes)
 segments_behind bytes i is =
     let seven : SevenByRecursion (take i bytes)
@@ -60,16 +60,16 @@ segments_behind bytes i is =
 
 -- ---- The verdict of a segment whose total is t
 
--- a total below 3 is told at the third byte
+-- a total below 3 is reported at the third byte
 pub bad_here : (g : List ℕ) (t : ℕ) → t ≡ announced_total g → 3 ≤ length g → t < 3
     → Some (at_place 3 BadLength) ≡ verdict g
 bad_here g t is long small = sym (verdict-bad g long (omega (arith, is)))
 
--- a segment shorter than its total tells nothing
+-- a segment shorter than its total reports nothing
 pub waits_here : (g : List ℕ) (t : ℕ) → t ≡ announced_total g → length g < t → None ≡ verdict g
 waits_here g t is less = sym (verdict-waits g (omega (arith, is)))
 
--- a whole message is told at its total
+-- a whole message is reported at its total
 pub whole_here : (g : List ℕ) (t : ℕ) (event : Event) → t ≡ announced_total g → 3 ≤ t → t ≤ length g
     → event ≡ message_event (take t g) → Some (at_place t event) ≡ verdict g
 whole_here g t event is large enough tells =
@@ -94,7 +94,7 @@ strays_more before i bytes within =
       place,
     ) refl)
 
--- one more Stray is told
+-- one more Stray is reported
 pub told_stray : (old told new : List (ℕ × CodeEvent)) (before i : ℕ) (bytes : List ℕ) → i < length bytes
     → map placed_content told ≡ map placed_content old ++ events_behind before (strays (take i bytes))
     → new ≡ told ++ (before + i + 1, code_events.Stray (get_or bytes i 0)) ∷ []
@@ -115,7 +115,7 @@ cut_after-nothing : (is_last : Bool) → cut_after is_last [] ≡ []
 cut_after-nothing true = refl
 cut_after-nothing false = refl
 
--- the verdict and the strays behind it are told
+-- the verdict and the strays after it are reported
 pub told_verdict : (old mid new : List (ℕ × CodeEvent)) (before place : ℕ) (event : CodeEvent) (g rest : List ℕ)
     (is_last : Bool)
     → Some (at_place place (event_content event)) ≡ verdict g
@@ -142,13 +142,13 @@ told_verdict old mid new before place event g rest is_last is pushed same told =
 
 -- ---- The whole list
 
--- what is told of the bytes before a place where a segment begins, or the end
+-- what is reported of the bytes before a place where a segment begins, or the end
 pub record HasTold (bytes : List ℕ) (start : ℕ) (told : List Placed) : Type 0 where
   pub within : start ≤ length bytes
   pub no_lead : lead (drop start bytes) ≡ []
   pub so_far : told ++ events_behind start (segments_events (segments (drop start bytes))) ≡ events bytes
 
--- the Strays of the lead are told
+-- the Strays of the lead are reported
 pub told_lead : (bytes : List ℕ) (start : ℕ) (told : List Placed) → start ≤ length bytes → take start bytes ≡ lead bytes
     → told ≡ events_behind 0 (strays (take start bytes)) → HasTold bytes start told
 unfolding events
@@ -169,7 +169,7 @@ top_first b rest = go (has_top_bit b) refl
     go true e none = leb-true 128 b e
     go false e none = absurd cc
 
--- the byte at a place, and the bytes behind it
+-- the byte at a place, and the bytes after it
 from_here : (bytes : List ℕ) (start : ℕ) → start < length bytes → drop start bytes ≡ get_or bytes start 0 ∷ drop
     (start + 1) bytes
 from_here bytes start more = rw (add-one, drop-cons bytes start 0 more) refl
@@ -190,14 +190,14 @@ cut_here bytes end u within none = elim (cases_lt end (length bytes)) [
       rw (all, drop-length bytes, last) refl
 ]
 
--- the next segment: the byte with a set top bit, and the lead of what stands behind it
+-- the next segment: the byte with a set top bit, and the lead of what stands after it
 pub record IsNext (bytes : List ℕ) (start count : ℕ) (segment : List ℕ) : Type 0 where
   pub top : 128 ≤ get_or bytes start 0
   pub is : segment ≡ get_or bytes start 0 ∷ lead (drop (start + 1) bytes)
   pub size : length segment ≡ 1 + count
   pub stops : take count (drop (start + 1) bytes) ≡ lead (drop (start + 1) bytes)
 
--- the next segment ends where the lead of what stands behind its first byte does
+-- the next segment ends where the lead of what stands after its first byte does
 pub next_segment : (bytes : List ℕ) (start count : ℕ) (told : List Placed) → HasTold bytes start told
     → start < length bytes
     → take count (drop (start + 1) bytes) ≡ lead (drop (start + 1) bytes)
@@ -229,7 +229,7 @@ regrouped : (told a c e : List Placed) (start n end : ℕ) → start + n ≡ end
 regrouped told a c e start n end same =
     rw (← same) (simp (events_behind-append, events_behind-events_behind, append_assoc))
 
--- the events of the next segment are told
+-- the events of the next segment are reported
 pub told_segment : (bytes : List ℕ) (start count end : ℕ) (told new : List Placed) (segment : List ℕ)
     → HasTold bytes start told → start < length bytes
     → IsNext bytes start count segment → end ≡ start + 1 + count → end ≤ length bytes

@@ -56,7 +56,7 @@ lead-divided front parts seven h =
     rw (lead-append front (concat parts), lead-seven front seven, segments-seven front seven, lead-parts parts h)
     (append-nil front)
 
--- and the segments behind it are the segments
+-- and the segments after it are the segments
 segments-divided : (front : List ℕ) (parts : List (List ℕ)) → SevenByRecursion front → AllByRecursion IsSegment parts
     → segments (front ++ concat parts) ≡ parts
 segments-divided front parts seven h =
@@ -87,7 +87,7 @@ nil_right : (xs ys : List Placed) → xs ++ ys ≡ [] → ys ≡ []
 nil_right [] ys e = e
 nil_right (x ∷ xs) ys e = absurd cc
 
--- no events behind bytes, no events
+-- no events after bytes, no events
 nil_raised : (n : ℕ) (xs : List Placed) → events_behind n xs ≡ [] → xs ≡ []
 nil_raised n [] e = refl
 nil_raised n (x ∷ xs) e = absurd cc

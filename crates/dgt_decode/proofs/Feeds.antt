@@ -1,4 +1,4 @@
--- The first event of a piece behind what is held.
+-- The first event of a piece after what is held.
 use Rattle.std.proofs.Common.{◌≡◌, ℕ, ◌+◌, ◌-◌, ◌<◌, ◌≤◌, List, [], ◌∷◌, ◌++◌, length, take, drop, Option, Some, None, refl, sym, ap, ◌∙◌, append_assoc, arith, inl, inr}
 use Rattle.std.proofs.lemmas.List.{take-append-drop}
 use Rattle.std.proofs.Math.Seq.{take-add, take-length}
@@ -35,7 +35,7 @@ quiet-piece held piece k e =
     quiet-front (held ++ take k piece) (drop k piece)
     (rw (append_assoc held (take k piece) (drop k piece), take-append-drop k piece) e)
 
--- The byte behind bytes without an event makes one.
+-- The byte after bytes without an event makes one.
 pub FirstEvent-some : (held piece : List ℕ) (before used : ℕ) (event : Event) → used ≡ before + 1 → used ≤ length piece
     → events (held ++ take before piece) ≡ [] → events (held ++ take used piece) ≡ at_place
     (length held + used) event ∷ []

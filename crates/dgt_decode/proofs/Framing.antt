@@ -42,7 +42,7 @@ opened state kept is here = elim here [
 pub kept-first : (b : ℕ) → 128 ≤ b → IsKept Head (b ∷ [])
 kept-first b top = ((first-begins b top).leaves, omega arith, omega arith)
 
--- it tells nothing where nothing was open
+-- it reports nothing if nothing was open
 pub frames-first : (kept : List ℕ) (b : ℕ) → length (open_message kept) ≡ 0 → 128 ≤ b
     → Frames kept (b ∷ []) (b ∷ []) None
 frames-first kept b none top =
@@ -56,7 +56,7 @@ frames-first kept b none top =
       unfinished = λ e. (first-begins b top).leaves;
     }
 
--- it tells a Cut where a message was open
+-- it reports a Cut where a message was open
 pub frames-cut : (kept : List ℕ) (b : ℕ) → 0 < length (open_message kept) → 128 ≤ b
     → Frames kept (b ∷ []) (b ∷ []) (Some (found.Cut (length (open_message kept))))
 frames-cut kept b some top =
@@ -72,7 +72,7 @@ frames-cut kept b some top =
 
 -- ---- A byte outside a message
 
--- a seven-bit byte is stray where nothing was open
+-- a seven-bit byte is stray if nothing was open
 pub frames-stray : (kept : List ℕ) (b : ℕ) → open_message kept ≡ [] → b < 128
     → Frames kept (b ∷ []) [] (Some (found.Stray b))
 frames-stray kept b none seven =
@@ -99,7 +99,7 @@ front-stray kept (b ∷ rest) none some seven =
 
 -- ---- A byte of the header
 
--- the second byte of a message tells nothing
+-- the second byte of a message reports nothing
 pub frames-short : (kept : List ℕ) (b : ℕ) → IsHeld kept → length kept ≡ 1 → b < 128
     → Frames kept (b ∷ []) (kept ++ b ∷ []) None × IsKept Head (kept ++ b ∷ [])
 frames-short kept b h one seven =
@@ -123,7 +123,7 @@ head_total (x ∷ y ∷ z ∷ kept) b two = absurd (omega arith)
 head_total (x ∷ []) b two = absurd (omega arith)
 head_total [] b two = absurd (omega arith)
 
--- a total below 3 is told as such
+-- a total below 3 is reported as such
 pub frames-bad : (kept : List ℕ) (b : ℕ) → IsHeld kept → length kept ≡ 2 → b < 128 → 128 * slice_index kept 1 + b < 3
     → Frames kept (b ∷ []) [] (Some found.BadLength)
 frames-bad kept b h two seven small =
@@ -141,7 +141,7 @@ frames-bad kept b h two seven small =
 
 -- ---- A later byte
 
--- the state and what was found, where so many bytes are still to come
+-- the state and what was found, where this many bytes are still to come
 abbrev pub after : ℕ → FramerState × Option Found
 after left = if left == 0 then (Whole, Some found.Message) else (Body left, None)
 
@@ -157,7 +157,7 @@ pub record TellsRun (kept run : List ℕ) (what : Option Found) : Type 0 where
   pub message : what ≡ Some found.Message → IsWholeMessage (kept ++ run)
   pub unfinished : what ≢ Some found.Message → IsHeld (kept ++ run)
 
--- they end it where none is left, and tell nothing otherwise
+-- they end it where none is left, and report nothing otherwise
 pub tells-after : (kept run : List ℕ) (left : ℕ) → IsHeld kept → 2 ≤ length kept → 0 < length run → SevenByRecursion run
     → announced_total (kept ++ run) ≡ length (kept ++ run) + left
     → TellsRun kept run (after left).1 × IsKept (after left).0 (kept ++ run)

@@ -14,13 +14,13 @@ use Rattle.dgt_decode.proofs.Steps.{IsHeld, IsOpen-held}
 use Rattle.dgt_decode.proofs.Feeds.{FirstEvent-some, first_of_run}
 use Rattle.dgt_decode.proofs.Division.{quiet_held}
 
--- an event behind bytes stands at the sum of the places
+-- an event after bytes stands at the sum of the places
 pub events_behind-at_place_if_any : (n m k : ℕ) (event : Option Event) → n + m ≡ k
     → events_behind n (at_place_if_any m event) ≡ at_place_if_any k event
 events_behind-at_place_if_any n m k None e = refl
 events_behind-at_place_if_any n m k (Some event) e = ap (λ (p : ℕ). at_place p event ∷ []) e
 
--- The event of p behind s, which has none, is that of p behind what s leaves open.
+-- The event of p after s, which has none, is that of p after what s leaves open.
 pub events-more : (s p : List ℕ) (n : ℕ) (event : Option Event) → events s ≡ []
     → events (open_message s ++ p) ≡ at_place_if_any (length (open_message s) + n) event
     → events (s ++ p) ≡ at_place_if_any (length s + n) event
@@ -57,7 +57,7 @@ pub run_holds : (held piece : List ℕ) (i j : ℕ) (now run : List ℕ) → IsR
 run_holds held piece i j now run r t =
     rw (t.holds, r, ← append_assoc held (take i piece) run) (sym (open-append (held ++ take i piece) run))
 
--- a run tells what the bytes to its end tell
+-- a run reports what the bytes to its end report
 pub run_told : (held piece : List ℕ) (i j n : ℕ) (now run : List ℕ) (event : Option Event) → IsRun piece i run j
     → HasTaken held piece i now
     → events (now ++ run) ≡ at_place_if_any (length now + n) event → events (held ++ take j piece) ≡ at_place_if_any

@@ -101,13 +101,13 @@ pub cut_before-nothing : (gs : List (List ℕ)) → cut_before gs [] ≡ []
 cut_before-nothing [] = refl
 cut_before-nothing (g ∷ gs) = refl
 
--- a segment with more bytes behind still follows
+-- a segment with more bytes after still follows
 cut_before-with : (p : List ℕ) (g : List ℕ) (gs : List (List ℕ)) (u : List ℕ)
     → cut_before (segments_with p (g ∷ gs)) u ≡ cut_of u
 cut_before-with p g [] u = refl
 cut_before-with p g (h ∷ gs) u = refl
 
--- places behind a message, and behind its segment
+-- places after a message, and after its segment
 regroup : (place d n l : ℕ) (a b e : List Placed) → place + d ≡ n
     → events_behind place (a ++ events_behind d b) ++ events_behind (n + l) e ≡ events_behind place a ++ events_behind
     n (b ++ events_behind l e)
@@ -121,7 +121,7 @@ regroup place d n l a b e same =
     )
     (append_assoc (events_behind place a) (events_behind n b) (events_behind (n + l) e))
 
--- more bytes behind a last segment that is finished
+-- more bytes after a last segment that is finished
 last-finished : (g p : List ℕ) (x : Placed) → verdict g ≡ Some x
     → segments_events ((g ++ lead p) ∷ segments p) ≡ segments_events (g ∷ []) ++ events_behind (length g) (events p)
 unfolding events
@@ -144,14 +144,14 @@ last-finished g p x e =
     (regroup x.place (length (drop x.place g)) (length g) (length (lead p)) (strays (drop x.place g))
     (strays (lead p)) (segments_events (segments p)) behind))
 
--- more bytes behind a last segment that is open
+-- more bytes after a last segment that is open
 last-open : (g p : List ℕ) → IsAlone g → verdict g ≡ None
     → segments_events ((g ++ lead p) ∷ segments p) ≡ segments_events (g ∷ []) ++ events_behind 0 (events (g ++ p))
 unfolding events
 last-open g p alone e =
     rw (lead-append g p, segments-append g p, alone.no_lead, alone.one, e) (simp events_behind-zero)
 
--- more bytes behind segments
+-- more bytes after segments
 pub segments_events-with : (p g : List ℕ) (gs : List (List ℕ)) → AreAlone (g ∷ gs)
     → segments_events (segments_with p (g ∷ gs)) ≡ segments_events (g ∷ gs) ++ events_behind (settled_of (g ∷ gs))
     (events (open_segment (g ∷ gs) ++ p))
@@ -170,7 +170,7 @@ segments_events-with p g (h ∷ gs) alone =
 abbrev events_by_cut : List ℕ → List (List ℕ) → List Placed
 events_by_cut front gs = strays front ++ events_behind (length front) (segments_events gs)
 
--- more bytes behind a lead and segments
+-- more bytes after a lead and segments
 events_by_cut-with : (p front : List ℕ) (gs : List (List ℕ)) → AreAlone gs
     → events_by_cut (lead_with p front gs) (segments_with p gs)
     ≡ events_by_cut front gs ++ events_behind (length front + settled_of gs) (events (open_segment gs ++ p))
@@ -205,7 +205,7 @@ pub settled : (s : List ℕ) → length s - length (open_message s) ≡ length (
 unfolding open_message
 settled s = omega (arith, settled-open (segments s), length-cut s)
 
--- more bytes behind a list, with the place by its cut
+-- more bytes after a list, with the place by its cut
 events-append_by_cut : (s p : List ℕ) → events (s ++ p) ≡ events s ++ events_behind
     (length (lead s) + settled_of (segments s)) (events (open_message s ++ p))
 unfolding events open_message

@@ -33,7 +33,7 @@ open_segment-finished : (g : List ℕ) (x : Placed) (gs : List (List ℕ)) → v
 open_segment-finished g x [] e = rw e refl
 open_segment-finished g x (h ∷ gs) e = refl
 
--- what is open with more bytes behind
+-- what is open with more bytes after
 open_segment-with : (p : List ℕ) (gs : List (List ℕ)) → AreAlone gs → open_segment (segments_with p gs) ≡ open_message
     (open_segment gs ++ p)
 unfolding open_message

@@ -1,4 +1,4 @@
--- The events of whole pieces, and who hears them.
+-- The events of whole chunks, and who hears them.
 use Rattle.std.proofs.Common.{◌≡◌, ℕ, ◌+◌, ◌-◌, ◌<◌, ◌≤◌, List, [], ◌∷◌, ◌++◌, length, map, take, drop, Option, Some, None, refl, sym, ap, subst, ◌∙◌, append_assoc, arith, inl, inr}
 use Rattle.std.proofs.lemmas.List.{append-nil, length-append, length-drop, length-take-le}
 use Rattle.std.proofs.lemmas.Bool.{cases_lt}
@@ -13,7 +13,7 @@ use Rattle.dgt_decode.proofs.More.{events-append}
 use Rattle.dgt_decode.proofs.Open.{IsOpen, nothing, waiting, IsOpen-open, events-of_open, length-open, open-append}
 use Rattle.dgt_decode.proofs.Steps.{IsHeld, IsHeld-open, next-begins, next-seven, verdict-new}
 
--- These are events behind n bytes.
+-- These are events after n bytes.
 record IsBehind (n : ℕ) (told : List Placed) : Type 0 where
   early : List Placed
   is : told ≡ events_behind n early
@@ -26,7 +26,7 @@ behind_one n m event e =
 behind_none : (n : ℕ) → IsBehind n []
 behind_none n = record { early = []; is = refl }
 
--- what a byte makes behind an open message
+-- what a byte makes after an open message
 behind_verdict : (h : List ℕ) (b : ℕ) → verdict h ≡ None → (v : Option Placed) → verdict (h ++ b ∷ []) ≡ v
     → IsBehind (length h) (segment_events v (h ++ b ∷ []))
 behind_verdict h b e None f = behind_none (length h)
@@ -49,7 +49,7 @@ behind_byte_held held b h (waiting (x ∷ g) alone e) =
           (behind_one (length (x ∷ g)) (length (x ∷ g) + 1) _ refl)
     ]
 
--- what more bytes make behind any
+-- what more bytes make after any
 record AreBehind (s p : List ℕ) : Type 0 where
   early : List Placed
   is : events (s ++ p) ≡ events s ++ events_behind (length s) early
@@ -105,7 +105,7 @@ nearer-append : (n : ℕ) (xs ys : List Placed) → nearer n (xs ++ ys) ≡ near
 nearer-append n [] ys = refl
 nearer-append n (x ∷ xs) ys = ap (λ (zs : List Placed). at_place (x.place - n) x.event ∷ zs) (nearer-append n xs ys)
 
--- they make the events behind what is held
+-- they make the events after what is held
 held_behind : (s p : List ℕ) → events (open_message s ++ p)
     ≡ events_behind (length (open_message s)) (piece_events (open_message s) p)
 held_behind s p =
@@ -116,7 +116,7 @@ held_behind s p =
     all.is ∙ ap (λ (xs : List Placed). xs ++ events_behind (length o) all.early) quiet in
     is ∙ ap (events_behind (length o)) (sym (ap (nearer (length o)) is ∙ nearer-behind (length o) all.early))
 
--- and behind all that came
+-- and after all that came
 pub behind : (s p : List ℕ) → events (s ++ p) ≡ events s ++ events_behind (length s) (piece_events (open_message s) p)
 behind s p =
     let o = open_message s in
@@ -127,7 +127,7 @@ behind s p =
     (events_behind-events_behind (length s - length o) (length o) (piece_events o p)
     ∙ ap (λ (n : ℕ). events_behind n (piece_events o p)) place)
 
--- in two parts, behind what is held
+-- in two parts, after what is held
 held_in_two : (o p q : List ℕ) → piece_events o (p ++ q)
     ≡ piece_events o p ++ events_behind (length p) (piece_events (open_message (o ++ p)) q)
 held_in_two o p q =
@@ -148,7 +148,7 @@ pieces_add = record {
       (sym (open-append s front));
 }
 
--- any pieces
+-- any chunks
 pub in_a_row : (s : List ℕ) (pieces : List (List ℕ))
     → events (s ++ concat pieces) ≡ events s ++ events_of_pieces (length s) (open_message s) pieces
 in_a_row s [] = rw (append-nil s) (sym (append-nil (events s)))
@@ -161,7 +161,7 @@ in_a_row s (piece ∷ more) =
 
 -- ---- nothing
 
--- no byte behind what is held
+-- no byte after what is held
 pub held_none : (o : List ℕ) → IsHeld o → piece_events o [] ≡ []
 held_none o h = ap (nearer (length o)) (ap events (append-nil o) ∙ events-of_open o (subst (λ (x : List ℕ). IsOpen x) h
     (IsOpen-open o)))

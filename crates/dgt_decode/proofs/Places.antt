@@ -2,7 +2,7 @@
 use Rattle.std.proofs.Common.{◌≡◌, ℕ, suc, ◌+◌, List, [], ◌∷◌, ◌++◌, length, refl, sym, ap, arith, zero-add}
 use Rattle.dgt_decode.specs.Grammar.{Placed, at_place, events_behind, strays}
 
--- events in two parts behind bytes
+-- events in two parts after bytes
 pub events_behind-append : (n : ℕ) (xs ys : List Placed)
     → events_behind n (xs ++ ys) ≡ events_behind n xs ++ events_behind n ys
 events_behind-append n [] ys = refl
@@ -17,7 +17,7 @@ events_behind-events_behind m n (x ∷ xs) =
     let same : m + (n + x.place) ≡ (m + n) + x.place = omega arith in
     rw (same, events_behind-events_behind m n xs) refl
 
--- behind no bytes
+-- after no bytes
 pub events_behind-zero : (xs : List Placed) → events_behind 0 xs ≡ xs
 events_behind-zero [] = refl
 events_behind-zero (x ∷ xs) = rw (events_behind-zero xs, zero-add) refl

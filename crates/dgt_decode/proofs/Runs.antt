@@ -31,7 +31,7 @@ some-before : (bytes : List ℕ) → 0 < length bytes → get_or bytes 0 0 < 128
 some-before [] some seven = absurd (omega arith)
 some-before (b ∷ bytes) some seven = rw (lt-leb 128 b seven) (omega arith)
 
--- so many bytes at the front of what is left are seven-bit, and no more than are missing
+-- this many bytes at the beginning of what is left are seven-bit, and no more than are missing
 pub record IsBodyRun (missing : ℕ) (rest : List ℕ) (used : ℕ) : Type 0 where
   pub some : 0 < used
   pub within : used ≤ length rest
@@ -56,13 +56,13 @@ body_run (suc more) used (b ∷ rest) room some seven is =
       seven = rw (← front, is) (seven-before wanted);
     }
 
--- the front of seven-bit bytes is so
+-- the beginning of seven-bit bytes is so
 pub seven-take : (n : ℕ) (bytes : List ℕ) → SevenByRecursion bytes → SevenByRecursion (take n bytes)
 seven-take zero bytes seven = tt
 seven-take (suc n) [] seven = tt
 seven-take (suc n) (b ∷ bytes) seven = (seven.0, seven-take n bytes seven.1)
 
--- A run of the body ends the message where none of it is missing then, and tells nothing otherwise.
+-- A run of the body ends the message where none of it is missing then, and reports nothing otherwise.
 pub frames-body_run : (kept rest : List ℕ) (left used : ℕ) → IsKept (Body left) kept → IsBodyRun left rest used
     → FramesFront kept rest used (kept ++ take used rest) (after (left - used)).1
     × IsKept (after (left - used)).0 (kept ++ take used rest)

@@ -1,4 +1,4 @@
--- Messages that are spelled one after another.
+-- Messages that are encoded one after another.
 use Rattle.std.proofs.Common.{◌≡◌, ℕ, ◌+◌, ◌-◌, List, [], ◌∷◌, ◌++◌, length, drop, Ok, refl, sym, ap, ◌∙◌, append_assoc, arith}
 use Rattle.std.specs.Prelude.{slice_index}
 use Rattle.std.specs.List.{AllByRecursion}
@@ -23,7 +23,7 @@ abbrev pub AreRead : Type 0
 AreRead = (said : Content) (bytes : List ℕ) → Spells said bytes
     → reading (slice_index bytes 0 - 128) (drop 3 bytes) ≡ Ok said
 
--- what is written of a message spells it
+-- what is written of a message encodes it
 abbrev pub AreSpelled : Type 0
 AreSpelled = (said : Content) → IsMessage said → Spells said (spelling said)
 
@@ -32,7 +32,7 @@ record IsRead (m : Sent) : Type 0 where
   whole : IsWholeMessage m.bytes
   tells : message_event m.bytes ≡ Message m.said
 
--- a message that is spelled is read
+-- a message that is encoded is read
 is_read : AreRead → (m : Sent) → Spells m.said m.bytes → IsRead m
 is_read reads m h =
     record {
@@ -57,20 +57,20 @@ abbrev spellings : List Sent → List (List ℕ)
 spellings [] = []
 spellings (m ∷ ms) = m.bytes ∷ spellings ms
 
--- where a message begins behind them, bytes of one segment stay one
+-- where a message begins after them, bytes of one segment stay one
 lead-before : (g q : List ℕ) → IsAlone g → lead (g ++ q) ≡ []
 lead-before g q alone = rw (lead-append g q, alone.no_lead, alone.one) refl
 
--- and then come the segments of what stands behind
+-- and then come the segments of what stands after
 segments-before : (g q : List ℕ) → IsAlone g → lead q ≡ [] → segments (g ++ q) ≡ g ∷ segments q
 segments-before g q alone e = rw (segments-append g q, alone.one, e, append-nil g) refl
 
--- spellings in a row have no lead
+-- encodings in a row have no lead
 lead-sent : (ms : List Sent) → AllByRecursion IsRead ms → lead (sent_bytes ms) ≡ []
 lead-sent [] h = refl
 lead-sent (m ∷ ms) h = lead-before m.bytes (sent_bytes ms) (IsAlone-whole m.bytes h.0.whole)
 
--- their segments are the spellings
+-- their segments are the encodings
 segments-sent : (ms : List Sent) → AllByRecursion IsRead ms → segments (sent_bytes ms) ≡ spellings ms
 segments-sent [] h = refl
 segments-sent (m ∷ ms) h =
@@ -90,9 +90,9 @@ segments_events-spellings (m ∷ ms) h =
       h.0.tells,
     ) refl
 
--- ---- Behind any bytes
+-- ---- After any bytes
 
--- behind what is open
+-- after what is open
 behind_open : (o : List ℕ) → IsOpen o → (m : Sent) (ms : List Sent) → AllByRecursion IsRead (m ∷ ms)
     → events (o ++ sent_bytes (m ∷ ms)) ≡ events_behind (length o) (cut_of o ++ arrivals (m ∷ ms))
 unfolding events
@@ -108,7 +108,7 @@ behind_open o (waiting g alone e) m ms h =
     )
     (rw (e, segments_events-spellings (m ∷ ms) h) refl)
 
--- behind any bytes
+-- after any bytes
 events-sent : (s : List ℕ) (m : Sent) (more : List Sent) → AllByRecursion IsRead (m ∷ more) →
     events (s ++ sent_bytes (m ∷ more))
     ≡ events s ++ events_behind (length s) (cut_of (open_message s)) ++ events_behind (length s) (arrivals (m ∷ more))
@@ -125,7 +125,7 @@ events-sent s m more h =
     (a ++ b) ∙ ap (λ (n : ℕ). events_behind n (a ++ b)) here ∙ events_behind-append (length s) a b)
     ∙ sym (append_assoc (events s) (events_behind (length s) a) (events_behind (length s) b))
 
--- a whole message behind what is open leaves nothing open
+-- a whole message after what is open leaves nothing open
 behind_whole : (o w : List ℕ) → IsOpen o → IsWholeMessage w → open_message (o ++ w) ≡ []
 unfolding open_message
 behind_whole o w nothing whole = whole_open w whole
@@ -146,7 +146,7 @@ open-sent s m (k ∷ more) h =
 
 -- ---- The laws
 
--- both of messages that are spelled
+-- both of messages that are encoded
 pub recovery : AreRead → (s : List ℕ) (m : Sent) (more : List Sent) → AllByRecursion (λ m. Spells m.said m.bytes)
     (m ∷ more) →
     (events (s ++ sent_bytes (m ∷ more))

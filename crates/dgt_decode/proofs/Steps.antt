@@ -168,13 +168,13 @@ verdict-new h b x e new = go (stage_of h) (stage_of (h ++ b ∷ []))
     go (bad long small) s = let no = verdict-bad h long small in absurd cc
     go (whole large enough) s = let no = verdict-whole h large enough in absurd cc
 
--- the byte that brings a verdict has no Stray behind it
+-- the byte that brings a verdict has no Stray after it
 segment_events-new : (h : List ℕ) (b : ℕ) → verdict h ≡ None → (v : Option Placed) → verdict (h ++ b ∷ []) ≡ v
     → length (segment_events v (h ++ b ∷ [])) ≤ 1
 segment_events-new h b e None f = omega arith
 segment_events-new h b e (Some x) f = rw (verdict-new h b x e f, drop-length (h ++ b ∷ [])) (omega arith)
 
--- one more byte behind what is held makes one event at most
+-- one more byte after what is held makes one event at most
 one_event_held : (held : List ℕ) (b : ℕ) → IsHeld held → IsOpen held → length (events (held ++ b ∷ [])) ≤ 1
 one_event_held held b h nothing =
     elim (cases_lt b 128) [

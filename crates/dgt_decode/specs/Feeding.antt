@@ -10,8 +10,8 @@ use Rattle.dgt_decode.specs.declared.event.Found.{Found}
 use Rattle.dgt_decode.specs.declared.event.Found.TheVariants as found
 use Rattle.dgt_decode.specs.Grammar.{Event, Message, Refused, Cut, BadLength, Stray, Placed, announced_total, at_place, events, message_event}
 
--- Used is the least number of the piece's bytes with which there is an event, and this is it.
--- With none the whole piece is used.
+-- Used is the least number of the chunk's bytes with which there is an event, and this is it. If
+-- there is none, the whole chunk is used.
 abbrev pub FirstEvent : List ℕ → List ℕ → ℕ → Option Event → Type 0
 FirstEvent held piece used None = (used ≡ length piece) × (events (held ++ piece) ≡ [])
 FirstEvent held piece used (Some event) =
@@ -19,13 +19,13 @@ FirstEvent held piece used (Some event) =
     × (events (held ++ take used piece) ≡ at_place (length held + used) event ∷ [])
     × ((k : ℕ) → k < used → events (held ++ take k piece) ≡ [])
 
--- The events of a piece behind an unfinished message. The place of each is how many bytes of the
--- piece come up to and including the one that makes it.
+-- The events of a chunk after an unfinished message. The place of each is how many bytes of the
+-- chunk come up to and including the one that makes it.
 abbrev pub piece_events : List ℕ → List ℕ → List Placed
 piece_events held piece =
     map (λ x. at_place (x.place - length held) x.event) (events (held ++ piece))
 
--- an event that the code tells
+-- an event that the code reports
 abbrev pub event_content : code.Event → Event
 event_content (code_events.Message message) = Message (content message)
 event_content (code_events.Refused code fault) = Refused (number code) fault

@@ -1,7 +1,7 @@
 -- What the bytes from a board say. A list of bytes is cut before each byte with a set top bit: the
 -- part before the first cut is the lead, the others are segments. Bytes of the lead are stray. A
--- segment begins with a header of three bytes, which says how long the message is; bytes of the
--- segment behind its message are stray.
+-- segment begins with a header of three bytes, which says how long the message is. Bytes of the
+-- segment after its message are stray.
 use Rattle.std.specs.Prelude.{ℕ, ◌+◌, ◌-◌, Bool, List, [], ◌∷◌, ◌++◌, length, take, drop, Option, Some, None, Result, Ok, Err, nat_lt, nat_le, slice_index, if◌then◌else◌}
 use Rattle.dgt_message.specs.declared.viewing.BodyFault.{BodyFault}
 use Rattle.dgt_message.specs.Content.{Content}
@@ -24,7 +24,7 @@ pub record Placed : Type 0 where
 abbrev pub at_place : ℕ → Event → Placed
 at_place place event = record { place = place; event = event }
 
--- the events of bytes that stand behind n others
+-- the events of bytes that come after n others
 abbrev pub events_behind : ℕ → List Placed → List Placed
 events_behind n [] = []
 events_behind n (x ∷ events) = at_place (n + x.place) x.event ∷ events_behind n events
@@ -75,7 +75,7 @@ verdict segment =
     else Some (at_place (announced_total segment)
     (message_event (take (announced_total segment) segment)))
 
--- the events of a segment with this verdict: behind its message each byte is stray
+-- the events of a segment with this verdict: after its message each byte is stray
 abbrev pub segment_events : Option Placed → List ℕ → List Placed
 segment_events None segment = []
 segment_events (Some x) segment = x ∷ events_behind x.place (strays (drop x.place segment))
@@ -85,7 +85,7 @@ abbrev pub unfinished_part : Option Placed → List ℕ → List ℕ
 unfinished_part None segment = segment
 unfinished_part (Some x) segment = []
 
--- the Cut that the first byte behind unfinished bytes makes
+-- the Cut that the first byte after unfinished bytes makes
 abbrev pub cut_of : List ℕ → List Placed
 cut_of [] = []
 cut_of (b ∷ bytes) = at_place 1 (Cut (length (b ∷ bytes))) ∷ []

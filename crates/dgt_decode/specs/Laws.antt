@@ -7,7 +7,7 @@ use Rattle.dgt_message.specs.Spelling.{spelling}
 use Rattle.dgt_decode.specs.Grammar.{Message, Event, Placed, at_place, events_behind, cut_of, events, open_message}
 use Rattle.dgt_decode.specs.Feeding.{FirstEvent, at_place_if_any, piece_events}
 
--- a byte with a set top bit, and seven-bit bytes behind it
+-- a byte with a set top bit, and seven-bit bytes after it
 abbrev pub IsSegment : List ℕ → Type 0
 IsSegment [] = ⊥
 IsSegment (b ∷ bytes) = (128 ≤ b) × AreSevenBit bytes
@@ -33,12 +33,12 @@ OpenAppend = (s p : List ℕ) → open_message (s ++ p) ≡ open_message (open_m
 abbrev pub OpenIsPart : Type 0
 OpenIsPart = (s : List ℕ) → length (open_message s) ≤ length s
 
--- Where bytes make no event, they are all held.
+-- If bytes make no event, they are all held.
 abbrev pub QuietHeld : Type 0
 QuietHeld = (s : List ℕ) → events s ≡ [] → open_message s ≡ s
 
--- Behind no bytes events stay where they are; behind bytes that stand behind others they stand
--- behind all of these; and each is placed by itself.
+-- After no bytes, events keep their places. After two lists of bytes their places are those after
+-- both lists in a row. Each event is placed by itself.
 pub record PlacesAdd : Type 0 where
   pub none : (told : List Placed) → events_behind 0 told ≡ told
   pub twice : (m n : ℕ) (told : List Placed) →
@@ -46,8 +46,8 @@ pub record PlacesAdd : Type 0 where
   pub in_a_row : (n : ℕ) (told more : List Placed) →
       events_behind n (told ++ more) ≡ events_behind n told ++ events_behind n more
 
--- An unfinished message makes no event, and is what it leaves unfinished. No byte behind it makes
--- none, and leaves it as it is.
+-- An unfinished message makes no event, and is what it leaves unfinished. If no byte comes after
+-- it, there is no event, and it stays as it is.
 pub record OpenIsQuiet : Type 0 where
   pub no_event : (s : List ℕ) → events (open_message s) ≡ []
   pub stays : (s : List ℕ) → open_message (open_message s) ≡ open_message s
@@ -55,8 +55,8 @@ pub record OpenIsQuiet : Type 0 where
       (piece_events (open_message s) [] ≡ [])
       × (open_message (open_message s ++ []) ≡ open_message s)
 
--- Behind any bytes, those of a piece make the events of the piece; and a piece's events are those
--- of its front, and then those of the rest.
+-- After any bytes, those of a chunk make the events of the chunk. A chunk's events are those of its
+-- prefix, and then those of the rest.
 pub record PiecesAdd : Type 0 where
   pub behind : (s piece : List ℕ) → events (s ++ piece)
       ≡ events s ++ events_behind (length s) (piece_events (open_message s) piece)
@@ -75,7 +75,7 @@ BeginsAnew = (s p : List ℕ) (b : ℕ) → 128 ≤ b →
 
 -- ---- Messages in a row
 
--- a message, and bytes that are said to spell it
+-- a message, and bytes that are said to encode it
 pub record Sent : Type 0 where
   pub said : Content
   pub bytes : List ℕ
@@ -89,7 +89,7 @@ arrivals [] = []
 arrivals (m ∷ more) =
     at_place (length m.bytes) (Message m.said) ∷ events_behind (length m.bytes) (arrivals more)
 
--- What is written of a message, behind any bytes, makes this message known at its last byte, and
+-- What is written of a message, after any bytes, makes this message known at its last byte, and
 -- leaves nothing open.
 abbrev pub SpellingIsRead : Type 0
 SpellingIsRead = (s : List ℕ) (said : Content) → IsMessage said →
@@ -98,7 +98,7 @@ SpellingIsRead = (s : List ℕ) (said : Content) → IsMessage said →
     ++ at_place (length s + length (spelling said)) (Message said) ∷ [])
     × (open_message (s ++ spelling said) ≡ [])
 
--- ---- In pieces
+-- ---- In chunks
 
 -- a piece that a reader is fed, and its answer: how many bytes it used, and the event
 pub record Call : Type 0 where
@@ -117,13 +117,13 @@ AreCalls held (call ∷ calls) =
     FirstEvent held call.piece call.used call.event
     × AreCalls (open_message (held ++ take call.used call.piece)) calls
 
--- the events that these calls tell of a reader that has read n bytes before
+-- the events that these calls report of a reader that has read n bytes before
 abbrev pub events_in_pieces : ℕ → List Call → List Placed
 events_in_pieces n [] = []
 events_in_pieces n (call ∷ calls) =
     at_place_if_any (n + call.used) call.event ++ events_in_pieces (n + call.used) calls
 
--- the events of pieces in a row behind n bytes, of which these are an unfinished message
+-- the events of chunks in a row after n bytes, of which these are an unfinished message
 abbrev pub events_of_pieces : ℕ → List ℕ → List (List ℕ) → List Placed
 events_of_pieces n held [] = []
 events_of_pieces n held (piece ∷ more) =

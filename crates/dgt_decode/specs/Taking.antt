@@ -35,7 +35,7 @@ pub record FramesFront (kept rest : List ℕ) (used : ℕ) (new : List ℕ) (wha
   pub within : used ≤ length rest
   pub frames : Frames kept (take used rest) new what
 
--- A message of so many bytes begins with the first of these, and all of its header has come.
+-- A message of this length begins with the first of these, and all of its header has come.
 pub record Begins (total : ℕ) (bytes : List ℕ) : Type 0 where
   pub first : 128 ≤ slice_index bytes 0
   pub header : AreSevenBit (take 2 (drop 1 bytes))
@@ -43,6 +43,6 @@ pub record Begins (total : ℕ) (bytes : List ℕ) : Type 0 where
   pub is : total ≡ announced_total bytes
   pub large : 3 ≤ total
 
--- an event that a program tells which cuts a whole list of bytes, at its place
+-- an event that a program reports which cuts a whole list of bytes, at its place
 abbrev pub placed_content : ℕ × CodeEvent → Placed
 placed_content told = at_place told.0 (event_content told.1)

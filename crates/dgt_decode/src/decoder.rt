@@ -19,16 +19,16 @@ pub struct Unfinished {
     pub have: usize,
 }
 
-/// A decoder's answer to a piece.
+/// A decoder's answer to a chunk.
 #[derive(Clone, Copy, Debug, PartialEq, Eq)]
 pub struct Fed<'a> {
-    /// How many bytes of the piece were used. The others are still to be fed.
+    /// How many bytes of the chunk were used. The others are still to be fed.
     pub used: usize,
-    /// The event that the last used byte made. With none, the whole piece was used.
+    /// The event that the last used byte made. If there is none, the whole chunk was used.
     pub event: Option<Event<'a>>,
 }
 
-/// Reads what a board sends, in pieces of any length. Contracts see it as the bytes that have come
+/// Reads what a board sends, in chunks of any length. Contracts see it as the bytes that have come
 /// of an unfinished message.
 ///
 /// The bytes are kept in the decoder itself, at most [`MAX_TOTAL`] of them. No call takes memory.
@@ -59,7 +59,7 @@ impl Decoder {
         }
     }
 
-    /// Uses bytes of the piece up to and including the first that makes an event, or all of it.
+    /// Uses bytes of the chunk up to and including the first that makes an event, or all of it.
     ///
     /// The event lends its body from the decoder until the next call.
     pub fn feed(&mut self, piece: &[u8]) -> Fed<'_>
@@ -80,10 +80,10 @@ impl Decoder {
         }
     }
 
-    /// Uses a whole piece, and tells the listener each event that it makes, in order, with how many
-    /// bytes of the piece come up to and including the one that makes it.
+    /// Uses a whole chunk, and hands the listener each event that it makes, in order, with how many
+    /// bytes of the chunk come up to and including the one that makes it.
     ///
-    /// Whatever pieces bytes come in, the events are those of the bytes in a row
+    /// However the bytes are cut, the events are those of the bytes in a row
     /// (`laws::pieces_in_a_row`).
     pub fn feed_all<L: Listener>(&mut self, piece: &[u8], listener: &mut L)
         ensures told { FoldsTo L.hears listener.old (piece_events self.old piece.now) listener.new }
@@ -109,7 +109,7 @@ impl Decoder {
         self.framer.open_len()
     }
 
-    /// Tells of an unfinished message, if there is one, and makes the decoder as new.
+    /// Reports an unfinished message, if there is one, and makes the decoder as new.
     pub fn finish(&mut self) -> Option<Unfinished>
         ensures told { MatchOption result (self.old ≡ [])
             (λ unfinished. (0 < length self.old) × (unfinished.have ≡ length self.old)) }

@@ -5,9 +5,9 @@ use dgt_values::SevenBit;
 
 /// What a byte makes known. A message lends its body from whoever read it.
 ///
-/// That a message's first byte has its top bit set and the others haven't, and that its second and
-/// third byte say its length, is in the DGT Electronic Board Protocol Description. How faulty bytes
-/// are told is this project's own choice.
+/// The DGT Electronic Board Protocol Description says that only the first byte of a message has its
+/// top bit set, and that the second and third are its length. How faulty bytes are reported is this
+/// project's own choice.
 #[derive(Clone, Copy, Debug, PartialEq, Eq)]
 pub enum Event<'a> {
     /// A whole message. The byte is its last.
@@ -25,7 +25,7 @@ pub enum Event<'a> {
     Stray(u8),
 }
 
-/// What a framer found. Where it is a whole message, the framer keeps the message's bytes.
+/// What a framer found. If it is a whole message, the framer keeps the message's bytes.
 #[derive(Clone, Copy, Debug, PartialEq, Eq)]
 pub enum Found {
     /// A message has come whole. Its body may say nothing.

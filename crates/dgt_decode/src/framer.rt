@@ -30,16 +30,16 @@ enum FramerState {
     Whole,
     /// One or two bytes of its header have come.
     Head,
-    /// Its header has come, and so many bytes are still to come.
+    /// Its header has come, and this number of bytes is still to come.
     Body { left: usize },
 }
 
-/// A framer's answer to a piece.
+/// A framer's answer to a chunk.
 #[derive(Clone, Copy, Debug, PartialEq, Eq)]
 pub struct Advanced {
-    /// How many bytes of the piece were used. The others are still to be read.
+    /// How many bytes of the chunk were used. The others are still to be read.
     pub used: usize,
-    /// What the last used byte made known. With none, the whole piece was used.
+    /// What the last used byte made known. If there is nothing, the whole chunk was used.
     pub found: Option<Found>,
 }
 
@@ -67,8 +67,8 @@ impl Model for Framer {
     ghost invariant = { λ framer. IsKept framer.state framer.kept };
 }
 
-// The state after bytes of a message, where so many are still to come, and what the last byte made
-// known.
+// The state after bytes of a message of which this number is still to come, and what the last byte
+// made known.
 fn after_byte(left: usize) -> (FramerState, Option<Found>)
     ensures { result ≡ (if left == 0 then (FramerState.Whole, Some Found.Message)
         else (FramerState.Body left, None)) }
@@ -130,7 +130,7 @@ impl Framer {
         self.state = FramerState::Hunting;
     }
 
-    /// Uses bytes of the piece up to and including the first that makes something known, or all of
+    /// Uses bytes of the chunk up to and including the first that makes something known, or all of
     /// it.
     pub fn advance(&mut self, piece: &[u8]) -> Advanced
         ensures within { result.used ≤ length piece.now }
@@ -257,7 +257,7 @@ impl Framer {
         self.take_bytes(&rest[..rest.len().min(MANY)])
     }
 
-    // Takes a message's header, and the run of its body behind it.
+    // Takes a message's header, and the run of its body after it.
     fn take_beginning(&mut self, total: usize, rest: &[u8]) -> Advanced
         requires closed { open_message self.old ≡ [] }
         requires begins { Begins total rest.now }

@@ -24,7 +24,7 @@ pub fn is_field_at_front(bytes: &[u8]) -> bool
     *first >= TOP_BIT && *square < TOP_BIT && *piece < TOP_BIT
 }
 
-/// The total that a message's header says, where one stands whole at the front of these bytes.
+/// The total that a message's header says, if one stands whole at the front of these bytes.
 #[inline]
 pub fn total_at_front(bytes: &[u8]) -> Option<usize>
     ensures { IfSome result (λ total. Begins total bytes.now) }

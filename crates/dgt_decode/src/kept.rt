@@ -9,7 +9,7 @@ use crate::lanes::first_top;
 use std::marker::Model;
 use std::simd::prelude::*;
 
-// A message of no more bytes than this is copied in one step, with bytes behind it where there are
+// A message of no more bytes than this is copied in one step, with bytes after it if there are
 // some.
 const FEW: usize = 8;
 
@@ -77,7 +77,7 @@ impl Kept {
         self.len = end;
     }
 
-    /// Appends the bytes at the front of the piece whose top bit isn't set, and no more than are
+    /// Appends the bytes at the front of the chunk whose top bit isn't set, and no more than are
     /// missing. Answers how many they are.
     pub fn append_run(&mut self, missing: usize, piece: &[u8]) -> usize
         requires { length self.old + missing ≤ MAX_TOTAL }
@@ -90,7 +90,7 @@ impl Kept {
         run
     }
 
-    /// Keeps so many bytes at the front of these, and none from before.
+    /// Keeps the first `len` of these bytes, and none from before.
     pub fn set_front(&mut self, bytes: &[u8], len: usize)
         requires within { len ≤ length bytes.now }
         requires fits { len ≤ MAX_TOTAL }

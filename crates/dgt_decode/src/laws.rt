@@ -20,8 +20,8 @@ pub fn limits()
     ensures { MAX_TOTAL ≡ 16383 }
 {}
 
-/// Two values are equal, as `==` compares them, exactly where they are the same. Of an event what
-/// it tells counts, and not where its bytes lie.
+/// Two values are equal, as `==` compares them, exactly if they are the same. Of an event counts
+/// what it reports, and not where its bytes lie.
 pub fn equal_is_same()
     ensures unfinished { EqualIsSame ⟦<Unfinished as PartialEq>⟧.eq }
     ensures found { EqualIsSame ⟦<Found as PartialEq>⟧.eq }
@@ -65,8 +65,8 @@ pub fn open_is_part()
     ensures { OpenIsPart }
 {}
 
-/// Places add up: events behind no bytes stay where they are, behind bytes behind bytes they stand
-/// behind all of these, and each of them is placed by itself.
+/// Places add up. After no bytes, events keep their places. After two lists of bytes their places
+/// are those after both lists in a row, and each event is placed by itself.
 pub fn places_add()
     ensures { PlacesAdd }
 {}
@@ -76,12 +76,12 @@ pub fn one_event()
     ensures { (s : List ℕ) (b : ℕ) → length (events (open_message s ++ b ∷ [])) ≤ 1 }
 {}
 
-/// Where no event has come, every byte is held.
+/// If no event has come, every byte is held.
 pub fn quiet_held()
     ensures { QuietHeld }
 {}
 
-/// What is unfinished makes no event, and where nothing comes behind it, nothing changes.
+/// What is unfinished makes no event, and if nothing comes after it, nothing changes.
 pub fn open_is_quiet()
     ensures { OpenIsQuiet }
 {}
@@ -97,9 +97,8 @@ pub fn begins_anew()
     ensures { BeginsAnew }
 {}
 
-/// Whatever bytes came before, messages that are spelled one after another are read whole, each at
-/// its last byte, and nothing stays open. All that the first of them may do to what came before is
-/// to cut it off.
+/// Whatever bytes came before, encoded messages in a row are read whole, each at its last byte, and
+/// nothing stays open. The first of them may cut off what came before, and that is all.
 pub fn recovery()
     ensures { (s : List ℕ) (m : Sent) (more : List Sent) →
         AllByRecursion (λ m. Spells m.said m.bytes) (m ∷ more) →
@@ -119,20 +118,20 @@ pub fn spelling_is_read()
     messages::spelling_spells();
 }
 
-/// A reader that holds some bytes has one answer to a piece.
+/// A reader that holds some bytes has one answer to a chunk.
 pub fn one_first_event()
     ensures { (held piece : List ℕ) (j k : ℕ) (x y : Option EventSaid) →
         FirstEvent held piece j x → FirstEvent held piece k y → (j ≡ k) × (x ≡ y) }
 {}
 
-/// However bytes are cut into pieces, of one byte or of none, the events told are those of the
+/// However bytes are cut into chunks, of one byte or of none, the events reported are those of the
 /// bytes in a row.
 pub fn in_any_pieces()
     ensures { (s : List ℕ) (calls : List Call) → AreCalls (open_message s) calls →
         events (s ++ used_bytes calls) ≡ events s ++ events_in_pieces (length s) calls }
 {}
 
-/// What is written of a message is read as this message, at its last byte, in any pieces and
+/// What is written of a message is read as this message, at its last byte, however it is cut and
 /// whatever came before it.
 pub fn spelling_in_pieces()
     ensures { (s : List ℕ) (said : Content) (calls : List Call) →
@@ -145,7 +144,7 @@ pub fn spelling_in_pieces()
     messages::spelling_spells();
 }
 
-/// The events of pieces, one after another, are those of the bytes in a row.
+/// The events of chunks, one after another, are those of the bytes in a row.
 pub fn pieces_in_a_row()
     ensures add { PiecesAdd }
     ensures any { (s : List ℕ) (pieces : List (List ℕ)) → events (s ++ concat pieces)

@@ -1,28 +1,32 @@
-//! Reads the bytes that a DGT board sends, in pieces of any length.
+//! Reads the bytes that a DGT board sends, in chunks of any length.
 //!
 //! ```text
 //! let mut decoder = Decoder::new();
-//! let fed = decoder.feed(piece);   // uses bytes up to and including the first with an event
+//! let fed = decoder.feed(chunk);   // uses bytes up to and including the first with an event
 //! ```
 //!
-//! A caller feeds what `fed.used` leaves of a piece until the piece is used up, and may do anything
-//! with `fed.event` before it does: the event lends its body from the decoder until the next call.
-//! `feed_all` does so with a whole piece, and tells each event to a [`Listener`].
+//! `fed.event` is the event, if there is one, and `fed.used` how many bytes were used. Feed the
+//! rest of the chunk until it is used up. An event lends its body from the decoder until the next
+//! call. `feed_all` does all of this with a whole chunk, and hands each event to a [`Listener`].
 //!
-//! However the bytes are cut into pieces, the events are those of the bytes in a row
-//! (`laws::in_any_pieces`), and after any bytes messages are read whole again (`laws::recovery`).
+//! However the bytes are cut into chunks, the events are those of the bytes in a row
+//! (`laws::in_any_pieces`). After any bytes, messages are read whole again (`laws::recovery`).
 //!
-//! [`plain`] computes all events of a list of bytes at once, by the grammar itself. It is slow, and
-//! there to compare a reader with.
+//! [`plain`] computes all events of a list of bytes at once, by the grammar itself. It is slow: use
+//! it to compare a reader with.
 //!
-//! Contracts see a decoder as the bytes of its unfinished message. `events` are the events of a
-//! list of bytes, each with its place, and `open_message` is what the list leaves unfinished
-//! (`specs/Grammar.antt`); `FirstEvent` is what one call does with a piece, and `piece_events` are
-//! the events of all of it (`specs/Feeding.antt`). [`laws`] says how the events of pieces make up
-//! those of the whole, and that what is unfinished makes none.
+//! | Contracts cite | It says |
+//! |---|---|
+//! | `events` (`specs/Grammar.antt`) | the events of a list of bytes, each with its place |
+//! | `open_message` | what the list leaves unfinished; a decoder is seen as these bytes |
+//! | `FirstEvent` (`specs/Feeding.antt`) | what one call does with a chunk |
+//! | `piece_events` | the events of a whole chunk |
+//!
+//! [`laws`] says how the events of chunks make up those of the whole, and that what is unfinished
+//! makes none.
 //!
 //! Messages, codes and lengths are those of the DGT Electronic Board Protocol Description (the
-//! header `dgtbrd`). How faulty bytes are told and where reading goes on after them is this
+//! header `dgtbrd`). How faulty bytes are reported, and where reading continues after them, is this
 //! project's own choice.
 #![tactic(auto)]
 

@@ -1,11 +1,11 @@
-//! Who is told the events of a whole piece.
+//! What hears the events of a whole chunk.
 
 ghost use Rattle.dgt_decode.specs.Feeding.{event_content};
 ghost use Rattle.dgt_decode.specs.Grammar.{Placed, at_place};
 
 use crate::event::Event;
 
-/// Is told events, one after another.
+/// Hears events, one after another.
 ///
 /// Contracts see what a listener makes of an event as a relation, `hears`, which each listener
 /// states for itself.
@@ -13,8 +13,8 @@ pub trait Listener {
     // the listener before an event, the event with its place, and the listener after it
     ghost hears: { Self → Placed → Self → Type 0 };
 
-    /// Is told an event, and how many bytes of the piece come up to and including the one that
-    /// makes it.
+    /// Hears an event, and how many bytes of the chunk come up to and including the one that makes
+    /// it.
     fn hear(&mut self, place: usize, event: &Event<'_>)
         ensures { hears self.old (at_place place (event_content event.now)) self.new };
 }

@@ -1,6 +1,6 @@
 //! All events of a list of bytes, in a plain and slow way: the list is cut before each byte with a
-//! set top bit, and each part is judged whole. A [`Decoder`](crate::Decoder) tells the same events
-//! without the list.
+//! set top bit, and each part is judged whole. A [`Decoder`](crate::Decoder) reports the same
+//! events without the list.
 
 ghost use Rattle.std.specs.Prelude.{◌≡◌, ◌≤◌, ◌<◌, ◌+◌, ◌^◌, [], ◌++◌, length, map, take, if◌then◌else◌, IfOk, IfSome, OnOk, option_map};
 ghost use Rattle.dgt_decode.specs.Grammar.{cut_of, events, events_behind, lead, segment_events, strays, unfinished_part, verdict};
@@ -47,7 +47,7 @@ fn segment_verdict(segment: &[u8]) -> Option<Told<'_>>
     Some((total, whole_message(&segment[..total])))
 }
 
-// A Stray for each of the bytes, of which so many stand before.
+// A Stray for each of the bytes, with how many bytes come before the first of them.
 fn push_strays(told: &mut Vec<Told<'_>>, before: usize, bytes: &[u8]) -> Result<(), AllocError>
     requires { before + length bytes.now < 2 ^ 64 }
     ensures { OnOk result (map placed_content told.new.items
@@ -59,7 +59,7 @@ fn push_strays(told: &mut Vec<Told<'_>>, before: usize, bytes: &[u8]) -> Result<
     Ok(())
 }
 
-// The events of a segment that so many bytes stand before, and the Cut where another segment
+// The events of a segment, with how many bytes come before it, and the Cut if another segment
 // follows.
 fn push_segment<'a>(
     told: &mut Vec<Told<'a>>,

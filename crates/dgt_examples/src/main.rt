@@ -1,10 +1,14 @@
-//! What a program does with the libraries. README.md and docs/USING.md show these files, and
-//! `checks/readme` finds each of their blocks of Rust in one of them.
+//! What a program does with the libraries. docs/USING.md shows these files, and `checks/readme`
+//! finds each of its blocks of Rust in one of them.
 //!
 //! The program itself, `pictures`, shows where the pieces stand after each change that the board on
-//! standard input reports. Beside it: following a board over a source and a sink, asking it again
-//! when that is due, the squares on which two positions differ, reading a board's bytes without a
-//! host, and trying a host against a board of this project.
+//! standard input reports. The other examples are:
+//!
+//! - following a board over a source and a sink
+//! - asking it again when that is due
+//! - the squares on which two positions differ
+//! - reading a board's bytes without a host
+//! - trying a host against a board of this project
 #![tactic(auto)]
 
 mod asking;

@@ -1,7 +1,7 @@
 use dgt_host::Host;
 use std::io::{self, Read, Write};
 
-/// Writes the placement of the pieces after each change that a board tells, up to the end.
+/// Writes the placement of the pieces after each change that a board reports, up to the end.
 pub fn show<R: Read + Drop, W: Write + Drop>(mut board: R, mut output: W) -> io::Result<()> {
     let mut host = Host::new();
     let mut shown = None;

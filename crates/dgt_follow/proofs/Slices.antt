@@ -27,7 +27,7 @@ set_in_slice bytes old n b long room =
 
 -- ---- an asking
 
--- the new slice has the clock's request after so many bytes of this one
+-- the new slice has the clock's request after this many bytes of this one
 abbrev RequestFollows : UpdateMode → ℕ → ℕ → List ℕ → List ℕ → Type 0
 RequestFollows mode count written slice new =
     (bytes old : List ℕ) → length bytes ≡ count → slice ≡ bytes ++ drop count old

@@ -62,8 +62,8 @@ host_after_asking Asking.Nothing host = host
 host_after_asking Asking.Heartbeat host = host_awaiting host (Some Kind.Dump)
 host_after_asking Asking.Anew host = host_awaiting (without_awaited host) (Some Kind.Dump)
 
--- What a host asks stands at the front of the slice, whose other bytes are as they were; or the
--- slice is too short for that, and nothing changes.
+-- What a host asks is written at the beginning of the slice, whose other bytes are as they were. Or
+-- the slice is too short for that, and nothing changes.
 abbrev pub HostAsks : Asking → UpdateMode → HostView → HostView → List ℕ → List ℕ
     → Result ℕ NoRoom → Type 0
 HostAsks what mode before after old new (Ok written) =

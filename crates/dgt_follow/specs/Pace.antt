@@ -140,7 +140,7 @@ asking_bytes mode Asking.Anew =
 abbrev pub is_unanswered : PaceView → Bool
 is_unanswered pace = is_some pace.asked && not pace.answered
 
--- the pace that has asked at this time, and may send so many heartbeats more
+-- the pace that has asked at this time, and may send this number of heartbeats more
 abbrev pub pace_asked : PaceView → ℕ → ℕ → PaceView
 pace_asked pace left now =
     record pace {

@@ -127,8 +127,8 @@ impl Follower {
     /// bytes that are left.
     ///
     /// A dump that was awaited answers the last asking. A cut, refused, misstated or stray message
-    /// and an unasked one are disturbances: the next asking is due at once, but not before a
-    /// quarter of the period after the last one, and it begins anew.
+    /// and an unasked one are disturbances. After a disturbance the next asking begins anew. It is
+    /// due at once, but not before a quarter of the period after the last one.
     pub fn hear(&mut self, now: u64, chunk: &[u8]) -> usize
         ensures heard { self.new ≡ follower_after self.old now (take result chunk.now) }
         ensures first { (event : Option EventSaid)
@@ -172,16 +172,20 @@ impl Follower {
         }
     }
 
-    /// Asks the board, if that is due, and returns how many bytes it wrote into the front of the
+    /// Asks the board, if that is due, and returns how many bytes it wrote at the beginning of the
     /// slice, at most [`MAX_ASKING`]. If it isn't due, nothing changes and the result is 0.
     ///
-    /// It is due at any time if it has never asked, and else a period after the last asking, or
-    /// after a disturbance a quarter of the period. It writes a heartbeat, the mode's command and
-    /// `42`, if a dump that was awaited came since the last asking, nothing disturbed it since,
-    /// fewer than 16 replies are awaited and the patience has not run out. Else it begins anew: the
-    /// host gives up what it awaits, and 255 zeros, `44 42` and the mode's command are written.
-    /// Either way the picture stays known, and a dump is awaited. If the mode reports the clock,
-    /// `41` follows, which requests a reading of it.
+    /// The first asking is due at any time, and each other one a period after the last. After a
+    /// disturbance it is due a quarter of the period after the last.
+    ///
+    /// It writes a heartbeat, the mode's command and `42`, on these conditions:
+    ///
+    /// - an awaited dump came since the last asking, and nothing disturbed it since;
+    /// - fewer than 16 replies are awaited, and the patience has not run out.
+    ///
+    /// Otherwise it begins anew: the host gives up what it awaits, and 255 zeros, `44 42` and the
+    /// mode's command are written. Either way the picture stays known, and a dump is awaited. If
+    /// the mode reports the clock, `41` follows, which requests a reading of it.
     ///
     /// `NoRoom` if the slice is shorter than what is due in this mode, and then nothing changes. A
     /// heartbeat needs 2 bytes with [`UpdateMode::Squares`] and 3 else, a new beginning 258 and

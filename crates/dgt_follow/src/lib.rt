@@ -3,10 +3,14 @@
 //!
 //! A [`Follower`] owns a [`Host`](dgt_host::Host), and neither a line nor a clock. The caller hands
 //! in the time, and a slice for the bytes to send. [`Follower::ask`] writes what the board has to
-//! be asked, if that is due: in each period a *heartbeat*, which is the mode's command and a dump
-//! request. If the last one had no answer, something disturbed the line, 16 replies are awaited, or
-//! the patience has run out, it *begins anew*: it ends whatever command the board may be in the
-//! middle of. In a mode that reports the clock each asking requests a reading of it, too.
+//! be asked, if that is due.
+//!
+//! - In each period it is a *heartbeat*: the mode's command and a dump request.
+//! - It *begins anew* if the last asking had no answer, something disturbed the line, 16 replies
+//!   are awaited, or the patience has run out. Then it ends whatever command the board may be in
+//!   the middle of, and asks for everything.
+//! - In a mode that reports the clock each asking requests a reading of it, too.
+//!
 //! [`Follower::due_at`] returns when it will write next, so a program can sleep as long.
 //!
 //! ```rust
@@ -24,7 +28,7 @@
 //! early for the next one. No call takes memory.
 //!
 //! The picture and the clock stay known while the follower asks, and while it begins anew. A board
-//! that lost its power sends no changes and is found by the next heartbeat: the period is how long
+//! that lost its power sends no changes, and the next heartbeat finds it. So the period is how long
 //! the picture may stay wrong then, and the clock in a mode that reports it.
 //!
 //! Contracts see a follower as its host and its pace (`specs/Follower.antt`). The pace

@@ -220,7 +220,7 @@ acts_done mode Asking.Anew world few room =
     (restart_done world (room_first world.down restart_bytes next last room))
     (mode_done mode between (room_next world.down restart_bytes next last room)) refl room
 
--- the bytes that stand at the front of a slice
+-- the bytes that stand at the beginning of a slice
 pub front_of : (bytes old new : List ℕ) (written : ℕ) → written ≡ length bytes → new ≡ bytes ++ drop written old
     → take written new ≡ bytes
 front_of bytes old new written e f = rw f (take_at bytes (drop written old) written (sym e))

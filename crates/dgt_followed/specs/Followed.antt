@@ -37,7 +37,7 @@ all_done acts = map (λ _. Outcome.Done) acts
 abbrev pub RunsDone : List FaultyContent → WorldView → WorldView → Type 0
 RunsDone acts world after = FaultyRuns acts world (all_done acts) after
 
--- the line has room for so many more bytes
+-- the line has room for this number of bytes more
 abbrev pub HasRoom : LineContents → List ℕ → Type 0
 HasRoom line bytes = length line.bytes + length bytes ≤ line.capacity
 

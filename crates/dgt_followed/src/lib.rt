@@ -90,10 +90,10 @@ pub fn calls_are_happenings()
     dgt_follow::laws::hearing_is_the_hosts();
 }
 
-/// Whatever failed, and whatever else is sent, delivered and noted: once the follower has asked
-/// more often than its patience allows heartbeats, with no fault, no break that both sides see and
-/// no reset since, the world is promised to heal. If it is quiet, the picture is the board's
-/// position.
+/// Once the follower has asked more often than its patience allows heartbeats, the world is
+/// promised to heal, whatever failed and whatever else is sent, delivered and noted. Those askings
+/// come with no fault, no break that both sides see and no reset among them. If the world is quiet,
+/// the picture is the board's position.
 pub fn askings_heal()
     ensures promised { (happenings : List Happening) (before after : FollowedView) →
         IsSane before.world → before.pace.left ≤ before.pace.patience → before.since ≡ 0 →
@@ -110,9 +110,10 @@ pub fn askings_heal()
     dgt_link::healing::steps_heal();
 }
 
-/// Whatever failed, and whatever else is sent, delivered and noted: once the follower has asked
-/// more often than its patience allows heartbeats, each time in a mode that reports the clock, the
-/// world's clock is promised to heal. If the world is quiet, the host's clock is the board's.
+/// Once the follower has asked more often than its patience allows heartbeats, each time in a mode
+/// that reports the clock, the world's clock is promised to heal. That holds whatever failed, and
+/// whatever else is sent, delivered and noted. If the world is quiet, the host's clock is the
+/// board's.
 ///
 /// An asking with `Squares` begins the count anew, and so does any other act that unsettles the
 /// clock: a fault, a break, a restart, a reset or the command `UpdateBoard`.

@@ -1,4 +1,4 @@
--- What a host makes of the events of bytes that come in pieces.
+-- What a host makes of the events of bytes that come in chunks.
 use Rattle.std.proofs.Common.{◌≡◌, ◌+◌, Some, refl, sym, ap, ◌∙◌, ℕ, List, [], ◌∷◌, ◌++◌, append_assoc, length, ◌-◌, take, drop, append-nil}
 use Rattle.std.proofs.Math.Seq.{take-add}
 use Rattle.std.specs.List.{AllByRecursion, flat_map}

@@ -47,7 +47,7 @@ abbrev pub picture_after_all : Option (List Piece) → List Content → Option (
 picture_after_all picture [] = picture
 picture_after_all picture (said ∷ more) = picture_after_all (picture_after picture said) more
 
--- the clock after a message: what it tells of a clock, if it does
+-- the clock after a message: what it reports of a clock, if it does
 abbrev pub clock_after : Option ClockState → Content → Option ClockState
 clock_after before (times readings) = Some (ClockState.times readings)
 clock_after before (no_clock absence) = Some (ClockState.no_clock absence)
@@ -122,7 +122,7 @@ host_awaiting host kind = record host { awaited = host.awaited ++ option_to_list
 abbrev pub without_awaited : HostView → HostView
 without_awaited host = record host { awaited = [] }
 
--- what a host sends to follow the board: its changes are to be told, and first the whole of it
+-- what a host sends to follow the board: its changes are to be sent, and first the whole of it
 abbrev pub follow_bytes : List ℕ
 follow_bytes = command_spelling UpdateBoard ++ command_spelling Dump
 
@@ -135,9 +135,9 @@ pub record Request : Type 0 where
   pub kind : Option Kind
   pub bytes : List ℕ
 
--- The bytes stand at the front of the slice, the rest of which is as it was, and the kind is
--- awaited last; or one more can't be awaited, or else the slice is too short for them, and nothing
--- changes.
+-- The bytes are written at the beginning of the slice, the rest of which is as it was, and the kind
+-- is awaited last. Or one more can't be awaited, or else the slice is too short for them; then
+-- nothing changes.
 abbrev pub Sends : Request → HostView → HostView → List ℕ → List ℕ → Result ℕ SendFault → Type 0
 Sends sent before after old new (Ok written) =
     (awaits_too_many before sent.kind ≡ false) × (written ≡ length sent.bytes)

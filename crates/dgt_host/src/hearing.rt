@@ -12,10 +12,10 @@ use dgt_decode::Event;
 use dgt_message::{Clock, Message, kind_of};
 use dgt_values::{Kind, Position};
 
-/// What a host heard in a piece.
+/// What a host heard in a chunk.
 #[derive(Clone, Copy, Debug, PartialEq, Eq)]
 pub struct Heard<'a> {
-    /// How many bytes of the piece were used: those up to and including the one that makes the
+    /// How many bytes of the chunk were used: those up to and including the one that makes the
     /// event, else all.
     pub used: usize,
     /// What the last of them made known. With no event, nothing but the unread bytes of the host
@@ -61,8 +61,8 @@ fn is_same(first: Kind, second: Kind) -> bool
     first == second
 }
 
-// Takes the kind of a message off where it is the first awaited, and answers whether the message
-// has a kind that isn't.
+// Takes the kind of a message off if it is the first awaited, and returns whether the message has a
+// kind that isn't.
 fn take_off(awaited: &mut ArrayVec<Kind, MAX_AWAITED>, message: &Message<'_>) -> bool
     ensures awaited { awaited.new.items
         ≡ awaited_after awaited.old.items (kind_of (content message.now)) }
@@ -81,7 +81,7 @@ fn take_off(awaited: &mut ArrayVec<Kind, MAX_AWAITED>, message: &Message<'_>) ->
     }
 }
 
-/// Changes the parts of a host as an event does, and answers whether it is a message that was not
+/// Changes the parts of a host as an event does, and returns whether it is a message that was not
 /// asked for.
 pub(crate) fn hear_event(
     event: &Event<'_>,

@@ -26,7 +26,8 @@ pub const MAX_AWAITED: usize = 16;
 /// `UpdateBoard` and `Dump`.
 const FOLLOW: [u8; 2] = [0x44, 0x42];
 
-/// So many bytes `00` complete whatever part of a command a board has, and ask for nothing.
+/// This number of bytes `00` completes whatever part of a command a board has, and asks for
+/// nothing.
 const SETTLING_ZEROS: usize = 255;
 
 /// How many bytes a host sends to begin anew: zeros, `UpdateBoard` and `Dump`.
@@ -66,11 +67,11 @@ impl Host {
         }
     }
 
-    /// Writes the bytes of a command into the front of the slice, and answers how many there are.
-    /// The slice beyond them stays as it was. A reply that is of a `Kind` is awaited from then on,
-    /// behind those awaited already.
+    /// Writes the bytes of a command at the beginning of the slice, and returns how many there are.
+    /// The slice after them stays as it was. A reply that is of a `Kind` is awaited from then on,
+    /// after those that are awaited already.
     ///
-    /// First `TooMany`, where the reply is of a `Kind` and 16 are awaited. Then `NoRoom`, where the
+    /// First `TooMany` if the reply is of a `Kind` and 16 are awaited. Then `NoRoom` if the
     /// slice is shorter than the command.
     pub fn send(&mut self, command: &Command<'_>, out: &mut [u8]) -> Result<usize, SendFault>
         ensures sends { let said = command_content command.now in
@@ -92,10 +93,10 @@ impl Host {
         Ok(written)
     }
 
-    /// Asks for all that the picture needs: writes `UpdateBoard` and `Dump`, the bytes `44 42`,
-    /// into the front of the slice, and answers 2. The dump is awaited from then on.
+    /// Requests all that the picture needs: writes `UpdateBoard` and `Dump`, the bytes `44 42`, at
+    /// the beginning of the slice, and returns 2. The dump is awaited from then on.
     ///
-    /// First `TooMany`, where 16 replies are awaited. Then `NoRoom`, where the slice is shorter
+    /// First `TooMany` if 16 replies are awaited. Then `NoRoom` if the slice is shorter
     /// than 2.
     pub fn follow(&mut self, out: &mut [u8]) -> Result<usize, SendFault>
         ensures { Sends (record { kind = Some Kind.Dump; bytes = follow_bytes })
@@ -104,14 +105,14 @@ impl Host {
         self.ask_for_dump(0, out)
     }
 
-    /// Begins anew with a board that may be in the middle of a command: writes 255 bytes `00`,
-    /// which end it as a clock message, an LED frame or a fault, and then, as [`Host::follow`],
-    /// `UpdateBoard` and `Dump`, into the front of the slice, and answers 257. The dump is awaited
-    /// from then on.
+    /// Begins anew with a board that may be in the middle of a command, and returns 257. It writes
+    /// 255 bytes `00` at the beginning of the slice, which end the command as a clock message, an
+    /// LED frame or a fault. Then it writes `UpdateBoard` and `Dump`, as [`Host::follow`] does. The
+    /// dump is awaited from then on.
     ///
     /// For a program that starts on a line on which another one has talked to the board.
     ///
-    /// First `TooMany`, where 16 replies are awaited. Then `NoRoom`, where the slice is shorter
+    /// First `TooMany` if 16 replies are awaited. Then `NoRoom` if the slice is shorter
     /// than 257.
     pub fn restart(&mut self, out: &mut [u8]) -> Result<usize, SendFault>
         ensures { Sends (record { kind = Some Kind.Dump; bytes = restart_bytes })
@@ -120,7 +121,8 @@ impl Host {
         self.ask_for_dump(SETTLING_ZEROS, out)
     }
 
-    // Writes so many bytes `00`, and then what asks for the updates and the whole of the board.
+    // Writes this number of bytes `00`, and then what asks for the updates and the whole of the
+    // board.
     fn ask_for_dump(&mut self, zeros: usize, out: &mut [u8]) -> Result<usize, SendFault>
         requires { zeros ≤ SETTLING_ZEROS }
         ensures { let bytes = replicate zeros 0 ++ follow_bytes in
@@ -175,14 +177,14 @@ impl Host {
         kind.is_some() && self.awaited.is_full()
     }
 
-    /// The picture of the board, where a dump was heard.
+    /// The picture of the board, if a dump was heard.
     pub fn picture(&self) -> Option<&Position>
         ensures { option_map (λ position. pieces_of position.now) result ≡ self.now.picture }
     {
         self.picture.as_ref()
     }
 
-    /// What the board told last of its clock, where it told of it.
+    /// The clock as the board reported it last, or `None` if it has not reported it.
     pub fn clock(&self) -> Option<&Clock>
         ensures { option_map (λ clock. clock_seen clock.now) result ≡ self.now.clock }
     {
@@ -210,11 +212,11 @@ impl Host {
         self.framer.open_len()
     }
 
-    /// Uses bytes of the piece up to and including the first that makes an event, or all of it, and
+    /// Uses bytes of the chunk up to and including the first that makes an event, or all of it, and
     /// lets a message change the picture, the clock and what is awaited.
     ///
     /// The event lends its body from the host until the next call. Call again with the bytes that
-    /// are left: a piece that isn't empty has at least one byte used.
+    /// are left: a chunk that isn't empty has at least one byte used.
     pub fn hear(&mut self, piece: &[u8]) -> Heard<'_>
         ensures* after_borrow { sem 𝓛 (Rests the_row self.entry
             (λ new. new ≡ host_after self.old (take result.used piece.now))) }
@@ -246,10 +248,10 @@ impl Host {
             unasked,
         }
     }
-    /// Uses all of a piece, as [`Host::hear`] does one event after another. The events are not
-    /// told: `picture`, `clock` and `awaited` tell what has become of the host.
+    /// Uses a whole chunk, as [`Host::hear`] does one event after another. It reports no events:
+    /// `picture`, `clock` and `awaited` return what has become of the host.
     ///
-    /// Whatever pieces bytes come in, the host afterwards is the one that hears them in a row
+    /// However the bytes are cut, the host afterwards is the one that hears them in a row
     /// (`laws::heard_in_pieces`).
     pub fn hear_all(&mut self, piece: &[u8])
         ensures { self.new ≡ host_after self.old piece.now }

@@ -19,8 +19,8 @@ pub fn limits()
     ensures restart { RESTART_LENGTH ≡ 257 }
 {}
 
-/// Two values are equal, as `==` compares them, exactly where they are the same. Of an event what
-/// it tells counts, and not where its bytes lie.
+/// Two values are equal, as `==` compares them, exactly if they are the same. Of an event counts
+/// what it reports, and not where its bytes lie.
 pub fn equal_is_same()
     ensures kind { EqualIsSame ⟦<Kind as PartialEq>⟧.eq }
     ensures send_fault { EqualIsSame ⟦<SendFault as PartialEq>⟧.eq }
@@ -38,7 +38,7 @@ pub fn clone_is_same()
     ensures heard { CloneIsSame ⟦<Heard<'static> as Clone>⟧ }
 {}
 
-/// A host that hears bytes in two pieces is the one that hears them in one.
+/// A host that hears bytes in two chunks is the one that hears them in one.
 pub fn heard_in_pieces()
     ensures { HeardInPieces }
 {
@@ -63,7 +63,7 @@ pub fn places_do_not_matter()
 
 /// What is written of a message is heard as this message, whatever bytes the host has heard before:
 /// a cut message, or one that the line has altered. So messages in a row are heard one after
-/// another, and a dump sets the picture, which those behind it change.
+/// another. A dump sets the picture, and the messages after it change it.
 pub fn messages_are_heard()
     ensures whole { (host : HostView) (bytes : List ℕ) (said : Content) → IsMessage said →
         host_after host (bytes ++ spelling said)

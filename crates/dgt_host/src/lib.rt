@@ -1,29 +1,31 @@
-//! The host of a DGT board: it asks, and keeps a picture of the board from what it hears.
+//! The host of a DGT board: it sends commands, and keeps a picture of the board from what it hears.
 //!
-//! A [`Host`] owns no line. `send` and `follow` write the bytes of a [`Command`] into a slice, and
-//! `hear` takes the bytes that came from the board, in pieces of any length, and answers the
-//! [`Event`] that they make; `hear_all` takes a whole piece, and answers none. The messages are
-//! those of the DGT Electronic Board Protocol Description: a dump sets the whole picture, a field
-//! update sets one square of a picture that is known, and what a board tells of its clock sets the
-//! clock.
+//! A [`Host`] owns no line, and no call takes memory or waits.
 //!
-//! That a host keeps a list of at most [`MAX_AWAITED`] awaited replies, in the order in which it
-//! asked, is this project's own choice. A message that answers a command is taken off the list
-//! where it is the first, and is answered as unasked where it isn't.
+//! | To | Use |
+//! |---|---|
+//! | write a [`Command`] into a slice | `send`; `follow` asks for all that a picture needs |
+//! | hear bytes that came, cut anywhere | `hear`, which returns one [`Event`]; `hear_all` |
+//! | see the position, the clock, the awaited replies | `picture`, `clock`, `awaited` |
+//! | go on after a line that both sides saw break | `line_lost`, then `follow` |
+//! | begin on a line on which another program has talked | `restart` |
+//! | go on after a reply was lost | `give_up_awaited` |
 //!
-//! Where the line breaks, `line_lost` makes the host as new, and `follow` asks for all that it
-//! needs once the line is back. Where the board can't know of the break, as where a program is
-//! started again, `restart` asks in place of `follow`: whatever command the board was in the middle
-//! of, it ends it. No call takes memory.
+//! The messages are those of the DGT Electronic Board Protocol Description. A dump sets the whole
+//! picture, a field update sets one square of a picture that is known, and a reading of the clock
+//! sets the clock.
 //!
-//! A program that shows where the pieces stand after each change that a board tells. It needs no
-//! proof of its own:
+//! The list of at most [`MAX_AWAITED`] awaited replies is this project's own choice. A message that
+//! answers a command is taken off the list if it is the first awaited. Otherwise it is reported as
+//! unasked.
+//!
+//! This program prints where the pieces stand after each change. It needs no proof of its own:
 //!
 //! ```rust
 //! use dgt_host::Host;
 //! use std::io::{self, Read, Write};
 //!
-//! /// Writes the placement of the pieces after each change that a board tells, up to the end.
+//! /// Writes the placement of the pieces after each change that a board reports, up to the end.
 //! pub fn show<R: Read + Drop, W: Write + Drop>(mut board: R, mut output: W) -> io::Result<()> {
 //!     let mut host = Host::new();
 //!     let mut shown = None;
@@ -50,18 +52,24 @@
 //! }
 //! ```
 //!
-//! Contracts see a host as its picture, its clock, the kinds that it awaits and its unread bytes:
-//! the `HostView` of `specs/Host.antt`. `host_after` is the host after it has heard some bytes,
-//! `IsUnasked` says which message isn't the first awaited, and `Sends` what sending answers and
-//! leaves. `pieces_of` (dgt_values) are the 64 pieces of a position, `placement_text` (dgt_values)
-//! is their text, and `clock_seen` (dgt_message) is what a clock shows, all without the code's own
-//! types. `events` and `open_message` (dgt_decode) are the events of a list of bytes, and what is
-//! unfinished at its end. [`laws`] says that pieces don't matter (`heard_in_pieces`), and that a
-//! host that hears nothing stays as it is (`nothing_heard`).
+//! Contracts see a host as its picture, its clock, the kinds that it awaits and its unread bytes
+//! (`HostView` of `specs/Host.antt`):
 //!
-//! What messages are made of, and how a position is written, stands in dgt_message and dgt_values.
-//! Of what a host takes and tells, [`Event`], [`Message`], [`Clock`], [`Command`], [`Kind`],
-//! [`Position`], [`Square`] and [`Piece`] are handed on here.
+//! | Name | It says |
+//! |---|---|
+//! | `host_after` | the host after it has heard some bytes |
+//! | `IsUnasked` | which message isn't the first awaited |
+//! | `Sends` | what sending returns and leaves |
+//! | `pieces_of`, `placement_text` (dgt_values) | the 64 pieces of a position, and its text |
+//! | `clock_seen` (dgt_message) | what a clock shows |
+//! | `events`, `open_message` (dgt_decode) | the events of bytes, and what they leave unfinished |
+//!
+//! [`laws`] says that chunks don't matter (`heard_in_pieces`), and that a host that hears nothing
+//! stays as it is (`nothing_heard`).
+//!
+//! dgt_message has what messages are made of, and dgt_values how a position is written. [`Event`],
+//! [`Message`], [`Clock`], [`Command`], [`Kind`], [`Position`], [`Square`] and [`Piece`] are
+//! exported here again.
 #![tactic(auto)]
 
 mod hearing;

@@ -7,7 +7,7 @@ use Rattle.std.proofs.lemmas.Fmt.{decimal_digit, decimal_step}
 use Rattle.std.specs.Prelude.{decimal}
 use Rattle.dgt_lines.specs.Lines.{padded_decimal}
 
--- the digits of a number, of which 0 has none, with leading zeros to at least so many
+-- the digits of a number, of which 0 has none, with leading zeros to at least this many
 abbrev pub front : ℕ → ℕ → List ℕ
 front width zero = replicate width 48
 front width (suc n) = padded_decimal width (suc n)
@@ -49,7 +49,7 @@ front-last width (suc n) h k = elim (cases_lt (suc n) 10) [
       (sym (front_some (width - 1) (suc n / 10) (omega arith)))
 ]
 
--- all digits, where there is at least one
+-- all digits, if there is at least one
 pub front-all : (width n : ℕ) → 0 < width → front width n ≡ padded_decimal width n
 front-all width zero h =
     let e : decimal 0 ≡ 48 ∷ [] = decimal_digit 0 (omega arith) in
@@ -62,7 +62,7 @@ front-all width (suc n) h = refl
 tenth : (n k : ℕ) → n < 10 ^ suc k → n / 10 < 10 ^ k
 tenth n k h = let e : 10 ^ suc k ≡ 10 ^ k * 10 = pow-suc 10 k in omega arith
 
--- so many last digits
+-- this many last digits
 abbrev pub last_digits : ℕ → ℕ → List ℕ
 last_digits zero n = []
 last_digits (suc k) n = last_digits k (n / 10) ++ (48 + n % 10) ∷ []
@@ -112,7 +112,7 @@ padded_pairs n small = padded_eight n small ∙ rw (a, b, c, d, e, f, g, h) refl
     h : n % 10 ≡ n % 10000 % 100 % 10
     h = omega arith
 
--- the same where there is a digit
+-- the same if there is a digit
 pub tenth_below : (n k : ℕ) → n < 10 ^ k → 0 < k → n / 10 < 10 ^ (k - 1)
 tenth_below n zero h p = absurd (omega arith)
 tenth_below n (suc k) h p = let j : suc k - 1 ≡ k = omega arith in rw j (tenth n k h)

@@ -2,7 +2,7 @@
 use Rattle.std.proofs.Common.{◌≡◌, ◌⊎◌, ℕ, List, [], ◌∷◌, ◌++◌, Option, Some, None, refl, sym, ◌∙◌, ap, subst, inl, inr, append-nil, map}
 use Rattle.std.proofs.lemmas.List.{map-append}
 use Rattle.std.specs.List.{AllByRecursion, flat_map}
-use Rattle.std.specs.Prelude.{option_map, ⊤}
+use Rattle.std.specs.Prelude.{bytes_eq, if◌then◌else◌, option_map, ⊤, Bool, true, false}
 use Rattle.dgt_values.specs.declared.pieces.Piece.{Piece}
 use Rattle.dgt_message.specs.Content.{Content}
 use Rattle.dgt_message.specs.Content.Content.{dump, field, times, no_clock, ack, serial, version, carried}
@@ -10,8 +10,11 @@ use Rattle.dgt_decode.specs.Grammar.{Event, Message, Refused, Cut, BadLength, St
 use Rattle.dgt_lines.specs.declared.doubts.Doubt.{Doubt}
 use Rattle.dgt_lines.specs.declared.doubts.Doubt.TheVariants.{Ignored, Clear, Raised}
 use Rattle.dgt_lines.specs.declared.doubts.PictureState.{PictureState}
+use Rattle.dgt_lines.specs.declared.clocks.ShownClock.{ShownClock}
+use Rattle.dgt_lines.specs.declared.clocks.ShownClock.TheVariants.{Hidden, Unknown, Known}
+use Rattle.dgt_host.specs.Host.{picture_after}
 use Rattle.dgt_lines.specs.Pictures.{PlacedPicture, picture_after_event, picture_after_events, picture_line, picture_set, pictures}
-use Rattle.dgt_lines.specs.Reports.{Report, Shows, Doubts, DoubtsKeepThePicture, DoubtsLeavePictures, FirstFaultsAreReported, IgnoredFaultsAreSilent, IsFault, IsMessage, IsSure, doubt_after, doubt_after_fault, doubt_cleared, doubt_raised, doubting, fault_reports, new_state, pictures_shown, report_line, reports, reports_at, state_after_event, state_after_events}
+use Rattle.dgt_lines.specs.Reports.{Report, Shows, ShowsClock, Doubts, DoubtsKeepThePicture, DoubtsLeavePictures, FirstFaultsAreReported, IgnoredFaultsAreSilent, IsFault, IsMessage, IsSure, clock_reports, clock_shown_after, doubt_after, doubt_after_fault, doubt_cleared, doubt_raised, doubting, fault_reports, message_reports, new_state, pictures_shown, report_line, reports, reports_at, state_after_event, state_after_events}
 use Rattle.dgt_lines.proofs.PictureLemmas.{picture_after-append}
 use Rattle.dgt_lines.proofs.ReportLemmas.{reports-append, state_after-append}
 
@@ -37,6 +40,7 @@ shown-append : (xs ys : List Report) → pictures_shown (xs ++ ys) ≡ pictures_
 shown-append [] ys = refl
 shown-append (Shows x ∷ xs) ys = ap (λ l. x ∷ l) (shown-append xs ys)
 shown-append (Doubts place ∷ xs) ys = shown-append xs ys
+shown-append (ShowsClock place text ∷ xs) ys = shown-append xs ys
 
 shown_all : (xs : List PlacedPicture) → pictures_shown (map Shows xs) ≡ xs
 shown_all [] = refl
@@ -49,10 +53,33 @@ doubt_shows_none place (Some pieces) Ignored = refl
 doubt_shows_none place (Some pieces) Clear = refl
 doubt_shows_none place (Some pieces) Raised = refl
 
+other_shows_none : (place : ℕ) (text : List ℕ) (same : Bool)
+    → pictures_shown (if same then [] else ShowsClock place text ∷ []) ≡ []
+other_shows_none place text true = refl
+other_shows_none place text false = refl
+
+clock_shows_none : (place : ℕ) (text : List ℕ) (clock : ShownClock)
+    → pictures_shown (clock_reports place text clock) ≡ []
+clock_shows_none place text Hidden = refl
+clock_shows_none place text Unknown = refl
+clock_shows_none place text (Known last) = other_shows_none place text (bytes_eq last text)
+
+message_shows : (place : ℕ) (said : Content) (before : PictureState)
+    → pictures_shown (message_reports place said before) ≡ picture_set place (Message said)
+    (picture_after before.picture said)
+message_shows place (dump pieces) before = shown_all _
+message_shows place (field square piece) before = shown_all _
+message_shows place (times readings) before = clock_shows_none place _ before.clock
+message_shows place (no_clock absence) before = clock_shows_none place _ before.clock
+message_shows place (ack answer) before = refl
+message_shows place (serial digits) before = refl
+message_shows place (version main sub) before = refl
+message_shows place (carried code body) before = refl
+
 one_shown : (place : ℕ) (event : Event) (before : PictureState)
     → pictures_shown (reports_at place event before) ≡ picture_set place event
     (picture_after_event before.picture event)
-one_shown place (Message said) before = shown_all _
+one_shown place (Message said) before = message_shows place said before
 one_shown place (Refused code fault) before = doubt_shows_none place before.picture before.doubt
 one_shown place (Cut have) before = doubt_shows_none place before.picture before.doubt
 one_shown place BadLength before = doubt_shows_none place before.picture before.doubt
@@ -84,6 +111,46 @@ doubt_or_cleared P doubt (serial digits) p q = p
 doubt_or_cleared P doubt (version main sub) p q = p
 doubt_or_cleared P doubt (carried code body) p q = p
 
+-- ---- if the clock is not shown
+
+-- what a message without the clock reports
+abbrev sets : ℕ → Event → PictureState → List Report
+sets place event before = map Shows (picture_set place event (picture_after_event before.picture event))
+
+hidden_said : (said : Content) → clock_shown_after Hidden said ≡ Hidden
+hidden_said (dump pieces) = refl
+hidden_said (field square piece) = refl
+hidden_said (times readings) = refl
+hidden_said (no_clock absence) = refl
+hidden_said (ack answer) = refl
+hidden_said (serial digits) = refl
+hidden_said (version main sub) = refl
+hidden_said (carried code body) = refl
+
+still_hidden : (before : PictureState) (event : Event) → before.clock ≡ Hidden
+    → (state_after_event before event).clock ≡ Hidden
+still_hidden before (Message said) h = ap (λ c. clock_shown_after c said) h ∙ hidden_said said
+still_hidden before (Refused code fault) h = h
+still_hidden before (Cut have) h = h
+still_hidden before BadLength h = h
+still_hidden before (Stray byte) h = h
+
+pub always_hidden : (before : PictureState) (xs : List Placed) → before.clock ≡ Hidden
+    → (state_after_events before xs).clock ≡ Hidden
+always_hidden before [] h = h
+always_hidden before (x ∷ xs) h = always_hidden (state_after_event before x.event) xs (still_hidden before x.event h)
+
+hidden_message : (place : ℕ) (said : Content) (before : PictureState) → before.clock ≡ Hidden
+    → message_reports place said before ≡ sets place (Message said) before
+hidden_message place (dump pieces) before h = refl
+hidden_message place (field square piece) before h = refl
+hidden_message place (times readings) before h = ap (clock_reports place _) h
+hidden_message place (no_clock absence) before h = ap (clock_reports place _) h
+hidden_message place (ack answer) before h = refl
+hidden_message place (serial digits) before h = refl
+hidden_message place (version main sub) before h = refl
+hidden_message place (carried code body) before h = refl
+
 -- ---- if faults raise no doubt
 
 ignored_fault : (picture : Option (List Piece)) → doubt_after_fault picture Ignored ≡ Ignored
@@ -109,23 +176,23 @@ module _ (before : PictureState) (ignored : before.doubt ≡ Ignored) where
   fault_silent : (place : ℕ) → fault_reports place before ≡ []
   fault_silent place = ap (doubt_raised place before.picture) ignored ∙ silent_fault place before.picture
 
-  one_ignored : (place : ℕ) (event : Event) → reports_at place event before ≡ map Shows
-      (picture_set place event (picture_after_event before.picture event))
-  one_ignored place (Message said) = refl
-  one_ignored place (Refused code fault) = fault_silent place
-  one_ignored place (Cut have) = fault_silent place
-  one_ignored place BadLength = fault_silent place
-  one_ignored place (Stray byte) = fault_silent place
+  one_ignored : (place : ℕ) (event : Event) → before.clock ≡ Hidden
+      → reports_at place event before ≡ sets place event before
+  one_ignored place (Message said) h = hidden_message place said before h
+  one_ignored place (Refused code fault) h = fault_silent place
+  one_ignored place (Cut have) h = fault_silent place
+  one_ignored place BadLength h = fault_silent place
+  one_ignored place (Stray byte) h = fault_silent place
 
-all_ignored : (before : PictureState) (xs : List Placed) → before.doubt ≡ Ignored
+all_ignored : (before : PictureState) (xs : List Placed) → before.doubt ≡ Ignored → before.clock ≡ Hidden
     → reports before xs ≡ map Shows (pictures before.picture xs)
-all_ignored before [] ignored = refl
-all_ignored before (x ∷ xs) ignored =
+all_ignored before [] ignored hidden = refl
+all_ignored before (x ∷ xs) ignored hidden =
     let after = state_after_event before x.event in
     let set = picture_set x.place x.event (picture_after_event before.picture x.event) in
-    ap (λ l. l ++ reports after xs) (one_ignored before ignored x.place x.event)
+    ap (λ l. l ++ reports after xs) (one_ignored before ignored x.place x.event hidden)
     ∙ ap (λ l. map Shows set ++ l)
-    (all_ignored after xs (still_ignored before ignored x.event)
+    (all_ignored after xs (still_ignored before ignored x.event) (still_hidden before x.event hidden)
     ∙ ap (λ p. map Shows (pictures p xs)) (one_picture before x.event))
     ∙ sym (map-append Shows set (pictures (picture_after_event before.picture x.event) xs))
 
@@ -135,7 +202,7 @@ shown_lines (x ∷ xs) = ap (λ l. picture_line x ++ l) (shown_lines xs)
 
 pub ignored_faults_are_silent : IgnoredFaultsAreSilent
 ignored_faults_are_silent bytes =
-    ap (flat_map report_line) (all_ignored (new_state Ignored) (events bytes) refl)
+    ap (flat_map report_line) (all_ignored (new_state Ignored) (events bytes) refl refl)
     ∙ shown_lines (pictures None (events bytes))
 
 -- ---- a state in which the next fault is reported
@@ -325,13 +392,13 @@ fault_at place (Cut have) before f = refl
 fault_at place BadLength before f = refl
 fault_at place (Stray byte) before f = refl
 
-message_at : (place : ℕ) (event : Event) (before : PictureState) → (IsFault event → ⊥)
-    → reports_at place event before ≡ map Shows (picture_set place event (picture_after_event before.picture event))
-message_at place (Message said) before m = refl
-message_at place (Refused code fault) before m = absurd (m tt)
-message_at place (Cut have) before m = absurd (m tt)
-message_at place BadLength before m = absurd (m tt)
-message_at place (Stray byte) before m = absurd (m tt)
+message_at : (place : ℕ) (event : Event) (before : PictureState) → (IsFault event → ⊥) → before.clock ≡ Hidden
+    → reports_at place event before ≡ sets place event before
+message_at place (Message said) before m h = hidden_message place said before h
+message_at place (Refused code fault) before m h = absurd (m tt)
+message_at place (Cut have) before m h = absurd (m tt)
+message_at place BadLength before m h = absurd (m tt)
+message_at place (Stray byte) before m h = absurd (m tt)
 
 one_more : (earlier : List Placed) (x : Placed) (told : List Report)
     → reports_at x.place x.event (state_after_events start earlier) ≡ told
@@ -356,7 +423,7 @@ first_faults_are_reported = record {
   messages = λ earlier x m.
       let now = state_after_events start earlier in
       one_more earlier x _
-      (message_at x.place x.event now m
+      (message_at x.place x.event now m (always_hidden start earlier refl)
       ∙ ap (λ p. map Shows (picture_set x.place x.event p))
       (ap (λ p. picture_after_event p x.event) (picture_kept start earlier)
       ∙ sym (picture_after-append None earlier (x ∷ []))));

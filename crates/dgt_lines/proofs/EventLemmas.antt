@@ -1,4 +1,4 @@
--- The events of bytes that come in pieces.
+-- The events of bytes that come in chunks.
 use Rattle.std.proofs.Common.{◌≡◌, ℕ, ◌+◌, ◌-◌, ◌≤◌, List, [], ◌∷◌, ◌++◌, sym, ◌∙◌, ap, length, arith, take, drop, append_assoc, append-nil, map, rules}
 use Rattle.std.proofs.lemmas.List.{places, length-take-le, take-append-drop, take_all, take_rest}
 use Rattle.std.proofs.Math.Seq.{take-add}

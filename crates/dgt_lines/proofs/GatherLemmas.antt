@@ -97,7 +97,7 @@ module _ {S : Type 0} (W : Sink S) where
   gathers_via {A = A} h i j k a b c s t (Err f) p e q =
       gathers_then {A = A} h i k a b c [] s (Err f) p (q.0, subst (λ l. Stopped W b c l) e q.1)
 
-  -- a text that is held behind what is left of what was held before
+  -- a text that is held after what is left of what was held before
   pub gathered_pushed : (h i j : List ℕ) (a b : S) (s : List ℕ) → Gathered W h i a b [] → j ≡ i ++ s
       → Gathered W h j a b s
   gathered_pushed h i j a b s p e =

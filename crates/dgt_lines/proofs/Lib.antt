@@ -7,6 +7,7 @@ pub mod PictureLemmas
 pub mod PieceLemmas
 pub mod RankLemmas
 pub mod TextLemmas
+mod ClockLemmas
 mod DoubtLemmas
 mod RefusalLemmas
 mod ReportLemmas

@@ -2,7 +2,7 @@
 use Rattle.std.proofs.Common.{◌≡◌, ℕ, List, [], ◌∷◌, ◌++◌, ◌∙◌, ap, ◌<◌, append_assoc, arith, codes, length, sym}
 use Rattle.dgt_lines.specs.Lines.{line, offset_text, unfinished_line, unfinished_text}
 
--- behind what is held comes a line: its offset, its text up to the bytes that are carried, these bytes and the line's
+-- after what is held comes a line: its offset, its text up to the bytes that are carried, these bytes and the line's
 -- end
 pub line-parts : (offset : ℕ) (held start said text bytes : List ℕ) → start ≡ held ++ (offset_text offset ++ 32 ∷ [])
     → text ++ bytes ≡ start ++ said

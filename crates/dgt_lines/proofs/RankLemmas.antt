@@ -1,9 +1,10 @@
 -- The texts of ranks.
+use Prim.Native.Char.{code as ascii}
 use Rattle.std.proofs.Common.{length-append, length-take-le, take-take, true≢false, Bool, ◌≤◌, ◌-◌, ◌&&◌, subst, true, false, slice_index_or, ◌≡◌, ℕ, zero, suc, ◌+◌, ◌*◌, ◌/◌, ◌%◌, ◌<◌, List, [], ◌∷◌, ◌++◌, ◌∙◌, add-one, ap, append_assoc, append-nil, arith, drop, drop-cons, get_or, length, refl, sym, take}
 use Rattle.std.proofs.lemmas.List.{take_more_set, drop-drop, drop-set-add, drop-set-lt, take-set-le}
 use Rattle.std.proofs.Math.Seq.{take-append_seam}
 use Rattle.std.proofs.lemmas.Bool.{ne_eqb}
-use Rattle.std.specs.Prelude.{◌≢◌, flat_map, slice_set}
+use Rattle.std.specs.Prelude.{◌≢◌, codes, flat_map, slice_set}
 use Rattle.std.specs.List.{join_with_byte}
 use Rattle.dgt_values.specs.declared.pieces.Piece.{Piece}
 use Rattle.dgt_values.specs.declared.pieces.Piece.TheVariants.{Empty}
@@ -14,7 +15,7 @@ use Rattle.dgt_values.specs.Placement.{placement_text, rank_text_after, ranks_te
 
 -- the letters of pieces, with a digit in place of the first one
 abbrev pub letters_with : List ℕ
-letters_with = 49 ∷ 80 ∷ 82 ∷ 78 ∷ 66 ∷ 75 ∷ 81 ∷ 112 ∷ 114 ∷ 110 ∷ 98 ∷ 107 ∷ 113 ∷ 88 ∷ 89 ∷ 90 ∷ []
+letters_with = codes "1PRNBKQprnbkqXYZ"
 
 pub letter_of : (piece : Piece) → piece ≢ Empty → slice_index_or letters_with (piece_code piece) 0 ≡ piece_letter piece
 letter_of Empty h = absurd (h refl)
@@ -29,7 +30,7 @@ text_after_piece : (piece : Piece) (empty : ℕ) (pieces : List Piece) → piece
 text_after_piece Empty empty pieces h = absurd (h refl)
 text_after_piece _ empty pieces h = refl
 
--- a run of empty squares and a piece behind it are written
+-- a run of empty squares and a piece after it are written
 pub one_more_piece : (rank : List Piece) (i empty : ℕ) (text front : List ℕ) → i < length rank
     → get_or rank i Empty ≢ Empty → front ≡ text ++ run_text empty
     → (front ++ piece_letter (get_or rank i Empty) ∷ []) ++ rank_text_after 0
@@ -38,18 +39,18 @@ one_more_piece rank i empty text front h ne e =
     rw (e, add-one i, drop-cons rank i Empty h, text_after_piece (get_or rank i Empty) empty (drop (suc i) rank) ne)
     (simp append_assoc)
 
--- what is written of a rank: a front, and the digit of the run of empty squares behind it, if there is one
+-- what is written of a rank: a front, and the digit of the run of empty squares after it, if there is one
 pub record RankSoFar (written : List ℕ) (was_empty : Bool) (last seen : ℕ) (later : List Piece) (whole : List ℕ) :
     Type 0 where
   pub front : List ℕ
   pub empty : ℕ
   pub ends : written ≡ front ++ run_text empty
   pub goes_on : front ++ rank_text_after empty later ≡ whole
-  pub digit : was_empty ≡ true → (0 < empty) × (last ≡ 48 + empty)
+  pub digit : was_empty ≡ true → (0 < empty) × (last ≡ ascii "0" + empty)
   pub no_digit : was_empty ≡ false → empty ≡ 0
   pub few : empty ≤ seen
 
-run_digit : (empty : ℕ) → 0 < empty → run_text empty ≡ (48 + empty) ∷ []
+run_digit : (empty : ℕ) → 0 < empty → run_text empty ≡ (ascii "0" + empty) ∷ []
 run_digit empty some = rw (ne_eqb empty 0 (λ h. omega arith)) refl
 
 -- one digit is a byte
@@ -76,7 +77,7 @@ module _ (rank : List Piece) (i len last : ℕ) (bytes whole : List ℕ) (inside
       sym (take-take (len - 1) len bytes (omega arith)) ∙ ap (take (len - 1)) before.ends
       ∙ ap (λ n. take n (before.front ++ run_text before.empty)) (omega arith) ∙ take-append_seam before.front
       (run_text before.empty) in
-      let digit : last + 1 ≡ 48 + (before.empty + 1) = omega (arith, some.1) in
+      let digit : last + 1 ≡ ascii "0" + (before.empty + 1) = omega (arith, some.1) in
       record {
         front = before.front;
         empty = before.empty + 1;
@@ -95,7 +96,7 @@ module _ (rank : List Piece) (i len last : ℕ) (bytes whole : List ℕ) (inside
   -- the first empty square of a run
   pub begun : RankSoFar (take len bytes) false last i (drop i rank) whole → len < length bytes
       → get_or rank i Empty ≡ Empty
-      → RankSoFar (take (len + 1) (slice_set bytes len 49)) true 49 (i + 1) (drop (i + 1) rank) whole
+      → RankSoFar (take (len + 1) (slice_set bytes len (ascii "1"))) true (ascii "1") (i + 1) (drop (i + 1) rank) whole
   begun before room e =
       let none = before.no_digit refl in
       let front : take len bytes ≡ before.front =
@@ -103,7 +104,7 @@ module _ (rank : List Piece) (i len last : ℕ) (bytes whole : List ℕ) (inside
       record {
         front = before.front;
         empty = 1;
-        ends = take_more_set bytes len 49 room ∙ ap (λ l. l ++ 49 ∷ []) front;
+        ends = take_more_set bytes len (ascii "1") room ∙ ap (λ l. l ++ ascii "1" ∷ []) front;
         goes_on =
             ap (λ l. before.front ++ l)
             (sym (one_more_empty rank i 0 inside e) ∙ ap (λ n. rank_text_after n (drop i rank)) (sym none))
@@ -150,7 +151,7 @@ module _ (rank : List Piece) (i len last : ℕ) (bytes whole : List ℕ) (inside
       → RankSoFar (take len bytes) was_empty last i (drop i rank) whole → len < length bytes
       → (empty ≡ true → get_or rank i Empty ≡ Empty) → (get_or rank i Empty ≡ Empty → empty ≡ true)
       → (empty && was_empty) ≡ false → k ≡ len + 1
-      → (get_or rank i Empty ≡ Empty → next ≡ 49)
+      → (get_or rank i Empty ≡ Empty → next ≡ ascii "1")
       → (get_or rank i Empty ≢ Empty → next ≡ piece_letter (get_or rank i Empty))
       → NextSoFar k next empty
   other_next was_empty empty k next before room is is_not both ek one letter =
@@ -241,19 +242,19 @@ pub ranks_text-eight : (pieces : List Piece)
     (take 8 (drop 48 pieces)) ∷ rank_text (take 8 (drop 56 pieces)) ∷ [] ≡ ranks_text 8 pieces
 ranks_text-eight pieces = simp drop-drop refl
 
--- ranks, each with a slash behind it
+-- ranks, each with a slash after it
 abbrev pub ended_ranks : List (List ℕ) → List ℕ
-ended_ranks ranks = flat_map (λ rank. rank ++ 47 ∷ []) ranks
+ended_ranks ranks = flat_map (λ rank. rank ++ ascii "/" ∷ []) ranks
 
--- and one behind them
+-- and one after them
 join-last : (ranks : List (List ℕ)) (last : List ℕ)
-    → ended_ranks ranks ++ last ≡ join_with_byte 47 (ranks ++ last ∷ [])
+    → ended_ranks ranks ++ last ≡ join_with_byte (ascii "/") (ranks ++ last ∷ [])
 join-last [] last = refl
 join-last (rank ∷ []) last = simp append_assoc
-join-last (rank ∷ next ∷ ranks) last = append_assoc (rank ++ 47 ∷ []) (ended_ranks (next ∷ ranks)) last
-    ∙ ap (λ l. (rank ++ 47 ∷ []) ++ l) (join-last (next ∷ ranks) last) ∙ append_assoc rank (47 ∷ []) _
+join-last (rank ∷ next ∷ ranks) last = append_assoc (rank ++ ascii "/" ∷ []) (ended_ranks (next ∷ ranks)) last
+    ∙ ap (λ l. (rank ++ ascii "/" ∷ []) ++ l) (join-last (next ∷ ranks) last) ∙ append_assoc rank (ascii "/" ∷ []) _
 
--- the eighth rank behind seven others
+-- the eighth rank after seven others
 pub placement_ended : (ranks : List (List ℕ)) (pieces : List Piece) (other : List ℕ) → ranks ≡ ranks_text 8 pieces
     → ended_ranks (take 7 ranks) ++ get_or ranks 7 other ≡ placement_text pieces
 unfolding placement_text

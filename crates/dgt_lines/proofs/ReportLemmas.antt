@@ -8,10 +8,9 @@ use Rattle.dgt_decode.specs.Laws.{PiecesAdd}
 use Rattle.dgt_decode.specs.declared.event.Event as code
 use Rattle.dgt_decode.specs.declared.event.Event.TheVariants as code_events
 use Rattle.dgt_message.specs.declared.message.Message as code_message
-use Rattle.dgt_lines.specs.declared.doubts.Doubt.{Doubt}
 use Rattle.dgt_lines.specs.declared.doubts.PictureState.{PictureState}
 use Rattle.dgt_lines.specs.Lines.{events_after}
-use Rattle.dgt_lines.specs.Reports.{fault_reports, new_state, report_line, report_lines, report_text, reports, reports_at, state_after_event, state_after_events, state_after_fault, state_of}
+use Rattle.dgt_lines.specs.Reports.{fault_reports, report_line, report_lines, reports, reports_at, state_after_event, state_after_events, state_after_fault, state_from, text_from}
 
 -- the state after more events
 pub state_after-append : (before : PictureState) (xs ys : List Placed)
@@ -36,19 +35,19 @@ report_lines-append before xs ys =
 
 -- ---- bytes, and a piece after them
 
-pub report_text-append : PiecesAdd → (doubt : Doubt) (bytes piece : List ℕ)
-    → report_text doubt (bytes ++ piece) ≡ report_text doubt bytes ++ report_lines (state_of doubt bytes)
+pub text_from-append : PiecesAdd → (before : PictureState) (bytes piece : List ℕ)
+    → text_from before (bytes ++ piece) ≡ text_from before bytes ++ report_lines (state_from before bytes)
     (events_after (open_message bytes) (length bytes) piece)
-report_text-append pieces doubt bytes piece =
-    ap (report_lines (new_state doubt)) (pieces.behind bytes piece)
-    ∙ report_lines-append (new_state doubt) (events bytes) (events_after (open_message bytes) (length bytes) piece)
+text_from-append pieces before bytes piece =
+    ap (report_lines before) (pieces.behind bytes piece)
+    ∙ report_lines-append before (events bytes) (events_after (open_message bytes) (length bytes) piece)
 
-pub state_of-append : PiecesAdd → (doubt : Doubt) (bytes piece : List ℕ)
-    → state_of doubt (bytes ++ piece) ≡ state_after_events (state_of doubt bytes)
+pub state_from-append : PiecesAdd → (before : PictureState) (bytes piece : List ℕ)
+    → state_from before (bytes ++ piece) ≡ state_after_events (state_from before bytes)
     (events_after (open_message bytes) (length bytes) piece)
-state_of-append pieces doubt bytes piece =
-    ap (state_after_events (new_state doubt)) (pieces.behind bytes piece)
-    ∙ state_after-append (new_state doubt) (events bytes) (events_after (open_message bytes) (length bytes) piece)
+state_from-append pieces before bytes piece =
+    ap (state_after_events before) (pieces.behind bytes piece)
+    ∙ state_after-append before (events bytes) (events_after (open_message bytes) (length bytes) piece)
 
 -- ---- one event more, which makes `after` of the state
 

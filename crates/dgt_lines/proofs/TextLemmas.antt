@@ -3,8 +3,10 @@ use Rattle.std.proofs.Common.{◌≡◌, ℕ, ◌+◌, ◌-◌, ◌/◌, ◌%◌
 use Rattle.std.proofs.Math.Seq.{take-suc}
 use Rattle.std.proofs.lemmas.Bool.{cases_lt}
 use Rattle.std.proofs.lemmas.Fmt.{decimal_digit, decimal_step, decimal_nonempty}
-use Rattle.std.specs.Prelude.{decimal}
+use Rattle.std.specs.Prelude.{codes, decimal}
 use Rattle.hex.specs.Hex.{encode_lower}
+use Rattle.dgt_message.specs.Clock.{ClockState, Times}
+use Rattle.dgt_lines.specs.Clocks.{clock_text, has_bit, low_text, running_text, shown_time, turn_text}
 use Rattle.dgt_lines.specs.Lines.{byte_text, bytes_text, padded_decimal, words_text}
 
 -- no leading zero
@@ -30,7 +32,7 @@ padded_two n h = elim (cases_lt n 10) [
       ap (λ l. replicate (2 - length l) 48 ++ l) e
 ]
 
--- no hyphen where there is a byte
+-- no hyphen if there is a byte
 pub bytes_text_some : (bytes : List ℕ) → 0 < length bytes → bytes_text bytes ≡ encode_lower bytes
 bytes_text_some [] h = absurd (omega arith)
 bytes_text_some (byte ∷ bytes) h = refl
@@ -54,3 +56,12 @@ spaced_text-take s i h = ap spaced_text (rw add-one (take-suc s i 0 h)) ∙ spac
 pub words_text-bytes : (word bytes : List ℕ) → words_text (word ∷ map byte_text bytes) ≡ word ++ spaced_text bytes
 words_text-bytes word [] = sym (append-nil word)
 words_text-bytes word (byte ∷ bytes) = ap (λ l. word ++ 32 ∷ l) (words_text-bytes (byte_text byte) bytes)
+
+-- the text of a clock, by what is added one after another
+pub clock_in_parts : (t : Times)
+    → codes "clock " ++ (shown_time t.first ++ (codes " " ++ (shown_time t.second
+    ++ (codes " " ++ running_text t.status) ++ (codes " " ++ turn_text (has_bit t.status 3) (has_bit t.status 4))
+    ++ low_text t.status)))
+    ≡ clock_text (ClockState.times t)
+unfolding clock_text
+clock_in_parts t = simp append_assoc refl

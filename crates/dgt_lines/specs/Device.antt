@@ -10,7 +10,7 @@ device_inner device = device.inner
 abbrev pub device_failed : {T : Type 0} → Device T → Bool
 device_failed device = device.failed
 
--- a read told the end
+-- a read reported the end
 abbrev pub device_ended : {T : Type 0} → Device T → Bool
 device_ended device = device.ended
 

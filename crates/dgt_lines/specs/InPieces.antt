@@ -1,4 +1,4 @@
--- What is taken of the laws of decoding where bytes come in pieces.
+-- What is taken of the laws of decoding where bytes come in chunks.
 use Rattle.dgt_decode.specs.Laws.{OpenAppend, OpenIsQuiet, PiecesAdd, PlacesAdd}
 
 pub record InPieces : Type 0 where

@@ -1,5 +1,6 @@
 -- what public contracts cite
 pub mod Lines
+pub mod Clocks
 pub mod Pictures
 pub mod Reports
 pub mod FaultText

@@ -16,7 +16,7 @@ use Rattle.dgt_decode.specs.Feeding.{piece_events}
 
 -- ---- Numbers and bytes
 
--- a number in decimal, with leading zeros to at least so many digits
+-- a number in decimal, with leading zeros to at least this many digits
 abbrev pub padded_decimal : ℕ → ℕ → List ℕ
 padded_decimal width number = replicate (width - length (decimal number)) 48 ++ decimal number
 
@@ -24,7 +24,7 @@ padded_decimal width number = replicate (width - length (decimal number)) 48 ++ 
 abbrev pub byte_text : ℕ → List ℕ
 byte_text byte = encode_lower (byte ∷ [])
 
--- two hexadecimal digits for each byte; a hyphen where there is none
+-- two hexadecimal digits for each byte; a hyphen if there is none
 abbrev pub bytes_text : List ℕ → List ℕ
 bytes_text [] = codes "-"
 bytes_text (byte ∷ bytes) = encode_lower (byte ∷ bytes)
@@ -91,7 +91,7 @@ offset_text offset = padded_decimal 8 offset
 abbrev pub line : ℕ → List ℕ → List ℕ
 line offset text = words_text (offset_text offset ∷ text ∷ []) ++ codes "\n"
 
--- the line of an event that the byte at the end of so many bytes makes
+-- the line of an event that the byte at the end of this many bytes makes
 abbrev pub event_line : ℕ → Event → List ℕ
 event_line offset event = line offset (event_text event)
 
@@ -102,7 +102,7 @@ placed_line x = event_line x.place x.event
 abbrev pub lines : List ℕ → List ℕ
 lines bytes = flat_map placed_line (events bytes)
 
--- the events of a piece that comes after so many bytes, of which these are an unfinished message
+-- the events of a piece that comes after this many bytes, of which these are an unfinished message
 abbrev pub events_after : List ℕ → ℕ → List ℕ → List Placed
 events_after held offset piece = events_behind offset (piece_events held piece)
 
@@ -110,7 +110,7 @@ events_after held offset piece = events_behind offset (piece_events held piece)
 abbrev pub lines_after : List ℕ → ℕ → List ℕ → List ℕ
 lines_after held offset piece = flat_map placed_line (events_after held offset piece)
 
--- the last line, where these bytes of a message are left unfinished at the end of so many bytes
+-- the last line, where these bytes of a message are left unfinished at the end of this many bytes
 abbrev pub unfinished_line : ℕ → List ℕ → List ℕ
 unfinished_line offset [] = []
 unfinished_line offset (byte ∷ bytes) = line offset (unfinished_text (length (byte ∷ bytes)))

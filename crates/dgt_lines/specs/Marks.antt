@@ -11,7 +11,7 @@ abbrev pub TookSome : {E : Type 0} → Result ℕ E → Type 0
 TookSome (Ok n) = 0 < n
 TookSome (Err _) = ⊥
 
--- something waits for a flush: bytes on their way to a sink, or, where there are none, bytes that
+-- something waits for a flush: bytes on their way to a sink, or, if there are none, bytes that
 -- it took
 abbrev pub Waits : List ℕ → Bool → Type 0
 Waits bytes flushed = bytes ≡ [] → flushed ≡ false

@@ -21,7 +21,7 @@ picture_after_events picture [] = picture
 picture_after_events picture (x ∷ more) =
     picture_after_events (picture_after_event picture x.event) more
 
--- the picture after all events of these bytes, where nothing was known before
+-- the picture after all events of these bytes, if nothing was known before
 abbrev pub picture_told : List ℕ → Option (List Piece)
 picture_told bytes = picture_after_events None (events bytes)
 
@@ -63,7 +63,7 @@ picture_line x = line x.place (placement_text x.pieces)
 abbrev pub picture_lines : Option (List Piece) → List Placed → List ℕ
 picture_lines before placed = flat_map picture_line (pictures before placed)
 
--- and for each that bytes set, where nothing was known before
+-- and for each that bytes set, if nothing was known before
 abbrev pub pictures_text : List ℕ → List ℕ
 pictures_text bytes = picture_lines None (events bytes)
 

@@ -1,24 +1,34 @@
--- The lines that show the board, and those that say that it may be wrong. A fault of the line may
--- have swallowed a message: the first one since a dump puts the picture in doubt, up to the next
--- dump.
-use Rattle.std.specs.Prelude.{◌≡◌, ⊤, ℕ, List, [], ◌∷◌, ◌++◌, map, codes, Option, Some, None}
-use Rattle.std.specs.List.{AllByRecursion, flat_map}
+-- The lines that show the board, those that say that it may be wrong, and those of its clock. A
+-- fault of the line may have swallowed a message: the first one since a dump puts the picture in
+-- doubt, up to the next dump. The clock has a line if its text is another one than before.
+use Rattle.std.specs.Prelude.{◌≡◌, ◌≢◌, ⊤, ℕ, List, [], ◌∷◌, ◌++◌, map, bytes_eq, codes, if◌then◌else◌, Option, Some, None, option_map}
+use Rattle.std.specs.List.{AllByRecursion, flat_map, last_or}
 use Rattle.dgt_values.specs.declared.pieces.Piece.{Piece}
-use Rattle.dgt_message.specs.Content.{Content}
-use Rattle.dgt_message.specs.Content.Content.{dump}
+use Rattle.dgt_message.specs.Clock.{ClockState}
+use Rattle.dgt_message.specs.Content.{Content, clock_message}
+use Rattle.dgt_message.specs.Content.Content.{dump, times, no_clock}
 use Rattle.dgt_decode.specs.Grammar.{Event, Message, Placed, at_place, events}
-use Rattle.dgt_host.specs.Host.{picture_after}
+use Rattle.dgt_host.specs.Host.{host_after, host_after_events, new_host, picture_after}
+use Rattle.dgt_lines.specs.declared.clocks.ShownClock.{ShownClock}
+use Rattle.dgt_lines.specs.declared.clocks.ShownClock.TheVariants.{Hidden, Unknown, Known}
 use Rattle.dgt_lines.specs.declared.doubts.Doubt.{Doubt}
 use Rattle.dgt_lines.specs.declared.doubts.Doubt.TheVariants.{Ignored, Clear, Raised}
+use Rattle.dgt_lines.specs.declared.doubts.News.{News}
+use Rattle.dgt_lines.specs.declared.doubts.News.TheVariants.{Nothing, Picture, Clock}
 use Rattle.dgt_lines.specs.declared.doubts.PictureState.{PictureState}
+use Rattle.dgt_lines.specs.Clocks.{clock_text}
 use Rattle.dgt_lines.specs.Lines.{line}
-use Rattle.dgt_lines.specs.Pictures.{PlacedPicture, picture_after_events, picture_line, picture_set, pictures, pictures_text}
+use Rattle.dgt_lines.specs.Pictures.{PlacedPicture, known_at, picture_after_events, picture_line, picture_set, pictures, pictures_text}
 
 -- ---- The state
 
 -- nothing is known, and faults raise doubts or not
 abbrev pub new_state : Doubt → PictureState
-new_state doubt = record { picture = None; doubt = doubt }
+new_state doubt = record { picture = None; doubt = doubt; clock = Hidden }
+
+-- and the clock is shown
+abbrev pub new_state_with_clock : Doubt → PictureState
+new_state_with_clock doubt = record { picture = None; doubt = doubt; clock = Unknown }
 
 -- a dump ends a doubt
 abbrev pub doubt_cleared : Doubt → Doubt
@@ -34,16 +44,30 @@ abbrev pub doubt_after_fault : Option (List Piece) → Doubt → Doubt
 doubt_after_fault (Some _) Clear = Raised
 doubt_after_fault _ doubt = doubt
 
+-- the text is the last one
+abbrev pub shown_after : List ℕ → ShownClock → ShownClock
+shown_after text Hidden = Hidden
+shown_after text _ = Known text
+
+abbrev pub clock_shown_after : ShownClock → Content → ShownClock
+clock_shown_after clock (times readings) =
+    shown_after (clock_text (ClockState.times readings)) clock
+clock_shown_after clock (no_clock absence) =
+    shown_after (clock_text (ClockState.no_clock absence)) clock
+clock_shown_after clock _ = clock
+
 abbrev pub state_after_fault : PictureState → PictureState
 state_after_fault before = record {
   picture = before.picture;
   doubt = doubt_after_fault before.picture before.doubt;
+  clock = before.clock;
 }
 
 abbrev pub state_after_message : PictureState → Content → PictureState
 state_after_message before said = record {
   picture = picture_after before.picture said;
   doubt = doubt_after before.doubt said;
+  clock = clock_shown_after before.clock said;
 }
 
 -- an event that is no message is a fault
@@ -57,10 +81,12 @@ state_after_events before (x ∷ more) = state_after_events (state_after_event b
 
 -- ---- What is reported
 
--- a line shows the pieces of the board, or says that they are in doubt from a place on
+-- a line shows the pieces of the board, says that they are in doubt from a place on, or shows the
+-- text of the clock at a place
 pub data Report : Type 0 where
   Shows : PlacedPicture → Report
   Doubts : ℕ → Report
+  ShowsClock : ℕ → List ℕ → Report
 
 -- a fault is reported if it raises a doubt
 abbrev pub doubt_raised : ℕ → Option (List Piece) → Doubt → List Report
@@ -70,10 +96,32 @@ doubt_raised place _ _ = []
 abbrev pub fault_reports : ℕ → PictureState → List Report
 fault_reports place before = doubt_raised place before.picture before.doubt
 
--- a message is reported if it sets the picture
+-- a text of the clock is reported if it is shown, and is not the last one
+abbrev pub clock_reports : ℕ → List ℕ → ShownClock → List Report
+clock_reports place text Hidden = []
+clock_reports place text Unknown = ShowsClock place text ∷ []
+clock_reports place text (Known last) =
+    if bytes_eq last text then [] else ShowsClock place text ∷ []
+
+-- the last text, if there is one
+abbrev pub clock_known_at : ℕ → ShownClock → List Report
+clock_known_at place (Known text) = ShowsClock place text ∷ []
+clock_known_at place _ = []
+
+-- a message is reported if it sets the picture, or has another text of the clock
 abbrev pub message_reports : ℕ → Content → PictureState → List Report
+message_reports place (times readings) before =
+    clock_reports place (clock_text (ClockState.times readings)) before.clock
+message_reports place (no_clock absence) before =
+    clock_reports place (clock_text (ClockState.no_clock absence)) before.clock
 message_reports place said before =
     map Shows (picture_set place (Message said) (picture_after before.picture said))
+
+-- the line of a message that has this one, with the state after it
+abbrev pub news_at : ℕ → News → PictureState → List Report
+news_at place Nothing after = []
+news_at place Picture after = map Shows (known_at place after.picture)
+news_at place Clock after = clock_known_at place after.clock
 
 -- what is reported of an event at this place, with the state before it
 abbrev pub reports_at : ℕ → Event → PictureState → List Report
@@ -91,17 +139,26 @@ reports before (x ∷ more) =
 abbrev pub report_line : Report → List ℕ
 report_line (Shows x) = picture_line x
 report_line (Doubts place) = line place (codes "doubt")
+report_line (ShowsClock place text) = line place text
 
 abbrev pub report_lines : PictureState → List Placed → List ℕ
 report_lines before placed = flat_map report_line (reports before placed)
+
+-- the lines of bytes, with this state before them
+abbrev pub text_from : PictureState → List ℕ → List ℕ
+text_from before bytes = report_lines before (events bytes)
+
+-- and the state after them
+abbrev pub state_from : PictureState → List ℕ → PictureState
+state_from before bytes = state_after_events before (events bytes)
 
 -- the lines of bytes, with nothing known before
 abbrev pub report_text : Doubt → List ℕ → List ℕ
 report_text doubt bytes = report_lines (new_state doubt) (events bytes)
 
--- and the state after them
-abbrev pub state_of : Doubt → List ℕ → PictureState
-state_of doubt bytes = state_after_events (new_state doubt) (events bytes)
+-- and with those of the clock
+abbrev pub report_text_with_clock : Doubt → List ℕ → List ℕ
+report_text_with_clock doubt bytes = report_lines (new_state_with_clock doubt) (events bytes)
 
 -- ---- What holds of them
 
@@ -110,6 +167,7 @@ abbrev pub pictures_shown : List Report → List PlacedPicture
 pictures_shown [] = []
 pictures_shown (Shows x ∷ more) = x ∷ pictures_shown more
 pictures_shown (Doubts _ ∷ more) = pictures_shown more
+pictures_shown (ShowsClock _ _ ∷ more) = pictures_shown more
 
 -- without the doubts they are the pictures that the bytes set
 abbrev pub DoubtsLeavePictures : Type 0
@@ -159,3 +217,64 @@ pub record FirstFaultsAreReported : Type 0 where
   pub messages : (earlier : List Placed) (x : Placed) → IsMessage x
       → doubting (earlier ++ x ∷ []) ≡ doubting earlier ++ map Shows
       (picture_set x.place x.event (picture_after_events None (earlier ++ x ∷ [])))
+
+-- ---- What holds of the clock
+
+-- the reports but those of the clock
+abbrev pub without_clock : List Report → List Report
+without_clock [] = []
+without_clock (Shows x ∷ more) = Shows x ∷ without_clock more
+without_clock (Doubts place ∷ more) = Doubts place ∷ without_clock more
+without_clock (ShowsClock _ _ ∷ more) = without_clock more
+
+-- the texts of the clock among the reports
+abbrev pub clocks_shown : List Report → List (List ℕ)
+clocks_shown [] = []
+clocks_shown (Shows _ ∷ more) = clocks_shown more
+clocks_shown (Doubts _ ∷ more) = clocks_shown more
+clocks_shown (ShowsClock _ text ∷ more) = text ∷ clocks_shown more
+
+-- without the lines of the clock, they are those if the clock is not shown
+abbrev pub ClockLeavesReports : Type 0
+ClockLeavesReports =
+    (doubt : Doubt) (placed : List Placed) → without_clock
+    (reports (new_state_with_clock doubt) placed) ≡ reports (new_state doubt) placed
+
+-- and then the clock has no line
+abbrev pub HiddenClockIsSilent : Type 0
+HiddenClockIsSilent =
+    (doubt : Doubt) (placed : List Placed) → clocks_shown (reports (new_state doubt) placed) ≡ []
+
+-- the text of the clock of a host that heard these events, if the host knows its clock
+abbrev pub hosts_clock_text : List Placed → Option (List ℕ)
+hosts_clock_text placed = option_map clock_text (host_after_events new_host placed).clock
+
+-- The last line of the clock has the text of the clock of a host that hears the same bytes. If the
+-- host does not know its clock, there is no such line.
+abbrev pub LastClockIsTheHosts : Type 0
+LastClockIsTheHosts =
+    (doubt : Doubt) (bytes : List ℕ) → last_or None
+    (clocks_shown (reports (new_state_with_clock doubt) (events bytes)))
+    ≡ option_map clock_text (host_after new_host bytes).clock
+
+-- what is reported of events, if nothing was known before and the clock is shown
+abbrev pub clocking : Doubt → List Placed → List Report
+clocking doubt placed = reports (new_state_with_clock doubt) placed
+
+-- the message says this of the clock
+abbrev pub SaysClock : Placed → ClockState → Type 0
+SaysClock x clock = x.event ≡ Message (clock_message clock)
+
+-- A message of the clock is reported if its text is another one than that of the clock before, or
+-- there was none, and no other is. What is no message of the clock has no line of it.
+pub record OtherClocksAreReported : Type 0 where
+  pub other : (doubt : Doubt) (earlier : List Placed) (x : Placed) (clock : ClockState)
+      → SaysClock x clock → hosts_clock_text earlier ≢ Some (clock_text clock)
+      → clocking doubt (earlier ++ x ∷ [])
+      ≡ clocking doubt earlier ++ ShowsClock x.place (clock_text clock) ∷ []
+  pub same : (doubt : Doubt) (earlier : List Placed) (x : Placed) (clock : ClockState)
+      → SaysClock x clock → hosts_clock_text earlier ≡ Some (clock_text clock)
+      → clocking doubt (earlier ++ x ∷ []) ≡ clocking doubt earlier
+  pub silent : (doubt : Doubt) (earlier : List Placed) (x : Placed)
+      → ((clock : ClockState) → SaysClock x clock → ⊥)
+      → clocks_shown (clocking doubt (earlier ++ x ∷ [])) ≡ clocks_shown (clocking doubt earlier)

@@ -44,14 +44,14 @@ Gathers W held old new r text =
 
 -- what holds of writes in a row
 pub record InARow {S : Type 0} (W : Sink S) : Type 0 where
-  -- where no call was made, nothing was written
+  -- if no call was made, nothing was written
   pub nothing : (a : S) → Wrote W a a []
   -- a text was written, and then a call writes more
   pub writes : (a b c : S) (s t : List ℕ) (r : Result (Unit {0}) RunFault) →
       Wrote W a b s → Writes W b c r t → Writes W a c r (s ++ t)
   -- what stops at a text stops at a longer one
   pub longer : (a b : S) (s t : List ℕ) → Stopped W a b s → Stopped W a b (s ++ t)
-  -- a text is held behind what was held, and nothing is written
+  -- a text is held after what was held, and nothing is written
   pub holds : (h : List ℕ) (a : S) (s : List ℕ) → Gathered W h (h ++ s) a a s
   -- a text was gathered, and then a call gathers more
   pub gathers : (h i j : List ℕ) (a b c : S) (s t : List ℕ) (r : Result (Unit {0}) RunFault) →

@@ -1,12 +1,13 @@
-//! The picture of a board, and whether it is in doubt.
+//! The picture of a board, whether it is in doubt, and the clock that was shown.
 
-ghost use Rattle.std.specs.Prelude.{◌≡◌, ℕ, [], ◌∷◌, map, if◌then◌else◌};
-ghost use Rattle.dgt_message.specs.Content.{content};
-ghost use Rattle.dgt_lines.specs.Pictures.{known_at};
-ghost use Rattle.dgt_lines.specs.Reports.{Doubts, Shows, doubt_cleared, fault_reports, message_reports, new_state, state_after_fault, state_after_message};
+ghost use Rattle.std.specs.Prelude.{◌≡◌, ℕ, [], ◌∷◌, if◌then◌else◌};
+ghost use Rattle.dgt_message.specs.Content.{clock_seen, content};
+ghost use Rattle.dgt_lines.specs.Clocks.{clock_text};
+ghost use Rattle.dgt_lines.specs.Reports.{Doubts, clock_reports, doubt_cleared, fault_reports, message_reports, new_state, new_state_with_clock, news_at, shown_after, state_after_fault, state_after_message};
 
+use crate::clocks::ShownClock;
 use crate::pictures::Picture;
-use dgt_message::Message;
+use dgt_message::{Clock, Message};
 
 /// Whether a picture is in doubt. A fault of the line may have swallowed a message that sets it.
 #[derive(Clone, Copy)]
@@ -31,44 +32,86 @@ impl Doubt {
     }
 }
 
-/// The picture of a board, which is unknown before the first dump, and whether it is in doubt.
+/// Which line a message has.
+#[derive(Clone, Copy)]
+pub(crate) enum News {
+    /// None.
+    Nothing,
+    /// One of the picture, if it is known.
+    Picture,
+    /// One of the clock.
+    Clock,
+}
+
+/// The picture of a board, which is unknown before the first dump, whether it is in doubt, and what
+/// was shown of the clock.
 #[derive(Drop)]
 pub struct PictureState {
     pub picture: Option<Picture>,
     pub doubt: Doubt,
+    pub clock: ShownClock,
 }
 
 impl PictureState {
-    /// Nothing is known yet.
+    /// Nothing is known yet, and the clock is not shown.
     pub fn new(doubt: Doubt) -> Self
         ensures { result ≡ new_state doubt }
     {
         PictureState {
             picture: None,
             doubt,
+            clock: ShownClock::Hidden,
         }
     }
 
-    /// Makes of the state what a message does. The result is whether a line shows the picture
-    /// then, if it is known.
-    pub(crate) fn hear(&mut self, message: &Message<'_>) -> bool
+    /// Nothing is known yet, and the clock is shown.
+    pub fn with_clock(doubt: Doubt) -> Self
+        ensures { result ≡ new_state_with_clock doubt }
+    {
+        PictureState {
+            picture: None,
+            doubt,
+            clock: ShownClock::Unknown,
+        }
+    }
+
+    /// Makes of the state what a message does. The result is which line the message has.
+    pub(crate) fn hear(&mut self, message: &Message<'_>) -> News
         ensures state { self.new ≡ state_after_message self.old (content message.now) }
         ensures reports { (place : ℕ) → message_reports place (content message.now) self.old
-            ≡ (if result then map Shows (known_at place self.new.picture) else []) }
+            ≡ news_at place result self.new }
     {
         match message {
             Message::Dump(position) => {
                 self.picture = Some(Picture::new(position));
                 self.doubt = self.doubt.cleared();
-                true
+                News::Picture
             }
             Message::Field { square, piece } => {
                 if let Some(known) = &mut self.picture {
                     known.set(*square, *piece);
                 }
-                true
+                News::Picture
             }
-            _ => false,
+            Message::Times(times) => self.hear_clock(Clock::Times(*times)),
+            Message::NoClock(absence) => self.hear_clock(Clock::NoClock(*absence)),
+            _ => News::Nothing,
+        }
+    }
+
+    // What a message says of the clock.
+    fn hear_clock(&mut self, clock: Clock) -> News
+        ensures state { self.new ≡ record self.old {
+          clock = shown_after (clock_text (clock_seen clock)) self.old.clock;
+        } }
+        ensures reports { (place : ℕ) →
+            clock_reports place (clock_text (clock_seen clock)) self.old.clock
+            ≡ news_at place result self.new }
+    {
+        if self.clock.hear(clock) {
+            News::Clock
+        } else {
+            News::Nothing
         }
     }
 

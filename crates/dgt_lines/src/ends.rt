@@ -13,27 +13,27 @@ pub struct Failed;
 
 /// Gives bytes.
 ///
-/// Contracts see the bytes that are left, where a source tells them, and four marks: whether a call
-/// was refused, whether a read told the end, how many reads there were, and whether one came after
-/// a refusal or the end.
+/// Contracts see the bytes that are left, if a source states them, and four marks. These are
+/// whether a call was refused, whether a read gave the end, how many reads there were, and whether
+/// one came after a refusal or the end.
 pub trait Source {
-    // the bytes that are left, where the source tells them
+    // the bytes that are left, if the source states them
     ghost left: { Self → Option (List ℕ) };
 
     // a call was refused
     ghost failed: { Self → Bool };
 
-    // a read told the end
+    // a read gave the end
     ghost ended: { Self → Bool };
 
     // the reads so far
     ghost reads: { Self → ℕ };
 
-    // a read came after one that was refused or told the end
+    // a read came after one that was refused or gave the end
     ghost late: { Self → Bool };
 
-    /// Moves the next bytes to the front of `buffer`, and answers how many: none only at the end,
-    /// or where `buffer` is empty. What the rest of `buffer` holds then is open, and so is all of
+    /// Moves the next bytes to the beginning of `buffer`, and returns how many: none only at the
+    /// end, or if `buffer` is empty. What the rest of `buffer` holds then is open, and so is all of
     /// it after a refusal, which moves no byte.
     fn read_some(&mut self, buffer: &mut [u8]) -> Result<usize, Failed>
         ensures bound { IfOk result (λ n. n ≤ length buffer.new) }
@@ -51,11 +51,11 @@ pub trait Source {
 
 /// Takes bytes.
 ///
-/// Contracts see the bytes that were written, where a sink tells them, and three marks: whether a
-/// call was refused, whether all that was written was flushed, and whether a call came after a
-/// refusal.
+/// Contracts see the bytes that were written, if a sink states them, and three marks. These are
+/// whether a call was refused, whether all that was written was flushed, and whether a call came
+/// after a refusal.
 pub trait Sink {
-    // the bytes that were written, where the sink tells them
+    // the bytes that were written, if the sink states them
     ghost written: { Self → Option (List ℕ) };
 
     // a call was refused
@@ -67,7 +67,7 @@ pub trait Sink {
     // a call came after one that was refused
     ghost late: { Self → Bool };
 
-    /// Takes the first bytes of `bytes`, at least one where there is one, and answers how many. A
+    /// Takes the first bytes of `bytes`, at least one if there is one, and returns how many. A
     /// refusal takes none.
     fn write_some(&mut self, bytes: &[u8]) -> Result<usize, Failed>
         ensures bound { IfOk result (λ n. n ≤ length bytes.now) }

@@ -6,15 +6,15 @@ ghost use Rattle.dgt_lines.specs.FaultText.{run_fault_text};
 use std::error::Error;
 use std::fmt;
 
-/// Why an engine stopped before the end of its input, or could not write. It is told in a few
-/// words, a bad line as `line 3: bad at 5`.
+/// Why an engine stopped before the end of its input, or could not write. Its text is a few words,
+/// a bad line as `line 3: bad at 5`.
 #[derive(Clone, Copy, Debug, PartialEq, Eq)]
 pub enum RunFault {
     /// The source refused a read.
     ReadFailed,
     /// The sink refused a write or a flush.
     WriteFailed,
-    /// The engine made as many reads as it may, and none of them told the end.
+    /// The engine made as many reads as it may, and none of them gave the end.
     TooManyTurns,
     /// Line `line` of a script, counted from 1, is none; offset `at` says where.
     BadLine { line: u64, at: usize },

@@ -44,7 +44,7 @@ pub(crate) const LINE_ROOM: usize = 128;
 /// Bytes on their way to a sink, at most `ROOM` of them. Contracts see those that were not written
 /// yet.
 ///
-/// An array of its own, since [`push_front`](Outgoing::push_front) writes behind what is kept.
+/// An array of its own, since [`push_front`](Outgoing::push_front) writes after what is kept.
 #[derive(Drop)]
 pub struct Outgoing<const ROOM: usize> {
     bytes: [u8; ROOM],
@@ -80,6 +80,14 @@ impl<const ROOM: usize> Outgoing<ROOM> {
         self.len
     }
 
+    /// The bytes that were gathered and not written.
+    pub(crate) fn bytes(&self) -> &[u8]
+        ensures bytes { result.now ≡ self.now }
+        ensures limit { length result.now ≤ ROOM }
+    {
+        &self.bytes[..self.len]
+    }
+
     // How many more bytes there is room for.
     fn room(&self) -> usize
         ensures { result + length self.now ≡ ROOM }
@@ -100,7 +108,7 @@ impl<const ROOM: usize> Outgoing<ROOM> {
         answer
     }
 
-    /// Writes what was gathered, unless there is room for a line behind it. After a refused write
+    /// Writes what was gathered, unless there is room for a line after it. After a refused write
     /// nothing is gathered.
     pub(crate) fn make_room<W: Sink>(&mut self, writer: &mut W) -> Result<(), RunFault>
         requires { LINE_ROOM ≤ ROOM }
@@ -116,8 +124,8 @@ impl<const ROOM: usize> Outgoing<ROOM> {
         Ok(())
     }
 
-    /// Adds these bytes. Where there is no room for them, what was gathered is written first. After
-    /// a refused write nothing is gathered.
+    /// Adds these bytes. If there is no room for them, what was gathered is written first. After a
+    /// refused write nothing is gathered.
     pub(crate) fn add<W: Sink>(&mut self, writer: &mut W, bytes: &[u8]) -> Result<(), RunFault>
         ensures output { Gathers W.Sink (self.old, self.new) writer.old writer.new
             result bytes.now }
@@ -148,7 +156,7 @@ impl<const ROOM: usize> Outgoing<ROOM> {
     }
 
     /// Adds the first `len` of sixteen bytes. All of them are copied, and passed by value, which is
-    /// faster than so many.
+    /// faster than fewer.
     pub(crate) fn push_front(&mut self, bytes: [u8; 16], len: usize)
         requires room { length self.old + 16 ≤ ROOM }
         requires within { len ≤ 16 }

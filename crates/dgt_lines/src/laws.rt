@@ -7,11 +7,11 @@ ghost use Rattle.dgt_decode.specs.Grammar.{open_message};
 ghost use Rattle.dgt_lines.specs.InPieces.{InPieces};
 ghost use Rattle.dgt_lines.specs.Lines.{events_after, lines, lines_after};
 ghost use Rattle.dgt_lines.specs.Pictures.{LastLineIsPicture, PictureIsTheHosts, picture_after_events, picture_lines, picture_told, pictures_text};
-ghost use Rattle.dgt_lines.specs.Reports.{DoubtsKeepThePicture, DoubtsLeavePictures, FirstFaultsAreReported, IgnoredFaultsAreSilent, report_lines, report_text, state_after_events, state_of};
+ghost use Rattle.dgt_lines.specs.Reports.{ClockLeavesReports, DoubtsKeepThePicture, DoubtsLeavePictures, FirstFaultsAreReported, HiddenClockIsSilent, IgnoredFaultsAreSilent, LastClockIsTheHosts, OtherClocksAreReported, report_lines, state_after_events, state_from, text_from};
 ghost use Rattle.dgt_lines.specs.Writing.{InARow};
-ghost use Rattle.dgt_lines.specs.declared.doubts.Doubt.{Doubt};
+ghost use Rattle.dgt_lines.specs.declared.doubts.PictureState.{PictureState};
 
-use crate::doubts::Doubt;
+use crate::doubts::{Doubt, PictureState};
 use crate::ends::{Failed, Sink};
 use crate::faults::RunFault;
 use crate::{LINES_ROOM, PICTURES_ROOM};
@@ -71,11 +71,13 @@ pub fn last_line_is_picture()
 /// The reports of bytes in a row are those of the first ones, and then those of the chunk after
 /// them, and so it is with the state.
 pub fn reports_append()
-    ensures lines { (doubt : Doubt) (bytes piece : List ℕ) → report_text doubt (bytes ++ piece)
-        ≡ report_text doubt bytes ++ report_lines (state_of doubt bytes)
+    ensures lines { (before : PictureState) (bytes piece : List ℕ) →
+        text_from before (bytes ++ piece)
+        ≡ text_from before bytes ++ report_lines (state_from before bytes)
         (events_after (open_message bytes) (length bytes) piece) }
-    ensures state { (doubt : Doubt) (bytes piece : List ℕ) → state_of doubt (bytes ++ piece)
-        ≡ state_after_events (state_of doubt bytes)
+    ensures state { (before : PictureState) (bytes piece : List ℕ) →
+        state_from before (bytes ++ piece)
+        ≡ state_after_events (state_from before bytes)
         (events_after (open_message bytes) (length bytes) piece) }
 {
     laws::pieces_in_a_row();
@@ -94,13 +96,31 @@ pub fn first_faults_are_reported()
     ensures { FirstFaultsAreReported }
 {}
 
+/// Without the lines of the clock, the others are the same, whether it is shown or not. If it is
+/// not, it has no line.
+pub fn clock_leaves_reports()
+    ensures others { ClockLeavesReports }
+    ensures silent { HiddenClockIsSilent }
+{}
+
+/// The last line of the clock has the text of the clock of a host that hears the same bytes, and
+/// there is none if the host does not know it.
+pub fn last_clock_is_the_hosts()
+    ensures { LastClockIsTheHosts }
+{}
+
+/// A message of the clock is reported if its text is another one than before, and no other is.
+pub fn other_clocks_are_reported()
+    ensures { OtherClocksAreReported }
+{}
+
 /// The picture that lines show is that of a host that hears the same bytes, also where this is
 /// unknown.
 pub fn picture_is_the_hosts()
     ensures { PictureIsTheHosts }
 {}
 
-// What comes in pieces is decoded as if it had come whole.
+// What comes in chunks is decoded as if it had come whole.
 pub(crate) fn in_pieces()
     ensures { InPieces }
 {

@@ -1,21 +1,23 @@
-//! Where bytes come from and go to, and the lines that say what a DGT board sends.
+//! Sources and sinks of bytes, and the lines of text of what a DGT board sends.
 //!
-//! A [`Source`] gives bytes and a [`Sink`] takes them. [`Bytes`] is a source over a slice, and
-//! [`Device`] makes either of a reader or writer of the standard library. Contracts name the bytes
-//! that a source gave and a sink took, where these tell them, also where a call was refused.
-//! [`put`] writes all of some bytes, [`flush`] passes them on, and [`Outgoing`] gathers them for
-//! one write. [`RunFault`] is why a run over a source and a sink stops.
+//! | To | Use |
+//! |---|---|
+//! | read and write a slice, or any reader or writer of std | [`Bytes`], [`Device`] |
+//! | write bytes, and pass them on | [`put`], [`flush`] |
+//! | gather bytes for one write | [`Outgoing`] |
+//! | write the line of an event, as `00000005 field e4 P` | [`write_event`] |
+//! | write the lines of a chunk, and of what is unfinished | [`write_lines`], [`write_end`] |
+//! | write positions, doubts, and the clock | [`write_pictures`], with a [`PictureState`] |
 //!
-//! [`write_event`] writes the line of one event, as `00000005 field e4 P`: how many bytes had come,
-//! and what they say. [`write_lines`] writes the lines of a piece of what a board sends, and
-//! [`write_end`] the one of what is unfinished at the end. [`write_pictures`] writes lines that
-//! show the board, as `00000067 rnbqkbnr/pppppppp/8/8/8/8/PPPPPPPP/RNBQKBNR`, and lines of doubts
-//! about it, as `00000072 doubt`, if it is to. It keeps a [`PictureState`].
+//! A [`Source`] gives bytes and a [`Sink`] takes them. Contracts name the bytes that a source gave
+//! and a sink took, if these state them, also if a call was refused. [`RunFault`] is why a run over
+//! them stops.
 //!
-//! The format of lines is this project's own choice. No call takes memory. [`laws`] says what holds
-//! of lines and of writes as such.
+//! The format of lines is this project's own choice. No call takes memory. [`laws`] has the facts
+//! about lines and writes as such.
 #![tactic(auto)]
 
+mod clocks;
 mod doubts;
 mod ends;
 mod faults;
@@ -29,6 +31,7 @@ mod slice_source;
 mod std_device;
 mod wording;
 
+pub use clocks::ShownClock;
 pub use doubts::{Doubt, PictureState};
 pub use ends::{Failed, Sink, Source};
 pub use faults::RunFault;

@@ -107,7 +107,7 @@ fn put_part<W: Sink, const ROOM: usize>(
     outgoing.add(writer, text)
 }
 
-/// Gathers the line of an event that the byte at the end of so many bytes makes.
+/// Gathers the line of an event that the last of this number of bytes makes.
 pub(crate) fn put_event<W: Sink, const ROOM: usize>(
     outgoing: &mut Outgoing<ROOM>,
     writer: &mut W,
@@ -228,8 +228,8 @@ fn put_message<W: Sink, const ROOM: usize>(
     Ok(())
 }
 
-/// Writes the line of a message or a command of which so many bytes came, and no more, without a
-/// flush.
+/// Writes the line of a message or a command of which this number of bytes came, and no more,
+/// without a flush.
 pub fn write_unfinished<W: Sink>(writer: &mut W, offset: u64, have: usize) -> Result<(), RunFault>
     ensures { Writes W.Sink writer.old writer.new result
         (line offset (unfinished_text have)) }

@@ -8,7 +8,7 @@ use crate::gathering::Outgoing;
 use dgt_values::{Piece, Position, Square};
 use std::marker::Model;
 
-// The text of a rank, of at most eight bytes, and a slash behind it. Contracts see the text.
+// The text of a rank, of at most eight bytes, and a slash after it. Contracts see the text.
 #[derive(Drop)]
 struct RankText {
     bytes: [u8; 16],
@@ -50,7 +50,7 @@ impl RankText {
         for piece in rank {
             let empty = is_empty(*piece);
             let text = square_text(*piece);
-            // an empty square behind another one is counted by the digit that stands there
+            // an empty square after another one is counted by the digit that stands there
             let counts = empty & was_empty;
             last = if counts { last + 1 } else { text };
             len += usize::from(!counts);

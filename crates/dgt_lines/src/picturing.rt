@@ -8,10 +8,11 @@ ghost use Rattle.dgt_lines.specs.Lines.{events_after, line};
 ghost use Rattle.dgt_lines.specs.Marks.{Waits};
 ghost use Rattle.dgt_lines.specs.Pictures.{known_at};
 ghost use Rattle.dgt_lines.specs.Refusals.{StopsInPictures};
-ghost use Rattle.dgt_lines.specs.Reports.{Shows, fault_reports, report_line, report_lines, reports_at, state_after_event, state_after_events, state_after_fault};
+ghost use Rattle.dgt_lines.specs.Reports.{Shows, clock_known_at, fault_reports, report_line, report_lines, reports_at, state_after_event, state_after_events, state_after_fault};
 ghost use Rattle.dgt_lines.specs.Writing.{Gathers, Writes};
 
-use crate::doubts::PictureState;
+use crate::clocks::{CLOCK_ROOM, ShownClock};
+use crate::doubts::{News, PictureState};
 use crate::ends::Sink;
 use crate::faults::RunFault;
 use crate::gathering::Outgoing;
@@ -91,8 +92,41 @@ fn put_doubt<W: Sink>(
     Ok(())
 }
 
-// A whole message sets the picture, and its line follows; one that says nothing is a fault. Not
-// inlined, since room for an event would be cleared for each field too.
+// The last text of a clock that is known. Not inlined, since it is rare.
+#[inline(never)]
+fn put_clock<W: Sink>(
+    outgoing: &mut Outgoing<PICTURES_ROOM>,
+    writer: &mut W,
+    offset: u64,
+    clock: &ShownClock,
+) -> Result<(), RunFault>
+    ensures output { Gathers W.Sink (outgoing.old, outgoing.new) writer.old writer.new
+        result (flat_map report_line (clock_known_at offset clock.now)) }
+    ensures dropped { OnErr result (outgoing.new ≡ []) }
+    ensures no_flush { W.flushed writer.old ≡ false → W.flushed writer.new ≡ false }
+    ensures waits { OnOk result (Waits
+        (outgoing.old ++ flat_map report_line (clock_known_at offset clock.now))
+        (W.flushed writer.old) → Waits outgoing.new (W.flushed writer.new)) }
+{
+    let ShownClock::Known(text) = clock else {
+        return Ok(());
+    };
+    outgoing.make_room(writer)?;
+    push_offset(outgoing, offset);
+    push_clock_line(outgoing, text);
+    Ok(())
+}
+
+fn push_clock_line(outgoing: &mut Outgoing<PICTURES_ROOM>, text: &Outgoing<CLOCK_ROOM>)
+    requires { length outgoing.old + 41 ≤ PICTURES_ROOM }
+    ensures { outgoing.new ≡ outgoing.old ++ (text.now ++ codes "\n") }
+{
+    outgoing.push(text.bytes());
+    outgoing.push(b"\n");
+}
+
+// A whole message sets the picture or shows the clock, and its line follows; one that says nothing
+// is a fault. Not inlined, since room for an event would be cleared for each field too.
 #[inline(never)]
 fn hear_event<W: Sink>(
     state: &mut PictureState,
@@ -114,10 +148,11 @@ fn hear_event<W: Sink>(
     let Event::Message(message) = framer.event(Found::Message) else {
         return hear_fault(state, outgoing, writer, offset);
     };
-    if !state.hear(&message) {
-        return Ok(());
+    match state.hear(&message) {
+        News::Nothing => Ok(()),
+        News::Picture => put_known(outgoing, writer, offset, &state.picture),
+        News::Clock => put_clock(outgoing, writer, offset, &state.clock),
     }
-    put_known(outgoing, writer, offset, &state.picture)
 }
 
 // What was found sets the picture or puts it in doubt, and its line follows.
@@ -157,7 +192,8 @@ fn hear_found<W: Sink>(
 /// that comes after `offset` bytes, in one write if there is room for them.
 ///
 /// A fault that raises a doubt has a line with the word `doubt`. The first fault since a dump does,
-/// unless faults raise no doubt. The next dump ends it.
+/// unless faults raise no doubt. The next dump ends it. A message of the clock has a line with its
+/// text if the clock is shown and the text is another one than before, or the first.
 ///
 /// `framer` holds what is unfinished of the bytes before, and `state` is the one after them. The
 /// first one is [`PictureState::new`]. Nothing is flushed.

@@ -17,7 +17,7 @@ use dgt_decode::Framer;
 /// Room for the lines of 4,096 bytes of field updates: 820 lines of at most 32 bytes.
 pub const LINES_ROOM: usize = 32768;
 
-/// Writes the lines of a piece that comes after so many bytes, in one write where there is room for
+/// Writes the lines of a chunk that comes after `offset` bytes, in one write if there is room for
 /// them.
 ///
 /// `framer` holds what is unfinished of the bytes before. Nothing is flushed.
@@ -59,7 +59,7 @@ pub fn write_lines<W: Sink>(
     outgoing.write_out(writer)
 }
 
-/// Writes and flushes a last line after so many bytes, where a message is unfinished.
+/// Writes and flushes a last line after `offset` bytes, if a message is unfinished.
 pub fn write_end<W: Sink>(framer: &Framer, offset: u64, writer: &mut W) -> Result<(), RunFault>
     ensures output { Writes W.Sink writer.old writer.new result
         (unfinished_line offset (open_message framer.now)) }

@@ -56,14 +56,15 @@ fn flush_retrying<T: Write>(writer: &mut T) -> Result<(), Failed>
 
 /// A source or a sink over any reader or writer of the standard library.
 ///
-/// It keeps its marks and its count, and tells the bytes that the reader or the writer tells. It
-/// refuses a call where the reader or the writer fails, and where a writer takes none of the bytes
-/// that it is given.
+/// It keeps its marks and its count, and states the bytes that the reader or the writer states. It
+/// refuses a call if the reader or the writer fails, and if a writer takes none of the bytes that
+/// it is given.
 ///
-/// A read, write or flush that answers `ErrorKind::Interrupted`, as where a signal came while it
-/// waited, is no failure: it moved no byte, and is made again, as the standard library's own loops
-/// (`read_to_end`, `write_all`) do. So a run goes on over signals, and counts one read. A call that
-/// is interrupted 2^20 times in a row is refused, so that it returns over every reader and writer.
+/// A read, write or flush that returns `ErrorKind::Interrupted`, as when a signal came while it
+/// waited, is no failure. It moved no byte, and is made again, as the standard library's own loops
+/// do (`read_to_end`, `write_all`). So a run continues over signals, and counts one read. A call
+/// that is interrupted 2^20 times in a row is refused, so that it returns over every reader and
+/// writer.
 #[derive(Drop)]
 pub struct Device<T> {
     inner: T,

@@ -43,10 +43,7 @@ requests-act ActContent.HostBreak moves (noise, is_noise, e) = rw e refl
 pub requests-step : (act : ActContent) (outcome : Outcome) (moves : List Move) → AreMovesOfStep act outcome moves
     → flat_map requests moves ≡ act_requests outcome act
 requests-step act Outcome.Done moves are = requests-act act moves are
-requests-step act Outcome.Nothing moves e = rw e refl
-requests-step act Outcome.NoRoom moves e = rw e refl
-requests-step act Outcome.Busy moves e = rw e refl
-requests-step act Outcome.TooMany moves e = rw e refl
+requests-step act _ moves e = rw e refl
 
 requests-run : (acts : List ActContent) (outcomes : List Outcome) (moves : List Move)
     → AreMovesOfRun acts outcomes moves
@@ -61,8 +58,7 @@ requests-run (act ∷ acts) (outcome ∷ outcomes) moves (first, later, are, fol
           follow,
     )
     refl
-requests-run [] (outcome ∷ outcomes) moves none = absurd none
-requests-run (act ∷ acts) [] moves none = absurd none
+requests-run _ _ moves none = absurd none
 
 -- the acts that are done ask for the picture, and it is promised
 pub run_promises : (x : MachineState) (acts : List ActContent) (outcomes : List Outcome) (moves : List Move)
@@ -137,10 +133,7 @@ act_is_other ActContent.HostBreak moves other e = absurd (other refl)
 pub step_is_other : (act : ActContent) (outcome : Outcome) (moves : List Move) → act ≢ ActContent.HostBreak
     → AreMovesOfStep act outcome moves → AllByRecursion (λ move. ¬ (IsHostBreak move)) moves
 step_is_other act Outcome.Done moves other are = act_is_other act moves other are
-step_is_other act Outcome.Nothing moves other e = rw e tt
-step_is_other act Outcome.NoRoom moves other e = rw e tt
-step_is_other act Outcome.Busy moves other e = rw e tt
-step_is_other act Outcome.TooMany moves other e = rw e tt
+step_is_other act _ moves other e = rw e tt
 
 pub run_is_other : (acts : List ActContent) (outcomes : List Outcome) (moves : List Move)
     → ¬ (Contains acts ActContent.HostBreak) → AreMovesOfRun acts outcomes moves
@@ -151,8 +144,7 @@ run_is_other (act ∷ acts) (outcome ∷ outcomes) moves none (first, later, are
     (all_append (λ move. ¬ (IsHostBreak move)) first later
     (step_is_other act outcome first (λ is. none (0, omega arith, is)) are)
     (run_is_other acts outcomes later (λ has. none (suc has.0, omega (arith, has.1), has.2)) follow))
-run_is_other [] (outcome ∷ outcomes) moves none are = absurd are
-run_is_other (act ∷ acts) [] moves none are = absurd are
+run_is_other _ _ moves none are = absurd are
 
 -- ---- a picture that is coming stays so
 
@@ -167,7 +159,4 @@ pub step_keeps_coming : (x : MachineState) (act : ActContent) (outcome : Outcome
     (after_moves x moves)
 step_keeps_coming x act Outcome.Done moves other are coming =
     moves_keep_coming x moves (act_is_no_break act moves other are) coming
-step_keeps_coming x act Outcome.Nothing moves other e coming = rw e coming
-step_keeps_coming x act Outcome.NoRoom moves other e coming = rw e coming
-step_keeps_coming x act Outcome.Busy moves other e coming = rw e coming
-step_keeps_coming x act Outcome.TooMany moves other e coming = rw e coming
+step_keeps_coming x act _ moves other e coming = rw e coming

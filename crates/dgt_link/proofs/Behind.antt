@@ -1,4 +1,4 @@
--- What an act leaves of a world that stands for a state behind garbage.
+-- What an act leaves of a world that stands for a state after garbage.
 use Rattle.std.proofs.Common.{◌≡◌, refl, sym, ap, ◌∙◌, ◌⊎◌, inl, inr, ℕ, ◌≤◌, List, [], ◌∷◌, ◌++◌, length, take, drop, replicate}
 use Rattle.std.proofs.Common.{Option, Some, None, false, append_assoc, option_to_list, arith}
 use Rattle.std.proofs.lemmas.List.{append-nil}
@@ -11,9 +11,8 @@ use Rattle.dgt_message.specs.Clock.{ClockState}
 use Rattle.dgt_message.specs.Spelling.{spelling}
 use Rattle.dgt_command.specs.Content.{CommandContent, kind_of_command}
 use Rattle.dgt_command.specs.Spelling.{command_spelling}
-use Rattle.dgt_board.specs.State.{BoardState, after_change, after_hand_clock, effects}
+use Rattle.dgt_board.specs.State.{BoardState, after_change, after_hand_clock}
 use Rattle.dgt_board.specs.Sending.{after_sending, next_message}
-use Rattle.dgt_board.specs.View.{BoardView}
 use Rattle.dgt_decode.specs.Grammar.{Event, Message, Placed, cut_of, events, events_behind, open_message}
 use Rattle.dgt_decode.specs.Laws.{BeginsAnew}
 use Rattle.dgt_host.specs.Host.{HostView, awaited_after, clock_after, host_after, host_after_event, host_after_events, host_after_message, picture_after}
@@ -32,7 +31,8 @@ use Rattle.dgt_link.proofs.Runs.{moves_sound}
 use Rattle.dgt_link.proofs.Sending.{next_is_sent}
 use Rattle.dgt_link.proofs.Soundness.{ask-kinds, move_sound}
 use Rattle.dgt_link.proofs.Subsequences.{awaited_after-subsequence, subsequence_append, subsequence_later}
-use Rattle.dgt_link.proofs.Standing.{Grammars, front_of, hears, taken_state, takes, with_host}
+use Rattle.dgt_link.specs.Readers.{Grammars}
+use Rattle.dgt_link.proofs.Standing.{front_of, hears, taken_state, takes, with_host, taken_as}
 
 -- ---- what a host knows that began with less
 
@@ -117,14 +117,14 @@ awaiting_sound x awaited sound h =
       awaited = h;
     }
 
--- ---- garbage, and what begins behind it
+-- ---- garbage, and what begins after it
 
 events_in_a_row : (host : HostView) (told more : List Placed)
     → host_after_events host (told ++ more) ≡ host_after_events (host_after_events host told) more
 events_in_a_row host [] more = refl
 events_in_a_row host (x ∷ told) more = events_in_a_row (host_after_event host x.event) told more
 
--- that a message is cut off tells nothing
+-- that a message is cut off reports nothing
 cut_tells_nothing : (host : HostView) (held : List ℕ) → host_after_events host (cut_of held) ≡ host
 cut_tells_nothing host [] = refl
 cut_tells_nothing host (b ∷ held) = refl
@@ -141,7 +141,7 @@ first_has_top_bit (message ∷ messages) b rest e = omega (arith, first_same e)
     first_same : {x y : ℕ} {xs ys : List ℕ} → x ∷ xs ≡ y ∷ ys → x ≡ y
     first_same h = cc
 
--- whatever the host made of garbage, behind it it hears what begins there
+-- whatever the host made of garbage, after it it hears what begins there
 behind_garbage : BeginsAnew
     → ((host : HostView) (n : ℕ) (told : List Placed)
     → host_after_events host (events_behind n told) ≡ host_after_events host told)
@@ -161,7 +161,7 @@ behind_garbage anew places host garbage more b top =
 abbrev host_of : MachineState → HostView
 host_of x = record { picture = x.picture; clock = x.host_clock; awaited = x.awaited; unread = [] }
 
--- the world after its host has heard so many bytes
+-- the world after its host has heard this many bytes
 abbrev heard_world : WorldView → ℕ → WorldView
 heard_world world count =
     record world {
@@ -191,7 +191,14 @@ board_behind garbage world x state board stands sound same =
       partial = stands.partial;
     }
 
-module _ (laws : Grammars) (anew : BeginsAnew) where
+-- an act that is no break leads a state after garbage by its moves
+abbrev pub ActsBehind : Type 0
+ActsBehind =
+    (act : ActContent) (garbage : List ℕ) (world : WorldView) (answer : Outcome) (after : WorldView) (x : MachineState)
+    → is_break act ≡ false → StandsBehind garbage world x → Step act world answer after
+    → StandsBehindAfter act answer world x after
+
+module _ (laws : Grammars) where
   -- the host hears what begins with a message, and knew at least what the state's host knows
   hear_true : (garbage more : List ℕ) (world : WorldView) (count : ℕ) (x : MachineState) (host : HostView)
       → StandsBehind garbage world x → KnowsNoMore (host_of x) host
@@ -301,8 +308,8 @@ module _ (laws : Grammars) (anew : BeginsAnew) where
           (record { picture = inl unknown.0; clock = inl unknown.1 })
           (λ a. events_await world.host (events garbage) (coming_kinds x) a)
           (ap (λ (bytes : List ℕ). host_after_events world.host (events bytes)) e
-          ∙ behind_garbage anew laws.reads.places world.host garbage more b top)
-          (ap open_message e ∙ (anew garbage more b top).1) f
+          ∙ behind_garbage laws.begins_anew laws.reads.places world.host garbage more b top)
+          (ap open_message e ∙ (laws.begins_anew garbage more b top).1) f
 
   change_behind : (garbage : List ℕ) (world : WorldView) (square : ℕ) (piece : Piece) (after : WorldView)
       (x : MachineState)
@@ -400,36 +407,28 @@ module _ (laws : Grammars) (anew : BeginsAnew) where
       → StandsBehind garbage world x → Becomes (ActContent.ToBoard count) world after
       → StandsBehindAfter (ActContent.ToBoard count) Outcome.Done world x after
   take_behind garbage world count after x stands delivers =
-      let taken = delivers.taken in
-      let board : BoardView = delivers.board in
-      let front = laws.fronts_divide_first
-      (world.board.partial ++ take delivers.moved world.down.bytes)
-      (drop delivers.moved world.down.bytes) taken.events x.down board.partial [] taken.divided
-      (rw (front_of world.board.partial world.down.bytes delivers.moved) at stands.down) in
-      let moves : List Move = replicate (length taken.events) Move.Take in
-      let led : after_moves x moves ≡ taken_state x taken.events front.0 = takes taken.events front.0 x front.1 in (
+      let taken = taken_as laws world delivers.moved delivers.board x delivers.taken stands.board stands.down in
+      let moves : List Move = replicate (length taken.events) Move.Take in (
         garbage,
         moves,
         (length taken.events, refl),
-        rw (delivers.leaves, led)
+        rw (delivers.leaves, taken.led)
             (record {
-              sound = rw led at (moves_sound x moves stands.sound);
-              board = taken.state ∙ ap (λ (state : BoardState). effects state taken.events) stands.board;
+              sound = rw taken.led at (moves_sound x moves stands.sound);
+              board = taken.board;
               picture = stands.picture;
               clock = stands.clock;
               unheard = stands.unheard;
               are_messages = stands.are_messages;
               up = stands.up;
-              down = front.2;
-              partial =
-                  laws.left (world.board.partial ++ take delivers.moved world.down.bytes) board.partial taken.events
-                  taken.divided;
+              down = taken.down;
+              partial = taken.partial;
             }),
-        rw (delivers.leaves, led) (λ a.
+        rw (delivers.leaves, taken.led) (λ a.
             let ran : after_moves (awaiting x world.host.awaited) moves
-            ≡ taken_state (awaiting x world.host.awaited) taken.events front.0
-            = takes taken.events front.0 (awaiting x world.host.awaited) front.1 in
-            let sound : IsSound (taken_state (awaiting x world.host.awaited) taken.events front.0)
+            ≡ taken_state (awaiting x world.host.awaited) taken.events taken.left
+            = takes taken.events taken.left (awaiting x world.host.awaited) taken.all in
+            let sound : IsSound (taken_state (awaiting x world.host.awaited) taken.events taken.left)
             = rw ran at (moves_sound (awaiting x world.host.awaited) moves
             (awaiting_sound x world.host.awaited stands.sound a)) in
             sound.awaited),
@@ -459,11 +458,5 @@ module _ (laws : Grammars) (anew : BeginsAnew) where
       → StandsBehindAfter act answer world x after
   step_behind act garbage world Outcome.Done after x other stands step =
       becomes_behind act garbage world after x other stands step.leaves
-  step_behind act garbage world Outcome.Nothing after x other stands step =
-      (garbage, [], refl, rw step.leaves stands, rw step.leaves (λ a. a))
-  step_behind act garbage world Outcome.NoRoom after x other stands step =
-      (garbage, [], refl, rw step.leaves stands, rw step.leaves (λ a. a))
-  step_behind act garbage world Outcome.Busy after x other stands step =
-      (garbage, [], refl, rw step.leaves stands, rw step.leaves (λ a. a))
-  step_behind act garbage world Outcome.TooMany after x other stands step =
+  step_behind act garbage world _ after x other stands step =
       (garbage, [], refl, rw step.leaves stands, rw step.leaves (λ a. a))

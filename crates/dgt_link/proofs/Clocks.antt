@@ -105,10 +105,7 @@ clock_owed board event e = rw e (Contains-push board.owed Reply.Clock)
 -- what is read reports nothing
 effect_told : (board : BoardState) (event : EventContent) → (effect board event).told_clock ≡ board.told_clock
 effect_told board (EventContent.Read command) = refl
-effect_told board EventContent.BadSize = refl
-effect_told board EventContent.BadStart = refl
-effect_told board EventContent.BadEnd = refl
-effect_told board (EventContent.Stray byte) = refl
+effect_told board _ = refl
 
 take_comes : (board : BoardState) (seen : Option ClockState) (event : EventContent) (rest : List EventContent)
     → Comes seen board.told_clock board.owed (event ∷ rest)
@@ -172,21 +169,13 @@ moves_keep x (move ∷ moves) others also coming =
 pub step_is_no_break : (act : ActContent) (answer : Outcome) (moves : List Move) → act ≢ ActContent.Break
     → AreMovesOfStep act answer moves → AllByRecursion (λ move. move ≢ Move.Break) moves
 step_is_no_break act Outcome.Done moves other are = act_is_no_break act moves other are
-step_is_no_break act Outcome.Nothing moves other e = rw e tt
-step_is_no_break act Outcome.NoRoom moves other e = rw e tt
-step_is_no_break act Outcome.Busy moves other e = rw e tt
-step_is_no_break act Outcome.TooMany moves other e = rw e tt
+step_is_no_break act _ moves other e = rw e tt
 
 pub no_break : (act : ActContent) → is_break act ≡ false
     → (act ≢ ActContent.Break) × (act ≢ ActContent.HostBreak)
 no_break ActContent.Break other = cc
 no_break ActContent.HostBreak other = cc
-no_break (ActContent.Change square piece) other = (λ e. cc, λ e. cc)
-no_break (ActContent.ClockRead clock) other = (λ e. cc, λ e. cc)
-no_break (ActContent.Host command) other = (λ e. cc, λ e. cc)
-no_break ActContent.BoardSend other = (λ e. cc, λ e. cc)
-no_break (ActContent.ToBoard count) other = (λ e. cc, λ e. cc)
-no_break (ActContent.ToHost count) other = (λ e. cc, λ e. cc)
+no_break _ other = (λ e. cc, λ e. cc)
 
 -- an act that is no break keeps a clock coming
 pub step_keeps_clock : (x : MachineState) (act : ActContent) (answer : Outcome) (moves : List Move)
@@ -227,7 +216,7 @@ pub promised_clock : (x : MachineState) → IsSound x → IsClockPromised x → 
     → x.host_clock ≡ Some x.board.clock
 promised_clock x sound promised quiet =
     let follows : IsTrue (follows_clock x.board.mode) = rw (quiet_mode x quiet) at promised.mode in
-    known_clock x.host_clock x.board.told_clock (clock_has_come x sound quiet follows promised.clock)
+    known_clock x.host_clock x.board.told_clock (clock_has_come x sound quiet follows promised.coming)
     (rw quiet.up at sound.clock)
     ∙ told_clock x.board.times_owed x.board.told_clock (Some x.board.clock) (quiet_up_to_date x sound quiet).times_owed
     (sound.followed follows)

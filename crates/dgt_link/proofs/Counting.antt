@@ -1,6 +1,6 @@
 -- What a world at fault keeps, and how a host that begins anew, or asks for a dump, comes to know the board again.
-use Rattle.std.proofs.Common.{◌≡◌, refl, sym, ap, subst, ◌∙◌, inl, inr, ℕ, zero, suc, List, [], ◌∷◌, ◌++◌, length, drop, replicate, map}
-use Rattle.std.proofs.Common.{Option, Some, None, false, true, Bool, append_assoc, arith, rules}
+use Rattle.std.proofs.Common.{◌≡◌, ◌≢◌, refl, sym, ap, subst, ◌∙◌, inl, inr, ℕ, zero, suc, List, [], ◌∷◌, ◌++◌, length, drop, replicate, map}
+use Rattle.std.proofs.Common.{Option, Some, false, true, Bool, append_assoc, arith, rules}
 use Rattle.std.proofs.lemmas.Bool.{false≢true}
 use Rattle.std.proofs.lemmas.List.{append-nil}
 use Rattle.std.proofs.lemmas.List.Elements.{filter_map-append, Contains-append_right, Contains-push_cases}
@@ -12,19 +12,18 @@ use Rattle.dgt_message.specs.Spelling.{spelling}
 use Rattle.dgt_command.specs.Content.{CommandContent, EventContent}
 use Rattle.dgt_command.specs.Laws.{EachDividesOnce}
 use Rattle.dgt_command.specs.Spelling.{AreBytes, command_spelling}
-use Rattle.dgt_command.specs.Words.{Divides, IsNoiseList, IsPartial}
+use Rattle.dgt_command.specs.Words.{Divides, IsNoiseList}
 use Rattle.dgt_board.specs.declared.modes.Mode.{Mode}
 use Rattle.dgt_board.specs.State.{BoardState, after_line_lost, command_mode, effects}
 use Rattle.dgt_board.specs.Sending.{pending_messages}
 use Rattle.dgt_board.specs.View.{BoardView}
-use Rattle.dgt_decode.specs.Laws.{BeginsAnew}
 use Rattle.dgt_host.specs.Host.{follow_bytes, restart_bytes}
 use Rattle.dgt_link.specs.Act.{ActContent}
 use Rattle.dgt_link.specs.declared.acts.Outcome.{Outcome}
 use Rattle.dgt_link.specs.Faults.{FaultyBecomes, FaultyContent, FaultyRuns, FaultyStep, is_break}
-use Rattle.dgt_link.specs.Healing.{AwaitsWhatComes, Counted, IsFaultyWorld, IsHealing, IsInStep, IsInTurn, IsSane, StandsBehind, counted_after, counted_after_all, nothing_counted, sets_mode}
+use Rattle.dgt_link.specs.Healing.{AwaitsWhatComes, Counted, IsFaultyWorld, IsInStep, IsInTurn, IsSane, StandsBehind, counted_after, counted_after_all, counted_by, nothing_counted, sets_mode}
 use Rattle.dgt_link.specs.Machine.{MachineState, Move, after_move, after_moves, commands_anew, state_of_board}
-use Rattle.dgt_link.specs.Promise.{IsAsked, IsQuiet, act_requests, commands_after, event_mode, last_mode}
+use Rattle.dgt_link.specs.Promise.{IsQuiet, act_requests, commands_after, event_mode, last_mode}
 use Rattle.dgt_link.specs.Sound.{IsSound, IsSubsequence, IsUnknownOr, coming_kinds, kind_of_event, kind_of_reply}
 use Rattle.dgt_link.specs.Stands.{AreMovesOfStep, IsWorld, StandsFor}
 use Rattle.dgt_link.specs.Step.{Becomes, Step}
@@ -35,14 +34,15 @@ use Rattle.dgt_link.proofs.Clocks.{clock_is_asked, step_keeps_clock}
 use Rattle.dgt_link.proofs.Behind.{awaiting, awaiting_sound, step_behind}
 use Rattle.dgt_link.proofs.Dividing.{anew_divides}
 use Rattle.dgt_link.proofs.Lists.{Contains-cons, nothing_contained, right_empty}
-use Rattle.dgt_link.proofs.Promises.{IsComing, coming_promise, last_mode-append, noise-modes, nothing_asked}
-use Rattle.dgt_link.proofs.Quiet.{promised_picture, quiet_awaited}
+use Rattle.dgt_link.proofs.Promises.{IsComing, last_mode-append, noise-modes, nothing_asked}
+use Rattle.dgt_link.proofs.Quiet.{quiet_awaited}
 use Rattle.dgt_link.proofs.Resting.{nothing_first}
 use Rattle.dgt_link.proofs.Runs.{moves_come, moves_sound}
 use Rattle.dgt_link.proofs.Sending.{next_is_sent}
 use Rattle.dgt_link.proofs.Soundness.{move_sound, new_sound, noise-kinds}
 use Rattle.dgt_link.proofs.Subsequences.{subsequence_at_end}
-use Rattle.dgt_link.proofs.Standing.{Grammars, HasRooms, becomes_rooms, same_rooms, taken_state, takes}
+use Rattle.dgt_link.specs.Readers.{Grammars}
+use Rattle.dgt_link.proofs.Standing.{HasRooms, becomes_rooms, same_rooms, taken_state, takes}
 
 -- ---- bytes
 
@@ -72,25 +72,13 @@ bytes_restart = bytes_append (replicate 255 0) follow_bytes (bytes_zeros 255) by
 
 -- ---- a world at fault stays sane
 
--- a sound state's board is sound with nothing under way
-board_sound : (x : MachineState) → IsSound x → IsSound (state_of_board x.board)
-board_sound x sound =
-    record {
-      squares = sound.squares;
-      told_squares = sound.told_squares;
-      picture = inl refl;
-      followed = sound.followed;
-      clock = inl refl;
-      awaited = tt;
-    }
-
--- and so with commands under way
+-- the state that knows nothing of what its board has sent, with these commands under way
 abbrev commanded_state : BoardState → List EventContent → MachineState
 commanded_state board events = record (state_of_board board) { down = events }
 
-commanded_sound : (board : BoardState) (events : List EventContent) → IsSound (state_of_board board)
-    → IsSound (commanded_state board events)
-commanded_sound board events sound =
+commanded_sound : (x : MachineState) (events : List EventContent) → IsSound x
+    → IsSound (commanded_state x.board events)
+commanded_sound x events sound =
     record {
       squares = sound.squares;
       told_squares = sound.told_squares;
@@ -99,6 +87,9 @@ commanded_sound board events sound =
       clock = inl refl;
       awaited = tt;
     }
+
+lost_sound : (board : BoardState) → IsSound (state_of_board board) → IsSound (state_of_board (after_line_lost board))
+lost_sound board sound = new_sound board.squares board.clock board.identity sound.squares
 
 effects_sound : (board : BoardState) (events : List EventContent) → IsSound (state_of_board board)
     → IsSound (state_of_board (effects board events))
@@ -106,7 +97,8 @@ effects_sound board events sound =
     let x = commanded_state board events in
     let moves : List Move = replicate (length events) Move.Take in
     let led : after_moves x moves ≡ taken_state x events [] = takes events [] x (sym (append-nil events)) in
-    board_sound (taken_state x events []) (rw led at (moves_sound x moves (commanded_sound board events sound)))
+    commanded_sound (taken_state x events []) []
+    (rw led at (moves_sound x moves (commanded_sound (state_of_board board) events sound)))
 
 module _ (laws : Grammars) where
   becomes_sane : (act : ActContent) (world after : WorldView) → IsSane world → Becomes act world after → IsSane after
@@ -136,7 +128,7 @@ module _ (laws : Grammars) where
       let by = next_is_sent x message is_next in
       let y = after_move x by.0 in
       let sound : IsSound (state_of_board (after_move x by.0).board)
-      = board_sound (after_move x by.0) (move_sound x by.0 sane.board) in
+      = commanded_sound (after_move x by.0) [] (move_sound x by.0 sane.board) in
       rw same
       (record {
         board = rw by.2 at sound;
@@ -156,8 +148,7 @@ module _ (laws : Grammars) where
   becomes_sane ActContent.Break world after sane same =
       rw same
       (record {
-        board = new_sound world.board.state.squares world.board.state.clock world.board.state.identity
-            sane.board.squares;
+        board = lost_sound world.board.state sane.board;
         partial = laws.nothing;
         down = no_bytes;
       })
@@ -174,8 +165,7 @@ module _ (laws : Grammars) where
   faulty_sane FaultyContent.BoardLost world after sane same =
       rw same
       (record {
-        board = new_sound world.board.state.squares world.board.state.clock world.board.state.identity
-            sane.board.squares;
+        board = lost_sound world.board.state sane.board;
         partial = laws.nothing;
         down = sane.down;
       })
@@ -190,14 +180,11 @@ module _ (laws : Grammars) where
   pub step_sane : (act : FaultyContent) (world : WorldView) (answer : Outcome) (after : WorldView) → IsSane world
       → FaultyStep act world answer after → IsSane after
   step_sane act world Outcome.Done after sane step = faulty_sane act world after sane step.leaves
-  step_sane act world Outcome.Nothing after sane step = rw step.leaves sane
-  step_sane act world Outcome.NoRoom after sane step = rw step.leaves sane
-  step_sane act world Outcome.Busy after sane step = rw step.leaves sane
-  step_sane act world Outcome.TooMany after sane step = rw step.leaves sane
+  step_sane act world _ after sane step = rw step.leaves sane
 
--- ---- what counts, and what stands behind it
+-- ---- what counts, and what stands after it
 
--- the world stands for a state behind garbage, and what was asked for comes to it
+-- the world stands for a state after garbage, and what was asked for comes to it
 pub record Follows (in_turn : Bool) (asked : List CommandContent) (world : WorldView) : Type 0 where
   pub garbage : List ℕ
   pub state : MachineState
@@ -213,7 +200,7 @@ pub record Holds (c : Counted) (world : WorldView) : Type 0 where
 
 pub follows_in_step : (in_turn : Bool) (asked : List CommandContent) (world : WorldView)
     → Follows in_turn asked world → IsInStep world
-follows_in_step in_turn asked world f = record { garbage = f.garbage; state = f.state; stands = f.stands }
+follows_in_step in_turn asked world f = record { garbage = f.garbage; state = f.state; stands = f.stands; holds = tt }
 
 -- nothing was asked for yet
 pub in_step_follows : (world : WorldView) → IsInStep world → Follows false [] world
@@ -249,32 +236,18 @@ clock_comes (ActContent.Host command) Outcome.Done x moves asked other are clock
     asked_clock asked command x moves are clock has
 clock_comes ActContent.Break Outcome.Done x moves asked other are clock has = cc
 clock_comes ActContent.HostBreak Outcome.Done x moves asked other are clock has = cc
-clock_comes (ActContent.Change square piece) Outcome.Done x moves asked other are clock has =
-    step_keeps_clock x (ActContent.Change square piece) Outcome.Done moves other are (clock has)
-clock_comes (ActContent.ClockRead reading) Outcome.Done x moves asked other are clock has =
-    step_keeps_clock x (ActContent.ClockRead reading) Outcome.Done moves other are (clock has)
-clock_comes ActContent.BoardSend Outcome.Done x moves asked other are clock has =
-    step_keeps_clock x ActContent.BoardSend Outcome.Done moves other are (clock has)
-clock_comes (ActContent.ToBoard count) Outcome.Done x moves asked other are clock has =
-    step_keeps_clock x (ActContent.ToBoard count) Outcome.Done moves other are (clock has)
-clock_comes (ActContent.ToHost count) Outcome.Done x moves asked other are clock has =
-    step_keeps_clock x (ActContent.ToHost count) Outcome.Done moves other are (clock has)
-clock_comes act Outcome.Nothing x moves asked other are clock has =
-    step_keeps_clock x act Outcome.Nothing moves other are (clock has)
-clock_comes act Outcome.NoRoom x moves asked other are clock has =
-    step_keeps_clock x act Outcome.NoRoom moves other are (clock has)
-clock_comes act Outcome.Busy x moves asked other are clock has =
-    step_keeps_clock x act Outcome.Busy moves other are (clock has)
-clock_comes act Outcome.TooMany x moves asked other are clock has =
-    step_keeps_clock x act Outcome.TooMany moves other are (clock has)
+clock_comes act Outcome.Done x moves asked other are clock has =
+    step_keeps_clock x act Outcome.Done moves other are (clock has)
+clock_comes act answer x moves asked other are clock has =
+    step_keeps_clock x act answer moves other are (clock has)
 
 -- an act that is no break
-plain_follows : Grammars → BeginsAnew → (act : ActContent) (world : WorldView) (answer : Outcome) (after : WorldView)
+plain_follows : Grammars → (act : ActContent) (world : WorldView) (answer : Outcome) (after : WorldView)
     (in_turn : Bool) (asked : List CommandContent)
     → is_break act ≡ false → Follows in_turn asked world → Step act world answer after
     → Follows in_turn (commands_after asked (act_requests answer act)) after
-plain_follows laws anew act world answer after in_turn asked other f step =
-    let reached = step_behind laws anew act f.garbage world answer after f.state other f.stands step in
+plain_follows laws act world answer after in_turn asked other f step =
+    let reached = step_behind laws act f.garbage world answer after f.state other f.stands step in
     record {
       garbage = reached.0;
       state = after_moves f.state reached.1;
@@ -320,25 +293,14 @@ modes_stay (_ ∷ commands) = modes_stay commands
 
 -- the state that knows nothing of what its board has sent
 abbrev pub forgotten : MachineState → MachineState
-forgotten x = record x { up = []; picture = None; host_clock = None; awaited = [] }
-
-forgotten_sound : (x : MachineState) → IsSound x → IsSound (forgotten x)
-forgotten_sound x sound =
-    record {
-      squares = sound.squares;
-      told_squares = sound.told_squares;
-      picture = inl refl;
-      followed = sound.followed;
-      clock = inl refl;
-      awaited = tt;
-    }
+forgotten x = commanded_state x.board x.down
 
 -- all that is under way to the host may count as garbage
 pub forgotten_stands : (garbage : List ℕ) (world : WorldView) (x : MachineState) → StandsBehind garbage world x
     → StandsBehind (world.host.unread ++ world.up.bytes) world (forgotten x)
 forgotten_stands garbage world x stands =
     record {
-      sound = forgotten_sound x stands.sound;
+      sound = commanded_sound x x.down stands.sound;
       board = stands.board;
       picture = inl refl;
       clock = inl refl;
@@ -356,7 +318,7 @@ pub garbled_stands : (bytes : List ℕ) (world after : WorldView) (garbage : Lis
 garbled_stands bytes world after garbage x stands same =
     rw same
     (record {
-      sound = forgotten_sound x stands.sound;
+      sound = commanded_sound x x.down stands.sound;
       board = stands.board;
       picture = inl refl;
       clock = inl refl;
@@ -386,8 +348,7 @@ garbled_follows in_turn asked bytes world after f same =
 
 -- ---- a break, and a host that begins anew
 
-module _ (laws : Grammars) (once : EachDividesOnce)
-    (bytes_behind : (rest more : List ℕ) → IsPartial rest → AreBytes more → AreBytes (rest ++ more)) where
+module _ (laws : Grammars) where
   pub break_follows : (world after : WorldView) → IsSane world → Becomes ActContent.Break world after
       → Follows true [] after
   break_follows world after sane same =
@@ -396,8 +357,7 @@ module _ (laws : Grammars) (once : EachDividesOnce)
         garbage = [];
         state = state_of_board (after_line_lost world.board.state);
         stands = record {
-          sound = new_sound world.board.state.squares world.board.state.clock world.board.state.identity
-              sane.board.squares;
+          sound = lost_sound world.board.state sane.board;
           board = refl;
           picture = inl refl;
           clock = inl refl;
@@ -412,7 +372,7 @@ module _ (laws : Grammars) (once : EachDividesOnce)
         awaits = λ turn. tt;
       })
 
-  -- what comes to the board of a host that begins anew behind other commands
+  -- what comes to the board of a host that begins anew after other commands
   anew_mode : (before : Mode) (events noise : List EventContent) → IsNoiseList noise
       → last_mode before (filter_map event_mode (events ++ (noise ++ map EventContent.Read commands_anew)))
       ≡ Mode.UpdateBoard
@@ -458,7 +418,7 @@ module _ (laws : Grammars) (once : EachDividesOnce)
       subst (λ (kinds : List Kind). IsSubsequence (Kind.Dump ∷ []) kinds) (sym all)
       (subsequence_at_end (Kind.Dump ∷ []) (owed ++ filter_map kind_of_event events))
 
-  -- the restart bytes behind what leaves this rest
+  -- the restart bytes after what leaves this rest
   anew_divides_behind : (bytes : List ℕ) (events : List EventContent) (rest : List ℕ) → Divides bytes events rest
       → (noise : List EventContent) × IsNoiseList noise
       × Divides (bytes ++ restart_bytes) (events ++ (noise ++ map EventContent.Read commands_anew)) []
@@ -491,8 +451,8 @@ module _ (laws : Grammars) (once : EachDividesOnce)
       → after.host.unread ++ after.up.bytes ≡ up → after.host.awaited ≡ Kind.Dump ∷ []
       → Follows true commands_anew after
   anew_follows world after bytes up sane are board down heard awaited =
-      let divided = once.0 (world.board.partial ++ bytes)
-      (bytes_behind world.board.partial bytes sane.partial are) in
+      let divided = laws.once.0 (world.board.partial ++ bytes)
+      (laws.bytes world.board.partial bytes sane.partial are) in
       let anew = anew_divides_behind (world.board.partial ++ bytes) divided.0 divided.1 divided.2 in
       let events : List EventContent = divided.0 ++ (anew.0 ++ map EventContent.Read commands_anew) in
       record {
@@ -500,7 +460,7 @@ module _ (laws : Grammars) (once : EachDividesOnce)
         state = commanded_state world.board.state
             (divided.0 ++ (anew.0 ++ map EventContent.Read commands_anew));
         stands = record {
-          sound = commanded_sound world.board.state
+          sound = commanded_sound (state_of_board world.board.state)
               (divided.0 ++ (anew.0 ++ map EventContent.Read commands_anew)) sane.board;
           board = ap (λ (b : BoardView). b.state) board;
           picture = inl refl;
@@ -534,6 +494,11 @@ unchanged : (c : Counted) (world after : WorldView) → after ≡ world → Hold
     → Follows c.in_turn c.asked after
 unchanged c world after same holds in_step = rw same (holds.follows in_step)
 
+pub undone : (act : FaultyContent) (world : WorldView) (answer : Outcome) (after : WorldView)
+    → answer ≢ Outcome.Done → FaultyStep act world answer after → after ≡ world
+undone act world Outcome.Done after other step = absurd (other refl)
+undone act world _ after other step = step.leaves
+
 pub plain_step : (act : ActContent) (world : WorldView) (answer : Outcome) (after : WorldView)
     → FaultyStep (FaultyContent.Plain act) world answer after → Step act world answer after
 plain_step act world answer after step = record { answers = step.answers; leaves = step.leaves }
@@ -542,18 +507,17 @@ pub faulty_step : (act : ActContent) (world : WorldView) (answer : Outcome) (aft
     → Step act world answer after → FaultyStep (FaultyContent.Plain act) world answer after
 faulty_step act world answer after step = record { answers = step.answers; leaves = step.leaves }
 
-module _ (laws : Grammars) (anew : BeginsAnew) (once : EachDividesOnce)
-    (bytes_behind : (rest more : List ℕ) → IsPartial rest → AreBytes more → AreBytes (rest ++ more)) where
+module _ (laws : Grammars) where
   breaks_after : (c : Counted) (world : WorldView) (answer : Outcome) (after : WorldView) → IsSane world
       → Step ActContent.Break world answer after
       → Follows true (commands_after c.asked (act_requests answer ActContent.Break)) after
-  breaks_after c world Outcome.Done after sane step = break_follows laws once bytes_behind world after sane step.leaves
+  breaks_after c world Outcome.Done after sane step = break_follows laws world after sane step.leaves
   breaks_after c world _ after sane step = let is = step.answers in cc
 
   host_breaks_after : (world : WorldView) (answer : Outcome) (after : WorldView) → IsSane world
       → Step ActContent.HostBreak world answer after → Follows true commands_anew after
   host_breaks_after world Outcome.Done after sane step =
-      host_break_follows laws once bytes_behind world after sane step.leaves
+      host_break_follows laws world after sane step.leaves
   host_breaks_after world _ after sane step = let is = step.answers in cc
 
   plain_after : (c : Counted) (act : ActContent) (world : WorldView) (answer : Outcome) (after : WorldView)
@@ -566,7 +530,7 @@ module _ (laws : Grammars) (anew : BeginsAnew) (once : EachDividesOnce)
   plain_after c ActContent.HostBreak world answer after holds step in_step =
       host_breaks_after world answer after holds.sane step
   plain_after c act world answer after holds step in_step =
-      plain_follows laws anew act world answer after c.in_turn c.asked refl (holds.follows in_step) step
+      plain_follows laws act world answer after c.in_turn c.asked refl (holds.follows in_step) step
 
   follows_after : (c : Counted) (act : FaultyContent) (world : WorldView) (answer : Outcome) (after : WorldView)
       → Holds c world → FaultyStep act world answer after → IsTrue (counted_after c act answer).in_step
@@ -583,11 +547,11 @@ module _ (laws : Grammars) (anew : BeginsAnew) (once : EachDividesOnce)
       unchanged c world after step.leaves holds in_step
   follows_after c FaultyContent.BoardLost world answer after holds step in_step = absurd (false≢true in_step)
   follows_after c FaultyContent.Restart world Outcome.Done after holds step in_step =
-      restart_follows laws once bytes_behind world after holds.sane step.leaves
+      restart_follows laws world after holds.sane step.leaves
   follows_after c FaultyContent.Restart world _ after holds step in_step =
       unchanged c world after step.leaves holds in_step
 
-  pub step_holds : (c : Counted) (act : FaultyContent) (world : WorldView) (answer : Outcome) (after : WorldView)
+  step_holds : (c : Counted) (act : FaultyContent) (world : WorldView) (answer : Outcome) (after : WorldView)
       → Holds c world → FaultyStep act world answer after → Holds (counted_after c act answer) after
   step_holds c act world answer after holds step =
       record {
@@ -595,23 +559,31 @@ module _ (laws : Grammars) (anew : BeginsAnew) (once : EachDividesOnce)
         follows = follows_after c act world answer after holds step;
       }
 
-  pub run_holds : (acts : List FaultyContent) (world : WorldView) (answers : List Outcome) (after : WorldView)
+  run_holds : (acts : List FaultyContent) (world : WorldView) (answers : List Outcome) (after : WorldView)
       (c : Counted)
       → Holds c world → FaultyRuns acts world answers after → Holds (counted_after_all c acts answers) after
   run_holds [] world [] after c holds same = rw same holds
   run_holds (act ∷ acts) world (answer ∷ answers) after c holds (between, step, runs) =
       run_holds acts between answers after (counted_after c act answer)
       (step_holds c act world answer between holds step) runs
-  run_holds [] world (answer ∷ answers) after c holds none = absurd none
-  run_holds (act ∷ acts) world [] after c holds none = absurd none
+  run_holds _ world _ after c holds none = absurd none
 
 -- ---- what is known at the start
 
-pub sane_holds : (world : WorldView) → IsSane world → Holds (nothing_counted false) world
+sane_holds : (world : WorldView) → IsSane world → Holds (nothing_counted false) world
 sane_holds world sane = record { sane = sane; follows = λ none. absurd (false≢true none) }
 
-pub in_step_holds : (world : WorldView) → IsSane world → IsInStep world → Holds (nothing_counted true) world
+in_step_holds : (world : WorldView) → IsSane world → IsInStep world → Holds (nothing_counted true) world
 in_step_holds world sane is = record { sane = sane; follows = λ in_step. in_step_follows world is }
+
+module _ (laws : Grammars) (acts : List FaultyContent) (world after : WorldView) (answers : List Outcome)
+    (sane : IsSane world) (runs : FaultyRuns acts world answers after) where
+  pub counted_holds : Holds (counted_by false acts answers) after
+  counted_holds = run_holds laws acts world answers after (nothing_counted false) (sane_holds world sane) runs
+
+  pub in_step_counted_holds : IsInStep world → Holds (counted_by true acts answers) after
+  in_step_counted_holds is =
+      run_holds laws acts world answers after (nothing_counted true) (in_step_holds world sane is) runs
 
 -- ---- at quiet
 
@@ -633,20 +605,6 @@ pub known_picture : {X : Type 0} (known seen : Option X) (x : X) → IsUnknownOr
     → seen ≡ Some x
 known_picture known seen x (inl none) is = cc
 known_picture known seen x (inr same) is = sym same ∙ is
-
-pub healed_picture : EachDividesOnce → (in_turn : Bool) (asked : List CommandContent) (world : WorldView)
-    → Follows in_turn asked world → IsAsked asked → IsQuietWorld world
-    → world.host.picture ≡ Some world.board.state.squares
-healed_picture once in_turn asked world f asks quiet =
-    rw f.stands.board
-    (known_picture f.state.picture world.host.picture f.state.board.squares f.stands.picture
-    (promised_picture f.state f.stands.sound (coming_promise asked f.state f.comes asks)
-    (quiet_behind once f.garbage world f.state f.stands quiet)))
-
-pub healing_picture : EachDividesOnce → (c : Counted) (world : WorldView) → Holds c world → IsHealing c
-    → IsQuietWorld world → world.host.picture ≡ Some world.board.state.squares
-healing_picture once c world holds healing quiet =
-    healed_picture once c.in_turn c.asked world (holds.follows healing.in_step) healing.asked quiet
 
 -- nothing is awaited, where all that is awaited was still to come
 pub in_turn_awaits_nothing : EachDividesOnce → (c : Counted) (world : WorldView) → Holds c world → IsInTurn c
@@ -693,7 +651,7 @@ stands_behind world x stands =
 
 pub world_in_step : (world : WorldView) → IsWorld world → IsInStep world
 world_in_step world is =
-    record { garbage = []; state = is.state; stands = stands_behind world is.state is.stands }
+    record { garbage = []; state = is.state; stands = stands_behind world is.state is.stands; holds = tt }
 
 -- nothing comes to the board
 pub empty_in_step : (world : WorldView) → IsSane world → world.down.bytes ≡ [] → world.board.partial ≡ []
@@ -713,12 +671,13 @@ empty_in_step world sane down partial =
         down = rw (partial, down) (refl, rw partial at sane.partial);
         partial = sane.partial;
       };
+      holds = tt;
     }
 
 world_is_sane : (world : WorldView) (x : MachineState) → StandsFor world x → IsSane world
 world_is_sane world x stands =
     record {
-      board = rw stands.board (board_sound x stands.sound);
+      board = rw stands.board (commanded_sound x [] stands.sound);
       partial = stands.partial;
       down =
           bytes_right world.board.partial world.down.bytes
@@ -738,18 +697,13 @@ world_is_faulty world is =
 faulty_rooms : (act : FaultyContent) (world after : WorldView) → FaultyBecomes act world after
     → HasRooms world after
 faulty_rooms (FaultyContent.Plain act) world after becomes = becomes_rooms act world after becomes
-faulty_rooms (FaultyContent.GarbleUp bytes) world after same = rw same (record { up = refl; down = refl })
 faulty_rooms (FaultyContent.GarbleDown bytes) world after (are, same) = rw same (record { up = refl; down = refl })
-faulty_rooms FaultyContent.BoardLost world after same = rw same (record { up = refl; down = refl })
-faulty_rooms FaultyContent.Restart world after same = rw same (record { up = refl; down = refl })
+faulty_rooms _ world after same = rw same (record { up = refl; down = refl })
 
 step_keeps_rooms : (act : FaultyContent) (world : WorldView) (answer : Outcome) (after : WorldView)
     → FaultyStep act world answer after → HasRooms world after
 step_keeps_rooms act world Outcome.Done after step = faulty_rooms act world after step.leaves
-step_keeps_rooms act world Outcome.Nothing after step = same_rooms world after step.leaves
-step_keeps_rooms act world Outcome.NoRoom after step = same_rooms world after step.leaves
-step_keeps_rooms act world Outcome.Busy after step = same_rooms world after step.leaves
-step_keeps_rooms act world Outcome.TooMany after step = same_rooms world after step.leaves
+step_keeps_rooms act world _ after step = same_rooms world after step.leaves
 
 pub step_is_faulty : Grammars → (act : FaultyContent) (world after : WorldView) (answer : Outcome)
     → IsFaultyWorld world → FaultyStep act world answer after → IsFaultyWorld after

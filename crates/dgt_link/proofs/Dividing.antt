@@ -1,4 +1,4 @@
--- Commands behind others.
+-- Commands after others.
 use Rattle.std.proofs.Common.{rules, refl, sym, ℕ, List, [], ◌∷◌, ◌++◌, map}
 use Rattle.std.proofs.lemmas.List.{append-nil}
 use Rattle.dgt_command.specs.Content.{CommandContent, EventContent}
@@ -9,7 +9,7 @@ use Rattle.dgt_host.specs.Host.{follow_bytes}
 use Rattle.dgt_link.specs.Machine.{commands_anew}
 
 module _ (nothing : IsPartial []) where
-  -- one more command behind bytes with no rest
+  -- one more command after bytes with no rest
   pub divides_command : DivisionsAppend → (bytes : List ℕ) (events : List EventContent) (command : CommandContent)
       → Divides bytes events [] → SpellsCommand command (command_spelling command)
       → Divides (bytes ++ command_spelling command) (events ++ EventContent.Read command ∷ []) []

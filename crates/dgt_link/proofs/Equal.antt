@@ -33,14 +33,7 @@ module _ (equal_clocks : EqualIsSameRead clock_seen (derived_clock.eq-value).it)
   equal_acts (act.ToHost a) (act.ToHost b) h k = search rules
   equal_acts act.Break act.Break h k = (λ _. refl, λ _. refl)
   equal_acts act.HostBreak act.HostBreak h k = (λ _. refl, λ _. refl)
-  equal_acts (act.Change square piece) _ h k = (λ t. cc, λ e. cc)
-  equal_acts (act.ClockRead a) _ h k = (λ t. cc, λ e. cc)
-  equal_acts (act.Host a) _ h k = (λ t. cc, λ e. cc)
-  equal_acts act.BoardSend _ h k = (λ t. cc, λ e. cc)
-  equal_acts (act.ToBoard a) _ h k = (λ t. cc, λ e. cc)
-  equal_acts (act.ToHost a) _ h k = (λ t. cc, λ e. cc)
-  equal_acts act.Break _ h k = (λ t. cc, λ e. cc)
-  equal_acts act.HostBreak _ h k = (λ t. cc, λ e. cc)
+  equal_acts _ _ h k = (λ t. cc, λ e. cc)
 
 -- ---- of a world whose lines and whose board may fail
 
@@ -60,8 +53,4 @@ module _ (equal : EqualIsSameReadOf ActHasArrays act_content (derived.eq-value).
       (λ t. let bytes = same.0 t in cc, λ e. same.1 cc)
   equal_faulty_acts faulty.BoardLost faulty.BoardLost h k = (λ _. refl, λ _. refl)
   equal_faulty_acts faulty.Restart faulty.Restart h k = (λ _. refl, λ _. refl)
-  equal_faulty_acts (faulty.Plain a) _ h k = (λ t. cc, λ e. cc)
-  equal_faulty_acts (faulty.GarbleUp a) _ h k = (λ t. cc, λ e. cc)
-  equal_faulty_acts (faulty.GarbleDown a) _ h k = (λ t. cc, λ e. cc)
-  equal_faulty_acts faulty.BoardLost _ h k = (λ t. cc, λ e. cc)
-  equal_faulty_acts faulty.Restart _ h k = (λ t. cc, λ e. cc)
+  equal_faulty_acts _ _ h k = (λ t. cc, λ e. cc)

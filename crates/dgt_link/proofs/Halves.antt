@@ -11,8 +11,23 @@ use Rattle.dgt_link.specs.View.{WorldView}
 use Rattle.dgt_link.proofs.Asking.{break_moves, dump_is_coming, host_break_moves, mode-step, step_keeps_coming}
 use Rattle.dgt_link.proofs.Promises.{break_ends}
 
-module _ (moves : (act : ActContent) (world after : WorldView) (answer : Outcome) (x : MachineState) → StandsFor world x
-    → Step act world answer after → StandsAfterStep act answer x after)
+-- an act comes to moves of the machine
+abbrev pub StepsAreMoves : Type 0
+StepsAreMoves =
+    (act : ActContent) (world after : WorldView) (answer : Outcome) (x : MachineState) → StandsFor world x
+    → Step act world answer after → StandsAfterStep act answer x after
+
+-- how it leads the states for which the worlds before and after it stand
+pub record Leads : Type 0 where
+  pub moves : StepsAreMoves
+  pub mode : (act : ActContent) (world after : WorldView) (answer : Outcome) (x y : MachineState) → StandsFor world x
+      → Step act world answer after → StandsFor after y
+      → coming_mode y ≡ mode_after (coming_mode x) (act_requests answer act)
+  pub kept : (act : ActContent) (world after : WorldView) (answer : Outcome) (x y : MachineState)
+      → act ≢ ActContent.Break → StandsFor world x → Step act world answer after → StandsFor after y
+      → PictureIsComing x → PictureIsComing y
+
+module _ (moves : StepsAreMoves)
     (one : (world : WorldView) (x y : MachineState) → StandsFor world x → StandsFor world y → x ≡ y) where
   pub half_begins : (world after : WorldView) (x y : MachineState) → StandsFor world x
       → Step (ActContent.Host CommandContent.Dump) world Outcome.Done after → StandsFor after y → PictureIsComing y

@@ -4,19 +4,10 @@ use Rattle.std.specs.List.{flat_map}
 use Rattle.dgt_message.specs.Content.{Content, IsMessage}
 use Rattle.dgt_message.specs.Spelling.{spelling}
 use Rattle.dgt_decode.specs.Grammar.{Message, Placed, at_place, events, events_behind, open_message}
-use Rattle.dgt_decode.specs.Laws.{EventsAppend, OpenAppend, QuietHeld, SpellingIsRead}
 use Rattle.dgt_host.specs.Host.{HostView, host_after_events, host_after_message}
+use Rattle.dgt_link.specs.Readers.{Reads}
 use Rattle.dgt_link.specs.Stands.{AreSpelled}
 use Rattle.dgt_link.proofs.Lists.{IsShorter, Reaches, fronts, left_empty, not_empty, right_empty}
-
--- the laws of the decoder, and that where an event stands doesn't matter to a host
-pub record Reads : Type 0 where
-  pub append : EventsAppend
-  pub open_append : OpenAppend
-  pub quiet_held : QuietHeld
-  pub spelling : SpellingIsRead
-  pub places : (host : HostView) (n : ℕ) (told : List Placed)
-      → host_after_events host (events_behind n told) ≡ host_after_events host told
 
 -- no bytes make no event, and hold nothing
 no_events : events [] ≡ []
@@ -48,7 +39,7 @@ module _ (reads : Reads) where
   pub held_alone : (message : Content) → IsMessage message → open_message (spelling message) ≡ []
   held_alone message is = (reads.spelling [] message is).1
 
-  -- behind bytes that made an event, the rest of a message makes none
+  -- after bytes that made an event, the rest of a message makes none
   nothing_more : (front rest : List ℕ) (x y : Placed) (xs : List Placed) → events front ≡ x ∷ xs
       → events (front ++ rest) ≡ y ∷ [] → events (open_message front ++ rest) ≡ []
   nothing_more front rest x y xs e whole =
@@ -82,7 +73,7 @@ module _ (reads : Reads) where
     pub host : (host : HostView) → host_after_events host (events front) ≡ host_after_messages host heard
     pub spelled : AreSpelled left (open_message front ++ more)
 
-  -- one message, and a front of those behind it
+  -- one message, and a front of those after it
   after_message : (word front others : List ℕ) (n : ℕ) (message : Content) (heard : List Content)
       → events word ≡ at_place n (Message message) ∷ [] → open_message word ≡ [] → front ≡ word ++ others
       → ((host : HostView) → host_after_events host (events others) ≡ host_after_messages host heard)

@@ -26,6 +26,7 @@ pub mod Clocks
 pub mod Behind
 pub mod Counting
 pub mod Rested
+pub mod Hopes
 pub mod Hoping
 pub mod ClockHopes
 pub mod Reports

@@ -45,7 +45,7 @@ front_taken count written new old more e is =
     ∙ ap (λ (n : ℕ). take n (written ++ (drop count old ++ more))) is ∙ take-append_seam written
     (drop count old ++ more)
 
--- what is polled into the front of a buffer, for which the line has room, is sent by it
+-- what is polled into the beginning of a buffer, for which the line has room, is sent by it
 pub polled_is_sent : (count room : ℕ) (next : Option Content) (before after : BoardView) (line left : LineContents)
     (old new more : List ℕ)
     → Polls (Polled.Wrote count) next before after old new → length old ≤ room
@@ -76,7 +76,7 @@ TakingsAppend =
 not_full : (n : ℕ) → n < 8 → nat_le 8 n ≡ false
 not_full n h = lt-leb 8 n h
 
--- bytes behind others, cut before one of them
+-- bytes after others, cut before one of them
 cut_bytes : (before bytes : List ℕ) (n : ℕ) → n < length bytes
     → before ++ bytes ≡ (before ++ take n bytes) ++ (get_or bytes n 0 ∷ drop (suc n) bytes)
 cut_bytes before bytes n within =
@@ -178,7 +178,7 @@ taken_more append before now new bytes moved n (inl (none, same)) next =
 taken_more append before now new bytes moved n (inr taken) next =
     rw (take-add moved n bytes) (append before now new (take moved bytes) (take n (drop moved bytes)) taken.1 next)
 
--- fewer than so many before, so many, or more
+-- fewer than this many before, this many, or more
 data Fewer (fewer moved n : ℕ) : Type 0 where
   sooner : (less : fewer < moved) → Fewer fewer moved n
   just : (same : fewer ≡ moved) → Fewer fewer moved n

@@ -16,7 +16,7 @@ use Rattle.dgt_link.specs.Faults.{FaultyBecomes, FaultyContent, FaultyStep}
 use Rattle.dgt_link.specs.View.{WorldView}
 use Rattle.dgt_link.specs.Machine.{MachineState}
 use Rattle.dgt_link.specs.Stands.{StandsFor}
-use Rattle.dgt_link.specs.Step.{Delivers, is_full, Becomes, Runs, Step}
+use Rattle.dgt_link.specs.Step.{Delivers, IfDone, is_full, Becomes, Runs, Step}
 use Rattle.dgt_link.proofs.Lists.{IsShorter, Reaches, fronts, not_empty}
 
 order : (a b : ℕ) → (a < b) ⊎ ((b < a) ⊎ (a ≡ b))
@@ -31,6 +31,17 @@ order a b =
     ]
 
 -- ---- one outcome and one world
+
+-- what two acts leave is one world if their outcome is one
+left_once : (Left : WorldView → Type 0) → ((one other : WorldView) → Left one → Left other → one ≡ other)
+    → (world one other : WorldView) (answer also : Outcome) → answer ≡ also → IfDone answer (Left one) (one ≡ world)
+    → IfDone also (Left other) (other ≡ world) → one ≡ other
+left_once Left once world one other answer also e first second = go answer first (rw (← e) at second)
+  where
+    go : (answer : Outcome) → IfDone answer (Left one) (one ≡ world) → IfDone answer (Left other) (other ≡ world)
+        → one ≡ other
+    go Outcome.Done f g = once one other f g
+    go _ f g = f ∙ sym g
 
 -- a board has taken bytes in one way
 module _ (one_taking : (before after other : BoardView) (bytes : List ℕ) → HasTaken before bytes after
@@ -77,21 +88,14 @@ module _ (one_taking : (before after other : BoardView) (bytes : List ℕ) → H
   becomes_once ActContent.Break world one other e f = e ∙ sym f
   becomes_once ActContent.HostBreak world one other e f = e ∙ sym f
 
-  left_once : (act : ActContent) (world one other : WorldView) (answer also : Outcome) → answer ≡ also
-      → Step act world answer one → Step act world also other → one ≡ other
-  left_once act world one other Outcome.Done Outcome.Done e first second =
-      becomes_once act world one other first.leaves second.leaves
-  left_once act world one other Outcome.Nothing Outcome.Nothing e first second = first.leaves ∙ sym second.leaves
-  left_once act world one other Outcome.NoRoom Outcome.NoRoom e first second = first.leaves ∙ sym second.leaves
-  left_once act world one other Outcome.Busy Outcome.Busy e first second = first.leaves ∙ sym second.leaves
-  left_once act world one other Outcome.TooMany Outcome.TooMany e first second = first.leaves ∙ sym second.leaves
-  left_once act world one other _ _ e first second = cc
-
   pub one_step : (act : ActContent) (world one other : WorldView) (answer also : Outcome) → Step act world answer one
       → Step act world also other → (answer ≡ also) × (one ≡ other)
   one_step act world one other answer also first second =
-      let same : answer ≡ also = first.answers ∙ sym second.answers in
-      (same, left_once act world one other answer also same first second)
+      let same : answer ≡ also = first.answers ∙ sym second.answers in (
+        same,
+        left_once (Becomes act world) (becomes_once act world) world one other answer also same first.leaves
+            second.leaves,
+      )
 
   pub one_run : (acts : List ActContent) (world one other : WorldView) (answers others : List Outcome)
       → Runs acts world answers one → Runs acts world others other → (answers ≡ others) × (one ≡ other)
@@ -115,28 +119,18 @@ module _ (one_taking : (before after other : BoardView) (bytes : List ℕ) → H
   faulty_becomes_once FaultyContent.BoardLost world one other e f = e ∙ sym f
   faulty_becomes_once FaultyContent.Restart world one other e f = e ∙ sym f
 
-  faulty_left_once : (act : FaultyContent) (world one other : WorldView) (answer also : Outcome) → answer ≡ also
-      → FaultyStep act world answer one → FaultyStep act world also other → one ≡ other
-  faulty_left_once act world one other Outcome.Done Outcome.Done e first second =
-      faulty_becomes_once act world one other first.leaves second.leaves
-  faulty_left_once act world one other Outcome.Nothing Outcome.Nothing e first second =
-      first.leaves ∙ sym second.leaves
-  faulty_left_once act world one other Outcome.NoRoom Outcome.NoRoom e first second =
-      first.leaves ∙ sym second.leaves
-  faulty_left_once act world one other Outcome.Busy Outcome.Busy e first second = first.leaves ∙ sym second.leaves
-  faulty_left_once act world one other Outcome.TooMany Outcome.TooMany e first second =
-      first.leaves ∙ sym second.leaves
-  faulty_left_once act world one other _ _ e first second = cc
-
   pub one_faulty_step : (act : FaultyContent) (world one other : WorldView) (answer also : Outcome)
       → FaultyStep act world answer one → FaultyStep act world also other → (answer ≡ also) × (one ≡ other)
   one_faulty_step act world one other answer also first second =
-      let same : answer ≡ also = first.answers ∙ sym second.answers in
-      (same, faulty_left_once act world one other answer also same first second)
+      let same : answer ≡ also = first.answers ∙ sym second.answers in (
+        same,
+        left_once (FaultyBecomes act world) (faulty_becomes_once act world) world one other answer also same
+            first.leaves second.leaves,
+      )
 
 -- ---- one state
 
--- the laws of the spellings of messages
+-- the laws of the encodings of messages
 pub record SpelledOnce : Type 0 where
   pub spells : (said : Content) → IsMessage said → Spells said (spelling said)
   pub one_message : (bytes : List ℕ) (first second : Content) → Spells first bytes → Spells second bytes
@@ -145,7 +139,7 @@ pub record SpelledOnce : Type 0 where
       → more ≡ []
 
 module _ (law : SpelledOnce) where
-  -- the spelling of a message that begins another's is all of it
+  -- the encoding of a message that begins another's is all of it
   first_same : (first second : Content) (more : List ℕ) → IsMessage first → IsMessage second
       → spelling first ≡ spelling second ++ more → (first ≡ second) × (more ≡ [])
   first_same first second more is also e =
@@ -155,7 +149,7 @@ module _ (law : SpelledOnce) where
       = e ∙ ap (λ (rest : List ℕ). spelling second ++ rest) none ∙ append-nil (spelling second) in
       (law.one_message (spelling first) first second (law.spells first is) (rw same (law.spells second also)), none)
 
-  -- messages in a row are spelled in one way
+  -- messages in a row are encoded in one way
   messages_once : (xs ys : List Content) → AllByRecursion IsMessage xs → AllByRecursion IsMessage ys
       → flat_map spelling xs ≡ flat_map spelling ys → xs ≡ ys
   messages_once [] [] all also h = refl

@@ -38,10 +38,7 @@ last_mode-cons before (Some mode) rest = refl
 effect-mode : (board : BoardState) (event : EventContent)
     → (effect board event).mode ≡ unwrap_or (event_mode event) board.mode
 effect-mode board (EventContent.Read command) = refl
-effect-mode board EventContent.BadSize = refl
-effect-mode board EventContent.BadStart = refl
-effect-mode board EventContent.BadEnd = refl
-effect-mode board (EventContent.Stray byte) = refl
+effect-mode board _ = refl
 
 -- ---- a picture that is known, or coming, stays so
 
@@ -101,10 +98,7 @@ pub effect_owes : (board : BoardState) (event : EventContent) (reply : Reply) �
     → Contains (effect board event).owed reply
 effect_owes board (EventContent.Read command) reply h =
     Contains-append_left board.owed (replies_to board command) reply h
-effect_owes board EventContent.BadSize reply h = h
-effect_owes board EventContent.BadStart reply h = h
-effect_owes board EventContent.BadEnd reply h = h
-effect_owes board (EventContent.Stray byte) reply h = h
+effect_owes board _ reply h = h
 
 dump_owed : (board : BoardState) (event : EventContent) → event ≡ EventContent.Read CommandContent.Dump
     → Contains (effect board event).owed (Reply.Of Kind.Dump)
@@ -314,14 +308,14 @@ pub coming_promise : (commands : List CommandContent) (x : MachineState) → IsC
     → IsPromised x
 coming_promise commands x coming asks =
     record {
-      picture = coming.picture asks.dump;
+      coming = coming.picture asks.dump;
       mode = rw coming.mode (asked_from_any coming.before (filter_map command_mode commands) asks.mode);
     }
 
 pub anew_is_promised : (x : MachineState) (noise : List EventContent) (is_noise : IsNoiseList noise)
     → IsPromised (after_move x (Move.HostBreak noise is_noise))
 anew_is_promised x noise is_noise =
-    record { picture = anew_is_coming x noise is_noise; mode = rw (anew-mode x noise is_noise) refl }
+    record { coming = anew_is_coming x noise is_noise; mode = rw (anew-mode x noise is_noise) refl }
 
 -- ---- the picture that the host comes to have
 

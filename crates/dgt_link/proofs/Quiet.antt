@@ -1,4 +1,4 @@
--- What a sound state says where nothing is under way and nothing is to be sent.
+-- What a sound state says if nothing is under way and nothing is to be sent.
 use Rattle.std.proofs.Common.{◌≡◌, refl, sym, ap, ◌∙◌, ◌⊎◌, inl, inr, ℕ, zero, suc, ◌<◌, List, [], ◌∷◌, ◌++◌, Option}
 use Rattle.std.proofs.Common.{Some, Bool, true, false, cond, length, get_or, arith}
 use Rattle.std.proofs.lemmas.Bool.{cond-true, false≢true, eqb-true, not-false}
@@ -63,7 +63,7 @@ same_unless_differs told piece h =
     (eqb-true (piece_code told) (piece_code piece) (not-false (piece_code told == piece_code piece) h))
     ∙ code-piece piece
 
--- where no square differs, the board has told its squares
+-- if no square differs, the board has reported its squares
 none_differs : (board : BoardState) → length board.squares ≡ 64 → length board.told_squares ≡ 64
     → filter (differs board) every_square ≡ [] → board.told_squares ≡ board.squares
 none_differs board squares told none = same_lists board.told_squares board.squares (told ∙ sym squares) same_at
@@ -79,7 +79,7 @@ none_differs board squares told none = same_lists board.told_squares board.squar
         (rw at.1 at (filter_empty (differs board) every_square k 0 at.0 none))
         ∙ get_or_default board.squares k Piece.Empty d within
 
--- what a board with nothing to send has told
+-- what a board with nothing to send has reported
 pub record IsUpToDate (board : BoardState) : Type 0 where
   pub owed : board.owed ≡ []
   pub squares : IsTrue (updates board.mode) → board.told_squares ≡ board.squares
@@ -143,7 +143,7 @@ quiet_mode x quiet = rw quiet.down
 -- a promised state that is quiet has the board's squares as its picture
 pub promised_picture : (x : MachineState) → IsSound x → IsPromised x → IsQuiet x → x.picture ≡ Some x.board.squares
 promised_picture x sound promised quiet =
-    known x.picture (Some x.board.squares) (picture_has_come x sound quiet promised.picture)
+    known x.picture (Some x.board.squares) (picture_has_come x sound quiet promised.coming)
     (quiet_picture x sound quiet (rw (quiet_mode x quiet) at promised.mode))
 
 -- the clock, in an exact state whose mode follows it

@@ -14,14 +14,15 @@ use Rattle.dgt_host.specs.Host.{picture_after, picture_after_all}
 use Rattle.dgt_link.specs.Act.{ActContent}
 use Rattle.dgt_link.specs.declared.acts.Outcome.{Outcome}
 use Rattle.dgt_link.specs.Faults.{is_break}
-use Rattle.dgt_link.specs.Healing.{IsInStep, StandsBehind, StandsBehindAfter}
+use Rattle.dgt_link.specs.Healing.{IsInStep, StandsBehind}
 use Rattle.dgt_link.specs.Machine.{IsHostBreak, MachineState, Move, after_hear, after_move, after_moves, after_reply, after_take, after_told}
 use Rattle.dgt_link.specs.Reported.{IsReportedBy, WasReported, first_reply, sent_by, sent_by_all}
 use Rattle.dgt_link.specs.Sound.{IsSound, IsUnknownOr, coming_picture}
 use Rattle.dgt_link.specs.Stands.{AreMovesOfRun, AreMovesOfStep}
-use Rattle.dgt_link.specs.Step.{Runs, Step}
+use Rattle.dgt_link.specs.Step.{Runs}
 use Rattle.dgt_link.specs.View.{WorldView}
 use Rattle.dgt_link.proofs.Clocks.{no_break, step_is_no_break}
+use Rattle.dgt_link.proofs.Behind.{ActsBehind}
 use Rattle.dgt_link.proofs.Asking.{step_is_other}
 use Rattle.dgt_link.proofs.Counting.{forgotten, forgotten_stands}
 use Rattle.dgt_link.proofs.Promises.{picture_after_known}
@@ -152,7 +153,7 @@ since_now x moves front sound all =
       picture = rw all at (moves_sound x moves sound).picture;
     }
 
--- one more move, behind the same moment
+-- one more move, after the same moment
 since_later : (x : MachineState) (moves : List Move) (move : Move) (front back before sent : List Content)
     → (since : Since x moves before back)
     → sent_by (after_moves x moves) move ≡ sent
@@ -294,7 +295,7 @@ step_is_plain act answer moves other are =
     (step_is_no_break act answer moves (no_break act other).0 are)
     (step_is_other act answer moves (no_break act other).1 are)
 
--- acts in a row, behind garbage
+-- acts in a row, after garbage
 record Reached (acts : List ActContent) (answers : List Outcome) (x : MachineState) (after : WorldView) : Type 0 where
   pub garbage : List ℕ
   pub moves : List Move
@@ -302,10 +303,7 @@ record Reached (acts : List ActContent) (answers : List Outcome) (x : MachineSta
   pub plain : AllByRecursion IsPlain moves
   pub stands : StandsBehind garbage after (after_moves x moves)
 
-module _ (behind : (act : ActContent) (garbage : List ℕ) (world : WorldView) (answer : Outcome) (after : WorldView)
-    (x : MachineState)
-    → is_break act ≡ false → StandsBehind garbage world x → Step act world answer after
-    → StandsBehindAfter act answer world x after) where
+module _ (behind : ActsBehind) where
   run_behind : (acts : List ActContent) (garbage : List ℕ) (world after : WorldView) (answers : List Outcome)
       (x : MachineState) → AllByRecursion (λ act. is_break act ≡ false) acts
       → StandsBehind garbage world x → Runs acts world answers after → Reached acts answers x after
@@ -322,8 +320,7 @@ module _ (behind : (act : ActContent) (garbage : List ℕ) (world : WorldView) (
             all_append IsPlain first.1 rest.moves (step_is_plain act answer first.1 all.0 first.2) rest.plain;
         stands = rw (moves-append x first.1 rest.moves) rest.stands;
       }
-  run_behind [] garbage world after (answer ∷ answers) x all stands none = absurd none
-  run_behind (act ∷ acts) garbage world after [] x all stands none = absurd none
+  run_behind _ garbage world after _ x all stands none = absurd none
 
   pub reported_by : (acts : List ActContent) (world after : WorldView) (answers : List Outcome)
       → AllByRecursion (λ act. is_break act ≡ false) acts → IsInStep world → Runs acts world answers after

@@ -1,5 +1,5 @@
 -- How a world comes to rest that was at fault, and that it is quiet then where it was promised to heal.
-use Rattle.std.proofs.Common.{◌≡◌, refl, sym, ap, ◌∙◌, ◌⊎◌, inl, inr, ℕ, List, [], ◌∷◌, ◌++◌, Option, Some, None, false, append_assoc, replicate}
+use Rattle.std.proofs.Common.{◌≡◌, refl, sym, ap, ◌∙◌, ◌⊎◌, inl, inr, ℕ, List, [], ◌∷◌, ◌++◌, Option, Some, None, append_assoc}
 use Rattle.std.proofs.Common.{append-nil}
 use Rattle.std.proofs.lemmas.Bool.{false≢true}
 use Rattle.std.specs.List.{AllByRecursion, flat_map}
@@ -11,23 +11,18 @@ use Rattle.dgt_message.specs.Spelling.{spelling}
 use Rattle.dgt_command.specs.Laws.{EachDividesOnce}
 use Rattle.dgt_board.specs.Sending.{pending_messages}
 use Rattle.dgt_decode.specs.Grammar.{open_message}
-use Rattle.dgt_link.specs.Faults.{is_break}
-use Rattle.dgt_link.specs.Act.{ActContent}
-use Rattle.dgt_link.specs.declared.acts.Outcome.{Outcome}
-use Rattle.dgt_link.specs.Healing.{Counted, IsHealing, IsPromisedWorld, IsRestedWorld, StandsBehind, StandsBehindAfter}
-use Rattle.dgt_link.specs.Machine.{MachineState, after_moves}
-use Rattle.dgt_link.specs.Promise.{IsPromised, IsQuiet, coming_mode}
-use Rattle.dgt_link.specs.Settling.{IsSettling, SettlesIn}
-use Rattle.dgt_link.specs.Step.{Runs, Step}
+use Rattle.dgt_link.specs.Healing.{Counted, IsHealing, IsPromisedWorld, IsRestedWorld, StandsBehind}
+use Rattle.dgt_link.specs.Machine.{MachineState}
+use Rattle.dgt_link.specs.Promise.{IsPromised, IsQuiet}
+use Rattle.dgt_link.specs.Settling.{SettlesIn}
 use Rattle.dgt_link.specs.View.{IsQuietWorld, WorldView}
-use Rattle.dgt_link.proofs.Asking.{mode-step, step_keeps_coming}
 use Rattle.dgt_link.proofs.Counting.{Holds, known_picture, nothing_said, quiet_behind}
-use Rattle.dgt_link.proofs.Hearing.{Reads}
+use Rattle.dgt_link.specs.Readers.{Reads}
 use Rattle.dgt_link.proofs.Lists.{right_empty}
 use Rattle.dgt_link.proofs.Promises.{coming_promise}
 use Rattle.dgt_link.proofs.Quiet.{picture_has_come, promised_picture}
 use Rattle.dgt_link.proofs.Resting.{nothing_first}
-use Rattle.dgt_link.proofs.Settling.{nothing_left_open, nothing_partial, settled_kept, settling_mode, settling_no_break}
+use Rattle.dgt_link.proofs.Settling.{nothing_left_open, nothing_partial, settled_kept}
 
 -- ---- what counts is promised
 
@@ -38,7 +33,7 @@ healing_promised c world holds healing =
       garbage = f.garbage;
       state = f.state;
       stands = f.stands;
-      promised = coming_promise c.asked f.state f.comes healing.asked;
+      holds = coming_promise c.asked f.state f.comes healing.asked;
     }
 
 -- and a promised world that is quiet has the board's squares as its picture
@@ -47,55 +42,8 @@ pub promised_at_quiet : EachDividesOnce → (world : WorldView) → IsPromisedWo
 promised_at_quiet once world is quiet =
     rw is.stands.board
     (known_picture is.state.picture world.host.picture is.state.board.squares is.stands.picture
-    (promised_picture is.state is.stands.sound is.promised
+    (promised_picture is.state is.stands.sound is.holds
     (quiet_behind once is.garbage world is.state is.stands quiet)))
-
--- ---- what settles keeps the promise
-
-settling_is_plain : (act : ActContent) → IsSettling act → is_break act ≡ false
-settling_is_plain ActContent.BoardSend is = refl
-settling_is_plain (ActContent.ToBoard count) is = refl
-settling_is_plain (ActContent.ToHost count) is = refl
-settling_is_plain (ActContent.Change square piece) none = absurd none
-settling_is_plain (ActContent.ClockRead clock) none = absurd none
-settling_is_plain (ActContent.Host command) none = absurd none
-settling_is_plain ActContent.Break none = absurd none
-settling_is_plain ActContent.HostBreak none = absurd none
-
-module _ (behind : (act : ActContent) (garbage : List ℕ) (world : WorldView) (answer : Outcome) (after : WorldView)
-    (x : MachineState)
-    → is_break act ≡ false → StandsBehind garbage world x → Step act world answer after
-    → StandsBehindAfter act answer world x after) where
-  step_promised : (act : ActContent) (world : WorldView) (answer : Outcome) (after : WorldView) → IsSettling act
-      → IsPromisedWorld world → Step act world answer after → IsPromisedWorld after
-  step_promised act world answer after settling is step =
-      let reached = behind act is.garbage world answer after is.state (settling_is_plain act settling) is.stands step in
-      let mode : coming_mode (after_moves is.state reached.1) ≡ coming_mode is.state
-      = mode-step is.state act answer reached.1 reached.2 ∙ settling_mode (coming_mode is.state) act answer settling in
-      record {
-        garbage = reached.0;
-        state = after_moves is.state reached.1;
-        stands = reached.3;
-        promised = record {
-          picture =
-              step_keeps_coming is.state act answer reached.1 (settling_no_break act settling) reached.2
-              is.promised.picture;
-          mode = rw mode is.promised.mode;
-        };
-      }
-
-  run_promised : (acts : List ActContent) (world : WorldView) (answers : List Outcome) (after : WorldView)
-      → AllByRecursion IsSettling acts → IsPromisedWorld world → Runs acts world answers after → IsPromisedWorld after
-  run_promised [] world [] after all is same = rw same is
-  run_promised (act ∷ acts) world (answer ∷ answers) after all is (between, step, runs) =
-      run_promised acts between answers after all.1 (step_promised act world answer between all.0 is step) runs
-  run_promised [] world (answer ∷ answers) after all is none = absurd none
-  run_promised (act ∷ acts) world [] after all is none = absurd none
-
-  pub settled_promised : (count : ℕ) (old new : WorldView) → SettlesIn count old new → IsPromisedWorld old
-      → IsPromisedWorld new
-  settled_promised count old new settled is =
-      run_promised settled.acts old (replicate count Outcome.Done) new settled.settling is settled.run
 
 -- ---- at rest
 
@@ -145,7 +93,7 @@ module _ (reads : Reads) where
         down = (once.1 [] x.down [] [] [] (rw (partial, down) at stands.down) (refl, rw partial at stands.partial)).0;
         pending = nothing_first (pending_messages x.board) (rw stands.board at none);
       } in
-      let known = picture_has_come x stands.sound quiet promised.picture in
+      let known = picture_has_come x stands.sound quiet promised.coming in
       let clean : garbage ≡ []
       = known_has_no_garbage x.picture garbage (x.host_clock ≡ None) stands.unheard known in (
         up,
@@ -158,7 +106,7 @@ module _ (reads : Reads) where
   pub promised_rests : EachDividesOnce → (world : WorldView) → IsPromisedWorld world → IsRestedWorld world
       → open_message world.host.unread ≡ world.host.unread → IsQuietWorld world
   promised_rests once world is rested held =
-      rests_behind once is.garbage world is.state is.stands is.promised rested held
+      rests_behind once is.garbage world is.state is.stands is.holds rested held
 
 pub settled_squares : (count : ℕ) (old new : WorldView) → SettlesIn count old new
     → new.host.picture ≡ Some new.board.state.squares → new.host.picture ≡ Some old.board.state.squares

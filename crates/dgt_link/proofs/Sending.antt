@@ -11,13 +11,10 @@ use Rattle.dgt_board.specs.State.{BoardState, updates}
 use Rattle.dgt_board.specs.Sending.{after_sending, after_telling, clock_news, differs, every_square, field_of, next_message, reply_message, untold_squares}
 use Rattle.dgt_link.specs.Machine.{IsSending, Move, MachineState, after_move, after_reply, after_told}
 
--- what a message tells does not depend on the replies owed
+-- what a message reports does not depend on the replies owed
 told_squares_after-owed : (board : BoardState) (owed : List Reply) (message : Content)
     → after_telling (record board { owed = owed }) message ≡ record (after_telling board message) { owed = owed }
 told_squares_after-owed board owed (Content.dump pieces) = refl
-told_squares_after-owed board owed (Content.field square piece) = refl
-told_squares_after-owed board owed (Content.times readings) = refl
-told_squares_after-owed board owed (Content.no_clock absence) = refl
 told_squares_after-owed board owed _ = refl
 
 abbrev sent_state : MachineState → Content → MachineState

@@ -16,24 +16,27 @@ use Rattle.dgt_command.specs.Words.{Divides, IsPartial}
 use Rattle.dgt_command.specs.Laws.{EachDividesOnce, NoWordBeginsAPart, WordsAreShort}
 use Rattle.dgt_decode.specs.Grammar.{open_message}
 use Rattle.dgt_board.specs.declared.modes.Mode.{Mode}
-use Rattle.dgt_board.specs.Sending.{backlog, after_sending, next_message}
+use Rattle.dgt_board.specs.Sending.{backlog, next_message}
 use Rattle.dgt_board.specs.State.{effects, BoardState, follows_clock, updates}
 use Rattle.dgt_link.specs.Act.{ActContent}
-use Rattle.dgt_link.specs.Stands.{StandsAfterStep, AreSpelled, IsExactWorld, IsWorld, StandsFor}
+use Rattle.dgt_link.specs.Stands.{AreSpelled, IsExactWorld, IsWorld, StandsFor}
 use Rattle.dgt_link.specs.Promise.{mode_after, act_requests, IsPromised, PictureIsComing, coming_mode}
 use Rattle.dgt_link.specs.declared.acts.Outcome.{Outcome}
 use Rattle.dgt_link.specs.View.{overflows, IsQuietWorld, WorldView}
+use Rattle.dgt_link.specs.Healing.{IsRestedWorld}
 use Rattle.dgt_link.specs.Machine.{MachineState, after_moves}
 use Rattle.dgt_link.specs.Step.{moves_nothing, Becomes, Delivers, Runs, Step, done_count}
 use Rattle.dgt_link.specs.Settling.{AreInOrder, IsNext, IsSettling, SettlesIn, steps_left}
 use Rattle.dgt_link.specs.Work.{work_left}
 use Rattle.dgt_link.specs.Sound.{IsUnknownOr}
 use Rattle.dgt_link.proofs.Backlogs.{BacklogFalls, BacklogRises}
+use Rattle.dgt_link.proofs.Halves.{Leads}
 use Rattle.dgt_link.proofs.Lists.{Contains-cons, all_append, nothing_contained, IsShorter, Reaches, fronts}
-use Rattle.dgt_link.proofs.Hearing.{Reads, held_alone, nothing_open}
+use Rattle.dgt_link.specs.Readers.{Reads}
+use Rattle.dgt_link.proofs.Hearing.{held_alone, nothing_open}
 use Rattle.dgt_link.proofs.Resting.{quiet_state, world_awaits_nothing, world_clock_known, world_clock_told, world_picture}
 use Rattle.dgt_link.proofs.Resting.{world_picture_told}
-use Rattle.dgt_link.proofs.Running.{run-push}
+use Rattle.dgt_link.proofs.Running.{run-push, run_keeps}
 use Rattle.dgt_link.proofs.Taking.{HasSameGame, effects_same_game}
 
 -- ---- each event has a byte of its own
@@ -47,7 +50,7 @@ module _ (short : WordsAreShort) (within : NoWordBeginsAPart) where
       let more = few_events events after rest divides in
       rw (e, length-append word after) (omega (arith, some, more))
 
-  -- bytes behind a part of a word make at most as many events as they are
+  -- bytes after a part of a word make at most as many events as they are
   pub few_taken : (partial bytes rest : List ℕ) (events : List EventContent) → IsPartial partial
       → Divides (partial ++ bytes) events rest → length events ≤ length bytes
   few_taken partial bytes rest [] is divides = omega arith
@@ -75,19 +78,12 @@ becomes_same ActContent.BoardSend world after is (message, is_next, spells, same
 becomes_same (ActContent.ToBoard count) world after is delivers =
     rw (delivers.leaves, delivers.taken.state) (effects_same_game world.board.state delivers.taken.events)
 becomes_same (ActContent.ToHost count) world after is same = rw same (record { squares = refl; clock = refl })
-becomes_same (ActContent.Change square piece) world after none same = absurd none
-becomes_same (ActContent.ClockRead clock) world after none same = absurd none
-becomes_same (ActContent.Host command) world after none same = absurd none
-becomes_same ActContent.Break world after none same = absurd none
-becomes_same ActContent.HostBreak world after none same = absurd none
+becomes_same _ world after none same = absurd none
 
 step_same : (act : ActContent) (world after : WorldView) (answer : Outcome) → IsSettling act
     → Step act world answer after → HasSameGame world.board.state after.board.state
 step_same act world after Outcome.Done is step = becomes_same act world after is step.leaves
-step_same act world after Outcome.Nothing is step = rw step.leaves (record { squares = refl; clock = refl })
-step_same act world after Outcome.NoRoom is step = rw step.leaves (record { squares = refl; clock = refl })
-step_same act world after Outcome.Busy is step = rw step.leaves (record { squares = refl; clock = refl })
-step_same act world after Outcome.TooMany is step = rw step.leaves (record { squares = refl; clock = refl })
+step_same act world after _ is step = rw step.leaves (record { squares = refl; clock = refl })
 
 pub run_same : (acts : List ActContent) (world after : WorldView) (answers : List Outcome)
     → AllByRecursion IsSettling acts → Runs acts world answers after → HasSameGame world.board.state after.board.state
@@ -96,34 +92,27 @@ run_same (act ∷ acts) world after (answer ∷ answers) all (between, step, run
     let first = step_same act world between answer all.0 step in
     let rest = run_same acts between after answers all.1 runs in
     record { squares = rest.squares ∙ first.squares; clock = rest.clock ∙ first.clock }
-run_same [] world after (answer ∷ answers) all none = absurd none
-run_same (act ∷ acts) world after [] all none = absurd none
+run_same _ world after _ all none = absurd none
 
 pub settling_mode : (before : Mode) (act : ActContent) (answer : Outcome) → IsSettling act
     → mode_after before (act_requests answer act) ≡ before
 settling_mode before ActContent.BoardSend Outcome.Done is = refl
 settling_mode before (ActContent.ToBoard count) Outcome.Done is = refl
 settling_mode before (ActContent.ToHost count) Outcome.Done is = refl
-settling_mode before (ActContent.Change square piece) Outcome.Done none = absurd none
-settling_mode before (ActContent.ClockRead clock) Outcome.Done none = absurd none
-settling_mode before (ActContent.Host command) Outcome.Done none = absurd none
-settling_mode before ActContent.Break Outcome.Done none = absurd none
-settling_mode before ActContent.HostBreak Outcome.Done none = absurd none
-settling_mode before act Outcome.Nothing is = refl
-settling_mode before act Outcome.NoRoom is = refl
-settling_mode before act Outcome.Busy is = refl
-settling_mode before act Outcome.TooMany is = refl
+settling_mode before _ Outcome.Done none = absurd none
+settling_mode before act _ is = refl
+
+-- what holds of the three acts that settle
+pub by_settling : (P : ActContent → Type 0) → P ActContent.BoardSend → ((count : ℕ) → P (ActContent.ToBoard count))
+    → ((count : ℕ) → P (ActContent.ToHost count)) → (act : ActContent) → IsSettling act → P act
+by_settling P send board host ActContent.BoardSend is = send
+by_settling P send board host (ActContent.ToBoard count) is = board count
+by_settling P send board host (ActContent.ToHost count) is = host count
+by_settling P send board host _ none = absurd none
 
 -- what settles is no break
 pub settling_no_break : (act : ActContent) → IsSettling act → act ≢ ActContent.Break
-settling_no_break ActContent.Break none e = none
-settling_no_break ActContent.HostBreak none e = none
-settling_no_break (ActContent.Change square piece) none e = none
-settling_no_break (ActContent.ClockRead clock) none e = none
-settling_no_break (ActContent.Host command) none e = none
-settling_no_break ActContent.BoardSend is e = cc
-settling_no_break (ActContent.ToBoard count) is e = cc
-settling_no_break (ActContent.ToHost count) is e = cc
+settling_no_break = by_settling (λ act. act ≢ ActContent.Break) (λ e. cc) (λ count e. cc) (λ count e. cc)
 
 -- and holds no host break
 pub settling_no_host_break : (acts : List ActContent) → AllByRecursion IsSettling acts
@@ -143,33 +132,34 @@ pub record KeepsPromise (x : MachineState) (after : WorldView) : Type 0 where
   pub mode : coming_mode state ≡ coming_mode x
   pub picture : PictureIsComing x → PictureIsComing state
 
-module _ (moves : (act : ActContent) (world after : WorldView) (answer : Outcome) (x : MachineState) → StandsFor world x
-    → Step act world answer after → StandsAfterStep act answer x after)
-    (mode : (act : ActContent) (world after : WorldView) (answer : Outcome) (x y : MachineState) → StandsFor world x
-    → Step act world answer after → StandsFor after y → coming_mode y ≡ mode_after (coming_mode x)
-    (act_requests answer act))
-    (kept : (act : ActContent) (world after : WorldView) (answer : Outcome) (x y : MachineState)
-    → act ≢ ActContent.Break → StandsFor world x → Step act world answer after → StandsFor after y → PictureIsComing x
-    → PictureIsComing y) where
+module _ (leads : Leads) where
   pub run_promise : (acts : List ActContent) (world after : WorldView) (answers : List Outcome) (x : MachineState)
       → AllByRecursion IsSettling acts → StandsFor world x → Runs acts world answers after → KeepsPromise x after
   run_promise [] world after [] x all stands same =
       record { state = x; stands = rw same stands; mode = refl; picture = λ h. h }
   run_promise (act ∷ acts) world after (answer ∷ answers) x all stands (between, step, runs) =
-      let reached = moves act world between answer x stands step in
+      let reached = leads.moves act world between answer x stands step in
       let y : MachineState = after_moves x reached.0 in
       let rest = run_promise acts between after answers y all.1 reached.2 runs in
       record {
         state = rest.state;
         stands = rest.stands;
         mode =
-            rest.mode ∙ mode act world between answer x y stands step reached.2 ∙ settling_mode
+            rest.mode ∙ leads.mode act world between answer x y stands step reached.2 ∙ settling_mode
             (coming_mode x) act answer all.0;
         picture =
-            λ h. rest.picture (kept act world between answer x y (settling_no_break act all.0) stands step reached.2 h);
+            λ h. rest.picture
+            (leads.kept act world between answer x y (settling_no_break act all.0) stands step reached.2 h);
       }
-  run_promise [] world after (answer ∷ answers) x all stands none = absurd none
-  run_promise (act ∷ acts) world after [] x all stands none = absurd none
+  run_promise _ world after _ x all stands none = absurd none
+
+-- and of a world that settles is left a world
+pub run_is_world : ((act : ActContent) (world after : WorldView) (answer : Outcome) → IsWorld world
+    → Step act world answer after → IsWorld after)
+    → (count : ℕ) (old new : WorldView) → SettlesIn count old new → IsWorld old → IsWorld new
+run_is_world keeps count old new settled is =
+    run_keeps Step IsSettling IsWorld (λ act world after answer settling. keeps act world after answer) settled.acts
+    old new (replicate count Outcome.Done) settled.settling is settled.run
 
 -- ---- the measure
 
@@ -295,13 +285,12 @@ some_or_none result (Some message) tells e = absurd (false≢true (sym e ∙ tel
 told_all : (world : WorldView) → IsWorld world → length world.board.state.told_squares ≡ 64
 told_all world is = rw is.stands.board is.stands.sound.told_squares
 
-pub sends_told : ((board : BoardState) (message : Content) → length board.told_squares ≡ 64 → next_message board
-    ≡ Some message → backlog (after_sending board message) < backlog board)
+pub sends : BacklogFalls
     → (world after : WorldView) (answer : Outcome) → length world.board.state.told_squares ≡ 64
     → (length world.up.bytes == 0) ≡ true
     → IsSome (next_message world.board.state) → (world.up.bytes ≡ [] → answer ≢ Outcome.NoRoom)
     → Step ActContent.BoardSend world answer after → Moves world after
-sends_told falls world after answer told up some fits step = go (next_message world.board.state) refl some
+sends falls world after answer told up some fits step = go (next_message world.board.state) refl some
   where
     sent : answer ≡ Outcome.Done → Moves world after
     sent e =
@@ -321,20 +310,12 @@ sends_told falls world after answer told up some fits step = go (next_message wo
     go None e h = absurd (false≢true h)
     go (Some message) e h = sent (room message e (overflows world.up (spelling message)) refl)
 
-pub sends : ((board : BoardState) (message : Content) → length board.told_squares ≡ 64 → next_message board
-    ≡ Some message → backlog (after_sending board message) < backlog board)
-    → (world after : WorldView) (answer : Outcome) → IsWorld world → (length world.up.bytes == 0) ≡ true
-    → IsSome (next_message world.board.state) → (world.up.bytes ≡ [] → answer ≢ Outcome.NoRoom)
-    → Step ActContent.BoardSend world answer after → Moves world after
-sends falls world after answer is up some fits step =
-    sends_told falls world after answer (told_all world is) up some fits step
-
 module _ (short : WordsAreShort) (within : NoWordBeginsAPart) (rises : BacklogRises) where
-  pub takes_partial : (world after : WorldView) (answer : Outcome) → IsPartial world.board.partial
+  pub takes : (world after : WorldView) (answer : Outcome) → IsPartial world.board.partial
       → (length world.up.bytes == 0) ≡ true → next_message world.board.state ≡ None → world.board.state.owed ≡ []
       → (length world.down.bytes == 0) ≡ false → Step (ActContent.ToBoard (length world.down.bytes)) world answer after
       → Moves world after
-  takes_partial world after answer partial up quiet none some step =
+  takes world after answer partial up quiet none some step =
       let is_done : answer ≡ Outcome.Done = step.answers ∙ rw (some, none) refl in
       let step' = done_at (ActContent.ToBoard (length world.down.bytes)) world after answer is_done step in (
         ActContent.ToBoard (length world.down.bytes),
@@ -344,25 +325,15 @@ module _ (short : WordsAreShort) (within : NoWordBeginsAPart) (rises : BacklogRi
             (length world.down.bytes) partial step'.leaves,
       )
 
-  pub takes : (world after : WorldView) (answer : Outcome) → IsWorld world → (length world.up.bytes == 0) ≡ true
-      → next_message world.board.state ≡ None → world.board.state.owed ≡ []
-      → (length world.down.bytes == 0) ≡ false → Step (ActContent.ToBoard (length world.down.bytes)) world answer after
-      → Moves world after
-  takes world after answer is up quiet none some step =
-      takes_partial world after answer is.stands.partial up quiet none some step
-
-pub rests : Reads → EachDividesOnce → (world : WorldView) → IsWorld world → (length world.up.bytes == 0) ≡ true
-    → (length world.down.bytes == 0) ≡ true → next_message world.board.state ≡ None
+pub rests : Reads → EachDividesOnce → (world : WorldView) → IsWorld world → IsRestedWorld world
     → open_message world.host.unread ≡ world.host.unread → IsQuietWorld world
-rests reads law world is up down none open_is =
-    let no_up = no_bytes world.up.bytes up in
-    let no_down = no_bytes world.down.bytes down in (
-      no_up,
-      no_down,
-      nothing_unread reads is.state.up world.host.unread (rw no_up at is.stands.up) open_is,
-      nothing_partial law is.state.down world.board.partial is.stands.partial (rw no_down at is.stands.down),
-      none,
-    )
+rests reads law world is (up, down, none) open_is = (
+  up,
+  down,
+  nothing_unread reads is.state.up world.host.unread (rw up at is.stands.up) open_is,
+  nothing_partial law is.state.down world.board.partial is.stands.partial (rw down at is.stands.down),
+  none,
+)
 
 pub not_owing : (result : Bool) (board : BoardState) → (IsTrue result ↔ IsSome (next_message board)) → result ≡ false
     → next_message board ≡ None
@@ -375,11 +346,7 @@ next_settles : (world : WorldView) (act : ActContent) → IsNext world act → I
 next_settles world ActContent.BoardSend is = tt
 next_settles world (ActContent.ToBoard count) is = tt
 next_settles world (ActContent.ToHost count) is = tt
-next_settles world (ActContent.Change square piece) none = absurd none
-next_settles world (ActContent.ClockRead clock) none = absurd none
-next_settles world (ActContent.Host command) none = absurd none
-next_settles world ActContent.Break none = absurd none
-next_settles world ActContent.HostBreak none = absurd none
+next_settles world _ none = absurd none
 
 -- one act more, which is the next
 in_order_more : (acts : List ActContent) (act : ActContent) (old now new : WorldView) → AreInOrder acts old now
@@ -403,7 +370,7 @@ settled_more old now new done settled (act, is, step, less) =
       counted = rw (length-append settled.acts (act ∷ [])) (omega (arith, settled.counted));
       run =
           rw (← replicate_more done Outcome.Done)
-          (run-push settled.acts (replicate done Outcome.Done) act Outcome.Done old now new settled.run step);
+          (run-push Step settled.acts (replicate done Outcome.Done) act Outcome.Done old now new settled.run step);
       in_order = in_order_more settled.acts act old now new settled.in_order is step;
     }
 
@@ -412,19 +379,12 @@ pub settled_kept : (count : ℕ) (old new : WorldView) → SettlesIn count old n
 settled_kept count old new settled =
     run_same settled.acts old new (replicate count Outcome.Done) settled.settling settled.run
 
-module _ (moves : (act : ActContent) (world after : WorldView) (answer : Outcome) (x : MachineState) → StandsFor world x
-    → Step act world answer after → StandsAfterStep act answer x after)
-    (mode : (act : ActContent) (world after : WorldView) (answer : Outcome) (x y : MachineState) → StandsFor world x
-    → Step act world answer after → StandsFor after y → coming_mode y ≡ mode_after (coming_mode x)
-    (act_requests answer act))
-    (kept : (act : ActContent) (world after : WorldView) (answer : Outcome) (x y : MachineState)
-    → act ≢ ActContent.Break → StandsFor world x → Step act world answer after → StandsFor after y → PictureIsComing x
-    → PictureIsComing y)
+module _ (leads : Leads)
     (law : EachDividesOnce) (count : ℕ) (old new : WorldView) (settled : SettlesIn count old new)
     (quiet : IsQuietWorld new) (x : MachineState) (stands : StandsFor old x) where
   promise : KeepsPromise x new
   promise =
-      run_promise moves mode kept settled.acts old new
+      run_promise leads settled.acts old new
       (replicate count Outcome.Done) x settled.settling stands settled.run
 
   pub settled_mode : new.board.state.mode ≡ coming_mode x
@@ -437,7 +397,7 @@ module _ (moves : (act : ActContent) (world after : WorldView) (answer : Outcome
   settled_picture promised =
       let same = (settled_kept count old new settled).squares in
       world_picture law new promise.state promise.stands quiet (record {
-        picture = promise.picture promised.picture;
+        coming = promise.picture promised.coming;
         mode = rw promise.mode promised.mode;
       })
       ∙ ap (λ (squares : List Piece). Some squares) same
@@ -475,7 +435,7 @@ work_fits world bound down owed =
 pub most_work : (world : WorldView) → work_left world ≤ 3 * length world.down.bytes + 2 * backlog world.board.state + 1
 most_work world = let flag = at_most_one (length world.up.bytes) in omega (arith, flag)
 
--- ---- in any order and in any pieces
+-- ---- in any order and in any chunks
 
 positive : (n : ℕ) → (n == 0) ≡ false → 0 < n
 positive zero h = absurd (false≢true (sym h))
@@ -538,28 +498,18 @@ module _ (keeps : (act : ActContent) (world after : WorldView) (answer : Outcome
       take_steps short within rises world after count is.stands.partial step.leaves
   done_steps (ActContent.ToHost count) world after is settling step =
       hear_steps world after count (some_heard (moves_nothing count world.up) step.answers) step.leaves
-  done_steps (ActContent.Change square piece) world after is none step = absurd none
-  done_steps (ActContent.ClockRead clock) world after is none step = absurd none
-  done_steps (ActContent.Host command) world after is none step = absurd none
-  done_steps ActContent.Break world after is none step = absurd none
-  done_steps ActContent.HostBreak world after is none step = absurd none
+  done_steps _ world after is none step = absurd none
 
   step_steps : (act : ActContent) (world after : WorldView) (answer : Outcome) → IsWorld world → IsSettling act
       → Step act world answer after → done_count (answer ∷ []) + steps_left after ≤ steps_left world
   step_steps act world after Outcome.Done is settling step =
       let less = done_steps act world after is settling step in omega (arith, less)
-  step_steps act world after Outcome.Nothing is settling step = rw step.leaves (omega arith)
-  step_steps act world after Outcome.NoRoom is settling step = rw step.leaves (omega arith)
-  step_steps act world after Outcome.Busy is settling step = rw step.leaves (omega arith)
-  step_steps act world after Outcome.TooMany is settling step = rw step.leaves (omega arith)
+  step_steps act world after _ is settling step = rw step.leaves (omega arith)
 
   count_first : (answer : Outcome) (answers : List Outcome)
       → done_count (answer ∷ answers) ≡ done_count (answer ∷ []) + done_count answers
   count_first Outcome.Done answers = omega arith
-  count_first Outcome.Nothing answers = omega arith
-  count_first Outcome.NoRoom answers = omega arith
-  count_first Outcome.Busy answers = omega arith
-  count_first Outcome.TooMany answers = omega arith
+  count_first _ answers = omega arith
 
   pub run_steps : (acts : List ActContent) (world after : WorldView) (answers : List Outcome) → IsWorld world
       → AllByRecursion IsSettling acts → Runs acts world answers after → done_count answers ≤ steps_left world
@@ -569,5 +519,4 @@ module _ (keeps : (act : ActContent) (world after : WorldView) (answer : Outcome
       let rest = run_steps acts between after answers (keeps act world between answer is step) all.1 runs in
       let both = count_first answer answers in
       omega (arith, first, rest, both)
-  run_steps [] world after (answer ∷ answers) is all none = absurd none
-  run_steps (act ∷ acts) world after [] is all none = absurd none
+  run_steps _ world after _ is all none = absurd none

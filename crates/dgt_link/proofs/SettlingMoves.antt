@@ -28,13 +28,7 @@ sending_settles : (move : Move) → IsSending move → IsSettlingMove move
 sending_settles Move.Reply is = tt
 sending_settles (Move.Tell square) is = tt
 sending_settles Move.TellClock is = tt
-sending_settles Move.Take none = absurd none
-sending_settles Move.Hear none = absurd none
-sending_settles Move.Break none = absurd none
-sending_settles (Move.HostBreak noise is_noise) none = absurd none
-sending_settles (Move.Change square piece) none = absurd none
-sending_settles (Move.HandClock clock) none = absurd none
-sending_settles (Move.Ask command) none = absurd none
+sending_settles _ none = absurd none
 
 -- ---- a move nearer
 
@@ -135,11 +129,7 @@ move_same_game x (Move.Tell square) is =
     told_same_game x (updates x.board.mode && differs x.board square) (field_of x.board square)
 move_same_game x Move.TellClock is = told_same_game x x.board.times_owed (clock_message x.board.clock)
 move_same_game x Move.Hear is = hear_same_game x x.up
-move_same_game x Move.Break none = absurd none
-move_same_game x (Move.HostBreak noise is_noise) none = absurd none
-move_same_game x (Move.Change square piece) none = absurd none
-move_same_game x (Move.HandClock clock) none = absurd none
-move_same_game x (Move.Ask command) none = absurd none
+move_same_game x _ none = absurd none
 
 settling_keeps_mode : (before : Mode) (move : Move) → IsSettlingMove move → mode_after before (requests move) ≡ before
 settling_keeps_mode before Move.Take is = refl
@@ -147,11 +137,7 @@ settling_keeps_mode before Move.Reply is = refl
 settling_keeps_mode before (Move.Tell square) is = refl
 settling_keeps_mode before Move.TellClock is = refl
 settling_keeps_mode before Move.Hear is = refl
-settling_keeps_mode before Move.Break none = absurd none
-settling_keeps_mode before (Move.HostBreak noise is_noise) none = absurd none
-settling_keeps_mode before (Move.Change square piece) none = absurd none
-settling_keeps_mode before (Move.HandClock clock) none = absurd none
-settling_keeps_mode before (Move.Ask command) none = absurd none
+settling_keeps_mode before _ none = absurd none
 
 settling_breaks_nothing : (move : Move) → IsSettlingMove move → move ≢ Move.Break
 settling_breaks_nothing Move.Take is e = cc
@@ -159,11 +145,7 @@ settling_breaks_nothing Move.Reply is e = cc
 settling_breaks_nothing (Move.Tell square) is e = cc
 settling_breaks_nothing Move.TellClock is e = cc
 settling_breaks_nothing Move.Hear is e = cc
-settling_breaks_nothing Move.Break none e = none
-settling_breaks_nothing (Move.HostBreak noise is_noise) none e = none
-settling_breaks_nothing (Move.Change square piece) none e = none
-settling_breaks_nothing (Move.HandClock clock) none e = none
-settling_breaks_nothing (Move.Ask command) none e = none
+settling_breaks_nothing _ none e = none
 
 pub settling_squares : (x : MachineState) (moves : List Move) → AllByRecursion IsSettlingMove moves
     → (after_moves x moves).board.squares ≡ x.board.squares
@@ -196,7 +178,7 @@ pub settling_picture : (x : MachineState) (moves : List Move) → IsSound x → 
 settling_picture x moves sound promised all quiet =
     let promised' : IsPromised (after_moves x moves)
     = record {
-      picture = settling_comes x moves all promised.picture;
+      coming = settling_comes x moves all promised.coming;
       mode = rw (settling_mode x moves all) promised.mode;
     } in
     promised_picture (after_moves x moves) (moves_sound x moves sound) promised' quiet ∙ ap

@@ -12,36 +12,28 @@ use Rattle.dgt_message.specs.Clock.{ClockState}
 use Rattle.dgt_message.specs.Spelling.{Spells, spelling}
 use Rattle.dgt_command.specs.Content.{CommandContent, EventContent, kind_of_command}
 use Rattle.dgt_command.specs.Spelling.{command_spelling}
-use Rattle.dgt_command.specs.Laws.{DivisionsAppend, FrontsDivideFirst, ZerosSettleTheReader}
 use Rattle.dgt_command.specs.Words.{Divides, IsPartial}
 use Rattle.dgt_board.specs.State.{IdentityContent, BoardState, after_change, after_hand_clock, after_line_lost, effect, effects}
 use Rattle.dgt_board.specs.Sending.{after_sending, next_message}
-use Rattle.dgt_board.specs.View.{BoardView}
+use Rattle.dgt_board.specs.View.{BoardView, HasTaken}
 use Rattle.dgt_host.specs.Host.{HostView, host_after_message, follow_bytes}
 use Rattle.dgt_link.specs.Act.{ActContent}
 use Rattle.dgt_link.specs.declared.acts.Outcome.{Outcome}
 use Rattle.dgt_link.specs.declared.world.TheConstants.{MIN_DOWN, MIN_UP}
 use Rattle.dgt_link.specs.Machine.{Move, MachineState, commands_anew, after_hear, after_move, after_moves, after_take, new_state}
+use Rattle.dgt_link.specs.Readers.{Grammars}
 use Rattle.dgt_link.specs.Sound.{IsSound}
 use Rattle.dgt_link.specs.Stands.{AreSpelled, IsExactWorld, IsWorld, StandsFor, StandsAfterRun, StandsAfterStep}
 use Rattle.dgt_link.specs.Step.{Becomes, Runs, Step, with_state}
 use Rattle.dgt_link.specs.View.{WorldView, new_world}
 use Rattle.dgt_link.proofs.Asking.{break_moves, run_is_other, step_is_other}
 use Rattle.dgt_link.proofs.Dividing.{anew_divides, divides_command}
+use Rattle.dgt_link.proofs.Halves.{StepsAreMoves}
 use Rattle.dgt_link.proofs.Lists.{all_append}
-use Rattle.dgt_link.proofs.Hearing.{Reads, heard_front, host_after_messages}
+use Rattle.dgt_link.proofs.Hearing.{heard_front, host_after_messages}
 use Rattle.dgt_link.proofs.Runs.{moves_exact, moves_sound}
 use Rattle.dgt_link.proofs.Sending.{next_is_sent}
 use Rattle.dgt_link.proofs.Soundness.{break_exact, move_sound, new_exact, new_sound}
-
--- the laws of both readers
-pub record Grammars : Type 0 where
-  pub reads : Reads
-  pub divisions_append : DivisionsAppend
-  pub fronts_divide_first : FrontsDivideFirst
-  pub zeros_settle : ZerosSettleTheReader
-  pub nothing : IsPartial []
-  pub left : (bytes rest : List ℕ) (events : List EventContent) → Divides bytes events rest → IsPartial rest
 
 pub moves-append : (x : MachineState) (moves more : List Move)
     → after_moves x (moves ++ more) ≡ after_moves (after_moves x moves) more
@@ -92,6 +84,16 @@ pub front_of : (held bytes : List ℕ) (count : ℕ) → held ++ bytes ≡ (held
 front_of held bytes count =
     ap (λ (line : List ℕ). held ++ line) (sym (take-append-drop count bytes)) ∙ sym
     (append_assoc held (take count bytes) (drop count bytes))
+
+-- the machine takes what the board took of this many bytes
+pub record IsTakenAs (world : WorldView) (moved : ℕ) (view : BoardView) (x : MachineState) : Type 0 where
+  pub events : List EventContent
+  pub left : List EventContent
+  pub all : x.down ≡ events ++ left
+  pub led : after_moves x (replicate (length events) Move.Take) ≡ taken_state x events left
+  pub board : view.state ≡ effects x.board events
+  pub down : Divides (view.partial ++ drop moved world.down.bytes) left []
+  pub partial : IsPartial view.partial
 
 -- ---- a world just made
 
@@ -225,31 +227,42 @@ module _ (laws : Grammars) where
             }),
       )
 
+  pub taken_as : (world : WorldView) (moved : ℕ) (board : BoardView) (x : MachineState)
+      → HasTaken world.board (take moved world.down.bytes) board → world.board.state ≡ x.board
+      → Divides (world.board.partial ++ world.down.bytes) x.down [] → IsTakenAs world moved board x
+  taken_as world moved board x taken same divides =
+      let front = laws.fronts_divide_first
+      (world.board.partial ++ take moved world.down.bytes)
+      (drop moved world.down.bytes) taken.events x.down board.partial [] taken.divided
+      (rw (front_of world.board.partial world.down.bytes moved) at divides) in
+      record {
+        events = taken.events;
+        left = front.0;
+        all = front.1;
+        led = takes taken.events front.0 x front.1;
+        board = taken.state ∙ ap (λ (state : BoardState). effects state taken.events) same;
+        down = front.2;
+        partial =
+            laws.left (world.board.partial ++ take moved world.down.bytes) board.partial taken.events taken.divided;
+      }
+
   take_reaches : (world : WorldView) (count : ℕ) (after : WorldView) (x : MachineState) → StandsFor world x
       → Becomes (ActContent.ToBoard count) world after → StandsAfterStep (ActContent.ToBoard count) Outcome.Done x after
   take_reaches world count after x stands delivers =
-      let taken = delivers.taken in
-      let board : BoardView = delivers.board in
-      let front = laws.fronts_divide_first
-      (world.board.partial ++ take delivers.moved world.down.bytes)
-      (drop delivers.moved world.down.bytes) taken.events x.down board.partial [] taken.divided
-      (rw (front_of world.board.partial world.down.bytes delivers.moved) at stands.down) in
-      let moves : List Move = replicate (length taken.events) Move.Take in
-      let led : after_moves x moves ≡ taken_state x taken.events front.0 = takes taken.events front.0 x front.1 in (
+      let taken = taken_as world delivers.moved delivers.board x delivers.taken stands.board stands.down in
+      let moves : List Move = replicate (length taken.events) Move.Take in (
         moves,
         (length taken.events, refl),
-        rw (delivers.leaves, led)
+        rw (delivers.leaves, taken.led)
             (record {
-              sound = rw led at (moves_sound x moves stands.sound);
-              board = taken.state ∙ ap (λ (state : BoardState). effects state taken.events) stands.board;
+              sound = rw taken.led at (moves_sound x moves stands.sound);
+              board = taken.board;
               picture = stands.picture;
               clock = stands.clock;
               awaited = stands.awaited;
               up = stands.up;
-              down = front.2;
-              partial =
-                  laws.left (world.board.partial ++ take delivers.moved world.down.bytes) board.partial taken.events
-                  taken.divided;
+              down = taken.down;
+              partial = taken.partial;
             }),
       )
 
@@ -333,10 +346,7 @@ module _ (laws : Grammars) where
   pub step_stands : (act : ActContent) (world : WorldView) (answer : Outcome) (after : WorldView) (x : MachineState)
       → StandsFor world x → Step act world answer after → StandsAfterStep act answer x after
   step_stands act world Outcome.Done after x stands step = done_reaches act world after x stands step.leaves
-  step_stands act world Outcome.Nothing after x stands step = ([], refl, rw step.leaves stands)
-  step_stands act world Outcome.NoRoom after x stands step = ([], refl, rw step.leaves stands)
-  step_stands act world Outcome.Busy after x stands step = ([], refl, rw step.leaves stands)
-  step_stands act world Outcome.TooMany after x stands step = ([], refl, rw step.leaves stands)
+  step_stands act world _ after x stands step = ([], refl, rw step.leaves stands)
 
   pub run_stands : (acts : List ActContent) (world : WorldView) (answers : List Outcome) (after : WorldView)
       (x : MachineState)
@@ -346,8 +356,7 @@ module _ (laws : Grammars) where
       let first = step_stands act world answer between x stands step in
       let rest = run_stands acts between answers after (after_moves x first.0) first.2 runs in
       (first.0 ++ rest.0, (first.0, rest.0, first.1, rest.1, refl), rw (moves-append x first.0 rest.0) rest.2)
-  run_stands [] world (answer ∷ answers) after x stands none = absurd none
-  run_stands (act ∷ acts) world [] after x stands none = absurd none
+  run_stands _ world _ after x stands none = absurd none
 
 -- ---- the lines keep their capacities
 
@@ -360,28 +369,20 @@ same_rooms world after same =
     record { up = ap (λ (w : WorldView). w.up.capacity) same; down = ap (λ (w : WorldView). w.down.capacity) same }
 
 pub becomes_rooms : (act : ActContent) (world after : WorldView) → Becomes act world after → HasRooms world after
-becomes_rooms (ActContent.Change square piece) world after same = rw same (record { up = refl; down = refl })
-becomes_rooms (ActContent.ClockRead clock) world after same = rw same (record { up = refl; down = refl })
 becomes_rooms (ActContent.Host command) world after (spells, same) = rw same (record { up = refl; down = refl })
 becomes_rooms ActContent.BoardSend world after (message, is_next, spells, same) =
     rw same (record { up = refl; down = refl })
 becomes_rooms (ActContent.ToBoard count) world after delivers = rw delivers.leaves (record { up = refl; down = refl })
-becomes_rooms (ActContent.ToHost count) world after same = rw same (record { up = refl; down = refl })
-becomes_rooms ActContent.Break world after same = rw same (record { up = refl; down = refl })
-becomes_rooms ActContent.HostBreak world after same = rw same (record { up = refl; down = refl })
+becomes_rooms _ world after same = rw same (record { up = refl; down = refl })
 
 step_rooms : (act : ActContent) (world : WorldView) (answer : Outcome) (after : WorldView) → Step act world answer after
     → HasRooms world after
 step_rooms act world Outcome.Done after step = becomes_rooms act world after step.leaves
-step_rooms act world Outcome.Nothing after step = same_rooms world after step.leaves
-step_rooms act world Outcome.NoRoom after step = same_rooms world after step.leaves
-step_rooms act world Outcome.Busy after step = same_rooms world after step.leaves
-step_rooms act world Outcome.TooMany after step = same_rooms world after step.leaves
+step_rooms act world _ after step = same_rooms world after step.leaves
 
 -- ---- what is kept
 
-module _ (moves : (act : ActContent) (world after : WorldView) (answer : Outcome) (x : MachineState) → StandsFor world x
-    → Step act world answer after → StandsAfterStep act answer x after) where
+module _ (moves : StepsAreMoves) where
   -- what an act leaves of a world is one
   pub step_is_world : (act : ActContent) (world after : WorldView) (answer : Outcome) → IsWorld world
       → Step act world answer after → IsWorld after

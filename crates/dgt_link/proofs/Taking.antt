@@ -38,10 +38,7 @@ effect-kinds board (EventContent.Read command) down =
     (filter_map-append kind_of_reply board.owed (replies_to board command) ∙ ap
     (λ (new : List Kind). filter_map kind_of_reply board.owed ++ new) (replies_to-kinds board command))
     ∙ kinds_moved (filter_map kind_of_reply board.owed) (kind_of_command command) (filter_map kind_of_event down)
-effect-kinds board EventContent.BadSize down = refl
-effect-kinds board EventContent.BadStart down = refl
-effect-kinds board EventContent.BadEnd down = refl
-effect-kinds board (EventContent.Stray byte) down = refl
+effect-kinds board _ down = refl
 
 abbrev IsFollowed : BoardState → Type 0
 IsFollowed board = IsTrue (follows_clock board.mode) → IsTrue board.times_owed ⊎ (board.told_clock ≡ Some board.clock)
@@ -56,12 +53,9 @@ command_followed board _ before = before
 
 pub effect_followed : (board : BoardState) (event : EventContent) → IsFollowed board → IsFollowed (effect board event)
 effect_followed board (EventContent.Read command) before = command_followed board command before
-effect_followed board EventContent.BadSize before = before
-effect_followed board EventContent.BadStart before = before
-effect_followed board EventContent.BadEnd before = before
-effect_followed board (EventContent.Stray byte) before = before
+effect_followed board _ before = before
 
--- a command leaves squares and clock, and what was told of them
+-- a command leaves squares and clock, and what was reported of them
 pub record Leaves (before after : BoardState) : Type 0 where
   pub squares : after.squares ≡ before.squares
   pub clock : after.clock ≡ before.clock
@@ -71,14 +65,7 @@ pub record Leaves (before after : BoardState) : Type 0 where
 pub effect_leaves : (board : BoardState) (event : EventContent) → Leaves board (effect board event)
 effect_leaves board (EventContent.Read command) =
     record { squares = refl; clock = refl; told_squares = refl; told_clock = refl }
-effect_leaves board EventContent.BadSize =
-    record { squares = refl; clock = refl; told_squares = refl; told_clock = refl }
-effect_leaves board EventContent.BadStart =
-    record { squares = refl; clock = refl; told_squares = refl; told_clock = refl }
-effect_leaves board EventContent.BadEnd =
-    record { squares = refl; clock = refl; told_squares = refl; told_clock = refl }
-effect_leaves board (EventContent.Stray byte) =
-    record { squares = refl; clock = refl; told_squares = refl; told_clock = refl }
+effect_leaves board _ = record { squares = refl; clock = refl; told_squares = refl; told_clock = refl }
 
 -- the same squares, and the same clock
 pub record HasSameGame (before after : BoardState) : Type 0 where

@@ -1,4 +1,4 @@
--- What a message that the board sends tells of its squares and of its clock.
+-- What a message that the board sends reports of its squares and of its clock.
 use Rattle.std.proofs.Common.{◌≡◌, refl, sym, ap, ◌∙◌, ◌⊎◌, inl, inr, ℕ, List, [], ◌∷◌, ◌++◌, Option, Some, None, Bool}
 use Rattle.std.proofs.Common.{true, false, length}
 use Rattle.std.proofs.lemmas.Bool.{and_parts, eqb-true, false≢true}
@@ -67,7 +67,7 @@ clock_eq-true (ClockState.no_clock left) (ClockState.no_clock right) h =
 clock_eq-true (ClockState.times left) (ClockState.no_clock right) h = absurd (false≢true h)
 clock_eq-true (ClockState.no_clock left) (ClockState.times right) h = absurd (false≢true h)
 
--- what was told of the clock, or that telling it is owed
+-- what was reported of the clock, or that that it is owed
 owed_unless_told : (told clock : ClockState) (same : Bool) → clock_eq told clock ≡ same
     → IsTrue (not same) ⊎ (Some told ≡ Some clock)
 owed_unless_told told clock true e = inr (ap Some (clock_eq-true told clock e))
@@ -85,7 +85,7 @@ handed_or_told Mode.Update told clock h = inl refl
 handed_or_told Mode.UpdateBoard told clock h = absurd (false≢true h)
 handed_or_told Mode.UpdateNice told clock h = owed_or_told told clock
 
--- what the board counts as told after a message is what the host then has
+-- what the board counts as reported after a message is what the host then has
 pub record ToldIsHeard (board : BoardState) (message : Content) : Type 0 where
   pub squares : length board.squares ≡ 64 → length board.told_squares ≡ 64
       → length (told_squares_after board message) ≡ 64
@@ -131,7 +131,7 @@ clock_message_tells board (ClockState.no_clock absence) e =
 pub clock_tells : (board : BoardState) → ToldIsHeard board (clock_message board.clock)
 clock_tells board = clock_message_tells board board.clock refl
 
--- a message that tells nothing of squares and clock
+-- a message that reports nothing of squares and clock
 pub record IsPlain (board : BoardState) (message : Content) : Type 0 where
   pub squares : told_squares_after board message ≡ board.told_squares
   pub picture : (seen : Option (List Piece)) → picture_after seen message ≡ seen
@@ -206,7 +206,7 @@ clock_told_of board message tells clock up h =
     (clock_seen_after board.told_clock (told_clock_after board message) message tells.clock tells.first_clock
     (clock_after_all clock up) h)
 
--- the clock that is followed is told, or telling it is owed
+-- the clock that is followed is reported, or owed
 pub followed_after : (board : BoardState) (message : Content) → ToldIsHeard board message
     → IsTrue board.times_owed ⊎ (board.told_clock ≡ Some board.clock)
     → IsTrue (times_owed_after board message) ⊎ (told_clock_after board message ≡ Some board.clock)

@@ -1,40 +1,34 @@
 -- When the host's clock is promised to be the board's clock.
-use Rattle.std.specs.Prelude.{◌≡◌, ◌⊎◌, ℕ, List, None, IsSome, IsTrue, Contains, Bool, true, false}
+use Rattle.std.specs.Prelude.{◌≡◌, ◌⊎◌, None, IsSome, IsTrue, Contains, Bool, true, false}
 use Rattle.dgt_command.specs.Content.{CommandContent, EventContent}
 use Rattle.dgt_board.specs.declared.replies.Reply.{Reply}
 use Rattle.dgt_board.specs.State.{follows_clock}
 use Rattle.dgt_link.specs.Act.{ActContent}
 use Rattle.dgt_link.specs.Faults.{FaultyContent}
-use Rattle.dgt_link.specs.Healing.{StandsBehind}
+use Rattle.dgt_link.specs.Healing.{StandsWith}
 use Rattle.dgt_link.specs.Machine.{MachineState}
-use Rattle.dgt_link.specs.Promise.{coming_mode}
+use Rattle.dgt_link.specs.Promise.{IsPromisedBy, coming_mode}
 use Rattle.dgt_link.specs.Sound.{coming_clock}
 use Rattle.dgt_link.specs.View.{WorldView}
 
 -- The clock to come is known, or a reading is owed or asked for, or the board has reported none
--- since it was made or lost the line or its power: then a mode that follows the clock owes one.
+-- since it was made or lost the line or its power. In the last case a mode that follows the clock
+-- owes one.
 abbrev pub ClockIsComing : MachineState → Type 0
 ClockIsComing x =
     IsSome (coming_clock x) ⊎ (Contains x.board.owed Reply.Clock
     ⊎ (Contains x.down (EventContent.Read CommandContent.Clock) ⊎ (x.board.told_clock ≡ None)))
 
-pub record IsClockPromised (x : MachineState) : Type 0 where
-  pub clock : ClockIsComing x
-  pub mode : IsTrue (follows_clock (coming_mode x))
+abbrev pub IsClockPromised : MachineState → Type 0
+IsClockPromised = IsPromisedBy ClockIsComing follows_clock
 
--- the world stands, behind some garbage, for a state whose mode to come follows the clock
-pub record IsClockFollowing (world : WorldView) : Type 0 where
-  pub garbage : List ℕ
-  pub state : MachineState
-  pub stands : StandsBehind garbage world state
-  pub mode : IsTrue (follows_clock (coming_mode state))
+-- the world stands, after some garbage, for a state whose mode to come follows the clock
+abbrev pub IsClockFollowing : WorldView → Type 0
+IsClockFollowing = StandsWith (λ x. IsTrue (follows_clock (coming_mode x)))
 
--- the world stands, behind some garbage, for a state whose clock is promised
-pub record IsClockPromisedWorld (world : WorldView) : Type 0 where
-  pub garbage : List ℕ
-  pub state : MachineState
-  pub stands : StandsBehind garbage world state
-  pub promised : IsClockPromised state
+-- the world stands, after some garbage, for a state whose clock is promised
+abbrev pub IsClockPromisedWorld : WorldView → Type 0
+IsClockPromisedWorld = StandsWith IsClockPromised
 
 -- after it the board no longer reports its clock's changes
 abbrev pub stops_clock : FaultyContent → Bool

@@ -1,5 +1,5 @@
 -- A world whose lines and whose board's power may fail: its acts, their outcomes, what they leave.
-use Rattle.std.specs.Prelude.{◌≡◌, ℕ, List, [], ◌∷◌, length, Some, Bool, false, true, if◌then◌else◌, nat_lt}
+use Rattle.std.specs.Prelude.{◌≡◌, ℕ, List, length, Some, Bool, false, true, if◌then◌else◌, nat_lt}
 use Rattle.std.specs.List.{AllByRecursion}
 use Rattle.dgt_values.specs.declared.kinds.Kind.{Kind}
 use Rattle.dgt_command.specs.Content.{CommandContent}
@@ -10,7 +10,7 @@ use Rattle.dgt_link.specs.declared.acts.Outcome.{Outcome}
 use Rattle.dgt_link.specs.declared.faulty.FaultyAct.{FaultyAct}
 use Rattle.dgt_link.specs.declared.faulty.FaultyAct.TheVariants as faulty
 use Rattle.dgt_link.specs.Act.{ActContent, ActHasArrays, act_content}
-use Rattle.dgt_link.specs.Step.{Becomes, IfDone, outcome}
+use Rattle.dgt_link.specs.Step.{Becomes, IfDone, RunsBy, outcome}
 use Rattle.dgt_link.specs.View.{LineContents, WorldView, line_holding, overflows, with_bytes}
 
 -- ---- acts and faults
@@ -75,11 +75,12 @@ pub record FaultyStep (act : FaultyContent) (world : WorldView) (answer : Outcom
 
 -- acts in order, each with its outcome
 abbrev pub FaultyRuns : List FaultyContent → WorldView → List Outcome → WorldView → Type 0
-FaultyRuns [] world [] after = after ≡ world
-FaultyRuns (act ∷ acts) world (answer ∷ answers) after =
-    (between : WorldView) × FaultyStep act world answer between
-    × FaultyRuns acts between answers after
-FaultyRuns _ world _ after = ⊥
+FaultyRuns = RunsBy FaultyStep
+
+-- what holds of the outcomes, where these acts lead from one world to the other
+abbrev pub IfRan : List FaultyContent → WorldView → WorldView → (List Outcome → Type 0) → Type 0
+IfRan acts world after Holds =
+    (outcomes : List Outcome) → FaultyRuns acts world outcomes after → Holds outcomes
 
 -- ---- kinds of acts
 

@@ -13,7 +13,7 @@ use Rattle.dgt_board.specs.State.{command_mode, follows_clock, updates}
 use Rattle.dgt_link.specs.declared.acts.Outcome.{Outcome}
 use Rattle.dgt_link.specs.declared.world.TheConstants.{MIN_DOWN, MIN_UP}
 use Rattle.dgt_link.specs.Act.{ActContent}
-use Rattle.dgt_link.specs.Faults.{FaultyContent, is_break}
+use Rattle.dgt_link.specs.Faults.{FaultyContent, FaultyRuns, is_break}
 use Rattle.dgt_link.specs.Machine.{MachineState, Move, after_moves, commands_anew, state_of_board}
 use Rattle.dgt_link.specs.Promise.{IsAsked, IsPromised, act_requests, coming_mode, commands_after, last_mode}
 use Rattle.dgt_link.specs.Sound.{IsSound, IsSubsequence, IsUnknownOr, coming_kinds}
@@ -99,7 +99,14 @@ pub record IsFaultyWorld (world : WorldView) : Type 0 where
   pub up_room : MIN_UP ≤ world.up.capacity
   pub down_room : MIN_DOWN ≤ world.down.capacity
 
--- The world stands for the state behind some garbage: the bytes under way to the host are garbage
+-- what holds after any acts and faults of a sane world
+abbrev pub AfterFaults : (List FaultyContent → WorldView → WorldView → List Outcome → Type 0)
+    → Type 0
+AfterFaults Holds =
+    (acts : List FaultyContent) (world after : WorldView) (answers : List Outcome) → IsSane world
+    → FaultyRuns acts world answers after → Holds acts world after answers
+
+-- The world stands for the state after some garbage: the bytes under way to the host are garbage
 -- and then the state's messages. The host may know anything while the state knows nothing. What the
 -- state knows, by messages after the garbage, the host knows too.
 pub record StandsBehind (garbage : List ℕ) (world : WorldView) (x : MachineState) : Type 0 where
@@ -113,18 +120,23 @@ pub record StandsBehind (garbage : List ℕ) (world : WorldView) (x : MachineSta
   pub down : Divides (world.board.partial ++ world.down.bytes) x.down []
   pub partial : IsPartial world.board.partial
 
--- there are such a state and such garbage
-pub record IsInStep (world : WorldView) : Type 0 where
+-- there are such garbage and such a state, of which this holds
+pub record StandsWith (Holds : MachineState → Type 0) (world : WorldView) : Type 0 where
   pub garbage : List ℕ
   pub state : MachineState
   pub stands : StandsBehind garbage world state
+  pub holds : Holds state
+
+-- there are any
+abbrev pub IsInStep : WorldView → Type 0
+IsInStep = StandsWith (λ x. Unit {0})
 
 -- what the host awaits is among the kinds to come, in their order
 abbrev pub AwaitsWhatComes : WorldView → MachineState → Type 0
 AwaitsWhatComes world x = IsSubsequence world.host.awaited (coming_kinds x)
 
--- The world after an act stands, behind some garbage, for a state to which the act's moves lead
--- from this one. What the host awaits stays among what comes.
+-- The world after an act stands, after some garbage, for a state to which the act's moves lead from
+-- this one. What the host awaits stays among what comes.
 abbrev pub StandsBehindAfter : ActContent → Outcome → WorldView → MachineState → WorldView → Type 0
 StandsBehindAfter act answer world x after =
     (garbage : List ℕ) × (moves : List Move) × AreMovesOfStep act answer moves
@@ -132,18 +144,12 @@ StandsBehindAfter act answer world x after =
     × (AwaitsWhatComes world x → AwaitsWhatComes after (after_moves x moves))
 
 -- there is such a state, whose mode to come asks for updates
-pub record IsFollowing (world : WorldView) : Type 0 where
-  pub garbage : List ℕ
-  pub state : MachineState
-  pub stands : StandsBehind garbage world state
-  pub mode : IsTrue (updates (coming_mode state))
+abbrev pub IsFollowing : WorldView → Type 0
+IsFollowing = StandsWith (λ x. IsTrue (updates (coming_mode x)))
 
 -- there is such a state, and its picture is promised
-pub record IsPromisedWorld (world : WorldView) : Type 0 where
-  pub garbage : List ℕ
-  pub state : MachineState
-  pub stands : StandsBehind garbage world state
-  pub promised : IsPromised state
+abbrev pub IsPromisedWorld : WorldView → Type 0
+IsPromisedWorld = StandsWith IsPromised
 
 -- Both lines are empty, and the board has nothing to send. The host may have unread bytes, and the
 -- board a part of a command.

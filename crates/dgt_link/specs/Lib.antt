@@ -13,3 +13,4 @@ pub mod Clocks
 pub mod Reported
 -- for bodies alone
 pub mod Work
+pub mod Readers

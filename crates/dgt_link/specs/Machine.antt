@@ -32,7 +32,7 @@ pub data Move : Type 0 where
   Take : Move
   -- the board sends the oldest reply that it owes
   Reply : Move
-  -- the board sends one square that differs from what it told
+  -- the board sends one square that differs from what it reported
   Tell : (square : ℕ) → Move
   -- the board sends its clock
   TellClock : Move
@@ -77,7 +77,7 @@ commands_anew = CommandContent.UpdateBoard ∷ CommandContent.Dump ∷ []
 
 -- ---- what a move makes of a state: one that can't happen changes nothing
 
--- the board tells a message
+-- the board sends a message
 abbrev pub after_told : MachineState → Content → MachineState
 after_told x message =
     record x { board = after_telling x.board message; up = x.up ++ message ∷ [] }

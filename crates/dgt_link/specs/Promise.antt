@@ -1,5 +1,5 @@
 -- When the host's picture is promised to be the board's squares.
-use Rattle.std.specs.Prelude.{◌≡◌, ◌⊎◌, List, [], ◌∷◌, ◌++◌, Option, Some, None, IsSome, IsTrue}
+use Rattle.std.specs.Prelude.{◌≡◌, ◌⊎◌, List, [], ◌∷◌, ◌++◌, Bool, Option, Some, None, IsSome, IsTrue}
 use Rattle.std.specs.Prelude.{Contains, filter_map, map, unwrap_or}
 use Rattle.dgt_values.specs.declared.kinds.Kind.{Kind}
 use Rattle.dgt_command.specs.Content.{CommandContent, EventContent}
@@ -80,9 +80,14 @@ PictureIsComing x =
     IsSome (coming_picture x) ⊎ (Contains x.board.owed (Reply.Of Kind.Dump)
     ⊎ Contains x.down (EventContent.Read CommandContent.Dump))
 
-pub record IsPromised (x : MachineState) : Type 0 where
-  pub picture : PictureIsComing x
-  pub mode : IsTrue (updates (coming_mode x))
+-- this is coming, and the mode to come asks for changes of it
+pub record IsPromisedBy (Comes : MachineState → Type 0) (asks : Mode → Bool) (x : MachineState)
+    : Type 0 where
+  pub coming : Comes x
+  pub mode : IsTrue (asks (coming_mode x))
+
+abbrev pub IsPromised : MachineState → Type 0
+IsPromised = IsPromisedBy PictureIsComing updates
 
 -- noise comes to the board, and then what a host asks for that begins anew
 pub record IsRestarted (x : MachineState) : Type 0 where

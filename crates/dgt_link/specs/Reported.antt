@@ -30,7 +30,7 @@ sent_by_all x [] = []
 sent_by_all x (move ∷ moves) = sent_by x move ++ sent_by_all (after_move x move) moves
 
 -- After these moves the picture is unknown, or what the board had reported by the moment when it
--- sent the last message that was heard: since then it has sent just the messages still under way.
+-- sent the last message that was heard. Since then it has sent just the messages still under way.
 pub record WasReported (x : MachineState) (moves : List Move) : Type 0 where
   pub earlier : List Move
   pub later : List Move
@@ -40,7 +40,7 @@ pub record WasReported (x : MachineState) (moves : List Move) : Type 0 where
       IsUnknownOr (after_moves x moves).picture
       (Some (after_moves x earlier).board.told_squares)
 
--- Behind some garbage the world after these acts stands for a state to which their moves lead from
+-- After some garbage, the world after these acts stands for a state to which their moves lead from
 -- one that knows no picture and has no message under way. What that state knows was reported.
 pub record IsReportedBy (acts : List ActContent) (answers : List Outcome) (after : WorldView)
     : Type 0 where

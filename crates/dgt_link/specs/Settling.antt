@@ -17,12 +17,12 @@ IsSettlingMove Move.Take = Unit {0}
 IsSettlingMove Move.Hear = Unit {0}
 IsSettlingMove move = IsSending move
 
--- At least as many such moves as are left until all is quiet: a message is heard; what the board
--- has to tell is sent and heard; a command is taken, and what it adds is sent and heard.
+-- At least as many such moves as are left until all is quiet. A message is heard. What the board
+-- has to report is sent and heard. A command is taken, and what it adds is sent and heard.
 abbrev pub moves_left : MachineState → ℕ
 moves_left x = length x.up + 2 * backlog x.board + 3 * length x.down
 
--- such moves, at most so many, lead to a quiet state
+-- such moves, at most this number of them, lead to a quiet state
 pub record SettlesBy (moves : List Move) (x : MachineState) : Type 0 where
   pub settling : AllByRecursion IsSettlingMove moves
   pub few : length moves ≤ moves_left x
@@ -56,7 +56,8 @@ AreInOrder (act ∷ acts) world after =
     (between : WorldView) × IsNext world act × Step act world Outcome.Done between
     × AreInOrder acts between after
 
--- so many deliveries and sendings, each of them done, lead from one world to the other, in order
+-- this number of deliveries and sendings, each of them done, lead from one world to the other, in
+-- order
 pub record SettlesIn (count : ℕ) (world after : WorldView) : Type 0 where
   pub acts : List ActContent
   pub settling : AllByRecursion IsSettling acts
@@ -64,7 +65,7 @@ pub record SettlesIn (count : ℕ) (world after : WorldView) : Type 0 where
   pub run : Runs acts world (replicate count Outcome.Done) after
   pub in_order : AreInOrder acts world after
 
--- At least as many deliveries and sendings as can be done in a row, in whatever pieces: each byte
+-- At least as many deliveries and sendings as can be done in a row, in whatever chunks. Each byte
 -- is delivered, a byte that the board takes adds to its backlog by one at most, and a message fits
 -- into the up line.
 abbrev pub steps_left : WorldView → ℕ

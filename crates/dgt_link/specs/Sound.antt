@@ -51,12 +51,12 @@ pub record IsSound (x : MachineState) : Type 0 where
   -- both positions have 64 squares
   pub squares : length x.board.squares ≡ 64
   pub told_squares : length x.board.told_squares ≡ 64
-  -- the picture to come is unknown, or the squares as the board has told them
+  -- the picture to come is unknown, or the squares as the board has reported them
   pub picture : IsUnknownOr (coming_picture x) (Some x.board.told_squares)
-  -- where the mode follows the clock, it is told or owed
+  -- if the mode follows the clock, it is reported or owed
   pub followed : IsTrue (follows_clock x.board.mode) →
       IsTrue x.board.times_owed ⊎ (x.board.told_clock ≡ Some x.board.clock)
-  -- the host's clock to come is unknown, or the clock as the board has told it
+  -- the host's clock to come is unknown, or the clock as the board has reported it
   pub clock : IsUnknownOr (coming_clock x) x.board.told_clock
   -- what is awaited is among the kinds to come, in their order
   pub awaited : IsSubsequence x.awaited (coming_kinds x)

@@ -47,14 +47,15 @@ outcome _ world = Outcome.Done
 
 -- ---- what an act leaves
 
--- fewer than so many of these bytes leave the board with room for a reply
+-- fewer than this number of these bytes leave the board with room for a reply
 abbrev pub StaysOpen : BoardView → List ℕ → ℕ → Type 0
 StaysOpen board bytes moved =
     (fewer : ℕ) → 0 < fewer → fewer < moved
     → (between : BoardView) × HasTaken board (take fewer bytes) between
     × (is_full between.state ≡ false)
 
--- the board takes the line's bytes one by one, until so many are taken, none is left or it is full
+-- the board takes the line's bytes one by one, until this number is taken, none is left or it is
+-- full
 pub record Delivers (count : ℕ) (world after : WorldView) : Type 0 where
   pub moved : ℕ
   pub some : 0 < moved
@@ -120,12 +121,16 @@ pub record Step (act : ActContent) (world : WorldView) (answer : Outcome) (after
   pub answers : answer ≡ outcome act world
   pub leaves : IfDone answer (Becomes act world after) (after ≡ world)
 
--- acts in order, each with its outcome
+-- acts in order, each with its outcome, where this says what one of them does
+abbrev pub RunsBy : {A : Type 0} → (A → WorldView → Outcome → WorldView → Type 0) → List A
+    → WorldView → List Outcome → WorldView → Type 0
+RunsBy Does [] world [] after = after ≡ world
+RunsBy Does (act ∷ acts) world (answer ∷ answers) after =
+    (between : WorldView) × Does act world answer between × RunsBy Does acts between answers after
+RunsBy Does _ world _ after = ⊥
+
 abbrev pub Runs : List ActContent → WorldView → List Outcome → WorldView → Type 0
-Runs [] world [] after = after ≡ world
-Runs (act ∷ acts) world (answer ∷ answers) after =
-    (between : WorldView) × Step act world answer between × Runs acts between answers after
-Runs _ world _ after = ⊥
+Runs = RunsBy Step
 
 -- how many of these acts were done
 abbrev pub done_count : List Outcome → ℕ

@@ -19,7 +19,7 @@ line_holding bytes capacity = record { bytes = bytes; capacity = capacity }
 abbrev pub with_bytes : LineContents → List ℕ → LineContents
 with_bytes line bytes = line_holding (line.bytes ++ bytes) line.capacity
 
--- the line without so many of its oldest bytes
+-- the line without this number of its oldest bytes
 abbrev pub without_first : LineContents → ℕ → LineContents
 without_first line count = line_holding (drop count line.bytes) line.capacity
 
@@ -32,6 +32,9 @@ pub record WorldView : Type 0 where
   pub host : HostView
   pub up : LineContents  -- from the board to the host
   pub down : LineContents  -- from the host to the board
+
+abbrev pub world_of : BoardView → HostView → LineContents → LineContents → WorldView
+world_of board host up down = record { board = board; host = host; up = up; down = down }
 
 -- a board and a host just made, and two empty lines of these capacities
 abbrev pub new_world : List Piece → ClockState → IdentityContent → ℕ → ℕ → WorldView

@@ -19,10 +19,11 @@ pub enum Act<'a> {
     Host(Command<'a>),
     /// The board sends its next message into the up line.
     BoardSend,
-    /// The board takes bytes of the down line, one by one, until so many are taken, none is left or
-    /// it owes 8 replies.
+    /// The board takes bytes of the down line, one by one, until it has taken this number, none is
+    /// left or it owes 8 replies.
     ToBoard(usize),
-    /// The host hears bytes of the up line, one by one, until so many are heard or none is left.
+    /// The host hears bytes of the up line, one by one, until it has heard this number or none is
+    /// left.
     ToHost(usize),
     /// Both lines lose all their bytes, and both ends see it: what `line_lost` of a board and of a
     /// host say.

@@ -12,7 +12,7 @@ ghost use Rattle.dgt_link.specs.Settling.{IsNext, SettlesIn};
 ghost use Rattle.dgt_link.specs.Work.{work_left};
 ghost use Rattle.dgt_link.specs.declared.acts.Outcome.{Outcome as Answer};
 ghost use Rattle.dgt_link.specs.Clocks.{IsClockFollowing, IsClockPromisedWorld, stops_clock};
-ghost use Rattle.dgt_link.specs.Faults.{FaultyContent, FaultyRuns, FaultyStep, begins_anew, faulty_content, is_fault, loses_step, stops};
+ghost use Rattle.dgt_link.specs.Faults.{IfRan, FaultyContent, FaultyRuns, FaultyStep, begins_anew, faulty_content, is_fault, loses_step, stops};
 ghost use Rattle.dgt_link.specs.Healing.{IsClockHealing, IsFaultyWorld, IsFollowing, IsHealing, IsInStep, IsInStepBy, IsInTurn, IsPromisedWorld, IsRestedWorld, StandsBehind, counted_by};
 ghost use Rattle.dgt_link.specs.Machine.{MachineState};
 ghost use Rattle.dgt_host.specs.Host.{picture_after_all};
@@ -59,23 +59,14 @@ pub struct FaultyWorld {
 
 impl Model for FaultyWorld {
     ghost use Rattle.dgt_link.specs.Healing.{IsClockHealing, IsFaultyWorld};
-    ghost use Rattle.dgt_link.specs.View.{WorldView};
+    ghost use Rattle.dgt_link.specs.View.{WorldView, world_of};
 
     ghost Value = { WorldView };
 
-    ghost view = { λ world. record {
-      board = world.board;
-      host = world.host;
-      up = world.up;
-      down = world.down;
-    } };
+    ghost view = { λ world. world_of world.board world.host world.up world.down };
 
-    ghost invariant = { λ world. IsFaultyWorld (record {
-      board = world.board;
-      host = world.host;
-      up = world.up;
-      down = world.down;
-    }) };
+    ghost invariant = { λ world.
+        IsFaultyWorld (world_of world.board world.host world.up world.down) };
 }
 
 impl FaultyWorld {
@@ -153,53 +144,44 @@ impl FaultyWorld {
 
     /// Does all acts in order and returns how many were `Done`.
     ///
-    /// Whatever was done before and whatever failed: once the world is quiet, the host's picture is
-    /// the board's position if the host began anew after the last fault and the last command since
-    /// then that sets a mode asks for updates. If the world was in step before and only the up line
-    /// failed, a dump that was requested after the last of these faults is enough. The host's clock
-    /// is the board's if a reading was requested in place of the dump and the mode follows the
-    /// clock.
+    /// Whatever was done before and whatever failed: the host's picture is the board's position
+    /// once the world is quiet, on two conditions. The host began anew after the last fault, and
+    /// the last command since then that sets a mode asks for updates. If the world was in step
+    /// before and only the up line failed, a dump that was requested after the last of these faults
+    /// is enough. The host's clock is the board's if a reading was requested in place of the dump
+    /// and the mode follows the clock.
     pub fn run(&mut self, acts: &[FaultyAct<'_>]) -> usize
         ensures exact { (outcomes : List Answer) × (result ≡ done_count outcomes)
             × FaultyRuns (map faulty_content acts.now) self.old outcomes self.new }
-        ensures in_step { (outcomes : List Answer) →
-            FaultyRuns (map faulty_content acts.now) self.old outcomes self.new →
-            IsInStepBy (map faulty_content acts.now) outcomes → IsInStep self.new }
-        ensures heals { (outcomes : List Answer) →
-            FaultyRuns (map faulty_content acts.now) self.old outcomes self.new →
+        ensures in_step { IfRan (map faulty_content acts.now) self.old self.new (λ outcomes.
+            IsInStepBy (map faulty_content acts.now) outcomes → IsInStep self.new) }
+        ensures heals { IfRan (map faulty_content acts.now) self.old self.new (λ outcomes.
             IsHealing (counted_by false (map faulty_content acts.now) outcomes) →
-            IsQuietWorld self.new →
-            self.new.host.picture ≡ Some self.new.board.state.squares }
-        ensures promised { (outcomes : List Answer) →
-            FaultyRuns (map faulty_content acts.now) self.old outcomes self.new →
+            IsQuietWorld self.new → self.new.host.picture ≡ Some self.new.board.state.squares) }
+        ensures promised { IfRan (map faulty_content acts.now) self.old self.new (λ outcomes.
             IsHealing (counted_by false (map faulty_content acts.now) outcomes) →
-            IsPromisedWorld self.new }
-        ensures awaited { (outcomes : List Answer) →
-            FaultyRuns (map faulty_content acts.now) self.old outcomes self.new →
+            IsPromisedWorld self.new) }
+        ensures awaited { IfRan (map faulty_content acts.now) self.old self.new (λ outcomes.
             IsInTurn (counted_by false (map faulty_content acts.now) outcomes) →
-            IsQuietWorld self.new → self.new.host.awaited ≡ [] }
-        ensures dump_promised { IsInStep self.old → (outcomes : List Answer) →
-            FaultyRuns (map faulty_content acts.now) self.old outcomes self.new →
+            IsQuietWorld self.new → self.new.host.awaited ≡ []) }
+        ensures dump_promised { IsInStep self.old →
+            IfRan (map faulty_content acts.now) self.old self.new (λ outcomes.
             IsHealing (counted_by true (map faulty_content acts.now) outcomes) →
-            IsPromisedWorld self.new }
-        ensures dump_heals { IsInStep self.old → (outcomes : List Answer) →
-            FaultyRuns (map faulty_content acts.now) self.old outcomes self.new →
+            IsPromisedWorld self.new) }
+        ensures dump_heals { IsInStep self.old →
+            IfRan (map faulty_content acts.now) self.old self.new (λ outcomes.
             IsHealing (counted_by true (map faulty_content acts.now) outcomes) →
-            IsQuietWorld self.new →
-            self.new.host.picture ≡ Some self.new.board.state.squares }
-        ensures clock_promised { (outcomes : List Answer) →
-            FaultyRuns (map faulty_content acts.now) self.old outcomes self.new →
+            IsQuietWorld self.new → self.new.host.picture ≡ Some self.new.board.state.squares) }
+        ensures clock_promised { IfRan (map faulty_content acts.now) self.old self.new (λ outcomes.
             IsClockHealing (counted_by false (map faulty_content acts.now) outcomes) →
-            IsClockPromisedWorld self.new }
-        ensures reading_promised { IsInStep self.old → (outcomes : List Answer) →
-            FaultyRuns (map faulty_content acts.now) self.old outcomes self.new →
+            IsClockPromisedWorld self.new) }
+        ensures reading_promised { IsInStep self.old →
+            IfRan (map faulty_content acts.now) self.old self.new (λ outcomes.
             IsClockHealing (counted_by true (map faulty_content acts.now) outcomes) →
-            IsClockPromisedWorld self.new }
-        ensures clock_heals { (outcomes : List Answer) →
-            FaultyRuns (map faulty_content acts.now) self.old outcomes self.new →
+            IsClockPromisedWorld self.new) }
+        ensures clock_heals { IfRan (map faulty_content acts.now) self.old self.new (λ outcomes.
             IsClockHealing (counted_by false (map faulty_content acts.now) outcomes) →
-            IsQuietWorld self.new →
-            self.new.host.clock ≡ Some self.new.board.state.clock }
+            IsQuietWorld self.new → self.new.host.clock ≡ Some self.new.board.state.clock) }
     {
         healing::clocks_heal();
         healing::faults_heal();
@@ -286,7 +268,7 @@ impl FaultyWorld {
     }
 
     // What the host has unread is an unfinished message.
-    fn holds_open(&self)
+    pub(crate) fn holds_open(&self)
         ensures { open_message self.now.host.unread ≡ self.now.host.unread }
     {
         self.host.unread();
@@ -375,7 +357,7 @@ impl FaultyWorld {
     ///
     /// While garbage is under way its picture may be the garbage's. Once it has heard a dump after
     /// the garbage, its picture is what the board had reported when it sent the last message that
-    /// was heard: the messages still under way make it what the board has reported by now.
+    /// was heard. The messages still under way make it what the board has reported by now.
     pub fn host(&self) -> &Host
         ensures host { result.now ≡ self.now.host }
         ensures reported { (garbage : List ℕ) (x : MachineState) → StandsBehind garbage self.now x →

@@ -1,7 +1,7 @@
 //! How the picture and the clock of a host heal after faults of the lines and of the board's power.
 //! Nothing here runs: each function stands for the facts that its contract states.
 
-ghost use Rattle.std.specs.Prelude.{◌≡◌, ◌≢◌, ℕ, List, [], ◌∷◌, Some, None, IsSome, IsTrue, false, true};
+ghost use Rattle.std.specs.Prelude.{◌≡◌, ◌≢◌, ℕ, List, [], Some, None, IsSome, IsTrue, false, true};
 ghost use Rattle.std.specs.List.{AllByRecursion};
 ghost use Rattle.dgt_command.specs.Content.{CommandContent};
 ghost use Rattle.dgt_decode.specs.Grammar.{open_message};
@@ -19,26 +19,19 @@ ghost use Rattle.dgt_link.specs.Settling.{SettlesIn};
 ghost use Rattle.dgt_link.specs.View.{IsQuietWorld, WorldView};
 ghost use Rattle.dgt_link.specs.Clocks.{IsClockFollowing, IsClockPromisedWorld, stops_clock};
 ghost use Rattle.dgt_link.specs.Faults.{AreCalm, FaultyContent, FaultyRuns, FaultyStep, begins_anew, is_break, is_fault, loses_step, stops};
-ghost use Rattle.dgt_link.specs.Healing.{IsClockHealing, IsFaultyWorld, IsFollowing, IsHealing, IsInStep, IsInStepBy, IsInTurn, IsPromisedWorld, IsRestedWorld, IsSane, StandsBehind, StandsBehindAfter, counted_by};
+ghost use Rattle.dgt_link.specs.Healing.{AfterFaults, IsClockHealing, IsFaultyWorld, IsFollowing, IsHealing, IsInStep, IsInStepBy, IsInTurn, IsPromisedWorld, IsRestedWorld, IsSane, StandsBehind, StandsBehindAfter, counted_by};
 
-/// An act that is no break, on a world that stands for a state behind garbage, leaves a world that
-/// stands behind garbage for a state to which the act's moves lead. Hearing garbage is no move.
+use crate::laws;
+
+/// An act that is no break keeps this: the world stands, after some garbage, for a state. The act's
+/// moves lead to the new state. Hearing garbage is no move.
 pub fn acts_behind_garbage()
     ensures { (act : ActContent) (garbage : List ℕ) (world : WorldView) (answer : Outcome)
         (after : WorldView) (x : MachineState) → is_break act ≡ false
         → StandsBehind garbage world x → Step act world answer after
         → StandsBehindAfter act answer world x after }
 {
-    dgt_decode::laws::begins_anew();
-    dgt_decode::laws::events_append();
-    dgt_decode::laws::open_append();
-    dgt_decode::laws::quiet_held();
-    dgt_decode::laws::spelling_is_read();
-    dgt_host::laws::places_do_not_matter();
-    dgt_command::laws::divisions_append();
-    dgt_command::laws::fronts_divide_first();
-    dgt_command::laws::parts_of_words();
-    dgt_command::laws::zeros_settle_the_reader();
+    laws::grammars();
 }
 
 /// A world without faults is sane, in step and has room. Whatever failed, a world is in step if its
@@ -55,67 +48,36 @@ pub fn faults_keep()
     ensures { (act : FaultyContent) (world after : WorldView) (answer : Outcome) →
         IsFaultyWorld world → FaultyStep act world answer after → IsFaultyWorld after }
 {
-    dgt_decode::laws::events_append();
-    dgt_decode::laws::open_append();
-    dgt_decode::laws::quiet_held();
-    dgt_decode::laws::spelling_is_read();
-    dgt_host::laws::places_do_not_matter();
-    dgt_command::laws::divisions_append();
-    dgt_command::laws::fronts_divide_first();
-    dgt_command::laws::parts_of_words();
-    dgt_command::laws::zeros_settle_the_reader();
+    laws::grammars();
 }
 
 /// After any list of acts and faults a sane world is sane. Its host's picture is the board's
-/// position once the world is quiet, if after the last fault the host began anew, or if only the up
-/// line failed and a dump was requested after that, and if the last command since then that sets a
-/// mode asks for updates. The same holds of the clock, of a reading that was requested.
+/// position once the world is quiet, on two conditions. The host began anew after the last fault,
+/// or only the up line failed and a dump was requested after that. And the last command since then
+/// that sets a mode asks for updates. The same holds of the clock, of a reading that was requested.
 pub fn faults_heal()
-    ensures sane { (acts : List FaultyContent) (world after : WorldView) (answers : List Outcome) →
-        IsSane world → FaultyRuns acts world answers after → IsSane after }
-    ensures in_step { (acts : List FaultyContent) (world after : WorldView)
-        (answers : List Outcome) → IsSane world → FaultyRuns acts world answers after
-        → IsInStepBy acts answers
-        → IsInStep after }
-    ensures heals { (acts : List FaultyContent) (world after : WorldView) (answers : List Outcome) →
-        IsSane world → FaultyRuns acts world answers after
-        → IsHealing (counted_by false acts answers)
-        → IsQuietWorld after → after.host.picture ≡ Some after.board.state.squares }
-    ensures promised { (acts : List FaultyContent) (world after : WorldView)
-        (answers : List Outcome) → IsSane world → FaultyRuns acts world answers after
-        → IsHealing (counted_by false acts answers) → IsPromisedWorld after }
-    ensures dump_promised { (acts : List FaultyContent) (world after : WorldView)
-        (answers : List Outcome) → IsSane world → IsInStep world
-        → FaultyRuns acts world answers after
-        → IsHealing (counted_by true acts answers) → IsPromisedWorld after }
-    ensures dump_heals { (acts : List FaultyContent) (world after : WorldView)
-        (answers : List Outcome) → IsSane world → IsInStep world
-        → FaultyRuns acts world answers after
-        → IsHealing (counted_by true acts answers)
-        → IsQuietWorld after → after.host.picture ≡ Some after.board.state.squares }
-    ensures awaited { (acts : List FaultyContent) (world after : WorldView)
-        (answers : List Outcome) → IsSane world → FaultyRuns acts world answers after
-        → IsInTurn (counted_by false acts answers) → IsQuietWorld after
-        → after.host.awaited ≡ [] }
-    ensures clock_promised { (acts : List FaultyContent) (world after : WorldView)
-        (answers : List Outcome) → IsSane world → FaultyRuns acts world answers after
-        → IsClockHealing (counted_by false acts answers) → IsClockPromisedWorld after }
-    ensures reading_promised { (acts : List FaultyContent) (world after : WorldView)
-        (answers : List Outcome) → IsSane world → IsInStep world
-        → FaultyRuns acts world answers after
-        → IsClockHealing (counted_by true acts answers) → IsClockPromisedWorld after }
+    ensures sane { AfterFaults (λ acts world after answers. IsSane after) }
+    ensures in_step { AfterFaults (λ acts world after answers.
+        IsInStepBy acts answers → IsInStep after) }
+    ensures heals { AfterFaults (λ acts world after answers.
+        IsHealing (counted_by false acts answers) → IsQuietWorld after
+        → after.host.picture ≡ Some after.board.state.squares) }
+    ensures promised { AfterFaults (λ acts world after answers.
+        IsHealing (counted_by false acts answers) → IsPromisedWorld after) }
+    ensures dump_promised { AfterFaults (λ acts world after answers.
+        IsInStep world → IsHealing (counted_by true acts answers) → IsPromisedWorld after) }
+    ensures dump_heals { AfterFaults (λ acts world after answers.
+        IsInStep world → IsHealing (counted_by true acts answers) → IsQuietWorld after
+        → after.host.picture ≡ Some after.board.state.squares) }
+    ensures awaited { AfterFaults (λ acts world after answers.
+        IsInTurn (counted_by false acts answers) → IsQuietWorld after → after.host.awaited ≡ []) }
+    ensures clock_promised { AfterFaults (λ acts world after answers.
+        IsClockHealing (counted_by false acts answers) → IsClockPromisedWorld after) }
+    ensures reading_promised { AfterFaults (λ acts world after answers.
+        IsInStep world → IsClockHealing (counted_by true acts answers)
+        → IsClockPromisedWorld after) }
 {
-    dgt_decode::laws::begins_anew();
-    dgt_decode::laws::events_append();
-    dgt_decode::laws::open_append();
-    dgt_decode::laws::quiet_held();
-    dgt_decode::laws::spelling_is_read();
-    dgt_host::laws::places_do_not_matter();
-    dgt_command::laws::divisions_append();
-    dgt_command::laws::fronts_divide_first();
-    dgt_command::laws::one_division();
-    dgt_command::laws::parts_of_words();
-    dgt_command::laws::zeros_settle_the_reader();
+    laws::grammars();
 }
 
 /// A promised world stays promised while it settles, and is quiet once it rests. Its picture is the
@@ -129,12 +91,7 @@ pub fn promised_worlds_heal()
         → world.host.picture ≡ Some world.board.state.squares }
 {
     acts_behind_garbage();
-    dgt_decode::laws::events_append();
-    dgt_decode::laws::open_append();
-    dgt_decode::laws::quiet_held();
-    dgt_decode::laws::spelling_is_read();
-    dgt_host::laws::places_do_not_matter();
-    dgt_command::laws::one_division();
+    laws::grammars();
 }
 
 /// What one act does to the grades of hope. Beginning anew promises that the picture heals. A fault
@@ -161,21 +118,12 @@ pub fn steps_heal()
         → FaultyStep act world answer after → IsPromisedWorld after }
 {
     acts_behind_garbage();
-    dgt_decode::laws::events_append();
-    dgt_decode::laws::open_append();
-    dgt_decode::laws::quiet_held();
-    dgt_decode::laws::spelling_is_read();
-    dgt_host::laws::places_do_not_matter();
-    dgt_command::laws::divisions_append();
-    dgt_command::laws::fronts_divide_first();
-    dgt_command::laws::one_division();
-    dgt_command::laws::parts_of_words();
-    dgt_command::laws::zeros_settle_the_reader();
+    laws::grammars();
 }
 
 /// The theorem without counting. Whatever was done and whatever failed before: once the host has
-/// begun anew, the host's picture is the board's position whenever the world is quiet, as long as
-/// nothing fails again, no reset is sent and no break comes that both sides see. If only the up
+/// begun anew, its picture is the board's position whenever the world is quiet. That holds as long
+/// as nothing fails again, no reset is sent and no break comes that both sides see. If only the up
 /// line failed and the board's mode to come asks for updates, a dump is enough.
 pub fn calm_heals()
     ensures restart { (acts later : List FaultyContent) (act : FaultyContent)
@@ -197,8 +145,8 @@ pub fn calm_heals()
     steps_heal();
 }
 
-/// What one act does to the host's clock, whatever failed before. In a world in step whose mode to
-/// come follows the clock, a reading that is requested promises the clock, and so does the mode
+/// What one act does to the host's clock, whatever failed before. Take a world in step whose mode
+/// to come follows the clock. A reading that is requested promises the clock. So does the mode
 /// itself if the board has reported no reading since it was made or lost the line or its power.
 /// Only a fault, a break, a restart, a reset and a mode that doesn't follow the clock end that. At
 /// quiet the host's clock is the board's.
@@ -230,11 +178,11 @@ pub fn clocks_heal()
     dgt_command::laws::one_division();
 }
 
-/// Between the faults and quiet. From any world in step on, the world stands behind some garbage
-/// for a state that begins with no picture. Once that state knows a picture, by a dump that the
-/// board has sent since then, no garbage counts any more: the host's picture is what the board had
-/// reported when it sent the last message that was heard, and the messages under way make it what
-/// the board has reported by now.
+/// Between the faults and quiet. Any world in step stands, after some garbage, for a state that
+/// begins with no picture. Once that state knows a picture, by a dump that the board has sent since
+/// then, no garbage counts any more. Then the host's picture is what the board had reported when it
+/// sent the last message that was heard. The messages under way make it what the board has reported
+/// by now.
 pub fn pictures_were_reported()
     ensures moves { (x : MachineState) (moves : List Move) → IsSound x → x.up ≡ []
         → AllByRecursion (λ move. (move ≢ Move.Break) × (¬ (IsHostBreak move))) moves

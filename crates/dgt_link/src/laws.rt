@@ -1,8 +1,8 @@
 //! What holds of the machine of a board and its host, and of the worlds that stand for its states.
 //! Nothing here runs: each function stands for the facts that its contract states.
 
-ghost use Rattle.std.specs.Prelude.{◌≡◌, ◌≢◌, ◌≤◌, ℕ, List, [], ◌∷◌, ◌++◌, All, Contains};
-ghost use Rattle.std.specs.Prelude.{Option, Some, None, flat_map, length, map, replicate, IsTrue, IsSome};
+ghost use Rattle.std.specs.Prelude.{◌≡◌, ◌≢◌, ◌≤◌, List, [], ◌∷◌, ◌++◌, All, Contains};
+ghost use Rattle.std.specs.Prelude.{Some, None, flat_map, length, map, replicate, IsTrue, IsSome};
 ghost use Rattle.std.specs.List.{AllByRecursion};
 ghost use Rattle.dgt_values.specs.declared.pieces.Piece.{Piece};
 ghost use Rattle.dgt_values.specs.Equality.{CloneIsSame, EqualIsSame, EqualIsSameReadOf};
@@ -14,7 +14,7 @@ ghost use Rattle.dgt_command.specs.Words.{IsNoiseList, IsPartial};
 ghost use Rattle.dgt_board.specs.View.{BoardView, HasTaken};
 ghost use Rattle.dgt_decode.specs.Grammar.{Event};
 ghost use Rattle.dgt_board.specs.declared.replies.Reply.{Reply};
-ghost use Rattle.dgt_board.specs.State.{IdentityContent, BoardState, command_mode, follows_clock, updates, effects};
+ghost use Rattle.dgt_board.specs.State.{IdentityContent, BoardState, follows_clock, updates, effects};
 ghost use Rattle.dgt_board.specs.declared.modes.Mode.{Mode};
 ghost use Rattle.dgt_board.specs.Sending.{after_sending, next_message};
 ghost use Rattle.dgt_host.specs.Host.{IsUnasked, picture_after_all};
@@ -23,13 +23,31 @@ ghost use Rattle.dgt_link.specs.Sound.{IsExact, IsSound, IsUnknownOr, coming_pic
 ghost use Rattle.dgt_link.specs.Promise.{IsAsked, IsAskedBy, IsPromised, IsQuiet, IsRestarted, PictureIsComing, act_requests, coming_mode, commands_after, mode_after, requests};
 ghost use Rattle.dgt_link.specs.Act.{ActContent, act_content, ActHasArrays};
 ghost use Rattle.dgt_link.specs.Faults.{FaultyActHasArrays, FaultyContent, FaultyStep, faulty_content};
+ghost use Rattle.dgt_link.specs.Readers.{Grammars};
 ghost use Rattle.dgt_link.specs.Stands.{IsExactWorld, IsWorld, StandsAfterRun, StandsAfterStep, StandsFor};
 ghost use Rattle.dgt_link.specs.declared.acts.Outcome.{Outcome};
 ghost use Rattle.dgt_link.specs.Step.{Runs, Step, done_count};
-ghost use Rattle.dgt_link.specs.Settling.{IsSettling, IsSettlingMove, SettlesBy, SettlesIn, steps_left};
+ghost use Rattle.dgt_link.specs.Settling.{IsSettling, IsSettlingMove, SettlesBy, steps_left};
 ghost use Rattle.dgt_link.specs.View.{IsQuietWorld, WorldView};
 
 use crate::{Act, FaultyAct, MIN_DOWN, MIN_UP, Outcome as ActOutcome, WorldFault};
+
+// What proofs use of the readers of messages and of commands.
+pub(crate) fn grammars()
+    ensures { Grammars }
+{
+    dgt_decode::laws::begins_anew();
+    dgt_decode::laws::events_append();
+    dgt_decode::laws::open_append();
+    dgt_decode::laws::quiet_held();
+    dgt_decode::laws::spelling_is_read();
+    dgt_host::laws::places_do_not_matter();
+    dgt_command::laws::divisions_append();
+    dgt_command::laws::fronts_divide_first();
+    dgt_command::laws::one_division();
+    dgt_command::laws::parts_of_words();
+    dgt_command::laws::zeros_settle_the_reader();
+}
 
 /// The limits by their numbers.
 pub fn limits()
@@ -37,7 +55,7 @@ pub fn limits()
     ensures down { MIN_DOWN ≡ 257 }
 {}
 
-/// Two values are equal, as `==` compares them, exactly where they are the same. Of lent bytes the
+/// Two values are equal, as `==` compares them, exactly if they are the same. Of lent bytes the
 /// bytes count, and not where they lie.
 pub fn equal_is_same()
     ensures outcome { EqualIsSame ⟦<ActOutcome as PartialEq>⟧.eq }
@@ -75,8 +93,8 @@ pub fn moves_keep()
     ensures exact_again { (x : MachineState) → IsSound x → IsExact (after_move x Move.Break) }
 {}
 
-/// A dump that is sent makes the picture to come the squares as the board has told them, and only a
-/// break or a host break makes it unknown.
+/// A dump that is sent makes the picture to come the squares as the board has reported them, and
+/// only a break or a host break makes it unknown.
 pub fn dump_is_told()
     ensures told { (x : MachineState) (later : List Reply) →
         x.board.owed ≡ Reply.Of Kind.Dump ∷ later → coming_picture (after_move x Move.Reply)
@@ -112,7 +130,7 @@ pub fn promise_is_kept()
         coming_mode (after_move x move) ≡ mode_after (coming_mode x) (requests move) }
 {}
 
-/// Where a sound state is quiet, nothing is awaited, and a picture that is known is the board's
+/// If a sound state is quiet, nothing is awaited, and a picture that is known is the board's
 /// squares if the mode asks for updates. If the mode follows the clock, a clock that the host knows
 /// is the board's, and in an exact state it knows it. Of a promised one the picture is known.
 pub fn at_quiet()
@@ -127,9 +145,9 @@ pub fn at_quiet()
         → x.picture ≡ Some x.board.squares }
 {}
 
-/// After any moves: sound stays sound, and exact without a host break exact. Where the commands
-/// among them, after the last break, ask for the picture, it is promised, and is the board's
-/// squares once all is quiet.
+/// After any moves: sound stays sound, and exact without a host break exact. If the commands among
+/// them, after the last break, ask for the picture, it is promised, and is the board's squares once
+/// all is quiet.
 pub fn picture_after_moves()
     ensures sound { (x : MachineState) (moves : List Move) →
         IsSound x → IsSound (after_moves x moves) }
@@ -207,15 +225,7 @@ pub fn acts_are_moves()
         (x : MachineState) →
         StandsFor world x → Runs acts world answers after → StandsAfterRun acts answers x after }
 {
-    dgt_decode::laws::events_append();
-    dgt_decode::laws::open_append();
-    dgt_decode::laws::quiet_held();
-    dgt_decode::laws::spelling_is_read();
-    dgt_host::laws::places_do_not_matter();
-    dgt_command::laws::divisions_append();
-    dgt_command::laws::fronts_divide_first();
-    dgt_command::laws::parts_of_words();
-    dgt_command::laws::zeros_settle_the_reader();
+    grammars();
 }
 
 /// An act leaves a world for which there is a sound state, and but for a host break of one that
@@ -261,7 +271,7 @@ pub fn promise_by_acts()
 }
 
 /// In each world the picture, once all messages under way are heard, is unknown or the squares as
-/// the board has told them. A message of which the host has heard a part is one of them.
+/// the board has reported them. A message of which the host has heard a part is one of them.
 ///
 /// In a world that stands for an exact state the next message to be heard that has a kind has the
 /// one that is awaited first, and is not unasked.
@@ -302,9 +312,9 @@ pub fn at_quiet_world()
     dgt_command::laws::one_division();
 }
 
-/// Where acts that are done after the last break ask for a dump, and the last of them that asks for
-/// a mode asks for updates, the world after them stands for a promised state, and once it is quiet
-/// the host's picture is the board's squares.
+/// Take acts that ask for a dump after the last break, and of which the last that asks for a mode
+/// asks for updates. Then the world after them stands for a promised state. Once it is quiet the
+/// host's picture is the board's squares.
 pub fn picture_after_acts()
     ensures promised { (acts : List ActContent) (world after : WorldView)
         (answers : List Outcome) (x : MachineState) →
@@ -320,9 +330,9 @@ pub fn picture_after_acts()
 }
 
 /// From each sound state some takes of the board, sendings of the board and hears of the host lead
-/// to a quiet one. They are at most one for each message under way, two for each reply, square and
-/// clock that the board has still to tell in some mode, and three for each command and fault under
-/// way.
+/// to a quiet one. There is at most one for each message under way, and three for each command and
+/// fault under way. There are two for each reply, square and clock that the board has still to
+/// report in some mode.
 ///
 /// Such moves keep the squares, the clock and the mode to come, and the picture of a promised
 /// state, once all is quiet, is its squares.
@@ -341,8 +351,8 @@ pub fn quiet_is_reached()
     dgt_board::laws::bounded_backlog();
 }
 
-/// In whatever order and pieces a world is delivered and its board sends, both come to an end: only
-/// so many of the acts can be done.
+/// In whatever order and chunks a world is delivered and its board sends, both come to an end: only
+/// a limited number of the acts can be done.
 pub fn settling_ends()
     ensures { (acts : List ActContent) (world after : WorldView) (answers : List Outcome) →
         IsWorld world → AllByRecursion IsSettling acts → Runs acts world answers after

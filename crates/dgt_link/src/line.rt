@@ -85,7 +85,7 @@ impl Line {
         self.ring.clear();
     }
 
-    /// Takes so many of the oldest bytes out.
+    /// Takes the oldest bytes out, `count` of them.
     pub fn drop_first(&mut self, count: usize)
         requires { count ≤ length self.old.bytes }
         ensures { self.new ≡ without_first self.old count }

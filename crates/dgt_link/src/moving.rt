@@ -10,7 +10,7 @@ ghost use Rattle.dgt_host.specs.Host.{host_after, new_host, host_awaiting, resta
 ghost use Rattle.dgt_link.specs.Act.{ActContent, act_content};
 ghost use Rattle.dgt_link.specs.Faults.{FaultyContent, FaultyStep, holding_outcome};
 ghost use Rattle.dgt_link.specs.Step.{IfDone, StaysOpen, Step};
-ghost use Rattle.dgt_link.specs.View.{WorldView, line_holding, with_bytes, without_first};
+ghost use Rattle.dgt_link.specs.View.{WorldView, line_holding, with_bytes, without_first, world_of};
 
 use crate::acts::{Act, Outcome};
 use crate::line::Line;
@@ -101,8 +101,8 @@ pub fn act_on(
 ) -> Outcome
     requires { RESTART_LENGTH ≤ down.old.capacity }
     ensures { Step (act_content act.entry)
-        (record { board = board.old; host = host.old; up = up.old; down = down.old }) result
-        (record { board = board.new; host = host.new; up = up.new; down = down.new }) }
+        (world_of board.old host.old up.old down.old) result
+        (world_of board.new host.new up.new down.new) }
 {
     match act {
         Act::Change(square, piece) => {
@@ -150,8 +150,8 @@ pub fn send_next(board: &mut Board, line: &mut Line) -> Outcome
     }
 }
 
-// The board takes bytes at the front of the line, at most so many, up to the end of a command or a
-// fault. Answers how many.
+// The board takes the oldest bytes of the line, at most `most` of them, up to the end of a command
+// or a fault. Returns how many.
 fn take_front(board: &mut Board, line: &mut Line, most: usize) -> usize
     requires most { 0 < most }
     requires some { 0 < length line.old.bytes }
@@ -169,8 +169,8 @@ fn take_front(board: &mut Board, line: &mut Line, most: usize) -> usize
     used
 }
 
-// The host hears bytes at the front of the line, at most so many, up to its next event. Answers how
-// many.
+// The host hears the oldest bytes of the line, at most `most` of them, up to its next event.
+// Returns how many.
 fn hear_front(host: &mut Host, line: &mut Line, most: usize) -> usize
     requires most { 0 < most }
     requires some { 0 < length line.old.bytes }
@@ -186,8 +186,8 @@ fn hear_front(host: &mut Host, line: &mut Line, most: usize) -> usize
     used
 }
 
-/// The board takes bytes of the line, one by one, until so many are taken, none is left or it owes
-/// as many replies as it can.
+/// The board takes bytes of the line, one by one, until it has taken `count`, none is left or it
+/// owes as many replies as it can.
 pub fn to_board(board: &mut Board, line: &mut Line, count: usize) -> Outcome
     ensures { (world : WorldView) → Step (ActContent.ToBoard count)
         (record world { board = board.old; down = line.old }) result
@@ -208,7 +208,7 @@ pub fn to_board(board: &mut Board, line: &mut Line, count: usize) -> Outcome
     Outcome::Done
 }
 
-/// The host hears bytes of the line, one by one, until so many are heard or none is left.
+/// The host hears bytes of the line, one by one, until it has heard `count` or none is left.
 pub fn to_host(host: &mut Host, line: &mut Line, count: usize) -> Outcome
     ensures { (world : WorldView) → Step (ActContent.ToHost count)
         (record world { host = host.old; up = line.old }) result

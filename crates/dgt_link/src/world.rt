@@ -1,13 +1,13 @@
 //! The world: a board, a host, and the two lines between them.
 
-ghost use Rattle.std.specs.Prelude.{◌≡◌, ◌≢◌, ◌↔◌, ◌⊎◌, ◌<◌, ◌≤◌, ◌+◌, ◌*◌, ◌^◌, false, List, []};
-ghost use Rattle.std.specs.Prelude.{◌∷◌, ◌++◌, All, Contains, Some, None, IsTrue, IsSome, IfOk};
+ghost use Rattle.std.specs.Prelude.{◌≡◌, ◌≢◌, ◌↔◌, ◌⊎◌, ◌<◌, ◌≤◌, ◌+◌, ◌*◌, false, List, []};
+ghost use Rattle.std.specs.Prelude.{◌∷◌, ◌++◌, All, Contains, Some, None, IsTrue, IfOk};
 ghost use Rattle.std.specs.Prelude.{IsErr, IsErrOf, map, length};
 ghost use Rattle.dgt_values.specs.Board.{pieces_of};
 ghost use Rattle.dgt_values.specs.declared.kinds.Kind.{Kind};
 ghost use Rattle.dgt_message.specs.Content.{Content, clock_seen, kind_of};
 ghost use Rattle.dgt_command.specs.Content.{CommandContent};
-ghost use Rattle.dgt_board.specs.Sending.{backlog, next_message};
+ghost use Rattle.dgt_board.specs.Sending.{backlog};
 ghost use Rattle.dgt_board.specs.State.{command_mode, follows_clock, updates};
 ghost use Rattle.dgt_board.specs.declared.modes.Mode.{Mode};
 ghost use Rattle.dgt_host.specs.Host.{picture_after_all};
@@ -18,16 +18,14 @@ ghost use Rattle.dgt_link.specs.Healing.{IsInStep};
 ghost use Rattle.dgt_link.specs.Stands.{StandsAfterRun, StandsAfterStep, IsExactWorld, IsWorld, StandsFor};
 ghost use Rattle.dgt_link.specs.Promise.{IsAskedBy, IsPromised, IsRestarted, PictureIsComing, act_requests, coming_mode, mode_after};
 ghost use Rattle.dgt_link.specs.Machine.{MachineState, new_state};
-ghost use Rattle.dgt_link.specs.Settling.{IsNext, SettlesIn};
-ghost use Rattle.dgt_link.specs.Work.{work_left};
+ghost use Rattle.dgt_link.specs.Settling.{SettlesIn};
 ghost use Rattle.dgt_link.specs.Sound.{IsExact, IsSound, IsUnknownOr};
 ghost use Rattle.dgt_link.specs.Step.{Runs, Step, done_count};
 ghost use Rattle.dgt_link.specs.View.{IsQuietWorld, new_world};
 
 use crate::acts::{Act, Outcome, count};
-use crate::faulty::FaultyWorld;
-use crate::line::{Line, LineMemory};
-use crate::moving::{act_on, send_next};
+use crate::faulty::{FaultyAct, FaultyWorld};
+use crate::line::LineMemory;
 use crate::{healing, laws};
 use dgt_board::{Board, Identity, MAX_SENT};
 use dgt_command::MAX_WORD;
@@ -61,10 +59,8 @@ pub enum WorldFault {
 /// state of the machine for which the world stands, and only one.
 #[derive(Drop)]
 pub struct World {
-    board: Board,
-    host: Host,
-    up: Line,
-    down: Line,
+    // its acts are the plain ones of a world at fault
+    inner: FaultyWorld,
 }
 
 impl Model for World {
@@ -73,26 +69,16 @@ impl Model for World {
 
     ghost Value = { WorldView };
 
-    ghost view = { λ world. record {
-      board = world.board;
-      host = world.host;
-      up = world.up;
-      down = world.down;
-    } };
+    ghost view = { λ world. world.inner };
 
-    ghost invariant = { λ world. IsWorld (record {
-      board = world.board;
-      host = world.host;
-      up = world.up;
-      down = world.down;
-    }) };
+    ghost invariant = { λ world. IsWorld world.inner };
 }
 
 impl World {
     /// A new board, a new host and two empty lines of these capacities, in bytes.
     ///
-    /// First `LineTooSmall`, where `up` is below `MIN_UP` or `down` below `MIN_DOWN`. Then
-    /// `OutOfMemory`, where the memory of a line was refused; none is kept then.
+    /// First `LineTooSmall` if `up` is below `MIN_UP` or `down` below `MIN_DOWN`. Then
+    /// `OutOfMemory` if the memory of a line was refused; none is kept then.
     pub fn new(
         alloc: Global,
         position: Position,
@@ -138,10 +124,12 @@ impl World {
         }
         match memory.lines(up, down) {
             Ok((up, down)) => Ok(Ok(World {
-                board: Board::new(position, clock, identity),
-                host: Host::new(),
-                up,
-                down,
+                inner: FaultyWorld {
+                    board: Board::new(position, clock, identity),
+                    host: Host::new(),
+                    up,
+                    down,
+                },
             })),
             Err(refused) => Ok(Err(refused)),
         }
@@ -153,36 +141,28 @@ impl World {
         ensures in_step { IsInStep result }
     {
         healing::worlds_are_in_step();
-        FaultyWorld {
-            board: self.board,
-            host: self.host,
-            up: self.up,
-            down: self.down,
-        }
+        self.inner
     }
 
     fn act(&mut self, act: Act<'_>) -> Outcome
         ensures { Step (act_content act.entry) self.old result self.new }
     {
         laws::acts_keep();
-        act_on(
-            &mut self.board,
-            &mut self.host,
-            &mut self.up,
-            &mut self.down,
-            act,
-        )
+        self.inner.step(FaultyAct::Plain(act))
     }
 
-    /// Does one act, and answers what came of it. What isn't `Done` changes nothing.
+    /// Does one act, and returns what came of it. An act that isn't `Done` changes nothing.
     ///
-    /// `Change`, `ClockRead`, `Break` and `HostBreak` are always `Done`. `Host` is first `TooMany`,
-    /// where the reply would have to be awaited and 16 are awaited, then `NoRoom`, where the down
-    /// line has too little room for the command. `BoardSend` is first `Nothing`, where the board
-    /// has nothing to send, then `NoRoom`, where the up line has too little room for the message.
-    /// `ToBoard` is first `Nothing`, where the count is 0 or the down line is empty, then `Busy`,
-    /// where the board owes 8 replies. `ToHost` is `Nothing` where the count is 0 or the up line is
-    /// empty.
+    /// Its outcomes other than `Done`, in the order in which they are tested:
+    ///
+    /// - `Change`, `ClockRead`, `Break` and `HostBreak` are always `Done`.
+    /// - `Host` is `TooMany` if the reply would have to be awaited and 16 are awaited, and `NoRoom`
+    ///   if the down line has too little room for the command.
+    /// - `BoardSend` is `Nothing` if the board has nothing to send, and `NoRoom` if the up line has
+    ///   too little room for the message.
+    /// - `ToBoard` is `Nothing` if the count is 0 or the down line is empty, and `Busy` if the
+    ///   board owes 8 replies.
+    /// - `ToHost` is `Nothing` if the count is 0 or the up line is empty.
     ///
     /// After a `HostBreak` the down line holds 257 bytes and the board is as it was. What it takes
     /// of them is noise, and then `UpdateBoard` and `Dump`.
@@ -230,11 +210,11 @@ impl World {
         self.act(act)
     }
 
-    /// Does all acts in order, and answers how many were `Done`.
+    /// Does all acts in order, and returns how many were `Done`.
     ///
-    /// Where those that were done after the last `Break` ask for a dump, and the last of them that
-    /// asks for a mode asks for updates, the host's picture is the board's position once the world
-    /// is quiet. A `HostBreak` asks for both.
+    /// The host's picture is the board's position once the world is quiet, on two conditions. Those
+    /// acts that were done after the last `Break` ask for a dump, and the last of them that asks
+    /// for a mode asks for updates. A `HostBreak` asks for both.
     pub fn run(&mut self, acts: &[Act<'_>]) -> usize
         ensures exact { (outcomes : List Outcome) × (result ≡ done_count outcomes)
             × Runs (map act_content acts.now) self.old outcomes self.new }
@@ -271,93 +251,19 @@ impl World {
         done
     }
 
-    // The board sends, where it can: with an empty line it can send anything.
-    fn send(&mut self) -> Outcome
-        ensures exact { Step ActContent.BoardSend self.old result self.new }
-        ensures room { self.old.up.bytes ≡ [] → result ≢ Outcome.NoRoom }
-    {
-        laws::acts_keep();
-        send_next(&mut self.board, &mut self.up)
-    }
-
-    // Whether the board has anything to send.
-    fn has_to_send(&self) -> bool
-        ensures { IsTrue result ↔ IsSome (next_message self.now.board.state) }
-    {
-        self.board.owes()
-    }
-
-    // The host hears all that is in the up line.
-    fn hear_all(&mut self) -> Outcome
-        ensures { Step (ActContent.ToHost (length self.old.up.bytes)) self.old result self.new }
-    {
-        let waiting = self.up.len();
-        self.act(Act::ToHost(waiting))
-    }
-
-    // The board takes what is in the down line, until it owes 8 replies.
-    fn take_all(&mut self) -> Outcome
-        ensures { Step (ActContent.ToBoard (length self.old.down.bytes)) self.old result self.new }
-    {
-        let coming = self.down.len();
-        self.act(Act::ToBoard(coming))
-    }
-
-    // Does one delivery or sending, where one can be done. Where none can, the world is quiet.
-    fn settle_once(&mut self) -> bool
-        ensures moved { IsTrue result → (act : ActContent) × IsNext self.old act
-            × Step act self.old Outcome.Done self.new × (work_left self.new < work_left self.old) }
-        ensures rests { result ≡ false → IsQuietWorld self.old × (self.new ≡ self.old) }
-    {
-        dgt_board::laws::bounded_backlog();
-        dgt_board::laws::nothing_to_send();
-        dgt_command::laws::words_are_short();
-        dgt_command::laws::parts_of_words();
-        dgt_command::laws::one_division();
-        dgt_decode::laws::events_append();
-        dgt_decode::laws::open_append();
-        dgt_decode::laws::quiet_held();
-        dgt_decode::laws::spelling_is_read();
-        dgt_host::laws::places_do_not_matter();
-        self.host.unread();
-        if !self.up.is_empty() {
-            self.hear_all();
-            true
-        } else if self.has_to_send() {
-            self.send();
-            true
-        } else if !self.down.is_empty() {
-            self.take_all();
-            true
-        } else {
-            false
-        }
-    }
-
-    // The work that is left is counted by a `u128`.
-    fn work(&self)
-        ensures fits { work_left self.now < 2 ^ 67 }
-        ensures few { backlog self.now.board.state ≤ 73 }
-    {
-        dgt_board::laws::bounded_backlog();
-        // how many bytes a line has, and how many replies are owed, is bounded where it is read
-        let _coming = self.down.len();
-        let _owed = self.board.owed_len();
-    }
-
-    /// Delivers what is under way and lets the board send what it has to tell, until the world is
-    /// quiet, and answers how many acts that took. A quiet world takes none.
+    /// Delivers what is under way and lets the board send what it has to report, until the world is
+    /// quiet. Returns how many acts that took. A quiet world takes none.
     ///
     /// The acts are `ToHost`, `BoardSend` and `ToBoard` alone, and each is `Done`. While the up
     /// line has bytes the host hears all of them. With none in it the board sends a message if it
     /// has any, and with none to send it takes all that is in the down line, until it owes 8
     /// replies.
     ///
-    /// The acts are at most three for each byte in the down line, two for each reply that the board
-    /// owes, for each square that differs from what it has reported and for a clock that it owes,
-    /// and one. No square, no clock of the board and no command is new. So the mode is that of the
-    /// last mode command under way. If a dump was asked for and this mode asks for updates, the
-    /// host's picture is the board's position.
+    /// The acts are at most three for each byte in the down line, and one. To these come at most
+    /// two for each reply that the board owes, each square that differs from what it has reported,
+    /// and a clock that it owes. No square, no clock of the board and no command is new. So the
+    /// mode is that of the last mode command under way. If a dump was asked for and this mode asks
+    /// for updates, the host's picture is the board's position.
     ///
     /// All of that holds after a `Break` and after a `HostBreak` too, whatever was under way then.
     /// After a `Break` no picture is known until a dump is asked for again. After a `HostBreak` the
@@ -390,13 +296,10 @@ impl World {
         laws::acts_are_moves();
         laws::acts_keep();
         laws::promise_by_acts();
-        dgt_command::laws::one_division();
+        laws::grammars();
         self.stands();
-        self.work();
-        let mut done = 0;
-        while self.settle_once() {
-            done += 1;
-        }
+        let done = self.inner.settle();
+        self.inner.holds_open();
         done
     }
 
@@ -404,26 +307,25 @@ impl World {
     fn stands(&self)
         ensures { (x : MachineState) × StandsFor self.now x }
     {
-        // what holds of each world is known where a field of it is read
-        self.up.is_empty();
+        // what holds of each world is known where its field is read
+        self.inner.up_len();
     }
 
     // What holds of each world.
     fn is_world(&self)
         ensures { IsWorld self.now }
     {
-        // it is known where a field of it is read
-        self.up.is_empty();
+        // it is known where its field is read
+        self.inner.up_len();
     }
 
     /// Whether both lines are empty, the host has nothing unread, the board has no unfinished
     /// command and owes nothing.
     ///
-    /// If it is, the host awaits nothing, and its picture is unknown or the board's position where
-    /// the board's mode asks for updates. Where a dump was asked for as well, by an act that was
-    /// done after the last `Break`, the picture is known. In a mode that follows the clock, the
-    /// host's clock is unknown or the board's, and where a reading was asked for as well it is
-    /// known.
+    /// If it is, the host awaits nothing, and its picture is unknown or the board's position if the
+    /// board's mode asks for updates. If a dump was asked for as well, by an act that was done
+    /// after the last `Break`, the picture is known. In a mode that follows the clock, the host's
+    /// clock is unknown or the board's. If a reading was asked for as well it is known.
     pub fn quiet(&self) -> bool
         ensures quiet { IsTrue result ↔ IsQuietWorld self.now }
         ensures told { IsTrue result → IsTrue (updates self.now.board.state.mode) →
@@ -443,28 +345,18 @@ impl World {
         healing::clocks_heal();
         laws::at_quiet_world();
         self.stands();
-        self.is_quiet()
-    }
-
-    fn is_quiet(&self) -> bool
-        ensures { IsTrue result ↔ IsQuietWorld self.now }
-    {
-        self.up.is_empty()
-            && self.down.is_empty()
-            && self.host.unread() == 0
-            && self.board.partial() == 0
-            && !self.board.owes()
+        self.inner.quiet()
     }
 
     /// The board.
     pub fn board(&self) -> &Board
         ensures { result.now ≡ self.now.board }
     {
-        &self.board
+        self.inner.board()
     }
 
     /// The host. Its picture, once it has heard all messages under way, is unknown or the squares
-    /// as the board has told them; a message that it has heard a part of is one of them.
+    /// as the board has reported them. A message that it has heard a part of is one of them.
     pub fn host(&self) -> &Host
         ensures host { result.now ≡ self.now.host }
         ensures fold { (x : MachineState) → StandsFor self.now x →
@@ -479,20 +371,20 @@ impl World {
     {
         laws::worlds_are_told();
         self.stands();
-        &self.host
+        self.inner.host()
     }
 
     /// How many bytes are in the line from the board to the host.
     pub fn up_len(&self) -> usize
         ensures { result ≡ length self.now.up.bytes }
     {
-        self.up.len()
+        self.inner.up_len()
     }
 
     /// How many bytes are in the line from the host to the board.
     pub fn down_len(&self) -> usize
         ensures { result ≡ length self.now.down.bytes }
     {
-        self.down.len()
+        self.inner.down_len()
     }
 }

@@ -5,12 +5,4 @@
 #![tactic(auto)]
 
 #[cfg(test)]
-mod boards;
-#[cfg(test)]
-mod followers;
-#[cfg(test)]
-mod hosts;
-#[cfg(test)]
-mod texts;
-#[cfg(test)]
-mod worlds;
+mod tests;

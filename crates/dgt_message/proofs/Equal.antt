@@ -43,7 +43,7 @@ equal_lists read eq same (x ∷ xs) (y ∷ ys) =
 pub equal_times : EqualIsSameRead times_seen (times.eq-value).it
 equal_times a b = grind (arith, common_steps)
 
--- boards without a clock are equal exactly where they tell the same bytes and status
+-- boards without a clock are equal exactly where they report the same bytes and status
 pub equal_absences : EqualIsSameRead absence_seen (absence.eq-value).it
 equal_absences a b =
     let same =
@@ -60,7 +60,7 @@ equal_absences a b =
     status_of : Absence → ℕ
     status_of seen = seen.status
 
--- two clocks are equal exactly where they tell the same
+-- two clocks are equal exactly where they report the same
 pub equal_clocks : EqualIsSameRead clock_seen (clock.eq-value).it
 equal_clocks (clock_variants.Times a) (clock_variants.Times b) =
     let same = equal_times a b in

@@ -79,13 +79,13 @@ place_fault Layout.field body at h = field_fault body at h (at == 0) refl
 place_fault Layout.times body at h = rw (times_fault (at == 6) (at % 3 == 0) at) (h, refl)
 place_fault _ body at h = absurd (h.bad tt)
 
--- the test of the size tells a right one
+-- the test of the size reports a right one
 pub right_size : (o : Option ℕ) (n : ℕ) → option_map_or (λ total. n == total) o true ≡ true
     → IfSome o (λ total. n ≡ total)
 right_size None n h = tt
 right_size (Some total) n h = eqb-true n total h
 
--- the test of the size tells a wrong one
+-- the test of the size reports a wrong one
 pub wrong_size : (o : Option ℕ) (n : ℕ) → option_map_or (λ total. n == total) o true ≡ false
     → IsSomeAnd o (λ total. n ≢ total)
 wrong_size None n h = cc

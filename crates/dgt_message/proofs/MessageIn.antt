@@ -141,7 +141,7 @@ pub message_in-fits : (said : Content) (code : ℕ) (body : List ℕ) → Fits s
 message_in-fits said code body h =
     rw (h.code_is, laid_out said body h.is_message h.spelled) (said_back said body h.is_message h.spelled)
 
--- the whole spells what its code and its body say
+-- the whole encodes what its code and its body say
 pub message_in-spells : (said : Content) (bytes : List ℕ) → Spells said bytes
     → message_in (slice_index bytes 0 - 128) (drop 3 bytes) ≡ said
 message_in-spells said bytes h =

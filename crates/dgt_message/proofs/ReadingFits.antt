@@ -24,12 +24,12 @@ use Rattle.dgt_message.proofs.SpellingSpells.{small_code}
 abbrev Says : ℕ → List ℕ → Result Content BodyFault → Type 0
 Says code body r = MatchResult r (λ said. Fits said code body) (IsFaultOf code body)
 
--- the fault at the first bad place, or the message where there is none
+-- the fault at the first bad place, or the message if there is none
 abbrev message_or_fault : Layout → ℕ → List ℕ → Option ℕ → Result Content BodyFault
 message_or_fault layout code body found =
     option_map_or (λ at. Err (fault_of (column_of layout at) at)) found (Ok (said_in layout code body))
 
--- so is the fault at the first bad place, or the message where there is none
+-- so is the fault at the first bad place, or the message if there is none
 by_place : (code : ℕ) (body : List ℕ) → code < 128 → IsCarried body → IsRightSize (layout_of code body) body
     → (found : Option ℕ)
     → MatchOption found (AllowsBefore (layout_of code body) body (length body)) (IsFirstBad (layout_of code body) body)
@@ -97,14 +97,14 @@ view_reads code body (Ok message) small carried h =
 view_reads code body (Err why) small carried h =
     fault_is code body (reading code body) why (reading_says code body small carried) h
 
--- ---- Of whole spellings
+-- ---- Of whole encodings
 
 -- bytes from the second on are seven-bit, so bytes from the fourth on are
 third_on : (bytes : List ℕ) → All (λ byte. byte < 128) (drop 1 bytes) → All (λ byte. byte < 128) (drop 3 bytes)
 third_on [] h = h
 third_on (a ∷ bytes) h = All-drop (λ byte. byte < 128) 2 bytes h
 
--- a message is the reading of its spellings
+-- a message is the reading of its encodings
 pub spelled_is_read : (said : Content) (bytes : List ℕ) → Spells said bytes
     → reading (slice_index bytes 0 - 128) (drop 3 bytes) ≡ Ok said
 spelled_is_read said bytes h =

@@ -68,7 +68,7 @@ content (Message.Battery body) = carried_as KnownCode.Battery (body_bytes body)
 content (Message.LongSerial body) = carried_as KnownCode.LongSerial (body_bytes body)
 content (Message.Other other body) = carried (code_number other) (body_bytes body)
 
--- the message that tells the clock
+-- the message that reports the clock
 abbrev pub clock_message : ClockState → Content
 clock_message (ClockState.times readings) = times readings
 clock_message (ClockState.no_clock absence) = no_clock absence

@@ -6,7 +6,7 @@ ghost use Rattle.dgt_message.specs.Content.{content, kind_of};
 use crate::message::Message;
 use dgt_values::Kind;
 
-/// The kind of a message, where it answers a command that has one.
+/// The kind of a message, if it answers a command that has one.
 pub fn kind_of(message: &Message<'_>) -> Option<Kind>
     ensures { result ≡ kind_of (content message.now) }
 {

@@ -1,4 +1,4 @@
-//! What holds of the messages and their spellings as such. Nothing here runs: each function stands
+//! What holds of the messages and their encodings as such. Nothing here runs: each function stands
 //! for the fact that its contract states.
 
 ghost use Rattle.std.specs.Prelude.{◌≡◌, ◌<◌, ◌-◌, ◌++◌, ◌↔◌, ◌⊎◌, ℕ, List, [], drop};
@@ -18,7 +18,7 @@ use crate::other::OtherCode;
 use crate::readings::{BadDigits, Reading, Status};
 use crate::viewing::BodyFault;
 
-/// Two values are equal, as `==` compares them, exactly where they say the same. Of a body its
+/// Two values are equal, as `==` compares them, exactly if they say the same. Of a body its
 /// bytes count, and not where they lie.
 pub fn equal_is_same()
     ensures reading { EqualIsSameRead time_seen ⟦<Reading as PartialEq>⟧.eq }
@@ -70,7 +70,7 @@ pub fn one_reading()
         → Fits said code body → ¬ (IsFaultOf code body why) }
 {}
 
-/// No bytes spell two messages, and the spelling of no message goes on to be the spelling of
+/// No bytes encode two messages, and the encoding of no message is a prefix of the encoding of
 /// another.
 pub fn spelled_once()
     ensures one_message { (bytes : List ℕ) (first second : Content)
@@ -87,14 +87,14 @@ pub fn reading_is_exact()
         → (reading code body ≡ Err why) ↔ IsFaultOf code body why }
 {}
 
-/// A message fits a code and a body exactly where the whole bytes with this code and this body
-/// spell it.
+/// A message fits a code and a body exactly if the whole bytes with this code and this body encode
+/// it.
 pub fn fits_where_spelled()
     ensures { (code : ℕ) (body : List ℕ) (said : Content) → code < 128 → IsCarried body
         → Fits said code body ↔ Spells said (message_bytes code body) }
 {}
 
-/// What is written for a message spells it.
+/// What is written for a message encodes it.
 pub fn spelling_spells()
     ensures { (said : Content) → IsMessage said → Spells said (spelling said) }
 {}

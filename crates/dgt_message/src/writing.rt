@@ -24,11 +24,11 @@ pub fn length(message: &Message<'_>) -> usize
     body_length(message) + 3
 }
 
-/// Writes the message to the front of `out`, and answers how many bytes it takes; the bytes past
-/// them stay as they are. `NoRoom` comes exactly where `out` is shorter than the message; it tells
+/// Writes the message at the beginning of `out`, and returns how many bytes it takes; the bytes
+/// after them stay as they are. `NoRoom` comes exactly if `out` is shorter than the message. It has
 /// the message's length, and `out` stays as it is.
 ///
-/// An acknowledgement has several spellings. The one that is written has the mark in byte 3 and in
+/// An acknowledgement has several encodings. The one that is written has the mark in byte 3 and in
 /// byte 6 of the whole, and D6 of both clear.
 pub fn encode(message: &Message<'_>, out: &mut [u8]) -> Result<usize, NoRoom>
     ensures written { WritesFront (spelling (content message.now)) out.old out.new result }

@@ -147,7 +147,7 @@ pub fn asked_bytes<'a>(alloc: Global, words: &[&'a str]) -> Result<Vec<u8>, BadA
     }
 }
 
-// Takes a word, appends the bytes of the command that it ends, and answers what comes next.
+// Takes a word, appends the bytes of the command that it ends, and returns what comes next.
 fn take<'a>(
     awaited: Awaited<'a>,
     word: &'a str,

@@ -23,9 +23,11 @@ pub enum Task<'a> {
     /// Show what the bytes of the input make known.
     Monitor,
     /// Show the pieces of the board for each message of the input that sets them. With `doubt` the
-    /// first fault since a message of all squares is shown too.
+    /// first fault since a message of all squares is shown too, and with `clock` each change of the
+    /// clock.
     Picture {
         doubt: bool,
+        clock: bool,
     },
     /// Show what the bytes of the input ask a board for.
     Commands,
@@ -65,7 +67,7 @@ fn position<'a>(alloc: Global) -> Arg<'a> {
         .help("The pieces, as in a FEN [default: as a game begins]")
 }
 
-// How many bytes a line holds, at least so many.
+// How many bytes a line holds, at least this number.
 fn line_bytes<'a>(alloc: Global, name: &'a str, least: i64, help: &'a str) -> Arg<'a> {
     Arg::new(alloc, name)
         .long(name)
@@ -104,10 +106,15 @@ fn picture<'a>(alloc: Global) -> Result<Command<'a>, AllocError> {
         .long("doubt")
         .action(ArgAction::SetTrue)
         .help("Reports when the pieces may be wrong, too");
+    let clock = Arg::new(alloc, "clock")
+        .long("clock")
+        .action(ArgAction::SetTrue)
+        .help("Shows the clock after each change, too");
     Command::new(alloc, "picture")
         .about("Shows the pieces of the board after each change on standard input")
         .after_help(PICTURE_NOTES)
-        .arg(doubt)
+        .arg(doubt)?
+        .arg(clock)
 }
 
 fn ask<'a>(alloc: Global) -> Result<Command<'a>, AllocError> {
@@ -145,13 +152,13 @@ fn simulate<'a>(alloc: Global) -> Result<Command<'a>, AllocError> {
             alloc,
             "up",
             MIN_UP as i64,
-            "The bytes that the line to the host holds, 67 to 65535",
+            "Room for bytes to the host, 67 to 65535",
         ))?
         .arg(line_bytes(
             alloc,
             "down",
             MIN_DOWN as i64,
-            "The bytes that the line to the board holds, 257 to 65535",
+            "Room for bytes to the board, 257 to 65535",
         ))?
         .arg(faults(alloc))
 }
@@ -211,6 +218,7 @@ fn task_named<'a>(name: &str, options: &ArgMatches<'a>) -> Option<Task<'a>> {
         "monitor" => Task::Monitor,
         "picture" => Task::Picture {
             doubt: options.get_flag("doubt"),
+            clock: options.get_flag("clock"),
         },
         "commands" => Task::Commands,
         "board" => Task::Board {

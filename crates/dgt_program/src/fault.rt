@@ -58,9 +58,9 @@ impl From<AllocFailed<String>> for Fault {
 }
 
 impl Fault {
-    /// Tells the fault to the user, and answers the exit status.
+    /// Reports the fault to the user, and returns the exit status.
     pub fn report<E: Write>(self, errors: &mut E) -> u8 {
-        // With no way left to tell it, the status alone tells.
+        // If standard error refuses it, only the status is left.
         let _ = match &self {
             Fault::CommandLine(error) => write!(errors, "{error}"),
             fault => writeln!(errors, "dgt: {fault}"),

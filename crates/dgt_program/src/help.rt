@@ -1,6 +1,6 @@
-//! What the help of the program and of its commands tells below the text of `clap`.
+//! What the help of the program and of its commands has after the text of `clap`.
 
-// The lines that tell what a board sends, between two texts.
+// The lines of what a board sends, between two texts.
 macro_rules! with_lines {
     ($before:literal, $after:literal) => {
         concat!(
@@ -33,13 +33,13 @@ or badpiece, badsquare or badreading and the place in the body, from 0 on.",
 
 /// What follows clap's own text in the help of the program.
 pub const PROGRAM_NOTES: &str = "\
-A DGT board is a chess board that tells over a serial line what stands on its
-squares, where a host, the program at the other end, asks it to by commands.
-'show' and 'monitor' tell in lines of text what the board's bytes mean, and
-'picture' which pieces stand on it then. 'ask' writes commands, and 'commands'
-tells in lines of text what a host's bytes ask for. 'board' takes the place of
-a board, to try a host on. 'simulate' has a board and a host on a line of bytes
-each way, and moves the bytes as a script tells it to.
+A DGT board is a chess board that reports over a serial line which piece stands
+on each square. A host, the program at the other side, asks it by commands.
+'show' and 'monitor' print what the board's bytes mean, a line each, and
+'picture' prints its position. 'ask' writes commands, and 'commands' prints what
+a host's bytes ask for. 'board' takes the place of a board, to try a host on.
+'simulate' has a board and a host on a line of bytes each way, and moves the
+bytes by a script.
 
 Examples:
   $ dgt show 8e00052401
@@ -50,10 +50,10 @@ The five bytes 8e 00 05 24 01 are one message: a white pawn now stands on e4.
   00000005 version 1.3
 A command asks a board for its version, and the answer is shown.
 
-A failure is told on standard error, and by the exit status. That nobody reads
-standard output any more is one: 'dgt: write failed', status 1.
+A failure is reported on standard error, and by the exit status. If nobody reads
+standard output any more, that is a failure: 'dgt: write failed', status 1.
 
-'dgt show --help' and so on tell the rest of each command.";
+'dgt show --help' and so on describe each command.";
 
 /// What follows clap's own text in the help of `show`.
 pub const SHOW_NOTES: &str = with_lines!(
@@ -85,9 +85,9 @@ as soon as they have come: the number of bytes up to there, then one of
 ",
     "
 
-Exit status: 0, with faults in the bytes too; 1 if standard input or output
-fails, or the end has not come after 4294967295 reads; 2 if the command line is
-wrong; 3 if memory runs out.
+Exit status: 0, with faults in the bytes too. It is 1 if standard input or
+output fails, or the end has not come after 4294967295 reads; 2 if the command
+line is wrong; 3 if memory runs out.
 
 Example:
   $ printf '\\x8e\\x00\\x05\\x24\\x01' | dgt monitor
@@ -109,10 +109,10 @@ squares. Ctrl-C ends it.
 pub const PICTURE_NOTES: &str = "\
 Reads the bytes that a board sends, from standard input up to its end. Writes
 one line to standard output for each message that sets the pieces of the board,
-as soon as it has come: the number of bytes up to there, then the pieces as the
-first field of a FEN tells them. That is the ranks from 8 down to 1 with /
-between them, in each the letters of its pieces (PRNBKQ white, prnbkq black, XYZ
-extra) and digits for so many empty squares.
+as soon as it has come. It is the number of bytes up to there, then the pieces
+as in the first field of a FEN: the ranks from 8 down to 1 with / between them.
+In each are the letters of its pieces (PRNBKQ white, prnbkq black, XYZ extra)
+and digits for runs of empty squares.
 
 A message of all squares, as 'dgt ask dump' asks for one, sets all pieces, and a
 message of one square that one. Until the first message of all squares came the
@@ -125,9 +125,17 @@ bytes up to there, then the word doubt. The pieces are in doubt up to the next
 message of all squares, and further faults before it have no line. Nor has a
 fault before the first one.
 
-Exit status: 0, with faults in the bytes too; 1 if standard input or output
-fails, or the end has not come after 4294967295 reads; 2 if the command line is
-wrong; 3 if memory runs out.
+With --clock a line follows each message of the clock, if its words differ from
+those before: the number of bytes up to there, and then the words. They begin
+with clock, the times of both sides as H:MM:SS, and running or stopped. The
+first time is taken for that of the left side. Then comes whose turn it is:
+white, black, or - if the clock names neither or both. The last word is low if
+its battery is low. If no clock is connected, the words are 'clock none'.
+'dgt ask updatenice' asks a board for its changes and its clock.
+
+Exit status: 0, with faults in the bytes too. It is 1 if standard input or
+output fails, or the end has not come after 4294967295 reads; 2 if the command
+line is wrong; 3 if memory runs out.
 
 Examples:
   $ dgt ask dump | dgt board | dgt picture
@@ -142,7 +150,12 @@ e2 is empty is lost:
   $ { dgt ask dump | dgt board; printf \"$bytes\"; } | dgt picture --doubt
   00000067 rnbqkbnr/pppppppp/8/8/8/8/PPPPPPPP/RNBQKBNR
   00000072 doubt
-  00000076 rnbqkbnr/pppppppp/8/8/4P3/8/PPPPPPPP/RNBQKBNR";
+  00000076 rnbqkbnr/pppppppp/8/8/4P3/8/PPPPPPPP/RNBQKBNR
+
+Example with the clock:
+  $ dgt ask dump clock clock | dgt board | dgt picture --clock
+  00000067 rnbqkbnr/pppppppp/8/8/8/8/PPPPPPPP/RNBQKBNR
+  00000077 clock 0:00:00 0:00:00 stopped -";
 
 /// What follows clap's own text in the help of `ask`.
 pub const ASK_NOTES: &str = "\
@@ -150,23 +163,23 @@ Writes the bytes of these commands, in their order and at once, to standard
 output, as to a board's serial port or to 'dgt board'.
 
 The words, and what they ask for:
-  reset             from now on no change is told
+  reset             no change is sent from now on
   clock             the clock's times
   dump              the pieces on all squares
-  update            from now on each change is told, of squares and of the clock
-  updateboard       from now on each change of squares is told
-  updatenice        as update, but the clock only where it changes
+  update            each change is sent from now on, of squares and the clock
+  updateboard       each change of squares is sent from now on
+  updatenice        as update, but the clock only if it changes
   serial            the serial number
   longserial        the long serial number
   trademark         the trademark
   battery           the state of the battery
   version           the version of the board
   follow            updateboard and dump: all that a picture needs
-  restart           255 zeros, which end any command that is half sent, and follow
+  restart           255 zeros, which end a command that is half sent, and follow
   beep N            the clock beeps for so long, 0 to 255
   end               the clock shows its times again
-  button            the clock's buttons are told
-  clockversion      the clock tells its version
+  button            the clock reports its buttons
+  clockversion      the clock reports its version
   display TEXT      the clock shows six digits, spaces or hyphens
   text TEXT         the clock shows eight ASCII characters
   icons HEX         the clock shows these icons, 252 bytes at most
@@ -180,7 +193,7 @@ The words, and what they ask for:
 A shorter TEXT gets spaces on its right. HEX is two hexadecimal digits a byte,
 and - stands for no bytes of icons, clockmessage or leds; ID is one byte. In the
 place of TEXT, display takes eight bytes and text nine, as 'dgt commands --help'
-tells. N has no sign and no leading zero.
+describes. N has no sign and no leading zero.
 
 Each word is an argument of its own. Or one argument is a command and all that
 follows it, with a space between its words: 'beep 3'. So each line of a command
@@ -189,8 +202,8 @@ commands in the file log again:
 
   dgt commands <log | cut -d' ' -f2- | xargs -rd '\\n' dgt ask
 
-Where a command begins, and in the place of all that follows one but the TEXT of
-text, --help and -h show this help.
+--help and -h show this help where a command begins, and in the place of all
+that follows one but the TEXT of text.
 
 Exit status: 0; 1 if standard output fails; 2 if the command line or a word is
 wrong, and then nothing is written; 3 if memory runs out.
@@ -206,8 +219,8 @@ Examples:
 pub const COMMANDS_NOTES: &str = "\
 Reads the bytes that a host sends to a board, from standard input up to its end.
 Writes one line to standard output for each command, and for each fault in the
-bytes, as soon as they have come: the number of bytes up to there, then the
-command in the words of 'dgt ask --help', or one of
+bytes, as soon as they have come. It is the number of bytes up to there, then
+the command in the words of 'dgt ask --help', or one of
 
   badsize                 2b and a size below 3
   badstart                2b, a size, and a byte that isn't 03
@@ -221,9 +234,9 @@ characters or with a beep is 'text' and its nine bytes: the characters and the
 beep. Bytes are hexadecimal, and - stands for no bytes. 'dgt ask' takes the
 lines of commands and of stray bytes, and writes the bytes again.
 
-Exit status: 0, with faults in the bytes too; 1 if standard input or output
-fails, or the end has not come after 4294967295 reads; 2 if the command line is
-wrong; 3 if memory runs out.
+Exit status: 0, with faults in the bytes too. It is 1 if standard input or
+output fails, or the end has not come after 4294967295 reads; 2 if the command
+line is wrong; 3 if memory runs out.
 
 Example:
   $ dgt ask follow beep 3 | dgt commands
@@ -236,9 +249,9 @@ macro_rules! with_placement {
     ($before:literal, $after:literal) => {
         concat!(
             $before,
-            "P tells the pieces as the first field of a FEN does: the ranks from 8 down to 1
-with / between them, in each the letters of its pieces (PRNBKQ white, prnbkq
-black, XYZ extra) and digits for so many empty squares. A game begins as
+            "P is the first field of a FEN: the ranks from 8 down to 1 with / between them.
+In each are the letters of its pieces (PRNBKQ white, prnbkq black, XYZ extra)
+and digits for runs of empty squares. A game begins as
 rnbqkbnr/pppppppp/8/8/8/8/PPPPPPPP/RNBQKBNR.",
             $after
         )
@@ -248,35 +261,35 @@ rnbqkbnr/pppppppp/8/8/8/8/PPPPPPPP/RNBQKBNR.",
 /// What follows clap's own text in the help of `board`.
 pub const BOARD_NOTES: &str = with_placement!(
     "\
-Takes the place of a board: reads the bytes of a host's commands from standard
-input, up to its end, and writes the bytes of its answers to standard output,
-each as soon as its command has come. 'dgt monitor' shows what they say.
+Takes the place of a board. It reads the bytes of a host's commands from
+standard input, up to its end. It writes the bytes of its answers to standard
+output, each as soon as its command has come. 'dgt monitor' shows what they say.
 
 The commands, in hexadecimal, and what they ask for:
-  40      reset: from now on no change is told
+  40      reset: no change is sent from now on
   41      the clock, which shows 0:00:00 for both players
   42      the pieces on all squares
-  43      from now on each change is told, of squares and of the clock, which
-          is told at once if it wasn't yet
-  44      from now on each change of squares is told
+  43      each change is sent from now on, of squares and of the clock, which
+          is sent at once if it wasn't yet
+  44      each change of squares is sent from now on
   45      the serial number, 00001
   47      the trademark, SIMULATED BOARD
-  4b      as 43, but a clock that is read again and shows the same isn't told
+  4b      as 43, but a clock that is read again and shows the same isn't sent
   4c      the state of the battery, the byte 64
   4d      the version, 1.3
   55      the long serial number, 0000000001
   2b ..   a message for the clock: size, 03, id, payload, 00. It is
-          acknowledged, with the version 1.4 of the clock where the id is 09
-  60 ..   lights: size, and so many bytes. They are passed over
+          acknowledged, with the version 1.4 of the clock if the id is 09
+  60 ..   lights: size, and as many bytes. They are passed over
 
 Any other byte is passed over. Nobody moves the pieces or runs the clock here,
-so there is no change to tell later.
+so there is no change to send later.
 
 ",
     "
 
-Exit status: 0 at the end of standard input, where an unfinished command has no
-answer; 1 if standard input or output fails, or the end has not come after
+Exit status: 0 at the end of standard input, and an unfinished command has no
+answer. It is 1 if standard input or output fails, or the end has not come after
 4294967295 reads; 2 if the command line or P is wrong; 3 if memory runs out.
 
 Examples:
@@ -288,7 +301,7 @@ Examples:
   $ dgt ask clockversion | dgt board | dgt monitor
   00000010 ack 10 09 14 00 00
 
-Example of a serial port, on which a host at its other end finds this board.
+Example of a serial port, on which a host at its other side finds this board.
 Ctrl-C ends it.
   $ stty -F /dev/ttyUSB0 9600 raw -echo
   $ dgt board <>/dev/ttyUSB0 >&0"
@@ -313,9 +326,9 @@ The acts:
                        there are fewer, or as many as until it owes 8 answers
   tohost N             N of the bytes sent there come to the host, or all if
                        there are fewer
-  break                the line is cut, and both ends know it: all bytes on
+  break                the line is cut, and both sides know it: all bytes on
                        their way are lost, the host forgets its picture, and
-                       the board tells no change until it is asked to again
+                       the board reports no change until it is asked to again
   hostbreak            the line is cut, and only the host knows it: all bytes
                        on their way are lost, and the host, which forgets its
                        picture, sends 255 zeros, 44 and 42 to begin anew
@@ -354,11 +367,11 @@ input, in four lines:
 ",
     "
 
-Exit status: 0 at the end of standard input; 1 if a line is no act, standard
-input or output fails, or the end has not come after 4294967295 reads; 2 if the
-command line or P is wrong; 3 if memory runs out. 'dgt: line 2: bad at 7' tells
-that the second line is no act, and that the first word that is wrong or missing
-would come after 7 bytes.
+Exit status: 0 at the end of standard input. It is 1 if a line is no act, if
+standard input or output fails, or if the end has not come after 4294967295
+reads. It is 2 if the command line or P is wrong, and 3 if memory runs out.
+'dgt: line 2: bad at 7' means that the second line is no act, and that the first
+word that is wrong or missing would come after 7 bytes.
 
 Example. The host asks for all squares and gets them, byte for byte:
   $ printf 'host 42\\ntoboard 1\\nsend\\ntohost 66\\ntohost 1\\n' | dgt simulate

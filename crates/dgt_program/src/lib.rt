@@ -1,9 +1,14 @@
 //! The program `dgt`, over any words, any reader and any writers.
 //!
-//! `run_words` of `program` does what the words ask for. It has `command_line` read them, with the
-//! texts of `help` and the commands by name of `asking`, takes the board or the world of
-//! `simulated`, and hands the streams to an engine of `dgt_text`, which reads and writes. `fault`
-//! has what can go wrong, the text and the exit status of each.
+//! | Module | What it does |
+//! |---|---|
+//! | `program` | `run_words` does what the words ask for |
+//! | `command_line`, `help` | reads the words, and has the texts of the help |
+//! | `asking` | the commands by name of `dgt ask` |
+//! | `simulated` | the board and the world of the program |
+//! | `fault` | what can go wrong, and the text and the exit status of each |
+//!
+//! The engines of `dgt_text` read and write.
 #![tactic(auto)]
 
 mod asking;

@@ -5,8 +5,8 @@ use crate::{command_line, simulated};
 use dgt_board::Board;
 use dgt_link::{World, WorldFault};
 use dgt_text::{
-    Bytes, Device, RunFault, commands, monitor, picture, picture_with_doubts, serve, simulate,
-    simulate_faults,
+    Bytes, Device, RunFault, commands, monitor, picture, picture_with_clock, picture_with_doubts,
+    picture_with_doubts_and_clock, serve, simulate, simulate_faults,
 };
 use dgt_values::Position;
 use hex::FromHexError;
@@ -46,8 +46,7 @@ fn run<I: Read + Drop, O: Write + Drop>(
         Task::Help(text) => Ok(write_help(&text, &mut output)?),
         Task::Show { word } => show(alloc, word, output),
         Task::Monitor => show_input(input, output),
-        Task::Picture { doubt: false } => show_picture(input, output),
-        Task::Picture { doubt: true } => show_picture_with_doubts(input, output),
+        Task::Picture { doubt, clock } => show_picture(doubt, clock, input, output),
         Task::Commands => show_commands(input, output),
         Task::Ask { bytes } => Ok(write_bytes(bytes.as_slice(), &mut output)?),
         Task::Board { placement } => answer(placement, input, output),
@@ -55,14 +54,8 @@ fn run<I: Read + Drop, O: Write + Drop>(
             placement,
             up,
             down,
-            faults: false,
-        } => play(alloc, placement, up, down, input, output),
-        Task::Simulate {
-            placement,
-            up,
-            down,
-            faults: true,
-        } => play_faults(alloc, placement, up, down, input, output),
+            faults,
+        } => play(alloc, placement, up, down, faults, input, output),
     }
 }
 
@@ -84,18 +77,20 @@ fn show_input<I: Read + Drop, O: Write + Drop>(input: I, output: O) -> Result<()
 }
 
 #[inline(never)]
-fn show_picture<I: Read + Drop, O: Write + Drop>(input: I, output: O) -> Result<(), Fault> {
-    let mut output = Device::new(output);
-    Ok(picture(&mut Device::new(input), &mut output, MOST_TURNS)?)
-}
-
-#[inline(never)]
-fn show_picture_with_doubts<I: Read + Drop, O: Write + Drop>(
+fn show_picture<I: Read + Drop, O: Write + Drop>(
+    doubt: bool,
+    clock: bool,
     input: I,
     output: O,
 ) -> Result<(), Fault> {
     let (mut input, mut output) = (Device::new(input), Device::new(output));
-    Ok(picture_with_doubts(&mut input, &mut output, MOST_TURNS)?)
+    let shown = match (doubt, clock) {
+        (false, false) => picture(&mut input, &mut output, MOST_TURNS),
+        (true, false) => picture_with_doubts(&mut input, &mut output, MOST_TURNS),
+        (false, true) => picture_with_clock(&mut input, &mut output, MOST_TURNS),
+        (true, true) => picture_with_doubts_and_clock(&mut input, &mut output, MOST_TURNS),
+    };
+    Ok(shown?)
 }
 
 #[inline(never)]
@@ -122,26 +117,17 @@ fn play<I: Read + Drop, O: Write + Drop>(
     placement: &str,
     up: u16,
     down: u16,
+    faults: bool,
     input: I,
     output: O,
 ) -> Result<(), Fault> {
     let position = Position::parse_placement(placement)?;
-    let mut world = new_world(alloc, position, up, down)?;
-    let (mut input, mut output) = (Device::new(input), Device::new(output));
-    Ok(simulate(&mut world, &mut input, &mut output, MOST_TURNS)?)
-}
-
-#[inline(never)]
-fn play_faults<I: Read + Drop, O: Write + Drop>(
-    alloc: Global,
-    placement: &str,
-    up: u16,
-    down: u16,
-    input: I,
-    output: O,
-) -> Result<(), Fault> {
-    let position = Position::parse_placement(placement)?;
-    play_at_fault(new_world(alloc, position, up, down)?, input, output)
+    let world = new_world(alloc, position, up, down)?;
+    if faults {
+        play_at_fault(world, input, output)
+    } else {
+        play_unharmed(world, input, output)
+    }
 }
 
 // The world is handed in, so that there is no room for both kinds of worlds on the stack while it
@@ -155,6 +141,16 @@ fn play_at_fault<I: Read + Drop, O: Write + Drop>(
     let mut world = world.at_fault();
     let (mut input, mut output) = (Device::new(input), Device::new(output));
     Ok(simulate_faults(&mut world, &mut input, &mut output, MOST_TURNS)?)
+}
+
+#[inline(never)]
+fn play_unharmed<I: Read + Drop, O: Write + Drop>(
+    mut world: World,
+    input: I,
+    output: O,
+) -> Result<(), Fault> {
+    let (mut input, mut output) = (Device::new(input), Device::new(output));
+    Ok(simulate(&mut world, &mut input, &mut output, MOST_TURNS)?)
 }
 
 fn decode(alloc: Global, word: &str) -> Result<Vec<u8>, Fault> {

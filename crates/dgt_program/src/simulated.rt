@@ -1,4 +1,4 @@
-//! What the board of the program tells of itself, and of its clock.
+//! What the board of the program reports of itself, and of its clock.
 ghost use Rattle.std.specs.Prelude.{◌≡◌, [], ◌∷◌, codes};
 ghost use Rattle.dgt_message.specs.Clock.{times_of, ClockState, time_of};
 ghost use Rattle.dgt_message.specs.Content.{clock_seen};

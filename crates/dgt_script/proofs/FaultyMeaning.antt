@@ -92,7 +92,7 @@ asked_faulty_kinds named rest act h =
     subst (λ v. AreOf (faulty_kinds v) rest) (sym same.0)
     (subst (λ l. AreOf (faulty_kinds (faulty_verb_of act)) l) (sym same.1) p.2)
 
--- the words behind a verb ask for an act exactly if they are of the kinds that follow it
+-- the words after a verb ask for an act exactly if they are of the kinds that follow it
 pub faulty_kinds_are_asked_for : (named : FaultyVerb) (rest : List (List ℕ))
     → AreOf (faulty_kinds named) rest ↔ ((act : FaultyContent) × AsksFaulty (faulty_text named ∷ rest) act)
 faulty_kinds_are_asked_for named rest = (faulty_kinds_ask named rest, λ h. asked_faulty_kinds named rest h.0 h.1)

@@ -10,7 +10,7 @@ use Rattle.dgt_script.specs.Script.{AreOf, Asks, GoesWrong, AsksFor, IsBadAt, Is
 use Rattle.dgt_script.specs.ScriptWords.{verb_text, IsClockWord, IsCommandWord, IsCountWord, IsPieceWord, IsSquareWord}
 use Rattle.dgt_script.proofs.ScriptWordLemmas.{IsRead, one_clock, one_command, one_count, one_piece, one_square}
 
--- ---- Words behind the first one
+-- ---- Words after the first one
 
 allowed_not_wrong : (kinds : List WordKind) (parts bad : List (List ℕ)) → AreOf kinds parts → GoesWrong kinds parts bad
     → ⊥
@@ -123,14 +123,14 @@ asked_kinds named rest act h =
     subst (λ v. AreOf (kinds_after v) rest) (sym same.0)
     (subst (λ l. AreOf (kinds_after (verb_of act)) l) (sym same.1) p.2)
 
--- the words behind a verb ask for an act exactly where they are of the kinds that follow it
+-- the words after a verb ask for an act exactly if they are of the kinds that follow it
 pub kinds_are_asked_for : (named : Verb) (rest : List (List ℕ))
     → AreOf (kinds_after named) rest ↔ ((act : ActContent) × Asks (verb_text named ∷ rest) act)
 kinds_are_asked_for named rest = (kinds_ask named rest, λ h. asked_kinds named rest h.0 h.1)
 
 -- ---- Lines
 
--- behind one first word, one word
+-- after one first word, one word
 pub same_word : (parts : List (List ℕ)) (first a b : List ℕ) → parts ≡ first ∷ a ∷ [] → parts ≡ first ∷ b ∷ [] → a ≡ b
 same_word parts first a b h k = let both : first ∷ a ∷ [] ≡ first ∷ b ∷ [] = sym h ∙ k in cc both
 

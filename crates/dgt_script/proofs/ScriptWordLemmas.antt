@@ -1,4 +1,4 @@
--- The words of a script line: each one tells one value at most, and what a reader of them relies on.
+-- The words of a script line: each one has one value at most, and what a reader of them relies on.
 use Rattle.std.proofs.Common.{◌≡◌, ℕ, zero, ◌+◌, ◌-◌, ◌/◌, ◌%◌, ◌<◌, ◌≤◌, true, false, List, [], ◌∷◌, length, get_or, Option, Some, None, Result, Ok, Err, is_ok, refl, sym, ap, ◌∙◌, arith, length-append}
 use Rattle.std.proofs.lemmas.Fmt.{IsAscii-decimal, decimal-digits_value, decimal_digit, decimal_injective, decimal_nonempty, digits_decimal, first_decimal, parse-decimal}
 use Rattle.std.proofs.lemmas.Str.{IsUtf8-from_ascii}
@@ -63,7 +63,7 @@ square_is_text word square h =
     (IsAscii-cons (97 + square % 8) ((56 - square / 8) ∷ []) (omega arith)
     (IsAscii-cons (56 - square / 8) [] (omega arith) IsAscii-nil)))
 
--- a word tells one square at most
+-- a word names one square at most
 pub one_square : (word : List ℕ) (a b : ℕ) → IsSquareWord word a → IsSquareWord word b → a ≡ b
 one_square word a b h k =
     let file : 97 + a % 8 ≡ 97 + b % 8 = ap (λ w. slice_index w 0) (sym h.1 ∙ k.1) in
@@ -110,25 +110,25 @@ piece_of-piece_letter FirstExtra = refl
 piece_of-piece_letter SecondExtra = refl
 piece_of-piece_letter ThirdExtra = refl
 
--- a word tells one piece at most
+-- a word names one piece at most
 pub one_piece : (word : List ℕ) (a b : Piece) → IsPieceWord word a → IsPieceWord word b → a ≡ b
 one_piece word a b h k = sym (piece_of-piece_letter a) ∙ ap (λ w. piece_of (slice_index w 0))
     (sym h ∙ k) ∙ piece_of-piece_letter b
 
 -- ---- Hexadecimal digits
 
--- what is decoded into room of some size is what the digits spell
+-- what is decoded into room of some size is what the digits encode
 pub sized_hex : (word : List ℕ) (n : ℕ) (bytes : List ℕ) → decode_sized word n ≡ Ok bytes → IsHexOf word bytes
 sized_hex word n bytes h = sym (decode_sized-twice word n (decode_sized-ok word n bytes h)) ∙ h
 
--- the digits of so many bytes are decoded into room of that size
+-- the digits of this many bytes are decoded into room of that size
 pub hex_sized : (word : List ℕ) (n : ℕ) (bytes : List ℕ) → IsHexOf word bytes → length bytes ≡ n
     → decode_sized word n ≡ Ok bytes
 hex_sized word n bytes h e = decode_sized-twice word n (omega (arith, (decode_of-ok word bytes h).2)) ∙ h
 
 -- ---- Clocks
 
--- a message tells of one clock at most
+-- a message reports one clock at most
 pub same_clock : (a b : ClockState) → clock_message a ≡ clock_message b → a ≡ b
 same_clock (ClockState.times a) (ClockState.times b) h = cc h
 same_clock (ClockState.no_clock a) (ClockState.no_clock b) h = cc h
@@ -221,7 +221,7 @@ clock_not_faulty exact refused word bytes clock why e h r =
     sym read.1 ∙ (refused (known_number KnownCode.Clock) bytes why (omega arith) read.0).1 r in
     cc both
 
--- what a message of these bytes tells of the clock is what the word tells
+-- what a message of these bytes reports of the clock is what the word says
 pub clock_told : IsRead → (word bytes : List ℕ) (said : Content) (r : Option Clock) → decode_sized word 7 ≡ Ok bytes
     → Fits said (known_number KnownCode.Clock) bytes
     → MatchOption r ((clock : ClockState) → ¬ (TellsClock said clock)) (λ clock. TellsClock said (clock_seen clock))
@@ -231,7 +231,7 @@ clock_told exact word bytes said None e f m =
 clock_told exact word bytes said (Some clock) e f m =
     record { body = bytes; digits = sized_hex word 7 bytes e; fits = rw m f }
 
--- a word tells one clock at most
+-- a word says one clock at most
 pub one_clock : IsRead → (word : List ℕ) (a b : ClockState) → IsClockWord word a → IsClockWord word b → a ≡ b
 one_clock exact word a b h k =
     same_clock a b
@@ -246,7 +246,7 @@ pub length-command : WordsAreShort → (command : CommandContent) (bytes : List 
 length-command short command bytes h =
     (short (Read command) bytes (record { form = h.spelled; are_bytes = h.are_bytes })).1
 
--- a word tells one command at most
+-- a word says one command at most
 pub one_command : SpellingsTellCommands → (word : List ℕ) (a b : CommandContent) → IsCommandWord word a
     → IsCommandWord word b → a ≡ b
 one_command tells word a b h k =
@@ -255,7 +255,7 @@ one_command tells word a b h k =
 
 -- ---- Counts
 
--- a word tells one count at most
+-- a word says one count at most
 pub one_count : (word : List ℕ) (m n : ℕ) → IsCountWord word m → IsCountWord word n → m ≡ n
 one_count word m n h k = decimal_injective m n (omega arith) (omega arith) (sym h.2 ∙ k.2)
 

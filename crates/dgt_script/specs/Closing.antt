@@ -48,7 +48,7 @@ closing_lines world quiet =
 
 -- ---- what holds of them
 
--- Where the host's picture is the board's position, the lines of board and host, which come first,
+-- If the host's picture is the board's position, the lines of board and host, which come first,
 -- have one and the same placement.
 abbrev pub ClosingLinesAgree : Type 0
 ClosingLinesAgree =

@@ -41,7 +41,7 @@ AsksFor line act = (length line ≤ 519) × Asks (words line) act
 
 -- ---- Lines that are not
 
--- what a word behind the first one may be
+-- what a word after the first one may be
 pub data WordKind : Type 0 where
   a_square : WordKind
   a_letter : WordKind
@@ -77,9 +77,8 @@ AreOf [] (word ∷ parts) = ⊥
 AreOf (kind ∷ kinds) [] = ⊥
 AreOf (kind ∷ kinds) (word ∷ parts) = IsOf kind word × AreOf kinds parts
 
--- words that should be of these kinds go wrong where `bad` begins: at the first that is of another
--- kind or one too
--- many, or behind the last, where one is missing
+-- Words that should be of these kinds go wrong where `bad` begins: at the first that is of another
+-- kind or one too many, or after the last, if one is missing.
 abbrev pub GoesWrong : List WordKind → List (List ℕ) → List (List ℕ) → Type 0
 GoesWrong [] [] bad = ⊥
 GoesWrong [] (word ∷ parts) bad = bad ≡ word ∷ parts
@@ -108,6 +107,6 @@ IsBadIn text_of kinds_of line at =
 abbrev pub IsBadAt : List ℕ → ℕ → Type 0
 IsBadAt line at = IsBadIn verb_text kinds_after line at
 
--- the offset that is told
+-- the offset that is reported
 abbrev pub bad_offset : LineFault → ℕ
 bad_offset (BadLine at) = at

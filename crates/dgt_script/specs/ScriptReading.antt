@@ -13,17 +13,17 @@ use Rattle.dgt_script.specs.Script.{Asks, GoesWrong, IsBadFrom, WordKind, a_coun
 use Rattle.dgt_script.specs.FaultyScript.{AsksFaulty, faulty_kinds, faulty_text}
 use Rattle.dgt_script.specs.ScriptWords.{verb_text, IsBytesWord, IsCountWord}
 
--- the words that are left, where this is what stands behind the last space
+-- the words that are left, if this is what stands after the last space
 abbrev pub left_words : Option (Bor (List ℕ)) → List (List ℕ)
 left_words None = []
 left_words (Some bytes) = words bytes.now
 
--- words that should be of these kinds go wrong where so many bytes are left
+-- words that should be of these kinds go wrong with this many bytes left
 abbrev pub GoesWrongBefore : List WordKind → List (List ℕ) → Wrong → Type 0
 GoesWrongBefore kinds parts wrong = (bad : List (List ℕ)) × GoesWrong kinds parts bad
     × (wrong.left ≡ length (words_text bad))
 
--- the answer to the words behind the first one
+-- the answer to the words after the first one
 abbrev pub ReadsBehind : Verb → List (List ℕ) → Result Act Wrong → Type 0
 ReadsBehind verb parts answer =
     MatchResult answer (λ act. Asks (verb_text verb ∷ parts) (act_content act))
@@ -46,7 +46,7 @@ ReadsBytes parts answer =
     MatchResult answer (λ bytes. (word : List ℕ) × (parts ≡ word ∷ []) × IsBytesWord word bytes.now)
     (λ wrong. GoesWrongBefore (some_bytes ∷ []) parts wrong)
 
--- the words of a line go wrong where so many bytes are left
+-- the words of a line go wrong with this many bytes left
 abbrev pub IsBadBefore : {V : Type 0} → (V → List ℕ) → (V → List WordKind) → List (List ℕ) → Wrong
     → Type 0
 IsBadBefore text_of kinds_of parts wrong =

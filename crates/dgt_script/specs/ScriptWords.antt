@@ -26,7 +26,7 @@ verb_text verb.ToHost = codes "tohost"
 verb_text verb.Break = codes "break"
 verb_text verb.HostBreak = codes "hostbreak"
 
--- ---- The words behind it
+-- ---- The words after it
 
 -- the name of the square
 abbrev pub IsSquareWord : List ℕ → ℕ → Type 0
@@ -40,11 +40,11 @@ IsPieceWord word piece = word ≡ piece_letter piece ∷ []
 abbrev pub IsHexOf : List ℕ → List ℕ → Type 0
 IsHexOf word bytes = decode_of word ≡ Ok bytes
 
--- the message tells of this clock
+-- the message reports this clock
 abbrev pub TellsClock : Content → ClockState → Type 0
 TellsClock said clock = clock_message clock ≡ said
 
--- hexadecimal digits of the body of the message that tells of the clock
+-- hexadecimal digits of the body of the message that reports the clock
 pub record IsClockWord (word : List ℕ) (clock : ClockState) : Type 0 where
   pub body : List ℕ
   pub digits : IsHexOf word body

@@ -65,8 +65,8 @@ pub fn kinds_are_asked_for()
         ↔ ((act : FaultyContent) × AsksFaulty (faulty_text verb ∷ rest) act) }
 {}
 
-/// Where the host's picture is the board's position, the closing lines of board and host, which
-/// come first, have one and the same placement.
+/// If the host's picture is the board's position, the closing lines of board and host, which come
+/// first, have one and the same placement.
 pub fn closing_lines_agree()
     ensures { ClosingLinesAgree }
 {}

@@ -1,14 +1,15 @@
 //! The lines of a script for a simulated DGT board, and the lines that say what came of it.
 //!
-//! [`read_act`] reads a line of a script, as `change e4 P`: what it asks a world to do.
-//! [`read_faulty_act`] also reads what may go wrong in a world with faults, as `garbleup 8000`.
-//! [`LineBuffer`] keeps a line that comes in pieces, and [`len_before`] finds where it ends.
+//! | To | Use |
+//! |---|---|
+//! | read a line, as `change e4 P` | [`read_act`] |
+//! | read a line of a world with faults, as `garbleup 8000` | [`read_faulty_act`] |
+//! | keep a line that comes in chunks | [`LineBuffer`], and [`len_before`] finds its end |
+//! | write what came of an act | [`outcome_text`] |
+//! | write how a world is left, in four lines | [`write_closing`] |
 //!
-//! [`outcome_text`] is the line of what came of an act, and [`write_closing`] writes four lines of
-//! how a world is left.
-//!
-//! The formats are this project's own choice. No call takes memory. [`laws`] says what holds of
-//! lines as such.
+//! The formats are this project's own choice. No call takes memory. [`laws`] has the facts about
+//! lines as such, and `specs/Script.antt` the definitions that contracts cite.
 #![tactic(auto)]
 
 mod closing;

@@ -19,9 +19,9 @@ use thiserror::Error;
 /// Why a line of a script asks for no act.
 #[derive(Clone, Copy, Debug, PartialEq, Eq, Error)]
 pub enum LineFault {
-    /// Byte `at` begins the first word that is not allowed in its place or is one too many; or a
-    /// word is missing, and `at` is the length of the line; or the line has more than 519 bytes,
-    /// and `at` is 519.
+    /// Byte `at` begins the first word that is not allowed in its place or is one too many. If a
+    /// word is missing, `at` is the length of the line. If the line has more than 519 bytes, `at`
+    /// is 519.
     #[error("bad at {at}")]
     BadLine { at: usize },
 }
@@ -105,7 +105,7 @@ pub(crate) fn read_rest<'a>(
     }
 }
 
-// Below, `rest` is what stands behind the first word and its space.
+// Below, `rest` is what stands after the first word and its space.
 fn change_line(rest: Option<&[u8]>) -> Result<Act<'static>, Wrong>
     ensures { ReadsBehind verb.Change (left_words rest.entry) result }
 {
@@ -154,7 +154,7 @@ fn count_line(rest: Option<&[u8]>) -> Result<usize, Wrong>
     Ok(count)
 }
 
-/// The next word, and what stands after the space behind it.
+/// The next word, and what stands after the space that ends it.
 pub(crate) fn next_word<'a>(rest: Option<&'a [u8]>) -> Result<(&'a [u8], Option<&'a [u8]>), Wrong>
     ensures { MatchResult result
         (λ cut. left_words rest.entry ≡ cut.0.now ∷ left_words cut.1)
@@ -188,7 +188,7 @@ pub(crate) fn wrong_from(rest: Option<&[u8]>) -> Wrong
     }
 }
 
-/// The first word, and what stands after the space behind it.
+/// The first word, and what stands after the space that ends it.
 pub(crate) fn cut_word(line: &[u8]) -> (&[u8], Option<&[u8]>)
     ensures { words line.now ≡ result.0.now ∷ left_words result.1 }
 {

@@ -137,8 +137,8 @@ pub(crate) fn piece_word(word: &[u8]) -> Option<Piece>
     Piece::from_letter(char::from(*letter)).ok()
 }
 
-/// The clock that fourteen hexadecimal digits of either case tell of: the seven bytes of the body
-/// of a message of the times, or of one that no clock is connected.
+/// The clock of fourteen hexadecimal digits of either case: the seven bytes of the body of a
+/// message of the times, or of one that no clock is connected.
 pub(crate) fn clock_word(word: &[u8]) -> Option<Clock>
     ensures { MatchOption result
         ((clock : ClockState) → ¬ (IsClockWord word.now clock))
@@ -150,7 +150,7 @@ pub(crate) fn clock_word(word: &[u8]) -> Option<Clock>
     clock_of(view(code, Body::new(&bytes).ok()?).ok()?)
 }
 
-// The clock that a message tells of.
+// The clock that a message reports.
 fn clock_of(message: Message<'_>) -> Option<Clock>
     ensures { MatchOption result
         ((clock : ClockState) → ¬ (TellsClock (content message.entry) clock))

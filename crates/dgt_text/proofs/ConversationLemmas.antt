@@ -69,7 +69,7 @@ front_whole old new s steps p = record { front = s; rest = []; whole = sym (appe
 
 -- ---- one step
 
--- a message is told
+-- a message is reported
 pub converses-told : (old mid new : BoardState) (steps : List Exchange) (message : Content) → Converses old steps mid
     → next_message mid ≡ Some message → new ≡ after_sending mid message
     → Converses old (steps ++ told message ∷ []) new
@@ -127,7 +127,7 @@ abbrev Lowers : Type 0
 Lowers = (board : BoardState) (message : Content) → length board.told_squares ≡ 64 → next_message board ≡ Some message
     → left_to_send (after_sending board message) < left_to_send board
 
--- a board hears these events and tells all that there is to tell
+-- a board hears these events and reports all that there is to report
 record GoesOn (board : BoardState) (events : List EventContent) : Type 0 where
   pub steps : List Exchange
   pub after : BoardState
@@ -204,7 +204,7 @@ one_more : (step another : Exchange) (steps others : List Exchange) (between aft
 one_more step another steps others between after same rest =
     (rest.0, ap (λ (s : Exchange). s ∷ others) same ∙ ap (λ (l : List Exchange). step ∷ l) rest.1, rest.2)
 
--- a conversation that ends with nothing to tell goes on from each that hears the first of its events
+-- a conversation that ends with nothing to report goes on from each that hears the first of its events
 follows : (board between after : BoardState) (steps others : List Exchange) (events : List EventContent)
     → Converses board steps between → Converses board others after → next_message after ≡ None
     → events_heard others ≡ events_heard steps ++ events → Continues steps others between after

@@ -1,3 +1,4 @@
+pub mod Printed
 pub mod Heard
 pub mod Pictured
 pub mod TurnLemmas

@@ -37,7 +37,7 @@ piece_rest piece i n = rw (← piece_more piece i n) (take-append-drop (i + n) p
 
 -- ---- calls of the board
 
--- a message that was sent into the front of a slice
+-- a message that was sent into the beginning of a slice
 pub record HasSent (before after : BoardView) (count : ℕ) (out : List ℕ) : Type 0 where
   pub message : Content
   pub next : next_message before.state ≡ Some message
@@ -85,7 +85,7 @@ hears_none content before after piece used (Some e) none part is = absurd (cc)
 
 -- ---- what was written
 
--- all but the last step was written, and a front of what that told
+-- all but the last step was written, and a front of what that reported
 pub almost_told : (before last : List Exchange) (front rest : List ℕ) → length last ≤ 1
     → bytes_told last ≡ front ++ rest → IsAlmostTold (before ++ last) (bytes_told before ++ front)
 almost_told before last front rest one is =
@@ -178,7 +178,7 @@ module _ {S : Type 0} (W : Sink S) where
 
   -- ---- bytes in a row
 
-  -- steps that tell nothing, and what follows them
+  -- steps that report nothing, and what follows them
   pub served_then : InARow W → DivisionsAppend → (old mid between new : BoardView) (a b c : S) (s t : List ℕ)
       (steps : List Exchange) → Served W old mid a b s → Hears mid t steps between → bytes_told steps ≡ []
       → Served W between new b c [] → Served W old new a c (s ++ t)

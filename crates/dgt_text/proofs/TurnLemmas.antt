@@ -7,8 +7,8 @@ use Rattle.dgt_lines.specs.declared.ends.Source.{Ghosts as Source}
 use Rattle.dgt_lines.specs.declared.ends.Sink.{Ghosts as Sink}
 use Rattle.dgt_lines.specs.Writing.{Wrote}
 
--- so many of at most `limit` reads succeeded and gave these bytes, and none told the end; where nothing waited for a
--- flush, nothing does
+-- `taken` of at most `limit` reads succeeded and gave these bytes, and none gave the end. If nothing waited for a
+-- flush, nothing does.
 pub record BetweenReads {S T : Type 0} (R : Source S) (W : Sink T) (source source' : S) (sink sink' : T)
     (taken limit : ℕ) : Type 0 where
   pub bytes : List ℕ

@@ -1,4 +1,4 @@
--- What a board tells and hears, step by step.
+-- What a board reports and hears, step by step.
 use Rattle.std.specs.Prelude.{◌≡◌, ℕ, List, [], ◌∷◌, ◌++◌, Some, None}
 use Rattle.dgt_message.specs.Content.{Content}
 use Rattle.dgt_message.specs.Spelling.{spelling}
@@ -14,8 +14,8 @@ pub data Exchange : Type 0 where
   told : (message : Content) → Exchange
   heard : (event : EventContent) → Exchange
 
--- Steps that lead from one board to another. A message that is told is the next one, and an event
--- is heard only where nothing is left to tell.
+-- Steps that lead from one board to another. A message that is sent is the next one, and an event
+-- is heard only if nothing is left to send.
 abbrev pub Converses : BoardState → List Exchange → BoardState → Type 0
 Converses before [] after = before ≡ after
 Converses before (told message ∷ steps) after =
@@ -29,19 +29,19 @@ events_heard [] = []
 events_heard (told message ∷ steps) = events_heard steps
 events_heard (heard event ∷ steps) = event ∷ events_heard steps
 
--- the spellings told, in a row
+-- the encodings reported, in a row
 abbrev pub bytes_told : List Exchange → List ℕ
 bytes_told [] = []
 bytes_told (told message ∷ steps) = spelling message ++ bytes_told steps
 bytes_told (heard event ∷ steps) = bytes_told steps
 
--- in these steps the board hears these bytes, behind its unfinished command
+-- in these steps the board hears these bytes, after its unfinished command
 pub record Hears (before : BoardView) (bytes : List ℕ) (steps : List Exchange)
     (after : BoardView) : Type 0 where
   pub conversation : Converses before.state steps after.state
   pub heard : Divides (before.partial ++ bytes) (events_heard steps) after.partial
 
--- it hears them, and has told all that there is to tell
+-- it hears them, and has reported all that there is to report
 pub record Answers (before : BoardView) (bytes : List ℕ) (steps : List Exchange)
     (after : BoardView) : Type 0 where
   pub hears : Hears before bytes steps after

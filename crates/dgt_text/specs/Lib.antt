@@ -6,3 +6,5 @@ pub mod Commanding
 pub mod Conversation
 pub mod Serving
 pub mod Simulating
+-- for bodies alone
+pub mod Printing

@@ -10,12 +10,12 @@ use Rattle.dgt_text.specs.Turns.{Change}
 use Rattle.dgt_lines.specs.Writing.{Wrote}
 use Rattle.dgt_lines.specs.declared.ends.Sink.{Ghosts as Sink}
 
--- the board answered the bytes, and all that it told was written
+-- the board answered the bytes, and all that it reported was written
 abbrev pub IsAnswered : BoardView → BoardView → List ℕ → List ℕ → Type 0
 IsAnswered before after bytes out =
     (steps : List Exchange) × Answers before bytes steps after × (out ≡ bytes_told steps)
 
--- All that was told was written, but for the message told last, of which a front may be written.
+-- All that was sent was written, except for the last message, of which a prefix may be written.
 pub record IsAlmostTold (steps : List Exchange) (out : List ℕ) : Type 0 where
   pub before : List Exchange
   pub last : List Exchange
@@ -42,7 +42,7 @@ IsServed (Err (BadLine _ _)) before after bytes out = ⊥
 
 -- ---- a call that hands the board some bytes
 
--- the board answered them, and the sink took what it told
+-- the board answered them, and the sink took what it reported
 pub record Served {S : Type 0} (W : Sink S) (before after : BoardView) (old new : S)
     (bytes : List ℕ) : Type 0 where
   pub steps : List Exchange

@@ -28,7 +28,7 @@ abbrev pub all_lines : List (List ℕ) → List ℕ → List (List ℕ)
 all_lines lines [] = lines
 all_lines lines (byte ∷ rest) = lines ++ (byte ∷ rest) ∷ []
 
--- the script begins with these lines: each has its line feed, or the source has told the end and
+-- the script begins with these lines: each has its line feed, or the source has given the end and
 -- they are all
 abbrev pub BeginsWith : Bool → List ℕ → List (List ℕ) → Type 0
 BeginsWith at_end bytes lines =
@@ -118,7 +118,7 @@ PlaysWhole rules p out =
     × Plays rules p.world lines out p.last
 
 -- what stands in the sink for this part, and which world is left, where the answer is this and
--- `at_end` says whether the source has told the end
+-- `at_end` says whether the source has given the end
 abbrev pub IsSimulatedFrom : {A : Type 0} → Rules → Bool → Part → Result A RunFault → List ℕ
     → Type 0
 -- all lines were played, and the closing lines are those of the world that is left

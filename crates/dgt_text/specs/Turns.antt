@@ -22,7 +22,7 @@ Ran R W source sink P =
     (bytes : List ℕ) × (out : List ℕ) × Consumes (R.left source.old) (R.left source.new) bytes
     × Appends (W.written sink.old) (W.written sink.new) out × P bytes out
 
--- a run of at most so many turns was given these bytes: after its last turn it had one in each
+-- a run of at most this many turns was given these bytes: after its last turn it had one in each
 abbrev pub HasTurns : {A : Type 0} → ℕ → Result A RunFault → List ℕ → Type 0
 HasTurns limit (Err TooManyTurns) bytes = limit ≤ length bytes
 HasTurns limit _ bytes = ⊤
@@ -45,20 +45,20 @@ sink_mark_after _ before = before
 -- a run of at most `limit` turns, of which each is one read, ended with this answer
 pub record RunsInTurns {S T A : Type 0} (R : Source S) (W : Sink T) (source : Change S)
     (sink : Change T) (limit : ℕ) (r : Result A RunFault) : Type 0 where
-  -- Ok comes where nothing is left to read
+  -- Ok comes if nothing is left to read
   pub all_read : OnOk r (IsAtEnd (R.left source.new))
   -- the source has failed where the answer says so, and else its mark is as before
   pub source_failed : R.failed source.new ≡ source_mark_after r (R.failed source.old)
   -- and so it is of the sink
   pub sink_failed : W.failed sink.new ≡ sink_mark_after r (W.failed sink.old)
-  -- no read comes after one that was refused or told the end
+  -- no read comes after one that was refused or reported the end
   pub source_in_time : R.failed source.old ≡ false → R.ended source.old ≡ false
       → R.late source.new ≡ R.late source.old
   -- no write or flush comes after one that was refused
   pub sink_in_time : W.failed sink.old ≡ false → W.late sink.new ≡ W.late sink.old
-  -- Ok comes after a read that told the end
+  -- Ok comes after a read that reported the end
   pub ended : OnOk r (IsTrue (R.ended source.new))
-  -- TooManyTurns comes where no read told it
+  -- TooManyTurns comes if no read reported it
   pub not_ended : r ≡ Err TooManyTurns → R.ended source.new ≡ R.ended source.old
   -- there are at most `limit` reads
   pub turns : R.reads source.old + limit < 2 ^ 64

@@ -7,11 +7,14 @@ ghost use Rattle.dgt_text.specs.Conversation.{EachFrontGoesOn, EachIsAnswered, E
 ghost use Rattle.dgt_script.specs.ScriptLines.{IsCut};
 ghost use Rattle.dgt_text.specs.Simulating.{Plays, faulty_rules, plain_rules};
 
-pub use dgt_lines::laws::{doubts_leave_pictures, first_faults_are_reported, last_line_is_picture};
+pub use dgt_lines::laws::{
+    clock_leaves_reports, doubts_leave_pictures, first_faults_are_reported,
+    last_clock_is_the_hosts, last_line_is_picture, other_clocks_are_reported,
+};
 pub use dgt_script::laws::{closing_lines_agree, lines_have_one_meaning};
 
-/// One conversation: a board and the bytes that it hears have one, and only one, and whatever the
-/// board tells and hears while it hears a front of the bytes is the front of it.
+/// One conversation: a board and the bytes that it hears have one, and only one. Whatever the board
+/// sends and hears while it hears a prefix of the bytes is a prefix of it.
 pub fn one_conversation()
     ensures answered { EachIsAnswered }
     ensures once { EachIsAnsweredOnce }

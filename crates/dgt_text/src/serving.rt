@@ -54,11 +54,11 @@ fn answer<W: Sink>(board: &mut Board, piece: &[u8], writer: &mut W) -> Result<()
 /// answered and flushed before the next read. An unfinished command at the end has no answer, and
 /// stays in the board.
 ///
-/// - `ReadFailed` comes where the reader refuses, and `TooManyTurns` where `limit` reads succeeded
-///   and none told the end. All answers to what was read are written then.
-/// - `WriteFailed` comes where the writer refuses. All that the board sent is written then, but for
-///   its last message, of which the writer may have a front; it gets nothing more. The board has
-///   taken a front of what was read.
+/// - `ReadFailed` comes if the reader refuses, and `TooManyTurns` if `limit` reads succeeded and
+///   none reported the end. All answers to what was read are written then.
+/// - `WriteFailed` comes if the writer refuses. All that the board sent is written then, but for
+///   its last message, of which the writer may have a prefix. It gets nothing more. The board has
+///   taken a prefix of what was read.
 pub fn serve<R: Source, W: Sink>(
     board: &mut Board,
     reader: &mut R,

@@ -1,5 +1,6 @@
 //! The lines of a command and of a fault. `checks/rows` has the others.
 
+use crate::asserting::assert_same;
 use dgt_command::{Command, CommandEvent};
 use dgt_command_lines::write_command;
 use dgt_lines::Device;
@@ -11,9 +12,7 @@ fn says_a_command_and_a_fault(rt: HostRuntime) -> Result<(), Fail> {
     let mut device = Device::new(&mut taken);
     write_command(&mut device, 12, &CommandEvent::Command(Command::Dump))?;
     write_command(&mut device, 2, &CommandEvent::Stray(0xf6))?;
-    assert_eq!(rt;
-        taken.as_slice(),
-        b"00000012 dump\n00000002 stray f6\n".as_slice()
-    );
+    let lines = b"00000012 dump\n00000002 stray f6\n".as_slice();
+    assert_same(&rt, taken.as_slice(), lines);
     Ok(())
 }

@@ -46,7 +46,7 @@ apart_around (first ∷ []) byte after h other k = (λ a b. other b, (λ a b. ot
 apart_around (first ∷ second ∷ before) byte after h other k =
     (h.0, apart_around (second ∷ before) byte after h.1 other k)
 
--- the front of a text whose digits stand apart
+-- the beginning of a text whose digits stand apart
 pub apart_before : (before after : List ℕ) → Apart (before ++ after) → Apart before
 apart_before [] after h = tt
 apart_before (byte ∷ []) after h = (λ a b. b, tt)

@@ -48,7 +48,7 @@ square_same a b n h k =
       λ differs same. differs (own ∙ ap Some same ∙ sym others),
     )
 
--- the mask of the codes of two positions tells the squares that differ
+-- the mask of the codes of two positions reports the squares that differ
 pub mask_tells : (a b : List Piece) (xs ys : List ℕ) → length a ≡ 64 → length b ≡ 64 → length xs ≡ 64 → length ys ≡ 64
     → (n : ℕ) → n < 64
     → get_or xs n 0 ≡ piece_code (get_or a n Empty) → get_or ys n 0 ≡ piece_code (get_or b n Empty)

@@ -1,4 +1,5 @@
 -- Each text has an outcome.
+use Prim.Native.Char.{code as ascii}
 use Rattle.std.proofs.Common.{◌≡◌, ℕ, zero, suc, ◌+◌, ◌-◌, ◌<◌, ◌≤◌, ◌⊎◌, inl, inr, refl, sym, ap, ◌∙◌, arith, List, []}
 use Rattle.std.proofs.Common.{◌∷◌, ◌++◌, length, take, replicate, get_or, append_assoc, length-append}
 use Rattle.std.specs.Prelude.{◌≢◌, Result, Ok, Err}
@@ -19,7 +20,7 @@ use Rattle.dgt_values.proofs.Reading.{Leaves, leaves_start, leaves_more, leaves_
 -- a byte is a piece's letter or it isn't
 letter_or_not : (byte : ℕ) → ((piece : Piece) × (piece ≢ Empty) × (byte ≡ piece_letter piece)) ⊎ ((piece : Piece)
     → piece ≢ Empty → byte ≡ piece_letter piece → ⊥)
-letter_or_not byte = elim (eqb_tells byte 46) [
+letter_or_not byte = elim (eqb_tells byte (ascii ".")) [
   | inl dot ↦ inr (λ piece full e. full (sym (letter_piece-letter piece) ∙ ap letter_piece (sym e)
       ∙ ap letter_piece dot.1))
   | inr other ↦ elim (eqb_tells (piece_letter (letter_piece byte)) byte) [
@@ -30,21 +31,21 @@ letter_or_not byte = elim (eqb_tells byte 46) [
 
 -- a byte that is no letter and no digit from 1 to 8 stands for nothing
 means_none : (byte : ℕ) → ((piece : Piece) → piece ≢ Empty → byte ≡ piece_letter piece → ⊥)
-    → (1 + byte ≤ 49) ⊎ (57 ≤ byte) → (squares : List Piece) → MeansSquares byte squares → ⊥
+    → (byte ≤ ascii "0") ⊎ (ascii "9" ≤ byte) → (squares : List Piece) → MeansSquares byte squares → ⊥
 means_none byte none (inl low) squares (inl run) = omega (arith, run.digit, run.at_least_one)
 means_none byte none (inr high) squares (inl run) = omega (arith, run.digit, run.at_most_eight)
 means_none byte none out squares (inr letter) = none letter.piece letter.not_empty letter.letter
 
 -- a byte that is no letter is a digit from 1 to 8 or stands for nothing
 digit_or_not : (byte : ℕ) → ((piece : Piece) → piece ≢ Empty → byte ≡ piece_letter piece → ⊥)
-    → (48 < byte) ⊎ (byte ≤ 48) → (byte < 57) ⊎ (57 ≤ byte)
+    → (ascii "0" < byte) ⊎ (byte ≤ ascii "0") → (byte < ascii "9") ⊎ (ascii "9" ≤ byte)
     → ((squares : List Piece) × MeansSquares byte squares) ⊎ ((squares : List Piece) → MeansSquares byte squares → ⊥)
 digit_or_not byte none (inl low) (inl high) =
-    let digit : byte ≡ 48 + (byte - 48) = omega arith in
+    let digit : byte ≡ ascii "0" + (byte - ascii "0") = omega arith in
     inl (
-      replicate (byte - 48) Empty,
+      replicate (byte - ascii "0") Empty,
       inl (record {
-        count = byte - 48;
+        count = byte - ascii "0";
         at_least_one = omega arith;
         at_most_eight = omega arith;
         digit = digit;
@@ -60,7 +61,7 @@ means_or_not : (byte : ℕ) → ((squares : List Piece) × MeansSquares byte squ
 means_or_not byte = elim (letter_or_not byte) [
   | inl letter ↦ inl
       (letter.0 ∷ [], inr (record { piece = letter.0; not_empty = letter.1; letter = letter.2; one_square = refl }))
-  | inr none ↦ digit_or_not byte none (cases_lt 48 byte) (cases_lt byte 57)
+  | inr none ↦ digit_or_not byte none (cases_lt (ascii "0") byte) (cases_lt byte (ascii "9"))
 ]
 
 -- squares that do not fit in the rank are no step
@@ -70,7 +71,7 @@ too_long byte n s squares stands long n' s' first (inl x) = omega (arith, x.slas
 too_long byte n s squares stands long n' s' first (inr x) =
     omega (arith, x.fewer, ap length (means_one byte first squares x.stands stands))
 
--- what a byte does after so many ranks and squares: a step, or nothing
+-- what a byte does after this many ranks and squares: a step, or nothing
 record Step (byte n s : ℕ) : Type 0 where
   ranks : ℕ
   left : ℕ
@@ -97,13 +98,15 @@ with_squares byte n s squares le stands (inr fits) =
     })
 
 -- a byte that means nothing and is no slash in its place may do nothing
-no_slash : (byte n s : ℕ) → ((squares : List Piece) → MeansSquares byte squares → ⊥) → (byte ≡ 47 → s ≡ 0 → 0 < n → ⊥)
+no_slash : (byte n s : ℕ) → ((squares : List Piece) → MeansSquares byte squares → ⊥)
+    → (byte ≡ ascii "/" → s ≡ 0 → 0 < n → ⊥)
     → IsStuck byte n s
 no_slash byte n s none refused n' s' first (inl x) = refused x.slash x.full (omega (arith, x.one_less))
 no_slash byte n s none refused n' s' first (inr x) = none first x.stands
 
 -- a byte that means nothing is a step where it is a slash in its place
-with_slash : (byte n s : ℕ) → ((squares : List Piece) → MeansSquares byte squares → ⊥) → ((byte ≡ 47) ⊎ (byte ≢ 47))
+with_slash : (byte n s : ℕ) → ((squares : List Piece) → MeansSquares byte squares → ⊥)
+    → ((byte ≡ ascii "/") ⊎ (byte ≢ ascii "/"))
     → Step byte n s ⊎ IsStuck byte n s
 with_slash byte n s none (inr other) = inr (no_slash byte n s none (λ slash _ _. other slash))
 with_slash byte zero s none (inl slash) = inr (no_slash byte zero s none (λ _ _ less. omega arith))
@@ -118,8 +121,8 @@ with_slash byte (suc n) zero none (inl slash) =
     })
 
 -- a byte is a slash or it is none
-slash_or_not : (byte : ℕ) → (byte ≡ 47) ⊎ (byte ≢ 47)
-slash_or_not byte = elim (eqb_tells byte 47) [ inl same ↦ inl same.1 | inr other ↦ inr other.1 ]
+slash_or_not : (byte : ℕ) → (byte ≡ ascii "/") ⊎ (byte ≢ ascii "/")
+slash_or_not byte = elim (eqb_tells byte (ascii "/")) [ inl same ↦ inl same.1 | inr other ↦ inr other.1 ]
 
 -- a byte is a step or may do nothing
 step_or_not : (byte n s : ℕ) → s ≤ 8 → Step byte n s ⊎ IsStuck byte n s

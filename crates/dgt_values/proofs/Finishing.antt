@@ -1,5 +1,6 @@
--- How a text goes on to the end of a placement, byte by byte: so many ranks follow this one, and so many
+-- How a text goes on to the end of a placement, byte by byte: this many ranks follow this one, and this many
 -- squares of this rank are left.
+use Prim.Native.Char.{code as ascii}
 use Rattle.std.proofs.Common.{◌≡◌, ℕ, suc, ◌+◌, ◌<◌, ◌⊎◌, inl, inr, refl, sym, ap, ◌∙◌, arith, List, [], ◌∷◌, ◌++◌}
 use Rattle.std.proofs.Common.{length, replicate, append_assoc, length-append}
 use Rattle.std.specs.Prelude.{◌≢◌, ◌==◌, if◌then◌else◌}
@@ -16,14 +17,14 @@ use Rattle.dgt_values.specs.Placement.{MeansSquares, IsRank, AreRanks, IsPlaceme
 -- the piece with a letter
 abbrev pub letter_piece : ℕ → Piece
 letter_piece b =
-    if b == 80 then WhitePawn else
-    (if b == 82 then WhiteRook else (if b == 78 then WhiteKnight else (if b == 66 then WhiteBishop else
-    (if b == 75 then WhiteKing else
-    (if b == 81 then WhiteQueen else (if b == 112 then BlackPawn else (if b == 114 then BlackRook else
-    (if b == 110 then BlackKnight else
-    (if b == 98 then BlackBishop else (if b == 107 then BlackKing else (if b == 113 then BlackQueen else
-    (if b == 88 then FirstExtra else
-    (if b == 89 then SecondExtra else (if b == 90 then ThirdExtra else Empty))))))))))))))
+    if b == ascii "P" then WhitePawn else (if b == ascii "R" then WhiteRook else
+    (if b == ascii "N" then WhiteKnight else (if b == ascii "B" then WhiteBishop else
+    (if b == ascii "K" then WhiteKing else (if b == ascii "Q" then WhiteQueen else
+    (if b == ascii "p" then BlackPawn else (if b == ascii "r" then BlackRook else
+    (if b == ascii "n" then BlackKnight else (if b == ascii "b" then BlackBishop else
+    (if b == ascii "k" then BlackKing else (if b == ascii "q" then BlackQueen else
+    (if b == ascii "X" then FirstExtra else (if b == ascii "Y" then SecondExtra else
+    (if b == ascii "Z" then ThirdExtra else Empty))))))))))))))
 
 -- the letter of a piece is its own alone
 pub letter_piece-letter : (piece : Piece) → letter_piece (piece_letter piece) ≡ piece
@@ -35,12 +36,12 @@ pub letter_one : (a b : Piece) → piece_letter a ≡ piece_letter b → a ≡ b
 letter_one a b e = sym (letter_piece-letter a) ∙ ap letter_piece e ∙ letter_piece-letter b
 
 -- letters stand above the slash and the digits
-pub letter_above : (piece : Piece) → piece ≢ Empty → 57 < piece_letter piece
+pub letter_above : (piece : Piece) → piece ≢ Empty → ascii "9" < piece_letter piece
 letter_above Empty h = absurd (h refl)
 letter_above _ h = omega arith
 
 -- a byte that stands for squares is no slash
-pub above_slash : (byte : ℕ) (squares : List Piece) → MeansSquares byte squares → 47 < byte
+pub above_slash : (byte : ℕ) (squares : List Piece) → MeansSquares byte squares → ascii "/" < byte
 above_slash byte squares (inl run) = omega (arith, run.digit)
 above_slash byte squares (inr letter) = omega (arith, letter.letter, letter_above letter.piece letter.not_empty)
 
@@ -60,7 +61,7 @@ means_one byte a b (inr letter) (inr other) =
 
 -- after a full rank a slash begins the next one
 pub record IsSlash (byte ranks left ranks' left' : ℕ) (first : List Piece) : Type 0 where
-  pub slash : byte ≡ 47
+  pub slash : byte ≡ ascii "/"
   pub full : left ≡ 0
   pub one_less : ranks ≡ suc ranks'
   pub eight : left' ≡ 8
@@ -72,7 +73,7 @@ pub record AreSquares (byte ranks left ranks' left' : ℕ) (first : List Piece) 
   pub fewer : left ≡ length first + left'
   pub stands : MeansSquares byte first
 
--- what a byte may do: from so many ranks and squares left to those left then, with these squares
+-- what a byte may do: from this many ranks and squares left to those left then, with these squares
 abbrev pub Steps : ℕ → ℕ → ℕ → ℕ → ℕ → List Piece → Type 0
 Steps byte ranks left ranks' left' first =
     IsSlash byte ranks left ranks' left' first ⊎ AreSquares byte ranks left ranks' left' first
@@ -139,13 +140,14 @@ rank_finishes (byte ∷ bytes) squares (first, others, stands, h, is) n more res
 
 -- ranks that are joined by slashes
 ranks_finish : (ranks : List (List ℕ)) (rank : List ℕ) (pieces : List Piece) → AreRanks (rank ∷ ranks) pieces
-    → Finishes (join_with_byte 47 (rank ∷ ranks)) (length ranks) 8 pieces
+    → Finishes (join_with_byte (ascii "/") (rank ∷ ranks)) (length ranks) 8 pieces
 ranks_finish [] rank pieces (squares, rest, eight, h, none, is) =
     let f = rank_finishes rank squares h 0 [] [] (refl, refl, refl) in
     let whole : pieces ≡ squares ++ [] = is ∙ ap (λ l. squares ++ l) none in
     rw (whole, ← eight, ← append-nil rank) f
 ranks_finish (next ∷ ranks) rank pieces (squares, rest, eight, h, after, is) =
-    let f = rank_finishes rank squares h (suc (length ranks)) (47 ∷ join_with_byte 47 (next ∷ ranks)) rest (
+    let others : List ℕ = ascii "/" ∷ join_with_byte (ascii "/") (next ∷ ranks) in
+    let f = rank_finishes rank squares h (suc (length ranks)) others rest (
       length ranks,
       8,
       [],
@@ -163,15 +165,15 @@ record Parts (text : List ℕ) (n s : ℕ) (pieces : List Piece) : Type 0 where
   squares : List Piece
   rest : List Piece
   so_many : length ranks ≡ n
-  joined : text ≡ join_with_byte 47 (rank ∷ ranks)
+  joined : text ≡ join_with_byte (ascii "/") (rank ∷ ranks)
   is_rank : IsRank rank squares
   so_long : length squares ≡ s
   others : AreRanks ranks rest
   whole : pieces ≡ squares ++ rest
 
 -- one more byte of the first rank
-longer_rank : (byte : ℕ) (rank : List ℕ) (ranks : List (List ℕ)) → byte ∷ join_with_byte 47 (rank ∷ ranks)
-    ≡ join_with_byte 47 ((byte ∷ rank) ∷ ranks)
+longer_rank : (byte : ℕ) (rank : List ℕ) (ranks : List (List ℕ)) → byte ∷ join_with_byte (ascii "/") (rank ∷ ranks)
+    ≡ join_with_byte (ascii "/") ((byte ∷ rank) ∷ ranks)
 longer_rank byte rank [] = refl
 longer_rank byte rank (next ∷ ranks) = refl
 
@@ -221,7 +223,7 @@ parts (byte ∷ bytes) n s pieces (n', s', first, rest, inr more, h, is) =
 
 -- eight ranks that are joined by slashes
 from_ranks : (text : List ℕ) (pieces : List Piece) (ranks : List (List ℕ)) → length ranks ≡ 8
-    → text ≡ join_with_byte 47 ranks → AreRanks ranks pieces → Finishes text 7 8 pieces
+    → text ≡ join_with_byte (ascii "/") ranks → AreRanks ranks pieces → Finishes text 7 8 pieces
 from_ranks text pieces [] eight joined each = absurd (omega (arith, eight))
 from_ranks text pieces (rank ∷ ranks) eight joined each =
     let seven : length ranks ≡ 7 = omega (arith, eight) in

@@ -20,7 +20,7 @@ one_position text a b h k = finishes_one text 7 8 a b (placement_finishes text a
 begins_shorter : (text more : List ℕ) → BeginsPlacement (text ++ more) → BeginsPlacement text
 begins_shorter text more (rest, pieces, p) = (more ++ rest, pieces, rw (append_assoc text more rest) at p)
 
--- the front of a beginning begins
+-- the beginning of a beginning begins
 begins_take : (text : List ℕ) (n : ℕ) → BeginsPlacement text → BeginsPlacement (take n text)
 begins_take text n b = begins_shorter (take n text) (drop n text) (rw (take-append-drop n text) b)
 

@@ -1,4 +1,5 @@
 -- What is known once a part of a placement is read: how it may go on.
+use Prim.Native.Char.{code as ascii}
 use Rattle.std.proofs.Common.{◌≡◌, ℕ, zero, suc, ◌+◌, ◌-◌, ◌*◌, ◌<◌, ◌≤◌, inl, inr, refl, sym, ap, ◌∙◌, arith, List, []}
 use Rattle.std.proofs.Common.{◌∷◌, ◌++◌, length, take, drop, replicate, append_assoc, length-append}
 use Rattle.std.proofs.Common.{get_or}
@@ -10,7 +11,7 @@ use Rattle.dgt_values.specs.declared.pieces.Piece.TheVariants.{Empty}
 use Rattle.dgt_values.specs.Placement.{MeansSquares, IsPlacement, BeginsPlacement, IsFirstBadOffset}
 use Rattle.dgt_values.proofs.Finishing.{Steps, Finishes, steps_one, placement_finishes, finishes_placement}
 
--- the text so far leaves so many ranks and squares of its last rank, and has these pieces: it goes on to a
+-- the text so far leaves this many ranks and squares of its last rank, and has these pieces: it goes on to a
 -- placement exactly as these go on
 pub record Leaves (text : List ℕ) (ranks left : ℕ) (done : List Piece) : Type 0 where
   pub on : (more : List ℕ) (rest : List Piece) → Finishes more ranks left rest
@@ -48,7 +49,7 @@ leaves_more text n s done byte n' s' first h step = record {
       after_step more n s byte n' s' done first pieces known.0 step known.1 known.2;
 }
 
--- where nothing is left, the text is a placement
+-- if nothing is left, the text is a placement
 pub leaves_none : (text : List ℕ) (done : List Piece) → Leaves text 0 0 done → IsPlacement text done
 leaves_none text done h = rw (append-nil text, append-nil done) at (h.on [] [] (refl, refl, refl))
 
@@ -57,7 +58,7 @@ ranks_left : (n : ℕ) → (more : List ℕ) × (rest : List Piece) × Finishes 
 ranks_left zero = ([], [], (refl, refl, refl))
 ranks_left (suc n) =
     let others = ranks_left n in
-    let empty : MeansSquares 56 (replicate 8 Empty) =
+    let empty : MeansSquares (ascii "8") (replicate 8 Empty) =
     inl (record {
       count = 8;
       at_least_one = omega arith;
@@ -65,7 +66,7 @@ ranks_left (suc n) =
       digit = refl;
       all_empty = refl;
     }) in (
-      47 ∷ 56 ∷ others.0,
+      ascii "/" ∷ ascii "8" ∷ others.0,
       replicate 8 Empty ++ others.1,
       (
         n,
@@ -91,10 +92,10 @@ something_left : (n s : ℕ) → s ≤ 8 → (more : List ℕ) × (rest : List P
 something_left n zero h = ranks_left n
 something_left n (suc s) h =
     let others = ranks_left n in
-    let empty : MeansSquares (48 + suc s) (replicate (suc s) Empty) =
+    let empty : MeansSquares (ascii "0" + suc s) (replicate (suc s) Empty) =
     inl (record { count = suc s; at_least_one = omega arith; at_most_eight = h; digit = refl; all_empty = refl }) in
     let fewer : suc s ≡ length (replicate (suc s) Empty) + 0 = omega (arith, length-replicate (suc s) Empty) in (
-      (48 + suc s) ∷ others.0,
+      (ascii "0" + suc s) ∷ others.0,
       replicate (suc s) Empty ++ others.1,
       (
         n,
@@ -130,7 +131,7 @@ leaves_short text n s done pieces h some p =
 
 -- a slash after a full rank
 pub leaves_slash : (bytes : List ℕ) (pieces : List Piece) (at rank file : ℕ) → at < length bytes → rank < 7 → file ≡ 8
-    → get_or bytes at 0 ≡ 47
+    → get_or bytes at 0 ≡ ascii "/"
     → Leaves (take at bytes) (7 - rank) (8 - file) (take (8 * rank + file) pieces)
     → Leaves (take (at + 1) bytes) (7 - (rank + 1)) 8 (take (8 * (rank + 1) + 0) pieces)
 leaves_slash bytes pieces at rank file lt less full slash h =
@@ -170,7 +171,7 @@ first_bad bytes done at n s lt le h stuck = record {
 }
 
 -- no slash here, and no squares that fit
-pub no_step : (byte rank file : ℕ) → file ≤ 8 → (byte ≡ 47 → file ≡ 8 → rank < 7 → ⊥)
+pub no_step : (byte rank file : ℕ) → file ≤ 8 → (byte ≡ ascii "/" → file ≡ 8 → rank < 7 → ⊥)
     → ((squares : List Piece) → MeansSquares byte squares → 8 < file + length squares)
     → (n' s' : ℕ) (first : List Piece) → Steps byte (7 - rank) (8 - file) n' s' first → ⊥
 no_step byte rank file le no_slash too_many n' s' first (inl x) =

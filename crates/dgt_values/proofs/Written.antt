@@ -1,4 +1,5 @@
 -- The written text of a position.
+use Prim.Native.Char.{code as ascii}
 use Rattle.std.proofs.Common.{◌≡◌, ℕ, zero, suc, ◌+◌, ◌*◌, ◌≤◌, ◌⊎◌, inl, inr, refl, sym, ap, ◌∙◌, arith, List, [], ◌∷◌}
 use Rattle.std.proofs.Common.{◌++◌, length, take, drop, replicate, append_assoc, length-append, length-take}
 use Rattle.std.proofs.Common.{length-drop, zero-add}
@@ -21,13 +22,13 @@ use Rattle.dgt_values.proofs.Apart.{Apart, BeginsWithDigit, apart_around, apart_
 
 -- a square is empty or it isn't
 empty_or_not : (piece : Piece) → (piece ≡ Empty) ⊎ (piece ≢ Empty)
-empty_or_not piece = elim (eqb_tells (piece_letter piece) 46) [
+empty_or_not piece = elim (eqb_tells (piece_letter piece) (ascii ".")) [
   | inl same ↦ inl (letter_one piece Empty same.1)
   | inr other ↦ inr (λ e. other.1 (ap piece_letter e))
 ]
 
 -- a run of one or more empty squares is one digit
-run_digit : (count : ℕ) → 1 ≤ count → run_text count ≡ (48 + count) ∷ []
+run_digit : (count : ℕ) → 1 ≤ count → run_text count ≡ (ascii "0" + count) ∷ []
 run_digit count some = rw (ne_eqb count 0 (λ h. omega arith)) refl
 
 -- a run of empty squares, and what follows it
@@ -124,11 +125,12 @@ rank_apart (piece ∷ squares) empty = elim (empty_or_not piece) [
 ]
 
 -- no two digits of written ranks stand side by side
-ranks_apart : (n : ℕ) (pieces : List Piece) → Apart (join_with_byte 47 (ranks_text n pieces))
+ranks_apart : (n : ℕ) (pieces : List Piece) → Apart (join_with_byte (ascii "/") (ranks_text n pieces))
 ranks_apart zero pieces = tt
 ranks_apart (suc zero) pieces = rank_apart (take 8 pieces) 0
 ranks_apart (suc (suc n)) pieces =
-    apart_around (rank_text_after 0 (take 8 pieces)) 47 (join_with_byte 47 (ranks_text (suc n) (drop 8 pieces)))
+    apart_around (rank_text_after 0 (take 8 pieces)) (ascii "/")
+    (join_with_byte (ascii "/") (ranks_text (suc n) (drop 8 pieces)))
     (rank_apart (take 8 pieces) 0)
     (λ digit. omega (arith, digit.0)) (ranks_apart (suc n) (drop 8 pieces))
 
@@ -174,14 +176,14 @@ only_rank (byte ∷ bytes) squares (first, rest, inl run, h, is) apart =
     ap (rank_text_after 0) whole ∙ run_after run.count 0 rest ∙ ap (λ n. rank_text_after n rest) (zero-add run.count)
     ∙ after_run bytes rest run.count h (apart.0 digit) in
     rw (after, run_digit run.count run.at_least_one, run.digit)
-    (ap (λ l. (48 + run.count) ∷ l) (only_rank bytes rest h apart.1))
+    (ap (λ l. (ascii "0" + run.count) ∷ l) (only_rank bytes rest h apart.1))
 
 -- the first rank of a text, and the others
-apart_ranks : (rank : List ℕ) (ranks : List (List ℕ)) → Apart (join_with_byte 47 (rank ∷ ranks))
-    → Apart rank × Apart (join_with_byte 47 ranks)
+apart_ranks : (rank : List ℕ) (ranks : List (List ℕ)) → Apart (join_with_byte (ascii "/") (rank ∷ ranks))
+    → Apart rank × Apart (join_with_byte (ascii "/") ranks)
 apart_ranks rank [] apart = (apart, tt)
 apart_ranks rank (next ∷ ranks) apart =
-    let others : List ℕ = 47 ∷ join_with_byte 47 (next ∷ ranks) in
+    let others : List ℕ = ascii "/" ∷ join_with_byte (ascii "/") (next ∷ ranks) in
     (apart_before rank others apart, (apart_after rank others apart).1)
 
 -- the squares of the first rank
@@ -194,7 +196,8 @@ after_eight : (squares rest pieces : List Piece) → length squares ≡ 8 → pi
 after_eight squares rest pieces eight is = ap (drop 8) is ∙ drop_at squares rest 8 eight
 
 -- no other texts of the ranks keep their digits apart
-only_ranks : (ranks : List (List ℕ)) (pieces : List Piece) → AreRanks ranks pieces → Apart (join_with_byte 47 ranks)
+only_ranks : (ranks : List (List ℕ)) (pieces : List Piece) → AreRanks ranks pieces
+    → Apart (join_with_byte (ascii "/") ranks)
     → ranks ≡ ranks_text (length ranks) pieces
 only_ranks [] pieces none apart = refl
 only_ranks (rank ∷ ranks) pieces (squares, rest, eight, h, more, is) apart =
@@ -211,19 +214,20 @@ pub only_placement : (text : List ℕ) (pieces : List Piece) → IsPlacement tex
     → text ≡ placement_text pieces
 unfolding placement_text
 only_placement text pieces p apart =
-    let joined : Apart (join_with_byte 47 p.ranks) = rw p.joined at apart in
-    p.joined ∙ ap (join_with_byte 47) (only_ranks p.ranks pieces p.each joined ∙ ap (λ n. ranks_text n pieces) p.eight)
+    let joined : Apart (join_with_byte (ascii "/") p.ranks) = rw p.joined at apart in
+    p.joined
+    ∙ ap (join_with_byte (ascii "/")) (only_ranks p.ranks pieces p.each joined ∙ ap (λ n. ranks_text n pieces) p.eight)
 
 -- a byte from 0 to 9 counts as a digit, and others don't
 abbrev is_digit : ℕ → Bool
-is_digit byte = nat_le 48 byte && nat_le byte 57
+is_digit byte = nat_le (ascii "0") byte && nat_le byte (ascii "9")
 
 -- a byte from 0 to 9 is counted
-counts_digit : (byte : ℕ) → 48 ≤ byte → byte ≤ 57 → is_digit byte ≡ true
+counts_digit : (byte : ℕ) → ascii "0" ≤ byte → byte ≤ ascii "9" → is_digit byte ≡ true
 counts_digit byte low high = grind (arith, nat_tests)
 
 -- a letter is not counted
-counts_above : (byte : ℕ) → 57 < byte → is_digit byte ≡ false
+counts_above : (byte : ℕ) → ascii "9" < byte → is_digit byte ≡ false
 counts_above byte high = grind (arith, nat_tests)
 
 -- the digits of a whole are those of its parts
@@ -251,7 +255,8 @@ few_in_one byte false h = omega (arith, counts_other byte [] h)
 few_in_run : (empty : ℕ) → digit_count (run_text empty) ≤ 1
 few_in_run zero = omega arith
 few_in_run (suc empty) =
-    rw (run_digit (suc empty) (omega arith)) (few_in_one (48 + suc empty) (is_digit (48 + suc empty)) refl)
+    rw (run_digit (suc empty) (omega arith))
+    (few_in_one (ascii "0" + suc empty) (is_digit (ascii "0" + suc empty)) refl)
 
 -- a rank after a run of empty squares, written with no more digits than another text of it
 few_in_rank : (bytes : List ℕ) (squares : List Piece) (empty : ℕ) → IsRank bytes squares
@@ -295,12 +300,12 @@ NoMoreDigits (rank ∷ ranks) [] = ⊥
 NoMoreDigits (rank ∷ ranks) (other ∷ others) = (digit_count rank ≤ digit_count other) × NoMoreDigits ranks others
 
 -- a slash adds no digit
-slash_counts : (ranks : List ℕ) → digit_count (47 ∷ ranks) ≡ digit_count ranks
-slash_counts ranks = counts_other 47 ranks refl
+slash_counts : (ranks : List ℕ) → digit_count (ascii "/" ∷ ranks) ≡ digit_count ranks
+slash_counts ranks = counts_other (ascii "/") ranks refl
 
 -- texts with no more digits have no more when they are joined by slashes
 few_joined : (ranks others : List (List ℕ)) → NoMoreDigits ranks others
-    → digit_count (join_with_byte 47 ranks) ≤ digit_count (join_with_byte 47 others)
+    → digit_count (join_with_byte (ascii "/") ranks) ≤ digit_count (join_with_byte (ascii "/") others)
 few_joined [] [] h = omega arith
 few_joined [] (other ∷ others) h = absurd h
 few_joined (rank ∷ ranks) [] h = absurd h
@@ -310,10 +315,10 @@ few_joined (rank ∷ next ∷ ranks) (other ∷ []) h = absurd h.1
 few_joined (rank ∷ next ∷ ranks) (other ∷ more ∷ others) h =
     omega (
       arith,
-      counts_joined rank (47 ∷ join_with_byte 47 (next ∷ ranks)),
-      counts_joined other (47 ∷ join_with_byte 47 (more ∷ others)),
-      slash_counts (join_with_byte 47 (next ∷ ranks)),
-      slash_counts (join_with_byte 47 (more ∷ others)),
+      counts_joined rank (ascii "/" ∷ join_with_byte (ascii "/") (next ∷ ranks)),
+      counts_joined other (ascii "/" ∷ join_with_byte (ascii "/") (more ∷ others)),
+      slash_counts (join_with_byte (ascii "/") (next ∷ ranks)),
+      slash_counts (join_with_byte (ascii "/") (more ∷ others)),
       h.0,
       few_joined (next ∷ ranks) (more ∷ others) h.1,
     )

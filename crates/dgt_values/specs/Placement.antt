@@ -1,5 +1,5 @@
 -- The text of a position: eight ranks, from rank 8 down, with a slash between two. A rank is
--- letters of pieces and digits for so many empty squares, eight squares in all.
+-- letters of pieces and digits for runs of empty squares, eight squares in all.
 use Prim.Native.Char.{code as ascii}
 use Rattle.std.specs.Prelude.{◌≡◌, ◌≢◌, ℕ, zero, suc, ◌+◌, ◌<◌, ◌≤◌, ◌⊎◌, ◌==◌, if◌then◌else◌}
 use Rattle.std.specs.Prelude.{count_by, List, [], ◌∷◌, ◌++◌, take, drop, length, replicate}
@@ -11,7 +11,7 @@ use Rattle.dgt_values.specs.declared.positions.Position.{Position}
 use Rattle.dgt_values.specs.declared.refusals.BadPlacement.{BadPlacement}
 use Rattle.dgt_values.specs.Board.{piece_letter, pieces_of}
 
--- a digit from 1 to 8, for so many empty squares
+-- a digit from 1 to 8, for a run of empty squares
 pub record IsEmptyRun (byte : ℕ) (squares : List Piece) : Type 0 where
   pub count : ℕ
   pub at_least_one : 1 ≤ count
@@ -89,7 +89,7 @@ rank_text_after empty (Piece.Empty ∷ pieces) = rank_text_after (empty + 1) pie
 rank_text_after empty (piece ∷ pieces) =
     run_text empty ++ piece_letter piece ∷ rank_text_after 0 pieces
 
--- the texts of so many ranks
+-- the texts of this number of ranks
 abbrev pub ranks_text : ℕ → List Piece → List (List ℕ)
 ranks_text zero pieces = []
 ranks_text (suc n) pieces = rank_text_after 0 (take 8 pieces) ∷ ranks_text n (drop 8 pieces)

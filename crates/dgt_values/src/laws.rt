@@ -25,7 +25,7 @@ pub fn limits()
     ensures { MAX_BODY ≡ 16380 }
 {}
 
-/// Two values are equal, as `==` compares them, exactly where they are the same. Of a body its
+/// Two values are equal, as `==` compares them, exactly if they are the same. Of a body its
 /// bytes count, and not where they lie.
 pub fn equal_is_same()
     ensures seven_bit { EqualIsSameRead number ⟦<SevenBit as PartialEq>⟧.eq }

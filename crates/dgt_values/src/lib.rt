@@ -1,13 +1,18 @@
-//! The values that the messages and commands of a DGT electronic chess board are made of: bytes
-//! with a clear top bit, the bodies of messages, squares, pieces, positions and the segments of a
-//! clock's digits.
+//! The values that messages and commands of a DGT electronic chess board are made of: squares,
+//! pieces and positions, bytes with a clear top bit, and the segments of a clock's digits.
 //!
-//! A value of these types is always in range: `SevenBit::try_from`, `Body::new`,
-//! `Square::from_index`, `Square::parse`, `Piece::from_code` and `Piece::from_letter` refuse what
-//! is not. `Position::parse_placement` reads the text of a position and `Position::placement`
-//! writes it; module `laws` says that the two agree. `TooMuch`, `Known` and `NoRoom` are refusals
-//! that the crates above answer too, and `Kind` says what kinds of replies a host awaits. Nothing
-//! here takes memory.
+//! A value is always in range: what makes one refuses everything else. Nothing here takes memory.
+//!
+//! | To | Use |
+//! |---|---|
+//! | name a square | [`Square::parse`], [`Square::from_index`] |
+//! | make a piece | [`Piece::from_letter`], [`Piece::from_code`] |
+//! | read, write the text of a position | [`Position::parse_placement`], [`Position::placement`] |
+//! | compare two positions | [`Position::differ`] |
+//! | carry the body of a message | [`Body`], of [`SevenBit`] bytes |
+//!
+//! [`laws`] says that reading and writing agree. [`TooMuch`], [`Known`] and [`NoRoom`] are refusals
+//! that the crates above return too, and [`Kind`] lists the kinds of replies that a host awaits.
 //!
 //! Piece codes, square numbers and segment bytes are those of the DGT Electronic Board Protocol
 //! Description (the published `dgtbrd` header). The letters `.`, `X`, `Y` and `Z`, and that a

@@ -13,7 +13,7 @@ use arrayvec::ArrayString;
 
 impl Position {
     /// The position of a placement: eight ranks, from 8 down to 1, with a slash between two. A rank
-    /// has letters for its pieces and digits from 1 to 8 for so many empty squares, eight squares
+    /// has letters for its pieces and digits from 1 to 8 for runs of empty squares, eight squares
     /// in all. Two digits may stand side by side. Any other text is a `BadPlacement`.
     pub fn parse_placement(text: &str) -> Result<Self, BadPlacement>
         ensures { ParsesPlacement text.now result }
@@ -61,7 +61,7 @@ impl Position {
     }
 }
 
-/// What a byte of a rank stands for: this piece, on so many squares. `None` where it stands for
+/// What a byte of a rank stands for: this piece, on this number of squares. `None` if it stands for
 /// none, or for more than there is room for.
 fn squares_of(byte: u8, room: usize) -> Option<(Piece, usize)>
     ensures { MatchOption result

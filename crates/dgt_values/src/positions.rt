@@ -92,7 +92,7 @@ impl Position {
         self.pieces[square.index() as usize] = piece;
     }
 
-    /// The squares on which two positions differ: bit n is set exactly where square n differs.
+    /// The squares on which two positions differ: bit n is set exactly if square n differs.
     pub fn differ(&self, other: &Position) -> u64
         ensures { DifferingSquares (pieces_of self.now) (pieces_of other.now) result }
     {

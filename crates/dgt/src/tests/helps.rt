@@ -60,6 +60,7 @@ Usage: dgt picture [OPTIONS]
 
 Options:
       --doubt  Reports when the pieces may be wrong, too
+      --clock  Shows the clock after each change, too
   -h, --help   Print help
 
 ";
@@ -109,8 +110,8 @@ Usage: dgt simulate [OPTIONS]
 
 Options:
       --position <P>  The pieces, as in a FEN [default: as a game begins]
-      --up <N>        The bytes that the line to the host holds, 67 to 65535 [default: 1024]
-      --down <N>      The bytes that the line to the board holds, 257 to 65535 [default: 1024]
+      --up <N>        Room for bytes to the host, 67 to 65535 [default: 1024]
+      --down <N>      Room for bytes to the board, 257 to 65535 [default: 1024]
       --faults        Takes garbleup, garbledown, boardlost and restart too
   -h, --help          Print help
 

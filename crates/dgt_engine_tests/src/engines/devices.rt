@@ -1,4 +1,4 @@
-//! Sources and sinks that tell their bytes, and fail where a test wants them to.
+//! Sources and sinks that record what passes, and fail when a test wants them to.
 
 ghost use Rattle.std.specs.Prelude.{Some};
 

@@ -1,12 +1,13 @@
 //! The engines, each with what it runs on.
 
+use crate::engines::asserting::assert_that;
 use arrayvec::ArrayVec;
 use dgt_board::{Board, Identity};
-use dgt_link::World;
+use dgt_link::{FaultyWorld, World};
 use dgt_message::{Clock, Reading, Status, Times};
 use dgt_text::{
-    RunFault, Sink, Source, commands, monitor, picture, picture_with_doubts, serve, simulate,
-    simulate_faults,
+    RunFault, Sink, Source, commands, monitor, picture, picture_with_clock, picture_with_doubts,
+    picture_with_doubts_and_clock, serve, simulate, simulate_faults,
 };
 use dgt_values::{Body, Position, SevenBit};
 use std::alloc::{AllocGlobal, Global};
@@ -16,54 +17,106 @@ use std::test::Fail;
 /// What a run answers.
 pub type Answer = Result<(), RunFault>;
 
-/// An engine, and what a run of it leaves.
+/// An engine.
 #[derive(Clone, Copy)]
 pub enum Engine<'a> {
     Monitor,
     Picture,
     PictureWithDoubts,
+    PictureWithClock,
+    PictureWithBoth,
     Commands,
-    /// `serve` for a new board that took the bytes `asked` before. The run leaves it with `partial`
-    /// bytes of an unfinished command.
-    Serve { asked: &'a [u8], partial: usize },
-    /// `simulate` in a new world. The run leaves `down` bytes in its down line.
-    Simulate { down: usize },
+    /// `serve` for a new board that took these bytes before.
+    Serve(&'a [u8]),
+    /// `simulate` in a new world.
+    Simulate,
     /// `simulate_faults` in a new world.
     SimulateFaults,
 }
 
-impl Engine<'_> {
-    /// Runs the engine, and compares what it leaves.
+/// What an engine runs on beside its source and its sink.
+#[derive(Drop)]
+pub enum Subject {
+    Nothing,
+    Board(Board),
+    World(World),
+    FaultyWorld(FaultyWorld),
+}
+
+impl Subject {
+    // How many bytes of a command a board has, or the down line of a world.
+    fn unread(&self) -> usize {
+        match self {
+            Subject::Board(board) => board.partial(),
+            Subject::World(world) => world.down_len(),
+            Subject::Nothing | Subject::FaultyWorld(_) => 0,
+        }
+    }
+
+    fn owes(&self) -> bool {
+        match self {
+            Subject::Board(board) => board.owes(),
+            _ => false,
+        }
+    }
+}
+
+impl<'a> Engine<'a> {
+    /// A new subject for the engine.
+    pub fn subject(self, alloc: Global) -> Result<Subject, Fail> {
+        Ok(match self {
+            Engine::Serve(asked) => Subject::Board(asked_board(asked)?),
+            Engine::Simulate => Subject::World(new_world(alloc)?),
+            Engine::SimulateFaults => Subject::FaultyWorld(new_world(alloc)?.at_fault()),
+            _ => Subject::Nothing,
+        })
+    }
+
+    /// What a served board was asked before.
+    pub fn asked(self) -> &'a [u8] {
+        match self {
+            Engine::Serve(asked) => asked,
+            _ => &[],
+        }
+    }
+
+    pub fn run_on<R: Source, W: Sink>(
+        self,
+        subject: &mut Subject,
+        source: &mut R,
+        sink: &mut W,
+        limit: u32,
+    ) -> Answer {
+        match subject {
+            Subject::Board(board) => serve(board, source, sink, limit),
+            Subject::World(world) => simulate(world, source, sink, limit),
+            Subject::FaultyWorld(world) => simulate_faults(world, source, sink, limit),
+            Subject::Nothing => match self {
+                Engine::Picture => picture(source, sink, limit),
+                Engine::PictureWithDoubts => picture_with_doubts(source, sink, limit),
+                Engine::PictureWithClock => picture_with_clock(source, sink, limit),
+                Engine::PictureWithBoth => picture_with_doubts_and_clock(source, sink, limit),
+                Engine::Commands => commands(source, sink, limit),
+                _ => monitor(source, sink, limit),
+            },
+        }
+    }
+
+    /// Runs the engine on a new subject, of which it leaves `unread` bytes unread, and where the
+    /// run ends well nothing owed.
     pub fn run<R: Source, W: Sink>(
         self,
         rt: &(impl Abort + AllocGlobal),
+        unread: usize,
         source: &mut R,
         sink: &mut W,
         limit: u32,
     ) -> Result<Answer, Fail> {
-        match self {
-            Engine::Monitor => Ok(monitor(source, sink, limit)),
-            Engine::Picture => Ok(picture(source, sink, limit)),
-            Engine::PictureWithDoubts => Ok(picture_with_doubts(source, sink, limit)),
-            Engine::Commands => Ok(commands(source, sink, limit)),
-            Engine::Serve { asked, partial } => {
-                let mut board = asked_board(asked)?;
-                let answer = serve(&mut board, source, sink, limit);
-                assert_eq!(rt; board.partial(), partial);
-                assert!(rt; !board.owes() || answer.is_err());
-                Ok(answer)
-            }
-            Engine::Simulate { down } => {
-                let mut world = new_world(rt.alloc())?;
-                let answer = simulate(&mut world, source, sink, limit);
-                assert_eq!(rt; world.down_len(), down);
-                Ok(answer)
-            }
-            Engine::SimulateFaults => {
-                let mut world = new_world(rt.alloc())?.at_fault();
-                Ok(simulate_faults(&mut world, source, sink, limit))
-            }
-        }
+        let mut subject = self.subject(rt.alloc())?;
+        let answer = self.run_on(&mut subject, source, sink, limit);
+        assert_that(rt, subject.unread() == unread, "what is left unread");
+        assert_that(rt, !subject.owes() || answer.is_err(), "nothing is owed");
+        Ok(answer)
     }
 }
 

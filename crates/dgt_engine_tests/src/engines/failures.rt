@@ -1,5 +1,6 @@
 //! Runs that fail, and worked ones beside them.
 
+use crate::engines::asserting::{assert_same, assert_that};
 use crate::engines::devices::{Broken, Lender, Recorder, Trickle, Zeros};
 use crate::engines::engine::{Answer, Engine, joined};
 use crate::engines::messages::{
@@ -71,30 +72,7 @@ const LOST_PLAYED: [&[u8]; 4] = [
     b"hostclock unknown\nquiet yes\n",
 ];
 
-const MONITOR: Engine<'static> = Engine::Monitor;
-
-const PICTURE: Engine<'static> = Engine::Picture;
-
-const COMMANDS: Engine<'static> = Engine::Commands;
-
-const SERVE: Engine<'static> = Engine::Serve {
-    asked: &[],
-    partial: 0,
-};
-
-const SERVE_A_PART: Engine<'static> = Engine::Serve {
-    asked: &[],
-    partial: 2,
-};
-
-const SERVE_THE_ASKED: Engine<'static> = Engine::Serve {
-    asked: &[0x4d],
-    partial: 0,
-};
-
-const SIMULATE: Engine<'static> = Engine::Simulate { down: 0 };
-
-const SIMULATE_PARTS: Engine<'static> = Engine::Simulate { down: 2 };
+const SERVE: Engine<'static> = Engine::Serve(&[]);
 
 // The bytes and how many of them a read gives; what fails and where; the answer, the reads and what
 // is written.
@@ -181,90 +159,104 @@ const BAD_SCRIPTS: [Run; 1] = [(
 // A command is lost.
 const FAULTY_SCRIPTS: [Run; 1] = [(&LOST, 1, Turns, 200, Ok(()), 70, &LOST_PLAYED)];
 
-const TABLES: [(Engine<'static>, &[Run]); 9] = [
-    (MONITOR, &MONITORS),
-    (PICTURE, &PICTURES),
-    (COMMANDS, &TELLINGS),
-    (SERVE, &SERVINGS),
-    (SERVE_A_PART, &SERVINGS_OF_PARTS),
-    (SERVE_THE_ASKED, &SERVINGS_OF_THE_ASKED),
-    (SIMULATE, &SCRIPTS),
-    (SIMULATE_PARTS, &BAD_SCRIPTS),
-    (Engine::SimulateFaults, &FAULTY_SCRIPTS),
+// What is run, how many bytes of its subject it leaves unread, and its runs.
+const TABLES: [(Engine<'static>, usize, &[Run]); 9] = [
+    (Engine::Monitor, 0, &MONITORS),
+    (Engine::Picture, 0, &PICTURES),
+    (Engine::Commands, 0, &TELLINGS),
+    (SERVE, 0, &SERVINGS),
+    (SERVE, 2, &SERVINGS_OF_PARTS),
+    (Engine::Serve(&[0x4d]), 0, &SERVINGS_OF_THE_ASKED),
+    (Engine::Simulate, 0, &SCRIPTS),
+    (Engine::Simulate, 2, &BAD_SCRIPTS),
+    (Engine::SimulateFaults, 0, &FAULTY_SCRIPTS),
 ];
 
 // Makes a run, and compares what it answers and what it leaves.
 fn assert_ran(
     rt: &(impl Abort + AllocGlobal),
-    engine: Engine<'_>,
-    row: (usize, usize),
+    engine: Engine<'static>,
+    unread: usize,
+    row: usize,
     run: &Run,
 ) -> Result<(), Fail> {
     let (parts, step, trouble, at, answer, reads, lines) = *run;
     let (bytes, lines) = (joined(parts)?, joined(lines)?);
     let (mut source, mut sink, limit) = Trial { trouble, at }.ends(bytes.as_slice(), step);
-    let answered = engine.run(rt, &mut source, &mut sink, limit)?;
-    assert_eq!(rt; answered, answer, "answer of row {row:?}");
-    assert_eq!(rt; source.reads, reads, "reads of row {row:?}");
-    assert_eq!(rt; sink.taken(), lines.as_slice(), "row {row:?}");
-    assert!(rt; !source.late && !sink.late, "a late call of row {row:?}");
-    assert!(rt; source.ended || answer != Ok(()), "end of row {row:?}");
-    assert!(rt;
-        sink.flushed || answer == WRITE_FAILED,
-        "flush of row {row:?}"
-    );
+    let answered = engine.run(rt, unread, &mut source, &mut sink, limit)?;
+    assert_same(rt, row, answered, answer);
+    assert_same(rt, row, source.reads, reads);
+    assert_same(rt, row, sink.taken(), lines.as_slice());
+    assert_that(rt, !source.late && !sink.late, "no call that came late");
+    assert_that(rt, source.ended || answer != Ok(()), "the end");
+    assert_that(rt, sink.flushed || answer == WRITE_FAILED, "all is flushed");
     Ok(())
 }
 
-// A sink of so much room takes a part of a line.
-fn assert_torn(rt: &(impl Abort + AllocGlobal), room: usize) -> Result<(), Fail> {
+// Whether a sink of so much room takes a part of a line.
+fn is_torn(rt: &(impl Abort + AllocGlobal), room: usize) -> Result<bool, Fail> {
     let mut source = Lender::new(FIELD, 64);
     let mut sink = Recorder::new();
     sink.room = room;
-    assert_eq!(rt; MONITOR.run(rt, &mut source, &mut sink, 10)?, WRITE_FAILED);
-    assert_eq!(rt; source.reads, 1);
-    assert_eq!(rt; sink.taken().len(), room);
-    assert!(rt; FIELD_LINE.starts_with(sink.taken()));
-    assert!(rt; !source.late && !sink.late);
-    Ok(())
+    let answer = Engine::Monitor.run(rt, 0, &mut source, &mut sink, 10)?;
+    Ok(
+        answer == WRITE_FAILED
+            && source.reads == 1
+            && sink.taken().len() == room
+            && FIELD_LINE.starts_with(sink.taken())
+            && !source.late
+            && !sink.late,
+    )
 }
 
 #[test]
 fn runs_that_fail(rt: HostRuntime) -> Result<(), Fail> {
-    for (table, (engine, runs)) in TABLES.iter().enumerate() {
+    for (engine, unread, runs) in TABLES {
         for (row, run) in runs.iter().enumerate() {
-            assert_ran(&rt, *engine, (table, row), run)?;
+            assert_ran(&rt, engine, unread, row, run)?;
         }
     }
     for room in 0..FIELD_LINE.len() {
-        assert_torn(&rt, room)?;
+        assert_that(&rt, is_torn(&rt, room)?, "a torn line");
     }
     Ok(())
 }
 
-// The sink takes this front of the event's line, and no call comes after its refusal.
-fn assert_refused(rt: &impl Abort, mut sink: Recorder, event: &Event<'_>, front: &[u8]) {
-    assert_eq!(rt; write_event(&mut sink, 123456789, event), WRITE_FAILED);
-    assert_eq!(rt; sink.taken(), front);
-    assert!(rt; sink.failed && !sink.late);
+// Whether the sink takes this front of the event's line, and no call comes after its refusal.
+fn is_refused(mut sink: Recorder, event: &Event<'_>, front: &[u8]) -> bool {
+    write_event(&mut sink, 123456789, event) == WRITE_FAILED
+        && sink.taken() == front
+        && sink.failed
+        && !sink.late
+}
+
+// Whether the line of an event is written in one write.
+fn is_written(event: &Event<'_>, line: &[u8]) -> bool {
+    let mut sink = Recorder::new();
+    write_event(&mut sink, 123456789, event) == Ok(())
+        && sink.taken() == line
+        && sink.writes == 1
+        && sink.flushes == 0
+        && !sink.failed
+        && !sink.flushed
 }
 
 // The line of an event, in one write, and what each refused write leaves of it.
 fn assert_line(rt: &impl Abort, event: &Event<'_>, line: &[u8]) {
-    let mut sink = Recorder::new();
-    assert_eq!(rt; write_event(&mut sink, 123456789, event), Ok(()));
-    assert_eq!(rt; sink.taken(), line);
-    assert_eq!(rt; (sink.writes, sink.flushes), (1, 0));
-    assert!(rt; !sink.failed && !sink.flushed);
+    assert_that(rt, is_written(event, line), "the line of an event");
     for at in 0..line.len() {
         let mut full = Recorder::new();
         full.room = at;
-        assert_refused(rt, full, event, &line[..at]);
+        assert_that(rt, is_refused(full, event, &line[..at]), "a full sink");
         // a byte at a write, so that the write after these bytes is the one that fails
         let mut refusing = Recorder::new();
         refusing.step = 1;
         refusing.write_fails_at = at as u64 + 1;
-        assert_refused(rt, refusing, event, &line[..at]);
+        assert_that(
+            rt,
+            is_refused(refusing, event, &line[..at]),
+            "a write that is refused",
+        );
     }
 }
 
@@ -298,25 +290,27 @@ fn the_line_of_one_event(rt: HostRuntime) -> Result<(), Fail> {
     Ok(())
 }
 
+// What reads and writes of std that fail are tried with.
+const TRIED: [(Engine<'static>, &[u8]); 5] = [
+    (Engine::Monitor, FIELD),
+    (Engine::Picture, START),
+    (Engine::Commands, BEEP),
+    (SERVE, &[0x4d]),
+    (Engine::Simulate, b"send\n"),
+];
+
 #[test]
 fn readers_and_writers_of_std_that_fail(rt: HostRuntime) -> Result<(), Fail> {
-    let rows: [(Engine<'static>, &[u8]); 5] = [
-        (MONITOR, FIELD),
-        (PICTURE, START),
-        (COMMANDS, BEEP),
-        (SERVE, &[0x4d]),
-        (SIMULATE, b"send\n"),
-    ];
-    for (row, (engine, bytes)) in rows.iter().enumerate() {
-        let answer = engine.run(&rt, &mut Bytes::new(bytes), &mut Device::new(Broken), 10)?;
-        assert_eq!(rt; answer, WRITE_FAILED, "writes of row {row}");
+    for (row, (engine, bytes)) in TRIED.iter().enumerate() {
+        let answer = engine.run(&rt, 0, &mut Bytes::new(bytes), &mut Device::new(Broken), 10)?;
+        assert_same(&rt, row, answer, WRITE_FAILED);
         let mut sink = Recorder::new();
-        let answer = engine.run(&rt, &mut Device::new(Broken), &mut sink, 10)?;
-        assert_eq!(rt; answer, READ_FAILED, "reads of row {row}");
-        assert_eq!(rt; sink.taken(), b"".as_slice(), "row {row}");
+        let answer = engine.run(&rt, 0, &mut Device::new(Broken), &mut sink, 10)?;
+        assert_same(&rt, row, answer, READ_FAILED);
+        assert_that(&rt, sink.taken().is_empty(), "nothing is written");
     }
     let answer = write_event(&mut Device::new(Broken), 1, &Event::Stray(0x05));
-    assert_eq!(rt; answer, WRITE_FAILED);
+    assert_same(&rt, 0, answer, WRITE_FAILED);
     Ok(())
 }
 
@@ -324,11 +318,9 @@ fn readers_and_writers_of_std_that_fail(rt: HostRuntime) -> Result<(), Fail> {
 fn a_reader_that_never_ends(rt: HostRuntime) {
     let mut sink = Recorder::new();
     let answer = monitor(&mut Device::new(Zeros), &mut sink, 3);
-    assert_eq!(rt; answer, TOO_MANY_TURNS);
-    assert_eq!(rt;
-        sink.taken(),
-        b"00000001 stray 00\n00000002 stray 00\n00000003 stray 00\n".as_slice()
-    );
+    assert_same(&rt, 0, answer, TOO_MANY_TURNS);
+    let lines = b"00000001 stray 00\n00000002 stray 00\n00000003 stray 00\n".as_slice();
+    assert_same(&rt, 0, sink.taken(), lines);
 }
 
 // What is run, its bytes and the turns; the answer, what is written, and how many flushes there
@@ -344,10 +336,10 @@ type Interrupted = (
 );
 
 const INTERRUPTED: [Interrupted; 3] = [
-    (MONITOR, FIELD, 6, Ok(()), &[FIELD_LINE], Some(5)),
+    (Engine::Monitor, FIELD, 6, Ok(()), &[FIELD_LINE], Some(5)),
     (SERVE, &[0x4d, 0x42], 3, Ok(()), &[VERSION, START], Some(3)),
     (
-        SIMULATE,
+        Engine::Simulate,
         b"send\nsned\n",
         11,
         Err(RunFault::BadLine { line: 2, at: 0 }),
@@ -356,27 +348,27 @@ const INTERRUPTED: [Interrupted; 3] = [
     ),
 ];
 
+fn assert_interrupted(
+    rt: &(impl Abort + AllocGlobal),
+    row: usize,
+    run: &Interrupted,
+    times: u32,
+) -> Result<(), Fail> {
+    let (engine, bytes, limit, answer, lines, flushes) = *run;
+    let mut reader = Device::new(Trickle::new(bytes, times));
+    let mut taken = Trickle::new(&[], times);
+    let answered = engine.run(rt, 0, &mut reader, &mut Device::new(&mut taken), limit)?;
+    assert_same(rt, row, answered, answer);
+    assert_same(rt, row, taken.taken.as_slice(), joined(lines)?.as_slice());
+    assert_same(rt, row, taken.flushes, flushes.unwrap_or(taken.flushes));
+    Ok(())
+}
+
 #[test]
 fn readers_and_writers_of_std_that_are_interrupted(rt: HostRuntime) -> Result<(), Fail> {
     for times in [0, 1, 3] {
         for (row, run) in INTERRUPTED.iter().enumerate() {
-            let (engine, bytes, limit, answer, lines, flushes) = *run;
-            let mut reader = Device::new(Trickle::new(bytes, times));
-            let mut taken = Trickle::new(&[], times);
-            let answered = engine.run(&rt, &mut reader, &mut Device::new(&mut taken), limit)?;
-            assert_eq!(rt; answered, answer, "answer of row {row}, {times} times");
-            let lines = joined(lines)?;
-            assert_eq!(rt;
-                taken.taken.as_slice(),
-                lines.as_slice(),
-                "row {row}, {times} times"
-            );
-            let counted = flushes.unwrap_or(taken.flushes);
-            assert_eq!(rt;
-                taken.flushes,
-                counted,
-                "flushes of row {row}, {times} times"
-            );
+            assert_interrupted(&rt, row, run, times)?;
         }
     }
     Ok(())
@@ -385,11 +377,15 @@ fn readers_and_writers_of_std_that_are_interrupted(rt: HostRuntime) -> Result<()
 #[test]
 fn a_call_that_is_interrupted_for_ever(rt: HostRuntime) {
     let mut reader = Device::new(Trickle::new(FIELD, u32::MAX));
-    assert!(rt; reader.read_some(&mut [0; 8]).is_err());
+    assert_that(
+        &rt,
+        reader.read_some(&mut [0; 8]).is_err(),
+        "a read that fails",
+    );
     let mut sink = Recorder::new();
-    assert_eq!(rt; monitor(&mut reader, &mut sink, 10), READ_FAILED);
+    assert_same(&rt, 0, monitor(&mut reader, &mut sink, 10), READ_FAILED);
     let mut taken = Trickle::new(&[], u32::MAX);
     let answer = monitor(&mut Bytes::new(FIELD), &mut Device::new(&mut taken), 10);
-    assert_eq!(rt; answer, WRITE_FAILED);
-    assert_eq!(rt; taken.taken.as_slice(), b"".as_slice());
+    assert_same(&rt, 1, answer, WRITE_FAILED);
+    assert_that(&rt, taken.taken.is_empty(), "nothing is written");
 }

@@ -1,14 +1,15 @@
 //! Runs in which something fails, at each place where it can.
 
+use crate::engines::asserting::assert_that;
 use crate::engines::devices::{Lender, Recorder};
-use crate::engines::engine::{Engine, asked_board, new_world};
+use crate::engines::engine::{Answer, Engine, Subject, asked_board, new_world};
 use crate::engines::messages::{
     BATTERY, FIELD, NEW_LINES, SERIAL, START, START_LINE, TRADEMARK, VERSION, ZERO_TIMES,
 };
-use crate::engines::troubles::{TROUBLES, Text, Trial, Trouble};
+use crate::engines::troubles::{Row, TROUBLES, Text, Trial, Trouble};
 use dgt_board::{Board, Polled};
 use dgt_link::World;
-use dgt_text::{RunFault, read_act, serve, simulate};
+use dgt_text::{RunFault, read_act};
 use std::alloc::{AllocGlobal, Global};
 use std::process::Abort;
 use std::test::Fail;
@@ -16,181 +17,232 @@ use std::test::Fail;
 // The most bytes in a read and in a write.
 const STEPS: [usize; 3] = [1, 2, 64];
 
-// A run over a source and a sink in which something fails.
-trait Run {
-    // Makes one run, at most `step` bytes in a read and in a write, looks at all that it leaves,
-    // and tells whether it met its trouble.
-    fn meets(
-        &self,
-        rt: &(impl Abort + AllocGlobal),
-        step: usize,
-        trial: Trial,
-    ) -> Result<bool, Fail>;
-}
-
-// Makes a run with the trouble at each place in turn, up to one that is behind its end.
-fn sweep_places<R: Run>(
-    rt: &(impl Abort + AllocGlobal),
-    run: &R,
-    step: usize,
-    trouble: Trouble,
-) -> Result<(), Fail> {
-    for at in trouble.first()..1000 {
-        if !run.meets(rt, step, Trial { trouble, at })? {
-            return Ok(());
-        }
-    }
-    assert!(rt; false, "each run met its trouble");
-    Ok(())
-}
-
-fn sweep<R: Run>(rt: &(impl Abort + AllocGlobal), run: &R) -> Result<(), Fail> {
-    for step in STEPS {
-        for trouble in TROUBLES {
-            sweep_places(rt, run, step, trouble)?;
-        }
-    }
-    Ok(())
-}
-
-#[derive(Drop)]
-struct Telling<'a> {
+// An engine, what it reads and writes, and what a run answers in which nothing fails.
+#[derive(Clone, Copy)]
+struct Sweep {
     engine: Engine<'static>,
-    text: Text<'a>,
+    text: Text,
+    whole: Answer,
 }
 
-impl Run for Telling<'_> {
+impl Sweep {
+    // Makes one run, at most `step` bytes in a read and in a write, looks at all that it leaves,
+    // and returns whether it met its trouble.
     fn meets(
-        &self,
+        self,
         rt: &(impl Abort + AllocGlobal),
         step: usize,
         trial: Trial,
     ) -> Result<bool, Fail> {
         let input = self.text.input()?;
+        let mut subject = self.engine.subject(rt.alloc())?;
         let (mut source, mut sink, limit) = trial.ends(input.as_slice(), step);
         sink.step = step;
-        let answer = self.engine.run(rt, &mut source, &mut sink, limit)?;
-        let is_met = trial.is_met(rt, &source, &sink, answer, Ok(()));
+        let answer = self
+            .engine
+            .run_on(&mut subject, &mut source, &mut sink, limit);
+        let is_met = trial.is_met(rt, &source, &sink, answer, self.whole);
         let is_torn = is_met && trial.trouble.tears();
         self.text.assert_written(rt, &source, &sink, is_torn)?;
+        let is_right = match &subject {
+            Subject::Board(board) => self.leaves_board(board, &source, &sink, is_torn)?,
+            Subject::World(world) => {
+                self.leaves_world(rt.alloc(), world, &source, &sink, is_torn)?
+            }
+            _ => true,
+        };
+        assert_that(rt, is_right, "the board or the world that is left");
         Ok(is_met)
     }
+
+    // Whether the board is as one that took what came, and sent what was written or begun.
+    fn leaves_board(
+        self,
+        board: &Board,
+        source: &Lender<'_>,
+        sink: &Recorder,
+        is_torn: bool,
+    ) -> Result<bool, Fail> {
+        let (came, most) = if is_torn {
+            self.text.torn_at(sink.taken().len())
+        } else {
+            (source.given, 1000)
+        };
+        let input = self.text.input()?;
+        let bytes = input.as_slice().get(..came).ok_or("too many bytes came")?;
+        let right = board_after(self.engine.asked(), bytes, most)?;
+        Ok(is_same_board(board, &right))
+    }
+
+    // Whether the world is as one in which the lines were played that came, or that were written
+    // or begun.
+    fn leaves_world(
+        self,
+        alloc: Global,
+        world: &World,
+        source: &Lender<'_>,
+        sink: &Recorder,
+        is_torn: bool,
+    ) -> Result<bool, Fail> {
+        let (came, begun) = self.text.torn_at(sink.taken().len());
+        let lines = if is_torn && came < self.text.input()?.len() {
+            begun
+        } else {
+            lines_ended(self.text, source)
+        };
+        Ok(is_same_world(world, &world_after(alloc, self.text, lines)?))
+    }
 }
 
-#[test]
-fn a_monitor_meets_each_trouble_at_each_place(rt: HostRuntime) -> Result<(), Fail> {
-    let garbage: [(&[u8], &[u8]); 8] = [
-        (&[0x05], b"00000001 stray 05\n"),
-        (&[0x8e, 0x00, 0x8e], b"00000004 cut 2\n"),
-        (&[0x00, 0x05, 0x24, 0x01], b"00000008 field e4 P\n"),
-        (&[0x8e, 0x00, 0x02], b"00000011 badlength\n"),
-        (&[0x05], b"00000012 stray 05\n"),
-        (
-            &[0x92, 0x00, 0x05, 0x53, 0x4a],
-            b"00000017 trademark 534a\n",
-        ),
-        (
-            &[0x8e, 0x00, 0x05, 0x40, 0x10],
-            b"00000022 refused 0e badsquare 0\n",
-        ),
-        (&[0x8e], b""),
-    ];
-    let messages: [(&[u8], &[u8]); 2] = [(START, START_LINE), (&[0x7f], b"00000068 stray 7f\n")];
-    let rows: [(&[(&[u8], &[u8])], &[u8]); 3] = [
-        (&garbage, b"00000023 unfinished 1\n"),
-        (&messages, b""),
-        (&[], b""),
-    ];
-    for (rows, last) in rows {
-        let text = Text { rows, last };
-        let engine = Engine::Monitor;
-        sweep(&rt, &Telling { engine, text })?;
+// Makes a run with the trouble at each place in turn, up to one that is after its end.
+fn sweep_places(
+    rt: &(impl Abort + AllocGlobal),
+    run: Sweep,
+    step: usize,
+    (trouble, first): (Trouble, u32),
+) -> Result<(), Fail> {
+    for at in first..1000 {
+        if !run.meets(rt, step, Trial { trouble, at })? {
+            return Ok(());
+        }
+    }
+    assert_that(rt, false, "a run meets no trouble in the end");
+    Ok(())
+}
+
+// What is run, what it reads and writes, what it writes at the end, and what a whole run answers.
+type Told = (Engine<'static>, &'static [Row], &'static [u8], Answer);
+
+fn sweep_all(rt: &(impl Abort + AllocGlobal), table: &[Told]) -> Result<(), Fail> {
+    for (engine, rows, last, whole) in table {
+        let run = Sweep {
+            engine: *engine,
+            text: Text { rows, last },
+            whole: *whole,
+        };
+        for step in STEPS {
+            for trouble in TROUBLES {
+                sweep_places(rt, run, step, trouble)?;
+            }
+        }
     }
     Ok(())
 }
 
-#[test]
-fn a_picture_meets_each_trouble_at_each_place(rt: HostRuntime) -> Result<(), Fail> {
-    let rows: [(&[u8], &[u8]); 5] = [
-        (FIELD, b""),
-        (
-            START,
-            b"00000072 rnbqkbnr/pppppppp/8/8/8/8/PPPPPPPP/RNBQKBNR\n",
-        ),
-        (&[0x05, 0x8e, 0x00], b""),
-        (
-            FIELD,
-            b"00000080 rnbqkbnr/pppppppp/8/8/4P3/8/PPPPPPPP/RNBQKBNR\n",
-        ),
-        (&[0x8e], b""),
-    ];
-    let text = Text {
-        rows: &rows,
-        last: b"",
-    };
-    let engine = Engine::Picture;
-    sweep(&rt, &Telling { engine, text })
-}
+// Each message and each fault, and the front of a message at the end.
+const GARBAGE: [Row; 8] = [
+    (&[0x05], b"00000001 stray 05\n"),
+    (&[0x8e, 0x00, 0x8e], b"00000004 cut 2\n"),
+    (&[0x00, 0x05, 0x24, 0x01], b"00000008 field e4 P\n"),
+    (&[0x8e, 0x00, 0x02], b"00000011 badlength\n"),
+    (&[0x05], b"00000012 stray 05\n"),
+    (
+        &[0x92, 0x00, 0x05, 0x53, 0x4a],
+        b"00000017 trademark 534a\n",
+    ),
+    (
+        &[0x8e, 0x00, 0x05, 0x40, 0x10],
+        b"00000022 refused 0e badsquare 0\n",
+    ),
+    (&[0x8e], b""),
+];
+
+const MESSAGES: [Row; 2] = [(START, START_LINE), (&[0x7f], b"00000068 stray 7f\n")];
+
+const PICTURES: [Row; 5] = [
+    (FIELD, b""),
+    (
+        START,
+        b"00000072 rnbqkbnr/pppppppp/8/8/8/8/PPPPPPPP/RNBQKBNR\n",
+    ),
+    (&[0x05, 0x8e, 0x00], b""),
+    (
+        FIELD,
+        b"00000080 rnbqkbnr/pppppppp/8/8/4P3/8/PPPPPPPP/RNBQKBNR\n",
+    ),
+    (&[0x8e], b""),
+];
+
+const DOUBTS: [Row; 9] = [
+    (FIELD, b""),
+    (&[0x05], b""),
+    (
+        START,
+        b"00000073 rnbqkbnr/pppppppp/8/8/8/8/PPPPPPPP/RNBQKBNR\n",
+    ),
+    (&[0x05], b"00000074 doubt\n"),
+    (&[0x8e, 0x00], b""),
+    (
+        FIELD,
+        b"00000081 rnbqkbnr/pppppppp/8/8/4P3/8/PPPPPPPP/RNBQKBNR\n",
+    ),
+    (
+        START,
+        b"00000148 rnbqkbnr/pppppppp/8/8/8/8/PPPPPPPP/RNBQKBNR\n",
+    ),
+    (&[0x8e, 0x00, 0x02], b"00000151 doubt\n"),
+    (&[0x8e], b""),
+];
+
+const TIMES: &[u8] = &[0x8d, 0x00, 0x0a, 0x01, 0x30, 0x00, 0x01, 0x29, 0x55, 0x11];
+
+const NO_CLOCK: &[u8] = &[0x8d, 0x00, 0x0a, 0x00, 0x00, 0x00, 0x00, 0x00, 0x00, 0x20];
+
+const CLOCKS: [Row; 7] = [
+    (TIMES, b"00000010 clock 1:30:00 1:29:55 running white\n"),
+    (
+        START,
+        b"00000077 rnbqkbnr/pppppppp/8/8/8/8/PPPPPPPP/RNBQKBNR\n",
+    ),
+    (TIMES, b""),
+    (
+        FIELD,
+        b"00000092 rnbqkbnr/pppppppp/8/8/4P3/8/PPPPPPPP/RNBQKBNR\n",
+    ),
+    (NO_CLOCK, b"00000102 clock none\n"),
+    (TIMES, b"00000112 clock 1:30:00 1:29:55 running white\n"),
+    (&[0x8d], b""),
+];
+
+const WORDS: [Row; 7] = [
+    (&[0x44], b"00000001 updateboard\n"),
+    (&[0x42], b"00000002 dump\n"),
+    (&[0x2b, 0x04, 0x03, 0x0b, 0x03, 0x00], b"00000008 beep 3\n"),
+    (&[0x00], b"00000009 stray 00\n"),
+    (&[0x2b, 0x02], b"00000011 badsize\n"),
+    (&[0x60, 0x02, 0x42, 0xff], b"00000015 leds 42ff\n"),
+    (&[0x2b, 0x03, 0x03], b""),
+];
+
+const COMMANDS: [Row; 2] = [
+    (&[0x4d], b"00000001 version\n"),
+    (&[0xff], b"00000002 stray ff\n"),
+];
+
+const TELLINGS: [Told; 10] = [
+    (
+        Engine::Monitor,
+        &GARBAGE,
+        b"00000023 unfinished 1\n",
+        Ok(()),
+    ),
+    (Engine::Monitor, &MESSAGES, b"", Ok(())),
+    (Engine::Monitor, &[], b"", Ok(())),
+    (Engine::Picture, &PICTURES, b"", Ok(())),
+    (Engine::PictureWithDoubts, &DOUBTS, b"", Ok(())),
+    (Engine::PictureWithClock, &CLOCKS, b"", Ok(())),
+    (Engine::PictureWithBoth, &CLOCKS, b"", Ok(())),
+    (Engine::Commands, &WORDS, b"00000018 unfinished 3\n", Ok(())),
+    (Engine::Commands, &COMMANDS, b"", Ok(())),
+    (Engine::Commands, &[], b"", Ok(())),
+];
 
 #[test]
-fn a_picture_with_doubts_meets_each_trouble_at_each_place(rt: HostRuntime) -> Result<(), Fail> {
-    let rows: [(&[u8], &[u8]); 9] = [
-        (FIELD, b""),
-        (&[0x05], b""),
-        (
-            START,
-            b"00000073 rnbqkbnr/pppppppp/8/8/8/8/PPPPPPPP/RNBQKBNR\n",
-        ),
-        (&[0x05], b"00000074 doubt\n"),
-        (&[0x8e, 0x00], b""),
-        (
-            FIELD,
-            b"00000081 rnbqkbnr/pppppppp/8/8/4P3/8/PPPPPPPP/RNBQKBNR\n",
-        ),
-        (
-            START,
-            b"00000148 rnbqkbnr/pppppppp/8/8/8/8/PPPPPPPP/RNBQKBNR\n",
-        ),
-        (&[0x8e, 0x00, 0x02], b"00000151 doubt\n"),
-        (&[0x8e], b""),
-    ];
-    let text = Text {
-        rows: &rows,
-        last: b"",
-    };
-    let engine = Engine::PictureWithDoubts;
-    sweep(&rt, &Telling { engine, text })
+fn readers_meet_each_trouble_at_each_place(rt: HostRuntime) -> Result<(), Fail> {
+    sweep_all(&rt, &TELLINGS)
 }
 
-#[test]
-fn commands_meet_each_trouble_at_each_place(rt: HostRuntime) -> Result<(), Fail> {
-    let words: [(&[u8], &[u8]); 7] = [
-        (&[0x44], b"00000001 updateboard\n"),
-        (&[0x42], b"00000002 dump\n"),
-        (&[0x2b, 0x04, 0x03, 0x0b, 0x03, 0x00], b"00000008 beep 3\n"),
-        (&[0x00], b"00000009 stray 00\n"),
-        (&[0x2b, 0x02], b"00000011 badsize\n"),
-        (&[0x60, 0x02, 0x42, 0xff], b"00000015 leds 42ff\n"),
-        (&[0x2b, 0x03, 0x03], b""),
-    ];
-    let whole: [(&[u8], &[u8]); 2] = [
-        (&[0x4d], b"00000001 version\n"),
-        (&[0xff], b"00000002 stray ff\n"),
-    ];
-    let rows: [(&[(&[u8], &[u8])], &[u8]); 3] = [
-        (&words, b"00000018 unfinished 3\n"),
-        (&whole, b""),
-        (&[], b""),
-    ];
-    for (rows, last) in rows {
-        let text = Text { rows, last };
-        let engine = Engine::Commands;
-        sweep(&rt, &Telling { engine, text })?;
-    }
-    Ok(())
-}
-
-// Lets the board send at most so many messages, and answers how many more it may.
+// Lets the board send at most `most` messages, and returns how many more it may send.
 fn send_some(board: &mut Board, most: usize) -> usize {
     let mut left = most;
     let mut message = [0; 67];
@@ -203,7 +255,7 @@ fn send_some(board: &mut Board, most: usize) -> usize {
     left
 }
 
-// A board that was asked these questions, then took these bytes, and sent at most so many messages,
+// A board that was asked these questions, then took these bytes, and sent at most `most` messages,
 // each as soon as it could.
 fn board_after(asked: &[u8], bytes: &[u8], most: usize) -> Result<Board, Fail> {
     let mut board = asked_board(asked)?;
@@ -215,109 +267,64 @@ fn board_after(asked: &[u8], bytes: &[u8], most: usize) -> Result<Board, Fail> {
     Ok(board)
 }
 
-fn assert_same_board(rt: &impl Abort, board: &Board, other: &Board) {
-    assert_eq!(rt; board.owed_len(), other.owed_len());
-    assert_eq!(rt; board.owes(), other.owes());
-    assert_eq!(rt; board.partial(), other.partial());
-    assert!(rt; board.mode() == other.mode());
-    assert!(rt; *board.position() == *other.position());
-    assert!(rt; *board.clock() == *other.clock());
+fn is_same_board(board: &Board, other: &Board) -> bool {
+    board.owed_len() == other.owed_len()
+        && board.owes() == other.owes()
+        && board.partial() == other.partial()
+        && board.mode() == other.mode()
+        && *board.position() == *other.position()
+        && *board.clock() == *other.clock()
 }
 
-#[derive(Drop)]
-struct Serving<'a> {
-    asked: &'a [u8],
-    text: Text<'a>,
-}
+const SERVED: [Row; 8] = [
+    (&[0x4d], VERSION),
+    (&[0x00], b""),
+    (&[0x2b, 0x02], b""),
+    (&[0x45], SERIAL),
+    (&[0x43], ZERO_TIMES),
+    (&[0x40], b""),
+    (&[0x42], START),
+    (&[0x2b, 0x04], b""),
+];
 
-// How many bytes the board took, and how many messages it sent at most.
-fn taken_and_sent(
-    text: Text<'_>,
-    source: &Lender<'_>,
-    sink: &Recorder,
-    is_torn: bool,
-) -> (usize, usize) {
-    if is_torn {
-        text.torn_at(sink.taken().len())
-    } else {
-        (source.given, 1000)
-    }
-}
+// A board that owes two replies, and one that owes as many as it can.
+const OWING: [Row; 6] = [
+    (b"", TRADEMARK),
+    (b"", BATTERY),
+    (&[0x60, 0x02, 0x42, 0x42], b""),
+    (&[0x41], ZERO_TIMES),
+    (&[0x43], b""),
+    (&[0x4d], VERSION),
+];
 
-impl Serving<'_> {
-    // The board is as one that took so many bytes, and sent at most so many messages.
-    fn assert_left(
-        &self,
-        rt: &impl Abort,
-        board: &Board,
-        came: usize,
-        most: usize,
-    ) -> Result<(), Fail> {
-        let input = self.text.input()?;
-        let bytes = input.as_slice().get(..came).ok_or("too many bytes came")?;
-        assert_same_board(rt, board, &board_after(self.asked, bytes, most)?);
-        Ok(())
-    }
-}
+const OWED: Row = (b"", VERSION);
 
-impl Run for Serving<'_> {
-    fn meets(
-        &self,
-        rt: &(impl Abort + AllocGlobal),
-        step: usize,
-        trial: Trial,
-    ) -> Result<bool, Fail> {
-        let input = self.text.input()?;
-        let mut board = board_after(self.asked, &[], 0)?;
-        let (mut source, mut sink, limit) = trial.ends(input.as_slice(), step);
-        sink.step = step;
-        let answer = serve(&mut board, &mut source, &mut sink, limit);
-        let is_met = trial.is_met(rt, &source, &sink, answer, Ok(()));
-        let is_torn = is_met && trial.trouble.tears();
-        self.text.assert_written(rt, &source, &sink, is_torn)?;
-        let (came, most) = taken_and_sent(self.text, &source, &sink, is_torn);
-        self.assert_left(rt, &board, came, most)?;
-        Ok(is_met)
-    }
-}
+const FULL: [Row; 9] = [
+    OWED,
+    OWED,
+    OWED,
+    OWED,
+    OWED,
+    OWED,
+    OWED,
+    OWED,
+    (&[0x45], SERIAL),
+];
+
+const SERVINGS: [Told; 4] = [
+    (Engine::Serve(b""), &SERVED, b"", Ok(())),
+    (Engine::Serve(&[0x47, 0x4c]), &OWING, b"", Ok(())),
+    (Engine::Serve(&[0x4d; 8]), &FULL, b"", Ok(())),
+    (Engine::Serve(b""), &[], b"", Ok(())),
+];
 
 #[test]
 fn a_served_board_meets_each_trouble_at_each_place(rt: HostRuntime) -> Result<(), Fail> {
-    let garbage: [(&[u8], &[u8]); 8] = [
-        (&[0x4d], VERSION),
-        (&[0x00], b""),
-        (&[0x2b, 0x02], b""),
-        (&[0x45], SERIAL),
-        (&[0x43], ZERO_TIMES),
-        (&[0x40], b""),
-        (&[0x42], START),
-        (&[0x2b, 0x04], b""),
-    ];
-    let owing: [(&[u8], &[u8]); 6] = [
-        (b"", TRADEMARK),
-        (b"", BATTERY),
-        (&[0x60, 0x02, 0x42, 0x42], b""),
-        (&[0x41], ZERO_TIMES),
-        (&[0x43], b""),
-        (&[0x4d], VERSION),
-    ];
-    let mut full: [(&[u8], &[u8]); 9] = [(b"", VERSION); 9];
-    full[8] = (&[0x45], SERIAL);
-    let rows: [(&[u8], &[(&[u8], &[u8])]); 4] = [
-        (b"", &garbage),
-        (&[0x47, 0x4c], &owing),
-        (&[0x4d; 8], &full),
-        (b"", &[]),
-    ];
-    for (asked, rows) in rows {
-        let text = Text { rows, last: b"" };
-        sweep(&rt, &Serving { asked, text })?;
-    }
-    Ok(())
+    sweep_all(&rt, &SERVINGS)
 }
 
 // A world in which the acts of the first `most` lines were done, as far as these are acts.
-fn world_after(alloc: Global, text: Text<'_>, most: usize) -> Result<World, Fail> {
+fn world_after(alloc: Global, text: Text, most: usize) -> Result<World, Fail> {
     let mut world = new_world(alloc)?;
     let mut store = [0; 257];
     for (line, _) in text.rows.iter().take(most) {
@@ -330,20 +337,18 @@ fn world_after(alloc: Global, text: Text<'_>, most: usize) -> Result<World, Fail
     Ok(world)
 }
 
-fn assert_same_world(rt: &impl Abort, world: &World, other: &World) {
-    assert_same_board(rt, world.board(), other.board());
-    assert!(rt; world.host().picture() == other.host().picture());
-    assert!(rt; world.host().clock() == other.host().clock());
-    assert!(rt; world.host().awaited() == other.host().awaited());
-    assert_eq!(rt; world.host().unread(), other.host().unread());
-    assert_eq!(rt;
-        (world.up_len(), world.down_len()),
-        (other.up_len(), other.down_len())
-    );
+fn is_same_world(world: &World, other: &World) -> bool {
+    is_same_board(world.board(), other.board())
+        && world.host().picture() == other.host().picture()
+        && world.host().clock() == other.host().clock()
+        && world.host().awaited() == other.host().awaited()
+        && world.host().unread() == other.host().unread()
+        && world.up_len() == other.up_len()
+        && world.down_len() == other.down_len()
 }
 
 // How many lines have ended among the bytes that came.
-fn lines_ended(text: Text<'_>, source: &Lender<'_>) -> usize {
+fn lines_ended(text: Text, source: &Lender<'_>) -> usize {
     let (mut end, mut lines) = (0usize, 0usize);
     for (line, _) in text.rows {
         end = end.saturating_add(line.len());
@@ -354,82 +359,50 @@ fn lines_ended(text: Text<'_>, source: &Lender<'_>) -> usize {
     lines
 }
 
-#[derive(Drop)]
-struct Playing<'a> {
-    text: Text<'a>,
-    whole: Result<(), RunFault>,
-}
+const MOVES: [Row; 11] = [
+    (b"send\n", b"nothing\n"),
+    (b"host 44\n", b"done\n"),
+    (b"host 42\n", b"done\n"),
+    (b"toboard 2\n", b"done\n"),
+    (b"send\n", b"done\n"),
+    (b"change e2 .\n", b"done\n"),
+    (b"send\n", b"noroom\n"),
+    (b"tohost 40\n", b"done\n"),
+    (b"tohost 40\n", b"done\n"),
+    (b"send\n", b"done\n"),
+    (b"tohost 9", b""),
+];
 
-// How many lines of a text of so many bytes were played.
-fn lines_played(
-    text: Text<'_>,
-    length: usize,
-    source: &Lender<'_>,
-    sink: &Recorder,
-    is_torn: bool,
-) -> usize {
-    let (came, begun) = text.torn_at(sink.taken().len());
-    if is_torn && came < length {
-        begun
-    } else {
-        lines_ended(text, source)
-    }
-}
+const MOVED: &[u8] = b"done\nboard rnbqkbnr/pppppppp/8/8/8/8/PPPP1PPP/RNBQKBNR\n\
+host rnbqkbnr/pppppppp/8/8/8/8/PPPP1PPP/RNBQKBNR\nhostclock unknown\nquiet yes\n";
 
-impl Run for Playing<'_> {
-    fn meets(
-        &self,
-        rt: &(impl Abort + AllocGlobal),
-        step: usize,
-        trial: Trial,
-    ) -> Result<bool, Fail> {
-        let input = self.text.input()?;
-        let mut world = new_world(rt.alloc())?;
-        let (mut source, mut sink, limit) = trial.ends(input.as_slice(), step);
-        sink.step = step;
-        let answer = simulate(&mut world, &mut source, &mut sink, limit);
-        let is_met = trial.is_met(rt, &source, &sink, answer, self.whole);
-        let is_torn = is_met && trial.trouble.tears();
-        self.text.assert_written(rt, &source, &sink, is_torn)?;
-        let lines = lines_played(self.text, input.len(), &source, &sink, is_torn);
-        assert_same_world(rt, &world, &world_after(rt.alloc(), self.text, lines)?);
-        Ok(is_met)
-    }
-}
+const BAD: [Row; 4] = [
+    (b"host 44\n", b"done\n"),
+    (b"host 42\n", b"done\n"),
+    (b"sned\n", b""),
+    (b"host 43\n", b""),
+];
+
+const BAD_END: [Row; 2] = [(b"send\n", b"nothing\n"), (b"sned", b"")];
+
+const SCRIPTS: [Told; 4] = [
+    (Engine::Simulate, &MOVES, MOVED, Ok(())),
+    (
+        Engine::Simulate,
+        &BAD,
+        b"",
+        Err(RunFault::BadLine { line: 3, at: 0 }),
+    ),
+    (
+        Engine::Simulate,
+        &BAD_END,
+        b"",
+        Err(RunFault::BadLine { line: 2, at: 0 }),
+    ),
+    (Engine::Simulate, &[], NEW_LINES, Ok(())),
+];
 
 #[test]
 fn a_script_meets_each_trouble_at_each_place(rt: HostRuntime) -> Result<(), Fail> {
-    let moves: [(&[u8], &[u8]); 11] = [
-        (b"send\n", b"nothing\n"),
-        (b"host 44\n", b"done\n"),
-        (b"host 42\n", b"done\n"),
-        (b"toboard 2\n", b"done\n"),
-        (b"send\n", b"done\n"),
-        (b"change e2 .\n", b"done\n"),
-        (b"send\n", b"noroom\n"),
-        (b"tohost 40\n", b"done\n"),
-        (b"tohost 40\n", b"done\n"),
-        (b"send\n", b"done\n"),
-        (b"tohost 9", b""),
-    ];
-    let closing =
-        b"done\nboard rnbqkbnr/pppppppp/8/8/8/8/PPPP1PPP/RNBQKBNR\nhost rnbqkbnr/pppppppp/8/8/8/8/PPPP1PPP/RNBQKBNR\nhostclock unknown\nquiet yes\n";
-    let bad: [(&[u8], &[u8]); 4] = [
-        (b"host 44\n", b"done\n"),
-        (b"host 42\n", b"done\n"),
-        (b"sned\n", b""),
-        (b"host 43\n", b""),
-    ];
-    let bad_end: [(&[u8], &[u8]); 2] = [(b"send\n", b"nothing\n"), (b"sned", b"")];
-    let rows: [(&[(&[u8], &[u8])], &[u8], Result<(), RunFault>); 4] = [
-        (&moves, closing, Ok(())),
-        (&bad, b"", Err(RunFault::BadLine { line: 3, at: 0 })),
-        (&bad_end, b"", Err(RunFault::BadLine { line: 2, at: 0 })),
-        (&[], NEW_LINES, Ok(())),
-    ];
-    for (rows, last, whole) in rows {
-        let text = Text { rows, last };
-        sweep(&rt, &Playing { text, whole })?;
-    }
-    Ok(())
+    sweep_all(&rt, &SCRIPTS)
 }

@@ -1,5 +1,6 @@
-//! What fails in a run, and what a run should leave behind then.
+//! What fails in a run, and what a run should leave then.
 
+use crate::engines::asserting::assert_that;
 use crate::engines::devices::{Lender, Recorder};
 use arrayvec::ArrayVec;
 use dgt_text::RunFault;
@@ -30,23 +31,15 @@ impl Trouble {
     pub fn tears(self) -> bool {
         matches!(self, Trouble::Write | Trouble::Room)
     }
-
-    /// Its first place: reads, writes and flushes count from 1.
-    pub fn first(self) -> u32 {
-        match self {
-            Trouble::Read | Trouble::Write | Trouble::Flush => 1,
-            Trouble::Room | Trouble::Turns => 0,
-        }
-    }
 }
 
-/// All of them.
-pub const TROUBLES: [Trouble; 5] = [
-    Trouble::Read,
-    Trouble::Write,
-    Trouble::Flush,
-    Trouble::Room,
-    Trouble::Turns,
+/// All of them, each with its first place: reads, writes and flushes count from 1.
+pub const TROUBLES: [(Trouble, u32); 5] = [
+    (Trouble::Read, 1),
+    (Trouble::Write, 1),
+    (Trouble::Flush, 1),
+    (Trouble::Room, 0),
+    (Trouble::Turns, 0),
 ];
 
 /// A run in which something fails: the read, write or flush of number `at`, or a sink with room for
@@ -58,23 +51,38 @@ pub struct Trial {
 }
 
 impl Trial {
+    // The place of this trouble, or a number that no run comes to.
+    fn place(self, trouble: Trouble) -> u32 {
+        if self.trouble == trouble {
+            self.at
+        } else {
+            u32::MAX
+        }
+    }
+
     /// Its source of these bytes, `step` in a read, its sink, and how many turns there are.
     pub fn ends(self, bytes: &[u8], step: usize) -> (Lender<'_>, Recorder, u32) {
         let mut source = Lender::new(bytes, step);
+        source.fails_at = self.place(Trouble::Read) as u64;
         let mut sink = Recorder::new();
-        let mut limit = 1000;
-        match self.trouble {
-            Trouble::Read => source.fails_at = self.at as u64,
-            Trouble::Write => sink.write_fails_at = self.at as u64,
-            Trouble::Flush => sink.flush_fails_at = self.at as u64,
-            Trouble::Room => sink.room = self.at as usize,
-            Trouble::Turns => limit = self.at,
-        }
-        (source, sink, limit)
+        sink.write_fails_at = self.place(Trouble::Write) as u64;
+        sink.flush_fails_at = self.place(Trouble::Flush) as u64;
+        sink.room = self.place(Trouble::Room) as usize;
+        (source, sink, self.place(Trouble::Turns).min(1000))
     }
 
-    /// Whether the run met its trouble, without which it answers `whole`. The answer and the marks
-    /// tell it, and it came at its place.
+    // Where the trouble came.
+    fn came(self, source: &Lender<'_>, sink: &Recorder) -> u64 {
+        match self.trouble {
+            Trouble::Read | Trouble::Turns => source.reads,
+            Trouble::Write => sink.writes,
+            Trouble::Flush => sink.flushes,
+            Trouble::Room => sink.taken().len() as u64,
+        }
+    }
+
+    /// Whether the run met its trouble. A run without trouble returns `whole`. The result and the
+    /// marks show the trouble, and it came at its place.
     pub fn is_met(
         self,
         rt: &impl Abort,
@@ -84,35 +92,33 @@ impl Trial {
         whole: Result<(), RunFault>,
     ) -> bool {
         let is_torn = answer == Err(RunFault::WriteFailed);
-        assert_eq!(rt; source.failed, answer == Err(RunFault::ReadFailed));
-        assert_eq!(rt; sink.failed, is_torn);
-        assert!(rt; !source.late && !sink.late, "a call that came late");
-        assert!(rt; sink.flushed || is_torn);
+        let is_unread = answer == Err(RunFault::ReadFailed);
+        assert_that(rt, source.failed == is_unread, "a read that failed");
+        assert_that(rt, sink.failed == is_torn, "a write that failed");
+        assert_that(rt, !source.late && !sink.late, "no call that came late");
+        assert_that(rt, sink.flushed || is_torn, "all is flushed");
         if answer == whole {
             return false;
         }
-        assert_eq!(rt; answer, Err(self.trouble.fault()));
-        let place = match self.trouble {
-            Trouble::Read | Trouble::Turns => source.reads,
-            Trouble::Write => sink.writes,
-            Trouble::Flush => sink.flushes,
-            Trouble::Room => sink.taken().len() as u64,
-        };
-        assert_eq!(rt; place, self.at as u64);
-        assert!(rt; !source.ended || is_torn);
+        assert_that(rt, answer == Err(self.trouble.fault()), "the fault");
+        let is_at_its_place = self.came(source, sink) == self.at as u64;
+        assert_that(rt, is_at_its_place, "the place of the fault");
+        assert_that(rt, !source.ended || is_torn, "no end");
         true
     }
 }
 
-/// What a run reads and writes: for each row, once its first bytes have come, its second ones are
-/// written, and at the end of the bytes these last ones.
+/// Bytes of the input, and what is written once they have come.
+pub type Row = (&'static [u8], &'static [u8]);
+
+/// What a run reads and writes: the rows, in order, and what is written at the end of the bytes.
 #[derive(Clone, Copy)]
-pub struct Text<'a> {
-    pub rows: &'a [(&'a [u8], &'a [u8])],
-    pub last: &'a [u8],
+pub struct Text {
+    pub rows: &'static [Row],
+    pub last: &'static [u8],
 }
 
-impl Text<'_> {
+impl Text {
     pub fn input(&self) -> Result<ArrayVec<u8, 256>, Fail> {
         let mut input = ArrayVec::new();
         for (bytes, _) in self.rows {
@@ -137,8 +143,8 @@ impl Text<'_> {
         Ok(text)
     }
 
-    /// How many bytes had come, and how many rows were written or begun, when a sink with so many
-    /// bytes refused the next. At the end of the bytes these are all.
+    /// How many bytes had come, and how many rows were written or begun, when a sink that had taken
+    /// `taken` bytes refused the next. At the end of the bytes these are all.
     pub fn torn_at(&self, taken: usize) -> (usize, usize) {
         let (mut came, mut begun, mut written) = (0usize, 0usize, 0usize);
         for (bytes, more) in self.rows {
@@ -164,12 +170,12 @@ impl Text<'_> {
     ) -> Result<(), Fail> {
         let text = self.of(source)?;
         let taken = sink.taken();
-        if is_torn {
-            assert!(rt; text.as_slice().starts_with(taken));
-            assert!(rt; taken.len() < text.len());
+        let is_right = if is_torn {
+            text.as_slice().starts_with(taken) && taken.len() < text.len()
         } else {
-            assert_eq!(rt; taken, text.as_slice());
-        }
+            taken == text.as_slice()
+        };
+        assert_that(rt, is_right, "what is written");
         Ok(())
     }
 }

@@ -1,5 +1,6 @@
 //! The acts that lines of scripts ask for. `checks/rows` has the lines that ask for none.
 
+use crate::asserting::assert_that;
 use dgt_command::{Command, LedBytes};
 use dgt_link::{Act, FaultyAct};
 use dgt_message::{Clock, Message};
@@ -90,21 +91,29 @@ fn faulty_text(alloc: Global, act: FaultyAct<'_>) -> Result<String, Fail> {
     }
 }
 
-fn assert_asks(rt: &impl Abort, alloc: Global, line: &str, text: &str) -> Result<(), Fail> {
+fn asks(alloc: Global, line: &str, text: &str) -> Result<bool, Fail> {
     let mut store = [0xff; 257];
     match read_act(line.as_bytes(), &mut store) {
-        Ok(act) => assert_eq!(rt; plain_text(alloc, act)?.as_str(), text, "{line}"),
-        Err(_) => panic!(rt; "no act: {line}"),
+        Ok(act) => Ok(plain_text(alloc, act)?.as_str() == text),
+        Err(_) => Ok(false),
     }
-    assert_asks_faulty(rt, alloc, line, text)
 }
 
-fn assert_asks_faulty(rt: &impl Abort, alloc: Global, line: &str, text: &str) -> Result<(), Fail> {
+fn asks_faulty(alloc: Global, line: &str, text: &str) -> Result<bool, Fail> {
     let mut store = [0xff; 257];
     match read_faulty_act(line.as_bytes(), &mut store) {
-        Ok(act) => assert_eq!(rt; faulty_text(alloc, act)?.as_str(), text, "{line}"),
-        Err(_) => panic!(rt; "no act: {line}"),
+        Ok(act) => Ok(faulty_text(alloc, act)?.as_str() == text),
+        Err(_) => Ok(false),
     }
+}
+
+// The line asks for the act of this text, in a script with faults and in one without.
+fn assert_asks(rt: &impl Abort, alloc: Global, line: &str, text: &str) -> Result<(), Fail> {
+    assert_that(
+        rt,
+        asks(alloc, line, text)? && asks_faulty(alloc, line, text)?,
+        line,
+    );
     Ok(())
 }
 
@@ -114,13 +123,13 @@ fn lines_ask_for_acts(rt: HostRuntime) -> Result<(), Fail> {
         assert_asks(&rt, rt.alloc(), line, line)?;
     }
     for line in FAULTY.split(',') {
-        assert_asks_faulty(&rt, rt.alloc(), line, line)?;
+        assert_that(&rt, asks_faulty(rt.alloc(), line, line)?, line);
     }
     for (line, text) in UPPER {
         assert_asks(&rt, rt.alloc(), line, text)?;
     }
     for (line, text) in UPPER_FAULTY {
-        assert_asks_faulty(&rt, rt.alloc(), line, text)?;
+        assert_that(&rt, asks_faulty(rt.alloc(), line, text)?, line);
     }
     Ok(())
 }
@@ -131,8 +140,13 @@ fn longest_line(rt: HostRuntime) -> Result<(), Fail> {
     line[..9].copy_from_slice(b"host 60ff");
     let mut store = [0xff; 257];
     let leds = Command::Leds(LedBytes::new(&[0; 255])?);
-    assert_eq!(rt; read_act(&line[..519], &mut store), Ok(Act::Host(leds)));
+    let is_longest = read_act(&line[..519], &mut store) == Ok(Act::Host(leds));
+    assert_that(&rt, is_longest, "the longest line");
     let long = Err(LineFault::BadLine { at: 519 });
-    assert_eq!(rt; read_act(&line, &mut store), long);
+    assert_that(
+        &rt,
+        read_act(&line, &mut store) == long,
+        "a line that is too long",
+    );
     Ok(())
 }

@@ -1,5 +1,6 @@
 //! What is written of an outcome, and of a board and a host at the end. `checks/rows` has others.
 
+use crate::asserting::assert_same;
 use arrayvec::ArrayVec;
 use dgt_board::Identity;
 use dgt_lines::{Device, RunFault};
@@ -60,10 +61,10 @@ fn a_new_world_and_one_that_is_refused(rt: HostRuntime) -> Result<(), Fail> {
         };
         let mut device = Device::new(&mut taking);
         let closed = write_closing(world.board(), world.host(), world.quiet(), &mut device);
-        assert_eq!(rt; closed, written);
-        assert_eq!(rt; taking.taken.as_slice(), lines);
-        assert_eq!(rt; taking.writes, 1);
+        assert_same(&rt, closed, written);
+        assert_same(&rt, taking.taken.as_slice(), lines);
+        assert_same(&rt, taking.writes, 1);
     }
-    assert_eq!(rt; outcome_text(Outcome::TooMany), b"toomany\n".as_slice());
+    assert_same(&rt, outcome_text(Outcome::TooMany), b"toomany\n".as_slice());
     Ok(())
 }

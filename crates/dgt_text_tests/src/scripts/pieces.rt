@@ -1,5 +1,6 @@
-//! Lines in pieces, and lines that are too long.
+//! Lines in chunks, and lines that are too long.
 
+use crate::asserting::assert_same;
 use dgt_script::{LineBuffer, len_before};
 use std::process::Abort;
 
@@ -10,17 +11,15 @@ fn is_line(line: &LineBuffer, bytes: &[u8]) -> bool {
     }
 }
 
-/// Pieces, and whether their line is these bytes.
+/// The line of these chunks is these bytes, or is too long.
 fn assert_line(rt: &impl Abort, pieces: [&[u8]; 3], bytes: &[u8], is_kept: bool) {
-    let [first, second, third] = pieces;
-    let lengths = [first.len(), second.len(), third.len()];
     let mut line = LineBuffer::new();
     for piece in pieces {
         line.add(piece);
     }
-    assert_eq!(rt; is_line(&line, bytes), is_kept, "{lengths:?}");
-    assert_eq!(rt; line.line().is_some(), is_kept, "{lengths:?}");
-    assert_eq!(rt; line.is_empty(), bytes.is_empty(), "{lengths:?}");
+    assert_same(rt, is_line(&line, bytes), is_kept);
+    assert_same(rt, line.line().is_some(), is_kept);
+    assert_same(rt, line.is_empty(), bytes.is_empty());
 }
 
 #[test]
@@ -52,6 +51,10 @@ fn bytes_before_a_line_feed(rt: HostRuntime) {
         ("\nsend", 0),
         ("send\nsend\n", 4),
     ] {
-        assert_eq!(rt; len_before(text.as_bytes(), b'\n'), count, "{text:?}");
+        assert_same(
+            &rt,
+            (text, len_before(text.as_bytes(), b'\n')),
+            (text, count),
+        );
     }
 }

@@ -1,6 +1,6 @@
 use Rattle.std.proofs.Common.{arith, ◌<◌, length}
 use Rattle.dgt_values.specs.Board.{piece_code}
-use Rattle.dgt_c.proofs.Codes.{one_more_read}
+use Rattle.dgt_message.proofs.Codes.{one_more_read}
 use Rattle.dgt_c.proofs.checking.read_position.Goals as goal
 
 pub loop-index-preserved : goal.loop-index-preserved

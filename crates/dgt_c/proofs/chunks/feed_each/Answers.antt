@@ -1,87 +1,44 @@
-use Rattle.std.proofs.Common.{arith, sym, ◌∙◌}
+use Rattle.std.proofs.Common.{refl, sym, ◌∙◌, ap, append-nil}
 use Rattle.std.proofs.lemmas.List.{take_rest}
-use Rattle.dgt_c.proofs.ChunkLemmas.{fed_nothing, no_event, none_fed_more, one_fed_more, progress, uses_up_to}
+use Rattle.dgt_decode.specs.Grammar.{open_message}
+use Rattle.dgt_c.proofs.ChunkLemmas.{decoder, fed_in_pieces, heard_nothing, none_heard, one_heard, uses, uses_some}
 use Rattle.dgt_c.proofs.chunks.feed_each.Goals as goal
 
-pub loop-used-init : goal.loop-used-init
-loop-used-init c =
-    fed_nothing c.events_append.ensures c.open_is_quiet.ensures c.args.decoder.now c.args.chunk.now c.args.told.now
-    c.args.body.now c.rest.ensures.unfinished
+pub loop-decoder-init : goal.loop-decoder-init
+loop-decoder-init c =
+    heard_nothing decoder c.events_append.ensures c.args.decoder.now c.args.chunk.now c.args.told.now
+    c.args.body.now c.open_is_quiet.ensures c.rest.ensures.unfinished (ap open_message (append-nil
+    c.args.decoder.now) ∙ c.rest.ensures.unfinished)
 
-pub loop-used-preserved-then-is_some : goal.loop-used-preserved-then-is_some
-loop-used-preserved-then-is_some c =
-    let call = rw (take_rest c.args.chunk.now c.loop-used.used) at c.feed.ensures in
-    let after = rw (take_rest c.args.chunk.now c.loop-used.used) at c.feed.follows.holds-at-none in
-    one_fed_more c.events_append.ensures c.open_append.ensures c.args.decoder.now c.loop-used.decoder _
-    c.args.chunk.now c.loop-used.used c.feed.result.used c.loop-used.count c.loop-used.body_len c.args.told.now
-    c.loop-used.told c.args.body.now c.loop-used.body c.body_of-said.result.now c.overwrite.new.out
-    c.feed.result.event c.tell.new.out c.loop-used.invariant c.loop-used-test.true c.if-count-told.true
-    c.if-body_len-eq0.true call.first after (sym c.is_some.ensures ∙ c.if-is_some.true) c.tell.ensures
-    c.body_of-said.ensures c.overwrite.ensures
+pub loop-decoder-preserved-then-is_some : goal.loop-decoder-preserved-then-is_some
+loop-decoder-preserved-then-is_some c =
+    let call = rw (take_rest c.args.chunk.now c.loop-decoder.used) at c.feed.ensures in
+    let after = rw (take_rest c.args.chunk.now c.loop-decoder.used) at c.feed.follows.holds-at-none in
+    one_heard decoder c.events_append.ensures c.args.decoder.now c.args.chunk.now c.args.told.now
+    c.args.body.now c.open_is_part.ensures (fed_in_pieces c.open_append.ensures) c.loop-decoder.decoder _
+    c.loop-decoder.used c.feed.result.used c.loop-decoder.count c.loop-decoder.body_len c.loop-decoder.told
+    c.loop-decoder.body c.body_of-said.result.now c.overwrite.new.out c.feed.result.event c.tell_at.new.out
+    c.loop-decoder.invariant (c.loop-decoder-test.ensures.0 refl) call.first after (sym c.is_some.ensures ∙
+    c.if-is_some.true) c.tell_at.ensures c.body_of-said.ensures c.overwrite.ensures
 
-pub loop-used-preserved : goal.loop-used-preserved
-loop-used-preserved c =
-    let call = rw (take_rest c.args.chunk.now c.loop-used.used) at c.feed.ensures in
-    let after = rw (take_rest c.args.chunk.now c.loop-used.used) at c.feed.follows.holds-at-none in
-    none_fed_more c.events_append.ensures c.open_append.ensures c.args.decoder.now c.loop-used.decoder _
-    c.args.chunk.now c.loop-used.used c.feed.result.used c.loop-used.count c.loop-used.body_len c.args.told.now
-    c.loop-used.told c.args.body.now c.loop-used.body c.feed.result.event c.loop-used.invariant
-    c.loop-used-test.true c.if-count-told.true c.if-body_len-eq0.true call.first after (sym c.is_some.ensures ∙
-    c.if-is_some.false)
+pub loop-decoder-preserved : goal.loop-decoder-preserved
+loop-decoder-preserved c =
+    let call = rw (take_rest c.args.chunk.now c.loop-decoder.used) at c.feed.ensures in
+    let after = rw (take_rest c.args.chunk.now c.loop-decoder.used) at c.feed.follows.holds-at-none in
+    none_heard decoder c.events_append.ensures c.args.decoder.now c.args.chunk.now c.args.told.now
+    c.args.body.now (fed_in_pieces c.open_append.ensures) c.loop-decoder.decoder _ c.loop-decoder.used
+    c.feed.result.used c.loop-decoder.count c.loop-decoder.body_len c.loop-decoder.told c.loop-decoder.body
+    c.feed.result.event c.loop-decoder.invariant (c.loop-decoder-test.ensures.0 refl) call.first after (sym
+    c.is_some.ensures ∙ c.if-is_some.false)
 
-pub returns-else-body_len-eq0 : goal.returns-else-body_len-eq0
-returns-else-body_len-eq0 c =
-    let has = c.loop-used.invariant in
-    let uses = uses_up_to c.events_append.ensures c.args.decoder.now c.args.chunk.now c.args.told.now
-    c.args.body.now c.loop-used.used c.loop-used.count c.loop-used.body_len c.loop-used.told
-    c.loop-used.body has.read
-    (λ more room same. c.if-body_len-eq0.false same) in
-    let none = no_event c.open_is_quiet.ensures c.args.decoder.now c.rest.ensures.unfinished in
-    record {
-      after = has.left;
-      uses = uses;
-      tells = has.tells;
-      count = has.read.count_is;
-      rest = has.read.rest;
-      body = has.read.body_is;
-      progress = progress c.events_append.ensures c.args.decoder.now c.args.chunk.now c.args.told.now
-          c.args.body.now c.loop-used.used none uses;
-    }
+pub returns-clause-uses : goal.returns-clause-uses
+returns-clause-uses c =
+    uses decoder c.events_append.ensures c.args.decoder.now c.args.chunk.now c.args.told.now c.args.body.now
+    c.loop-decoder.decoder c.loop-decoder.used c.loop-decoder.count c.loop-decoder.body_len c.loop-decoder.told
+    c.loop-decoder.body c.loop-decoder.invariant c.loop-decoder-test.ensures.1
 
-pub returns-else-count-told : goal.returns-else-count-told
-returns-else-count-told c =
-    let has = c.loop-used.invariant in
-    let uses = uses_up_to c.events_append.ensures c.args.decoder.now c.args.chunk.now c.args.told.now
-    c.args.body.now c.loop-used.used c.loop-used.count c.loop-used.body_len c.loop-used.told
-    c.loop-used.body has.read
-    (λ more room same. absurd (omega (arith, room, c.if-count-told.false))) in
-    let none = no_event c.open_is_quiet.ensures c.args.decoder.now c.rest.ensures.unfinished in
-    record {
-      after = has.left;
-      uses = uses;
-      tells = has.tells;
-      count = has.read.count_is;
-      rest = has.read.rest;
-      body = has.read.body_is;
-      progress = progress c.events_append.ensures c.args.decoder.now c.args.chunk.now c.args.told.now
-          c.args.body.now c.loop-used.used none uses;
-    }
-
-pub returns-after-loop-used : goal.returns-after-loop-used
-returns-after-loop-used c =
-    let has = c.loop-used.invariant in
-    let uses = uses_up_to c.events_append.ensures c.args.decoder.now c.args.chunk.now c.args.told.now
-    c.args.body.now c.loop-used.used c.loop-used.count c.loop-used.body_len c.loop-used.told
-    c.loop-used.body has.read
-    (λ more room same. absurd (omega (arith, more, c.loop-used-test.false))) in
-    let none = no_event c.open_is_quiet.ensures c.args.decoder.now c.rest.ensures.unfinished in
-    record {
-      after = has.left;
-      uses = uses;
-      tells = has.tells;
-      count = has.read.count_is;
-      rest = has.read.rest;
-      body = has.read.body_is;
-      progress = progress c.events_append.ensures c.args.decoder.now c.args.chunk.now c.args.told.now
-          c.args.body.now c.loop-used.used none uses;
-    }
+pub returns-clause-progress : goal.returns-clause-progress
+returns-clause-progress c =
+    uses_some decoder c.events_append.ensures c.args.decoder.now c.args.chunk.now c.args.told.now
+    c.args.body.now c.open_is_quiet.ensures c.rest.ensures.unfinished c.loop-decoder.used (returns-clause-uses
+    c)

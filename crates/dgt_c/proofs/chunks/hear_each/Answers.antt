@@ -1,87 +1,41 @@
-use Rattle.std.proofs.Common.{arith, sym, ◌∙◌}
+use Rattle.std.proofs.Common.{refl, sym, ◌∙◌}
 use Rattle.std.proofs.lemmas.List.{take_rest}
-use Rattle.dgt_c.proofs.ChunkLemmas.{heard_nothing, no_event, none_heard, one_heard, progress, uses_up_to}
+use Rattle.dgt_c.proofs.ChunkLemmas.{heard_nothing, host, none_heard, one_heard, uses, uses_some}
 use Rattle.dgt_c.proofs.chunks.hear_each.Goals as goal
 
-pub loop-used-init : goal.loop-used-init
-loop-used-init c =
-    heard_nothing c.events_append.ensures c.open_is_quiet.ensures c.args.host.now c.args.chunk.now c.args.told.now
-    c.args.body.now c.unread.ensures.all_open (c.nothing_heard.ensures c.args.host.now c.unread.ensures.all_open)
+pub loop-host-init : goal.loop-host-init
+loop-host-init c =
+    heard_nothing host c.events_append.ensures c.args.host.now c.args.chunk.now c.args.told.now c.args.body.now
+    c.open_is_quiet.ensures c.unread.ensures.all_open (c.nothing_heard.ensures c.args.host.now
+    c.unread.ensures.all_open)
 
-pub loop-used-preserved-then-is_some : goal.loop-used-preserved-then-is_some
-loop-used-preserved-then-is_some c =
-    let call = rw (take_rest c.args.chunk.now c.loop-used.used) at c.hear.ensures in
-    let after = rw (take_rest c.args.chunk.now c.loop-used.used) at c.hear.follows.holds-at-none in
-    one_heard c.events_append.ensures c.heard_in_pieces.ensures c.args.host.now c.loop-used.host _
-    c.args.chunk.now c.loop-used.used c.hear.result.used c.loop-used.count c.loop-used.body_len c.args.told.now
-    c.loop-used.told c.args.body.now c.loop-used.body c.body_of-said.result.now c.overwrite.new.out
-    c.hear.result.event c.hear.result.unasked c.tell_heard.new.out c.loop-used.invariant c.loop-used-test.true
-    c.if-count-told.true c.if-body_len-eq0.true call.first call.unasked after (sym c.is_some.ensures ∙
-    c.if-is_some.true) c.tell_heard.ensures c.body_of-said.ensures c.overwrite.ensures
+pub loop-host-preserved-then-is_some : goal.loop-host-preserved-then-is_some
+loop-host-preserved-then-is_some c =
+    let call = rw (take_rest c.args.chunk.now c.loop-host.used) at c.hear.ensures in
+    let after = rw (take_rest c.args.chunk.now c.loop-host.used) at c.hear.follows.holds-at-none in
+    one_heard host c.events_append.ensures c.args.host.now c.args.chunk.now c.args.told.now c.args.body.now
+    c.open_is_part.ensures c.heard_in_pieces.ensures c.loop-host.host _ c.loop-host.used c.hear.result.used
+    c.loop-host.count c.loop-host.body_len c.loop-host.told c.loop-host.body c.body_of-said.result.now
+    c.overwrite.new.out c.hear.result.event c.tell_heard.new.out c.loop-host.invariant
+    (c.loop-host-test.ensures.0 refl) call.first after (sym c.is_some.ensures ∙ c.if-is_some.true)
+    (c.hear.result.unasked, call.unasked, c.tell_heard.ensures) c.body_of-said.ensures c.overwrite.ensures
 
-pub loop-used-preserved : goal.loop-used-preserved
-loop-used-preserved c =
-    let call = rw (take_rest c.args.chunk.now c.loop-used.used) at c.hear.ensures in
-    let after = rw (take_rest c.args.chunk.now c.loop-used.used) at c.hear.follows.holds-at-none in
-    none_heard c.events_append.ensures c.heard_in_pieces.ensures c.args.host.now c.loop-used.host _
-    c.args.chunk.now c.loop-used.used c.hear.result.used c.loop-used.count c.loop-used.body_len c.args.told.now
-    c.loop-used.told c.args.body.now c.loop-used.body c.hear.result.event c.loop-used.invariant
-    c.loop-used-test.true c.if-count-told.true c.if-body_len-eq0.true call.first after (sym c.is_some.ensures ∙
-    c.if-is_some.false)
+pub loop-host-preserved : goal.loop-host-preserved
+loop-host-preserved c =
+    let call = rw (take_rest c.args.chunk.now c.loop-host.used) at c.hear.ensures in
+    let after = rw (take_rest c.args.chunk.now c.loop-host.used) at c.hear.follows.holds-at-none in
+    none_heard host c.events_append.ensures c.args.host.now c.args.chunk.now c.args.told.now c.args.body.now
+    c.heard_in_pieces.ensures c.loop-host.host _ c.loop-host.used c.hear.result.used c.loop-host.count
+    c.loop-host.body_len c.loop-host.told c.loop-host.body c.hear.result.event c.loop-host.invariant
+    (c.loop-host-test.ensures.0 refl) call.first after (sym c.is_some.ensures ∙ c.if-is_some.false)
 
-pub returns-else-body_len-eq0 : goal.returns-else-body_len-eq0
-returns-else-body_len-eq0 c =
-    let has = c.loop-used.invariant in
-    let uses = uses_up_to c.events_append.ensures c.args.host.now.unread c.args.chunk.now c.args.told.now
-    c.args.body.now c.loop-used.used c.loop-used.count c.loop-used.body_len c.loop-used.told
-    c.loop-used.body has.read
-    (λ more room same. c.if-body_len-eq0.false same) in
-    let none = no_event c.open_is_quiet.ensures c.args.host.now.unread c.unread.ensures.all_open in
-    record {
-      after = has.heard;
-      uses = uses;
-      tells = has.tells;
-      count = has.read.count_is;
-      rest = has.read.rest;
-      body = has.read.body_is;
-      progress = progress c.events_append.ensures c.args.host.now.unread c.args.chunk.now c.args.told.now
-          c.args.body.now c.loop-used.used none uses;
-    }
+pub returns-clause-uses : goal.returns-clause-uses
+returns-clause-uses c =
+    uses host c.events_append.ensures c.args.host.now c.args.chunk.now c.args.told.now c.args.body.now
+    c.loop-host.host c.loop-host.used c.loop-host.count c.loop-host.body_len c.loop-host.told c.loop-host.body
+    c.loop-host.invariant c.loop-host-test.ensures.1
 
-pub returns-else-count-told : goal.returns-else-count-told
-returns-else-count-told c =
-    let has = c.loop-used.invariant in
-    let uses = uses_up_to c.events_append.ensures c.args.host.now.unread c.args.chunk.now c.args.told.now
-    c.args.body.now c.loop-used.used c.loop-used.count c.loop-used.body_len c.loop-used.told
-    c.loop-used.body has.read
-    (λ more room same. absurd (omega (arith, room, c.if-count-told.false))) in
-    let none = no_event c.open_is_quiet.ensures c.args.host.now.unread c.unread.ensures.all_open in
-    record {
-      after = has.heard;
-      uses = uses;
-      tells = has.tells;
-      count = has.read.count_is;
-      rest = has.read.rest;
-      body = has.read.body_is;
-      progress = progress c.events_append.ensures c.args.host.now.unread c.args.chunk.now c.args.told.now
-          c.args.body.now c.loop-used.used none uses;
-    }
-
-pub returns-after-loop-used : goal.returns-after-loop-used
-returns-after-loop-used c =
-    let has = c.loop-used.invariant in
-    let uses = uses_up_to c.events_append.ensures c.args.host.now.unread c.args.chunk.now c.args.told.now
-    c.args.body.now c.loop-used.used c.loop-used.count c.loop-used.body_len c.loop-used.told
-    c.loop-used.body has.read
-    (λ more room same. absurd (omega (arith, more, c.loop-used-test.false))) in
-    let none = no_event c.open_is_quiet.ensures c.args.host.now.unread c.unread.ensures.all_open in
-    record {
-      after = has.heard;
-      uses = uses;
-      tells = has.tells;
-      count = has.read.count_is;
-      rest = has.read.rest;
-      body = has.read.body_is;
-      progress = progress c.events_append.ensures c.args.host.now.unread c.args.chunk.now c.args.told.now
-          c.args.body.now c.loop-used.used none uses;
-    }
+pub returns-clause-progress : goal.returns-clause-progress
+returns-clause-progress c =
+    uses_some host c.events_append.ensures c.args.host.now c.args.chunk.now c.args.told.now c.args.body.now
+    c.open_is_quiet.ensures c.unread.ensures.all_open c.loop-host.used (returns-clause-uses c)

@@ -1,8 +1,8 @@
-use Rattle.dgt_lines.proofs.ReportLemmas.{report_text-append, state_of-append}
+use Rattle.dgt_lines.proofs.ReportLemmas.{state_from-append, text_from-append}
 use Rattle.dgt_lines.proofs.laws.reports_append.Goals as goal
 
 pub returns : goal.returns
 returns c = record {
-  lines = report_text-append c.pieces_in_a_row.ensures.add;
-  state = state_of-append c.pieces_in_a_row.ensures.add;
+  lines = text_from-append c.pieces_in_a_row.ensures.add;
+  state = state_from-append c.pieces_in_a_row.ensures.add;
 }

@@ -1,21 +1,5 @@
 use Rattle.dgt_link.proofs.Behind.{step_behind}
-use Rattle.dgt_link.proofs.Standing.{Grammars}
 use Rattle.dgt_link.proofs.healing.acts_behind_garbage.Goals as goal
 
 pub returns : goal.returns
-returns c =
-    let laws : Grammars = record {
-      reads = record {
-        append = c.events_append.ensures;
-        open_append = c.open_append.ensures;
-        quiet_held = c.quiet_held.ensures;
-        spelling = c.spelling_is_read.ensures;
-        places = c.places_do_not_matter.ensures;
-      };
-      divisions_append = c.divisions_append.ensures;
-      fronts_divide_first = c.fronts_divide_first.ensures;
-      zeros_settle = c.zeros_settle_the_reader.ensures;
-      nothing = c.parts_of_words.ensures.nothing;
-      left = c.parts_of_words.ensures.left;
-    } in
-    step_behind laws c.begins_anew.ensures
+returns c = step_behind c.grammars.ensures

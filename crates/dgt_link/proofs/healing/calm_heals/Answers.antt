@@ -1,5 +1,6 @@
 use Rattle.dgt_link.specs.declared.acts.Outcome.{Outcome}
-use Rattle.dgt_link.proofs.Hoping.{calm_promised, run_following, sane_after}
+use Rattle.dgt_link.specs.Healing.{IsFollowing, IsPromisedWorld}
+use Rattle.dgt_link.proofs.Hoping.{sane_keeps, sane_after}
 use Rattle.dgt_link.proofs.healing.calm_heals.Goals as goal
 
 pub returns-clause-restart : goal.returns-clause-restart
@@ -7,7 +8,8 @@ returns-clause-restart c =
     λ acts later act world between begun after answers others sane before is step calm runs quiet.
     let still = c.faults_heal.ensures.sane acts world between answers sane before in
     c.promised_worlds_heal.ensures.picture after
-    (calm_promised c.faults_heal.ensures.sane c.steps_heal.ensures.kept later begun after others calm
+    (sane_keeps c.faults_heal.ensures.sane _ IsPromisedWorld
+    (λ a old new answer calm. c.steps_heal.ensures.kept a old new answer calm.0 calm.1) later begun after others calm
     (sane_after c.faults_heal.ensures.sane act between begun Outcome.Done still step)
     (c.steps_heal.ensures.anew act between begun is still step) runs) quiet
 
@@ -15,9 +17,12 @@ pub returns-clause-dump : goal.returns-clause-dump
 returns-clause-dump c =
     λ acts later world between begun after answers others all sane follows before step calm runs quiet.
     let still = c.faults_heal.ensures.sane acts world between answers sane before in
-    let following = run_following c.faults_heal.ensures.sane c.steps_heal.ensures.following acts world between answers
+    let following = sane_keeps c.faults_heal.ensures.sane _ IsFollowing
+    (λ act old new answer keeps. c.steps_heal.ensures.following act old new answer keeps.0 keeps.1) acts world between
+    answers
     all sane follows before in
     c.promised_worlds_heal.ensures.picture after
-    (calm_promised c.faults_heal.ensures.sane c.steps_heal.ensures.kept later begun after others calm
+    (sane_keeps c.faults_heal.ensures.sane _ IsPromisedWorld
+    (λ a old new answer calm. c.steps_heal.ensures.kept a old new answer calm.0 calm.1) later begun after others calm
     (sane_after c.faults_heal.ensures.sane _ between begun Outcome.Done still step)
     (c.steps_heal.ensures.dump between begun following step) runs) quiet

@@ -1,15 +1,18 @@
-use Rattle.dgt_link.proofs.ClockHopes.{clock_asked_follows, clock_at_quiet, clock_owed_promises, clock_promises, keeps_clock_following, keeps_clock_promised, settled_clock_promised}
+use Rattle.dgt_board.specs.State.{follows_clock}
+use Rattle.dgt_link.specs.Clocks.{ClockIsComing, stops_clock}
+use Rattle.dgt_link.proofs.ClockHopes.{clock_at_quiet, clock_hope, clock_owed_promises, clock_promises, keeps_clock_following, keeps_clock_promised}
+use Rattle.dgt_link.proofs.Hopes.{asked_follows, settled_promised}
 use Rattle.dgt_link.proofs.healing.clocks_heal.Goals as goal
 
 pub returns : goal.returns
 returns c =
     let behind = c.acts_behind_garbage.ensures in
     record {
-      asked = clock_asked_follows behind;
+      asked = asked_follows behind follows_clock stops_clock ClockIsComing clock_hope;
       owed = clock_owed_promises behind;
       following = keeps_clock_following behind;
       reading = clock_promises behind;
       kept = keeps_clock_promised behind;
-      settled = settled_clock_promised behind;
+      settled = settled_promised behind follows_clock stops_clock ClockIsComing clock_hope;
       clock = clock_at_quiet c.one_division.ensures;
     }

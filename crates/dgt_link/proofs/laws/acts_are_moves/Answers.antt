@@ -1,23 +1,11 @@
-use Rattle.dgt_link.proofs.Standing.{Grammars, run_stands, step_stands}
+use Rattle.dgt_link.proofs.Standing.{run_stands, step_stands}
 use Rattle.dgt_link.proofs.laws.acts_are_moves.Goals as goal
 
 pub returns : goal.returns
 returns c =
-    let laws : Grammars = record {
-      reads = record {
-        append = c.events_append.ensures;
-        open_append = c.open_append.ensures;
-        quiet_held = c.quiet_held.ensures;
-        spelling = c.spelling_is_read.ensures;
-        places = c.places_do_not_matter.ensures;
-      };
-      divisions_append = c.divisions_append.ensures;
-      fronts_divide_first = c.fronts_divide_first.ensures;
-      zeros_settle = c.zeros_settle_the_reader.ensures;
-      nothing = c.parts_of_words.ensures.nothing;
-      left = c.parts_of_words.ensures.left;
-    } in
     record {
-      one = λ act world after answer x stands step. step_stands laws act world answer after x stands step;
-      all = λ acts world after answers x stands runs. run_stands laws acts world answers after x stands runs;
+      one = λ act world after answer x stands step.
+          step_stands c.grammars.ensures act world answer after x stands step;
+      all = λ acts world after answers x stands runs.
+          run_stands c.grammars.ensures acts world answers after x stands runs;
     }

@@ -1,10 +1,11 @@
 use Rattle.std.proofs.Common.{◌≤◌, take}
-use Rattle.dgt_link.proofs.Running.{HasRunFaulty}
+use Rattle.dgt_link.specs.Faults.{FaultyStep, faulty_content}
+use Rattle.dgt_link.proofs.Running.{HasRun}
 use Rattle.dgt_link.proofs.faulty.FaultyWorld.act_all.Given as goal
 
 abbrev pub invariant-loop-act : goal.invariant-loop-act
 invariant-loop-act l =
     record {
       bounded : l.done ≤ l.act-index;
-      run : HasRunFaulty l.fn.self l.self (take l.act-index l.acts) l.done;
+      run : HasRun FaultyStep faulty_content l.fn.self l.self (take l.act-index l.acts) l.done;
     }

@@ -1,27 +1,18 @@
 use Rattle.dgt_link.specs.Act.{ActContent}
 use Rattle.dgt_link.specs.Faults.{FaultyContent}
-use Rattle.dgt_link.specs.View.{WorldView}
+use Rattle.dgt_link.specs.View.{world_of}
 use Rattle.dgt_link.proofs.Counting.{faulty_step}
 use Rattle.dgt_link.proofs.faulty.FaultyWorld.send.Goals as goal
 
 pub invariant_of-self : goal.invariant_of-self
 invariant_of-self c =
-    let world : WorldView = record {
-      board = c.self.inside.board;
-      host = c.self.inside.host;
-      up = c.self.inside.up;
-      down = c.self.inside.down;
-    } in
     c.faults_keep.ensures (FaultyContent.Plain ActContent.BoardSend) _ _ c.send_next.result c.self.invariant
-    (faulty_step ActContent.BoardSend _ _ _ (c.send_next.ensures.sends world))
+    (faulty_step ActContent.BoardSend _ _ _
+    (c.send_next.ensures.sends
+    (world_of c.self.inside.board c.self.inside.host c.self.inside.up c.self.inside.down)))
 
 pub returns-clause-exact : goal.returns-clause-exact
 returns-clause-exact c =
     rw (← c.self.view_is)
     (c.send_next.ensures.sends
-    (record {
-      board = c.self.inside.board;
-      host = c.self.inside.host;
-      up = c.self.inside.up;
-      down = c.self.inside.down;
-    }))
+    (world_of c.self.inside.board c.self.inside.host c.self.inside.up c.self.inside.down))

@@ -1,6 +1,8 @@
 use Rattle.std.proofs.Common.{arith, refl}
+use Rattle.dgt_link.specs.Healing.{IsPromisedWorld}
+use Rattle.dgt_link.specs.View.{IsQuietWorld}
 use Rattle.dgt_link.proofs.Rested.{settled_clock, settled_squares}
-use Rattle.dgt_link.proofs.Settling.{settled_kept, settled_more}
+use Rattle.dgt_link.proofs.Settling.{most_work, settled_kept, settled_more}
 use Rattle.dgt_link.proofs.faulty.FaultyWorld.settle.Goals as goal
 
 pub overflow_add-done : goal.overflow_add-done
@@ -18,58 +20,35 @@ loop-done-preserved c =
       most = omega (arith, more.3, c.loop-done.invariant.most);
     }
 
-pub returns-clause-keeps_squares : goal.returns-clause-keeps_squares
-returns-clause-keeps_squares c =
+pub returns : goal.returns
+returns c =
+    let old = c.args.self.now in
+    let new = c.loop-done.self in
+    let count = c.loop-done.done in
+    let settled = c.loop-done.invariant.run in
     let rests = c.loop-done-test.ensures.rests refl in
-    rw rests.1 (settled_kept c.loop-done.done c.args.self.now c.loop-done.self c.loop-done.invariant.run).squares
-
-pub returns-clause-keeps_clock : goal.returns-clause-keeps_clock
-returns-clause-keeps_clock c =
-    let rests = c.loop-done-test.ensures.rests refl in
-    rw rests.1 (settled_kept c.loop-done.done c.args.self.now c.loop-done.self c.loop-done.invariant.run).clock
-
-pub returns-clause-promised : goal.returns-clause-promised
-returns-clause-promised c =
-    let rests = c.loop-done-test.ensures.rests refl in
-    rw rests.1
-    (c.promised_worlds_heal.ensures.kept c.loop-done.done c.args.self.now c.loop-done.self c.loop-done.invariant.run)
-
-pub returns-clause-quiet : goal.returns-clause-quiet
-returns-clause-quiet c =
-    let rests = c.loop-done-test.ensures.rests refl in
-    let held = c.holds_open.ensures in
-    rw rests.1
-    (λ promised. c.promised_worlds_heal.ensures.quiet c.loop-done.self
-    (c.promised_worlds_heal.ensures.kept c.loop-done.done c.args.self.now c.loop-done.self c.loop-done.invariant.run
-    promised) rests.0 (rw rests.1 at held))
-
-pub returns-clause-picture : goal.returns-clause-picture
-returns-clause-picture c =
-    let rests = c.loop-done-test.ensures.rests refl in
-    let held = c.holds_open.ensures in
-    rw rests.1
-    (λ promised.
-    let still = c.promised_worlds_heal.ensures.kept c.loop-done.done c.args.self.now c.loop-done.self
-    c.loop-done.invariant.run promised in
-    settled_squares c.loop-done.done c.args.self.now c.loop-done.self c.loop-done.invariant.run
-    (c.promised_worlds_heal.ensures.picture c.loop-done.self still
-    (c.promised_worlds_heal.ensures.quiet c.loop-done.self still rests.0 (rw rests.1 at held))))
-
-pub returns-clause-clock_kept : goal.returns-clause-clock_kept
-returns-clause-clock_kept c =
-    let rests = c.loop-done-test.ensures.rests refl in
-    rw rests.1
-    (c.clocks_heal.ensures.settled c.loop-done.done c.args.self.now c.loop-done.self c.loop-done.invariant.run)
-
-pub returns-clause-clock : goal.returns-clause-clock
-returns-clause-clock c =
-    let rests = c.loop-done-test.ensures.rests refl in
-    let held = c.holds_open.ensures in
-    rw rests.1
-    (λ promised clock.
-    let still = c.promised_worlds_heal.ensures.kept c.loop-done.done c.args.self.now c.loop-done.self
-    c.loop-done.invariant.run promised in
-    settled_clock c.loop-done.done c.args.self.now c.loop-done.self c.loop-done.invariant.run
-    (c.clocks_heal.ensures.clock c.loop-done.self
-    (c.clocks_heal.ensures.settled c.loop-done.done c.args.self.now c.loop-done.self c.loop-done.invariant.run clock)
-    (c.promised_worlds_heal.ensures.quiet c.loop-done.self still rests.0 (rw rests.1 at held))))
+    let few = c.work.ensures.few in
+    let most = most_work old in
+    let kept = settled_kept count old new settled in
+    let still = c.promised_worlds_heal.ensures.kept count old new settled in
+    let clock_still = c.clocks_heal.ensures.settled count old new settled in
+    let open_is = c.holds_open.ensures in
+    let quiet : IsPromisedWorld old → IsQuietWorld new
+    = λ is. c.promised_worlds_heal.ensures.quiet new (still is) rests.0 (rw rests.1 at open_is) in
+    record {
+      rested = rw rests.1 rests.0;
+      run = rw rests.1 settled;
+      bound = omega (arith, c.loop-done.invariant.most, most);
+      at_most = omega (arith, c.loop-done.invariant.most, most, few);
+      keeps_squares = rw rests.1 kept.squares;
+      keeps_clock = rw rests.1 kept.clock;
+      promised = rw rests.1 still;
+      quiet = rw rests.1 quiet;
+      picture = rw rests.1
+          (λ is. settled_squares count old new settled
+          (c.promised_worlds_heal.ensures.picture new (still is) (quiet is)));
+      clock_kept = rw rests.1 clock_still;
+      clock = rw rests.1
+          (λ is clock. settled_clock count old new settled
+          (c.clocks_heal.ensures.clock new (clock_still clock) (quiet is)));
+    }

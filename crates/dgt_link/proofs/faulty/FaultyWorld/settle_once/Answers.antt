@@ -1,5 +1,5 @@
 use Rattle.std.proofs.Common.{refl, rules}
-use Rattle.dgt_link.proofs.Settling.{hears, no_bytes, not_owing, sends_told, takes_partial}
+use Rattle.dgt_link.proofs.Settling.{hears, no_bytes, not_owing, sends, takes}
 use Rattle.dgt_link.proofs.faulty.FaultyWorld.settle_once.Goals as goal
 
 pub returns-then-not-is_empty-clause-moved : goal.returns-then-not-is_empty-clause-moved
@@ -8,14 +8,14 @@ returns-then-not-is_empty-clause-moved c =
 
 pub returns-then-has_to_send-clause-moved : goal.returns-then-has_to_send-clause-moved
 returns-then-has_to_send-clause-moved c =
-    λ _. sends_told c.bounded_backlog.ensures.falls c.args.self.now c.send.new.self c.send.result (search rules)
+    λ _. sends c.bounded_backlog.ensures.falls c.args.self.now c.send.new.self c.send.result (search rules)
     (search rules) (search rules) c.send.ensures.room c.send.ensures.exact
 
 pub returns-then-not-is_empty-2-clause-moved : goal.returns-then-not-is_empty-2-clause-moved
 returns-then-not-is_empty-2-clause-moved c =
     let none = not_owing c.has_to_send.result c.args.self.now.board.state c.has_to_send.ensures
     c.if-has_to_send.false in
-    λ _. takes_partial c.words_are_short.ensures c.parts_of_words.ensures.no_word c.bounded_backlog.ensures.rises
+    λ _. takes c.words_are_short.ensures c.parts_of_words.ensures.no_word c.bounded_backlog.ensures.rises
     c.args.self.now c.take_all.new.self c.take_all.result (search rules) (search rules) none
     (c.nothing_to_send.ensures.none_owed c.args.self.now.board.state none) (search rules) c.take_all.ensures
 

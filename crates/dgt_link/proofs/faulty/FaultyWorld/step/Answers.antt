@@ -1,55 +1,29 @@
 use Rattle.dgt_link.specs.Faults.{faulty_content}
+use Rattle.dgt_link.proofs.Counting.{undone}
 use Rattle.dgt_link.proofs.faulty.FaultyWorld.step.Goals as goal
 
-pub returns-clause-anew : goal.returns-clause-anew
-returns-clause-anew c =
-    λ is done. c.steps_heal.ensures.anew (faulty_content c.args.act) _ _ is c.is_faulty.ensures.sane
-    (rw done at c.act.ensures)
-
-pub returns-clause-in_step : goal.returns-clause-in_step
-returns-clause-in_step c =
-    λ keeps is. c.steps_heal.ensures.in_step (faulty_content c.args.act) _ _ c.act.result keeps
-    c.is_faulty.ensures.sane is c.act.ensures
-
-pub returns-clause-following : goal.returns-clause-following
-returns-clause-following c =
-    λ keeps going is. c.steps_heal.ensures.following (faulty_content c.args.act) _ _ c.act.result keeps going
-    c.is_faulty.ensures.sane is c.act.ensures
-
-pub returns-clause-dump : goal.returns-clause-dump
-returns-clause-dump c =
-    λ is done follows. c.steps_heal.ensures.dump _ _ follows (rw (is, done) at c.act.ensures)
-
-pub returns-clause-kept : goal.returns-clause-kept
-returns-clause-kept c =
-    λ none going is. c.steps_heal.ensures.kept (faulty_content c.args.act) _ _ c.act.result none going
-    c.is_faulty.ensures.sane is c.act.ensures
-
-pub returns-clause-asked : goal.returns-clause-asked
-returns-clause-asked c =
-    λ command mode is sets asks done in_step. c.steps_heal.ensures.asked command mode _ _ sets asks in_step
-    (rw (is, done) at c.act.ensures)
-
-pub returns-clause-clock_asked : goal.returns-clause-clock_asked
-returns-clause-clock_asked c =
-    λ command mode is sets asks done in_step. c.clocks_heal.ensures.asked command mode _ _ sets asks in_step
-    (rw (is, done) at c.act.ensures)
-
-pub returns-clause-clock_owed : goal.returns-clause-clock_owed
-returns-clause-clock_owed c =
-    λ command mode is sets asks none done in_step. c.clocks_heal.ensures.owed command mode _ _ sets asks none in_step
-    (rw (is, done) at c.act.ensures)
-
-pub returns-clause-clock_following : goal.returns-clause-clock_following
-returns-clause-clock_following c =
-    λ keeps going is. c.clocks_heal.ensures.following (faulty_content c.args.act) _ _ c.act.result keeps going is
-    c.act.ensures
-
-pub returns-clause-reading : goal.returns-clause-reading
-returns-clause-reading c =
-    λ is done follows. c.clocks_heal.ensures.reading _ _ follows (rw (is, done) at c.act.ensures)
-
-pub returns-clause-clock_kept : goal.returns-clause-clock_kept
-returns-clause-clock_kept c =
-    λ none going is. c.clocks_heal.ensures.kept (faulty_content c.args.act) _ _ c.act.result none going is
-    c.act.ensures
+pub returns : goal.returns
+returns c =
+    let act = faulty_content c.args.act in
+    let sane = c.is_faulty.ensures.sane in
+    let step = c.act.ensures in
+    let hopes = c.steps_heal.ensures in
+    let clock = c.clocks_heal.ensures in
+    record {
+      exact = step;
+      unchanged = λ other. undone act _ _ _ other step;
+      anew = λ is done. hopes.anew act _ _ is sane (rw done at step);
+      in_step = λ keeps is. hopes.in_step act _ _ c.act.result keeps sane is step;
+      asked = λ command mode is sets asks done in_step.
+          hopes.asked command mode _ _ sets asks in_step (rw (is, done) at step);
+      following = λ keeps going is. hopes.following act _ _ c.act.result keeps going sane is step;
+      dump = λ is done follows. hopes.dump _ _ follows (rw (is, done) at step);
+      kept = λ none going is. hopes.kept act _ _ c.act.result none going sane is step;
+      clock_asked = λ command mode is sets asks done in_step.
+          clock.asked command mode _ _ sets asks in_step (rw (is, done) at step);
+      clock_owed = λ command mode is sets asks none done in_step.
+          clock.owed command mode _ _ sets asks none in_step (rw (is, done) at step);
+      clock_following = λ keeps going is. clock.following act _ _ c.act.result keeps going is step;
+      reading = λ is done follows. clock.reading _ _ follows (rw (is, done) at step);
+      clock_kept = λ none going is. clock.kept act _ _ c.act.result none going is step;
+    }

@@ -1,4 +1,6 @@
 use Rattle.std.proofs.Common.{◌≤◌, take}
+use Rattle.dgt_link.specs.Act.{act_content}
+use Rattle.dgt_link.specs.Step.{Step}
 use Rattle.dgt_link.proofs.Running.{HasRun}
 use Rattle.dgt_link.proofs.world.World.act_all.Given as goal
 
@@ -6,5 +8,5 @@ abbrev pub invariant-loop-act : goal.invariant-loop-act
 invariant-loop-act l =
     record {
       bounded : l.done ≤ l.act-index;
-      run : HasRun l.fn.self l.self (take l.act-index l.acts) l.done;
+      run : HasRun Step act_content l.fn.self l.self (take l.act-index l.acts) l.done;
     }

@@ -1,94 +1,50 @@
-use Rattle.std.proofs.Common.{arith, refl}
+use Rattle.dgt_link.specs.Settling.{SettlesIn}
+use Rattle.dgt_link.specs.Stands.{IsExactWorld, IsWorld}
+use Rattle.dgt_link.specs.View.{IsQuietWorld}
+use Rattle.dgt_link.proofs.Halves.{Leads}
 use Rattle.dgt_link.proofs.Rested.{settled_clock as settled_same_clock}
-use Rattle.dgt_link.proofs.Settling.{settled_awaited, settled_clock, settled_kept, settled_known, settled_mode, settled_more}
+use Rattle.dgt_link.proofs.Settling.{rests, run_is_world, settled_awaited, settled_clock, settled_known, settled_mode}
 use Rattle.dgt_link.proofs.Settling.{settled_picture, settled_told, settling_no_host_break}
 use Rattle.dgt_link.proofs.world.World.settle.Goals as goal
 
-pub overflow_add-done : goal.overflow_add-done
-overflow_add-done c =
-    let fits = c.work.ensures.fits in
-    omega (arith, fits, c.loop-done.invariant.most)
+pub invariant_of-self : goal.invariant_of-self
+invariant_of-self c =
+    run_is_world c.acts_keep.ensures.sound c.settle-done.result _ _ c.settle-done.ensures.run c.self.invariant
 
-pub loop-done-preserved : goal.loop-done-preserved
-loop-done-preserved c =
-    let more = c.loop-done-test.ensures.moved refl in
+pub returns : goal.returns
+returns c =
+    let old = c.args.self.now in
+    let new = c.settle-done.new.self in
+    let count = c.settle-done.result in
+    let settled : SettlesIn count old new = rw c.self.view_is at c.settle-done.ensures.run in
+    let leads : Leads = record {
+      moves = c.acts_are_moves.ensures.one;
+      mode = c.promise_by_acts.ensures.mode;
+      kept = c.promise_by_acts.ensures.kept;
+    } in
+    let once = c.grammars.ensures.once in
+    let is_world : IsWorld new
+    = run_is_world c.acts_keep.ensures.sound count old new settled (rw c.self.view_is at c.self.invariant) in
+    let quiet : IsQuietWorld new
+    = rests c.grammars.ensures.reads once new is_world c.settle-done.ensures.rested
+    c.holds_open.ensures in
+    let exact : IsExactWorld old → IsExactWorld new
+    = λ is. c.acts_keep.ensures.exact_after_all settled.acts _ _ _
+    (settling_no_host_break settled.acts settled.settling) is settled.run in
     record {
-      run =
-          settled_more c.args.self.now c.loop-done.self c.settle_once.new.self c.loop-done.done
-          c.loop-done.invariant.run more;
-      most = omega (arith, more.3, c.loop-done.invariant.most);
+      quiet = quiet;
+      run = settled;
+      bound = rw c.self.view_is at c.settle-done.ensures.bound;
+      at_most = rw c.self.view_is at c.settle-done.ensures.at_most;
+      keeps_squares = rw c.self.view_is at c.settle-done.ensures.keeps_squares;
+      keeps_clock = rw c.self.view_is at c.settle-done.ensures.keeps_clock;
+      mode = settled_mode leads once count old new settled quiet;
+      picture = settled_picture leads once count old new settled quiet;
+      told = settled_told leads once count old new settled quiet c.stands.ensures.0 c.stands.ensures.1;
+      clock = λ is. settled_clock once count old new settled (exact is) quiet;
+      clock_told = settled_known leads once count old new settled quiet c.stands.ensures.0 c.stands.ensures.1;
+      clock_promised = λ promised. settled_same_clock count old new settled
+          (c.clocks_heal.ensures.clock new (c.clocks_heal.ensures.settled count old new settled promised) quiet);
+      awaited = settled_awaited leads once count old new settled quiet c.stands.ensures.0 c.stands.ensures.1;
+      stays_exact = exact;
     }
-
-pub returns-clause-keeps_squares : goal.returns-clause-keeps_squares
-returns-clause-keeps_squares c =
-    let rests = c.loop-done-test.ensures.rests refl in
-    rw rests.1 (settled_kept c.loop-done.done c.args.self.now c.loop-done.self c.loop-done.invariant.run).squares
-
-pub returns-clause-keeps_clock : goal.returns-clause-keeps_clock
-returns-clause-keeps_clock c =
-    let rests = c.loop-done-test.ensures.rests refl in
-    rw rests.1 (settled_kept c.loop-done.done c.args.self.now c.loop-done.self c.loop-done.invariant.run).clock
-
-pub returns-clause-mode : goal.returns-clause-mode
-returns-clause-mode c =
-    let rests = c.loop-done-test.ensures.rests refl in
-    rw rests.1
-    (settled_mode c.acts_are_moves.ensures.one c.promise_by_acts.ensures.mode c.promise_by_acts.ensures.kept
-    c.one_division.ensures c.loop-done.done c.args.self.now c.loop-done.self c.loop-done.invariant.run rests.0)
-
-pub returns-clause-picture : goal.returns-clause-picture
-returns-clause-picture c =
-    let rests = c.loop-done-test.ensures.rests refl in
-    rw rests.1
-    (settled_picture c.acts_are_moves.ensures.one c.promise_by_acts.ensures.mode c.promise_by_acts.ensures.kept
-    c.one_division.ensures c.loop-done.done c.args.self.now c.loop-done.self c.loop-done.invariant.run rests.0)
-
-pub returns-clause-told : goal.returns-clause-told
-returns-clause-told c =
-    let rests = c.loop-done-test.ensures.rests refl in
-    rw rests.1
-    (settled_told c.acts_are_moves.ensures.one c.promise_by_acts.ensures.mode c.promise_by_acts.ensures.kept
-    c.one_division.ensures c.loop-done.done c.args.self.now c.loop-done.self c.loop-done.invariant.run rests.0
-    c.stands.ensures.0 c.stands.ensures.1)
-
-pub returns-clause-clock : goal.returns-clause-clock
-returns-clause-clock c =
-    let rests = c.loop-done-test.ensures.rests refl in
-    let settled = c.loop-done.invariant.run in
-    rw rests.1
-    (λ exact. settled_clock c.one_division.ensures c.loop-done.done c.args.self.now c.loop-done.self settled
-    (c.acts_keep.ensures.exact_after_all settled.acts _ _ _
-    (settling_no_host_break settled.acts settled.settling) exact settled.run) rests.0)
-
-pub returns-clause-awaited : goal.returns-clause-awaited
-returns-clause-awaited c =
-    let rests = c.loop-done-test.ensures.rests refl in
-    rw rests.1
-    (settled_awaited c.acts_are_moves.ensures.one c.promise_by_acts.ensures.mode c.promise_by_acts.ensures.kept
-    c.one_division.ensures c.loop-done.done c.args.self.now c.loop-done.self c.loop-done.invariant.run rests.0
-    c.stands.ensures.0 c.stands.ensures.1)
-
-pub returns-clause-stays_exact : goal.returns-clause-stays_exact
-returns-clause-stays_exact c =
-    let rests = c.loop-done-test.ensures.rests refl in
-    let settled = c.loop-done.invariant.run in
-    rw rests.1
-    (λ exact. c.acts_keep.ensures.exact_after_all settled.acts _ _ _
-    (settling_no_host_break settled.acts settled.settling) exact settled.run)
-
-pub returns-clause-clock_told : goal.returns-clause-clock_told
-returns-clause-clock_told c =
-    let rests = c.loop-done-test.ensures.rests refl in
-    rw rests.1
-    (settled_known c.acts_are_moves.ensures.one c.promise_by_acts.ensures.mode c.promise_by_acts.ensures.kept
-    c.one_division.ensures c.loop-done.done c.args.self.now c.loop-done.self c.loop-done.invariant.run rests.0
-    c.stands.ensures.0 c.stands.ensures.1)
-
-pub returns-clause-clock_promised : goal.returns-clause-clock_promised
-returns-clause-clock_promised c =
-    let rests = c.loop-done-test.ensures.rests refl in
-    let settled = c.loop-done.invariant.run in
-    rw rests.1
-    (λ promised. settled_same_clock c.loop-done.done c.args.self.now c.loop-done.self settled
-    (c.clocks_heal.ensures.clock c.loop-done.self
-    (c.clocks_heal.ensures.settled c.loop-done.done c.args.self.now c.loop-done.self settled promised) rests.0))

@@ -1,3 +1,4 @@
+use Prim.Native.Char.{code as ascii}
 use Rattle.std.proofs.Common.{arith, ◌≡◌, ◌<◌, ◌≤◌, ◌+◌, ◌++◌, ℕ, length, List, replicate, ◌-◌, ◌*◌, get_or, take, refl}
 use Rattle.std.proofs.Common.{ap, ◌∙◌}
 use Rattle.std.proofs.lemmas.List.{length-replicate}
@@ -25,7 +26,7 @@ loop-at-preserved-then-more_ranks c =
 pub returns-in_default : goal.returns-in_default
 returns-in_default c =
     let bytes = c.as_bytes-byte-items.result.now in
-    let no_slash : get_or bytes c.loop-at.at 0 ≡ 47 → c.loop-at.file ≡ 8 → c.loop-at.rank < 7 → ⊥ =
+    let no_slash : get_or bytes c.loop-at.at 0 ≡ ascii "/" → c.loop-at.file ≡ 8 → c.loop-at.rank < 7 → ⊥ =
     λ slash full less. grind (arith, c.else-byte-eq47.either) in
     let no_room = rw c.in_default.is at c.squares_of.ensures in
     let too_many : (squares : List Piece) → MeansSquares (get_or bytes c.loop-at.at 0) squares

@@ -1,0 +1,9 @@
+use Rattle.dgt_command.specs.Content.{ClockContent, CommandContent}
+use Rattle.dgt_c.proofs.command_encoding.encode_clock.Goals as goal
+
+pub returns-clause-encoded : goal.returns-clause-encoded
+returns-clause-encoded c = λ short.
+    let message : ClockContent = record { id = c.args.id; payload = c.args.payload.now } in
+    let said : CommandContent = CommandContent.ClockMessage message in
+    let done = c.encode_word.ensures.encoded said c.spell_clock.ensures in
+    rw c.spell_clock.ensures at done

@@ -1,0 +1,161 @@
+//! Messages that C has encoded and viewed without a handle.
+
+ghost use Rattle.std.specs.Prelude.{◌≡◌, ℕ, List, false, IsTrue, MatchOption};
+ghost use Rattle.dgt_values.specs.Bytes.{body_bytes};
+ghost use Rattle.dgt_message.specs.Content.{IsCarried};
+ghost use Rattle.dgt_c.specs.Encoding.{EncodesMessage, IsCodeAndBody, ReadsMessage, encoded_told, view_told};
+
+use crate::checking::{read_position, read_seven_bits};
+use crate::clocks::{read_absence, read_times};
+use crate::events::tell;
+use crate::header::{
+    CLOCK_NONE, CLOCK_TIMES, DgtEncoded, DgtEvent, ENCODED, EVENT_ACK, EVENT_BATTERY, EVENT_DUMP,
+    EVENT_FIELD, EVENT_LONG_SERIAL, EVENT_NO_CLOCK, EVENT_OTHER, EVENT_SERIAL, EVENT_TIMES,
+    EVENT_TRADEMARK, EVENT_VERSION, NOTHING_ENCODED, TOO_SHORT,
+};
+use dgt_decode::Event;
+use dgt_message::{ClockAck, Message, OtherCode, encode, view};
+use dgt_values::{Body, NoRoom, Piece, SevenBit, Square};
+
+pub(crate) fn encoded_told(outcome: Result<usize, NoRoom>) -> DgtEncoded
+    ensures { result ≡ encoded_told outcome }
+{
+    let (status, bytes) = match outcome {
+        Ok(bytes) => (ENCODED, bytes),
+        Err(NoRoom { need }) => (TOO_SHORT, need),
+    };
+    DgtEncoded { status, bytes }
+}
+
+fn read_dump(said: &DgtEvent) -> Option<Message<'static>>
+    requires { said.now.kind ≡ EVENT_DUMP }
+    ensures { (body : List ℕ) → ReadsMessage said.now body result }
+{
+    Some(Message::Dump(read_position(&said.pieces)?))
+}
+
+fn read_field(said: &DgtEvent) -> Option<Message<'static>>
+    requires { said.now.kind ≡ EVENT_FIELD }
+    ensures { (body : List ℕ) → ReadsMessage said.now body result }
+{
+    let square = Square::from_index(said.square).ok()?;
+    let piece = Piece::from_code(said.piece).ok()?;
+    Some(Message::Field { square, piece })
+}
+
+fn read_times_message(said: &DgtEvent) -> Option<Message<'static>>
+    requires { said.now.kind ≡ EVENT_TIMES }
+    ensures { (body : List ℕ) → ReadsMessage said.now body result }
+{
+    if said.clock.kind != CLOCK_TIMES {
+        return None;
+    }
+    Some(Message::Times(read_times(&said.clock)?))
+}
+
+fn read_no_clock(said: &DgtEvent) -> Option<Message<'static>>
+    requires { said.now.kind ≡ EVENT_NO_CLOCK }
+    ensures { (body : List ℕ) → ReadsMessage said.now body result }
+{
+    if said.clock.kind != CLOCK_NONE {
+        return None;
+    }
+    Some(Message::NoClock(read_absence(&said.clock)?))
+}
+
+fn read_ack(said: &DgtEvent) -> Option<Message<'static>>
+    requires { said.now.kind ≡ EVENT_ACK }
+    ensures { (body : List ℕ) → ReadsMessage said.now body result }
+{
+    let status = SevenBit::try_from(said.ack_status).ok()?;
+    let ack = said.ack;
+    Some(Message::Ack(ClockAck { ack, status }))
+}
+
+fn read_serial_number(said: &DgtEvent) -> Option<Message<'static>>
+    requires { said.now.kind ≡ EVENT_SERIAL }
+    ensures { (body : List ℕ) → ReadsMessage said.now body result }
+{
+    Some(Message::Serial(read_seven_bits(&said.serial)?))
+}
+
+fn read_version(said: &DgtEvent) -> Option<Message<'static>>
+    requires { said.now.kind ≡ EVENT_VERSION }
+    ensures { (body : List ℕ) → ReadsMessage said.now body result }
+{
+    let main = SevenBit::try_from(said.main_number).ok()?;
+    let sub = SevenBit::try_from(said.sub_number).ok()?;
+    Some(Message::Version { main, sub })
+}
+
+// The body of these bytes, if a message carries them.
+fn read_body(body: &[u8]) -> Option<Body<'_>>
+    ensures { MatchOption result (¬ (IsCarried body.now))
+        (λ read. (body_bytes read ≡ body.now) × IsCarried body.now) }
+{
+    Body::new(body).ok()
+}
+
+fn read_other<'a>(said: &DgtEvent, body: &'a [u8]) -> Option<Message<'a>>
+    requires { said.now.kind ≡ EVENT_OTHER }
+    ensures { ReadsMessage said.now body.now result }
+{
+    let code = SevenBit::try_from(said.code).ok()?;
+    let code = OtherCode::new(code).ok()?;
+    let body = read_body(body)?;
+    Some(Message::Other { code, body })
+}
+
+// The message that C says, if it says one.
+fn read_message<'a>(said: &DgtEvent, body: &'a [u8]) -> Option<Message<'a>>
+    ensures { ReadsMessage said.now body.now result }
+{
+    match said.kind {
+        EVENT_DUMP => read_dump(said),
+        EVENT_FIELD => read_field(said),
+        EVENT_TIMES => read_times_message(said),
+        EVENT_NO_CLOCK => read_no_clock(said),
+        EVENT_ACK => read_ack(said),
+        EVENT_SERIAL => read_serial_number(said),
+        EVENT_TRADEMARK => Some(Message::Trademark(read_body(body)?)),
+        EVENT_VERSION => read_version(said),
+        EVENT_BATTERY => Some(Message::Battery(read_body(body)?)),
+        EVENT_LONG_SERIAL => Some(Message::LongSerial(read_body(body)?)),
+        EVENT_OTHER => read_other(said, body),
+        _ => None,
+    }
+}
+
+/// Writes the message that the struct and the body say to the beginning of the slice.
+#[unsafe(no_mangle)]
+pub extern "C" fn dgt_encode_message(said: &DgtEvent, body: &[u8], out: &mut [u8]) -> DgtEncoded
+    ensures encodes { EncodesMessage said.now body.now out.old out.new result }
+{
+    match read_message(said, body) {
+        Some(message) => encoded_told(encode(&message, out)),
+        None => NOTHING_ENCODED,
+    }
+}
+
+/// Writes the message with this code and this body to the struct, or the fault of the body.
+///
+/// Returns false if no message has such a code or such a body, and then the struct stays.
+#[unsafe(no_mangle)]
+pub extern "C" fn dgt_view_message(code: u8, body: &[u8], event: &mut DgtEvent) -> bool
+    ensures views { IsTrue result → IsCodeAndBody code body.now
+        × (event.new ≡ view_told code body.now) }
+    ensures refused { result ≡ false → ¬ (IsCodeAndBody code body.now) × (event.new ≡ event.old) }
+{
+    let Ok(code) = SevenBit::try_from(code) else {
+        return false;
+    };
+    let Some(body) = read_body(body) else {
+        return false;
+    };
+    let seen = match view(code, body) {
+        Ok(message) => Event::Message(message),
+        Err(fault) => Event::Refused { code, fault },
+    };
+    tell(&Some(seen), event);
+    true
+}

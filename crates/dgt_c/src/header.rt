@@ -1,0 +1,293 @@
+//! The numbers and the structs of `dgt.h`, which says of each what it stands for. The laws
+//! `limits`, `layouts` and `members` state their numbers, their layouts and their members.
+
+use dgt_board::MAX_KEPT_BODY;
+
+/// Room for each placement and a zero.
+pub const PLACEMENT_ROOM: usize = 72;
+
+/// What stands for no piece, no square and no segments.
+pub const NONE: u8 = 255;
+
+/// No clock was reported.
+pub const CLOCK_UNKNOWN: u8 = 0;
+
+/// The clock shows the times of both players.
+pub const CLOCK_TIMES: u8 = 1;
+
+/// No clock is connected.
+pub const CLOCK_NONE: u8 = 2;
+
+pub const EVENT_NONE: u8 = 0;
+
+pub const EVENT_DUMP: u8 = 1;
+
+pub const EVENT_FIELD: u8 = 2;
+
+pub const EVENT_TIMES: u8 = 3;
+
+pub const EVENT_NO_CLOCK: u8 = 4;
+
+pub const EVENT_ACK: u8 = 5;
+
+pub const EVENT_SERIAL: u8 = 6;
+
+pub const EVENT_TRADEMARK: u8 = 7;
+
+pub const EVENT_VERSION: u8 = 8;
+
+pub const EVENT_BATTERY: u8 = 9;
+
+pub const EVENT_LONG_SERIAL: u8 = 10;
+
+pub const EVENT_OTHER: u8 = 11;
+
+pub const EVENT_REFUSED: u8 = 12;
+
+pub const EVENT_CUT: u8 = 13;
+
+pub const EVENT_BAD_LENGTH: u8 = 14;
+
+pub const EVENT_STRAY: u8 = 15;
+
+pub const FAULT_NONE: u8 = 0;
+
+pub const FAULT_WRONG_SIZE: u8 = 1;
+
+pub const FAULT_BAD_PIECE: u8 = 2;
+
+pub const FAULT_BAD_SQUARE: u8 = 3;
+
+pub const FAULT_BAD_READING: u8 = 4;
+
+pub const COMMAND_NONE: u8 = 0;
+
+pub const COMMAND_READ: u8 = 1;
+
+pub const COMMAND_BAD_SIZE: u8 = 2;
+
+pub const COMMAND_BAD_START: u8 = 3;
+
+pub const COMMAND_BAD_END: u8 = 4;
+
+pub const COMMAND_STRAY: u8 = 5;
+
+pub const SENT: u8 = 0;
+
+pub const SENT_TOO_MANY: u8 = 1;
+
+pub const SENT_NO_ROOM: u8 = 2;
+
+pub const SENT_NO_COMMAND: u8 = 3;
+
+pub const STARTED: u8 = 0;
+
+pub const START_BAD_PIECES: u8 = 1;
+
+pub const START_BAD_CLOCK: u8 = 2;
+
+pub const START_BAD_IDENTITY: u8 = 3;
+
+pub const ENCODED: u8 = 0;
+
+pub const TOO_SHORT: u8 = 1;
+
+pub const NOT_ENCODED: u8 = 2;
+
+pub const POLLED_NOTHING: u8 = 0;
+
+pub const POLLED_WROTE: u8 = 1;
+
+pub const POLLED_NEED_ROOM: u8 = 2;
+
+pub const MODE_IDLE: u8 = 0;
+
+pub const MODE_UPDATE: u8 = 1;
+
+pub const MODE_UPDATE_BOARD: u8 = 2;
+
+pub const MODE_UPDATE_NICE: u8 = 3;
+
+/// The time of one player.
+#[repr(C)]
+#[derive(Clone, Copy)]
+pub struct DgtTime {
+    pub hours: u8,
+    pub minutes: u8,
+    pub seconds: u8,
+    pub flags: u8,
+}
+
+/// What a clock shows.
+#[repr(C)]
+#[derive(Clone, Copy)]
+pub struct DgtClock {
+    pub kind: u8,
+    pub status: u8,
+    pub raw: [u8; 6],
+    pub first: DgtTime,
+    pub second: DgtTime,
+}
+
+pub(crate) const NO_TIME: DgtTime = DgtTime {
+    hours: 0,
+    minutes: 0,
+    seconds: 0,
+    flags: 0,
+};
+
+/// That no clock was reported.
+pub const UNKNOWN_CLOCK: DgtClock = DgtClock {
+    kind: CLOCK_UNKNOWN,
+    status: 0,
+    raw: [0; 6],
+    first: NO_TIME,
+    second: NO_TIME,
+};
+
+/// An event.
+#[repr(C)]
+#[derive(Clone, Copy)]
+pub struct DgtEvent {
+    pub kind: u8,
+    pub unasked: u8,
+    pub code: u8,
+    pub square: u8,
+    pub piece: u8,
+    pub main_number: u8,
+    pub sub_number: u8,
+    pub byte: u8,
+    pub fault: u8,
+    pub ack_status: u8,
+    pub ack: [u8; 4],
+    pub serial: [u8; 5],
+    pub clock: DgtClock,
+    pub pieces: [u8; 64],
+    pub have: usize,
+    pub at: usize,
+    pub body_len: usize,
+    pub place: usize,
+}
+
+/// That nothing was made known.
+pub const NOTHING: DgtEvent = DgtEvent {
+    kind: EVENT_NONE,
+    unasked: 0,
+    code: 0,
+    square: 0,
+    piece: 0,
+    main_number: 0,
+    sub_number: 0,
+    byte: 0,
+    fault: FAULT_NONE,
+    ack_status: 0,
+    ack: [0; 4],
+    serial: [0; 5],
+    clock: UNKNOWN_CLOCK,
+    pieces: [0; 64],
+    have: 0,
+    at: 0,
+    body_len: 0,
+    place: 0,
+};
+
+/// How far a chunk was read.
+#[repr(C)]
+#[derive(Clone, Copy)]
+pub struct DgtTold {
+    pub used: usize,
+    pub count: usize,
+}
+
+/// What a frame of a host is.
+#[repr(C)]
+#[derive(Clone, Copy)]
+pub struct DgtCommand {
+    pub kind: u8,
+    pub code: u8,
+    pub id: u8,
+    pub byte: u8,
+    pub word_len: usize,
+}
+
+/// That no word was completed.
+pub const NO_WORD: DgtCommand = DgtCommand {
+    kind: COMMAND_NONE,
+    code: 0,
+    id: 0,
+    byte: 0,
+    word_len: 0,
+};
+
+/// How a sending went.
+#[repr(C)]
+#[derive(Clone, Copy)]
+pub struct DgtSent {
+    pub status: u8,
+    pub bytes: usize,
+}
+
+/// That there is no such command.
+pub const NO_SUCH_COMMAND: DgtSent = DgtSent {
+    status: SENT_NO_COMMAND,
+    bytes: 0,
+};
+
+/// How an encoding went.
+#[repr(C)]
+#[derive(Clone, Copy)]
+pub struct DgtEncoded {
+    pub status: u8,
+    pub bytes: usize,
+}
+
+/// That there is no such message or command.
+pub const NOTHING_ENCODED: DgtEncoded = DgtEncoded {
+    status: NOT_ENCODED,
+    bytes: 0,
+};
+
+/// The bytes of a body.
+#[repr(C)]
+#[derive(Clone, Copy)]
+pub struct DgtBody {
+    pub len: usize,
+    pub bytes: [u8; MAX_KEPT_BODY],
+}
+
+/// What a board reports of itself.
+#[repr(C)]
+#[derive(Clone, Copy)]
+pub struct DgtIdentity {
+    pub serial: [u8; 5],
+    pub main_number: u8,
+    pub sub_number: u8,
+    pub clock_version: u8,
+    pub trademark: DgtBody,
+    pub battery: DgtBody,
+    pub long_serial: DgtBody,
+}
+
+/// How a taking went.
+#[repr(C)]
+#[derive(Clone, Copy)]
+pub struct DgtTaken {
+    pub busy: bool,
+    pub used: usize,
+}
+
+/// How a poll went.
+#[repr(C)]
+#[derive(Clone, Copy)]
+pub struct DgtPolled {
+    pub status: u8,
+    pub bytes: usize,
+}
+
+/// What a text is read as.
+#[repr(C)]
+#[derive(Clone, Copy)]
+pub struct DgtParsed {
+    pub ok: bool,
+    pub at: usize,
+}

@@ -1,0 +1,157 @@
+//! The decoder, the framer, and the plain reader beside them. `checks/rows` tries what bytes say,
+//! and `checks/divisions` that they say it in any chunks.
+
+use super::asserting::{assert_same, assert_that};
+use dgt_decode::{Decoder, Event, Found, Framer, Listener, Unfinished, first_top, plain};
+use dgt_message::{BodyFault, Message};
+use dgt_values::{Piece, SevenBit, Square};
+use std::alloc::{AllocError, Global};
+use std::process::Abort;
+use std::test::Fail;
+
+/// The bytes make known this event, and nothing else, as the decoder reads them and as the plain
+/// reader does.
+fn assert_one(
+    rt: &impl Abort,
+    alloc: Global,
+    bytes: &[u8],
+    event: Event<'_>,
+) -> Result<(), AllocError> {
+    let told = plain::events_of(alloc, bytes)?;
+    let is_told = match told.as_slice() {
+        [(place, only)] => *place == bytes.len() && *only == event,
+        _ => false,
+    };
+    assert_that(rt, is_told, "the event of the plain reader");
+    let mut decoder = Decoder::new();
+    let fed = decoder.feed(bytes);
+    let is_fed = fed.used == bytes.len() && fed.event == Some(event);
+    assert_that(rt, is_fed, "the event of the decoder");
+    Ok(())
+}
+
+#[test]
+fn a_field_and_a_refusal(rt: HostRuntime) -> Result<(), Fail> {
+    let square = Square::parse("e4")?;
+    let piece = Piece::WhitePawn;
+    let field = Event::Message(Message::Field { square, piece });
+    assert_one(&rt, rt.alloc(), &[0x8e, 0x00, 0x05, 0x24, 0x01], field)?;
+    let code = SevenBit::try_from(0x0e)?;
+    let fault = BodyFault::BadSquare { at: 0 };
+    let refused = Event::Refused { code, fault };
+    assert_one(&rt, rt.alloc(), &[0x8e, 0x00, 0x05, 0x40, 0x10], refused)?;
+    Ok(())
+}
+
+#[test]
+fn the_first_top_bit(rt: HostRuntime) {
+    let mut bytes = [0; 40];
+    assert_same(&rt, first_top(&[]), 0);
+    assert_same(&rt, first_top(&[0x8e]), 0);
+    assert_same(&rt, first_top(&bytes[..32]), 32);
+    bytes[31] = 0x80;
+    assert_same(&rt, first_top(&bytes[..32]), 31);
+    bytes[31] = 0x00;
+    bytes[32] = 0x8e;
+    assert_same(&rt, first_top(&bytes[..33]), 32);
+    assert_same(&rt, first_top(&[0xff; 40]), 0);
+}
+
+#[test]
+fn an_unfinished_message_is_told_once(rt: HostRuntime) {
+    let mut decoder = Decoder::new();
+    let fed = decoder.feed(&[0x8e, 0x00]);
+    assert_that(&rt, fed.used == 2 && fed.event.is_none(), "no event");
+    assert_same(&rt, decoder.rest(), 2);
+    assert_same(&rt, decoder.finish(), Some(Unfinished { have: 2 }));
+    assert_same(&rt, decoder.finish(), None);
+    assert_same(&rt, decoder.rest(), 0);
+}
+
+#[test]
+fn a_decoder_made_as_new(rt: HostRuntime) {
+    let mut decoder = Decoder::new();
+    let fed = decoder.feed(&[0x8e, 0x00]);
+    assert_that(&rt, fed.used == 2 && fed.event.is_none(), "no event");
+    decoder.reset();
+    assert_same(&rt, decoder.rest(), 0);
+    assert_same(&rt, decoder.finish(), None);
+}
+
+#[test]
+fn a_framer_lends_what_it_found(rt: HostRuntime) {
+    let mut framer = Framer::new();
+    let advanced = framer.advance(&[0x8e, 0x00, 0x05]);
+    assert!(rt; advanced.used == 3 && advanced.found.is_none());
+    assert_same(&rt, framer.open_len(), 3);
+    let advanced = framer.advance(&[0x24, 0x01, 0x07]);
+    assert_same(&rt, advanced.used, 2);
+    assert_same(&rt, framer.open_len(), 0);
+    match advanced.found {
+        Some(found) => {
+            assert_same(&rt, found, Found::Message);
+            assert!(rt; matches!(framer.event(found), Event::Message(Message::Field { .. })));
+        }
+        None => panic!(rt; "no message was found"),
+    }
+    framer.reset();
+    let advanced = framer.advance(&[0x07]);
+    assert_same(&rt, advanced.found, Some(Found::Stray(0x07)));
+}
+
+/// Keeps the places of the first three events, and how many of them are messages.
+#[derive(Drop)]
+struct Places {
+    places: [usize; 3],
+    count: usize,
+    messages: usize,
+}
+
+impl Listener for Places {
+    ghost use Rattle.std.specs.Prelude.{◌≡◌, ◌+◌, nat_lt, if◌then◌else◌, slice_set};
+
+    ghost hears = { λ old heard new.
+        (new.count ≡ (if nat_lt old.count 3 then old.count + 1 else old.count))
+        × (new.places ≡ (if nat_lt old.count 3 then slice_set old.places old.count heard.place
+        else old.places)) };
+
+    fn hear(&mut self, place: usize, event: &Event<'_>) {
+        if self.count < 3 {
+            self.places[self.count] = place;
+            self.count += 1;
+        }
+        if let Event::Message(_) = event {
+            self.messages = self.messages.saturating_add(1);
+        }
+    }
+}
+
+/// What a listener hears of a chunk.
+fn assert_told(
+    rt: &impl Abort,
+    decoder: &mut Decoder,
+    piece: &[u8],
+    told: &[usize],
+    messages: usize,
+) {
+    let mut heard = Places {
+        places: [0; 3],
+        count: 0,
+        messages: 0,
+    };
+    decoder.feed_all(piece, &mut heard);
+    assert_same(rt, heard.places.get(..heard.count), Some(told));
+    assert_same(rt, heard.messages, messages);
+}
+
+#[test]
+fn a_listener_is_told_each_event_at_its_place_in_the_piece(rt: HostRuntime) {
+    let mut decoder = Decoder::new();
+    assert_told(&rt, &mut decoder, &[], &[], 0);
+    let cut = [0x86, 0x00, 0x43, 0x00, 0x8e, 0x00, 0x05, 0x34];
+    assert_told(&rt, &mut decoder, &cut, &[5], 0);
+    assert_same(&rt, decoder.rest(), 4);
+    let ends = [0x00, 0x07, 0x8e, 0x00, 0x05, 0x24, 0x01, 0x93];
+    assert_told(&rt, &mut decoder, &ends, &[1, 2, 7], 2);
+    assert_same(&rt, decoder.rest(), 1);
+}

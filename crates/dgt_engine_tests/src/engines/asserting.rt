@@ -1,0 +1,14 @@
+//! What tests assert. A call of these takes the prover less time than an `assert!`.
+
+use std::fmt::Debug;
+use std::process::Abort;
+
+/// This holds, of which the words say what it is.
+pub fn assert_that(rt: &impl Abort, holds: bool, what: &str) {
+    assert!(rt; holds, "{what}");
+}
+
+/// Two values are the same in this row of a table.
+pub fn assert_same<T: PartialEq + Debug + Drop>(rt: &impl Abort, row: usize, got: T, right: T) {
+    assert_eq!(rt; got, right, "row {row}");
+}

@@ -1,0 +1,36 @@
+-- The text of the clock of a board.
+use Rattle.std.specs.Prelude.{ℕ, ◌^◌, ◌==◌, not, Bool, true, false, bit_and, if◌then◌else◌, List, [], ◌∷◌, ◌++◌, codes, decimal}
+use Rattle.dgt_message.specs.Clock.{ClockState, Time}
+use Rattle.dgt_lines.specs.Lines.{padded_decimal, words_text}
+
+-- hours, minutes and seconds
+unfoldable pub shown_time : Time → List ℕ
+shown_time t =
+    decimal t.hours ++ codes ":" ++ padded_decimal 2 t.minutes ++ codes ":" ++ padded_decimal 2
+    t.seconds
+
+-- D0 to D6 of a status
+abbrev pub has_bit : ℕ → ℕ → Bool
+has_bit status bit = not (bit_and status (2 ^ bit) == 0)
+
+-- D0 says that the clock is running
+abbrev pub running_text : ℕ → List ℕ
+running_text status = if has_bit status 0 then codes "running" else codes "stopped"
+
+-- whose turn it is, by what is said of black and of white
+abbrev pub turn_text : (black white : Bool) → List ℕ
+turn_text true false = codes "black"
+turn_text false true = codes "white"
+turn_text _ _ = codes "-"
+
+-- D2 says that the battery is low
+abbrev pub low_text : ℕ → List ℕ
+low_text status = if has_bit status 2 then codes " low" else []
+
+-- D3 says that it is black's turn, and D4 that it is white's
+unfoldable pub clock_text : ClockState → List ℕ
+clock_text (ClockState.times t) =
+    words_text (codes "clock" ∷ shown_time t.first ∷ shown_time t.second ∷ running_text t.status
+    ∷ turn_text (has_bit t.status 3) (has_bit t.status 4) ∷ [])
+    ++ low_text t.status
+clock_text (ClockState.no_clock absence) = codes "clock none"

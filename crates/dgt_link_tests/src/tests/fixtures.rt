@@ -1,0 +1,157 @@
+//! Worked messages and placements, and a clock, a board and a world to begin with.
+
+use dgt_board::{Board, Identity, MAX_SENT, TooLong};
+use dgt_link::{World, WorldFault};
+use dgt_message::{Clock, NoClock, Reading, Status, Times};
+use dgt_values::{Body, Position, SevenBit};
+use std::alloc::Global;
+use std::test::Fail;
+
+// A dump of the pieces before the first move, with these on e2 and on h1.
+macro_rules! dump {
+    ($e2:literal, $h1:literal) => {
+        [
+            0x86, 0x00, 0x43, 8, 9, 10, 12, 11, 10, 9, 8, 7, 7, 7, 7, 7, 7, 7, 7, 0, 0, 0, 0, 0, 0,
+            0, 0, 0, 0, 0, 0, 0, 0, 0, 0, 0, 0, 0, 0, 0, 0, 0, 0, 0, 0, 0, 0, 0, 0, 0, 0, 1, 1, 1,
+            1, $e2, 1, 1, 1, 2, 3, 4, 6, 5, 4, 3, $h1,
+        ]
+    };
+}
+
+pub const START_DUMP: [u8; MAX_SENT] = dump!(1, 2);
+
+pub const NO_E2_DUMP: [u8; MAX_SENT] = dump!(0, 2);
+
+/// Its last byte is no piece.
+pub const BAD_DUMP: [u8; MAX_SENT] = dump!(1, 16);
+
+/// The fields by which e2 is empty and a white pawn stands on e4.
+pub const E2_FIELD: [u8; 5] = [0x8e, 0x00, 0x05, 0x34, 0x00];
+
+pub const E4_FIELD: [u8; 5] = [0x8e, 0x00, 0x05, 0x24, 0x01];
+
+/// The serial number 00001, the version 1.3 and the long serial number 0000000001.
+pub const SERIAL: [u8; 8] = [0x91, 0x00, 0x08, 0x30, 0x30, 0x30, 0x30, 0x31];
+
+pub const VERSION: [u8; 5] = [0x93, 0x00, 0x05, 0x01, 0x03];
+
+pub const LONG_SERIAL: [u8; 13] = [
+    0xa2, 0x00, 0x0d, 0x30, 0x30, 0x30, 0x30, 0x30, 0x30, 0x30, 0x30, 0x30, 0x31,
+];
+
+/// What a clock of each kind of [`Shown`] sends.
+pub const ZEROS: [u8; 10] = [0x8d, 0x00, 0x0a, 0x00, 0x00, 0x00, 0x00, 0x00, 0x00, 0x00];
+
+pub const RUNNING: [u8; 10] = [0x8d, 0x00, 0x0a, 0x01, 0x30, 0x00, 0x01, 0x29, 0x55, 0x11];
+
+pub const NO_CLOCK: [u8; 10] = [0x8d, 0x00, 0x0a, 0x00, 0x00, 0x00, 0x00, 0x00, 0x00, 0x20];
+
+/// Placements: before the first move, and with e2 or e4 changed.
+pub const START: &str = "rnbqkbnr/pppppppp/8/8/8/8/PPPPPPPP/RNBQKBNR";
+
+pub const NO_E2: &str = "rnbqkbnr/pppppppp/8/8/8/8/PPPP1PPP/RNBQKBNR";
+
+pub const E4_ADDED: &str = "rnbqkbnr/pppppppp/8/8/4P3/8/PPPPPPPP/RNBQKBNR";
+
+pub const E4_PLAYED: &str = "rnbqkbnr/pppppppp/8/8/4P3/8/PPPP1PPP/RNBQKBNR";
+
+/// What a clock shows.
+#[derive(Clone, Copy)]
+pub enum Shown {
+    Zeros,
+    /// 1:30:00 and 1:29:55
+    Running,
+    /// the board has no clock
+    Absent,
+}
+
+pub fn clock_that_shows(shown: Shown) -> Option<Clock> {
+    let (first, second, status) = match shown {
+        Shown::Zeros => ([0; 3], [0; 3], 0),
+        Shown::Running => ([1, 30, 0], [1, 29, 55], 0x11),
+        Shown::Absent => return no_clock(),
+    };
+    let first = Reading::new(first[0], first[1], first[2], 0).ok()?;
+    let second = Reading::new(second[0], second[1], second[2], 0).ok()?;
+    let status = Status::new(SevenBit::try_from(status).ok()?);
+    Some(Clock::Times(Times::new(first, second, status).ok()?))
+}
+
+fn no_clock() -> Option<Clock> {
+    let zero = SevenBit::try_from(0).ok()?;
+    let status = Status::new(SevenBit::try_from(0x20).ok()?);
+    Some(Clock::NoClock(NoClock::new([zero; 6], status).ok()?))
+}
+
+fn clock_at_zeros() -> Result<Clock, Fail> {
+    match clock_that_shows(Shown::Zeros) {
+        Some(clock) => Ok(clock),
+        None => Err(Fail::from("no clock")),
+    }
+}
+
+pub fn identity(
+    trademark: &[u8],
+    battery: &[u8],
+    long_serial: &[u8],
+) -> Result<Result<Identity, TooLong>, Fail> {
+    let zero = SevenBit::try_from(0x30)?;
+    let serial = [zero, zero, zero, zero, SevenBit::try_from(0x31)?];
+    let (main, sub) = (SevenBit::try_from(1)?, SevenBit::try_from(3)?);
+    Ok(Identity::new(
+        serial,
+        Body::new(trademark)?,
+        main,
+        sub,
+        Body::new(battery)?,
+        0x14,
+        Body::new(long_serial)?,
+    ))
+}
+
+fn identity_of_board() -> Result<Identity, Fail> {
+    Ok(identity(b"SIMULATED BOARD", &[0x64], b"0000000001")??)
+}
+
+/// A new board with the starting position.
+pub fn new_board() -> Result<Board, Fail> {
+    Ok(Board::new(Position::start(), clock_at_zeros()?, identity_of_board()?))
+}
+
+/// A world with such a board, and lines of these capacities.
+pub fn world_of(alloc: Global, up: usize, down: usize) -> Result<Result<World, WorldFault>, Fail> {
+    let (clock, identity) = (clock_at_zeros()?, identity_of_board()?);
+    Ok(World::new(alloc, Position::start(), clock, identity, up, down))
+}
+
+pub fn is_at(position: &Position, placement: &str) -> bool {
+    match Position::parse_placement(placement) {
+        Ok(placed) => *position == placed,
+        Err(_) => false,
+    }
+}
+
+/// The picture of a host, if it has one.
+pub fn is_pictured(picture: Option<&Position>, placement: &str) -> bool {
+    match picture {
+        Some(picture) => is_at(picture, placement),
+        None => false,
+    }
+}
+
+/// Whether a clock, if there is one, is one that shows this.
+pub fn is_shown(clock: Option<&Clock>, shown: Shown) -> bool {
+    match clock {
+        Some(clock) => clock_that_shows(shown) == Some(*clock),
+        None => false,
+    }
+}
+
+pub fn is_all(bytes: &[u8], byte: u8) -> bool {
+    for each in bytes {
+        if *each != byte {
+            return false;
+        }
+    }
+    true
+}
