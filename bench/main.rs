@@ -137,7 +137,7 @@ fn compare_messages() {
     compare_feed_all("Decoder::feed_all, fields", LINES as usize, &fields);
     compare_feed_all("Decoder::feed_all, dumps", DUMPS, &dumps);
     let game = [&dumps[..67], &fields].concat();
-    compare_hear("Host::hear, fields behind a dump", LINES as usize, &game);
+    compare_hear("Host::hear, fields after a dump", LINES as usize, &game);
     compare_hear("Host::hear, dumps", DUMPS, &dumps);
     compare_monitor("monitor, fields", LINES as usize, &fields);
     compare_monitor("monitor, dumps", DUMPS, &dumps);
@@ -146,18 +146,18 @@ fn compare_messages() {
     compare_copies(&longest);
 }
 
-/// Longest messages in whole pieces, beside a copy of as many bytes.
+/// Longest messages in whole chunks, beside a copy of as many bytes.
 fn compare_copies(longest: &[u8]) {
     let many = longest.repeat(50);
     let copy = RefCell::new(vec![1; many.len()]);
     compare(
-        "Decoder::feed, longest messages in whole pieces, beside one memcpy of them all",
+        "Decoder::feed, longest messages in whole chunks, beside one memcpy of them all",
         1000,
         || unsafe { dgt_bench_decode(black_box(many.as_ptr()), many.len(), LONGEST) },
         || work::copy_all(black_box(&many), LONGEST, &mut copy.borrow_mut()),
     );
     compare(
-        "Decoder::feed, longest messages in whole pieces, beside memcpy of each to one place",
+        "Decoder::feed, longest messages in whole chunks, beside memcpy of each to one place",
         20,
         || unsafe { dgt_bench_decode(black_box(longest.as_ptr()), longest.len(), LONGEST) },
         || work::copies(black_box(longest), LONGEST),

@@ -1,5 +1,5 @@
-//! `dgt monitor` and `dgt picture` in plain Rust: reads standard input in pieces of at most 4096
-//! bytes, and writes the lines of each piece at once.
+//! `dgt monitor` and `dgt picture` in plain Rust: reads standard input in chunks of at most 4096
+//! bytes, and writes the lines of each chunk at once.
 use super::plain::lines::{Engine, Monitor, Pictures};
 use std::io::{self, Read, Write};
 

@@ -20,7 +20,7 @@ fn weight(event: &Event) -> u64 {
     }
 }
 
-/// Decodes these bytes in pieces of at most so many, and answers a sum over the events.
+/// Decodes these bytes in chunks of at most `most`, and returns a sum over the events.
 pub fn decode(bytes: &[u8], most: usize) -> u64 {
     let (mut decoder, mut sum) = (Decoder::new(), 0);
     for mut piece in bytes.chunks(most) {
@@ -44,7 +44,7 @@ pub fn hear(mut bytes: &[u8]) -> u64 {
     sum + host.picture().map_or(0, |picture| u64::from(picture.pieces()[60].code()))
 }
 
-/// Forms the lines of `dgt monitor`, and answers how many bytes they have.
+/// Forms the lines of `dgt monitor`, and returns how many bytes they have.
 pub fn monitor(bytes: &[u8]) -> u64 {
     let (mut engine, mut text) = (Monitor::new(), Vec::with_capacity(100_000));
     let mut count = 0;

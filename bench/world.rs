@@ -19,7 +19,7 @@ unsafe extern "C" {
 const ROUNDS: u64 = 2_000;
 const TURNS: u64 = 128_000;
 const DUMP: u64 = 67;
-/// So many replies does a host await.
+/// How many replies a host awaits at most.
 const MOST_DUMPS: u64 = 16;
 
 /// One `ToHost(65535)` delivers all dumps that a line takes. A line is emptied in no other way, so
@@ -93,7 +93,7 @@ pub fn compare() {
     let squares: Vec<u8> = garbage(TURNS as usize / 2).iter().map(|byte| byte % 64).collect();
     poll_later(&squares[..1000]);
     compare_scan(
-        "poll, right behind the change of a square",
+        "poll, right after the change of a square",
         || unsafe { dgt_bench_poll(squares.as_ptr(), squares.len()) },
         || unsafe { dgt_bench_poll_by_scan(squares.as_ptr(), squares.len()) },
     );

@@ -142,6 +142,8 @@ static void look(void) {
     dgt_board_clock(board, clock);
     CHECK(memcmp(clock, &model.clock, sizeof *clock) == 0);
     CHECK(dgt_board_mode(board) == model.mode);
+    CHECK(dgt_board_owed_len(board) == model.owed_n);
+    CHECK(dgt_board_partial(board) == model.reader.n);
     CHECK(dgt_board_owes(board) == (model_next(&model, message) > 0));
 }
 

@@ -25,7 +25,9 @@ static size_t feed_all(const uint8_t *bytes, size_t n) {
     dgt_told told = dgt_decoder_feed_all(decoder, bytes, n, events, capacity, body, room);
     for (right.body_len = 0; used < n && count < capacity && right.body_len == 0;) {
         used += model_feed(&model, bytes + used, n - used, &right, right_body);
-        if (right.kind != DGT_EVENT_NONE) check_same_event(&events[count++], &right);
+        if (right.kind == DGT_EVENT_NONE) break;
+        right.place = used; /* in the whole chunk */
+        check_same_event(&events[count++], &right);
     }
     CHECK(told.used == used && told.count == count);
     check_kept(events, count * sizeof *events, capacity * sizeof *events);

@@ -44,6 +44,30 @@ static void ask(size_t room) {
     check_sent(sent, model_ask(&model, now, room, &asking), out, room, &asking);
 }
 
+static dgt_sent send_by_meaning(const model_clock_call *it, uint8_t *out, size_t n) {
+    switch (it->id) {
+    case DGT_ID_DISPLAY:
+        return dgt_follower_send_display(follower, it->text, it->one, it->other, out, n);
+    case DGT_ID_ICONS: return dgt_follower_send_icons(follower, it->icons, it->icons_n, out, n);
+    case DGT_ID_END: return dgt_follower_send_end(follower, out, n);
+    case DGT_ID_BUTTON: return dgt_follower_send_button(follower, out, n);
+    case DGT_ID_VERSION: return dgt_follower_send_clock_version(follower, out, n);
+    case DGT_ID_SET_AND_RUN:
+        return dgt_follower_send_set_and_run(follower, it->left, it->right, it->one, out, n);
+    case DGT_ID_BEEP: return dgt_follower_send_beep(follower, it->one, out, n);
+    default: return dgt_follower_send_text(follower, it->text, it->one, out, n);
+    }
+}
+
+static void send_clock_call(void) {
+    size_t room = input_room(DGT_MAX_WORD + 3);
+    uint8_t *out = guarded(OUT, room);
+    model_clock_call call = any_clock_call();
+    model_sending sending = model_called(&call);
+    dgt_sent sent = send_by_meaning(&call, out, room);
+    check_sent(sent, model_send(&model.host, &sending, room), out, room, &sending);
+}
+
 static void send(uint8_t how) {
     size_t room = input_room(DGT_MAX_WORD + 3);
     uint8_t *out = guarded(OUT, room), code = input_byte();
@@ -61,6 +85,11 @@ static void send(uint8_t how) {
         sent = dgt_follower_send_leds(follower, payload.bytes, payload.n, out, room);
     }
     check_sent(sent, model_send(&model.host, &sending, room), out, room, &sending);
+}
+
+static void send_to_clock_or_leds(uint8_t how) {
+    if (how < 2) send(1 + how);
+    else send_clock_call();
 }
 
 static void pass_time(void) {
@@ -114,6 +143,7 @@ static void look(void) {
     check_time(dgt_follower_last_heard, model.has_heard, model.heard);
     CHECK(dgt_follower_in_doubt(follower) == model.is_doubtful);
     CHECK(dgt_follower_heartbeats_left(follower) == model.left);
+    CHECK(dgt_follower_unread(follower) == model.host.decoder.n);
     CHECK(dgt_follower_mode(follower) == model.mode);
     look_at_picture();
 }
@@ -133,7 +163,7 @@ int LLVMFuzzerTestOneInput(const uint8_t *data, size_t n) {
         else if (act < 9) ask(DGT_MAX_ASKING);
         else if (act == 9) ask(input_room(DGT_MAX_ASKING + 3));
         else if (act == 10) send(0);
-        else if (act == 11) send(1 + input_byte() % 2);
+        else if (act == 11) send_to_clock_or_leds(input_byte() % 4);
         else if (act == 12) pass_time();
         else if (act == 13) set_mode();
         else if (act == 14) start();

@@ -29,7 +29,9 @@ static size_t hear_all(const uint8_t *bytes, size_t n) {
     dgt_told told = dgt_host_hear_all(host, bytes, n, events, capacity, body, room);
     for (right.body_len = 0; used < n && count < capacity && right.body_len == 0;) {
         used += model_hear(&model, bytes + used, n - used, &right, right_body);
-        if (right.kind != DGT_EVENT_NONE) check_same_event(&events[count++], &right);
+        if (right.kind == DGT_EVENT_NONE) break;
+        right.place = used; /* in the whole chunk */
+        check_same_event(&events[count++], &right);
     }
     CHECK(told.used == used && told.count == count);
     check_kept(events, count * sizeof *events, capacity * sizeof *events);
@@ -53,6 +55,31 @@ static chunk any_payload(void) {
     uint8_t *bytes = guarded(IN, n);
     memset(bytes, input_byte(), n);
     return (chunk){bytes, n};
+}
+
+static dgt_sent send_by_meaning(const model_clock_call *it, uint8_t *out, size_t n) {
+    switch (it->id) {
+    case DGT_ID_DISPLAY:
+        return dgt_host_send_display(host, it->text, it->one, it->other, out, n);
+    case DGT_ID_ICONS: return dgt_host_send_icons(host, it->icons, it->icons_n, out, n);
+    case DGT_ID_END: return dgt_host_send_end(host, out, n);
+    case DGT_ID_BUTTON: return dgt_host_send_button(host, out, n);
+    case DGT_ID_VERSION: return dgt_host_send_clock_version(host, out, n);
+    case DGT_ID_SET_AND_RUN:
+        return dgt_host_send_set_and_run(host, it->left, it->right, it->one, out, n);
+    case DGT_ID_BEEP: return dgt_host_send_beep(host, it->one, out, n);
+    default: return dgt_host_send_text(host, it->text, it->one, out, n);
+    }
+}
+
+static void send_clock_call(void) {
+    size_t room = input_room(DGT_MAX_WORD + 3);
+    uint8_t *out = guarded(OUT, room);
+    model_clock_call call = any_clock_call();
+    model_sending sending = model_called(&call);
+    dgt_sent sent = send_by_meaning(&call, out, room), wanted = model_send(&model, &sending, room);
+    CHECK(sent.status == wanted.status && sent.bytes == wanted.bytes);
+    check_written(out, room, sending.bytes, sent.status == DGT_SENT ? sent.bytes : 0);
 }
 
 static void send(uint8_t how) {
@@ -114,8 +141,10 @@ int LLVMFuzzerTestOneInput(const uint8_t *data, size_t n) {
         uint8_t act = input_byte() % 16;
         if (act < 8) {
             hear_chunk(act % 2 == 0);
-        } else if (act < 14) {
-            send(act < 13 ? act - 8 : 0);
+        } else if (act < 13) {
+            send(act - 8);
+        } else if (act == 13) {
+            send_clock_call();
         } else if (act == 14) {
             CHECK(dgt_host_give_up_awaited(host) == model.awaited_n);
             model.awaited_n = 0;

@@ -38,7 +38,7 @@ static void write_placement(uint8_t most) {
     CHECK(memcmp(again, pieces, 64) == 0);
 }
 
-/* Where a byte stands in a text, or DGT_NO_SUCH. */
+/* The place of a byte in a text, or DGT_NO_SUCH. */
 static uint8_t place_in(const char *text, uint8_t byte) {
     const char *found = byte > 0 && byte < 128 ? strchr(text, byte) : NULL;
     return found ? (uint8_t)(found - text) : DGT_NO_SUCH;
@@ -61,11 +61,29 @@ static void names(uint8_t a, uint8_t b) {
     CHECK(dgt_square_number(a, b) == (is_square ? 8 * rank + file : DGT_NO_SUCH));
 }
 
+/* Two positions, mostly of pieces, that differ on some squares. */
+static void differ(void) {
+    uint8_t *pieces = guarded(IN, 64), *others = guarded(BODY, 64), some = input_byte();
+    uint64_t *squares = guarded(LOOK, sizeof *squares), right = 0;
+    bool are_positions = true;
+    for (size_t i = 0; i < 64; i++) {
+        uint8_t each = i < 12 ? input_byte() : some;
+        pieces[i] = each == 255 ? 16 : each % 16;
+        others[i] = each == 254 ? 16 : each % 4 == 0 ? some % 16 : pieces[i];
+        are_positions = are_positions && pieces[i] < 16 && others[i] < 16;
+        right |= (uint64_t)(pieces[i] != others[i]) << i;
+    }
+    CHECK(dgt_differ(pieces, others, squares) == are_positions);
+    check_written(squares, sizeof *squares, &right, are_positions ? sizeof right : 0);
+}
+
 int LLVMFuzzerTestOneInput(const uint8_t *data, size_t n) {
     input_begin(data, n);
     while (input_is_left()) {
         uint8_t act = input_byte() % 8;
-        if (act < 4) {
+        if (act == 3) {
+            differ();
+        } else if (act < 3) {
             parse_placement(act == 0);
         } else if (act < 6) {
             write_placement(act == 4 ? 17 : 16);

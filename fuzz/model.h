@@ -44,6 +44,15 @@ size_t model_read(model_reader *reader, const uint8_t *bytes, size_t n, dgt_comm
 /* Stops unless two commands have the same members. */
 void check_same_command(const dgt_command *got, const dgt_command *right);
 
+/* ---- Messages and commands by themselves. */
+
+/* The bytes of the message that an event says, 0 if it says none. */
+size_t model_encode(const dgt_event *said, const uint8_t *body, size_t body_len,
+                    uint8_t bytes[DGT_MAX_BODY + 3]);
+
+/* As dgt_view_message. */
+bool model_view(uint8_t code, const uint8_t *body, size_t body_len, dgt_event *event);
+
 /* ---- A host. */
 
 typedef struct model_host {
@@ -73,6 +82,22 @@ typedef struct model_sending {
 model_sending model_command(uint8_t code);
 model_sending model_clock_message(uint8_t id, const uint8_t *payload, size_t n);
 model_sending model_leds(const uint8_t *leds, size_t n);
+
+/* One of the eight calls that send a message to the clock by its meaning. */
+typedef struct model_clock_call {
+    uint8_t id;           /* DGT_ID_DISPLAY to DGT_ID_TEXT */
+    const char *text;     /* six or eight characters, as the id has it */
+    const uint8_t *left, *right; /* three numbers each */
+    uint8_t one, other;   /* the numbers after these */
+    const uint8_t *icons;
+    size_t icons_n;
+} model_clock_call;
+
+/* A call whose text, numbers and icons are at the places IN, BODY and EVENTS. */
+model_clock_call any_clock_call(void);
+
+/* What it sends. */
+model_sending model_called(const model_clock_call *call);
 
 /* 44 42 after this number of zeros. */
 model_sending model_follow(size_t zeros);

@@ -168,6 +168,7 @@ size_t model_feed(model_decoder *decoder, const uint8_t *bytes, size_t n, dgt_ev
             add(decoder, byte, event, body);
         }
     }
+    if (event->kind != DGT_EVENT_NONE) event->place = used;
     return used;
 }
 
@@ -189,4 +190,5 @@ void check_same_event(const dgt_event *got, const dgt_event *right) {
     CHECK(got->have == right->have);
     CHECK(got->at == right->at);
     CHECK(got->body_len == right->body_len);
+    CHECK(got->place == right->place);
 }

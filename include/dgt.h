@@ -3,7 +3,7 @@
  * chess board.
  *
  * Nothing here opens a line, takes memory or waits. You read bytes from the serial line and hand
- * them in, in pieces of any length; you write out what a call wrote into your buffer. All memory is
+ * them in, in chunks of any length; you write out what a call wrote into your buffer. All memory is
  * yours. (dgt_port.h opens a serial port and waits for its bytes. In C++ dgt.hpp has classes.) A
  * program that follows a board on a serial line, with a time in milliseconds:
  *
@@ -21,14 +21,14 @@
  *
  * A follower asks again by itself. A host is asked by rules of your own, and reports each event.
  *
- * THE LIBRARY IS PROVED; WHAT FOLLOWS IS YOUR PART. Where you keep it, no call reads or writes
- * outside the memory that it is given, fails to return, or does other than is said here, whatever
- * the bytes are. Where you don't, nothing is promised. Unless NDEBUG is defined, each call asserts
- * that its handle stands where it was made. Nothing tests the rest when the program runs.
+ * THE LIBRARY IS PROVED; WHAT FOLLOWS IS YOUR PART. If you keep it, no call reads or writes outside
+ * the memory that it is given, fails to return, or does other than is said here, whatever the bytes
+ * are. If you don't, nothing is promised. Unless NDEBUG is defined, each call asserts that its
+ * handle stands where it was made. Nothing tests the rest when the program runs.
  *
  *  - A pointer whose length is the next parameter may be NULL if that length is 0, in each call. No
- *    other pointer is null. Each is aligned as its type is. A length is at most 2^63 - 1, and so
- *    many bytes may be read or written there: of an array of events, `capacity` times
+ *    other pointer is null. Each is aligned as its type is. A length is at most 2^63 - 1, and
+ *    may be read or written as a whole there: of an array of events, `capacity` times
  *    sizeof(dgt_event). An array parameter has its stated length. What a call reads is initialised.
  *  - A handle is a dgt_host, a dgt_follower, a dgt_decoder, a dgt_command_decoder or a dgt_board.
  *    It is made by its _new or its _init before any other call. Afterwards it is not copied and not
@@ -42,7 +42,7 @@
  *
  * Calls that only look still take a handle that is not const: for the time of the call it is theirs
  * alone. A struct or a slice that a call writes may hold anything before; a slice keeps what stands
- * behind the bytes that are written.
+ * after the bytes that are written.
  *
  * PLATFORM: Linux on x86-64 processors, with pointers of 64 bits (not x32). lib/build compiles the
  * library for any x86-64 processor, also the first ones. Elsewhere sizes and calls would differ.
@@ -60,8 +60,8 @@
  * has another first number, and so another soname.
  *
  * Squares are numbered rank by rank from 8 down: a8 is 0, b8 is 1, h8 is 7, a7 is 8 and h1 is 63.
- * Pieces are numbered as on the line: 0 is none; 1 to 6 white and 7 to 12 black pawn, rook, knight,
- * bishop, king and queen; 13 to 15 are three extra pieces without a meaning.
+ * Pieces are numbered as on the line. White pawn, rook, knight, bishop, king and queen are 1 to 6,
+ * and the black ones 7 to 12. 0 is none, and 13 to 15 are three extra pieces without a meaning.
  */
 #ifndef DGT_H
 #define DGT_H
@@ -77,7 +77,7 @@
 extern "C" {
 #endif
 
-/* ---- What compilers are told, if they have the attribute. Names that end with _ are for this
+/* ---- Attributes for compilers that have them. Names that end with _ are for this
  * header alone. */
 
 #ifdef __has_attribute
@@ -167,7 +167,7 @@ typedef struct dgt_board {
     uint64_t room_[(DGT_BOARD_SIZE - 8) / 8];
 } dgt_board;
 
-/* ---- What a clock tells. */
+/* ---- What a clock shows. */
 
 /* The time of one side of a clock. */
 typedef struct dgt_time {
@@ -191,7 +191,7 @@ enum {
     DGT_STATUS_BATTERY_LOW = 0x04,
     DGT_STATUS_BLACK_TURN = 0x08,
     DGT_STATUS_WHITE_TURN = 0x10,
-    DGT_STATUS_ABSENT = 0x20 /* set where the kind is DGT_CLOCK_NONE, and only there */
+    DGT_STATUS_ABSENT = 0x20 /* set if the kind is DGT_CLOCK_NONE, and only then */
 };
 
 /* A report of a clock. `first` and `second` are the clock's two sides, in the order of the message.
@@ -207,7 +207,8 @@ typedef struct dgt_clock {
 
 /* ---- What a board's bytes make known. */
 
-/* dgt_event.kind, and which members it sets. The other members are 0. */
+/* dgt_event.kind, and which members it sets beside `unasked` and `place`. The other members are 0.
+ */
 enum {
     DGT_EVENT_NONE = 0,         /* nothing yet: all bytes were used */
     DGT_EVENT_DUMP = 1,         /* all squares were told: pieces */
@@ -254,10 +255,13 @@ typedef struct dgt_event {
     uint8_t pieces[64];
     size_t have;         /* how many bytes of the message had come, at least 1 */
     size_t at;           /* the place in the body, from 0 on */
-    size_t body_len;     /* how many bytes the body has, also where not all were copied */
+    size_t body_len;     /* how many bytes the body has, also if not all were copied */
+    size_t place;        /* of the bytes handed to the call, how many had been used when the event
+                            came: at least 1. It is 0 if the kind is DGT_EVENT_NONE, and in an
+                            event of dgt_view_message */
 } dgt_event;
 
-/* ---- What a host's bytes tell. */
+/* ---- What a host's bytes mean. */
 
 /* dgt_command.kind, and which members it sets. The other members are 0. */
 enum {
@@ -305,7 +309,7 @@ typedef struct dgt_command {
     uint8_t code;
     uint8_t id;
     uint8_t byte;
-    size_t word_len; /* how many bytes the command has, also where not all were copied */
+    size_t word_len; /* how many bytes the command has, also if not all were copied */
 } dgt_command;
 
 /* ---- A host: asks a board, and keeps a picture of it from what it hears. */
@@ -333,7 +337,7 @@ size_t dgt_host_size(void);
  * and awaits nothing. */
 void dgt_host_init(dgt_host *host) DGT_NONNULL_(1);
 
-/* The same; false, and nothing done, where the library that is linked has another size for it than
+/* The same; false, and nothing done, if the library that is linked has another size for it than
  * this header. */
 DGT_MUST_USE_ DGT_NONNULL_(1)
 static inline bool dgt_host_new(dgt_host *host) {
@@ -342,12 +346,12 @@ static inline bool dgt_host_new(dgt_host *host) {
     return true;
 }
 
-/* Uses bytes up to and including the first that makes an event, or all of them, and answers how
- * many: at least 1 where n > 0. `event` tells the event, and as much of its body as there is room
- * for is written to the front of `body`. A message changes what the host knows: a dump sets the
- * picture, a field one square of a picture that is known, and what is told of the clock the clock.
- * The first awaited reply is then awaited no longer; another one is `unasked`. Call again with the
- * bytes that are left. */
+/* Uses bytes up to and including the first that makes an event, or all of them, and returns how
+ * many: at least 1 if n > 0. Writes the event to `event`, and as much of its body as there is room
+ * for to the beginning of `body`. A message changes what the host knows: a dump sets the picture, a
+ * field one square of a picture that is known, and a reading of the clock the clock. The first
+ * awaited reply is then awaited no longer; another one is `unasked`. Call again with the bytes that
+ * are left. */
 size_t dgt_host_hear(dgt_host *host, const uint8_t *bytes, size_t n, dgt_event *event,
                      uint8_t *body, size_t room)
     DGT_MUST_USE_ DGT_NONNULL_(1, 4) DGT_READS_(2, 3) DGT_WRITES_(4) DGT_WRITES_(5, 6);
@@ -355,15 +359,17 @@ size_t dgt_host_hear(dgt_host *host, const uint8_t *bytes, size_t n, dgt_event *
 /* How far dgt_host_hear_all and dgt_decoder_feed_all have come. */
 typedef struct dgt_told {
     size_t used;  /* how many bytes of the chunk were used */
-    size_t count; /* how many events were told: they stand at the front of `events` */
+    size_t count; /* how many events there were: the first ones of `events` */
 } dgt_told;
 
-/* Hears a whole chunk, as dgt_host_hear does event by event, and tells the events in their order in
- * `events`, which has room for `capacity` of them. It ends before the chunk does in two cases:
- * behind the event that fills the array, and behind an event with a body (body_len > 0), of which
- * as much as there is room for is written to the front of `body`. Call again with the bytes that
- * are left: at least 1 is used where n > 0 and capacity > 0. The structs behind those that are told
- * stay as they were, and so does `body` where no event has one. */
+/* Hears a whole chunk, as dgt_host_hear does event by event, and writes the events in their order
+ * to `events`, which has room for `capacity` of them. The offset of an event in all that a board
+ * sent, as `dgt monitor` prints it, is its `place` and what the calls before used, added up.
+ * The call ends before the chunk does in two cases: after the event that fills the array, and after
+ * an event with a body (body_len > 0). As much of that body as there is room for is written to the
+ * beginning of `body`. Call again with the bytes that are left: at least 1 is used if n > 0 and
+ * capacity > 0. The structs after those that are written stay as they were, and so does `body` if
+ * no event has a body. */
 dgt_told dgt_host_hear_all(dgt_host *host, const uint8_t *bytes, size_t n, dgt_event *events,
                            size_t capacity, uint8_t *body, size_t room)
     DGT_MUST_USE_ DGT_NONNULL_(1) DGT_READS_(2, 3) DGT_WRITES_(4, 5) DGT_WRITES_(6, 7);
@@ -386,7 +392,7 @@ typedef struct dgt_sent {
 dgt_sent dgt_host_follow(dgt_host *host, uint8_t *out, size_t n)
     DGT_MUST_USE_ DGT_NONNULL_(1) DGT_WRITES_(2, 3);
 
-/* The same behind 255 zeros, which end whatever command the board is in the middle of: writes
+/* The same after 255 zeros, which end whatever command the board is in the middle of: writes
  * DGT_RESTART_LENGTH bytes. For a line on which another program may have talked to the board. */
 dgt_sent dgt_host_restart(dgt_host *host, uint8_t *out, size_t n)
     DGT_MUST_USE_ DGT_NONNULL_(1) DGT_WRITES_(2, 3);
@@ -397,7 +403,7 @@ dgt_sent dgt_host_restart(dgt_host *host, uint8_t *out, size_t n)
 dgt_sent dgt_host_send(dgt_host *host, uint8_t code, uint8_t *out, size_t n)
     DGT_MUST_USE_ DGT_NONNULL_(1) DGT_WRITES_(3, 4);
 
-/* Sends the message with this id and this payload to the clock. DGT_NO_COMMAND where the payload
+/* Sends the message with this id and this payload to the clock. DGT_NO_COMMAND if the payload
  * has more than DGT_MAX_PAYLOAD bytes. */
 dgt_sent dgt_host_send_clock(dgt_host *host, uint8_t id, const uint8_t *payload, size_t payload_len,
                              uint8_t *out, size_t n)
@@ -445,7 +451,7 @@ dgt_sent dgt_host_send_button(dgt_host *host, uint8_t *out, size_t n)
 dgt_sent dgt_host_send_clock_version(dgt_host *host, uint8_t *out, size_t n)
     DGT_MUST_USE_ DGT_NONNULL_(1) DGT_WRITES_(2, 3);
 
-/* Sends an LED frame. DGT_NO_COMMAND where it has more than DGT_MAX_LEDS bytes. */
+/* Sends an LED frame. DGT_NO_COMMAND if it has more than DGT_MAX_LEDS bytes. */
 dgt_sent dgt_host_send_leds(dgt_host *host, const uint8_t *leds, size_t leds_len, uint8_t *out,
                             size_t n)
     DGT_MUST_USE_ DGT_NONNULL_(1) DGT_READS_(2, 3) DGT_WRITES_(4, 5);
@@ -459,7 +465,7 @@ bool dgt_host_picture(dgt_host *host, uint8_t pieces[64])
 bool dgt_host_placement(dgt_host *host, char text[DGT_PLACEMENT_ROOM])
     DGT_MUST_USE_ DGT_NONNULL_(1, 2) DGT_WRITES_(2);
 
-/* What the board told last of its clock. */
+/* The clock as the board reported it last. */
 void dgt_host_clock(dgt_host *host, dgt_clock *clock) DGT_NONNULL_(1, 2) DGT_WRITES_(2);
 
 /* How many replies are awaited. The codes of the commands that ask for them, as DGT_SEND_DUMP,
@@ -474,7 +480,7 @@ size_t dgt_host_awaited(dgt_host *host, uint8_t codes[DGT_MAX_AWAITED])
  * `unasked` as well. Ask again next, with dgt_host_restart or dgt_host_send. */
 size_t dgt_host_give_up_awaited(dgt_host *host) DGT_NONNULL_(1);
 
-/* How many bytes were heard of a message that is not finished. */
+/* How many bytes were heard of a message that is not finished: at most 16382. */
 size_t dgt_host_unread(dgt_host *host) DGT_NONNULL_(1);
 
 /* The line is lost, and what was under way on it: the host is as new. Follow the board again once
@@ -606,6 +612,9 @@ bool dgt_follower_placement(dgt_follower *follower, char text[DGT_PLACEMENT_ROOM
 /* What the board reported last of its clock. */
 void dgt_follower_clock(dgt_follower *follower, dgt_clock *clock) DGT_NONNULL_(1, 2) DGT_WRITES_(2);
 
+/* How many bytes were heard of a message that is not finished: at most 16382. */
+size_t dgt_follower_unread(dgt_follower *follower) DGT_NONNULL_(1);
+
 /* Whether the picture may be wrong: since the last dump that was awaited there was a disturbance,
  * or an asking found the one before it unanswered. */
 bool dgt_follower_in_doubt(dgt_follower *follower) DGT_NONNULL_(1);
@@ -621,7 +630,7 @@ uint32_t dgt_follower_heartbeats_left(dgt_follower *follower) DGT_NONNULL_(1);
  * patience and its mode. It knows no picture, and its next asking is due at once. */
 void dgt_follower_line_lost(dgt_follower *follower) DGT_NONNULL_(1);
 
-/* ---- A decoder: tells the events of a board's bytes, and keeps no picture. */
+/* ---- A decoder: reports the events of a board's bytes, and keeps no picture. */
 
 /* How many bytes a dgt_decoder takes, by the library that is linked. */
 size_t dgt_decoder_size(void);
@@ -630,7 +639,7 @@ size_t dgt_decoder_size(void);
  * nothing. */
 void dgt_decoder_init(dgt_decoder *decoder) DGT_NONNULL_(1);
 
-/* The same; false, and nothing done, where the sizes differ, as with dgt_host_new. */
+/* The same; false, and nothing done, if the sizes differ, as with dgt_host_new. */
 DGT_MUST_USE_ DGT_NONNULL_(1)
 static inline bool dgt_decoder_new(dgt_decoder *decoder) {
     if (dgt_decoder_size() != sizeof *decoder) return false;
@@ -657,7 +666,7 @@ size_t dgt_decoder_finish(dgt_decoder *decoder) DGT_NONNULL_(1);
 /* Makes it as new. */
 void dgt_decoder_reset(dgt_decoder *decoder) DGT_NONNULL_(1);
 
-/* ---- A reader of commands: tells the commands in a host's bytes. */
+/* ---- A reader of commands: reports the commands in a host's bytes. */
 
 /* How many bytes a dgt_command_decoder takes, by the library that is linked. */
 size_t dgt_command_decoder_size(void);
@@ -666,7 +675,7 @@ size_t dgt_command_decoder_size(void);
  * that holds nothing. */
 void dgt_command_decoder_init(dgt_command_decoder *decoder) DGT_NONNULL_(1);
 
-/* The same; false, and nothing done, where the sizes differ, as with dgt_host_new. */
+/* The same; false, and nothing done, if the sizes differ, as with dgt_host_new. */
 DGT_MUST_USE_ DGT_NONNULL_(1)
 static inline bool dgt_command_decoder_new(dgt_command_decoder *decoder) {
     if (dgt_command_decoder_size() != sizeof *decoder) return false;
@@ -675,9 +684,9 @@ static inline bool dgt_command_decoder_new(dgt_command_decoder *decoder) {
 }
 
 /* Uses bytes up to and including the first that completes a command or shows a fault, or all of
- * them, and answers how many: at least 1 where n > 0. `command` tells it, and as much of a
- * command's word, its bytes from the first to the last, as there is room for is written to the
- * front of `word`. */
+ * them, and returns how many: at least 1 if n > 0. Writes the result to `command`, and as much of a
+ * command's word, its bytes from the first to the last, as there is room for to the beginning of
+ * `word`. */
 size_t dgt_command_decoder_feed(dgt_command_decoder *decoder, const uint8_t *bytes, size_t n,
                                 dgt_command *command, uint8_t *word, size_t room)
     DGT_MUST_USE_ DGT_NONNULL_(1, 4) DGT_READS_(2, 3) DGT_WRITES_(4) DGT_WRITES_(5, 6);
@@ -696,12 +705,11 @@ void dgt_command_decoder_reset(dgt_command_decoder *decoder) DGT_NONNULL_(1);
 /* How many bytes a dgt_board takes, by the library that is linked. */
 size_t dgt_board_size(void);
 
-/* Makes the memory at `board`, of dgt_board_size() bytes and aligned to 8, a board in the position
- * in which a game begins, with a clock that shows 0:00:00 twice, and the identity of a simulated
- * board. */
+/* Makes the memory at `board`, of dgt_board_size() bytes and aligned to 8, a board in the starting
+ * position, with a clock that shows 0:00:00 twice, and the identity of a simulated board. */
 void dgt_board_init(dgt_board *board) DGT_NONNULL_(1);
 
-/* The same; false, and nothing done, where the sizes differ, as with dgt_host_new. */
+/* The same; false, and nothing done, if the sizes differ, as with dgt_host_new. */
 DGT_MUST_USE_ DGT_NONNULL_(1)
 static inline bool dgt_board_new(dgt_board *board) {
     if (dgt_board_size() != sizeof *board) return false;
@@ -715,7 +723,7 @@ typedef struct dgt_body {
     uint8_t bytes[DGT_MAX_KEPT];
 } dgt_body;
 
-/* What a board tells of itself. */
+/* What a board reports of itself. */
 typedef struct dgt_identity {
     uint8_t serial[5];     /* each 0 to 127 */
     uint8_t main_number;   /* 0 to 127 */
@@ -737,33 +745,33 @@ enum {
 };
 
 /* Makes the board anew, with these pieces, this clock and this identity: idle, with its squares
- * told and its clock not, and with nothing owed. Where something is out of its range, the first of
- * the three is told, and nothing changes. */
+ * reported and its clock not, and with nothing owed. If something is out of its range, the first of
+ * the three is returned, and nothing changes. */
 uint8_t dgt_board_start(dgt_board *board, const uint8_t pieces[64], const dgt_clock *clock,
                         const dgt_identity *identity)
     DGT_NONNULL_(1, 2, 3, 4) DGT_READS_(2) DGT_READS_(3) DGT_READS_(4);
 
-/* Puts a piece, or 0 for none, on a square. False, and nothing changed, where square > 63 or
+/* Puts a piece, or 0 for none, on a square. False, and nothing changed, if square > 63 or
  * piece > 15. */
 bool dgt_board_change(dgt_board *board, uint8_t square, uint8_t piece) DGT_NONNULL_(1);
 
-/* Sets what the clock shows. False, and nothing changed, where dgt_board_start would answer
+/* Sets what the clock shows. False, and nothing changed, if dgt_board_start would return
  * DGT_START_BAD_CLOCK. */
 bool dgt_board_hand_clock(dgt_board *board, const dgt_clock *clock)
     DGT_NONNULL_(1, 2) DGT_READS_(2);
 
 /* The line is lost, and what was under way on it: the board keeps its squares, its clock and its
- * identity, and is else as new. */
+ * identity, and is otherwise as new. */
 void dgt_board_line_lost(dgt_board *board) DGT_NONNULL_(1);
 
 typedef struct dgt_taken {
     bool busy;   /* eight replies are owed, so poll first: nothing was used, and nothing changed */
-    size_t used; /* how many bytes were used: at least 1 where it isn't busy and n > 0 */
+    size_t used; /* how many bytes were used: at least 1 if it isn't busy and n > 0 */
 } dgt_taken;
 
 /* Uses bytes up to and including the first that completes a command or shows a fault, or all of
- * them. A command has its effect, and is told as dgt_command_decoder_feed does; where the board is
- * busy, DGT_NO_WORD is told. */
+ * them. A command has its effect, and is reported as by dgt_command_decoder_feed. If the board is
+ * busy, DGT_NO_WORD is reported. */
 dgt_taken dgt_board_take(dgt_board *board, const uint8_t *bytes, size_t n, dgt_command *command,
                          uint8_t *word, size_t room)
     DGT_MUST_USE_ DGT_NONNULL_(1, 4) DGT_READS_(2, 3) DGT_WRITES_(4) DGT_WRITES_(5, 6);
@@ -782,17 +790,23 @@ typedef struct dgt_polled {
     size_t bytes;
 } dgt_polled;
 
-/* Writes the next message that is to be sent, and takes it for sent: the owed replies in their
- * order, then, where the mode asks for them, the squares that differ from what was told, then the
- * clock where it is to be told. DGT_MAX_SENT bytes are room for each. With no call in between that
- * changes the board, DGT_NOTHING comes after at most 73 messages. */
+/* Writes the next message that is to be sent, and counts it as sent. The owed replies come first,
+ * in their order. Then come the squares that differ from what was reported, if the mode asks for
+ * them, then the clock if it is to be sent. DGT_MAX_SENT bytes are room for each. With no call in
+ * between that changes the board, DGT_NOTHING comes after at most 73 messages. */
 dgt_polled dgt_board_poll(dgt_board *board, uint8_t *out, size_t n)
     DGT_MUST_USE_ DGT_NONNULL_(1) DGT_WRITES_(2, 3);
 
 /* Whether there is anything to send. */
 bool dgt_board_owes(dgt_board *board) DGT_NONNULL_(1);
 
-/* What dgt_board_mode answers: what the board tells unasked. */
+/* How many replies are owed: at most DGT_MAX_OWED. */
+size_t dgt_board_owed_len(dgt_board *board) DGT_NONNULL_(1);
+
+/* How many bytes have come of a command that is not finished: at most 256. */
+size_t dgt_board_partial(dgt_board *board) DGT_NONNULL_(1);
+
+/* What dgt_board_mode returns: which changes the board sends by itself. */
 enum {
     DGT_MODE_IDLE = 0,
     DGT_MODE_UPDATE = 1,       /* each changed square, and the clock each time that it is handed */
@@ -809,34 +823,93 @@ void dgt_board_position(dgt_board *board, uint8_t pieces[64]) DGT_NONNULL_(1, 2)
 /* What the clock shows. */
 void dgt_board_clock(dgt_board *board, dgt_clock *clock) DGT_NONNULL_(1, 2) DGT_WRITES_(2);
 
+/* ---- Messages and commands, encoded and viewed without a handle. */
+
+/* The status of a dgt_encoded. */
+enum {
+    DGT_ENCODED = 0,    /* `bytes` bytes were written to the front of the buffer */
+    DGT_TOO_SHORT = 1,  /* the buffer has less than the `bytes` bytes that it takes: nothing was
+                           written */
+    DGT_NOT_ENCODED = 2 /* there is no such message or command: nothing was written, and bytes is 0
+                         */
+};
+
+typedef struct dgt_encoded {
+    uint8_t status;
+    size_t bytes;
+} dgt_encoded;
+
+/* Writes the message that `message` says as an event does: by its kind, from DGT_EVENT_DUMP to
+ * DGT_EVENT_OTHER, and the members that this kind sets. Three are read otherwise: a body is the
+ * `body_len` bytes at `body`, whatever message->body_len says; `code` is looked at in a
+ * DGT_EVENT_OTHER alone; and the kind of `clock` has to be that of the event. A message has
+ * 3 to 16383 bytes: DGT_MAX_BODY + 3 bytes are room for each. An acknowledgement can be encoded in
+ * several ways: this is the one with both marks, and without D6 in them.
+ * DGT_NOT_ENCODED goes before DGT_TOO_SHORT. It comes if the kind is another one, or a member is
+ * out of its range. It comes if `clock` is none that dgt_board_start takes, or if a body has more
+ * than DGT_MAX_BODY bytes, or one above 127. It also comes if the code of a DGT_EVENT_OTHER is
+ * above 127, or that of a message of another kind. */
+dgt_encoded dgt_encode_message(const dgt_event *message, const uint8_t *body, size_t body_len,
+                               uint8_t *out, size_t n)
+    DGT_MUST_USE_ DGT_NONNULL_(1) DGT_READS_(1) DGT_READS_(2, 3) DGT_WRITES_(4, 5);
+
+/* Writes the message with this code and this body to `event`, or a DGT_EVENT_REFUSED with the fault
+ * of the body. The code is the first byte of the message without its top bit; the body is its bytes
+ * from the fourth on. `unasked` and `place` are 0. False, and nothing written, if no message has
+ * such a code or such a body: the code or a byte is above 127, or there are more than DGT_MAX_BODY
+ * bytes. */
+bool dgt_view_message(uint8_t code, const uint8_t *body, size_t body_len, dgt_event *event)
+    DGT_MUST_USE_ DGT_NONNULL_(4) DGT_READS_(2, 3) DGT_WRITES_(4);
+
+/* Writes the command that begins with the byte `code`, DGT_SEND_CLOCK_MESSAGE to DGT_SEND_LEDS. It
+ * carries `carried_len` bytes: the payload of the clock message with this id, at most
+ * DGT_MAX_PAYLOAD; the bytes of an LED frame, at most DGT_MAX_LEDS; and in each other command none.
+ * The id of all but a clock message is not looked at. DGT_MAX_WORD bytes are room for each.
+ * DGT_NOT_ENCODED goes before DGT_TOO_SHORT. It comes if no command has this code, or if there are
+ * more bytes than it carries. No reply is awaited: that is what dgt_host_send and its like are for.
+ */
+dgt_encoded dgt_encode_command(uint8_t code, uint8_t id, const uint8_t *carried,
+                               size_t carried_len, uint8_t *out, size_t n)
+    DGT_MUST_USE_ DGT_READS_(3, 4) DGT_WRITES_(5, 6);
+
+/* Writes the command whose bytes, from the first to the last, are exactly these to `command`, as
+ * dgt_command_decoder_feed does. False, and nothing written, if there is no such command. */
+bool dgt_view_command(const uint8_t *word, size_t word_len, dgt_command *command)
+    DGT_MUST_USE_ DGT_NONNULL_(3) DGT_READS_(1, 2) DGT_WRITES_(3);
+
 /* ---- Plain helpers. */
 
 #define DGT_NO_SUCH 255 /* no piece, no square, no segments */
 
-/* "PRNBKQ" white, "prnbkq" black, '.' none, 'X' 'Y' 'Z' extra pieces; 0 where piece > 15. */
+/* "PRNBKQ" white, "prnbkq" black, '.' none, 'X' 'Y' 'Z' extra pieces; 0 if piece > 15. */
 char dgt_piece_letter(uint8_t piece);
 
 /* The piece with this letter, or DGT_NO_SUCH. */
 uint8_t dgt_piece_code(uint8_t letter);
 
-/* Writes a name as "e4". False, and nothing written, where square > 63. */
+/* Writes a name as "e4". False, and nothing written, if square > 63. */
 bool dgt_square_name(uint8_t square, char name[3]) DGT_NONNULL_(2) DGT_WRITES_(2);
 
 /* The square with this file, 'a' to 'h', and this rank, '1' to '8', or DGT_NO_SUCH. */
 uint8_t dgt_square_number(uint8_t file, uint8_t rank);
 
-/* Writes the placement of a FEN, with a zero at its end. False, and nothing written, where a piece
+/* Writes the placement of a FEN, with a zero at its end. False, and nothing written, if a piece
  * is above 15. */
 bool dgt_placement(const uint8_t pieces[64], char text[DGT_PLACEMENT_ROOM])
     DGT_NONNULL_(1, 2) DGT_READS_(1) DGT_WRITES_(2);
 
+/* The squares on which two positions differ: bit n of the mask is set if square n differs, and else
+ * clear. False, and nothing written, where a piece is above 15. */
+bool dgt_differ(const uint8_t pieces[64], const uint8_t others[64], uint64_t *squares)
+    DGT_MUST_USE_ DGT_NONNULL_(1, 2, 3) DGT_READS_(1) DGT_READS_(2) DGT_WRITES_(3);
+
 typedef struct dgt_parsed {
     bool ok;
-    size_t at; /* where it is not ok: the offset of the first byte with which the text no longer
-                  begins any placement, or its length where it is only too short; else 0 */
+    size_t at; /* if it is not ok: the offset of the first byte with which the text no longer
+                  begins any placement, or its length if it is only too short; else 0 */
 } dgt_parsed;
 
-/* Reads the placement of a FEN. Two digits may stand side by side. Where it is not ok, nothing is
+/* Reads the placement of a FEN. Two digits may stand side by side. If it is not ok, nothing is
  * written. */
 dgt_parsed dgt_parse_placement(const char *text, size_t n, uint8_t pieces[64])
     DGT_MUST_USE_ DGT_NONNULL_(3) DGT_READS_(1, 2) DGT_WRITES_(3);
@@ -845,7 +918,7 @@ dgt_parsed dgt_parse_placement(const char *text, size_t n, uint8_t pieces[64])
  * on: top, right top, right bottom, bottom, left bottom, left top, middle. */
 uint8_t dgt_segment(uint8_t character);
 
-/* ---- The sizes that the library has. Where they differ, the platform is another one. */
+/* ---- The sizes that the library has. If they differ, the platform is another one. */
 
 #if defined(__cplusplus) || (defined(__STDC_VERSION__) && __STDC_VERSION__ >= 201112L)
 #ifdef __cplusplus
@@ -860,7 +933,7 @@ DGT_SIZE_(dgt_command_decoder, DGT_COMMAND_DECODER_SIZE);
 DGT_SIZE_(dgt_board, DGT_BOARD_SIZE);
 DGT_SIZE_(dgt_time, 4);
 DGT_SIZE_(dgt_clock, 16);
-DGT_SIZE_(dgt_event, 128);
+DGT_SIZE_(dgt_event, 136);
 DGT_SIZE_(dgt_told, 16);
 DGT_SIZE_(dgt_command, 16);
 DGT_SIZE_(dgt_sent, 16);
@@ -868,6 +941,7 @@ DGT_SIZE_(dgt_body, 72);
 DGT_SIZE_(dgt_identity, 224);
 DGT_SIZE_(dgt_taken, 16);
 DGT_SIZE_(dgt_polled, 16);
+DGT_SIZE_(dgt_encoded, 16);
 DGT_SIZE_(dgt_parsed, 16);
 #undef DGT_SIZE_
 #endif
@@ -934,6 +1008,7 @@ static inline dgt_follower *dgt_follower_(dgt_follower *handle) {
 #define dgt_follower_picture(it, ...) dgt_follower_picture(dgt_follower_(it), __VA_ARGS__)
 #define dgt_follower_placement(it, ...) dgt_follower_placement(dgt_follower_(it), __VA_ARGS__)
 #define dgt_follower_clock(it, ...) dgt_follower_clock(dgt_follower_(it), __VA_ARGS__)
+#define dgt_follower_unread(it) dgt_follower_unread(dgt_follower_(it))
 #define dgt_follower_in_doubt(it) dgt_follower_in_doubt(dgt_follower_(it))
 #define dgt_follower_last_heard(it, ...) dgt_follower_last_heard(dgt_follower_(it), __VA_ARGS__)
 #define dgt_follower_heartbeats_left(it) dgt_follower_heartbeats_left(dgt_follower_(it))
@@ -971,6 +1046,8 @@ static inline dgt_board *dgt_board_(dgt_board *handle) {
 #define dgt_board_take(it, ...) dgt_board_take(dgt_board_(it), __VA_ARGS__)
 #define dgt_board_poll(it, ...) dgt_board_poll(dgt_board_(it), __VA_ARGS__)
 #define dgt_board_owes(it) dgt_board_owes(dgt_board_(it))
+#define dgt_board_owed_len(it) dgt_board_owed_len(dgt_board_(it))
+#define dgt_board_partial(it) dgt_board_partial(dgt_board_(it))
 #define dgt_board_mode(it) dgt_board_mode(dgt_board_(it))
 #define dgt_board_position(it, ...) dgt_board_position(dgt_board_(it), __VA_ARGS__)
 #define dgt_board_clock(it, ...) dgt_board_clock(dgt_board_(it), __VA_ARGS__)

@@ -211,6 +211,12 @@ public:
         return text;
     }
 
+    /// The squares on which the other differs: bit n is set exactly if square n differs.
+    std::uint64_t differ(const Position &other) const {
+        std::uint64_t squares = 0; // a position has no code that is refused
+        return dgt_differ(codes_.data(), other.codes_.data(), &squares) ? squares : 0;
+    }
+
     friend bool operator==(const Position &a, const Position &b) { return a.codes_ == b.codes_; }
     friend bool operator!=(const Position &a, const Position &b) { return !(a == b); }
 
@@ -453,6 +459,82 @@ template <class Send> Commands sent(Send &&send) {
     return out;
 }
 
+/// Writes the members of a message, and returns its body.
+struct EventWriter {
+    dgt_event &out;
+
+    ByteView operator()(const Dump &it) {
+        out.kind = DGT_EVENT_DUMP;
+        std::copy(it.position.codes().begin(), it.position.codes().end(), std::begin(out.pieces));
+        return {};
+    }
+    ByteView operator()(const Field &it) {
+        out.kind = DGT_EVENT_FIELD;
+        out.square = it.square.number(), out.piece = static_cast<std::uint8_t>(it.piece);
+        return {};
+    }
+    ByteView operator()(const Times &it) {
+        out.kind = DGT_EVENT_TIMES, out.clock = write_clock(it);
+        return {};
+    }
+    ByteView operator()(const NoClock &it) {
+        out.kind = DGT_EVENT_NO_CLOCK, out.clock = write_clock(it);
+        return {};
+    }
+    ByteView operator()(const Ack &it) {
+        out.kind = DGT_EVENT_ACK, out.ack_status = it.status;
+        std::copy(it.ack.begin(), it.ack.end(), std::begin(out.ack));
+        return {};
+    }
+    ByteView operator()(const Serial &it) {
+        out.kind = DGT_EVENT_SERIAL;
+        std::copy(it.serial.begin(), it.serial.end(), std::begin(out.serial));
+        return {};
+    }
+    ByteView operator()(const Version &it) {
+        out.kind = DGT_EVENT_VERSION;
+        out.main_number = it.main_number, out.sub_number = it.sub_number;
+        return {};
+    }
+    ByteView operator()(const Trademark &it) { return carried(DGT_EVENT_TRADEMARK, it.body); }
+    ByteView operator()(const Battery &it) { return carried(DGT_EVENT_BATTERY, it.body); }
+    ByteView operator()(const LongSerial &it) { return carried(DGT_EVENT_LONG_SERIAL, it.body); }
+    ByteView operator()(const Other &it) {
+        out.code = it.code;
+        return carried(DGT_EVENT_OTHER, it.body);
+    }
+    template <class Fault> ByteView operator()(const Fault &) {
+        return {}; // it is no message, and its kind stays DGT_EVENT_NONE
+    }
+
+private:
+    ByteView carried(std::uint8_t kind, const Bytes &body) {
+        out.kind = kind;
+        return body;
+    }
+};
+
+inline ByteView write_event(const Event &event, dgt_event &out) {
+    return std::visit(EventWriter{out}, event);
+}
+
+/// What a call of dgt.h encodes: `encode` is given room and its size, once it said how much.
+template <class Encode> Bytes encoded(Encode &&encode) {
+    dgt_encoded done = encode(static_cast<std::uint8_t *>(nullptr), std::size_t{0});
+    if (done.status == DGT_NOT_ENCODED) throw std::invalid_argument("no message or no command");
+    Bytes out(done.bytes);
+    done = encode(out.data(), out.size());
+    return out;
+}
+
+/// Hands an event to `tell`, and its place to one that takes it.
+template <class Tell> void hand(Tell &tell, const Event &event, std::size_t place) {
+    if constexpr (std::is_invocable_v<Tell &, const Event &, std::size_t>)
+        tell(event, place);
+    else
+        tell(event);
+}
+
 template <class Handle, class Known> std::optional<Position> picture(Handle *handle, Known known) {
     std::array<std::uint8_t, 64> codes;
     if (!known(handle, codes.data())) return std::nullopt;
@@ -471,7 +553,126 @@ inline std::optional<Milliseconds> time(bool is_known, std::uint64_t count) {
     return Milliseconds(static_cast<Milliseconds::rep>(count));
 }
 
+// The calls of dgt.h that send a message to the clock, by one name for a host and a follower.
+
+inline dgt_sent send_display(dgt_host *it, const char *text, std::uint8_t dots, std::uint8_t beep,
+                             std::uint8_t *out, std::size_t n) {
+    return dgt_host_send_display(it, text, dots, beep, out, n);
+}
+
+inline dgt_sent send_display(dgt_follower *it, const char *text, std::uint8_t dots,
+                             std::uint8_t beep, std::uint8_t *out, std::size_t n) {
+    return dgt_follower_send_display(it, text, dots, beep, out, n);
+}
+
+inline dgt_sent send_text(dgt_host *it, const char *text, std::uint8_t beep, std::uint8_t *out,
+                          std::size_t n) {
+    return dgt_host_send_text(it, text, beep, out, n);
+}
+
+inline dgt_sent send_text(dgt_follower *it, const char *text, std::uint8_t beep, std::uint8_t *out,
+                          std::size_t n) {
+    return dgt_follower_send_text(it, text, beep, out, n);
+}
+
+inline dgt_sent send_beep(dgt_host *it, std::uint8_t duration, std::uint8_t *out, std::size_t n) {
+    return dgt_host_send_beep(it, duration, out, n);
+}
+
+inline dgt_sent send_beep(dgt_follower *it, std::uint8_t duration, std::uint8_t *out,
+                          std::size_t n) {
+    return dgt_follower_send_beep(it, duration, out, n);
+}
+
+inline dgt_sent send_set_and_run(dgt_host *it, const std::uint8_t *left, const std::uint8_t *right,
+                                 std::uint8_t control, std::uint8_t *out, std::size_t n) {
+    return dgt_host_send_set_and_run(it, left, right, control, out, n);
+}
+
+inline dgt_sent send_set_and_run(dgt_follower *it, const std::uint8_t *left,
+                                 const std::uint8_t *right, std::uint8_t control, std::uint8_t *out,
+                                 std::size_t n) {
+    return dgt_follower_send_set_and_run(it, left, right, control, out, n);
+}
+
+inline dgt_sent send_icons(dgt_host *it, const std::uint8_t *icons, std::size_t count,
+                           std::uint8_t *out, std::size_t n) {
+    return dgt_host_send_icons(it, icons, count, out, n);
+}
+
+inline dgt_sent send_icons(dgt_follower *it, const std::uint8_t *icons, std::size_t count,
+                           std::uint8_t *out, std::size_t n) {
+    return dgt_follower_send_icons(it, icons, count, out, n);
+}
+
+inline dgt_sent send_end(dgt_host *it, std::uint8_t *out, std::size_t n) {
+    return dgt_host_send_end(it, out, n);
+}
+
+inline dgt_sent send_end(dgt_follower *it, std::uint8_t *out, std::size_t n) {
+    return dgt_follower_send_end(it, out, n);
+}
+
+inline dgt_sent send_button(dgt_host *it, std::uint8_t *out, std::size_t n) {
+    return dgt_host_send_button(it, out, n);
+}
+
+inline dgt_sent send_button(dgt_follower *it, std::uint8_t *out, std::size_t n) {
+    return dgt_follower_send_button(it, out, n);
+}
+
+inline dgt_sent send_clock_version(dgt_host *it, std::uint8_t *out, std::size_t n) {
+    return dgt_host_send_clock_version(it, out, n);
+}
+
+inline dgt_sent send_clock_version(dgt_follower *it, std::uint8_t *out, std::size_t n) {
+    return dgt_follower_send_clock_version(it, out, n);
+}
+
 } // namespace detail
+
+// ---- Messages and commands, encoded and viewed by themselves.
+
+/// The bytes of a message. Throws std::invalid_argument if the event is no message (a Cut, for
+/// example), if a part of it is out of its range, or if the code of an Other is that of another
+/// case.
+inline Bytes encode_message(const Event &event) {
+    dgt_event written{};
+    ByteView body = detail::write_event(event, written);
+    return detail::encoded([&](auto *out, auto n) {
+        return dgt_encode_message(&written, body.data(), body.size(), out, n);
+    });
+}
+
+/// The message with this code, from 0 to 127, and this body, or a Refused with the fault of the
+/// body. std::invalid_argument if the code or a byte is above 127, or above DGT_MAX_BODY bytes.
+inline Event view_message(std::uint8_t code, ByteView body) {
+    dgt_event event;
+    if (!dgt_view_message(code, body.data(), body.size(), &event))
+        throw std::invalid_argument("no code of a message, or no body of one");
+    return detail::read_event(event, body.data()).value();
+}
+
+/// The bytes of a command. std::invalid_argument if the word is a fault, as a BadSize, or carries
+/// too many bytes.
+inline Bytes encode_command(const Word &word) {
+    std::uint8_t code = 0, id = 0;
+    ByteView carried;
+    if (auto *asked = std::get_if<Asked>(&word)) code = static_cast<std::uint8_t>(asked->ask);
+    if (auto *clock = std::get_if<ClockMessage>(&word))
+        code = DGT_SEND_CLOCK_MESSAGE, id = clock->id, carried = clock->payload;
+    if (auto *leds = std::get_if<Leds>(&word)) code = DGT_SEND_LEDS, carried = leds->leds;
+    return detail::encoded([&](auto *out, auto n) {
+        return dgt_encode_command(code, id, carried.data(), carried.size(), out, n);
+    });
+}
+
+/// The command whose bytes are exactly these, if there is one.
+inline std::optional<Word> view_command(ByteView word) {
+    dgt_command command;
+    if (!dgt_view_command(word.data(), word.size(), &command)) return std::nullopt;
+    return detail::read_word(command, word.data());
+}
 
 // ---- The commands for the clock.
 
@@ -482,62 +683,86 @@ template <class Sender> class ClockCommands {
 public:
     /// Shows at most six digits, spaces and hyphens, from left to right.
     Commands display(std::string_view text, std::uint8_t dots = 0, std::uint8_t beep = 0) {
-        std::array<std::uint8_t, 6> places;
-        places.fill(dgt_segment(' '));
-        if (text.size() > places.size()) throw std::invalid_argument("more than six characters");
-        for (std::size_t at = 0; at < text.size(); at++) {
-            places[at] = dgt_segment(static_cast<std::uint8_t>(text[at]));
-            if (places[at] == DGT_NO_SUCH) throw std::invalid_argument("no digit, space or hyphen");
-        }
-        auto [a, b, c, d, e, f] = places;
-        return send(DGT_ID_DISPLAY, std::array<std::uint8_t, 8>{c, b, a, f, e, d, dots, beep});
+        auto shown = padded<6>(text);
+        for (char each : shown)
+            if (dgt_segment(static_cast<std::uint8_t>(each)) == DGT_NO_SUCH)
+                throw std::invalid_argument("no digit, space or hyphen");
+        return sent([&](auto *it, auto *out, auto n) {
+            return detail::send_display(it, shown.data(), dots, beep, out, n);
+        });
     }
 
     /// Shows at most eight ASCII characters, from left to right.
     Commands text(std::string_view text, std::uint8_t beep = 0) {
-        std::array<std::uint8_t, 9> letters;
-        letters.fill(' ');
-        if (text.size() > 8) throw std::invalid_argument("more than eight characters");
-        for (char each : text)
+        auto shown = padded<8>(text);
+        for (char each : shown)
             if (static_cast<unsigned char>(each) > 127) throw std::invalid_argument("not ASCII");
-        std::copy(text.begin(), text.end(), letters.begin());
-        letters[8] = beep;
-        return send(DGT_ID_TEXT, letters);
+        return sent([&](auto *it, auto *out, auto n) {
+            return detail::send_text(it, shown.data(), beep, out, n);
+        });
     }
 
     Commands beep(std::uint8_t duration) {
-        return send(DGT_ID_BEEP, std::array<std::uint8_t, 1>{duration});
+        return sent([&](auto *it, auto *out, auto n) {
+            return detail::send_beep(it, duration, out, n);
+        });
     }
 
     /// Sets the times of both sides, and has the clock do what `control` says, whose bits are the
     /// clock's. std::invalid_argument if a time is out of its range, or has flags.
     Commands set_and_run(const Time &left, const Time &right, std::uint8_t control) {
-        for (const Time &time : {left, right})
-            if (time.hours > 9 || time.minutes > 59 || time.seconds > 59 || time.flags != 0)
-                throw std::invalid_argument("no time from 0:00:00 to 9:59:59 without flags");
-        return send(DGT_ID_SET_AND_RUN,
-                    std::array<std::uint8_t, 7>{left.hours, left.minutes, left.seconds, right.hours,
-                                                right.minutes, right.seconds, control});
+        auto one = side(left), other = side(right);
+        return sent([&](auto *it, auto *out, auto n) {
+            return detail::send_set_and_run(it, one.data(), other.data(), control, out, n);
+        });
     }
 
     /// Shows the icons of these bytes. std::invalid_argument above DGT_MAX_PAYLOAD of them.
-    Commands icons(ByteView payload) { return send(DGT_ID_ICONS, payload); }
+    Commands icons(ByteView payload) {
+        return sent([&](auto *it, auto *out, auto n) {
+            return detail::send_icons(it, payload.data(), payload.size(), out, n);
+        });
+    }
 
     /// Ends what is shown. The clock shows its times again.
-    Commands end() { return send(DGT_ID_END, {}); }
+    Commands end() {
+        return sent([](auto *it, auto *out, auto n) { return detail::send_end(it, out, n); });
+    }
 
     /// Asks for the state of the clock's buttons.
-    Commands button() { return send(DGT_ID_BUTTON, {}); }
+    Commands button() {
+        return sent([](auto *it, auto *out, auto n) { return detail::send_button(it, out, n); });
+    }
 
     /// Asks for the version of the clock.
-    Commands clock_version() { return send(DGT_ID_VERSION, {}); }
+    Commands clock_version() {
+        return sent([](auto *it, auto *out, auto n) {
+            return detail::send_clock_version(it, out, n);
+        });
+    }
 
 private:
     friend Sender;
     ClockCommands() = default;
 
-    Commands send(std::uint8_t id, ByteView payload) {
-        return static_cast<Sender &>(*this).send_clock(id, payload);
+    template <class Send> Commands sent(Send &&send) {
+        auto *handle = static_cast<Sender &>(*this).handle();
+        return detail::sent([&](auto *out, auto n) { return send(handle, out, n); });
+    }
+
+    template <std::size_t N> static std::array<char, N> padded(std::string_view text) {
+        std::array<char, N> shown;
+        shown.fill(' ');
+        if (text.size() > N)
+            throw std::invalid_argument("more than " + std::to_string(N) + " characters");
+        std::copy(text.begin(), text.end(), shown.begin());
+        return shown;
+    }
+
+    static std::array<std::uint8_t, 3> side(const Time &time) {
+        if (time.hours > 9 || time.minutes > 59 || time.seconds > 59 || time.flags != 0)
+            throw std::invalid_argument("no time from 0:00:00 to 9:59:59 without flags");
+        return {time.hours, time.minutes, time.seconds};
     }
 };
 
@@ -561,12 +786,13 @@ public:
         return {used, detail::read_event(event, body_.data())};
     }
 
-    /// Hears all of the bytes, and hands each event to `tell` once it is heard.
+    /// Hears all of the bytes, and hands each event to `tell` once it is heard. If `tell` takes a
+    /// std::size_t after the event, it gets how many of the bytes had been used by then.
     template <class Tell> void hear(ByteView bytes, Tell &&tell) {
-        while (!bytes.empty()) {
-            Heard heard = hear_one(bytes);
-            bytes = bytes.after(heard.used);
-            if (heard.event) tell(std::as_const(*heard.event));
+        for (std::size_t place = 0; place < bytes.size();) {
+            Heard heard = hear_one(bytes.after(place));
+            place += heard.used;
+            if (heard.event) detail::hand(tell, *heard.event, place);
         }
     }
 
@@ -641,6 +867,9 @@ public:
     void line_lost() { dgt_host_line_lost(&host_); }
 
 private:
+    friend ClockCommands<Host>;
+    dgt_host *handle() { return &host_; }
+
     dgt_host host_;
     std::array<std::uint8_t, DGT_MAX_BODY> body_;
 };
@@ -745,6 +974,9 @@ public:
         return detail::read_clock(clock);
     }
 
+    /// How many bytes were heard of a message that is not finished.
+    std::size_t unread() { return dgt_follower_unread(&follower_); }
+
     /// Whether the picture may be wrong.
     bool in_doubt() { return dgt_follower_in_doubt(&follower_); }
 
@@ -763,6 +995,9 @@ public:
     void line_lost() { dgt_follower_line_lost(&follower_); }
 
 private:
+    friend ClockCommands<Follower>;
+    dgt_follower *handle() { return &follower_; }
+
     dgt_follower follower_;
 };
 
@@ -786,10 +1021,10 @@ public:
         return {used, detail::read_event(event, body_.data())};
     }
     template <class Tell> void feed(ByteView bytes, Tell &&tell) {
-        while (!bytes.empty()) {
-            Heard heard = feed_one(bytes);
-            bytes = bytes.after(heard.used);
-            if (heard.event) tell(std::as_const(*heard.event));
+        for (std::size_t place = 0; place < bytes.size();) {
+            Heard heard = feed_one(bytes.after(place));
+            place += heard.used;
+            if (heard.event) detail::hand(tell, *heard.event, place);
         }
     }
 
@@ -935,6 +1170,12 @@ public:
 
     /// Whether there is anything to send.
     bool owes() { return dgt_board_owes(&board_); }
+
+    /// How many replies are owed, at most DGT_MAX_OWED.
+    std::size_t owed_len() { return dgt_board_owed_len(&board_); }
+
+    /// How many bytes have come of a command that is not finished.
+    std::size_t partial() { return dgt_board_partial(&board_); }
 
     Mode mode() { return static_cast<Mode>(dgt_board_mode(&board_)); }
 

@@ -40,7 +40,7 @@
 #endif
 
 enum {
-    DGT_PORT_PATIENCE = 2000,  /* for how many milliseconds dgt_port_write waits at most */
+    DGT_PORT_PATIENCE = 2000,  /* for how many milliseconds dgt_port_write waits for the port */
     DGT_PORT_LONGEST = 3600000 /* for how many dgt_port_read does */
 };
 
@@ -99,7 +99,7 @@ static inline int dgt_port_wait_(int port, short events, uint64_t until) {
     return poll(&polled, 1, left > DGT_PORT_LONGEST ? DGT_PORT_LONGEST : (int)left);
 }
 
-/* Sends all of the bytes. False, with errno, if the port has gone, or hasn't taken them for
+/* Sends all of the bytes. False, with errno, if the port has gone, or has taken none of them for
  * DGT_PORT_PATIENCE. The system keeps what the line has not carried yet, so that this seldom
  * waits. */
 static inline bool dgt_port_write(int port, const uint8_t *bytes, size_t n) {
@@ -109,6 +109,7 @@ static inline bool dgt_port_write(int port, const uint8_t *bytes, size_t n) {
         if (wrote >= 0) {
             bytes += wrote;
             n -= (size_t)wrote;
+            end = dgt_port_now() + DGT_PORT_PATIENCE;
         } else if (errno != EAGAIN && errno != EINTR) {
             return false;
         } else if (dgt_port_wait_(port, POLLOUT, end) == 0) {

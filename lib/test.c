@@ -1,5 +1,5 @@
 /* Makes each call of dgt.h once at least, with memory of exactly the stated size, which is filled
- * with rubbish before. Exits with 1 and tells the first thing that is not as dgt.h says, or 0. */
+ * with rubbish before. Exits with 1 and prints the first thing that is not as dgt.h says, or 0. */
 #include "dgt.h"
 
 #include <stdio.h>
@@ -26,18 +26,19 @@ static void *room(size_t n) {
 /* Bytes in a block of their own, so that a read past them is seen. */
 static uint8_t *copy(const void *bytes, size_t n) {
     uint8_t *copied = room(n);
-    memcpy(copied, bytes, n);
+    if (n > 0) memcpy(copied, bytes, n);
     return copied;
 }
 
 static dgt_event heard;
 static uint8_t body[8];
 
-/* Has a host hear bytes that make one event, with room for so many bytes of its body. */
+/* Has a host hear bytes that make one event, with room for `room` bytes of its body. */
 static void hear_one(dgt_host *host, const uint8_t *bytes, size_t n, size_t body_room) {
     uint8_t *given = copy(bytes, n), *out = room(body_room);
     dgt_event *event = room(sizeof *event);
     CHECK(dgt_host_hear(host, given, n, event, out, body_room) == n);
+    CHECK(event->place == (event->kind == DGT_EVENT_NONE ? 0 : n));
     heard = *event;
     memcpy(body, out, body_room < sizeof body ? body_room : sizeof body);
     free(given), free(out), free(event);
@@ -136,8 +137,13 @@ static void host_and_board(void) {
     CHECK(dgt_host_awaited(host, codes) == 0 && dgt_host_placement(host, text));
     CHECK(!strcmp(text, "rnbqkbnr/pppppppp/8/8/4P3/8/PPPP1PPP/RNBQKBNR"));
 
-    for (int i = 0; i < DGT_MAX_OWED; i++) bring(board, BYTES(DGT_SEND_SERIAL));
+    CHECK(dgt_board_owed_len(board) == 0);
+    for (int i = 0; i < DGT_MAX_OWED - 1; i++) bring(board, BYTES(DGT_SEND_SERIAL));
     dgt_command command;
+    CHECK(dgt_board_take(board, BYTES(0x2b, 4, 3), &command, out, 0).used == 3);
+    CHECK(dgt_board_owed_len(board) == DGT_MAX_OWED - 1 && dgt_board_partial(board) == 3);
+    CHECK(dgt_board_take(board, BYTES(DGT_ID_BEEP, 1, 0), &command, out, 0).used == 3);
+    CHECK(dgt_board_owed_len(board) == DGT_MAX_OWED && dgt_board_partial(board) == 0);
     dgt_taken taken = dgt_board_take(board, BYTES(DGT_SEND_SERIAL), &command, out, 0);
     CHECK(taken.busy && taken.used == 0 && command.kind == DGT_NO_WORD);
     dgt_board_line_lost(board);
@@ -243,8 +249,8 @@ static void events(void) {
     free(host);
 }
 
-/* Has a host hear a chunk, with room for so many events and so many bytes of a body. The events
- * and the body are kept in blocks of exactly these sizes, and the struct behind those that are told
+/* Has a host hear a chunk, with room for some events and some bytes of a body. The events
+ * and the body are kept in blocks of exactly these sizes, and the struct after those of events
  * is as it was. */
 static dgt_event *told;
 static uint8_t *told_body;
@@ -283,12 +289,14 @@ static void chunks(void) {
     CHECK(told[1].kind == DGT_EVENT_FIELD && told[1].square == 36 && told[1].piece == 1);
     CHECK(told[2].kind == DGT_EVENT_STRAY && told[2].byte == 0x31);
     CHECK(told[3].kind == DGT_EVENT_OTHER && told[3].body_len == 0);
+    CHECK(told[0].place == 5 && told[1].place == 10 && told[2].place == 11 && told[3].place == 14);
     CHECK(dgt_host_unread(host) == 2 && dgt_host_placement(host, text));
     CHECK(!strcmp(text, "8/8/8/8/4P3/8/8/8"));
 
     /* The array is full: what is left is to be heard. */
     all = hear_all(host, BYTES(5, 36, 0, 0x8e, 0, 5, 36, 2, 9), 1, 0);
     CHECK(all.used == 3 && all.count == 1 && told[0].square == 36 && told[0].piece == 0);
+    CHECK(told[0].place == 3); /* two of its bytes came with the chunk before */
     all = hear_all(host, BYTES(0x8e, 0, 5, 36, 2, 9), 1, 0);
     CHECK(all.used == 5 && all.count == 1 && told[0].piece == 2);
     all = hear_all(host, BYTES(9), 0, 0);
@@ -310,12 +318,13 @@ static void chunks(void) {
     CHECK(all.used == 10 && all.count == 3 && events[0].byte == 7 && out[0] == 0x64);
     CHECK(events[1].kind == DGT_EVENT_VERSION && events[1].unasked == 0);
     CHECK(events[2].kind == DGT_EVENT_BATTERY && events[2].body_len == 1);
+    CHECK(events[0].place == 1 && events[1].place == 6 && events[2].place == 10);
     all = dgt_decoder_feed_all(decoder, BYTES(0x8e, 0), events, 3, out, 2);
     CHECK(all.used == 2 && all.count == 0 && dgt_decoder_rest(decoder) == 2);
     free(decoder);
 }
 
-/* What follows the zeros of an asking of so many bytes. Those that request the clock are of the
+/* What follows the zeros of an asking of this length. Those that request the clock are of the
  * mode UPDATE_NICE, the others of UPDATE_BOARD. */
 enum { HEARTBEAT = 2, CLOCK_HEARTBEAT = 3, ANEW = 258, CLOCK_ANEW = 259 };
 static const char *wanted_end(size_t bytes) {
@@ -328,7 +337,7 @@ static const char *wanted_end(size_t bytes) {
     }
 }
 
-/* Whether a follower asks at this time, and writes so many bytes. */
+/* Whether a follower asks at this time, and writes this number of bytes. */
 static bool asks(dgt_follower *follower, uint64_t now, size_t bytes) {
     uint8_t *out = room(DGT_MAX_ASKING);
     dgt_sent asked = dgt_follower_ask(follower, now, out, DGT_MAX_ASKING);
@@ -369,7 +378,7 @@ static void follower(void) {
     /* A stray byte disturbs: the next asking is due after a quarter of the period. */
     dgt_follower_hear_all(follower, 2010, dump, sizeof dump);
     dgt_follower_hear_all(follower, 2011, BYTES(5, 0x8e));
-    CHECK(dgt_follower_in_doubt(follower));
+    CHECK(dgt_follower_in_doubt(follower) && dgt_follower_unread(follower) == 1);
     CHECK(dgt_follower_due_at(follower, &time) && time == 2257);
     CHECK(dgt_follower_placement(follower, text) && !strcmp(text, "8/8/8/8/8/8/4P3/8"));
     CHECK(asks(follower, 2256, 0) && asks(follower, 2257, ANEW));
@@ -528,6 +537,173 @@ static void helpers(void) {
     CHECK(!dgt_placement(pieces, text));
 }
 
+/* Whether the message that an event says has these bytes, and is viewed as that event. */
+static bool is_encoded(const dgt_event *said, const uint8_t *carried, size_t carried_len,
+                       const uint8_t *bytes, size_t n) {
+    uint8_t *out = room(n + 1), *read = copy(carried, carried_len), *whole = copy(bytes + 3, n - 3);
+    dgt_encoded encoded = dgt_encode_message(said, read, carried_len, out, n - 1);
+    bool right = encoded.status == DGT_TOO_SHORT && encoded.bytes == n && out[0] == 0xa5;
+    encoded = dgt_encode_message(said, read, carried_len, out, n + 1);
+    right = right && encoded.status == DGT_ENCODED && encoded.bytes == n && out[n] == 0xa5;
+    right = right && !memcmp(out, bytes, n);
+    dgt_event *viewed = room(sizeof *viewed);
+    right = right && dgt_view_message(bytes[0] - 128, whole, n - 3, viewed);
+    right = right && viewed->kind == said->kind && viewed->body_len == carried_len;
+    right = right && viewed->place == 0 && viewed->unasked == 0;
+    viewed->code = said->code, viewed->body_len = said->body_len;
+    viewed->place = said->place, viewed->unasked = said->unasked;
+    size_t members = offsetof(dgt_event, pieces) + sizeof said->pieces; /* and no byte between */
+    right = right && !memcmp(viewed, said, members);
+    free(out), free(read), free(whole), free(viewed);
+    return right;
+}
+
+#define NO_BODY NULL, 0
+
+static void messages(void) {
+    dgt_event said = {.kind = DGT_EVENT_FIELD, .square = 52, .place = 7, .unasked = 1};
+    CHECK(is_encoded(&said, NO_BODY, BYTES(0x8e, 0, 5, 52, 0)));
+    uint8_t dump[67] = {0x86, 0, 67, 8, [66] = 2};
+    said = (dgt_event){.kind = DGT_EVENT_DUMP, .pieces = {8, [63] = 2}};
+    CHECK(is_encoded(&said, NO_BODY, dump, sizeof dump));
+    said = (dgt_event){.kind = DGT_EVENT_TIMES};
+    said.clock = (dgt_clock){DGT_CLOCK_TIMES, 0x11, {0}, {1, 30, 0, 0}, {1, 29, 55, 5}};
+    CHECK(is_encoded(&said, NO_BODY, BYTES(0x8d, 0, 10, 1, 0x30, 0, 0x51, 0x29, 0x55, 0x11)));
+    said = (dgt_event){.kind = DGT_EVENT_NO_CLOCK};
+    said.clock = (dgt_clock){DGT_CLOCK_NONE, 0x20, {1, 2, 3, 4, 5, 6}, {0}, {0}};
+    CHECK(is_encoded(&said, NO_BODY, BYTES(0x8d, 0, 10, 1, 2, 3, 4, 5, 6, 0x20)));
+    said = (dgt_event){.kind = DGT_EVENT_ACK, .ack = {0x90, 9, 0x14, 0x80}, .ack_status = 3};
+    CHECK(is_encoded(&said, NO_BODY, BYTES(0x8d, 0, 10, 0x2a, 0x10, 9, 0x1a, 0x14, 0, 3)));
+    said = (dgt_event){.kind = DGT_EVENT_SERIAL, .serial = {1, 2, 3, 4, 127}};
+    CHECK(is_encoded(&said, NO_BODY, BYTES(0x91, 0, 8, 1, 2, 3, 4, 127)));
+    said = (dgt_event){.kind = DGT_EVENT_VERSION, .main_number = 1, .sub_number = 3};
+    CHECK(is_encoded(&said, NO_BODY, BYTES(0x93, 0, 5, 1, 3)));
+    said = (dgt_event){.kind = DGT_EVENT_TRADEMARK, .code = 255, .body_len = 9};
+    CHECK(is_encoded(&said, BYTES('D', 'G', 'T'), BYTES(0x92, 0, 6, 'D', 'G', 'T')));
+    said = (dgt_event){.kind = DGT_EVENT_BATTERY};
+    CHECK(is_encoded(&said, BYTES(0x64), BYTES(0xa0, 0, 4, 0x64)));
+    said = (dgt_event){.kind = DGT_EVENT_LONG_SERIAL};
+    CHECK(is_encoded(&said, NO_BODY, BYTES(0xa2, 0, 3)));
+    said = (dgt_event){.kind = DGT_EVENT_OTHER, .code = 5};
+    CHECK(is_encoded(&said, BYTES(7), BYTES(0x85, 0, 4, 7)));
+    uint8_t *longest = room(DGT_MAX_BODY + 3);
+    memset(longest, 0x7f, DGT_MAX_BODY + 3), longest[0] = 0x85;
+    CHECK(is_encoded(&said, longest + 3, DGT_MAX_BODY, longest, DGT_MAX_BODY + 3));
+    free(longest);
+}
+
+/* Whether an event says no message, also if there is no room for one. */
+static bool says_nothing(const dgt_event *said, const uint8_t *carried, size_t carried_len) {
+    uint8_t *out = room(10);
+    dgt_encoded encoded = dgt_encode_message(said, carried, carried_len, out, 10);
+    bool right = encoded.status == DGT_NOT_ENCODED && encoded.bytes == 0 && out[0] == 0xa5;
+    encoded = dgt_encode_message(said, carried, carried_len, NULL, 0);
+    free(out);
+    return right && encoded.status == DGT_NOT_ENCODED && encoded.bytes == 0;
+}
+
+static void no_messages(void) {
+    const uint8_t kinds[] = {DGT_EVENT_NONE, DGT_EVENT_REFUSED, DGT_EVENT_CUT, DGT_EVENT_STRAY, 16};
+    dgt_event said = {0};
+    for (size_t i = 0; i < sizeof kinds; i++) {
+        said.kind = kinds[i];
+        CHECK(says_nothing(&said, NO_BODY));
+    }
+    said = (dgt_event){.kind = DGT_EVENT_FIELD, .square = 64};
+    CHECK(says_nothing(&said, NO_BODY));
+    said = (dgt_event){.kind = DGT_EVENT_FIELD, .piece = 16};
+    CHECK(says_nothing(&said, NO_BODY));
+    said = (dgt_event){.kind = DGT_EVENT_DUMP, .pieces = {[63] = 16}};
+    CHECK(says_nothing(&said, NO_BODY));
+    said = (dgt_event){.kind = DGT_EVENT_TIMES, .clock = {.kind = DGT_CLOCK_NONE, .status = 0x20}};
+    CHECK(says_nothing(&said, NO_BODY));
+    said.kind = DGT_EVENT_NO_CLOCK, said.clock.raw[3] = 0x1a;
+    CHECK(says_nothing(&said, NO_BODY));
+    said = (dgt_event){.kind = DGT_EVENT_ACK, .ack_status = 128};
+    CHECK(says_nothing(&said, NO_BODY));
+    said = (dgt_event){.kind = DGT_EVENT_SERIAL, .serial = {[4] = 128}};
+    CHECK(says_nothing(&said, NO_BODY));
+    said = (dgt_event){.kind = DGT_EVENT_VERSION, .sub_number = 128};
+    CHECK(says_nothing(&said, NO_BODY));
+    said = (dgt_event){.kind = DGT_EVENT_TRADEMARK};
+    CHECK(says_nothing(&said, BYTES('D', 128)));
+    said = (dgt_event){.kind = DGT_EVENT_OTHER, .code = 0x12};
+    CHECK(says_nothing(&said, BYTES(7)));
+    said.code = 133;
+    CHECK(says_nothing(&said, BYTES(7)));
+    said.code = 5;
+    uint8_t *too_long = room(DGT_MAX_BODY + 1);
+    memset(too_long, 0, DGT_MAX_BODY + 1);
+    CHECK(says_nothing(&said, too_long, DGT_MAX_BODY + 1));
+
+    dgt_event *viewed = room(sizeof *viewed);
+    CHECK(!dgt_view_message(5, too_long, DGT_MAX_BODY + 1, viewed));
+    CHECK(!dgt_view_message(128, NULL, 0, viewed) && !dgt_view_message(5, BYTES(128), viewed));
+    CHECK(viewed->kind == 0xa5);
+    CHECK(dgt_view_message(0x0e, BYTES(52, 16), viewed) && viewed->kind == DGT_EVENT_REFUSED);
+    CHECK(viewed->code == 0x0e && viewed->fault == DGT_BAD_PIECE && viewed->at == 1);
+    CHECK(dgt_view_message(0x11, NULL, 0, viewed) && viewed->fault == DGT_WRONG_SIZE);
+    CHECK(dgt_view_message(0x12, NULL, 0, viewed) && viewed->kind == DGT_EVENT_TRADEMARK);
+    free(too_long), free(viewed);
+}
+
+/* Whether this command has these bytes, and they are viewed as it. */
+static bool is_command(uint8_t code, uint8_t id, const uint8_t *carried, size_t carried_len,
+                       const uint8_t *bytes, size_t n) {
+    uint8_t *out = room(n + 1), *read = copy(carried, carried_len), *word = copy(bytes, n);
+    dgt_encoded encoded = dgt_encode_command(code, id, read, carried_len, out, n - 1);
+    bool right = encoded.status == DGT_TOO_SHORT && encoded.bytes == n && out[0] == 0xa5;
+    encoded = dgt_encode_command(code, id, read, carried_len, out, n + 1);
+    right = right && encoded.status == DGT_ENCODED && encoded.bytes == n && out[n] == 0xa5;
+    right = right && !memcmp(out, bytes, n);
+    dgt_command command;
+    right = right && dgt_view_command(word, n, &command) && command.kind == DGT_COMMAND;
+    right = right && command.code == code && command.byte == 0 && command.word_len == n;
+    right = right && command.id == (code == DGT_SEND_CLOCK_MESSAGE ? id : 0);
+    free(out), free(read), free(word);
+    return right;
+}
+
+static void commands(void) {
+    uint8_t most[DGT_MAX_WORD] = {0x60, 255, 1}, out[DGT_MAX_WORD];
+    CHECK(is_command(DGT_SEND_DUMP, 9, NO_BODY, BYTES(0x42)));
+    CHECK(is_command(DGT_SEND_LONG_SERIAL, 0, NO_BODY, BYTES(0x55)));
+    CHECK(is_command(0x2b, DGT_ID_BEEP, BYTES(3), BYTES(0x2b, 4, 3, 0x0b, 3, 0)));
+    CHECK(is_command(0x2b, 0x77, NO_BODY, BYTES(0x2b, 3, 3, 0x77, 0)));
+    CHECK(is_command(DGT_SEND_LEDS, 9, most + 2, DGT_MAX_LEDS, most, DGT_MAX_WORD));
+    CHECK(is_command(DGT_SEND_LEDS, 0, NO_BODY, BYTES(0x60, 0)));
+    memcpy(most, "\x2b\xff\3\2", 4);
+    CHECK(is_command(0x2b, DGT_ID_ICONS, most + 4, DGT_MAX_PAYLOAD, most, DGT_MAX_WORD));
+
+    uint8_t bytes[256] = {0};
+    const uint8_t codes[] = {0, 0x2a, 0x3f, 0x46, 0x56, 0x5f, 0x61, 0xff};
+    for (size_t i = 0; i < sizeof codes; i++) {
+        dgt_encoded encoded = dgt_encode_command(codes[i], 1, NULL, 0, out, sizeof out);
+        CHECK(encoded.status == DGT_NOT_ENCODED && encoded.bytes == 0);
+    }
+    CHECK(dgt_encode_command(0x42, 0, bytes, 1, out, 1).status == DGT_NOT_ENCODED);
+    CHECK(dgt_encode_command(0x2b, 2, bytes, 253, out, 257).status == DGT_NOT_ENCODED);
+    CHECK(dgt_encode_command(0x60, 0, bytes, 256, NULL, 0).status == DGT_NOT_ENCODED);
+    CHECK(dgt_encode_command(0x60, 0, NULL, 0, NULL, 0).status == DGT_TOO_SHORT);
+
+    dgt_command command = {9, 9, 9, 9, 9};
+    CHECK(!dgt_view_command(NULL, 0, &command) && !dgt_view_command(BYTES(0x42, 0x42), &command));
+    CHECK(!dgt_view_command(BYTES(0x2b, 4, 3, 0x0b, 3, 1), &command));
+    CHECK(!dgt_view_command(BYTES(0x2b, 4, 3, 0x0b, 3), &command));
+    CHECK(!dgt_view_command(BYTES(0x60, 1), &command) && command.kind == 9);
+}
+
+static void differing(void) {
+    uint8_t pieces[64] = {1}, others[64] = {1, [3] = 15, [63] = 2};
+    uint64_t squares = 9;
+    CHECK(dgt_differ(pieces, others, &squares));
+    CHECK(squares == (UINT64_C(1) << 3 | UINT64_C(1) << 63));
+    CHECK(dgt_differ(pieces, pieces, &squares) && squares == 0);
+    others[5] = 16, squares = 9;
+    CHECK(!dgt_differ(pieces, others, &squares) && !dgt_differ(others, pieces, &squares));
+    CHECK(squares == 9);
+}
+
 /* Each call takes NULL for a slice of no bytes, and for an array of no events. */
 static void no_bytes_of_hosts(void) {
     dgt_host *host = room(dgt_host_size());
@@ -643,6 +819,10 @@ int main(void) {
     follower();
     clock_commands();
     decoders();
+    messages();
+    no_messages();
+    commands();
+    differing();
     helpers();
     no_bytes_of_hosts();
     no_bytes_for_commands();

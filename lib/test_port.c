@@ -1,4 +1,4 @@
-/* Tries dgt_port.h on a pseudo-terminal. Exits with 1 and tells the first thing that is not as
+/* Tries dgt_port.h on a pseudo-terminal. Exits with 1 and prints the first thing that is not as
  * dgt_port.h says, or 0. */
 #define _GNU_SOURCE
 #include "dgt_port.h"
@@ -6,6 +6,7 @@
 #include <signal.h>
 #include <stdio.h>
 #include <stdlib.h>
+#include <sys/prctl.h>
 #include <sys/time.h>
 #include <sys/wait.h>
 
@@ -77,12 +78,15 @@ static void writing(void) {
     CHECK(dgt_port_write(port, (const uint8_t *)"\x44\n", 2) && read(line, given, 4) == 2);
     CHECK(!memcmp(given, "\x44\n", 2) && dgt_port_write(port, NULL, 0));
 
-    /* More than the system keeps, to a side that reads slowly. */
+    /* More than the system keeps, to a side that pauses for longer than DGT_PORT_PATIENCE. */
     for (size_t i = 0; i < MANY; i++) bytes[i] = (uint8_t)(i % 251);
     pid_t reader = fork();
     if (reader == 0) {
-        for (size_t i = 0; i < MANY; i++)
+        prctl(PR_SET_PDEATHSIG, SIGKILL); /* it doesn't outlive a test that fails */
+        for (size_t i = 0; i < MANY; i++) {
+            if (i % 6000 == 0 && i < 36000) nanosleep(&(struct timespec){0, 500000000}, NULL);
             if (read(line, given, 1) != 1 || given[0] != i % 251) _exit(1);
+        }
         _exit(0);
     }
     int status = 1;

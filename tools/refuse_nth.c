@@ -1,6 +1,6 @@
 // A library to preload: it refuses one allocation of the process, that whose number, from 1 on,
 // REFUSE gives. At the end of the process it writes a line to the file descriptor COUNT_TO, where
-// that is given: how many there were. LATE_TO is the same for those that came behind the first read
+// that is given: how many there were. LATE_TO is the same for those that came after the first read
 // or write of the process.
 #include <errno.h>
 #include <stddef.h>

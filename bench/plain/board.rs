@@ -82,7 +82,7 @@ impl Reader {
     }
 }
 
-/// What the bytes of a word tell.
+/// What the bytes of a word mean.
 fn word(bytes: &[u8]) -> Word<'_> {
     match bytes {
         [0x60, _, leds @ ..] => Word::Command(Command::Leds(leds)),
@@ -108,7 +108,7 @@ enum Reply {
     Ack { id: u8, version: u8 },
 }
 
-/// What a board tells of itself.
+/// What a board reports of itself.
 pub struct Identity {
     pub serial: [u8; 5],
     pub version: [u8; 2],
@@ -237,7 +237,7 @@ pub enum Polled {
     Nothing,
 }
 
-/// Writes a message to the front of a slice.
+/// Writes a message at the beginning of a slice.
 fn put_message(code: u8, body: &[u8], out: &mut [u8]) -> Polled {
     let total = body.len() + 3;
     let Some(out) = out.get_mut(..total) else {

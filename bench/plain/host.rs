@@ -19,7 +19,7 @@ struct Known {
 }
 
 impl Known {
-    /// Takes note of a message, and answers whether it was not asked for.
+    /// Takes note of a message, and returns whether it was not asked for.
     fn note(&mut self, message: &Message) -> bool {
         match (message, &mut self.picture) {
             (Message::Dump(position), picture) => *picture = Some(*position),

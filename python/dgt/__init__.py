@@ -40,18 +40,21 @@ another thread was in a call of an object, it must not use that object: its call
 ever.
 """
 
+from ._pgn_file import KeptGame, PgnFile
 from ._version import VERSION
 from .board import Board, Identity, Mode
 from .clock_commands import ClockCommands
 from .commands import (Ask, Asked, BadEnd, BadSize, BadStart, ClockId, ClockMessage, Command, Leds,
                        StrayByte, Word)
 from .decoder import CommandDecoder, Decoder
+from .encoding import encode_command, encode_message, view_command, view_message
 from .errors import (BadFen, BadPlacement, BadValue, Busy, Closed, DgtError, IllegalMove, Nested,
                      NoSuchCommand, TooManyAwaited)
 from .events import (Ack, BadLength, Battery, Cut, Dump, Event, Fault, Field, LongSerial, Message,
                      Other, Refused, Serial, Stray, Trademark, Version)
 from .follower import Follower
 from .following import BoardView, Following, SerialLine, follow, follow_async
+from .games import Games, GameStore
 from .host import Host
 from .moves import GameBegun, MoveEvent, MoveMade, MoveRecogniser, MoveTakenBack
 from .pgn import PgnGame, PgnMove, san
@@ -66,10 +69,12 @@ __all__ = [
     "Ack", "Ask", "Asked", "BadEnd", "BadFen", "BadLength", "BadPlacement", "BadSize", "BadStart",
     "BadValue", "Battery", "Board", "BoardView", "Busy", "Clock", "ClockCommands", "ClockId",
     "ClockMessage", "Closed", "Command", "CommandDecoder", "Cut", "Decoder", "DgtError", "Dump",
-    "Event", "Fault", "Field", "Follower", "Following", "GameBegun", "GameState", "Host",
-    "Identity", "IllegalMove", "LETTERS", "Leds", "LongSerial", "Message", "Mode", "MoveEvent",
-    "MoveMade", "MoveRecogniser", "MoveTakenBack", "Nested", "NoClock", "NoSuchCommand", "Other",
-    "Outcome", "PgnGame", "PgnMove", "Position", "Refused", "SQUARES", "START_FEN", "Serial",
-    "SerialLine", "Stray", "StrayByte", "Time", "Times", "TooManyAwaited", "Trademark", "Version",
-    "Word", "World", "follow", "follow_async", "piece_code", "san", "segment", "square_number",
+    "Event", "Fault", "Field", "Follower", "Following", "GameBegun", "GameState", "GameStore",
+    "Games", "Host", "Identity", "IllegalMove", "KeptGame", "LETTERS", "Leds", "LongSerial",
+    "Message", "Mode", "MoveEvent", "MoveMade", "MoveRecogniser", "MoveTakenBack", "Nested",
+    "NoClock", "NoSuchCommand", "Other", "Outcome", "PgnFile", "PgnGame", "PgnMove", "Position",
+    "Refused", "SQUARES", "START_FEN", "Serial", "SerialLine", "Stray", "StrayByte", "Time",
+    "Times", "TooManyAwaited", "Trademark", "Version", "Word", "World", "encode_command",
+    "encode_message", "follow", "follow_async", "piece_code", "san", "segment", "square_number",
+    "view_command", "view_message",
 ]

@@ -36,7 +36,8 @@ class EventStruct(Structure):
         "kind", "unasked", "code", "square", "piece", "main_number", "sub_number", "byte", "fault",
         "ack_status")] + [
         ("ack", c_uint8 * 4), ("serial", c_uint8 * 5), ("clock", ClockStruct),
-        ("pieces", c_uint8 * 64), ("have", c_size_t), ("at", c_size_t), ("body_len", c_size_t)]
+        ("pieces", c_uint8 * 64), ("have", c_size_t), ("at", c_size_t), ("body_len", c_size_t),
+        ("place", c_size_t)]
 
 
 class ToldStruct(Structure):
@@ -57,6 +58,10 @@ class TakenStruct(Structure):
 
 
 class PolledStruct(Structure):
+    _fields_ = [("status", c_uint8), ("bytes", c_size_t)]
+
+
+class EncodedStruct(Structure):
     _fields_ = [("status", c_uint8), ("bytes", c_size_t)]
 
 
@@ -114,6 +119,7 @@ _FUNCTIONS: dict[str, dict[str, tuple[Any, ...]]] = {
         "picture": (c_bool, c_void_p, c_void_p),
         "placement": (c_bool, c_void_p, c_void_p),
         "clock": (None, c_void_p, POINTER(ClockStruct)),
+        "unread": (c_size_t, c_void_p),
         "in_doubt": (c_bool, c_void_p),
         "last_heard": (c_bool, c_void_p, POINTER(c_uint64)),
         "heartbeats_left": (c_uint32, c_void_p),
@@ -140,11 +146,18 @@ _FUNCTIONS: dict[str, dict[str, tuple[Any, ...]]] = {
         "take": (TakenStruct, c_void_p, *_ROOM, POINTER(CommandStruct), *_ROOM),
         "poll": (PolledStruct, c_void_p, *_ROOM),
         "owes": (c_bool, c_void_p),
+        "owed_len": (c_size_t, c_void_p),
+        "partial": (c_size_t, c_void_p),
         "mode": (c_uint8, c_void_p),
         "position": (None, c_void_p, c_void_p),
         "clock": (None, c_void_p, POINTER(ClockStruct)),
     },
     "dgt": {
+        "encode_message": (EncodedStruct, POINTER(EventStruct), *_ROOM, *_ROOM),
+        "view_message": (c_bool, c_uint8, *_ROOM, POINTER(EventStruct)),
+        "encode_command": (EncodedStruct, c_uint8, c_uint8, *_ROOM, *_ROOM),
+        "view_command": (c_bool, *_ROOM, POINTER(CommandStruct)),
+        "differ": (c_bool, c_void_p, c_void_p, POINTER(c_uint64)),
         "placement": (c_bool, c_void_p, c_void_p),
         "parse_placement": (ParsedStruct, *_ROOM, c_void_p),
         "segment": (c_uint8, c_uint8),

@@ -20,22 +20,23 @@ _MODE = 0o666
 _NEW = os.O_WRONLY | os.O_CREAT | os.O_EXCL | os.O_CLOEXEC
 
 
-@dataclass(slots=True)
-class _Kept:
+@dataclass(slots=True, eq=False)
+class KeptGame:
     """A game: its text now, and the one that the file has. Neither has the line feeds at its
     end."""
 
     text: bytes = b""
     written: bytes = b""
+    is_listed: bool = False  # it is one of those that the file gets
 
-    def put_into(self, content: bytes) -> bytes:
-        """Returns the content of a file with this game in the place of its earlier text, or else at
-        the end."""
+    def put_into(self, content: bytes, text: bytes) -> bytes:
+        """Returns the content of a file with this text of the game in the place of the earlier one,
+        or else at the end."""
         at = content.rfind(self.written) if self.written else -1
         if at >= 0:
-            return content[:at] + self.text + content[at + len(self.written):]
+            return content[:at] + text + content[at + len(self.written):]
         feeds = len(content) - len(content.rstrip(b"\n"))
-        return content + b"\n" * (max(0, 2 - feeds) if content else 0) + self.text + b"\n\n"
+        return content + b"\n" * (max(0, 2 - feeds) if content else 0) + text + b"\n\n"
 
 
 class PgnFile:
@@ -43,47 +44,54 @@ class PgnFile:
     the file has stays, also if another program writes it meanwhile. A file that has gone gets all
     games of this object again.
 
-    The file is whole at any time: a new one takes its place once it is on the disk."""
+    The file is whole at any time: a new one takes its place once it is on the disk. One thread may
+    call `save` while others call `begin` and `put`."""
 
     def __init__(self, name: str) -> None:
         """`OSError` if there is no such folder, no file can be made there, or the name is that of
         something else than a file."""
         self.name = name
-        self._games: list[_Kept] = []
+        self._games: list[KeptGame] = []  # a game is one of them once it has a text
+        self._last = KeptGame()
         with self._locked() as folder:
             self._read()
             with self._new(folder) as (_, path):
                 os.unlink(path)
 
-    def begin(self) -> None:
-        """A game begins. `put` is about this one from now on."""
-        self._games.append(_Kept())
+    def begin(self) -> KeptGame:
+        """A game begins, which is returned. `put` is about this one from now on."""
+        self._last = KeptGame()
+        return self._last
 
-    def put(self, text: str) -> None:
-        """Sets the text of the game, for `save` to write."""
-        self._games[-1].text = text.rstrip("\n").encode(errors="replace")
+    def put(self, text: str, game: KeptGame | None = None) -> None:
+        """Sets the text of a game, or else of the last one, for `save` to write."""
+        game = game or self._last
+        game.text = text.rstrip("\n").encode(errors="replace")
+        if not game.is_listed:
+            game.is_listed = True
+            self._games.append(game)
 
     @property
     def unsaved(self) -> str:
         """The games that the file doesn't have as they are."""
-        texts = [each.text for each in self._games if each.text != each.written]
+        texts = [each.text for each in list(self._games) if each.text != each.written]
         return b"\n\n".join(texts).decode()
 
     def save(self) -> None:
         """Writes the games that have changed. `OSError` if that fails: then the file is as it was,
         and the next call tries again."""
-        if not any(each.text != each.written for each in self._games):
+        if not any(each.text != each.written for each in list(self._games)):
             return
         with self._locked() as folder:
             content = self._read()
-            games = [each for each in self._games if each.text
-                     and (each.text != each.written or content is None)]
+            games = [(each, text) for each in list(self._games) if (text := each.text)
+                     and (text != each.written or content is None)]
             content = content or b""
-            for each in games:
-                content = each.put_into(content)
+            for each, text in games:
+                content = each.put_into(content, text)
             self._replace(folder, content)
-            for each in games:
-                each.written = each.text
+            for each, text in games:
+                each.written = text
 
     @property
     def _path(self) -> str:
@@ -141,9 +149,11 @@ class PgnFile:
             with open(number, "wb", closefd=False) as opened:
                 opened.write(content)
             with contextlib.suppress(FileNotFoundError):
-                old = os.stat(self._path)
-                with contextlib.suppress(PermissionError):
-                    os.fchown(number, old.st_uid, old.st_gid)
+                old, new = os.stat(self._path), os.fstat(number)
+                # A unit of systemd may forbid the call.
+                if (old.st_uid, old.st_gid) != (new.st_uid, new.st_gid):
+                    with contextlib.suppress(PermissionError):
+                        os.fchown(number, old.st_uid, old.st_gid)
                 os.fchmod(number, stat.S_IMODE(old.st_mode))
             os.fsync(number)
             os.replace(path, self._path)

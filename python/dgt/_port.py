@@ -72,9 +72,9 @@ class Port:
         self._unsent = self._unsent[self._file.write(self._unsent) or 0:]
 
     def exchange(self, seconds: float, wakes: int | None = None) -> bytes:
-        """Sends what the port takes, and returns the bytes that come. Returns nothing after so many
-        seconds, once the port took something, or if the descriptor `wakes` has something to read.
-        `OSError` if the port has gone."""
+        """Sends what the port takes, and returns the bytes that come. Returns nothing after this
+        time in seconds, once the port took something, or if the descriptor `wakes` has something
+        to read. `OSError` if the port has gone."""
         self._poll.register(self._line, select.POLLIN | (select.POLLOUT if self._unsent else 0))
         if wakes is not None:
             self._poll.register(wakes, select.POLLIN)

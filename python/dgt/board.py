@@ -168,6 +168,16 @@ class Board(Handle):
         return bool(self._call(dgt.dgt_board_owes))
 
     @property
+    def owed_len(self) -> int:
+        """The number of replies that the board owes. With 8 it is busy."""
+        return int(self._call(dgt.dgt_board_owed_len))
+
+    @property
+    def partial(self) -> int:
+        """The number of bytes that have come of an unfinished command."""
+        return int(self._call(dgt.dgt_board_partial))
+
+    @property
     def mode(self) -> Mode:
         """Which changes the board reports unasked."""
         return Mode(self._call(dgt.dgt_board_mode))
@@ -187,6 +197,6 @@ class Board(Handle):
         return read_clock(shown)
 
     def line_lost(self) -> None:
-        """Tells the board that the line was lost. It keeps its squares, its clock and its identity,
-        and is otherwise as new."""
+        """The line was lost. The board keeps its squares, its clock and its identity, and is
+        otherwise as new."""
         self._call(dgt.dgt_board_line_lost)

@@ -3,42 +3,66 @@
 from __future__ import annotations
 
 import ctypes
-from collections.abc import Iterator
+from collections.abc import Callable, Iterator
 from ctypes import byref
+from typing import Any
 
 from ._handle import Bytes, Handle, readable, writable
 from ._library import MAX_BODY, MAX_WORD, CommandStruct, EventStruct, dgt
 from .commands import Word, read_word
-from .events import Event, read_event, read_events
+from .events import Event, read_event, read_events, read_offsets
 
 
 class EventReader(Handle):
     """Reads events from chunks of bytes: a host or a decoder."""
 
     _feed_name: str
-    _most = 256  # events that one call of the library tells
+    _most = 256  # events that one call of the library reports
 
     def __init__(self) -> None:
         super().__init__()
+        self._offset = 0
         self._events, self._events_at = writable(self._most * ctypes.sizeof(EventStruct))
         self._told = EventStruct.from_buffer(self._events)
         self._body, self._body_at = writable(MAX_BODY)
         self._feed = getattr(dgt, f"{self._prefix}_{self._feed_name}")
         self._feed_all = getattr(dgt, f"{self._prefix}_{self._feed_name}_all")
 
+    @property
+    def offset(self) -> int:
+        """The number of bytes that were read since the object was made, or made as new. In a loop
+        over the events of a chunk, each of which is read when it is taken, it is the offset of the
+        event, as `dgt monitor` prints it."""
+        return self._call(lambda at: self._offset)
+
     def _all(self, chunk: Bytes) -> list[Event]:
         held, address = readable(chunk)
-        return self._call(self._read_all, address, address + len(held))
+        return self._call(self._read_all, address, address + len(held), None)
 
-    def _read_all(self, at: int, address: int, end: int) -> list[Event]:
+    def _placed(self, chunk: Bytes) -> list[tuple[int, Event]]:
+        held, address = readable(chunk)
+        offsets: list[int] = []
+        events = self._call(self._read_all, address, address + len(held), offsets)
+        return list(zip(offsets, events))
+
+    def _read_all(self, at: int, address: int, end: int, offsets: list[int] | None) -> list[Event]:
         events: list[Event] = []
         while address < end:
-            # One call tells all events of a chunk, unless there are many, or one has a body.
+            # One call reports all events of a chunk, unless there are many, or one has a body.
             told = self._feed_all(at, address, end - address, self._events_at, self._most,
                                   self._body_at, MAX_BODY)
             address += told.used
+            if offsets is not None:
+                offsets += read_offsets(self._events, told.count, self._offset)
+            self._offset += told.used
             events += read_events(self._events, told.count, self._body)
         return events
+
+    def _made_new(self, at: int, make: Callable[[int], Any]) -> Any:
+        """Returns what `make` returns, which makes the object as new."""
+        made = make(at)
+        self._offset = 0
+        return made
 
     def _each(self, chunk: Bytes) -> Iterator[Event]:
         held = readable(chunk)
@@ -55,7 +79,9 @@ class EventReader(Handle):
                     self._refuse()
                 self._running = True
                 try:
-                    address += feed(self._at, address, end - address, told_at, body_at, MAX_BODY)
+                    used = feed(self._at, address, end - address, told_at, body_at, MAX_BODY)
+                    address += used
+                    self._offset += used
                     event = read_event(told, self._body) if told.kind else None
                 finally:
                     self._running = False
@@ -82,6 +108,15 @@ class Decoder(EventReader):
         """Returns the events of a chunk of bytes."""
         return self._all(chunk)
 
+    def feed_placed(self, chunk: Bytes) -> list[tuple[int, Event]]:
+        r"""Returns the same events, each after its offset: how many bytes had been fed by then,
+        since the decoder was made or reset.
+
+        >>> Decoder().feed_placed(b"\x8e\x00\x05\x34\x00\x8e\x00\x05\x24\x01")
+        [(5, Field(square='e2', piece='.')), (10, Field(square='e4', piece='P'))]
+        """
+        return self._placed(chunk)
+
     def feed_each(self, chunk: Bytes) -> Iterator[Event]:
         """Yields the same events. A byte is read once the event before it was taken."""
         return self._each(chunk)
@@ -93,11 +128,11 @@ class Decoder(EventReader):
 
     def finish(self) -> int:
         """Returns `rest` at the end of the bytes, and resets the decoder."""
-        return int(self._call(dgt.dgt_decoder_finish))
+        return int(self._call(self._made_new, dgt.dgt_decoder_finish))
 
     def reset(self) -> None:
         """Makes the decoder as new."""
-        self._call(dgt.dgt_decoder_reset)
+        self._call(self._made_new, dgt.dgt_decoder_reset)
 
 
 class CommandDecoder(Handle):

@@ -217,12 +217,19 @@ def read_event(told: EventStruct, body: bytearray) -> Event:
     return make(told, body)
 
 
+def read_offsets(told: bytearray, count: int, before: int) -> list[int]:
+    """Returns the offsets of the events that the library has reported, `count` structs in a row,
+    after this many bytes."""
+    size = ctypes.sizeof(EventStruct)
+    return [before + EventStruct.from_buffer(told, index * size).place for index in range(count)]
+
+
 _EVENT_FIELD = 2
 _OFFSETS = tuple(getattr(EventStruct, name).offset for name in ("kind", "square", "piece"))
 
 
 def read_events(told: bytearray, count: int, body: bytearray) -> list[Event]:
-    """Returns the events that the library has reported, so many structs in a row. Only the last of
+    """Returns the events that the library has reported in an array of structs. Only the last of
     them may have a body."""
     size = ctypes.sizeof(EventStruct)
     kinds, squares, pieces = (told[at:count * size:size] for at in _OFFSETS)

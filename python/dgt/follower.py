@@ -22,8 +22,8 @@ def _milliseconds(seconds: float) -> int:
 
 class Follower(Asker):
     """A host that asks for the whole board again and again, so that its picture becomes right again
-    whatever the line lost or altered. It owns neither a line nor a clock: hand it the time, in
-    seconds of a clock that doesn't go back, such as `time.monotonic`; write what `ask` returns to
+    whatever the line lost or altered. It owns neither a line nor a clock. Hand it the time, in
+    seconds of a clock that doesn't go back, such as `time.monotonic`. Write what `ask` returns to
     the line, and have it hear what comes from there.
 
     >>> follower, board = Follower(period=10.0), dgt.Board()
@@ -35,10 +35,10 @@ class Follower(Asker):
     (b'', b'DB', False)
 
     In each period it asks once, by the mode's command and a dump request. In the modes that report
-    the clock, `UPDATE` and `UPDATE_NICE`, it also requests a reading of the clock. It begins anew,
-    by 258 bytes (259 in these modes) that also end whatever command the board is in the middle of,
+    the clock, `UPDATE` and `UPDATE_NICE`, it also requests a reading of the clock. It begins anew
     if the last dump didn't come, if the line lost or altered bytes, or after `patience` askings in
-    a row that didn't.
+    a row that didn't. The 258 bytes of that (259 in these modes) also end whatever command the
+    board is in the middle of.
     """
 
     _prefix = "dgt_follower"
@@ -100,6 +100,11 @@ class Follower(Asker):
         return self._time("last_heard")
 
     @property
+    def unread(self) -> int:
+        """The number of bytes that were heard of an unfinished message."""
+        return int(self._call(dgt.dgt_follower_unread))
+
+    @property
     def in_doubt(self) -> bool:
         """Whether the picture may be wrong: since the last dump that was awaited the line lost or
         altered bytes, or an asking found the one before it unanswered."""
@@ -122,6 +127,6 @@ class Follower(Asker):
         return int(self._call(dgt.dgt_follower_heartbeats_left))
 
     def line_lost(self) -> None:
-        """Tells the follower that the line was lost, with what was under way on it. It is then as
-        new, with its period, its patience and its mode."""
+        """The line was lost, with what was under way on it. The follower is then as new, with its
+        period, its patience and its mode."""
         self._call(dgt.dgt_follower_line_lost)

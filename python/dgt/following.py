@@ -55,6 +55,11 @@ class BoardView:
     bytes_heard: int = field(default=0, compare=False)
     """How many bytes of the board had come by then, since its port was opened."""
 
+    @property
+    def silent(self) -> bool:
+        """Whether the port is there, and the board doesn't answer."""
+        return self.away == _SILENT
+
 
 class SerialLine(Protocol):
     """What `follow` needs of a serial port that was opened by other means, as by pyserial. It sets
@@ -141,8 +146,8 @@ class _Steps:
 
 
 def _has_input(descriptor: int | None, seconds: float) -> bool:
-    """Waits until a descriptor has something to read, for so many seconds at most, and returns
-    whether it has."""
+    """Waits until a descriptor has something to read, at most for this time in seconds, and
+    returns whether it has."""
     poll = select.poll()
     if descriptor is not None:
         poll.register(descriptor, select.POLLIN)
@@ -157,7 +162,7 @@ class _Given:
         self.ask = self.write = line.write
 
     def exchange(self, seconds: float, wakes: int | None = None) -> bytes:
-        """Returns bytes once they come, or nothing after so many seconds. `Closed` if the line is.
+        """Returns bytes once they come, or nothing after `seconds`. `Closed` if the line is.
         `BadValue` with `wakes`."""
         if wakes is not None:
             raise BadValue("a line that was handed over can't wait for another descriptor")

@@ -31,6 +31,11 @@ class Host(EventReader, Asker):
         picture after the last of them."""
         return self._all(chunk)
 
+    def hear_placed(self, chunk: Bytes) -> list[tuple[int, Event]]:
+        """Hears a whole chunk of bytes, and returns the same events, each after its offset: how
+        many bytes had been heard by then, since the host was made or its line was lost."""
+        return self._placed(chunk)
+
     def hear_each(self, chunk: Bytes) -> Iterator[Event]:
         """Yields the events of a chunk of bytes. A byte is heard once the event before it was
         taken, so that the host's picture is the picture after that event."""
@@ -66,6 +71,5 @@ class Host(EventReader, Asker):
         return int(self._call(dgt.dgt_host_unread))
 
     def line_lost(self) -> None:
-        """Tells the host that the line was lost, with what was under way on it. The host is then as
-        new."""
-        self._call(dgt.dgt_host_line_lost)
+        """The line was lost, with what was under way on it. The host is then as new."""
+        self._call(self._made_new, dgt.dgt_host_line_lost)

@@ -63,7 +63,7 @@ _Moves = tuple[tuple[str, GameState], ...]
 
 @dataclass(frozen=True, slots=True)
 class _Reading:
-    """What a position means: of the game's moves so many are kept, and these come after them."""
+    """What a position means: how many of the game's moves are kept, and which come after them."""
 
     kept: int
     root: GameState
@@ -145,8 +145,8 @@ class MoveRecogniser:
     - The position in which a game begins, also on a turned board, begins a new game, unless one of
       the first two moves is taken back.
     - Any other position begins a game when the board is first seen, once it has rested for a
-      second, or when both kings were taken off and are back, once it has rested for `set_up`. The
-      first move decides whose turn it was.
+      second. It also does when both kings were taken off and are back, once it has rested for
+      `set_up`. The first move decides whose turn it was.
     - So does a position that no move leads to after `lose_track`, once it has rested for five
       seconds.
     """
@@ -162,6 +162,7 @@ class MoveRecogniser:
         self._turned = False
         self._roots: tuple[GameState, ...] = ()
         self._moves: list[tuple[str, GameState]] = []
+        self._numbers: dict[str, list[int]] = {}  # after how many moves the board showed this
         self._set_up = self._first is None
         self._is_lost = False
         self._shown = ""
@@ -258,7 +259,8 @@ class MoveRecogniser:
         return events
 
     def _bases(self, kept: Iterable[int]) -> list[_Reading]:
-        """Returns the states after so many moves: two before the first, if the turn is unknown."""
+        """Returns the states after each number of moves: two before the first, if the turn is
+        unknown."""
         return [_Reading(each, state) for each in kept
                 for state in ([self._moves[each - 1][1]] if each else self._roots)]
 
@@ -274,10 +276,10 @@ class MoveRecogniser:
             if "K" not in shown and "k" not in shown:
                 self._set_up = self._first is None or bool(self._roots)
             return []
-        earlier = self._bases(range(count - 1, -1, -1))
+        earlier = self._bases(range(count - 1, max(count - 1 - _REPLACED, -1), -1))
         near = earlier[:0 if self._set_up else 1 if self._is_early() else _REPLACED]
-        one = [*_extended(told + seen, shown, _one_move),
-               *((base, base) for base in earlier if base.state.letters == shown)]
+        back = self._bases(self._numbers.get(shown, [])[-1:])
+        one = [*_extended(told + seen, shown, _one_move), *((base, base) for base in back)]
         find_two = partial(_two_moves, put=self._put)
         two = [*_extended(seen + told, shown, find_two)]
         other = [*_extended(near, shown, _one_move), *_extended(near[:2], shown, find_two)]
@@ -351,11 +353,17 @@ class MoveRecogniser:
         """The game goes on by a reading."""
         events: list[MoveEvent] = []
         while len(self._moves) > reading.kept:
-            move, _ = self._moves.pop()
+            move, state = self._moves.pop()
+            if len(self._numbers[state.letters]) == 1:
+                del self._numbers[state.letters]
+            else:
+                self._numbers[state.letters].pop()
             events.append(MoveTakenBack(move, self._bases([len(self._moves)])[0].state))
         if reading.kept == 0 and reading.moves:
             self._roots = (reading.root,)
-        self._moves += reading.moves
+        for move, state in reading.moves:
+            self._moves.append((move, state))
+            self._numbers.setdefault(state.letters, []).append(len(self._moves))
         self._forget()
         return events + [MoveMade(move, state) for move, state in reading.moves]
 
@@ -364,6 +372,7 @@ class MoveRecogniser:
         if roots[0].letters != self._shown:
             self._turned, self._shown = not self._turned, self._shown[::-1]
         self._roots, self._moves = roots, []
+        self._numbers = {roots[0].letters: [0]}
         self._forget()
         return [GameBegun(roots[0], self._turned)]
 

@@ -15,13 +15,15 @@ RESULTS = ("1-0", "0-1", "1/2-1/2", "*")
 
 _WIDTH = 79
 """How many columns a line of moves has at most: PGN asks for fewer than 80."""
+_PART = 4096
+"""How long a part of a text is that no longer grows."""
 _TAGS = {"Event": "?", "Site": "?", "Date": "????.??.??", "Round": "?", "White": "?", "Black": "?"}
 """The tags that each game has, with what stands for a value that isn't known. `Result` is the
 seventh."""
 
 
 def _origin(state: GameState, move: str) -> str:
-    """Returns what tells the piece of a move from others of its kind that may go to its square."""
+    """Returns what distinguishes a move's piece from others of its kind that may go there."""
     letter = state.letters[square_number(move[:2])]
     others = [other for other in state.moves() if other[2:] == move[2:] and other != move
               and state.letters[square_number(other[:2])] == letter]
@@ -116,6 +118,10 @@ class PgnGame:
     def text(self) -> str:
         """Returns the game in the export format: its tags, an empty line, and its moves in lines of
         fewer than 80 columns. `BadValue` if a tag has no name, or the result is none."""
+        return _GameText(self).text()
+
+    def _heads(self) -> list[str]:
+        """Returns the lines of the tags."""
         if self.result not in RESULTS:
             raise BadValue(f"result must be one of {', '.join(RESULTS)}: {self.result!r}")
         given = {name: value for name, value in self.tags.items()
@@ -124,23 +130,56 @@ class PgnGame:
                 "Result": self.result, **given}
         if self.start.fen != START_FEN:
             tags |= {"FEN": self.start.fen, "SetUp": "1"}
-        heads = [_head(name, value) for name, value in tags.items()]
-        return "\n".join([*heads, "", *_lines(self._words()), ""])
+        return [_head(name, value) for name, value in tags.items()]
 
-    def _words(self) -> Iterator[str]:
-        """Yields what the lines of moves consist of. None of it is divided."""
-        is_told = False  # whether the number of the move stands before it
-        for made in self.moves:
-            if made.before.white or not is_told:
-                yield from numbered(made.before, made.san).split()
-            else:
-                yield made.san
-            is_told = made.clock is None
-            if made.clock is not None:
-                yield f"{{[%clk {made.clock}]}}"
+    def _words(self, at: int) -> Iterator[str]:
+        """Yields what a move is written as. None of it is divided."""
+        made = self.moves[at]
+        if made.before.white or not at or self.moves[at - 1].clock is not None:
+            yield from numbered(made.before, made.san).split()
+        else:
+            yield made.san
+        if made.clock is not None:
+            yield f"{{[%clk {made.clock}]}}"
+
+    def _last_words(self) -> Iterator[str]:
+        """Yields what stands after the moves."""
         if self.comment:
             yield from f"{{{self.comment.replace('}', ')')}}}".split()
         yield self.result
+
+
+class _GameText:
+    """The text of a game that grows. Each call of `text` adds the moves that have come since the
+    call before, and copies the text once. `change` has to be called once moves were taken back or
+    have other clocks."""
+
+    def __init__(self, game: PgnGame) -> None:
+        self._game = game
+        self._parts, self._column = [""], 0  # the last part alone grows
+        # Of each move that is written: how many parts there were before it, how long the last one
+        # was, and how many columns of a line it had filled.
+        self._marks: list[tuple[int, int, int]] = []
+
+    def change(self, count: int) -> None:
+        """Notes that this number of moves are as they were, and no more."""
+        if count < len(self._marks):
+            parts, length, self._column = self._marks[count]
+            self._parts[parts - 1:] = [self._parts[parts - 1][:length]]
+            del self._marks[count:]
+
+    def text(self) -> str:
+        """Returns what `PgnGame.text` does."""
+        game = self._game
+        for at in range(len(self._marks), len(game.moves)):
+            self._marks.append((len(self._parts), len(self._parts[-1]), self._column))
+            more, self._column = _filled(game._words(at), self._column)
+            self._parts[-1] += more
+            if len(self._parts[-1]) > _PART:
+                self._parts.append("")
+        last, _ = _filled(game._last_words(), self._column)
+        heads = "".join(f"{head}\n" for head in game._heads())
+        return "".join([heads, "\n", *self._parts, last, "\n"])
 
 
 def _head(name: str, value: str) -> str:
@@ -153,13 +192,15 @@ def _head(name: str, value: str) -> str:
     return f'[{name} "{escaped}"]'
 
 
-def _lines(words: Iterable[str]) -> Iterator[str]:
-    """Yields lines that are as long as may be."""
-    line = ""
+def _filled(words: Iterable[str], column: int) -> tuple[str, int]:
+    """Returns the words in lines that are as long as may be, the first of which has this number of
+    columns already, and how many the last one has then."""
+    text = ""
     for word in words:
-        if line and len(line) + 1 + len(word) > _WIDTH:
-            yield line
-            line = word
+        if column == 0:
+            text, column = text + word, len(word)
+        elif column + 1 + len(word) > _WIDTH:
+            text, column = f"{text}\n{word}", len(word)
         else:
-            line = f"{line} {word}" if line else word
-    yield line
+            text, column = f"{text} {word}", column + 1 + len(word)
+    return text, column

@@ -1,18 +1,20 @@
-"""A board as a UCI engine, whose moves are those that a person makes on the board.
+"""A board as a UCI engine, whose moves a person makes on the board.
 
-A chess program starts it as it starts any engine: `dgt-uci /dev/ttyUSB0`, or `python -m dgt uci
-/dev/ttyUSB0`. It speaks UCI on its standard input and output, opens the port when the first
-position comes, and closes it at the end. What the player has to do comes as `info string` and on
-standard error; the clock of the board shows the move of the other side.
+A chess program starts it as it starts any engine: `dgt-uci /dev/ttyUSB0`, or
+`python -m dgt uci /dev/ttyUSB0`. It speaks UCI on its standard input and
+output, opens the port when the first position comes, and closes it at the end.
+What the player has to do comes as `info string` and on standard error; the
+clock of the board shows the move of the other side.
 
-A pawn becomes the piece that is put on its last square. A rook there is a rook, also upside down:
-for a queen, put a queen there, or leave the pawn for two seconds.
+A pawn becomes the piece that is put on its last square. A rook there is a rook,
+also upside down: for a queen, put a queen there, or leave the pawn for two
+seconds.
 
 Options that the chess program shows in its engine settings:
 
     Port     the board's serial port
-    Turned   whether White's pieces begin on the ranks 8 and 7 of the board: no, yes, or auto, which
-             is decided by what the board shows
+    Turned   whether White's pieces begin on the ranks 8 and 7 of the board: no,
+             yes, or auto, which is decided by what the board shows
     Settle   for how many milliseconds a move has to rest
     Clock    whether the clock shows the moves of the other side
 """

@@ -3,7 +3,7 @@
 from __future__ import annotations
 
 from collections.abc import Iterator, Sequence
-from ctypes import c_char, c_uint8
+from ctypes import byref, c_char, c_uint8, c_uint64
 from dataclasses import dataclass
 
 from ._library import NO_SUCH, PLACEMENT_ROOM, ClockStruct, TimeStruct, dgt
@@ -129,6 +129,18 @@ class Position(Sequence[str]):
         """Returns the squares on which a newer position differs, each with its letter there."""
         pairs = zip(SQUARES, self.codes, newer.codes)
         return {square: LETTERS[new] for square, old, new in pairs if old != new}
+
+    def differ(self, other: Position) -> int:
+        """Returns the squares on which another position differs, as a number of 64 bits: bit n is
+        set exactly if square n differs.
+
+        >>> hex(Position.start().differ(Position.parse("8/8/8/8/8/8/8/8")))
+        '0xffff00000000ffff'
+        """
+        squares = c_uint64()
+        own, others = ((c_uint8 * 64).from_buffer_copy(each.codes) for each in (self, other))
+        dgt.dgt_differ(own, others, byref(squares))
+        return squares.value
 
     def __str__(self) -> str:
         return self.placement

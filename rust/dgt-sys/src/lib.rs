@@ -12,9 +12,9 @@
 //! assert_eq!(&name, b"e4\0");
 //! ```
 //!
-//! The library is linked as an archive if there is one, else as a shared object: from the folder
-//! that the variable `DGT_LIB_DIR` names by its absolute path, else from `lib/out` of this
-//! repository, else from where pkg-config knows it.
+//! The library is linked as an archive if there is one, else as a shared object. It is looked for
+//! in the folder that the variable `DGT_LIB_DIR` names by its absolute path, then in `lib/out` of
+//! this repository, then where pkg-config knows it.
 #![no_std]
 #![deny(missing_docs, unsafe_op_in_unsafe_fn)]
 #![allow(non_camel_case_types)]
@@ -234,6 +234,8 @@ pub struct dgt_event {
     pub at: usize,
     /// How many bytes the body has, also if not all were copied.
     pub body_len: usize,
+    /// Of the bytes handed to the call, how many had been used when the event came.
+    pub place: usize,
 }
 
 /// [`dgt_command::kind`]: nothing yet.
@@ -401,6 +403,23 @@ pub struct dgt_polled {
     /// `DGT_NOTHING` and its like.
     pub status: u8,
     /// How many bytes there are to write, or what the buffer would need.
+    pub bytes: usize,
+}
+
+/// [`dgt_encoded::status`]: the bytes are at the front of the buffer.
+pub const DGT_ENCODED: u8 = 0;
+/// [`dgt_encoded::status`]: the buffer is too short.
+pub const DGT_TOO_SHORT: u8 = 1;
+/// [`dgt_encoded::status`]: there is no such message or command.
+pub const DGT_NOT_ENCODED: u8 = 2;
+
+/// What [`dgt_encode_message`] and [`dgt_encode_command`] did.
+#[repr(C)]
+#[derive(Clone, Copy, Debug, PartialEq, Eq)]
+pub struct dgt_encoded {
+    /// `DGT_ENCODED` and its like.
+    pub status: u8,
+    /// How many bytes were written, or what the buffer would need.
     pub bytes: usize,
 }
 
@@ -655,6 +674,8 @@ unsafe extern "C" {
     ) -> bool;
     /// What the board reported last of its clock.
     pub fn dgt_follower_clock(follower: *mut dgt_follower, clock: *mut dgt_clock);
+    /// How many bytes were heard of an unfinished message.
+    pub fn dgt_follower_unread(follower: *mut dgt_follower) -> usize;
     /// Whether the picture may be wrong.
     pub fn dgt_follower_in_doubt(follower: *mut dgt_follower) -> bool;
     /// The time of the last whole message. False if none was heard.
@@ -744,12 +765,43 @@ unsafe extern "C" {
     pub fn dgt_board_poll(board: *mut dgt_board, out: *mut u8, n: usize) -> dgt_polled;
     /// Whether there is anything to send.
     pub fn dgt_board_owes(board: *mut dgt_board) -> bool;
+    /// How many replies are owed.
+    pub fn dgt_board_owed_len(board: *mut dgt_board) -> usize;
+    /// How many bytes have come of an unfinished command.
+    pub fn dgt_board_partial(board: *mut dgt_board) -> usize;
     /// The mode.
     pub fn dgt_board_mode(board: *mut dgt_board) -> u8;
     /// The pieces of all squares.
     pub fn dgt_board_position(board: *mut dgt_board, pieces: *mut [u8; 64]);
     /// What the clock shows.
     pub fn dgt_board_clock(board: *mut dgt_board, clock: *mut dgt_clock);
+
+    /// Writes the message that the event and the body say.
+    pub fn dgt_encode_message(
+        message: *const dgt_event,
+        body: *const u8,
+        body_len: usize,
+        out: *mut u8,
+        n: usize,
+    ) -> dgt_encoded;
+    /// The message with this code and this body. False if no message has them.
+    pub fn dgt_view_message(
+        code: u8,
+        body: *const u8,
+        body_len: usize,
+        event: *mut dgt_event,
+    ) -> bool;
+    /// Writes the command with this code, this id and what it carries.
+    pub fn dgt_encode_command(
+        code: u8,
+        id: u8,
+        carried: *const u8,
+        carried_len: usize,
+        out: *mut u8,
+        n: usize,
+    ) -> dgt_encoded;
+    /// The command whose bytes these are. False if there is none.
+    pub fn dgt_view_command(word: *const u8, word_len: usize, command: *mut dgt_command) -> bool;
 
     /// The letter of a piece, or 0.
     pub safe fn dgt_piece_letter(piece: u8) -> c_char;
@@ -761,6 +813,8 @@ unsafe extern "C" {
     pub safe fn dgt_square_number(file: u8, rank: u8) -> u8;
     /// The placement of pieces with a zero at its end. False if one of them is none.
     pub fn dgt_placement(pieces: *const [u8; 64], text: *mut [c_char; DGT_PLACEMENT_ROOM]) -> bool;
+    /// The squares on which two positions differ. False if a piece is none.
+    pub fn dgt_differ(pieces: *const [u8; 64], others: *const [u8; 64], squares: *mut u64) -> bool;
     /// Reads a placement.
     pub fn dgt_parse_placement(text: *const c_char, n: usize, pieces: *mut [u8; 64]) -> dgt_parsed;
     /// The segments of a character, or `DGT_NO_SUCH`.

@@ -59,7 +59,7 @@ fn all_numbers() -> Vec<(&'static str, u64)> {
         DGT_ID_BEEP DGT_ID_TEXT DGT_SENT DGT_TOO_MANY DGT_NO_ROOM DGT_NO_COMMAND DGT_STARTED
         DGT_START_BAD_PIECES DGT_START_BAD_CLOCK DGT_START_BAD_IDENTITY DGT_NOTHING DGT_WROTE
         DGT_NEED_ROOM DGT_MODE_IDLE DGT_MODE_UPDATE DGT_MODE_UPDATE_BOARD DGT_MODE_UPDATE_NICE
-        DGT_NO_SUCH
+        DGT_ENCODED DGT_TOO_SHORT DGT_NOT_ENCODED DGT_NO_SUCH
     }
     .to_vec()
 }
@@ -74,7 +74,7 @@ fn all_structs() -> Vec<Layout> {
         dgt_clock { kind status raw first second }
         dgt_event {
             kind unasked code square piece main_number sub_number byte fault ack_status ack serial
-            clock pieces have at body_len
+            clock pieces have at body_len place
         }
         dgt_told { used count }
         dgt_command { kind code id byte word_len }
@@ -85,6 +85,7 @@ fn all_structs() -> Vec<Layout> {
         }
         dgt_taken { busy used }
         dgt_polled { status bytes }
+        dgt_encoded { status bytes }
         dgt_parsed { ok at }
     }
     .to_vec()

@@ -94,7 +94,7 @@ pub struct Taken<'a> {
 /// ```
 #[derive(Clone, Copy, Debug, PartialEq, Eq, Hash)]
 pub enum Polled {
-    /// The front of the slice, this many bytes, is the message that was sent.
+    /// The message that was sent is at the beginning of the slice, and has this number of bytes.
     Wrote(usize),
     /// The next message has this many bytes and the slice has fewer, so nothing was sent.
     NeedRoom(usize),
@@ -178,9 +178,9 @@ impl Board {
         Ok(Taken { used: taken.used, event: read_word(&told, word) })
     }
 
-    /// Writes the next message into the front of the slice, and takes it for sent; the bytes past
-    /// it stay. A slice that is too short for it stays as it is, and so does the board. No message
-    /// has more than [`MAX_SENT`] bytes.
+    /// Writes the next message into the slice, from its beginning, and counts it as sent. The bytes
+    /// after it stay as they were. If the slice is too short, it stays as it is, and so does the
+    /// board. No message has more than [`MAX_SENT`] bytes.
     pub fn poll(&mut self, out: &mut [u8]) -> Polled {
         // SAFETY: the board was made by `default` and is borrowed here alone. The slice is as long
         // as it says.
@@ -197,6 +197,18 @@ impl Board {
     pub fn owes(&self) -> bool {
         // SAFETY: the board was made by `default`, and no other call is under way.
         unsafe { sys::dgt_board_owes(self.handle.at()) }
+    }
+
+    /// How many replies are owed: at most [`MAX_OWED`].
+    pub fn owed_len(&self) -> usize {
+        // SAFETY: the board was made by `default`, and no other call is under way.
+        unsafe { sys::dgt_board_owed_len(self.handle.at()) }
+    }
+
+    /// How many bytes are held of a command that isn't finished: at most 256.
+    pub fn partial(&self) -> usize {
+        // SAFETY: the board was made by `default`, and no other call is under way.
+        unsafe { sys::dgt_board_partial(self.handle.at()) }
     }
 
     /// What the board reports by itself.

@@ -1,7 +1,8 @@
 //! The commands, and what a reader of their bytes reports.
 
 use crate::clock_commands::{ClockCommand, Payload};
-use crate::errors::TooMuch;
+use crate::errors::{NoRoom, TooMuch};
+use crate::handle::read_encoded;
 use crate::text::Hex;
 use core::fmt;
 use dgt_sys::{self as sys, dgt_command};
@@ -104,6 +105,33 @@ pub(crate) enum Sending<'a> {
 }
 
 impl Command<'_> {
+    /// Writes the command into the slice, from its beginning. Returns how many bytes it has: 1 to
+    /// [`MAX_WORD`]. The bytes after them stay as they are. `NoRoom` says that the slice is shorter
+    /// than the command, and how long the command is; then nothing is written.
+    ///
+    /// ```
+    /// use dgt::{ClockCommand, Command, NoRoom};
+    ///
+    /// let (beep, mut out) = (Command::ClockMessage(ClockCommand::Beep(3)), [0; 6]);
+    /// assert_eq!(beep.encode(&mut out), Ok(6));
+    /// assert_eq!(out, *b"\x2b\x04\x03\x0b\x03\x00");
+    /// assert_eq!(beep.encode(&mut out[..5]), Err(NoRoom { need: 6 }));
+    /// ```
+    pub fn encode(&self, out: &mut [u8]) -> Result<usize, NoRoom> {
+        let mut room = [0; 9];
+        let (code, id, carried): (u8, u8, &[u8]) = match self.sending(&mut room) {
+            Sending::Bare(code) => (code, 0, &[]),
+            Sending::Clock(id, payload) => (sys::DGT_SEND_CLOCK_MESSAGE, id, payload),
+            Sending::Leds(leds) => (sys::DGT_SEND_LEDS, 0, leds),
+        };
+        // SAFETY: each slice is as long as it says.
+        let encoded = unsafe {
+            let (begin, n) = (carried.as_ptr(), carried.len());
+            sys::dgt_encode_command(code, id, begin, n, out.as_mut_ptr(), out.len())
+        };
+        read_encoded(encoded)
+    }
+
     /// How the library is asked to send it. There is room for a clock message's payload.
     pub(crate) fn sending<'b>(&'b self, room: &'b mut [u8; 9]) -> Sending<'b> {
         match self {
@@ -117,6 +145,25 @@ impl Command<'_> {
                 Sending::Bare(found.expect("each other command is one byte").0)
             }
         }
+    }
+}
+
+impl<'a> Command<'a> {
+    /// The command whose bytes are exactly these, or `None` if there is no such command. It lends
+    /// what it carries from the slice.
+    ///
+    /// ```
+    /// use dgt::{ClockCommand, Command};
+    ///
+    /// let beep = Command::view(b"\x2b\x04\x03\x0b\x03\x00");
+    /// assert_eq!(beep, Some(Command::ClockMessage(ClockCommand::Beep(3))));
+    /// assert_eq!(Command::view(b"\x2b\x04\x03\x0b\x03"), None);
+    /// ```
+    pub fn view(word: &'a [u8]) -> Option<Self> {
+        let mut told = dgt_command::default();
+        // SAFETY: the slice is as long as it says.
+        let is_command = unsafe { sys::dgt_view_command(word.as_ptr(), word.len(), &mut told) };
+        is_command.then(|| read_command(&told, word))
     }
 }
 

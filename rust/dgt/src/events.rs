@@ -140,6 +140,7 @@ pub(crate) const NO_EVENT: dgt_event = dgt_event {
     have: 0,
     at: 0,
     body_len: 0,
+    place: 0,
 };
 
 const NO_TIME: sys::dgt_time = sys::dgt_time { hours: 0, minutes: 0, seconds: 0, flags: 0 };
@@ -156,8 +157,8 @@ fn other_message<'a>(code: u8, body: Body<'a>) -> Message<'a> {
     Message::Other { code: code.expect("libdgt reports other codes alone as such"), body }
 }
 
-// The message that was reported, if it is one. Its body is at the front of the room.
-fn read_message<'a>(told: &dgt_event, room: &'a [u8]) -> Option<Message<'a>> {
+/// The message that was reported, if it is one. Its body is at the front of the room.
+pub(crate) fn read_message<'a>(told: &dgt_event, room: &'a [u8]) -> Option<Message<'a>> {
     let body = || Body::reported(&room[..told.body_len]);
     Some(match told.kind {
         sys::DGT_EVENT_DUMP => Message::Dump(Position::reported(&told.pieces)),
@@ -183,7 +184,8 @@ fn read_message<'a>(told: &dgt_event, room: &'a [u8]) -> Option<Message<'a>> {
     })
 }
 
-fn read_fault(fault: u8, at: usize) -> BodyFault {
+/// The fault of a body that was refused.
+pub(crate) fn read_fault(fault: u8, at: usize) -> BodyFault {
     match fault {
         sys::DGT_WRONG_SIZE => BodyFault::WrongSize,
         sys::DGT_BAD_PIECE => BodyFault::BadPiece { at },

@@ -72,9 +72,9 @@ impl Follower {
     /// an event, or all of it, as [`Host::hear`](crate::Host::hear) does, and returns how many.
     /// Call again with the bytes that are left.
     ///
-    /// A cut, refused, misstated or stray message and an unasked one are disturbances: the next
-    /// asking is due at once, but not before a quarter of the period after the last one, and it
-    /// begins anew.
+    /// A cut, refused, misstated or stray message and an unasked one are disturbances. After a
+    /// disturbance the next asking begins anew. It is due at once, but not before a quarter of the
+    /// period after the last one.
     pub fn hear(&mut self, now: u64, chunk: &[u8]) -> usize {
         let at = self.handle.at();
         // SAFETY: the follower was made by `new` and is borrowed here alone. The slice is as long
@@ -91,15 +91,19 @@ impl Follower {
         unsafe { sys::dgt_follower_hear_all(at, now, chunk.as_ptr(), chunk.len()) }
     }
 
-    /// Asks the board, if that is due, and returns how many bytes it wrote into the front of the
-    /// slice, at most [`MAX_ASKING`]. If it isn't due, nothing changes and the result is 0.
+    /// Asks the board, if that is due, and returns how many bytes it wrote at the beginning of
+    /// the slice, at most [`MAX_ASKING`]. If it isn't due, nothing changes and the result is 0.
     ///
-    /// It is due at any time if it has never asked, and else a period after the last asking, or
-    /// after a disturbance a quarter of the period. It writes a heartbeat, the mode's command and
-    /// `42`, if a dump that was awaited came since the last asking, nothing disturbed it since,
-    /// fewer than 16 replies are awaited and the patience has not run out. Else it begins anew: it
-    /// gives up what it awaits, and writes 255 zeros, `44 42` and the mode's command. If the mode
-    /// reports the clock, `41` follows, which requests a reading of it.
+    /// The first asking is due at any time, and each other one a period after the last. After a
+    /// disturbance it is due a quarter of the period after the last.
+    ///
+    /// It writes a heartbeat, the mode's command and `42`, on these conditions:
+    ///
+    /// - an awaited dump came since the last asking, and nothing disturbed it since;
+    /// - fewer than 16 replies are awaited, and the patience has not run out.
+    ///
+    /// Otherwise it begins anew: it gives up what it awaits, and writes 255 zeros, `44 42` and the
+    /// mode's command. If the mode reports the clock, `41` follows, which requests a reading of it.
     ///
     /// `NoRoom` if the slice is shorter than what is due, and then nothing changes.
     pub fn ask(&mut self, now: u64, out: &mut [u8]) -> Result<usize, NoRoom> {
@@ -173,6 +177,12 @@ impl Follower {
         // SAFETY: the follower was made by `new`, and no other call is under way.
         unsafe { sys::dgt_follower_clock(self.handle.at(), &mut clock) };
         Clock::reported(&clock)
+    }
+
+    /// How many bytes were heard of a message that isn't finished, else 0.
+    pub fn unread(&self) -> usize {
+        // SAFETY: the follower was made by `new`, and no other call is under way.
+        unsafe { sys::dgt_follower_unread(self.handle.at()) }
     }
 
     /// Whether the picture may be wrong: since the last dump that was awaited there was a

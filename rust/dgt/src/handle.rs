@@ -1,11 +1,11 @@
 //! Objects of the library, which may not move once they are made.
 
 use crate::commands::{Command, Sending};
-use crate::errors::SendFault;
+use crate::errors::{NoRoom, SendFault};
 use alloc::boxed::Box;
 use core::mem::MaybeUninit;
 use core::ptr::NonNull;
-use dgt_sys::{self as sys, dgt_sent};
+use dgt_sys::{self as sys, dgt_encoded, dgt_sent};
 
 /// An object of the library in a box of its own, whose place stays the same when the handle is
 /// moved. It is reached by its address alone: the object points into itself, and a reference to it
@@ -95,5 +95,14 @@ pub(crate) fn read_sent(sent: dgt_sent) -> Result<usize, SendFault> {
         sys::DGT_TOO_MANY => Err(SendFault::TooMany),
         sys::DGT_NO_ROOM => Err(SendFault::NoRoom { need: sent.bytes }),
         status => unreachable!("libdgt sends no command with the status {status}"),
+    }
+}
+
+/// How many bytes were encoded, or why none were.
+pub(crate) fn read_encoded(encoded: dgt_encoded) -> Result<usize, NoRoom> {
+    match encoded.status {
+        sys::DGT_ENCODED => Ok(encoded.bytes),
+        sys::DGT_TOO_SHORT => Err(NoRoom { need: encoded.bytes }),
+        status => unreachable!("libdgt encodes no message or command with the status {status}"),
     }
 }

@@ -112,8 +112,8 @@ impl Host {
         Host { handle, body: body_room() }
     }
 
-    /// Writes the bytes of a command into the front of the slice, and returns how many there are.
-    /// The slice beyond them stays as it was. A reply that is of a [`Kind`] is awaited from then
+    /// Writes the bytes of a command at the beginning of the slice, and returns how many there are.
+    /// The slice after them stays as it was. A reply that is of a [`Kind`] is awaited from then
     /// on, after those awaited already.
     ///
     /// First `TooMany`, if the reply is of a `Kind` and 16 are awaited. Then `NoRoom`, if the slice
@@ -124,7 +124,7 @@ impl Host {
     }
 
     /// Asks for all that the picture needs: writes `UpdateBoard` and `Dump`, the bytes `44 42`,
-    /// into the front of the slice, and returns 2. The dump is awaited from then on.
+    /// at the beginning of the slice, and returns 2. The dump is awaited from then on.
     ///
     /// First `TooMany`, if 16 replies are awaited. Then `NoRoom`, if the slice is shorter than 2.
     pub fn follow(&mut self, out: &mut [u8]) -> Result<usize, SendFault> {

@@ -1,13 +1,16 @@
 //! What a board sends.
 
 use crate::bytes::{Body, SevenBit};
-use crate::clocks::{NoClock, Times};
-use crate::errors::Known;
+use crate::clocks::{Clock, NoClock, Times};
+use crate::errors::{Known, NoRoom};
+use crate::events::{BodyFault, NO_EVENT, read_fault, read_message};
+use crate::handle::read_encoded;
 use crate::pieces::Piece;
 use crate::positions::Position;
 use crate::squares::Square;
 use crate::text::Hex;
 use core::fmt;
+use dgt_sys::{self as sys, dgt_event};
 
 /// The reply of a board to a message for its clock: four bytes, which are carried whatever they
 /// are, and a status. A first byte of hexadecimal 10 is success.
@@ -57,7 +60,7 @@ impl OtherCode {
     }
 }
 
-/// What a board tells its host. It is `Copy`, and lends the bytes that it carries unread.
+/// What a board sends to its host. It is `Copy`, and lends the bytes that it carries unread.
 ///
 /// The text is the line of `dgt monitor`, without its offset:
 ///
@@ -106,6 +109,94 @@ pub enum Message<'a> {
         /// The body.
         body: Body<'a>,
     },
+}
+
+impl<'a> Message<'a> {
+    /// The message with this code and this body, or the fault of a body that is none. A code with
+    /// no case of its own makes any body a message, which is [`Message::Other`].
+    ///
+    /// ```
+    /// use dgt::{Body, BodyFault, Message, SevenBit};
+    ///
+    /// let field = SevenBit::try_from(0x0e).unwrap();
+    /// let view = |body| Message::view(field, Body::new(body).unwrap());
+    /// assert_eq!(view(&[0x34, 0x00]).unwrap().to_string(), "field e2 .");
+    /// assert_eq!(view(&[0x34, 0x10]), Err(BodyFault::BadPiece { at: 1 }));
+    /// ```
+    pub fn view(code: SevenBit, body: Body<'a>) -> Result<Self, BodyFault> {
+        let (mut told, bytes) = (NO_EVENT, body.bytes());
+        // SAFETY: the slice is as long as it says.
+        let done =
+            unsafe { sys::dgt_view_message(code.get(), bytes.as_ptr(), bytes.len(), &mut told) };
+        assert!(done, "libdgt views each body of seven-bit bytes");
+        read_message(&told, bytes).ok_or_else(|| read_fault(told.fault, told.at))
+    }
+
+    // The message as the library reads it, and its body.
+    fn to_c(self) -> (dgt_event, &'a [u8]) {
+        let of = |kind| dgt_event { kind, ..NO_EVENT };
+        let none: &[u8] = &[];
+        match self {
+            Message::Dump(position) => {
+                (dgt_event { pieces: position.codes(), ..of(sys::DGT_EVENT_DUMP) }, none)
+            }
+            Message::Field { square, piece } => {
+                let (square, piece) = (square.index(), piece.code());
+                (dgt_event { square, piece, ..of(sys::DGT_EVENT_FIELD) }, none)
+            }
+            Message::Times(times) => {
+                (dgt_event { clock: Clock::Times(times).to_c(), ..of(sys::DGT_EVENT_TIMES) }, none)
+            }
+            Message::NoClock(absence) => {
+                let clock = Clock::NoClock(absence).to_c();
+                (dgt_event { clock, ..of(sys::DGT_EVENT_NO_CLOCK) }, none)
+            }
+            Message::Ack(ClockAck { ack, status }) => {
+                let ack_status = status.get();
+                (dgt_event { ack, ack_status, ..of(sys::DGT_EVENT_ACK) }, none)
+            }
+            Message::Serial(serial) => {
+                let serial = serial.map(SevenBit::get);
+                (dgt_event { serial, ..of(sys::DGT_EVENT_SERIAL) }, none)
+            }
+            Message::Version { main, sub } => {
+                let (main_number, sub_number) = (main.get(), sub.get());
+                (dgt_event { main_number, sub_number, ..of(sys::DGT_EVENT_VERSION) }, none)
+            }
+            Message::Trademark(body) => (of(sys::DGT_EVENT_TRADEMARK), body.bytes()),
+            Message::Battery(body) => (of(sys::DGT_EVENT_BATTERY), body.bytes()),
+            Message::LongSerial(body) => (of(sys::DGT_EVENT_LONG_SERIAL), body.bytes()),
+            Message::Other { code, body } => {
+                (dgt_event { code: code.get().get(), ..of(sys::DGT_EVENT_OTHER) }, body.bytes())
+            }
+        }
+    }
+
+    /// Writes the message into the slice, from its beginning. Returns how many bytes it has: 3 to
+    /// [`MAX_TOTAL`](crate::MAX_TOTAL). The bytes after them stay as they are. `NoRoom` says that
+    /// the slice is shorter than the message, and how long the message is; then nothing is written.
+    ///
+    /// An acknowledgement has several encodings. The one that is written has the mark in byte 3 and
+    /// in byte 6 of the whole, and D6 of both clear.
+    ///
+    /// ```
+    /// use dgt::{Message, NoRoom, Piece, Square};
+    ///
+    /// let square = Square::parse("e2").unwrap();
+    /// let (message, mut out) = (Message::Field { square, piece: Piece::Empty }, [0; 5]);
+    /// assert_eq!(message.encode(&mut out), Ok(5));
+    /// assert_eq!(out, *b"\x8e\x00\x05\x34\x00");
+    /// assert_eq!(message.encode(&mut out[..4]), Err(NoRoom { need: 5 }));
+    /// ```
+    pub fn encode(&self, out: &mut [u8]) -> Result<usize, NoRoom> {
+        let (message, body) = self.to_c();
+        // SAFETY: each slice is as long as it says.
+        let encoded = unsafe {
+            let (begin, n) = (body.as_ptr(), body.len());
+            sys::dgt_encode_message(&message, begin, n, out.as_mut_ptr(), out.len())
+        };
+        read_encoded(encoded)
+    }
 }
 
 impl fmt::Display for Message<'_> {

@@ -36,7 +36,7 @@ impl Position {
     }
 
     /// The position of a placement, the first field of a FEN: eight ranks, from 8 down to 1, with a
-    /// slash between two. A rank has letters for its pieces and digits from 1 to 8 for so many
+    /// slash between two. A rank has letters for its pieces and digits from 1 to 8 for runs of
     /// empty squares, eight squares in all. Two digits may stand side by side. Any other text is a
     /// `BadPlacement`.
     pub fn parse_placement(text: &str) -> Result<Self, BadPlacement> {
@@ -82,7 +82,11 @@ impl Position {
     /// assert_eq!(Position::start().differ(&Position::empty()), 0xffff_0000_0000_ffff);
     /// ```
     pub fn differ(&self, other: &Position) -> u64 {
-        (0..64).filter(|at| self.pieces[*at] != other.pieces[*at]).fold(0, |set, at| set | 1 << at)
+        let (own, others, mut squares) = (self.codes(), other.codes(), 0);
+        // SAFETY: there are 64 codes of each position.
+        let done = unsafe { dgt_sys::dgt_differ(&own, &others, &mut squares) };
+        assert!(done, "libdgt compares all positions");
+        squares
     }
 
     /// The codes of the pieces of all squares by the squares' numbers, as a dump carries them.

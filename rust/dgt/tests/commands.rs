@@ -1,12 +1,12 @@
 //! The bytes of each command, and what a reader makes of a host's bytes, by the tables of
-//! docs/PROGRAM.md and docs/PROTOCOL.md and in each cutting.
+//! checks/lines.txt and docs/PROTOCOL.md and in each cutting.
 
 mod common;
 
 use common::{bytes, cuttings, rows_after, shown_after};
 use dgt::*;
 
-const TABLE: &str = "What is written for these bytes:";
+const TABLE: &str = "## Lines of commands";
 
 /// The lines of `dgt commands` for these chunks.
 fn lines(reader: &mut CommandDecoder, chunks: &[&[u8]]) -> Vec<String> {
@@ -50,10 +50,16 @@ fn sent(command: &Command<'_>) -> Vec<u8> {
     let short = count - 1;
     let refused = Host::new().send(command, &mut other[..short]);
     assert_eq!(refused, Err(SendFault::NoRoom { need: count }));
+    let mut encoded = [0xa5; MAX_WORD + 1];
+    assert_eq!(command.encode(&mut encoded), Ok(count));
+    assert_eq!(encoded, out);
+    assert_eq!(command.encode(&mut encoded[..short]), Err(NoRoom { need: count }));
+    assert_eq!(Command::view(&out[..count]), Some(*command));
+    assert_eq!(Command::view(&out[..count + 1]), None);
     out[..count].to_vec()
 }
 
-/// Each command with a name has the bytes that the page has at this name.
+/// Each command with a name has the bytes that the table has at this name.
 #[test]
 fn commands_have_the_bytes_of_their_names() {
     let named = [
@@ -72,7 +78,7 @@ fn commands_have_the_bytes_of_their_names() {
         Command::ClockMessage(ClockCommand::Button),
         Command::ClockMessage(ClockCommand::Version),
     ];
-    let rows = rows_after("### Commands by name");
+    let rows = rows_after("## Words of ask");
     for command in named {
         let row = rows.iter().find(|row| row[0][0] == command.to_string()).unwrap();
         assert_eq!(sent(&command), bytes(&row[1][0]), "{command}");
@@ -156,14 +162,16 @@ fn raw_clock_messages_have_no_case_of_their_own() {
 #[test]
 fn displays_show_what_has_segments() {
     let rows = rows_after("### Segments");
+    let segments: Vec<_> = rows[0].iter().flat_map(|cell| bytes(&cell[0])).collect();
     let header = "0 1 2 3 4 5 6 7 8 9 space hyphen";
+    assert_eq!(segments.len(), 12);
     for (at, name) in header.split(' ').enumerate() {
         let character = match name {
             "space" => ' ',
             "hyphen" => '-',
             digit => digit.chars().next().unwrap(),
         };
-        let places = [u8::from_str_radix(&rows[0][at + 1][0], 16).unwrap(); 6];
+        let places = [segments[at]; 6];
         let shown = ClockCommand::Display { places, dots: 0, beep: 0 };
         assert_eq!(display([character; 6], 0, 0), Ok(shown));
     }

@@ -1,5 +1,4 @@
-//! Conversations of a host and a board, whose bytes are those of docs/PROTOCOL.md and
-//! docs/PROGRAM.md.
+//! Conversations of a host and a board, whose bytes are those of docs/PROTOCOL.md.
 
 mod common;
 
@@ -17,7 +16,7 @@ fn asks(host: &mut Host, board: &mut Board, command: Command<'_>) -> Vec<u8> {
     answers(board, &out[..count])
 }
 
-/// A short dialogue of docs/PROGRAM.md.
+/// The dialogue of checks/rows.
 #[test]
 fn a_short_dialogue() {
     let (mut host, mut board) = (Host::new(), Board::default());
@@ -268,4 +267,15 @@ fn a_host_gives_up() {
     assert_eq!(host.unread(), 2);
     host.line_lost();
     assert_eq!((host.picture(), host.unread()), (None, 0));
+}
+
+#[test]
+fn what_is_unfinished_and_owed_is_counted() {
+    let (mut board, mut follower) = (Board::default(), Follower::default());
+    assert_eq!((board.owed_len(), board.partial(), follower.unread()), (0, 0, 0));
+    assert_eq!(board.take(&[0x42]).unwrap().used, 1);
+    assert_eq!(board.take(&[0x2b, 4]).unwrap().used, 2);
+    assert_eq!((board.owed_len(), board.partial()), (1, 2));
+    follower.hear_all(0, &[0x8e, 0]);
+    assert_eq!(follower.unread(), 2);
 }

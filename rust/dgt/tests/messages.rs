@@ -1,4 +1,4 @@
-//! What a decoder and a host make of a board's bytes, by the table of docs/PROGRAM.md and in each
+//! What a decoder and a host make of a board's bytes, by the table of checks/lines.txt and in each
 //! cutting.
 
 mod common;
@@ -6,7 +6,7 @@ mod common;
 use common::{Chance, bytes, cuttings, monitor_lines, shown_after, start_dump};
 use dgt::*;
 
-const TABLE: &str = "## Whole messages and their lines";
+const TABLE: &str = "## Lines of show and monitor";
 
 #[test]
 fn messages_are_as_the_protocol_shows() {
@@ -22,6 +22,17 @@ fn messages_are_as_the_protocol_shows() {
     }
 }
 
+/// A message is viewed from the bytes that it is encoded as.
+fn check_encoded(message: &Message<'_>) {
+    let mut out = vec![0xa5; MAX_TOTAL];
+    let count = message.encode(&mut out).unwrap();
+    let refused = message.encode(&mut vec![0; count - 1]);
+    assert_eq!(refused, Err(NoRoom { need: count }));
+    assert!(out[count..].iter().all(|byte| *byte == 0xa5));
+    let (code, body) = (seven(out[0] - 128), Body::new(&out[3..count]).unwrap());
+    assert_eq!(Message::view(code, body).as_ref(), Ok(message));
+}
+
 /// What a host hears of these chunks: the events, and which were not asked for.
 fn heard(host: &mut Host, chunks: &[&[u8]]) -> Vec<(String, bool)> {
     let mut all = Vec::new();
@@ -30,6 +41,9 @@ fn heard(host: &mut Host, chunks: &[&[u8]]) -> Vec<(String, bool)> {
         while !rest.is_empty() {
             let Heard { used, event, unasked } = host.hear(rest);
             assert!(used > 0);
+            if let Some(Event::Message(message)) = event {
+                check_encoded(&message);
+            }
             all.extend(event.map(|event| (event.to_string(), unasked)));
             rest = &rest[used..];
         }

@@ -7,22 +7,27 @@ use dgt::*;
 
 #[test]
 fn pieces_have_their_codes_and_letters() {
-    let mut count = 0;
+    let kinds = ["Pawn", "Rook", "Knight", "Bishop", "King", "Queen"];
+    let others = ["00 . Empty", "0d X FirstExtra", "0e Y SecondExtra", "0f Z ThirdExtra"];
+    let mut shown: Vec<_> = others.map(str::to_string).into();
     for row in rows_after("### Pieces and squares") {
-        for cells in row.chunks(3) {
-            let code = u8::from_str_radix(&cells[0][0], 16).unwrap();
-            let letter = cells[2][0].chars().next().unwrap();
-            let piece = Piece::from_code(code).unwrap();
-            assert_eq!((piece.code(), piece.letter()), (code, letter));
-            assert_eq!(Piece::from_letter(letter), Ok(piece));
-            assert_eq!(piece.to_string(), letter.to_string());
-            let name = format!("{piece:?}").to_lowercase();
-            let page = cells[1][0].replace(' ', "");
-            assert!(page == name || page.starts_with("extra"), "{page} {name}");
-            count += 1;
+        for (cell, kind) in row[1..].iter().zip(kinds) {
+            shown.push(format!("{} {} {}{kind}", cell[0], cell[1], row[0][0]));
         }
     }
-    assert_eq!(count, 16);
+    assert_eq!(shown.len(), 16);
+    for text in shown {
+        let [code, letter, name] = text.split(' ').collect::<Vec<_>>()[..] else {
+            panic!("{text}")
+        };
+        let code = u8::from_str_radix(code, 16).unwrap();
+        let letter = letter.chars().next().unwrap();
+        let piece = Piece::from_code(code).unwrap();
+        assert_eq!((piece.code(), piece.letter()), (code, letter));
+        assert_eq!(Piece::from_letter(letter), Ok(piece));
+        assert_eq!(piece.to_string(), letter.to_string());
+        assert_eq!(format!("{piece:?}"), name);
+    }
     for code in 16..=255 {
         assert_eq!(Piece::from_code(code), Err(NoPiece));
     }

@@ -47,7 +47,7 @@ impl World {
         }
     }
 
-    /// The board takes at most so many bytes. False if it is busy.
+    /// The board takes at most `most` bytes. False if it is busy.
     fn board_takes(&mut self, most: usize) -> bool {
         let mut left = most.min(self.down.len());
         while left > 0 {

@@ -21,11 +21,12 @@ pub fn start_dump() -> Vec<u8> {
     bytes(&format!("86 00 43 {START_CODES}"))
 }
 
-/// The rows of the tables after a line of docs/PROTOCOL.md or docs/PROGRAM.md, up to the next
+/// The rows of the tables after a line of docs/PROTOCOL.md or checks/lines.txt, up to the next
 /// heading: of each cell what stands in backticks, or the text if nothing does.
 pub fn rows_after(line: &str) -> Vec<Vec<Vec<String>>> {
-    let docs = Path::new(env!("CARGO_MANIFEST_DIR")).join("../../docs");
-    let pages = ["PROTOCOL.md", "PROGRAM.md"].map(|name| fs::read_to_string(docs.join(name)));
+    let root = Path::new(env!("CARGO_MANIFEST_DIR")).join("../..");
+    let paths = ["docs/PROTOCOL.md", "checks/lines.txt"];
+    let pages = paths.map(|path| fs::read_to_string(root.join(path)));
     let text = pages.map(Result::unwrap).join("\n");
     let (_, rest) = text.split_once(&format!("\n{line}\n")).expect(line);
     let lines = rest.lines().take_while(|line| !line.starts_with('#'));

@@ -1,0 +1,79 @@
+#include "input.h"
+#include "model.h"
+
+#include <string.h>
+
+static const char shown[] = "0123456789 -";
+static const uint8_t segments[] = {0x3f, 0x06, 0x5b, 0x4f, 0x66, 0x6d,
+                                   0x7d, 0x07, 0x7f, 0x6f, 0x00, 0x40};
+
+/* Characters, mostly of those that the display has, at the place IN. */
+static const char *any_text(size_t n) {
+    char *text = guarded(IN, n);
+    for (size_t i = 0; i < n; i++) {
+        uint8_t each = input_byte();
+        text[i] = each < 240 ? shown[each % 12] : (char)each;
+    }
+    return text;
+}
+
+static const uint8_t *any_numbers(enum place which, size_t n) {
+    uint8_t *numbers = guarded(which, n);
+    for (size_t i = 0; i < n; i++) numbers[i] = input_byte();
+    return numbers;
+}
+
+model_clock_call any_clock_call(void) {
+    static const uint8_t ids[] = {DGT_ID_DISPLAY, DGT_ID_ICONS, DGT_ID_END, DGT_ID_BUTTON,
+                                  DGT_ID_VERSION, DGT_ID_SET_AND_RUN, DGT_ID_BEEP, DGT_ID_TEXT};
+    model_clock_call call = {.id = ids[input_byte() % 8]};
+    call.one = input_byte();
+    call.other = input_byte();
+    if (call.id == DGT_ID_DISPLAY) call.text = any_text(6);
+    if (call.id == DGT_ID_TEXT) call.text = any_text(8);
+    if (call.id == DGT_ID_SET_AND_RUN) {
+        call.left = any_numbers(BODY, 3);
+        call.right = any_numbers(EVENTS, 3);
+    }
+    if (call.id == DGT_ID_ICONS) {
+        call.icons_n = input_byte() + (size_t)(call.one % 3);
+        uint8_t *icons = guarded(IN, call.icons_n);
+        memset(icons, call.other, call.icons_n);
+        call.icons = icons;
+    }
+    return call;
+}
+
+/* The segments of six characters, in the order of the message; false if one has none. */
+static bool write_display(const char *text, uint8_t *payload) {
+    static const size_t order[] = {2, 1, 0, 5, 4, 3};
+    for (size_t i = 0; i < 6; i++) {
+        char each = text[order[i]];
+        const char *found = each ? strchr(shown, each) : NULL;
+        if (!found) return false;
+        payload[i] = segments[found - shown];
+    }
+    return true;
+}
+
+model_sending model_called(const model_clock_call *call) {
+    uint8_t payload[9] = {0};
+    size_t n = 0;
+    switch (call->id) {
+    case DGT_ID_DISPLAY:
+        if (!write_display(call->text, payload)) return (model_sending){.n = 0};
+        payload[6] = call->one, payload[7] = call->other, n = 8;
+        break;
+    case DGT_ID_ICONS: return model_clock_message(call->id, call->icons, call->icons_n);
+    case DGT_ID_SET_AND_RUN:
+        memcpy(payload, call->left, 3), memcpy(payload + 3, call->right, 3);
+        payload[6] = call->one, n = 7;
+        break;
+    case DGT_ID_BEEP: payload[0] = call->one, n = 1; break;
+    case DGT_ID_TEXT:
+        memcpy(payload, call->text, 8), payload[8] = call->one, n = 9;
+        break;
+    default: break;
+    }
+    return model_clock_message(call->id, payload, n);
+}

@@ -1,0 +1,171 @@
+"""Messages and commands as bytes, without a host, a board or a reader."""
+
+from __future__ import annotations
+
+from collections.abc import Callable
+from ctypes import byref, c_uint8
+from typing import Any, cast
+
+from ._handle import Bytes, readable, writable
+from ._library import (MAX_BODY, MAX_WORD, ClockStruct, CommandStruct, EncodedStruct, EventStruct,
+                       dgt)
+from .commands import Asked, ClockMessage, Command, Leds, read_word
+from .errors import BadValue
+from .events import (Ack, Battery, Dump, Field, LongSerial, Message, Other, Refused, Serial,
+                     Trademark, Version, read_event)
+from .values import (Clock, NoClock, Position, Times, clock_struct, number, piece_code, plain_bytes,
+                     square_number)
+
+_ENCODED = 0
+_SEND_CLOCK_MESSAGE, _SEND_LEDS = 0x2B, 0x60
+(_EVENT_DUMP, _EVENT_FIELD, _EVENT_TIMES, _EVENT_NO_CLOCK, _EVENT_ACK, _EVENT_SERIAL,
+ _EVENT_TRADEMARK, _EVENT_VERSION, _EVENT_BATTERY, _EVENT_LONG_SERIAL, _EVENT_OTHER) = range(1, 12)
+
+
+def encode_message(message: Message) -> bytes:
+    r"""Returns the bytes of a message, as a board sends them. `BadValue` if a part of it is out of
+    its range, or the code of an `Other` is that of another case; `TypeError` if it is no message,
+    or its body is no bytes.
+
+    >>> encode_message(Field("e2", ".")).hex(" ")
+    '8e 00 05 34 00'
+    >>> encode_message(Other(0x30, b"\x07")).hex(" ")
+    'b0 00 04 07'
+    """
+    write = _WRITERS.get(type(message))
+    if write is None:
+        raise TypeError(f"{message!r} is no message")
+    told = EventStruct()
+    body, address = readable(write(message, told))
+    return _encoded(dgt.dgt_encode_message, MAX_BODY + 3, message, byref(told), address, len(body))
+
+
+def view_message(code: int, body: Bytes) -> Message | Refused:
+    r"""Returns the message with this code and this body, or a `Refused` with the fault of the body.
+    The code is the first byte of the message without its top bit, and the body is what follows the
+    third. `BadValue` if no message has such a code or such a body: each byte of a body is from 0 to
+    127, and there are at most 16380.
+
+    >>> view_message(0x0e, b"\x34\x00")
+    Field(square='e2', piece='.')
+    >>> print(view_message(0x0e, b"\x34\x10"))
+    refused 0e badpiece 1
+    """
+    held, address = readable(body)
+    told = EventStruct()
+    if not dgt.dgt_view_message(number(code, 127, "code"), address, len(held), byref(told)):
+        raise BadValue(f"body must be at most {MAX_BODY} bytes from 0 to 127: {body!r}")
+    return cast(Message | Refused, read_event(told, bytearray(held)))
+
+
+def encode_command(command: Command) -> bytes:
+    """Returns the bytes of a command, as a host sends them. No reply is awaited: a `Host` has
+    calls that do that. `BadValue` if it carries too many bytes, or its id is no byte; `TypeError`
+    if it is no command.
+
+    >>> encode_command(ClockMessage(0x0b, b"\\x03")).hex(" ")
+    '2b 04 03 0b 03 00'
+    """
+    carried: Bytes = b""
+    if isinstance(command, Asked):
+        code, id = number(command.ask, 255, "ask"), 0
+    elif isinstance(command, ClockMessage):
+        code, id, carried = _SEND_CLOCK_MESSAGE, number(command.id, 255, "id"), command.payload
+    elif isinstance(command, Leds):
+        code, id, carried = _SEND_LEDS, 0, command.leds
+    else:
+        raise TypeError(f"{command!r} is no command")
+    held, address = readable(carried)
+    return _encoded(dgt.dgt_encode_command, MAX_WORD, command, code, id, address, len(held))
+
+
+def view_command(word: Bytes) -> Command | None:
+    r"""Returns the command whose bytes are exactly these, or `None` if there is none.
+
+    >>> view_command(b"\x42"), view_command(b"\x42\x42")
+    (Asked(ask=<Ask.DUMP: 66>), None)
+    """
+    held, address = readable(word)
+    told = CommandStruct()
+    if not dgt.dgt_view_command(address, len(held), byref(told)):
+        return None
+    return cast(Command, read_word(told, bytearray(held)))
+
+
+def _encoded(encode: Callable[..., EncodedStruct], room: int, what: object,
+             *arguments: object) -> bytes:
+    out, out_at = writable(room)
+    encoded = encode(*arguments, out_at, room)
+    if encoded.status != _ENCODED:
+        raise BadValue(f"this can't be encoded: {what!r}")
+    return bytes(out[:encoded.bytes])
+
+
+# ---- What the library is handed of each message, and its body.
+
+
+def _array(held: object, count: int, what: str) -> Any:
+    """Returns an array of `count` bytes. `BadValue` that names `what` they are, if they are
+    none."""
+    plain = plain_bytes(held)
+    if plain is None or len(plain) != count:
+        raise BadValue(f"{what} must be {count} bytes: {held!r}")
+    return (c_uint8 * count)(*plain)
+
+
+def _write_dump(message: Dump, told: EventStruct) -> Bytes:
+    if not isinstance(message.position, Position):
+        raise BadValue(f"position must be a Position: {message.position!r}")
+    told.kind, told.pieces = _EVENT_DUMP, _array(message.position.codes, 64, "position")
+    return b""
+
+
+def _write_field(message: Field, told: EventStruct) -> Bytes:
+    told.kind = _EVENT_FIELD
+    told.square, told.piece = square_number(message.square), piece_code(message.piece)
+    return b""
+
+
+def _write_clock(message: Clock, told: EventStruct) -> Bytes:
+    told.kind = _EVENT_TIMES if isinstance(message, Times) else _EVENT_NO_CLOCK
+    shown: ClockStruct = clock_struct(message)
+    told.clock = shown
+    return b""
+
+
+def _write_ack(message: Ack, told: EventStruct) -> Bytes:
+    told.kind, told.ack = _EVENT_ACK, _array(message.ack, 4, "ack")
+    told.ack_status = number(message.status, 127, "status")
+    return b""
+
+
+def _write_serial(message: Serial, told: EventStruct) -> Bytes:
+    told.kind, told.serial = _EVENT_SERIAL, _array(message.serial, 5, "serial")
+    return b""
+
+
+def _write_version(message: Version, told: EventStruct) -> Bytes:
+    told.kind = _EVENT_VERSION
+    told.main_number = number(message.main, 127, "main")
+    told.sub_number = number(message.sub, 127, "sub")
+    return b""
+
+
+def _write_other(message: Other, told: EventStruct) -> Bytes:
+    told.kind, told.code = _EVENT_OTHER, number(message.code, 127, "code")
+    return message.body
+
+
+def _carried(kind: int) -> Callable[[Any, EventStruct], Bytes]:
+    def write(message: Trademark | Battery | LongSerial, told: EventStruct) -> Bytes:
+        told.kind = kind
+        return message.body
+    return write
+
+
+_WRITERS: dict[type, Callable[[Any, EventStruct], Bytes]] = {
+    Dump: _write_dump, Field: _write_field, Times: _write_clock, NoClock: _write_clock,
+    Ack: _write_ack, Serial: _write_serial, Version: _write_version, Other: _write_other,
+    Trademark: _carried(_EVENT_TRADEMARK), Battery: _carried(_EVENT_BATTERY),
+    LongSerial: _carried(_EVENT_LONG_SERIAL),
+}

@@ -1,0 +1,385 @@
+"""The games on a board, made of what is known of the board: its positions and its clock."""
+
+from __future__ import annotations
+
+import time
+from collections import deque
+from collections.abc import Callable
+from dataclasses import replace
+from typing import Protocol
+
+from ._turn import to_put
+from .following import BoardView
+from .moves import GameBegun, MoveEvent, MoveMade, MoveRecogniser, MoveTakenBack
+from .pgn import PgnGame, PgnMove, _GameText, numbered
+from .rules import GameState
+from .values import SQUARES, Clock, Time, Times
+
+_SET_UP_WAIT = 5.0
+"""For how long a position rests that is set up after a game, before another begins with it."""
+_KINGS_WAIT = 1.0
+"""For how long the kings rest in the centre before they give the result, in seconds."""
+_FINAL_WAIT = 10.0
+"""For how long the moves before mate or stalemate may be taken back."""
+_LONG_DOUBT = 5.0
+"""After how many seconds in doubt more moves may have been made than can be found."""
+_CLOCK_WAIT = 2.0
+"""For how long the time of the last move rests before the file is written with it."""
+_HINT_WAIT = 3.0
+"""For how long a position rests that no move leads to, before it is named."""
+_MOST_WRONG = 4
+"""How many squares of it differ at most: more is pieces that are set up."""
+_MOST_SEEN = 256
+_CENTRE = {frozenset(("e4", "d5")): "1-0", frozenset(("e5", "d4")): "0-1",
+           frozenset(("e4", "e5")): "1/2-1/2", frozenset(("d4", "d5")): "1/2-1/2"}
+"""The result by the squares of both kings: side by side, as in no legal position."""
+_BROKEN_OFF = "broken off: the board was away, and came back with another position"
+
+
+class GameStore(Protocol):
+    """What keeps the texts of a board's games: a `PgnFile`, or an object like it."""
+
+    @property
+    def name(self) -> str:
+        """What it is called in a warning."""
+
+    @property
+    def unsaved(self) -> str:
+        """The games that aren't kept as they are."""
+
+    def begin(self) -> object:
+        """A game begins. `put` is about this one from now on."""
+
+    def put(self, text: str) -> None:
+        """Sets the text of the game."""
+
+    def save(self) -> None:
+        """Keeps what was put. `OSError` if that fails; it is called again after the next move."""
+
+
+class Games:
+    """The games on a board. Hand it what is known of the board with `see`, from `follow` or from
+    any other source, and call `wait` when `due` is reached. `tell` gets each line of what happens,
+    as `dgt-game` prints it, and `warn` what one should know.
+
+    >>> lines = []
+    >>> games = Games(lines.append, print)
+    >>> start, lifted, put = (Position.parse(f"rnbqkbnr/pppppppp/8/8/{ranks}/RNBQKBNR") for ranks in
+    ...                       ("8/8/PPPPPPPP", "8/8/PPPP1PPP", "4P3/8/PPPP1PPP"))
+    >>> for time, position in enumerate((start, lifted, put)):
+    ...     games.see(BoardView(position), float(time))
+    the board shows rnbqkbnr/pppppppp/8/8/8/8/PPPPPPPP/RNBQKBNR
+    >>> games.wait(games.due)
+    >>> lines[1:], games.game.moves[-1].san
+    (['1. e4 e2e4'], 'e4')
+
+    The time is in seconds, as that of `time.monotonic`."""
+
+    def __init__(self, tell: Callable[[str], None], warn: Callable[[str], None],
+                 file: GameStore | None = None, tags: dict[str, str] | None = None,
+                 white_clock: str = "left", fen: str | None = None, port: str = "") -> None:
+        """`file` gets each game as PGN, with these tags. `white_clock` is the side of the clock
+        that has White's time, `left` or `right`. `fen` is that of `MoveRecogniser`, and `port` what
+        the board is called in a warning. `BadFen` if the FEN is none."""
+        self.recogniser = MoveRecogniser(fen, set_up=_SET_UP_WAIT)
+        self.game: PgnGame | None = None
+        self._text = _GameText(PgnGame())
+        self._port = port
+        self._tell, self._warn, self._file, self._tags = tell, warn, file, tags or {}
+        self._is_white_left = white_clock == "left"
+        self._letters, self._lifted, self._away = "", set[str](), ""
+        self._clock: Times | None = None
+        # What the board has shown since the last move, with the clock of that time.
+        self._seen: deque[tuple[str, Times | None]] = deque(maxlen=_MOST_SEEN)
+        self._settled = 0  # how many moves have a clock
+        self._fixed = 0  # of how many it no longer changes, whatever is taken back
+        self._doubted_at: float | None = None
+        self._is_new = True
+        self._is_over, self._is_end_told, self._final_at = False, False, 0.0
+        self._result, self._result_at = "", 0.0
+        self._hint_at: float | None = None
+        self._hinted = ""
+        self._save_at: float | None = None
+        self._is_in_file, self._fault = False, ""
+
+    @property
+    def due(self) -> float | None:
+        """The time at which `wait` has something to do."""
+        times = (self.recogniser.due, self._hint_at, self._save_at,
+                 self._result_at if self._result else None)
+        return min((each for each in times if each is not None), default=None)
+
+    def see(self, view: BoardView, now: float) -> None:
+        """Notes what is known of the board from this time on."""
+        self._note_away(view)
+        self._note_clock(view.clock, now)
+        if view.in_doubt or view.picture is None:
+            self._doubt(view, now)
+            return
+        self._trust(now)
+        letters = view.picture.letters
+        if letters != self._letters:
+            self._letters, self._hint_at = letters, now + _HINT_WAIT
+            self._seen.append((letters, self._clock))
+        if self._is_new:
+            self._warn(f"the board shows {view.picture}")
+            self._is_new = False
+        is_lost = self.recogniser.lost
+        self._take(self.recogniser.see(view.picture, now), is_lost, now)
+        self._look_at_kings(now)
+
+    def wait(self, now: float) -> None:
+        """Notes that the board shows until this time what it showed last."""
+        is_lost = self.recogniser.lost
+        self._take(self.recogniser.wait(now), is_lost, now)
+        if self._result and now >= self._result_at:
+            self._end(self._result, "kings", now)
+        if self._hint_at is not None and now >= self._hint_at:
+            self._hint_at = None
+            self._hint()
+        if self._save_at is not None and now >= self._save_at:
+            self._save()
+
+    def set_tags(self, tags: dict[str, str], is_for_this: bool) -> None:
+        """Sets tags of the games that begin from now on, and also of the game that is under way if
+        `is_for_this`."""
+        self._tags = {**self._tags, **tags}
+        if is_for_this and self.game is not None:
+            self.game.tags.update(tags)
+            self._save()
+
+    def close(self) -> bool:
+        """Writes what isn't in the file yet. Returns whether the file has everything; what it
+        lacks is a warning."""
+        self._save()
+        if self._file is None or not self._fault:
+            return True
+        self._warn(f"{self._file.name} lacks this:\n{self._file.unsaved}")
+        return False
+
+    # ---- What is known of the board
+
+    @property
+    def _shown(self) -> str:
+        """What the board shows, as White sees it."""
+        return self._letters[::-1] if self.recogniser.turned else self._letters
+
+    @property
+    def _is_as_told(self) -> bool:
+        state = self.recogniser.state
+        return state is not None and self._shown == state.letters
+
+    def _note_away(self, view: BoardView) -> None:
+        away = view.away or ""
+        if away != self._away and away:
+            self._warn(f"{self._port}: {away}")
+        self._away, self._is_new = away, self._is_new or bool(away)
+
+    def _doubt(self, view: BoardView, now: float) -> None:
+        """What the board shows isn't sure."""
+        self.recogniser.hold()
+        if self._doubted_at is None:
+            self._doubted_at = now
+        if view.away:
+            self._doubted_at = float("-inf")
+        self._letters = self._result = ""
+        self._hint_at = None
+
+    def _trust(self, now: float) -> None:
+        """What the board shows is sure again, if it wasn't."""
+        if self._doubted_at is not None and now >= self._doubted_at + _LONG_DOUBT:
+            self.recogniser.lose_track()
+        self._doubted_at = None
+
+    # ---- The clock
+
+    def _note_clock(self, clock: Clock | None, now: float) -> None:
+        self._clock = clock if isinstance(clock, Times) else None
+        if self.game is None or self._is_over or len(self.game.moves) == self._settled:
+            return
+        last = self.game.moves[-1]
+        left = self._left(self._clock, last)
+        if left is not None and left != last.clock and self._is_as_told:
+            last.clock, self._save_at = left, now + _CLOCK_WAIT
+            self._text.change(len(self.game.moves) - 1)
+
+    def _left(self, clock: Times | None, made: PgnMove) -> Time | None:
+        """Returns the time that is left to the player who has made a move."""
+        if clock is None:
+            return None
+        side = clock.first if made.before.white == self._is_white_left else clock.second
+        return replace(side, flags=0)
+
+    def _settle(self, after: str) -> None:
+        """The clock of the last move is known, now that the next one leads to the position `after`:
+        it stood still until the pieces of that move were put."""
+        assert self.game is not None
+        before, clock = self.game.state.letters, None
+        changed = [square for square in range(64) if before[square] != after[square]]
+        step = -1 if self.recogniser.turned else 1
+        for number, (letters, shown) in enumerate(self._seen):
+            if all(letters[::step][square] == after[square] for square in changed):
+                clock = shown
+                for _ in range(number + 1):
+                    self._seen.popleft()
+                break
+        if self._settled < len(self.game.moves):
+            last = self.game.moves[-1]
+            last.clock = self._left(clock, last) or last.clock
+            self._text.change(len(self.game.moves) - 1)
+        self._settled = len(self.game.moves)
+
+    # ---- What has happened
+
+    def _take(self, events: list[MoveEvent], is_lost: bool, now: float) -> None:
+        is_replaced = [type(event) for event in events] == [MoveTakenBack, MoveMade]
+        for event in events:
+            self._lifted.clear()
+            if isinstance(event, GameBegun):
+                self._begin(event, is_lost)
+            elif self.game is not None and self._is_kept(event, now):
+                if isinstance(event, MoveMade):
+                    self._make(event, now)
+                else:
+                    self._take_back(is_replaced)
+            elif isinstance(event, MoveMade) and not self._is_end_told:
+                self._warn("the game is over, and no moves are kept until another begins")
+                self._is_end_told = True
+        if events and isinstance(events[-1], MoveTakenBack):
+            self._seen.clear()  # these positions led to what was taken back
+        if self._is_over and not self.recogniser._moves and self._is_as_told:
+            state = self.recogniser.state
+            assert state is not None
+            self._begin(GameBegun(state, self.recogniser.turned), False)
+
+    def _is_kept(self, event: MoveMade | MoveTakenBack, now: float) -> bool:
+        """Returns whether a move is one of the game, and not made after its end."""
+        if self._is_over and isinstance(event, MoveTakenBack) and now < self._final_at:
+            self._is_over = False  # the mate was none: its piece goes on
+        return not self._is_over
+
+    def _begin(self, event: GameBegun, is_lost: bool) -> None:
+        if self.game is not None and is_lost and not self._is_over:
+            self.game.comment = _BROKEN_OFF
+            self._report("broken off")
+        self._save()
+        tags = {"Date": time.strftime("%Y.%m.%d"), **self._tags}
+        self.game = PgnGame(tags, event.state)
+        self._text = _GameText(self.game)
+        self._is_over = self._is_end_told = self._is_in_file = False
+        self._settled = self._fixed = 0
+        self._result = ""
+        self._seen.clear()
+        if self._file is not None:
+            self._file.begin()
+        self._tell(f"game {event.state.fen}")
+
+    def _make(self, event: MoveMade, now: float) -> None:
+        assert self.game is not None
+        self._settle(event.state.letters)
+        if not self.game.moves:
+            self.game.start = _root(self.game.start, event)
+        made = self.game.add(event.move)
+        made.clock = self._left(self._clock, made)
+        times = [self._clock.first, self._clock.second] if self._clock else []
+        times = times if self._is_white_left else times[::-1]
+        self._report(" ".join([numbered(made.before, made.san), made.move, *map(str, times)]))
+        if not event.state.moves():
+            winner = "0-1" if event.state.white else "1-0"
+            is_mate = event.state.check
+            self._end(winner if is_mate else "1/2-1/2", "mate" if is_mate else "stalemate", now)
+
+    def _take_back(self, is_replaced: bool) -> None:
+        """The last move is taken back. If another was put in its place, it was on its way, and the
+        clock of the move before may have been pressed meanwhile. Else that clock stays: both clocks
+        may have run since then."""
+        assert self.game is not None
+        made = self.game.moves.pop()
+        count = len(self.game.moves)
+        self._text.change(count)
+        self._fixed = min(self._fixed, count) if is_replaced else count
+        self._settled = max(self._fixed, min(self._settled, count - is_replaced))
+        self.game.result = "*"
+        self._report(f"undo {numbered(made.before, made.san)} {made.move}")
+
+    def _end(self, result: str, why: str, now: float) -> None:
+        assert self.game is not None
+        self.game.result, self._result, self._is_over = result, "", True
+        self._final_at = now if why == "kings" else now + _FINAL_WAIT
+        if why == "kings":
+            self.recogniser.end_game()
+        self._report(f"result {result} {why}")
+
+    # ---- The kings, and other positions
+
+    def _look_at_kings(self, now: float) -> None:
+        """Looks for the result that the kings give. Both have to be lifted after the last move."""
+        state, shown = self.recogniser.state, self._shown
+        if self.game is None or self._is_over or state is None:
+            self._result = ""
+            return
+        if self._is_as_told:
+            self._lifted.clear()
+        self._lifted |= {king for king in "Kk" if shown[state.letters.index(king)] != king}
+        result = self._in_centre()
+        if len(self._lifted) < 2 or not result:
+            self._result = ""
+        elif result != self._result:
+            self._result, self._result_at = result, now + _KINGS_WAIT
+
+    def _in_centre(self) -> str:
+        """Returns the result that the squares of the kings mean, if they mean one."""
+        shown = self._shown
+        if (shown.count("K"), shown.count("k")) != (1, 1):
+            return ""
+        return _CENTRE.get(frozenset(SQUARES[shown.index(king)] for king in "Kk"), "")
+
+    def _hint(self) -> None:
+        """Says what to put on which square, if no move puts a few of the pieces there."""
+        state, shown = self.recogniser.state, self._shown
+        if state is None or self._is_over or self.recogniser.due is not None or not shown:
+            return
+        if shown == self._hinted:
+            return
+        self._hinted = shown
+        wrong = [square for square in range(64) if shown[square] != state.letters[square]]
+        if self._in_centre():
+            self._warn("lift both kings to give the result")
+        elif (1 <= len(wrong) <= _MOST_WRONG and any(shown[square] != "." for square in wrong)
+              and "K" in shown and "k" in shown):
+            self._warn(f"no move leads to this: {to_put(shown, state.letters)}")
+
+    # ---- The file
+
+    def _report(self, line: str) -> None:
+        """Reports what has happened, once the file has it."""
+        self._save()
+        self._tell(line)
+
+    def _save(self) -> None:
+        """Writes the file, if it can be. A game without moves isn't written."""
+        self._save_at = None
+        if self._file is None or self.game is None:
+            return
+        self._is_in_file |= bool(self.game.moves) or self.game.result != "*"
+        if self._is_in_file:
+            self._file.put(self._text.text())
+        try:
+            self._file.save()
+        except OSError as refused:
+            if (fault := refused.strerror or str(refused)) != self._fault:
+                self._warn(f"{self._file.name} can't be written: {fault} (the game goes on, and "
+                           "each move tries again)")
+                self._fault = fault
+        else:
+            if self._fault:
+                self._warn(f"{self._file.name} is written again")
+            self._fault = ""
+
+
+def _root(begun: GameState, first: MoveMade) -> GameState:
+    """Returns the state in which a game has begun, once the first move has decided whose turn it
+    was."""
+    if begun.moves().get(first.move) == first.state:
+        return begun
+    return GameState.place(begun.letters, not begun.white)
