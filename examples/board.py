@@ -1,20 +1,23 @@
 #!/usr/bin/env python3
 """Simulates a board on a pseudo-terminal, to try a host on.
 
-It prints the name of the terminal, which a host opens as a serial line. Then it reads what happens
-on the board from standard input, a line each:
+It prints the name of the terminal, which a host opens as a serial line. Then it
+reads what happens on the board from standard input, a line each:
 
     e2 .                   takes off what stands on e2
     e4 P                   puts a piece on e4 (PRNBKQ white, prnbkq black)
-    clock 1:00:00 0:59:30  sets the times of the clock's first and second side, and stops it
-    clock start            has the clock run: its first side counts down each second, to 0:00:00
+    clock 1:00:00 0:59:30  sets the times of the clock's first and second side,
+                           and stops it
+    clock start            has the clock run: its first side counts down each
+                           second, to 0:00:00
     clock stop             stops the clock
     wait 0.5               lets half a second pass; 3600 at most
 
-It reports any other line on standard error, and ignores it. The host is answered all the time.
+It reports any other line on standard error, and ignores it. The host is
+answered all the time.
 
-It ends half a second after its input does, or later if the host hasn't read all yet. If that takes
-over ten seconds, it says so and ends with status 1.
+It ends half a second after its input does, or later if the host hasn't read all
+yet. If that takes over ten seconds, it says so and ends with status 1.
 """
 
 import argparse
@@ -100,8 +103,8 @@ class Simulation:
         self.board, self.line, self.clock = board, line, RunningClock(board)
 
     def serve(self, seconds: float | None, until: tuple[int, ...] = ()) -> None:
-        """Sends the host what has changed and answers it: for so many seconds, or without an end if
-        they are None, or until one of these descriptors has something to read."""
+        """Sends the host what has changed and answers it: for this number of seconds, or without an
+        end if it is None, or until one of these descriptors has something to read."""
         end = None if seconds is None else time.monotonic() + seconds
         while True:
             self.clock.count()

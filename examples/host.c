@@ -78,7 +78,7 @@ static long wait_for_bytes(board *board, uint8_t *chunk, size_t n, uint64_t end)
     return dgt_port_read(board->line, chunk, n, end);
 }
 
-/* Follows a board until its line ends, or nothing has come for so many milliseconds (for ever: 0).
+/* Follows a board until its line ends, or nothing has come for some milliseconds (0: for ever).
  * False, with errno, if the line takes no bytes. */
 static bool follow(board *board, uint64_t silence) {
     uint8_t chunk[256];

@@ -1,27 +1,33 @@
 #!/usr/bin/env python3
 """Prints the moves that are made on a board, by the rules of chess.
 
-    game FEN      a game begins with this position; whose turn it is may not be known yet
+    game FEN      a game begins with this position; whose turn it is may not be
+                  known yet
     e2e4          a move, named as in UCI
-    undo e2e4     the last move was taken back, or is replaced by the next line's
+    undo e2e4     the last move was taken back, or is replaced by that of the
+                  next line
 
-A move is printed once the board has shown the position after it for 0.3 seconds, or the other side
-has answered. Pieces may be lifted in any order, slid, put on wrong squares and put right, and moves
-may be taken back. A rook's move that may be the first half of castling waits for two seconds.
+A move is printed once the board has shown the position after it for 0.3
+seconds, or the other side has answered. Pieces may be lifted in any order,
+slid, put on wrong squares and put right, and moves may be taken back. A rook's
+move that may be the first half of castling waits for two seconds.
 
-All pieces on their first squares begin a game, also on a turned board. So does any other position
-that the board shows at the start, or that is set up with the kings last, after a second.
+All pieces on their first squares begin a game, also on a turned board. So does
+any other position that the board shows at the start, or that is set up with the
+kings last, after a second.
 
-The board is asked for all squares every ten seconds, and at once if the line lost bytes. No move is
-printed until it has answered. If the port goes, it is looked for every two seconds, and the game
-goes on once it is back: a move that was made meanwhile is printed then. So it runs until Ctrl-C
-ends it, or nobody reads what it prints.
+The board is asked for all squares every ten seconds, and at once if the line
+lost bytes. No move is printed until it has answered. If the port goes, it is
+looked for every two seconds, and the game goes on once it is back: a move that
+was made meanwhile is printed then. So it runs until Ctrl-C ends it, or nobody
+reads what it prints.
 
-Standard error shows where the pieces stand when the board first reports them, and again after it
-was away, and why it is away.
+Standard error shows where the pieces stand when the board first reports them,
+and again after it was away, and why it is away.
 
-This is an example for programs of one's own. The command dgt-game of the package prints moves in
-short notation with the players' times, knows results, and keeps a PGN file.
+This is an example for programs of one's own. The command dgt-game of the
+package prints moves in short notation with the players' times, knows results,
+and keeps a PGN file.
 """
 
 import argparse

@@ -2,7 +2,7 @@
 """Prints the events of a board on a port of pyserial, as `dgt monitor` does, with timeouts.
 
 It asks for the version and the trademark, and waits for each answer for two seconds at most. Then
-it asks for all squares and each change. It ends when no event came for so many seconds. It needs
+it asks for all squares and each change. It ends when no event came for the given seconds. It needs
 Debian's python3-serial.
 """
 
@@ -38,7 +38,7 @@ class Board:
         self.line, self.host = line, dgt.Host()
 
     def events(self, seconds: float) -> Iterator[dgt.Event]:
-        """Yields the events that come within so many seconds."""
+        """Yields the events that come within this time, in seconds."""
         end = time.monotonic() + seconds
         while (left := end - time.monotonic()) > 0:
             self.line.timeout = left  # for how long the next read waits
@@ -54,7 +54,7 @@ class Board:
         return None
 
     def show(self, idle: float) -> None:
-        """Prints the events, until none came for so many seconds."""
+        """Prints the events, until none came for this time, in seconds."""
         self.line.write(self.host.follow())
         while (event := next(self.events(idle), None)) is not None:
             print(event, flush=True)

@@ -1,8 +1,8 @@
 #!/usr/bin/env python3
 """Simulates a board on a pseudo-terminal, to try eboard on.
 
-LINK becomes a symbolic link to the terminal that a host opens. What hands do is read from standard
-input, a line each:
+LINK becomes a symbolic link to the terminal that a host opens. What hands do is
+read from standard input, a line each:
 
     e2 .      what stands on e2 is taken off
     e4 P      a piece is put on e4 (PRNBKQ white, prnbkq black)
@@ -18,8 +18,9 @@ input, a line each:
     mute      it answers nothing from now on
     quit
 
-It prints which commands it was sent, and when it is ready: at the start, and once a line was
-obeyed. It reports a line that it can't obey on standard error, and ignores it.
+It prints which commands it was sent, and when it is ready: at the start, and
+once a line was obeyed. It reports a line that it can't obey on standard error,
+and ignores it.
 """
 
 import argparse
@@ -48,7 +49,7 @@ except ImportError as missing:
 
 FILES, RANKS = "abcdefgh", "87654321"
 START = "rnbqkbnrpppppppp................................PPPPPPPPRNBQKBNR"
-SQUARES = {0x86, 0x8E}  # how the messages begin that tell squares: all of them, and one
+SQUARES = {0x86, 0x8E}  # how the messages begin that report squares: all of them, and one
 
 
 class Port:

@@ -58,7 +58,7 @@ static int settle;
 static pthread_mutex_t lock = PTHREAD_MUTEX_INITIALIZER;
 static char shown[65]; /* under the lock: what stands on the board, as GetBoard tells it */
 
-/* ---- What eboard is told */
+/* ---- Events for eboard */
 
 /* eboard takes each event for a click on its window's board, which it has turned where the player
  * has Black; but it thinks that the squares come from a board that is turned, too. */
@@ -148,8 +148,8 @@ static void read_settings(void) {
     if (settle <= 0 || settle > 60000) settle = SETTLE;
 }
 
-/* Reads the board until it has told all squares, or so many texts. False, with the reason in errno,
- * where it doesn't in time. */
+/* Reads the board until it has reported all squares, or `texts` texts. False, with the reason in
+ * errno, if it doesn't in time. */
 static bool hear_for(int milliseconds, int texts) {
     long long end = line_now() + milliseconds;
     while (texts > 0 ? board.texts < texts : !line_is_sure(&board)) {
@@ -236,7 +236,7 @@ PUBLIC const char *dgtnixQueryString(int which) {
     }
 }
 
-/* 64 squares from a8 to h1, with a blank where nothing stands, and a zero. */
+/* 64 squares from a8 to h1, with a blank for an empty square, and a zero. */
 PUBLIC const char *dgtnixGetBoard(void) {
     static char copy[65];
     pthread_mutex_lock(&lock);
@@ -255,7 +255,7 @@ PUBLIC const char *dgtnixToPrintableBoard(const char *squares) {
     return text;
 }
 
-/* 1 where the same stands on the board, which may be turned. The 64 squares have no zero behind. */
+/* 1 if the same stands on the board, which may be turned. No zero comes after the 64 squares. */
 PUBLIC int dgtnixTestBoard(const char *squares) {
     const char *stands = dgtnixGetBoard();
     bool upright = true, turned = true;

@@ -14,7 +14,7 @@ typedef struct line {
     char serial[8], version[16], trademark[128];
 } line;
 
-/* Called with all squares, each time that they have changed or were all told. */
+/* Called with all squares, each time that they have changed or were all reported. */
 typedef void seen(const uint8_t pieces[64]);
 
 long long line_now(void);

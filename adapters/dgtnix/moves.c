@@ -75,7 +75,7 @@ static bool reaches(const uint8_t squares[64], int from, int to, bool takes) {
     }
 }
 
-/* Where a pawn would be taken in passing by one that goes from here to there, or -1. */
+/* The square of the pawn that one going from here to there would take in passing, or -1. */
 static int square_passed(const uint8_t before[64], int from, int to) {
     enum side side = side_of(before[from]);
     int square = 8 * row(from) + column(to);
@@ -195,7 +195,7 @@ static void forget(game *game) {
     game->due = 0;
 }
 
-/* What stands on the board is what was told. */
+/* What stands on the board is what was reported. */
 static void settle_here(game *game) {
     memcpy(game->told, game->now, 64);
     forget(game);
@@ -243,7 +243,7 @@ static void remember(game *game, const move *made) {
     game->moves_told = game->moves_made;
 }
 
-/* The game goes on by this move. False where it was told before. */
+/* The game goes on by this move. False if it was reported before. */
 static bool tell(game *game, const move *which, move *made) {
     *made = *which;
     if (made->corrects) memcpy(game->told, game->moves[--game->moves_made].before, 64);
@@ -255,14 +255,14 @@ static bool tell(game *game, const move *which, move *made) {
     return !again;
 }
 
-/* Which of the moves, from the last one on, was taken back with all behind it, or -1. */
+/* Which of the moves, from the last one on, was taken back with all after it, or -1. */
 static int taken_back(const game *game) {
     for (int index = game->moves_made - 1; index >= 0; index--)
         if (same(game->now, game->moves[index].before)) return index;
     return -1;
 }
 
-/* In the position in which a game begins this may be another game, of which nothing was told. */
+/* In the starting position this may be another game, of which nothing was reported. */
 static void take_back(game *game) {
     game->moves_made = taken_back(game);
     if (is_start(game->now)) game->moves_told = game->moves_made;
@@ -281,7 +281,7 @@ static bool is_another(const game *game) {
 }
 
 /* A side has made its move on the board before that of the other side, which was known already, and
- * that one follows now. It is told first, and then the early one. */
+ * that one follows now. It is reported first, and then the early one. */
 static bool find_late_move(game *game) {
     uint8_t without[64];
     if (!game->is_early) return false;
@@ -304,7 +304,7 @@ static bool find_correction(game *game) {
     return side_of(game->next.piece) == last->side && !same(game->next.after, game->told);
 }
 
-/* A pawn that was told on its last rank has been changed for the piece that it becomes. */
+/* A pawn that was reported on its last rank has been changed for the piece that it becomes. */
 static void follow_promotion(game *game) {
     for (int square = 0; square < 64; square++)
         if (promotes(game->told[square], game->now[square], square))
@@ -342,7 +342,7 @@ static bool may_go_on(const game *game, int square) {
     return before[next->to] == 0 && reaches(before, next->from, square, true);
 }
 
-/* A piece of the other side is taken up behind the move that waits: the answer to it begins, or the
+/* A piece of the other side is lifted after the move that waits: the answer to it begins, or the
  * pawn goes that was taken in passing. */
 static bool is_answered(const game *game, const uint8_t now[64]) {
     if (game->reading != A_MOVE) return false;

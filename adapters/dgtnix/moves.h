@@ -24,8 +24,8 @@ typedef struct move {
     uint8_t after[64]; /* the position behind the whole move */
 } move;
 
-/* Finds the one move that leads from one position to the other, by its shape: pieces go as they
- * may, over empty squares, but nobody asks whose turn it is and whether a king is in check. The
+/* Finds the one move that leads from one position to the other, by geometry alone. Pieces go as
+ * they may, over empty squares. Nobody asks whose turn it is and whether a king is in check. The
  * move need not be whole: a king may have castled alone, and a pawn that was taken in passing may
  * still be there. */
 bool find_move(const uint8_t before[64], const uint8_t now[64], move *found);
@@ -76,7 +76,7 @@ typedef struct game {
 /* Begins with what stands on the board. `settle` is from 1 to 60000. */
 void game_begin(game *game, const uint8_t squares[64], enum plays plays, int settle);
 
-/* The side that the program's player has. Where nobody has said it, or both, it is the one that has
+/* The side that the program's player has. If nobody has said it, or both, it is the one that has
  * the board's own first rank before it. */
 enum side game_player(const game *game);
 
@@ -85,7 +85,7 @@ bool game_wants(const game *game, enum side side);
 
 /* The board shows a position, which may be the same once more. True where it shows that the move
  * that was waiting is finished: `made` is that move, of either side. A move that was taken back and
- * is made again is told once, unless the position in which a game begins was reached. */
+ * is made again is reported once, unless the position in which a game begins was reached. */
 bool game_see(game *game, const uint8_t squares[64], long long time, move *made);
 
 /* Time has passed. True where a move has rested for long enough: `made` is that move, as above. */

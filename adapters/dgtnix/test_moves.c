@@ -1,11 +1,11 @@
-/* What hands do on a board, and the moves that are told of it.
+/* What hands do on a board, and the moves that are reported of it.
  *
  * A hand's steps: `e2.` takes what stands on e2 off, `e4P` puts a white pawn on e4 (p would be a
- * black one), and a number lets so many milliseconds pass. `e2e4` is a whole move: a piece on e4 is
- * taken off first, and it rests behind it. `seen` shows the same position once more, `black` says
+ * black one), and a number lets milliseconds pass. `e2e4` is a whole move: a piece on e4 is
+ * taken off first, and it rests after it. `seen` shows the same position once more, `black` says
  * that the player has Black, and `both` that both sides' moves are wanted. Between two steps pass
- * 60 ms; a move is told when it has rested for 300. Squares are the board's own, and the moves that
- * are told are the game's, those of both sides.
+ * 60 ms; a move is reported when it has rested for 300. Squares are the board's own, and the moves
+ * that are reported are the game's, those of both sides.
  */
 #include "moves.h"
 

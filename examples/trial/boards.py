@@ -30,12 +30,28 @@ def placement(codes):
     return text
 
 
+RUNS, WHITE_TURN, BLACK_TURN, ABSENT = 0x01, 0x10, 0x08, 0x20  # bits of a clock's status
+
+
+def packed(number):
+    """A number below 100 in packed decimal."""
+    return 16 * (number // 10) + number % 10
+
+
+def clock_message(left, right, status):
+    """What a board sends of its clock: the seconds of its two sides, and its status."""
+    sides = [[side // 3600, packed(side // 60 % 60), packed(side % 60)] for side in (left, right)]
+    return bytes([0x8D, 0, 10, *sides[0], *sides[1], status])
+
+
 class Board:
-    """A board: it answers the byte 42 by all its squares, and tells each change once 44 came."""
+    """A board: it answers the byte 42 by all its squares and 41 by its clock. It sends each change
+    of a square once 44 or 4b came, and after 4b each one of its clock, too."""
 
     def __init__(self, path):
         self.path = pathlib.Path(path)
         self.codes = bytearray(START)
+        self.clock = (0, 0, ABSENT)
         self.lock = threading.Lock()
         self.said = []  # of each message: the bytes so far, the time, and where the pieces stand
         self.moves = 0
@@ -48,10 +64,10 @@ class Board:
         master, port = pty.openpty()
         # As a serial port that is no terminal: what is sent to it isn't sent back.
         tty.setraw(port)
-        # Where no host reads, what the board says is lost, and the board goes on.
+        # If no host reads, what the board sends is lost, and the board goes on.
         os.set_blocking(master, False)
         with self.lock:
-            self.ends, self.count, self.tells = (master, port), 0, False
+            self.ends, self.count, self.tells, self.tells_clock = (master, port), 0, False, False
         self.path.unlink(missing_ok=True)
         self.path.symlink_to(os.ttyname(port))
 
@@ -82,22 +98,31 @@ class Board:
             time.sleep(0.01)
 
     def put(self, name, code):
-        """A piece is put on a square, or taken from it. Told if somebody listens."""
+        """A piece is put on a square, or taken from it. It is sent if somebody listens."""
         with self.lock:
             self.codes[square(name)] = code
             if self.ends and self.is_on and self.tells:
                 self.write(bytes([0x8E, 0, 5, square(name), code]))
 
+    def show_clock(self, left, right, status):
+        """The clock shows other times, in seconds. They are sent if somebody listens."""
+        with self.lock:
+            self.clock = left, right, status
+            if self.ends and self.is_on and self.tells_clock:
+                self.write(clock_message(*self.clock))
+
     def answer(self):
-        """Answers what has come from the host."""
+        """Sends the replies to what has come from the host."""
         with self.lock:
             for byte in os.read(self.ends[0], 1000) if self.ends else b"":
                 if not self.is_on:
                     pass
-                elif byte == 0x44:
-                    self.tells = True
+                elif byte in (0x44, 0x4B):
+                    self.tells, self.tells_clock = True, byte == 0x4B
                 elif byte == 0x42:
                     self.write(b"\x86\x00\x43" + self.codes)
+                elif byte == 0x41:
+                    self.write(clock_message(*self.clock))
 
     def play(self):
         """Plays its next move, forth through the game and then back."""

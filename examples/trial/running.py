@@ -1,4 +1,4 @@
-"""What the trials run beside each other: a broker, boards that are told to it, and the page."""
+"""What the trials run beside each other: a broker, boards that are published, and the page."""
 
 import os
 import pathlib
@@ -24,13 +24,14 @@ def absent(packages):
     return [name for name, program in packages.items() if not shutil.which(program, path=ALIVE)]
 
 
-def missing():
-    """The packages of Debian that the page needs and that aren't here."""
-    found = absent({"mosquitto": "mosquitto", "mosquitto-clients": "mosquitto_pub"})
+def missing(is_shown=True):
+    """The packages of Debian that aren't here, and that the page needs, or else its server."""
+    found = absent({"mosquitto": "mosquitto"})
+    found += absent({"mosquitto-clients": "mosquitto_pub"}) if is_shown else []
     quiet = {"stdout": subprocess.DEVNULL, "stderr": subprocess.DEVNULL}
     if not shutil.which(PYTHON) or subprocess.run([PYTHON, "-c", MODULE], **quiet).returncode:
         found.append("python3-paho-mqtt")
-    return found + ([] if chromium.find() else ["chromium"])
+    return found + ([] if chromium.find() or not is_shown else ["chromium"])
 
 
 def free_port():
@@ -105,7 +106,7 @@ class Room:
         return ran
 
     def stop(self, ran):
-        """Ends a run as a user does, and answers which of its processes stayed behind."""
+        """Ends a run as a user does, and returns which of its processes are left."""
         if ran.poll() is not None:
             return []
         below = family(ran.pid)
@@ -127,18 +128,26 @@ class Room:
         if not holds(lambda: is_open(self.broker_port)):
             raise RuntimeError("the broker doesn't start")
 
-    def make_boards(self, count):
-        self.boards = boards.Boards(self.path, count)
+    def make_boards(self, count, folder="."):
+        self.boards = boards.Boards(self.path / folder, count)
+
+    @property
+    def at_broker(self):
+        return ["--broker", "127.0.0.1", "--broker-port", self.broker_port]
 
     def broadcast(self, name, period=10):
-        """Has a board told to the broker, under its number."""
+        """Has a board published to the broker, under its number."""
         words = [self.boards[name - 1].path, name, "--period", period]
-        broker = ["--broker", "127.0.0.1", "--broker-port", self.broker_port]
-        return self.start(EXAMPLES / "broadcast", *words, *broker)
+        return self.start(EXAMPLES / "broadcast", *words, *self.at_broker)
 
-    def serve(self):
-        words = ["--broker", "127.0.0.1", "--broker-port", self.broker_port]
-        return self.start(EXAMPLES / "page" / "serve", *words, "--port", self.page_port)
+    def broadcast_all(self, folder, names, period=10):
+        """Has all boards of a folder published, under the names of a file."""
+        words = ["--all", folder, "--names", names, "--period", period]
+        return self.start(EXAMPLES / "broadcast", *words, *self.at_broker)
+
+    def serve(self, *words):
+        words = [*self.at_broker, "--port", self.page_port, *words]
+        return self.start(EXAMPLES / "page" / "serve", *words)
 
     def open_page(self, first=""):
         self.browser = chromium.Chromium()

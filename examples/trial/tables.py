@@ -1,6 +1,6 @@
-"""A table for the trials of the UCI engine: a display that nobody sees, a board with a player who
-moves by chance, and the engine as the chess program starts it. It also reads the games that a chess
-program has saved."""
+"""A table for the trials of the UCI engine: a display that nobody sees, a board
+with a player who moves by chance, and the engine as the chess program starts
+it. It also reads the games that a chess program has saved."""
 
 import argparse
 import os

@@ -1,0 +1,202 @@
+"""What the topics of a board say, and all that is known of a board by them."""
+
+from __future__ import annotations
+
+import json
+import re
+from dataclasses import dataclass, field
+from typing import Any
+
+# The topics of a board, below boards/NAME. Of several that are retained, a server hears them in
+# this order: whether a position is right is known before it comes.
+STATE, POSITION, CLOCK, PLAYERS, COUNTERS = TOPICS = ("state", "", "clock", "players", "counters")
+# What a board may be. In doubt is one whose line lost bytes, until it has reported all squares.
+STATES = ("following", "doubt", "silent", "gone", "ended", "unknown")
+MOST_BYTES = 500  # of a message
+MOST_NAME = MOST_PLAYERS = 200  # bytes
+# A line of `dgt picture`: how many bytes had come, and where the pieces stand.
+LINE = re.compile(r"(\d{8,20}) ([PRNBKQprnbkqXYZ1-8]{1,8}(?:/[PRNBKQprnbkqXYZ1-8]{1,8}){7})")
+# One of `dgt picture --clock`.
+TIME = r"(\d{1,3}:[0-5]\d:[0-5]\d)"
+TIMES = re.compile(rf"\d{{8,20}} clock {TIME} {TIME} (running|stopped) (white|black|-)( low)?")
+NO_CLOCK = re.compile(r"\d{8,20} clock none")
+
+
+class Refused(Exception):
+    """A message says nothing that its topic may say."""
+
+
+@dataclass(frozen=True)
+class Clock:
+    """What a clock shows, in seconds; or that there is none."""
+
+    is_none: bool = True
+    left: int = 0
+    right: int = 0
+    running: bool = False
+    turn: str | None = None
+    low: bool = False
+
+
+def is_rank(text: str) -> bool:
+    """Eight squares: a letter is one, a digit is its number of empty ones."""
+    return sum(int(part) if part.isdigit() else 1 for part in text) == 8
+
+
+def read_position(text: str) -> tuple[int, str]:
+    """The count of bytes, and the placement."""
+    found = LINE.fullmatch(text)
+    if not found or not all(map(is_rank, found[2].split("/"))):
+        raise Refused
+    return int(found[1]), found[2]
+
+
+def seconds(text: str) -> int:
+    hours, minutes, rest = map(int, text.split(":"))
+    return 3600 * hours + 60 * minutes + rest
+
+
+def read_clock(text: str) -> Clock:
+    if NO_CLOCK.fullmatch(text):
+        return Clock()
+    if not (found := TIMES.fullmatch(text)):
+        raise Refused
+    left, right, runs, turn, low = found.groups()
+    return Clock(False, seconds(left), seconds(right), runs == "running",
+                 None if turn == "-" else turn, bool(low))
+
+
+def read_state(text: str) -> str:
+    if text not in STATES[:-1]:
+        raise Refused
+    return text
+
+
+def read_players(text: str) -> tuple[str, str]:
+    white, dash, black = text.partition(" - ")
+    if not white.strip() or not black.strip() or " - " in black or not text.isprintable():
+        raise Refused
+    if len(text.encode()) > MOST_PLAYERS:
+        raise Refused
+    return white.strip(), black.strip()
+
+
+def read_counters(text: str) -> dict[str, int]:
+    """How often something happened, by names."""
+    try:
+        read = json.loads(text)
+    except (ValueError, RecursionError):
+        raise Refused from None
+    if not isinstance(read, dict) or len(read) > 10:
+        raise Refused
+    if all(re.fullmatch("[a-z]{1,20}", name) and type(count) is int and 0 <= count < 2**53
+           for name, count in read.items()):
+        return read
+    raise Refused
+
+
+READERS = {STATE: read_state, POSITION: read_position, CLOCK: read_clock, PLAYERS: read_players,
+           COUNTERS: read_counters}
+
+
+def read(topic: str, payload: bytes) -> Any:
+    """What a message of a topic says. None is that an empty one takes back what was said."""
+    if not payload:
+        return None
+    try:
+        text = payload[:MOST_BYTES + 1].decode()
+    except UnicodeDecodeError:
+        raise Refused from None
+    if len(payload) > MOST_BYTES or not text.isascii() and topic != PLAYERS:
+        raise Refused
+    return READERS[topic](text)
+
+
+def turned(placement: str) -> str:
+    """The placement as it is seen from the other side."""
+    return placement[::-1]
+
+
+@dataclass
+class Board:
+    """What is known of a board."""
+
+    name: str
+    said: dict[str, Any] = field(default_factory=dict)  # of each topic, what it said last
+    game: dict[str, Any] | None = None
+    is_turned: bool = False  # White's pieces began on the ranks 8 and 7
+    is_fresh: bool = False  # its position was heard since the broker came
+    heard_at: float = 0.0
+    clock_at: float = 0.0
+
+    @property
+    def is_shown(self) -> bool:
+        return POSITION in self.said
+
+    @property
+    def is_sure(self) -> bool:
+        """Whether the board stands as its position says."""
+        return self.is_fresh and self.state in ("following", "unknown")
+
+    @property
+    def state(self) -> str:
+        return str(self.said.get(STATE, "unknown"))
+
+    @property
+    def placement(self) -> str:
+        return str(self.said[POSITION][1])
+
+    @property
+    def clock(self) -> Clock | None:
+        clock: Clock | None = self.said.get(CLOCK)
+        return clock
+
+    @property
+    def players(self) -> tuple[str, str] | None:
+        players: tuple[str, str] | None = self.said.get(PLAYERS)
+        return players
+
+    def hear(self, topic: str, said: Any, now: float) -> None:
+        """Notes what a topic says. A clock's time that was heard before is as old as then: a broker
+        that comes back repeats it."""
+        self.heard_at = now
+        if topic == CLOCK and said != self.clock:
+            self.clock_at = now
+        if said is None:
+            self.said.pop(topic, None)
+        else:
+            self.said[topic] = said
+        if topic == POSITION:
+            self.is_fresh = said is not None
+            if said is None:
+                self.game, self.is_turned = None, False
+
+    def event(self) -> dict[str, Any]:
+        """What a page is sent. `at` of the clock is a time here: see `written`."""
+        count, placement = self.said[POSITION]
+        players, clock = self.players, self.clock
+        return {
+            "board": self.name,
+            "count": count,
+            "placement": turned(placement) if self.is_turned else placement,
+            "state": "following" if self.state == "doubt" else self.state,
+            "players": players and {"white": players[0], "black": players[1]},
+            "clock": None if clock is None else {"none": True} if clock.is_none else {
+                "left": clock.left, "right": clock.right, "running": clock.running,
+                "turn": clock.turn, "low": clock.low, "at": self.clock_at},
+            "game": self.game,
+        }
+
+
+def written(event: dict[str, Any], now: float) -> str:
+    """An event as JSON: `at` of each clock is how many milliseconds ago it was heard."""
+
+    def aged(board: dict[str, Any]) -> dict[str, Any]:
+        clock = board["clock"]
+        if not clock or "at" not in clock:
+            return board
+        return {**board, "clock": {**clock, "at": max(0, round(1000 * (now - clock["at"])))}}
+
+    if "boards" in event:
+        event = {**event, "boards": [aged(board) for board in event["boards"]]}
+    return json.dumps(aged(event) if "board" in event else event)
