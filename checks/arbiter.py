@@ -3,10 +3,10 @@ sends with the one that was made on the board. The board's side moves by chance,
 plays to win, so most games end with a mate.
 
 A third of the games begin with a FEN. In half of them the board has Black, in some it is turned,
-and in half of them the line loses and alters bytes. Moves are made as people make them: pieces are
-slid, taken ones are lifted first or last, castling begins with the king or the rook, a pawn is put
-on the last rank before the piece that it becomes, moves are begun and taken back, and the own move
-may come before the answer was put.
+and in half of them the line loses and alters bytes. Moves are made as people make them. Pieces are
+slid, taken ones are lifted first or last, and castling begins with the king or the rook. A pawn is
+put on the last rank before the piece that it becomes. Moves are begun and taken back, and the own
+move may come before the answer was put.
 """
 
 import pathlib
@@ -206,7 +206,7 @@ def play(dgt, seed):
 
 
 def check(dgt, pool, count):
-    """Plays so many games. Returns what was tried."""
+    """Plays `count` games. Returns what was tried."""
     begun, total = time.monotonic(), {}
     for wrong, counts in pool.map(lambda seed: play(dgt, seed), range(count)):
         if wrong:

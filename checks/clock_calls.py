@@ -1,12 +1,12 @@
 """Checks the calls of the package for Python that make commands for the clock: on a host, on a
-follower, and on a board that is followed. Their bytes are those of docs/PROTOCOL.md
-and docs/PROGRAM.md."""
+follower, and on a board that is followed. Their bytes are those of docs/PROTOCOL.md and
+checks/lines.txt."""
 
 import pathlib
 
-DOCS = pathlib.Path(__file__).resolve().parent.parent / "docs"
-# The call, its arguments, and the bytes: the tables of clock messages, segments, commands by name
-# and lines of commands.
+LINES = pathlib.Path(__file__).resolve().parent / "lines.txt"
+# The call, its arguments, and the bytes: the tables of clock messages, segments and commands by
+# name.
 ROWS = [
     ("display", ["123456"], "2b 0b 03 01 4f 5b 06 7d 6d 66 00 00 00"),
     ("display", ["-12345"], "2b 0b 03 01 5b 06 40 6d 66 4f 00 00 00"),
@@ -28,7 +28,7 @@ ROWS = [
     ("button", [], "2b 03 03 08 00"),
     ("clock_version", [], "2b 03 03 09 00"),
 ]
-# Those that a row of the document shows whole.
+# Those that a row of checks/lines.txt shows whole.
 SHOWN = [ROWS[at][2] for at in (1, 2, 5, 8, 16, 17, 18)]
 DIGITS = "text must be at most 6 digits, spaces and hyphens: "
 ASCII = "text must be at most 8 ASCII characters: "
@@ -99,7 +99,7 @@ def check_rows(dgt):
         wanted(f"{call}, taken", board.take(sent), (len(sent), message))
         [answer] = dgt.Decoder().feed(b"".join(board.messages()))
         wanted(f"{call}, acknowledged", tuple(answer.ack[:2]), (0x10, sent[3]))
-    text = "".join((DOCS / page).read_text() for page in ("PROTOCOL.md", "PROGRAM.md"))
+    text = LINES.read_text()
     wanted("rows that are not shown", [row for row in SHOWN if f"| `{row}` |" not in text], [])
 
 

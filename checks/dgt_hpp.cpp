@@ -1,6 +1,6 @@
 // Tries dgt.hpp and dgt_port.hpp. Without a word it makes each call once at least, exits with 1 and
 // prints the first thing that is not as these headers say, or exits with 0. With a word it reads
-// standard input in chunks of so many bytes as the second word says:
+// standard input in chunks of as many bytes as the second word says:
 //
 //     events N, host N   writes the lines of `dgt monitor`, by a Decoder or a Host
 //     pictures N         writes the lines of `dgt picture`, by a Host
@@ -142,7 +142,7 @@ void write_line(std::size_t place, const std::string &line) {
 
 using Step = std::function<std::size_t(dgt::ByteView, std::size_t)>;
 
-/// Hands the bytes of standard input in chunks to a step that uses some of them, and is told how
+/// Hands the bytes of standard input in chunks to a step that uses some of them, and learns how
 /// many came before. Returns how many there were.
 std::size_t in_chunks(std::size_t size, const Step &step) {
     dgt::Bytes chunk(size);
@@ -164,6 +164,29 @@ void write_rest(std::size_t place, std::size_t rest) {
 std::size_t write_event(const dgt::Heard &heard, std::size_t before) {
     if (heard.event) write_line(before + heard.used, text(*heard.event));
     return heard.used;
+}
+
+/// A message is viewed from the bytes that it is encoded as. Other events are not encoded.
+void check_encoded(const dgt::Event &event) {
+    try {
+        dgt::Bytes bytes = dgt::encode_message(event);
+        auto code = static_cast<std::uint8_t>(bytes.at(0) - 128);
+        CHECK(text(dgt::view_message(code, dgt::ByteView(bytes).after(3))) == text(event));
+    } catch (const std::invalid_argument &) {
+        std::string line = text(event);
+        std::string name = line.substr(0, line.find(' '));
+        CHECK(name == "refused" || name == "cut" || name == "badlength" || name == "stray");
+    }
+}
+
+void check_encoded(const dgt::Word &word) {
+    try {
+        std::optional<dgt::Word> viewed = dgt::view_command(dgt::encode_command(word));
+        CHECK(viewed && text(*viewed) == text(word));
+    } catch (const std::invalid_argument &) {
+        std::string line = text(word);
+        CHECK(line.substr(0, 3) == "bad" || line.substr(0, 5) == "stray");
+    }
 }
 
 std::size_t write_picture(dgt::Host &host, dgt::ByteView bytes, std::size_t before) {
@@ -189,7 +212,11 @@ int run(const std::string &what, std::size_t size) {
         write_rest(n, decoder->finish());
     } else if (what == "host") {
         std::size_t n = in_chunks(size, [&](dgt::ByteView bytes, std::size_t before) {
-            return write_event(host->hear_one(bytes), before);
+            host->hear(bytes, [&](const dgt::Event &event, std::size_t place) {
+                write_line(before + place, text(event));
+                check_encoded(event);
+            });
+            return bytes.size();
         });
         write_rest(n, host->unread());
     } else if (what == "pictures") {
@@ -200,6 +227,7 @@ int run(const std::string &what, std::size_t size) {
         std::size_t n = in_chunks(size, [&](dgt::ByteView bytes, std::size_t before) {
             dgt::Read read = reader.feed_one(bytes);
             if (read.word) write_line(before + read.used, text(*read.word));
+            if (read.word) check_encoded(*read.word);
             return read.used;
         });
         write_rest(n, reader.finish());
@@ -250,6 +278,7 @@ void values() {
     CHECK(start.placement() == START && start != none && start == dgt::Position(START));
     CHECK(none.placement() == "8/8/8/8/8/8/8/8" && none[dgt::Square("e1")] == Piece::none);
     CHECK(start[dgt::Square("e1")] == Piece::white_king && start.codes()[60] == 5);
+    CHECK(start.differ(none) == UINT64_C(0xffff00000000ffff) && none.differ(none) == 0);
     CHECK(refuses([] { dgt::Position("8/8"); }) && refuses([] { dgt::Position(""); }));
     std::array<std::uint8_t, 64> codes{};
     codes[63] = 16;
@@ -258,6 +287,30 @@ void values() {
     dgt::Times times{{1, 2, 3, 4}, {5, 6, 7, 0}, 0x09};
     CHECK(times.running() && times.black_turn() && !times.lever() && !times.white_turn());
     CHECK(times != dgt::Times{} && !times.battery_low() && dgt::NoClock{} == dgt::NoClock{});
+}
+
+void encodings() {
+    using dgt::Bytes;
+    CHECK(hex(dgt::encode_message(dgt::Field{dgt::Square("e2"), dgt::Piece::none})) ==
+          "8e00053400");
+    CHECK(hex(dgt::encode_message(dgt::Trademark{Bytes{'D', 'G'}, true})) == "9200054447");
+    CHECK(hex(dgt::encode_message(dgt::Ack{{0x90, 9, 0x14, 0x80}, 3})) == "8d000a2a10091a140003");
+    CHECK(refuses([] { dgt::encode_message(dgt::Cut{3}); }));
+    CHECK(refuses([] { dgt::encode_message(dgt::Version{128, 0, false}); }));
+    CHECK(refuses([] { dgt::encode_message(dgt::Other{0x12, {}}); }));
+    CHECK(refuses([] { dgt::encode_message(dgt::Other{5, Bytes{128}}); }));
+    dgt::Event field = dgt::view_message(0x0e, Bytes{52, 0});
+    CHECK(text(field) == "field e2 ." && text(dgt::view_message(5, {})) == "other 05 -");
+    CHECK(text(dgt::view_message(0x0e, Bytes{52, 16})) == "refused 0e badpiece 1");
+    CHECK(refuses([] { dgt::view_message(128, {}); }));
+    CHECK(refuses([] { dgt::view_message(5, Bytes{128}); }));
+    CHECK(hex(dgt::encode_command(dgt::Asked{dgt::Ask::dump})) == "42");
+    CHECK(hex(dgt::encode_command(dgt::ClockMessage{DGT_ID_BEEP, Bytes{3}})) == "2b04030b0300");
+    CHECK(hex(dgt::encode_command(dgt::Leds{Bytes{1, 2}})) == "60020102");
+    CHECK(refuses([] { dgt::encode_command(dgt::BadEnd{}); }));
+    CHECK(refuses([] { dgt::encode_command(dgt::Leds{Bytes(256)}); }));
+    CHECK(text(dgt::view_command(Bytes{0x60, 1, 7}).value()) == "leds 07");
+    CHECK(!dgt::view_command(Bytes{0x60, 1}) && !dgt::view_command({}));
 }
 
 void hosts() {
@@ -332,6 +385,9 @@ void exceptions() {
     std::vector<std::string> lines;
     auto keep = [&](const dgt::Event &event) { lines.push_back(text(event)); };
     decoder.feed(dgt::ByteView(fields).after(5), keep);
+    std::vector<std::size_t> places;
+    decoder.feed(fields, [&](const dgt::Event &, std::size_t place) { places.push_back(place); });
+    CHECK(places == (std::vector<std::size_t>{5, 10, 11}));
     CHECK(lines == (std::vector<std::string>{"field e4 P", "stray 31"}));
     dgt::Follower follower;
     CHECK(throws<int>([&] { follower.hear(dgt::now(), fields, [] { throw 7; }); }));
@@ -379,7 +435,8 @@ void followers() {
     }));
     follower.set_mode(dgt::Mode::update_nice);
     CHECK(follower.ask(seconds(1)).size() == DGT_MAX_ASKING);
-    CHECK(follower.hear_one(seconds(1), dgt::Bytes{0x8d, 0, 10, 1, 2, 3, 4, 5, 6, 9, 1}) == 10);
+    CHECK(follower.hear_one(seconds(1), dgt::Bytes{0x8d, 0}) == 2 && follower.unread() == 2);
+    CHECK(follower.hear_one(seconds(1), dgt::Bytes{10, 1, 2, 3, 4, 5, 6, 9, 1}) == 8);
     CHECK(follower.clock() == dgt::Clock(dgt::Times{{1, 2, 3}, {4, 5, 6}, 9}));
     CHECK(hex(follower.send(dgt::Ask::version)) == "4d" && follower.send_leds({}).size() == 2);
     CHECK(refuses([&] { follower.ask(dgt::Milliseconds(-1)); }));
@@ -412,10 +469,13 @@ void boards() {
     CHECK(sent == "8e00053005 8e00053800 " && !board.poll());
     CHECK(board.position() == dgt::Position("8/8/8/8/8/8/K7/7k"));
     for (int i = 0; i < 8; i++) CHECK(board.take(dgt::Bytes{0x42}).used == 1);
+    CHECK(board.owed_len() == 8 && board.partial() == 0);
     dgt::Taken busy = board.take(dgt::Bytes{0x42});
     CHECK(busy.busy && busy.used == 0 && !busy.word);
     board.line_lost();
     CHECK(!board.owes() && board.mode() == dgt::Mode::idle);
+    CHECK(board.take(dgt::Bytes{0x2b, 4}).used == 2 && board.partial() == 2);
+    CHECK(board.take(dgt::Bytes{3, 0x0b, 1, 0}).used == 4 && board.partial() == 0);
     board.hand_clock(dgt::Times{{9, 59, 59, 7}, {}, 0x5f});
     CHECK(refuses([&] { board.hand_clock(dgt::Times{{10}, {}, 0}); }));
     CHECK(refuses([&] { board.hand_clock(dgt::Times{{}, {}, 0x20}); }));
@@ -486,6 +546,7 @@ void ports() {
 int main(int count, char **words) {
     if (count == 3) return run(words[1], static_cast<std::size_t>(std::atoi(words[2])));
     values();
+    encodings();
     hosts();
     clock_commands(dgt::Host());
     clock_commands(dgt::Follower());

@@ -13,7 +13,7 @@
  *     at-faults    a host that begins anew at each fault that it notices
  *     once         a host that asks once, at the start
  *
- * It prints a line for each row of faults, of HOURS hours, and one for RUNS runs, in which the
+ * It prints a line for each row of faults, of HOURS hours, and one for RUNS runs. In these the
  * faults stop and the picture has to become right, and the clock with it if the host is `clock`.
  * Times are in 24ths of a millisecond. */
 #include "dgt.h"

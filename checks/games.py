@@ -1,9 +1,9 @@
 """Checks the rules of chess and the recognition of moves of the package for Python.
 
-The rules: the numbers of positions after so many moves (perft) of seven positions, as they are
+The rules: the numbers of positions after some moves (perft) of seven positions, as they are
 published. The recognition: each case of the table in adapters/dgtnix/test_moves.c, which the
-adapter for eboard passes too, and games that are made by chance and played by hands that slide
-pieces, take moves back, answer before the move was put down, and put pieces on wrong squares.
+adapter for eboard passes too, and random games. The hands that play these slide pieces, take moves
+back, answer before the move was put down, and put pieces on wrong squares.
 """
 
 import pathlib
@@ -35,7 +35,7 @@ def wanted(what, got, right):
 
 
 def perft(state, depth):
-    """The number of positions after so many moves."""
+    """The number of positions after `depth` moves."""
     moves = state.moves()
     return len(moves) if depth == 1 else sum(perft(after, depth - 1) for after in moves.values())
 
@@ -118,8 +118,8 @@ class Hand:
 
 TABLE = pathlib.Path(__file__).resolve().parent.parent / "adapters" / "dgtnix" / "test_moves.c"
 # What the recogniser reports in place of what the adapter reports, by the name of the case. It
-# also reports what is taken back and made again, replaces moves of either side, waits for the rook
-# of a castling and for the piece that a pawn becomes, and reports that a game begins.
+# also reports what is taken back and made again, and replaces moves of either side. It waits for
+# the rook of a castling and for the piece that a pawn becomes, and reports that a game begins.
 OTHERS = {
     "seen once more while it rests": "e2e4 -e2e4",
     "a queen's move is none that looks like it": "QUEEN_IN_CORNER h1f1 -h1f1",

@@ -4,7 +4,7 @@ monitor`, `dgt picture`, `dgt commands`, `dgt ask`, `dgt board` and `dgt simulat
 Written from these pages and the program's help, and not from its sources, so that both can
 be held against each other: checks/hostile does that. Squares are numbers, pieces their codes, a
 position is a list of 64 pieces. A clock is the seven bytes of its message's body, since each times
-or no-clock message has one spelling.
+or no-clock message has one encoding.
 """
 
 import re
@@ -207,9 +207,20 @@ def monitor(data):
     return "".join(lines).encode()
 
 
-def picture(data, doubt=False):
-    """What `dgt picture` writes, or `dgt picture --doubt`."""
-    decoder, lines, squares, sure = Decoder(), [], None, False
+def shown_clock(body):
+    """The text of a clock for `dgt picture --clock`, by the body of its message."""
+    b3, b4, b5, b6, b7, b8, status = body
+    if status & 0x20:
+        return "clock none"
+    turn = {0x08: "black", 0x10: "white"}.get(status & 0x18, "-")
+    words = [f"clock {b3 & 0x0F}:{b4:02x}:{b5:02x} {b6 & 0x0F}:{b7:02x}:{b8:02x}"]
+    words += ["running" if status & 0x01 else "stopped", turn]
+    return " ".join(words + ["low"] * bool(status & 0x04))
+
+
+def picture(data, doubt=False, clock=False):
+    """What `dgt picture` writes, or `dgt picture` with `--doubt` or `--clock`."""
+    decoder, lines, squares, sure, told = Decoder(), [], None, False, None
     for offset, byte in enumerate(data, 1):
         text = decoder.take(byte) or ""
         if text.startswith("dump "):
@@ -217,6 +228,10 @@ def picture(data, doubt=False):
         elif text.startswith("field ") and squares:
             square, piece = decoder.message[1]
             squares[square] = piece
+        elif text.startswith(("times ", "noclock ")):
+            before, told = told, shown_clock(decoder.message[1])
+            lines += [f"{offset:08} {told}\n"] if clock and told != before else []
+            continue
         else:
             if text.startswith(("refused ", "cut ", "badlength", "stray ")):
                 lines += [f"{offset:08} doubt\n"] if doubt and sure else []

@@ -116,6 +116,7 @@ class Line:
 
 def see(view):
     """What a view says, but for its clock and its bytes."""
+    wanted("whether it is silent", view.silent, view.away == SILENT)
     return view.picture and view.picture.placement, view.in_doubt, view.away
 
 

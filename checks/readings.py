@@ -5,7 +5,7 @@ from __future__ import annotations
 
 import importlib
 import unittest
-from typing import Any
+from typing import Any, cast
 
 import dgt
 from hypothesis import given
@@ -38,8 +38,24 @@ class Chunks(unittest.TestCase):
             self.assertEqual(texts(by_list.feed(chunk)), right)
             self.assertEqual(texts(list(one_by_one.feed_each(chunk))), right)
             self.assertEqual(by_list.rest, len(plain.unfinished))
+            self.assertEqual(by_list.offset, one_by_one.offset)
         self.assertEqual(one_by_one.finish(), len(plain.unfinished))
         self.assertEqual(one_by_one.rest, 0)
+
+    @given(some.chunks(some.BOARDS_BYTES))
+    def test_offsets(self, chunks: list[bytes]) -> None:
+        plain, data = model.Decoder(), b"".join(chunks)
+        read = map(plain.take, data)
+        right = [(place, text) for place, text in enumerate(read, start=1) if text]
+        decoder, host = dgt.Decoder(), dgt.Host()
+        placed = [pair for chunk in chunks for pair in decoder.feed_placed(chunk)]
+        self.assertEqual([(place, str(event)) for place, event in placed], right)
+        heard = [(host.offset, str(event)) for chunk in chunks for event in host.hear_each(chunk)]
+        self.assertEqual(heard, right)
+        self.assertEqual((decoder.offset, host.offset), (len(data), len(data)))
+        decoder.reset()
+        host.line_lost()
+        self.assertEqual((decoder.offset, host.offset), (0, 0))
 
     @given(some.chunks(some.BOARDS_BYTES))
     def test_host(self, chunks: list[bytes]) -> None:
@@ -75,6 +91,9 @@ class Chunks(unittest.TestCase):
         board = dgt.Board(position)
         answers = b"".join(message for chunk in chunks for message in board.answers(chunk))
         self.assertEqual(answers, model.serve(b"".join(chunks), list(position.codes)))
+        reader = dgt.CommandDecoder()
+        reader.feed(b"".join(chunks))
+        self.assertEqual((board.partial, board.owed_len), (reader.rest, 0))
 
 
 class Messages(unittest.TestCase):
@@ -84,6 +103,8 @@ class Messages(unittest.TestCase):
     def check(self, message: bytes, right_bytes: bytes, right: dgt.Event) -> None:
         self.assertEqual(message, right_bytes)
         self.assertEqual(dgt.Decoder().feed(message), [right])
+        self.assertEqual(dgt.view_message(message[0] - 128, message[3:]), right)
+        self.assertEqual(dgt.encode_message(cast(dgt.Message, right)), message)
 
     @given(some.POSITIONS, some.CLOCKS)
     def test_dump_and_clock(self, position: dgt.Position, clock: dgt.Clock) -> None:
@@ -134,6 +155,20 @@ class Messages(unittest.TestCase):
         right = kinds[code](part * count) if code in kinds else dgt.Other(code, part * count)
         self.assertEqual(event, right)
 
+    @given(some.SEVEN_BIT, st.one_of(some.seven_bit(0, 9), some.seven_bit(64, 64)))
+    def test_viewed(self, code: int, body: bytes) -> None:
+        (read,) = dgt.Decoder().feed(some.spell(code, body))
+        self.assertEqual(dgt.view_message(code, body), read)
+
+    @given(some.BYTES, st.binary(max_size=3))
+    def test_no_message(self, code: int, body: bytes) -> None:
+        if code > 127 or max(body, default=0) > 127:
+            with self.assertRaises(dgt.BadValue):
+                dgt.view_message(code, body)
+        if code > 127 or max(body, default=0) > 127 or code in (*model.SIZES, 0x12, 0x20, 0x22):
+            with self.assertRaises(dgt.BadValue):
+                dgt.encode_message(dgt.Other(code, body))
+
 
 class Commands(unittest.TestCase):
     """What a host sends is what a reader of commands reads, and `dgt ask` has the same bytes for
@@ -142,6 +177,9 @@ class Commands(unittest.TestCase):
     def check(self, sent: bytes, right: dgt.Word) -> None:
         reader = dgt.CommandDecoder()
         self.assertEqual((reader.feed(sent), reader.rest), ([right], 0))
+        self.assertEqual(dgt.view_command(sent), right)
+        self.assertIsNone(dgt.view_command(sent + b"\x42"))
+        self.assertEqual(dgt.encode_command(cast(dgt.Command, right)), sent)
         self.assertEqual(model.ask(word_texts([right])), sent)
 
     @given(some.ASKS)
@@ -180,6 +218,12 @@ class Commands(unittest.TestCase):
 
 class Placements(unittest.TestCase):
     """Placements are written and read as checks/model.py does it."""
+
+    @given(some.POSITIONS, some.POSITIONS)
+    def test_differ(self, one: dgt.Position, other: dgt.Position) -> None:
+        pairs = zip(one.codes, other.codes)
+        right = sum(1 << at for at, (own, others) in enumerate(pairs) if own != others)
+        self.assertEqual(one.differ(other), right)
 
     @given(some.POSITIONS)
     def test_round_trip(self, position: dgt.Position) -> None:

@@ -44,7 +44,7 @@ def started():
 
 
 def clocks(following, count, end):
-    """The texts of the next changes of the clock, so many of them at most, up to a time."""
+    """The texts of the next changes of the clock, at most `count` of them, up to a time."""
     texts, shown = [], following.view.clock
     while len(texts) < count and (view := following.wait(end)):
         if view.clock != shown:

@@ -14,7 +14,7 @@ import games
 import pgn_games
 
 INCREMENT = 5
-MOST_STEPS = 1000  # so many steps without any time between them are a busy wait
+MOST_STEPS = 1000  # this number of steps without any time between them are a busy wait
 CENTRE = {"1-0": ("e4", "d5"), "0-1": ("e5", "d4"), "1/2-1/2": ("d4", "d5")}
 RUNS, WHITE_TURN, BLACK_TURN = 0x01, 0x10, 0x08
 # What is counted of games that were played. Positions are those that had rested, and the last are
@@ -53,6 +53,22 @@ class Timer:
         return self.dgt.Times(*(sides if self.is_white_left else sides[::-1]), turn)
 
 
+class Compared:
+    """A file of games, and at each writing the text of the game is made anew, too."""
+
+    def __init__(self, table, file):
+        self.table, self.file = table, file
+
+    def __getattr__(self, name):
+        return getattr(self.file, name)
+
+    def put(self, text):
+        right = self.table.keeper.game.text()
+        if text != right:
+            raise Wrong(f"the text {text!r} has grown, and anew it is {right!r}")
+        self.file.put(text)
+
+
 class Table(games.Hand):
     """A board, a clock and the program. `told` has its lines, and `warned` what standard error
     gets. `spoil` is what the line makes of each message."""
@@ -66,8 +82,9 @@ class Table(games.Hand):
         self.squares = list(letters or dgt.Position.start().letters)
         self.board = dgt.Board(self.position(), timer.times if timer else dgt.NoClock())
         self.steps = following._Steps(2.0, 6, dgt.Mode.UPDATE_NICE)
-        self.keeper = game.Games(self.told.append, self.warned.append, file, tags, white_clock, fen,
-                                 "port")
+        compared = file and Compared(self, file)
+        self.keeper = game.Games(self.told.append, self.warned.append, compared, tags, white_clock,
+                                 fen, "port")
         self.rest(1.5)
 
     @property
@@ -168,7 +185,7 @@ class Played(games.Game):
     """A game made by chance, at a table. `clocks` has the time of each move's player after it."""
 
     long = 3.2
-    most_fast = 2  # so many times in a row moves are made before the last ones have rested
+    most_fast = 2  # how often in a row moves are made before the last ones have rested
 
     def __init__(self, dgt, seed, fen, file):
         self.file, self.clocks, self.pending = file, [], None
@@ -292,7 +309,7 @@ class AtGame(Table):
 
 
 def room():
-    """Where files are made without waiting for a disk, if there is such a place."""
+    """A place in which files are made without waiting for a disk, if there is one."""
     memory = pathlib.Path("/dev/shm")
     return memory if os.access(memory, os.W_OK) else None
 

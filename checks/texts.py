@@ -1,5 +1,5 @@
-"""Checks the texts of events of the package for Python: they are those of `dgt monitor`, as the
-table of whole messages in docs/PROGRAM.md has them."""
+"""Checks the texts of events of the package for Python: they are those of `dgt monitor`, as
+checks/lines.txt has them."""
 
 import pathlib
 import re
@@ -7,7 +7,7 @@ import typing
 
 import model
 
-PROGRAM = pathlib.Path(__file__).resolve().parent.parent / "docs" / "PROGRAM.md"
+LINES = pathlib.Path(__file__).resolve().parent / "lines.txt"
 LINE = re.compile(r"`\d{8} ([^`]*)`")
 
 
@@ -16,8 +16,8 @@ class Wrong(Exception):
 
 
 def rows(section):
-    """The cells of each row of the table in a section of docs/PROGRAM.md, but for its heading."""
-    _, _, text = PROGRAM.read_text().partition(f"\n## {section}\n")
+    """The cells of each row of a section of checks/lines.txt, but for its heading."""
+    _, _, text = LINES.read_text().partition(f"\n## {section}\n")
     lines = [line for line in text.partition("\n## ")[0].splitlines() if line.startswith("| ")]
     return [[cell.strip() for cell in line.strip("| ").split(" | ")] for line in lines[1:]]
 
@@ -26,7 +26,7 @@ def messages():
     """The bytes of each row, and the texts of their events."""
     dump = model.spell(model.DUMP, model.read_placement(model.START)[0])
     yield dump, [f"dump {model.START}"]
-    for data, lines, *_ in rows("Whole messages and their lines"):
+    for data, lines, *_ in rows("Lines of show and monitor"):
         texts = [text for text in LINE.findall(lines) if not text.startswith("unfinished")]
         yield bytes.fromhex(data.strip("`")), texts
 

@@ -1,4 +1,4 @@
-"""What the library for C tells, as the program writes it. `dgt` is the package for Python."""
+"""What the library for C reports, as the program writes it. `dgt` is the package for Python."""
 
 import model
 
@@ -61,6 +61,7 @@ class Hearer:
 
     def __init__(self, host):
         self.host, self.feed, self.feed_each = host, host.hear, host.hear_each
+        self.feed_placed = host.hear_placed
         self.reset = host.line_lost
 
     def finish(self):

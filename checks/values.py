@@ -1,4 +1,4 @@
-"""Checks the values of the package for Python: a position is a sequence of letters, and a time, a
+"""Checks the values of the package for Python. A position is a sequence of letters. A time, a
 clock and an identity are refused when they are made with a value out of its range."""
 
 import collections.abc
