@@ -6,11 +6,23 @@
 //! reported, then the clock. `line_lost` makes the board forget all that was said on a line that is
 //! lost. No call takes memory or waits.
 //!
-//! ```text
-//! take(44)                 each change is reported from now on
-//! change(e2, empty)
-//! poll(..)                 8e 00 05 34 00, then nothing
+//! ```rust
+//! use dgt_board::{Board, Polled};
+//! use dgt_values::{Piece, Square};
+//!
+//! /// Puts a piece on a square, and writes the next message, such as the one that reports it.
+//! /// Returns how many bytes to send.
+//! pub fn put(board: &mut Board, square: Square, piece: Piece, out: &mut [u8]) -> usize {
+//!     board.change(square, piece);
+//!     match board.poll(out) {
+//!         Polled::Wrote(count) => count,
+//!         _ => 0,
+//!     }
+//! }
 //! ```
+//!
+//! After the command `44`, which requests updates, an e2 that becomes empty is reported as
+//! `8e 00 05 34 00`.
 //!
 //! The commands and what they ask for are those of the DGT Electronic Board Protocol Description
 //! (the `dgtbrd` header), single-board mode. This project's own choices are:

@@ -4,6 +4,19 @@
 //! The header is `include/dgt.h`, which says of each call what it does and what a caller owes.
 //! `lib/build` makes the archive and the shared object.
 //!
+//! ```c
+//! #include <dgt.h>
+//!
+//! /* Hears a chunk. If the host has a picture, writes the placement of its pieces to text. */
+//! bool hear(dgt_host *host, const uint8_t *chunk, size_t count, char text[DGT_PLACEMENT_ROOM])
+//! {
+//!     dgt_event event;
+//!     for (size_t at = 0; at < count;)
+//!         at += dgt_host_hear(host, chunk + at, count - at, &event, NULL, 0);
+//!     return dgt_host_placement(host, text);
+//! }
+//! ```
+//!
 //! C has a *handle*, an object of a stated size: a pointer, followed by the room for what it points
 //! to. `DgtHost` is that pointer. Contracts see what the handle owns as its ghost field `inside`,
 //! which is what the crate below says of a host; `get` lends it. So each call carries the clauses

@@ -3,9 +3,23 @@
 //! A [`Command`] is one byte, a clock message `2b size 03 id payload 00`, or an LED frame `60 size`
 //! with `size` further bytes. The size of a clock message counts all bytes after itself.
 //!
-//! ```text
-//! encode(Command::Dump, ..)    42
-//! encode(a beep of 3, ..)      2b 04 03 0b 03 00
+//! A dump request is `42`, and a beep of length 3 is `2b 04 03 0b 03 00`. This looks for a dump
+//! request:
+//!
+//! ```rust
+//! use dgt_command::{Command, CommandDecoder, CommandEvent};
+//!
+//! /// Whether these bytes of a host request a dump.
+//! pub fn request_dump(bytes: &[u8]) -> bool {
+//!     let mut decoder = CommandDecoder::new();
+//!     let mut found = false;
+//!     for byte in bytes {
+//!         if let Some(CommandEvent::Command(Command::Dump)) = decoder.feed(&[*byte]).event {
+//!             found = true;
+//!         }
+//!     }
+//!     found
+//! }
 //! ```
 //!
 //! | To | Use |

@@ -1,13 +1,25 @@
 //! Reads the bytes that a DGT board sends, in chunks of any length.
 //!
-//! ```text
-//! let mut decoder = Decoder::new();
-//! let fed = decoder.feed(chunk);   // uses bytes up to and including the first with an event
+//! ```rust
+//! use dgt_decode::{Decoder, Event};
+//! use dgt_message::Message;
+//!
+//! /// Whether a dump ends in this chunk.
+//! pub fn ends_dump(decoder: &mut Decoder, chunk: &[u8]) -> bool {
+//!     let mut found = false;
+//!     for byte in chunk {
+//!         if let Some(Event::Message(Message::Dump(_))) = decoder.feed(&[*byte]).event {
+//!             found = true;
+//!         }
+//!     }
+//!     found
+//! }
 //! ```
 //!
-//! `fed.event` is the event, if there is one, and `fed.used` how many bytes were used. Feed the
-//! rest of the chunk until it is used up. An event lends its body from the decoder until the next
-//! call. `feed_all` does all of this with a whole chunk, and hands each event to a [`Listener`].
+//! A longer chunk is used up to and including the first byte with an event. `event` is the event,
+//! if there is one, and `used` how many bytes were used: feed the rest, until it is used up. An
+//! event lends its body from the decoder until the next call. `feed_all` does all of this with a
+//! whole chunk, and hands each event to a [`Listener`].
 //!
 //! However the bytes are cut into chunks, the events are those of the bytes in a row
 //! (`laws::in_any_pieces`). After any bytes, messages are read whole again (`laws::recovery`).

@@ -1,5 +1,5 @@
-//! What a program does with the libraries. docs/USING.md shows these files, and `checks/readme`
-//! finds each of its blocks of Rust in one of them.
+//! What a program does with the libraries. docs/USING.md and the front pages of the crates show
+//! these files, and `checks/readme` finds each of their blocks of Rust in one of them.
 //!
 //! The program itself, `pictures`, shows where the pieces stand after each change that the board on
 //! standard input reports. The other examples are:
@@ -9,12 +9,14 @@
 //! - the squares on which two positions differ
 //! - reading a board's bytes without a host
 //! - trying a host against a board of this project
+//! - one call or two of each crate (`front_pages`)
 #![tactic(auto)]
 
 mod asking;
 mod decoding;
 mod differing;
 mod following;
+mod front_pages;
 mod pictures;
 #[cfg(test)]
 mod tests;

@@ -10,7 +10,7 @@ use std::process::Abort;
 use std::test::*;
 
 /// A dump of the pieces before the first move.
-const DUMP: [u8; 67] = [
+pub const DUMP: [u8; 67] = [
     0x86, 0x00, 0x43, //
     0x08, 0x09, 0x0a, 0x0c, 0x0b, 0x0a, 0x09, 0x08, //
     0x07, 0x07, 0x07, 0x07, 0x07, 0x07, 0x07, 0x07, //
@@ -23,21 +23,30 @@ const DUMP: [u8; 67] = [
 ];
 
 /// The pawn leaves e2.
-const GONE: [u8; 5] = [0x8e, 0x00, 0x05, 0x34, 0x00];
+pub const GONE: [u8; 5] = [0x8e, 0x00, 0x05, 0x34, 0x00];
 
 /// It stands on e4.
-const CAME: [u8; 5] = [0x8e, 0x00, 0x05, 0x24, 0x01];
+pub const CAME: [u8; 5] = [0x8e, 0x00, 0x05, 0x24, 0x01];
 
 const START: &str = "rnbqkbnr/pppppppp/8/8/8/8/PPPPPPPP/RNBQKBNR";
 
-// A board of this project.
-fn board() -> Result<Board, Fail> {
+/// A clock that stands at zero.
+pub fn clock() -> Result<Clock, Fail> {
+    let reading = Reading::new(0, 0, 0, 0)?;
+    let status = Status::new(SevenBit::try_from(0)?);
+    Ok(Clock::Times(Times::new(reading, reading, status)?))
+}
+
+/// What a board of this project answers.
+pub fn identity() -> Result<Identity, Fail> {
     let zero = SevenBit::try_from(0)?;
     let none = Body::new(&[])?;
-    let reading = Reading::new(0, 0, 0, 0)?;
-    let clock = Clock::Times(Times::new(reading, reading, Status::new(zero))?);
-    let identity = Identity::new([zero; 5], none, zero, zero, none, 0, none)?;
-    Ok(Board::new(Position::start(), clock, identity))
+    Ok(Identity::new([zero; 5], none, zero, zero, none, 0, none)?)
+}
+
+/// A board of this project.
+pub fn board() -> Result<Board, Fail> {
+    Ok(Board::new(Position::start(), clock()?, identity()?))
 }
 
 // What the program writes of these bytes.

@@ -9,7 +9,8 @@
 //!
 //! `FollowedRuns` of `specs/Followed.antt` is what happens to a world and a follower's pace, one
 //! thing after another: the follower asks at some time, or anything else is done. No premise is
-//! about time: an asking that isn't due writes nothing and isn't counted.
+//! about time: an asking that isn't due writes nothing and isn't counted. The front page of
+//! dgt_follow has an example of a program that asks.
 #![tactic(auto)]
 
 ghost use Rattle.std.specs.Prelude.{◌≡◌, ◌<◌, ◌≤◌, ℕ, List, Some, length, take};

@@ -9,6 +9,17 @@
 //! | write the lines of a chunk, and of what is unfinished | [`write_lines`], [`write_end`] |
 //! | write positions, doubts, and the clock | [`write_pictures`], with a [`PictureState`] |
 //!
+//! ```rust
+//! use dgt_decode::Event;
+//! use dgt_lines::{RunFault, Sink, flush, write_event};
+//!
+//! /// Prints the line of an event, such as `00000005 field e4 P`.
+//! pub fn print<W: Sink>(to: &mut W, offset: u64, event: &Event<'_>) -> Result<(), RunFault> {
+//!     write_event(to, offset, event)?;
+//!     flush(to)
+//! }
+//! ```
+//!
 //! A [`Source`] gives bytes and a [`Sink`] takes them. Contracts name the bytes that a source gave
 //! and a sink took, if these state them, also if a call was refused. [`RunFault`] is why a run over
 //! them stops.

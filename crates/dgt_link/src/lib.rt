@@ -15,6 +15,19 @@
 //! for updates. A host that begins anew asks for both. [`World::settle`] delivers, and lets the
 //! board send, until the world is quiet, which it always becomes.
 //!
+//! ```rust
+//! use dgt_command::Command;
+//! use dgt_link::{Act, World};
+//!
+//! /// The host requests updates and a dump, and all is delivered. Returns whether the host's
+//! /// picture is the board's position then.
+//! pub fn follow(world: &mut World) -> bool {
+//!     world.run(&[Act::Host(Command::UpdateBoard), Act::Host(Command::Dump)]);
+//!     world.settle();
+//!     world.host().picture() == Some(world.board().position())
+//! }
+//! ```
+//!
 //! The lines of a `World` lose bytes only by breaks. [`World::at_fault`] makes it a
 //! [`FaultyWorld`]. There any bytes under way may be replaced by any others, and the board may lose
 //! its power. The picture heals: once the host has begun anew after the last fault, the same holds

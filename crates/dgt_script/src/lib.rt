@@ -8,6 +8,19 @@
 //! | write what came of an act | [`outcome_text`] |
 //! | write how a world is left, in four lines | [`write_closing`] |
 //!
+//! ```rust
+//! use dgt_command::MAX_WORD;
+//! use dgt_link::{Outcome, World};
+//! use dgt_script::{LineFault, read_act};
+//!
+//! /// Does what a line of a script says, such as `change e4 P`.
+//! pub fn play(world: &mut World, line: &[u8]) -> Result<Outcome, LineFault> {
+//!     let mut store = [0; MAX_WORD];
+//!     let act = read_act(line, &mut store)?;
+//!     Ok(world.step(act))
+//! }
+//! ```
+//!
 //! The formats are this project's own choice. No call takes memory. [`laws`] has the facts about
 //! lines as such, and `specs/Script.antt` the definitions that contracts cite.
 #![tactic(auto)]

@@ -9,6 +9,16 @@
 //! between them, and writes what came of each act. [`simulate_faults`] does the same in a world
 //! whose lines and whose board's power may fail.
 //!
+//! ```rust
+//! use dgt_text::{Bytes, Device, RunFault, monitor};
+//! use std::io::Write;
+//!
+//! /// Prints a line for each message of these bytes, as `dgt show` does.
+//! pub fn show<W: Write + Drop>(bytes: &[u8], output: W) -> Result<(), RunFault> {
+//!     monitor(&mut Bytes::new(bytes), &mut Device::new(output), u32::MAX)
+//! }
+//! ```
+//!
 //! A [`Source`] and a [`Sink`] are for example [`Bytes`] and [`Device`]; these and the lines of
 //! events are those of [`dgt_lines`]. The lines of scripts are those of [`dgt_script`]. Contracts
 //! say what is written of what was read, also if a call was refused. No call takes memory.

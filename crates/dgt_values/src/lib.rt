@@ -11,6 +11,18 @@
 //! | compare two positions | [`Position::differ`] |
 //! | carry the body of a message | [`Body`], of [`SevenBit`] bytes |
 //!
+//! ```rust
+//! use dgt_values::{Piece, Position, Square};
+//!
+//! /// The position after the piece on one square has moved to another.
+//! pub fn moved(mut position: Position, from: Square, to: Square) -> Position {
+//!     let piece = position.get(from);
+//!     position.set(from, Piece::Empty);
+//!     position.set(to, piece);
+//!     position
+//! }
+//! ```
+//!
 //! [`laws`] says that reading and writing agree. [`TooMuch`], [`Known`] and [`NoRoom`] are refusals
 //! that the crates above return too, and [`Kind`] lists the kinds of replies that a host awaits.
 //!

@@ -1,0 +1,15 @@
+//! The examples of the crates' front pages.
+
+pub mod finding;
+pub mod listing;
+pub mod monitoring;
+pub mod moving;
+pub mod playing;
+pub mod printing;
+pub mod putting;
+pub mod reporting;
+pub mod requesting;
+pub mod settling;
+pub mod taking_turns;
+#[cfg(test)]
+mod tests;

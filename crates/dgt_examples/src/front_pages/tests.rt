@@ -1,0 +1,105 @@
+use super::{
+    finding, listing, monitoring, moving, playing, printing, putting, reporting, requesting,
+    settling, taking_turns,
+};
+use crate::tests::{CAME, DUMP, GONE, board, clock, identity};
+use dgt_decode::{Decoder, Event};
+use dgt_follow::Follower;
+use dgt_lines::Device;
+use dgt_link::{Outcome, World};
+use dgt_message::Message;
+use dgt_values::{Piece, Position, Square};
+use std::process::Abort;
+use std::test::*;
+
+// Many calls of one function that asserts take less time to prove than many assertions.
+fn expect(rt: &impl Abort, holds: bool) {
+    assert!(rt; holds);
+}
+
+#[test]
+fn values_and_messages(rt: HostRuntime) -> Result<(), Fail> {
+    let (e2, e4) = (Square::parse("e2")?, Square::parse("e4")?);
+    let position = moving::moved(Position::start(), e2, e4);
+    let placed = Position::parse_placement("rnbqkbnr/pppppppp/8/8/4P3/8/PPPP1PPP/RNBQKBNR")?;
+    expect(&rt, position == placed);
+    expect(&rt, moving::moved(position, e4, e4) == placed);
+    let mut out = [0; 5];
+    expect(&rt, reporting::report(e4, Piece::WhitePawn, &mut out)? == 5);
+    expect(&rt, out == CAME);
+    expect(
+        &rt,
+        reporting::report(e4, Piece::WhitePawn, &mut out[..4]).is_err(),
+    );
+    Ok(())
+}
+
+#[test]
+fn bytes_of_a_board_and_a_host(rt: HostRuntime) -> Result<(), Fail> {
+    let mut decoder = Decoder::new();
+    expect(&rt, !finding::ends_dump(&mut decoder, &GONE));
+    expect(&rt, !finding::ends_dump(&mut decoder, &DUMP[..66]));
+    expect(&rt, finding::ends_dump(&mut decoder, &DUMP[66..]));
+    expect(&rt, requesting::request_dump(&[0x44, 0x42]));
+    expect(&rt, !requesting::request_dump(&[0x44]));
+    Ok(())
+}
+
+#[test]
+fn boards_and_followers(rt: HostRuntime) -> Result<(), Fail> {
+    let (mut board, mut out) = (board()?, [0; 262]);
+    let e2 = Square::parse("e2")?;
+    let count = putting::put(&mut board, e2, Piece::Empty, &mut out);
+    expect(&rt, count == 0);
+    let _ = board.take(&[0x44]);
+    let count = putting::put(&mut board, e2, Piece::WhiteKing, &mut out);
+    assert_eq!(rt; &out[..count], [0x8e, 0x00, 0x05, 0x34, 0x05].as_slice());
+    let mut follower = Follower::new(10_000, 6);
+    let count = taking_turns::turn(&mut follower, 0, &DUMP, &mut out);
+    expect(&rt, count == 258);
+    let count = taking_turns::turn(&mut follower, 1, &DUMP, &mut out);
+    expect(&rt, count == 0);
+    Ok(())
+}
+
+#[test]
+fn worlds(rt: HostRuntime) -> Result<(), Fail> {
+    let mut world = World::new(
+        rt.alloc(),
+        Position::start(),
+        clock()?,
+        identity()?,
+        67,
+        257,
+    )?;
+    expect(
+        &rt,
+        playing::play(&mut world, b"change e4 P")? == Outcome::Done,
+    );
+    expect(&rt, playing::play(&mut world, b"change e9 P").is_err());
+    expect(&rt, settling::follow(&mut world));
+    Ok(())
+}
+
+#[test]
+fn lines(rt: HostRuntime) -> Result<(), Fail> {
+    let mut output = Vec::with_capacity(rt.alloc(), 128)?;
+    let event = Event::Message(Message::Field {
+        square: Square::parse("e4")?,
+        piece: Piece::WhitePawn,
+    });
+    printing::print(&mut Device::new(&mut output), 5, &event)?;
+    monitoring::show(&CAME, &mut output)?;
+    listing::list(&[0x44, 0x42], &mut Device::new(&mut output))?;
+    assert_eq!(rt;
+        output.as_slice(),
+        b"\
+00000005 field e4 P
+00000005 field e4 P
+00000001 updateboard
+00000002 dump
+"
+            .as_slice()
+    );
+    Ok(())
+}
