@@ -179,7 +179,7 @@ typedef struct dgt_time {
 
 /* dgt_clock.kind */
 enum {
-    DGT_CLOCK_UNKNOWN = 0, /* nothing was told: all else is 0 */
+    DGT_CLOCK_UNKNOWN = 0, /* nothing was reported: all else is 0 */
     DGT_CLOCK_TIMES = 1,   /* the times of both sides, and the status; raw is 0 */
     DGT_CLOCK_NONE = 2     /* no clock is connected: raw and the status; the times are 0 */
 };
@@ -211,8 +211,8 @@ typedef struct dgt_clock {
  */
 enum {
     DGT_EVENT_NONE = 0,         /* nothing yet: all bytes were used */
-    DGT_EVENT_DUMP = 1,         /* all squares were told: pieces */
-    DGT_EVENT_FIELD = 2,        /* one square was told: square, piece */
+    DGT_EVENT_DUMP = 1,         /* all squares were reported: pieces */
+    DGT_EVENT_FIELD = 2,        /* one square was reported: square, piece */
     DGT_EVENT_TIMES = 3,        /* the clock's times: clock */
     DGT_EVENT_NO_CLOCK = 4,     /* no clock is connected: clock */
     DGT_EVENT_ACK = 5,          /* the answer to a message for the clock: ack, ack_status */
@@ -239,8 +239,8 @@ enum {
 
 typedef struct dgt_event {
     uint8_t kind;
-    uint8_t unasked;     /* told by a host alone: 1 where the message answers what was not the
-                            first asked, else 0 */
+    uint8_t unasked;     /* set by a host alone: 1 if the message doesn't answer the first awaited
+                            command, else 0 */
     uint8_t code;        /* of the message, 0 to 127 */
     uint8_t square;
     uint8_t piece;
@@ -322,9 +322,9 @@ typedef struct dgt_command {
  *     if (!dgt_host_new(&host)) return 1;           // the library has another size for it
  *     dgt_sent sent = dgt_host_restart(&host, out, sizeof out);
  *     write(line, out, sent.bytes);
- *     while ((n = read(line, piece, sizeof piece)) > 0)
+ *     while ((n = read(line, chunk, sizeof chunk)) > 0)
  *         for (size_t at = 0; at < n;) {
- *             at += dgt_host_hear(&host, piece + at, n - at, &event, body, sizeof body);
+ *             at += dgt_host_hear(&host, chunk + at, n - at, &event, body, sizeof body);
  *             if (event.kind == DGT_EVENT_FIELD) ...
  *         }
  *

@@ -19,11 +19,11 @@ impl Listener for Last {
 }
 
 /// What the bytes of a board report last of a square, in chunks of any length.
-pub fn last_field(pieces: &[&[u8]]) -> Option<(Square, Piece)> {
+pub fn last_field(chunks: &[&[u8]]) -> Option<(Square, Piece)> {
     let mut decoder = Decoder::new();
     let mut last = Last(None);
-    for piece in pieces {
-        decoder.feed_all(piece, &mut last);
+    for chunk in chunks {
+        decoder.feed_all(chunk, &mut last);
     }
     last.0
 }

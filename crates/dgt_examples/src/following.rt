@@ -10,13 +10,13 @@ pub fn follow<R: Source, W: Sink>(from: &mut R, to: &mut W) -> Result<Host, RunF
         put(to, &asked[..count])?;
         flush(to)?;
     }
-    let mut piece = [0; 64];
+    let mut chunk = [0; 64];
     for _ in 0..u64::MAX {
-        let count = match from.read_some(&mut piece) {
+        let count = match from.read_some(&mut chunk) {
             Ok(count) => count,
             Err(Failed) => return Err(RunFault::ReadFailed),
         };
-        host.hear_all(&piece[..count]);
+        host.hear_all(&chunk[..count]);
         if count == 0 || host.picture().is_some() {
             break;
         }

@@ -5,13 +5,13 @@ use std::io::{self, Read, Write};
 pub fn show<R: Read + Drop, W: Write + Drop>(mut board: R, mut output: W) -> io::Result<()> {
     let mut host = Host::new();
     let mut shown = None;
-    let mut piece = [0; 64];
+    let mut chunk = [0; 64];
     for _ in 0..u64::MAX {
-        let count = board.read(&mut piece)?;
+        let count = board.read(&mut chunk)?;
         if count == 0 {
             break;
         }
-        for byte in &piece[..count] {
+        for byte in &chunk[..count] {
             host.hear_all(&[*byte]);
             let picture = host.picture().copied();
             if picture != shown {

@@ -131,7 +131,7 @@ fn tells_the_squares_of_a_move(rt: HostRuntime) -> Result<(), Fail> {
 }
 
 #[test]
-fn decodes_in_pieces(rt: HostRuntime) -> Result<(), Fail> {
+fn decodes_in_chunks(rt: HostRuntime) -> Result<(), Fail> {
     let last = decoding::last_field(&[&GONE, &CAME[..2], &[], &CAME[2..]]);
     assert!(rt; last == Some((Square::parse("e4")?, Piece::WhitePawn)));
     assert!(rt; decoding::last_field(&[&DUMP]).is_none());

@@ -53,7 +53,8 @@ fn boards_and_followers(rt: HostRuntime) -> Result<(), Fail> {
     expect(&rt, count == 0);
     let _ = board.take(&[0x44]);
     let count = putting::put(&mut board, e2, Piece::WhiteKing, &mut out);
-    assert_eq!(rt; &out[..count], [0x8e, 0x00, 0x05, 0x34, 0x05].as_slice());
+    let field = [0x8e, 0x00, 0x05, 0x34, 0x05];
+    expect(&rt, out.get(..count) == Some(field.as_slice()));
     let mut follower = Follower::new(10_000, 6);
     let count = taking_turns::turn(&mut follower, 0, &DUMP, &mut out);
     expect(&rt, count == 258);
