@@ -147,12 +147,13 @@ class Table:
             raise Wrong("no display")
         self.display = ":" + (room.path / "display").read_text().strip()
 
-    def start(self, *words):
+    def start(self, *words, **environment):
         """Runs a program on the display, with a home of its own."""
         home = self.room.path / "home"
         home.mkdir(exist_ok=True)
-        return self.room.start(*words, DISPLAY=self.display, HOME=str(home), NO_AT_BRIDGE="1",
-                               LC_ALL="C.UTF-8", XDG_CONFIG_HOME=str(home / ".config"))
+        own = {"DISPLAY": self.display, "HOME": str(home), "NO_AT_BRIDGE": "1",
+               "LC_ALL": "C.UTF-8", "XDG_CONFIG_HOME": str(home / ".config")}
+        return self.room.start(*words, **own, **environment)
 
     def shot(self, name):
         if folder := os.environ.get("TRIAL_SHOTS"):
@@ -161,9 +162,11 @@ class Table:
                            env=os.environ | {"DISPLAY": self.display}, check=False)
 
     def told(self):
-        """The moves that the engine has sent."""
+        """The moves that the engine has sent. It sends 0000 if a program that has ended a game asks
+        for a move of its last position. PyChess does, to judge the game."""
         lines = (self.room.path / "told").read_text().splitlines()
-        return [line.split()[1] for line in lines if line.startswith("bestmove")]
+        return [line.split()[1] for line in lines
+                if line.startswith("bestmove") and line.split()[1] != "0000"]
 
     def log(self):
         """What the programs have printed."""
