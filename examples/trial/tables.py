@@ -162,15 +162,25 @@ class Table:
                            env=os.environ | {"DISPLAY": self.display}, check=False)
 
     def told(self):
-        """The moves that the engine has sent. It sends 0000 if a program that has ended a game asks
-        for a move of its last position. PyChess does, to judge the game."""
+        """The moves that the engine has sent."""
         lines = (self.room.path / "told").read_text().splitlines()
-        return [line.split()[1] for line in lines
-                if line.startswith("bestmove") and line.split()[1] != "0000"]
+        return [line.split()[1] for line in lines if line.startswith("bestmove")]
 
     def log(self):
         """What the programs have printed."""
         return (self.room.path / "log").read_text(errors="replace")
+
+
+def sent_all(told, games):
+    """Whether the engine has sent exactly these games' moves. After the last move of a game it may
+    have sent 0000, too: PyChess asks for a move of the last position, which has none."""
+    for moves in games:
+        sent, told = told[:len(moves)], told[len(moves):]
+        if sent != moves:
+            return False
+        while told[:1] == ["0000"]:
+            told = told[1:]
+    return not told
 
 
 def compare(dgt, table, text):
@@ -183,7 +193,7 @@ def compare(dgt, table, text):
         if made[number:number + 1] != [own]:
             raise Wrong(f"the game has {own}, and made were {made[number:number + 1]}")
         colours.append("White" if "DGT" in heads["White"] else "Black")
-    if len(colours) != len(made) or table.told() != [move for moves in made for move in moves]:
+    if len(colours) != len(made) or not sent_all(table.told(), made):
         raise Wrong(f"told {table.told()}, made {made}")
     return colours
 
