@@ -12,7 +12,8 @@
 #[cfg(test)]
 mod tests;
 
-use dgt_program::{Fault, refuse_arguments, run_words};
+use dgt_arguments::refuse_arguments;
+use dgt_program::{Fault, run_words};
 use std::env;
 use std::process::ExitCode;
 
@@ -20,7 +21,7 @@ fn main(rt: HostRuntime) -> ExitCode {
     let alloc = rt.alloc();
     let words = match env::args(&rt) {
         Ok(words) => words.collect(alloc).map_err(Fault::from),
-        Err(error) => Err(refuse_arguments(alloc, &error)),
+        Err(error) => Err(Fault::from(refuse_arguments(alloc, &error))),
     };
     let status = match words {
         Ok(words) => run_words(alloc, words, rt.stdin(), rt.stdout(), rt.stderr()),

@@ -2,5 +2,6 @@
 pub mod State
 pub mod Sending
 pub mod View
+pub mod Simulated
 -- For bodies alone.
 pub mod Kept

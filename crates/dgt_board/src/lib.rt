@@ -32,7 +32,7 @@
 //! - that a board acknowledges each clock message unless it has no clock, and the bytes of that.
 //!
 //! [`laws`] has the facts about what is to be sent and what was taken. The definitions that
-//! contracts cite are in `specs/State.antt`, `Sending.antt` and `View.antt`.
+//! contracts cite are in `specs/State.antt`, `Sending.antt`, `View.antt` and `Simulated.antt`.
 #![tactic(auto)]
 
 mod boards;
@@ -41,10 +41,12 @@ pub mod laws;
 mod modes;
 mod replies;
 mod sending;
+mod simulated;
 mod state;
 
 pub use boards::{Board, Busy, Taken};
 pub use identities::{Identity, MAX_KEPT_BODY, TooLong};
 pub use modes::Mode;
 pub use sending::{MAX_SENT, Polled};
+pub use simulated::simulated_clock;
 pub use state::MAX_OWED;

@@ -20,7 +20,7 @@ ghost use Rattle.dgt_c.specs.contracts.places.FollowerPlace.{the_row as follower
 ghost use Rattle.dgt_c.specs.contracts.places.HostPlace.{the_row as host_place};
 
 use crate::handles::{DgtBoard, DgtCommandDecoder, DgtDecoder, DgtFollower, DgtHost};
-use crate::plain_board::plain_board;
+use crate::plain_board::board_of_program;
 use crate::plain_follower::plain_follower;
 use dgt_board::Board;
 use dgt_command::CommandDecoder;
@@ -178,7 +178,7 @@ pub unsafe extern "C" fn dgt_board_init(board: *mut DgtBoard)
     let place = board as *mut BoardPlace;
     unsafe {
         let inside = &raw mut (*place).inside;
-        inside.write(plain_board());
+        inside.write(board_of_program());
         board.write(DgtBoard {
             at: inside as *mut u8,
         });

@@ -1,6 +1,8 @@
 //! The examples of the crates' front pages.
 
 pub mod finding;
+pub mod greeting;
+pub mod helping;
 pub mod listing;
 pub mod monitoring;
 pub mod moving;

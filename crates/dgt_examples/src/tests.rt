@@ -1,9 +1,8 @@
 use crate::{asking, decoding, differing, following, pictures, trying};
-use dgt_board::{Board, Identity};
+use dgt_board::{Board, Identity, simulated_clock};
 use dgt_follow::{Follower, UpdateMode};
 use dgt_lines::{Bytes, Device};
-use dgt_message::{Clock, Reading, Status, Times};
-use dgt_values::{Body, Piece, Position, SevenBit, Square};
+use dgt_values::{Piece, Position, Square};
 use std::alloc::Global;
 use std::io::Cursor;
 use std::process::Abort;
@@ -30,23 +29,9 @@ pub const CAME: [u8; 5] = [0x8e, 0x00, 0x05, 0x24, 0x01];
 
 const START: &str = "rnbqkbnr/pppppppp/8/8/8/8/PPPPPPPP/RNBQKBNR";
 
-/// A clock that stands at zero.
-pub fn clock() -> Result<Clock, Fail> {
-    let reading = Reading::new(0, 0, 0, 0)?;
-    let status = Status::new(SevenBit::try_from(0)?);
-    Ok(Clock::Times(Times::new(reading, reading, status)?))
-}
-
-/// What a board of this project answers.
-pub fn identity() -> Result<Identity, Fail> {
-    let zero = SevenBit::try_from(0)?;
-    let none = Body::new(&[])?;
-    Ok(Identity::new([zero; 5], none, zero, zero, none, 0, none)?)
-}
-
 /// A board of this project.
-pub fn board() -> Result<Board, Fail> {
-    Ok(Board::new(Position::start(), clock()?, identity()?))
+pub fn board() -> Board {
+    Board::new(Position::start(), simulated_clock(), Identity::simulated())
 }
 
 // What the program writes of these bytes.
@@ -140,7 +125,7 @@ fn decodes_in_chunks(rt: HostRuntime) -> Result<(), Fail> {
 
 #[test]
 fn tries_a_host(rt: HostRuntime) -> Result<(), Fail> {
-    let mut board = board()?;
+    let mut board = board();
     let host = trying::try_host(&mut board);
     assert!(rt; host.picture() == Some(&Position::start()));
     assert!(rt; host.awaited().is_empty());

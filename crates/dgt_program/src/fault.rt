@@ -1,17 +1,18 @@
 //! Why the program stopped, and how it says so.
+use dgt_arguments::BadArguments;
 use dgt_link::WorldFault;
 use dgt_text::RunFault;
 use dgt_values::BadPlacement;
-use std::alloc::{AllocError, AllocFailed};
+use std::alloc::AllocFailed;
 use std::io::Write;
 use thiserror::Error;
 
 /// What ends the program before its work is done.
 #[derive(Debug, Drop, Error)]
 pub enum Fault {
-    /// The words are no command line.
-    #[error("{0}")]
-    CommandLine(clap::Error),
+    /// The words are no command line. The text is of whole lines.
+    #[error("{text}")]
+    CommandLine { text: String },
     /// The word of bytes is no hexadecimal text.
     #[error("bad hex")]
     BadHex,
@@ -27,6 +28,15 @@ pub enum Fault {
     /// An allocation was refused.
     #[error("out of memory")]
     OutOfMemory,
+}
+
+impl From<BadArguments> for Fault {
+    fn from(error: BadArguments) -> Fault {
+        match error {
+            BadArguments::Refused { text } => Fault::CommandLine { text },
+            BadArguments::OutOfMemory => Fault::OutOfMemory,
+        }
+    }
 }
 
 impl From<BadPlacement> for Fault {
@@ -45,12 +55,6 @@ impl From<WorldFault> for Fault {
     }
 }
 
-impl From<AllocError> for Fault {
-    fn from(_error: AllocError) -> Fault {
-        Fault::OutOfMemory
-    }
-}
-
 impl From<AllocFailed<String>> for Fault {
     fn from(_error: AllocFailed<String>) -> Fault {
         Fault::OutOfMemory
@@ -62,13 +66,13 @@ impl Fault {
     pub fn report<E: Write>(self, errors: &mut E) -> u8 {
         // If standard error refuses it, only the status is left.
         let _ = match &self {
-            Fault::CommandLine(error) => write!(errors, "{error}"),
+            Fault::CommandLine { text } => write!(errors, "{text}"),
             fault => writeln!(errors, "dgt: {fault}"),
         };
         let _ = errors.flush();
         match self {
             Fault::Run(_) => 1,
-            Fault::CommandLine(_)
+            Fault::CommandLine { .. }
             | Fault::BadHex
             | Fault::BadPlacement { .. }
             | Fault::LineTooSmall => 2,

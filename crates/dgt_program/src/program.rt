@@ -1,8 +1,7 @@
 //! The program, over any words and streams.
-use crate::command_line::Task;
 use crate::fault::Fault;
-use crate::{command_line, simulated};
-use dgt_board::Board;
+use dgt_arguments::{Task, read};
+use dgt_board::{Board, Identity, simulated_clock};
 use dgt_link::{World, WorldFault};
 use dgt_text::{
     Bytes, Device, RunFault, commands, monitor, picture, picture_with_clock, picture_with_doubts,
@@ -42,8 +41,8 @@ fn run<I: Read + Drop, O: Write + Drop>(
     input: I,
     mut output: O,
 ) -> Result<(), Fault> {
-    match command_line::read(alloc, words)? {
-        Task::Help(text) => Ok(write_help(&text, &mut output)?),
+    match read(alloc, words)? {
+        Task::Help { text } => Ok(write_bytes(text.as_bytes(), &mut output)?),
         Task::Show { word } => show(alloc, word, output),
         Task::Monitor => show_input(input, output),
         Task::Picture { doubt, clock } => show_picture(doubt, clock, input, output),
@@ -106,7 +105,7 @@ fn answer<I: Read + Drop, O: Write + Drop>(
     output: O,
 ) -> Result<(), Fault> {
     let position = Position::parse_placement(placement)?;
-    let mut board = Board::new(position, simulated::clock(), simulated::identity());
+    let mut board = Board::new(position, simulated_clock(), Identity::simulated());
     let (mut input, mut output) = (Device::new(input), Device::new(output));
     Ok(serve(&mut board, &mut input, &mut output, MOST_TURNS)?)
 }
@@ -162,17 +161,12 @@ fn decode(alloc: Global, word: &str) -> Result<Vec<u8>, Fault> {
 
 #[inline(never)]
 fn new_world(alloc: Global, position: Position, up: u16, down: u16) -> Result<World, WorldFault> {
-    let (clock, identity) = (simulated::clock(), simulated::identity());
+    let (clock, identity) = (simulated_clock(), Identity::simulated());
     let (up, down) = (usize::from(up), usize::from(down));
     World::new(alloc, position, clock, identity, up, down)
 }
 
 fn write_bytes<O: Write>(bytes: &[u8], output: &mut O) -> Result<(), RunFault> {
     let written = output.write_all(bytes).and_then(|()| output.flush());
-    written.map_err(|_| RunFault::WriteFailed)
-}
-
-fn write_help<O: Write>(text: &clap::Error, output: &mut O) -> Result<(), RunFault> {
-    let written = write!(output, "{text}").and_then(|()| output.flush());
     written.map_err(|_| RunFault::WriteFailed)
 }

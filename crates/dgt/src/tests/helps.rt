@@ -1,6 +1,6 @@
 //! The texts of help.
 use super::*;
-use dgt_program::help::{
+use dgt_arguments::help::{
     ASK_NOTES, BOARD_NOTES, COMMANDS_NOTES, MONITOR_NOTES, PICTURE_NOTES, PROGRAM_NOTES,
     SHOW_NOTES, SIMULATE_NOTES,
 };

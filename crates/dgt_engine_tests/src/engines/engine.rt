@@ -2,14 +2,13 @@
 
 use crate::engines::asserting::assert_that;
 use arrayvec::ArrayVec;
-use dgt_board::{Board, Identity};
-use dgt_link::{FaultyWorld, World};
-use dgt_message::{Clock, Reading, Status, Times};
+use dgt_board::{Board, Identity, simulated_clock};
+use dgt_link::{FaultyWorld, World, WorldFault};
 use dgt_text::{
     RunFault, Sink, Source, commands, monitor, picture, picture_with_clock, picture_with_doubts,
     picture_with_doubts_and_clock, serve, simulate, simulate_faults,
 };
-use dgt_values::{Body, Position, SevenBit};
+use dgt_values::Position;
 use std::alloc::{AllocGlobal, Global};
 use std::process::Abort;
 use std::test::Fail;
@@ -120,34 +119,14 @@ impl<'a> Engine<'a> {
     }
 }
 
-fn identity() -> Result<Identity, Fail> {
-    let zero = SevenBit::try_from(b'0')?;
-    let one = SevenBit::try_from(b'1')?;
-    Ok(Identity::new(
-        [zero, zero, zero, zero, one],
-        Body::new(b"SIMULATED BOARD")?,
-        SevenBit::try_from(1)?,
-        SevenBit::try_from(3)?,
-        Body::new(&[0x64])?,
-        0x14,
-        Body::new(b"0000000001")?,
-    )?)
-}
-
-fn zero_clock() -> Result<Clock, Fail> {
-    let zero = Reading::new(0, 0, 0, 0)?;
-    let status = Status::new(SevenBit::try_from(0)?);
-    Ok(Clock::Times(Times::new(zero, zero, status)?))
-}
-
 /// A board with the starting position and a clock at zero.
-pub fn new_board() -> Result<Board, Fail> {
-    Ok(Board::new(Position::start(), zero_clock()?, identity()?))
+pub fn new_board() -> Board {
+    Board::new(Position::start(), simulated_clock(), Identity::simulated())
 }
 
 /// A new board that took these bytes, and has sent nothing.
 pub fn asked_board(asked: &[u8]) -> Result<Board, Fail> {
-    let mut board = new_board()?;
+    let mut board = new_board();
     for byte in asked {
         board.take(&[*byte])?;
     }
@@ -155,9 +134,9 @@ pub fn asked_board(asked: &[u8]) -> Result<Board, Fail> {
 }
 
 /// A world with such a board, and lines of 67 and 257 bytes.
-pub fn new_world(alloc: Global) -> Result<World, Fail> {
-    let (start, clock) = (Position::start(), zero_clock()?);
-    Ok(World::new(alloc, start, clock, identity()?, 67, 257)?)
+pub fn new_world(alloc: Global) -> Result<World, WorldFault> {
+    let (clock, identity) = (simulated_clock(), Identity::simulated());
+    World::new(alloc, Position::start(), clock, identity, 67, 257)
 }
 
 /// These parts, one after the other.

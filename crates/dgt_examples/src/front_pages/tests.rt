@@ -1,8 +1,9 @@
 use super::{
-    finding, listing, monitoring, moving, playing, printing, putting, reporting, requesting,
-    settling, taking_turns,
+    finding, greeting, helping, listing, monitoring, moving, playing, printing, putting, reporting,
+    requesting, settling, taking_turns,
 };
-use crate::tests::{CAME, DUMP, GONE, board, clock, identity};
+use crate::tests::{CAME, DUMP, GONE, board};
+use dgt_board::{Identity, simulated_clock};
 use dgt_decode::{Decoder, Event};
 use dgt_follow::Follower;
 use dgt_lines::Device;
@@ -46,8 +47,21 @@ fn bytes_of_a_board_and_a_host(rt: HostRuntime) -> Result<(), Fail> {
 }
 
 #[test]
+fn words(rt: HostRuntime) -> Result<(), Fail> {
+    let alloc = rt.alloc();
+    let (dgt, monitor) = ("dgt".to_string(alloc)?, "monitor".to_string(alloc)?);
+    let words = Vec::from_array(alloc, [dgt, monitor, "--help".to_string(alloc)?])?;
+    expect(&rt, helping::asks_for_help(alloc, words.as_slice())?);
+    expect(&rt, !helping::asks_for_help(alloc, &words.as_slice()[..2])?);
+    let greeted = greeting::greeting(alloc);
+    let wanted: &[u8] = &[0x44, 0x42, 0x2b, 0x04, 0x03, 0x0b, 0x10, 0x00];
+    expect(&rt, greeted.is_some_and(|bytes| bytes.as_slice() == wanted));
+    Ok(())
+}
+
+#[test]
 fn boards_and_followers(rt: HostRuntime) -> Result<(), Fail> {
-    let (mut board, mut out) = (board()?, [0; 262]);
+    let (mut board, mut out) = (board(), [0; 262]);
     let e2 = Square::parse("e2")?;
     let count = putting::put(&mut board, e2, Piece::Empty, &mut out);
     expect(&rt, count == 0);
@@ -68,8 +82,8 @@ fn worlds(rt: HostRuntime) -> Result<(), Fail> {
     let mut world = World::new(
         rt.alloc(),
         Position::start(),
-        clock()?,
-        identity()?,
+        simulated_clock(),
+        Identity::simulated(),
         67,
         257,
     )?;

@@ -426,7 +426,7 @@ const LOSING: [Scene<Step>; 3] = [
 
 fn play_all(rt: &impl Abort, scenes: &[Scene<Step>]) -> Result<(), Fail> {
     for scene in scenes {
-        play(rt, &mut new_board()?, scene);
+        play(rt, &mut new_board(), scene);
     }
     Ok(())
 }
@@ -451,7 +451,7 @@ fn bodies_of_65_bytes_are_too_long(rt: HostRuntime) -> Result<(), Fail> {
 
 #[test]
 fn flood_of_requests_is_answered_one_by_one(rt: HostRuntime) -> Result<(), Fail> {
-    let mut board = new_board()?;
+    let mut board = new_board();
     let flood = [0x42; 1000];
     for place in 0..1000 {
         let left = &flood[place..];

@@ -1,6 +1,6 @@
 //! Worked messages and placements, and a clock, a board and a world to begin with.
 
-use dgt_board::{Board, Identity, MAX_SENT, TooLong};
+use dgt_board::{Board, Identity, MAX_SENT, TooLong, simulated_clock};
 use dgt_link::{World, WorldFault};
 use dgt_message::{Clock, NoClock, Reading, Status, Times};
 use dgt_values::{Body, Position, SevenBit};
@@ -83,13 +83,6 @@ fn no_clock() -> Option<Clock> {
     Some(Clock::NoClock(NoClock::new([zero; 6], status).ok()?))
 }
 
-fn clock_at_zeros() -> Result<Clock, Fail> {
-    match clock_that_shows(Shown::Zeros) {
-        Some(clock) => Ok(clock),
-        None => Err(Fail::from("no clock")),
-    }
-}
-
 pub fn identity(
     trademark: &[u8],
     battery: &[u8],
@@ -109,19 +102,15 @@ pub fn identity(
     ))
 }
 
-fn identity_of_board() -> Result<Identity, Fail> {
-    Ok(identity(b"SIMULATED BOARD", &[0x64], b"0000000001")??)
-}
-
 /// A new board with the starting position.
-pub fn new_board() -> Result<Board, Fail> {
-    Ok(Board::new(Position::start(), clock_at_zeros()?, identity_of_board()?))
+pub fn new_board() -> Board {
+    Board::new(Position::start(), simulated_clock(), Identity::simulated())
 }
 
 /// A world with such a board, and lines of these capacities.
-pub fn world_of(alloc: Global, up: usize, down: usize) -> Result<Result<World, WorldFault>, Fail> {
-    let (clock, identity) = (clock_at_zeros()?, identity_of_board()?);
-    Ok(World::new(alloc, Position::start(), clock, identity, up, down))
+pub fn world_of(alloc: Global, up: usize, down: usize) -> Result<World, WorldFault> {
+    let (clock, identity) = (simulated_clock(), Identity::simulated());
+    World::new(alloc, Position::start(), clock, identity, up, down)
 }
 
 pub fn is_at(position: &Position, placement: &str) -> bool {

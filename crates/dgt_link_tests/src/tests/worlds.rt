@@ -262,7 +262,7 @@ const FOLLOW: Scene<Step> = Scene {
 
 // A new world with lines of these capacities.
 fn new_world(alloc: Global, up: usize, down: usize) -> Result<Stage, Fail> {
-    Ok(Stage::Plain(world_of(alloc, up, down)??))
+    Ok(Stage::Plain(world_of(alloc, up, down)?))
 }
 
 // A world that follows, with all quiet.
@@ -306,7 +306,7 @@ fn small_lines_and_refused_memory(rt: HostRuntime) -> Result<(), Fail> {
         (much, much, WorldFault::OutOfMemory),
     ] {
         assert!(rt;
-            world_of(rt.alloc(), up, down)?.err() == Some(fault),
+            world_of(rt.alloc(), up, down).err() == Some(fault),
             "{up} and {down}"
         );
     }
@@ -315,7 +315,7 @@ fn small_lines_and_refused_memory(rt: HostRuntime) -> Result<(), Fail> {
 
 #[test]
 fn a_piece_put_back_is_not_reported(rt: HostRuntime) -> Result<(), Fail> {
-    let mut world = world_of(rt.alloc(), 67, 257)??;
+    let mut world = world_of(rt.alloc(), 67, 257)?;
     let e2 = Square::parse("e2")?;
     let acts = [
         Act::Host(Command::UpdateBoard),

@@ -2,12 +2,11 @@
 
 use crate::asserting::assert_same;
 use arrayvec::ArrayVec;
-use dgt_board::Identity;
+use dgt_board::{Identity, simulated_clock};
 use dgt_lines::{Device, RunFault};
-use dgt_link::{Outcome, World};
-use dgt_message::{Clock, Reading, Status, Times};
+use dgt_link::{Outcome, World, WorldFault};
 use dgt_script::{outcome_text, write_closing};
-use dgt_values::{Body, Position, SevenBit};
+use dgt_values::Position;
 use std::alloc::Global;
 use std::io;
 use std::io::Write;
@@ -16,13 +15,9 @@ use std::test::Fail;
 const NEW_LINES: &[u8] =
     b"board rnbqkbnr/pppppppp/8/8/8/8/PPPPPPPP/RNBQKBNR\nhost unknown\nhostclock unknown\nquiet yes\n";
 
-fn new_world(alloc: Global) -> Result<World, Fail> {
-    let reading = Reading::new(0, 0, 0, 0)?;
-    let zero = SevenBit::try_from(0)?;
-    let clock = Clock::Times(Times::new(reading, reading, Status::new(zero))?);
-    let body = Body::new(&[])?;
-    let identity = Identity::new([zero; 5], body, zero, zero, body, 0, body)?;
-    Ok(World::new(alloc, Position::start(), clock, identity, 67, 257)?)
+fn new_world(alloc: Global) -> Result<World, WorldFault> {
+    let (clock, identity) = (simulated_clock(), Identity::simulated());
+    World::new(alloc, Position::start(), clock, identity, 67, 257)
 }
 
 /// A writer that counts its writes, and takes 512 bytes or none.

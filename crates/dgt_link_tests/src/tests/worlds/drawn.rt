@@ -105,7 +105,7 @@ fn worlds_of_drawn_acts_settle(rt: HostRuntime) -> Result<(), Fail> {
     let mut state = 0x2545_f491;
     for (up, down, turns) in [(67, 257, 40), (67, 257, 400), (300, 1024, 200)] {
         for _ in 0..20 {
-            let mut world = world_of(rt.alloc(), up, down)??;
+            let mut world = world_of(rt.alloc(), up, down)?;
             let mut asked = Asked {
                 dump: false,
                 updates: false,

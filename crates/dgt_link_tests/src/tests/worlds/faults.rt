@@ -15,7 +15,7 @@ const EMPTY: &str = "8/8/8/8/8/8/8/8";
 
 // A world at the start of a game, with room for two restarts, whose host follows the board.
 fn followed(rt: &impl Abort, alloc: Global) -> Result<Stage, Fail> {
-    let mut world = Stage::Faulty(world_of(alloc, 200, 600)??.at_fault());
+    let mut world = Stage::Faulty(world_of(alloc, 200, 600)?.at_fault());
     play(rt, &mut world, &FOLLOW);
     Ok(world)
 }
@@ -116,7 +116,7 @@ const SCENES: [Scene<Step>; 5] = [
 
 #[test]
 fn a_run_among_faults(rt: HostRuntime) -> Result<(), Fail> {
-    let mut world = world_of(rt.alloc(), 200, 600)??.at_fault();
+    let mut world = world_of(rt.alloc(), 200, 600)?.at_fault();
     let acts = [
         FaultyAct::Plain(Act::Host(Command::Dump)),
         FaultyAct::GarbleDown(&[0x42, 0x60, 0xff, 0x01]),

@@ -196,7 +196,7 @@ fn worlds_settle(rt: HostRuntime) -> Result<(), Fail> {
 
 #[test]
 fn sixty_four_squares_settle(rt: HostRuntime) -> Result<(), Fail> {
-    let mut world = world_of(rt.alloc(), 67, 257)??;
+    let mut world = world_of(rt.alloc(), 67, 257)?;
     world.run(&[Act::Host(Command::UpdateBoard), Act::Host(Command::Dump)]);
     world.settle();
     for index in 0..64 {

@@ -1,21 +1,24 @@
 //! The words of the command line, read by `clap`.
-use crate::asking::{BadAsk, WORDS, asked_bytes};
-use crate::fault::Fault;
 use crate::help::{
     ASK_NOTES, BOARD_NOTES, COMMANDS_NOTES, MONITOR_NOTES, PICTURE_NOTES, PROGRAM_NOTES,
     SHOW_NOTES, SIMULATE_NOTES,
 };
 use clap::error::ErrorKind;
 use clap::{Arg, ArgAction, ArgMatches, Command, value_parser};
-use dgt_link::{MIN_DOWN, MIN_UP};
-use std::alloc::{AllocError, Global};
+use dgt_ask::{BadAsk, WORDS, asked_bytes};
+use dgt_board::MAX_SENT;
+use dgt_command::MAX_WORD;
+use std::alloc::{AllocError, AllocFailed, Global};
 use std::io;
+use thiserror::Error;
 
 /// What the command line asks for.
 #[derive(Drop)]
 pub enum Task<'a> {
     /// Print this text: help, or the version.
-    Help(clap::Error),
+    Help {
+        text: String,
+    },
     /// Show what the bytes of this hexadecimal word make known.
     Show {
         word: &'a str,
@@ -47,6 +50,29 @@ pub enum Task<'a> {
         down: u16,
         faults: bool,
     },
+}
+
+/// Why the words are no command line.
+#[derive(Debug, Drop, Error)]
+pub enum BadArguments {
+    /// They ask for nothing that the program does. The text says what is wrong, in whole lines.
+    #[error("{text}")]
+    Refused { text: String },
+    /// An allocation was refused.
+    #[error("out of memory")]
+    OutOfMemory,
+}
+
+impl From<AllocError> for BadArguments {
+    fn from(_error: AllocError) -> Self {
+        BadArguments::OutOfMemory
+    }
+}
+
+impl From<AllocFailed<String>> for BadArguments {
+    fn from(_error: AllocFailed<String>) -> Self {
+        BadArguments::OutOfMemory
+    }
 }
 
 /// What `--version` prints, after the name.
@@ -151,13 +177,13 @@ fn simulate<'a>(alloc: Global) -> Result<Command<'a>, AllocError> {
         .arg(line_bytes(
             alloc,
             "up",
-            MIN_UP as i64,
+            MAX_SENT as i64,
             "Room for bytes to the host, 67 to 65535",
         ))?
         .arg(line_bytes(
             alloc,
             "down",
-            MIN_DOWN as i64,
+            MAX_WORD as i64,
             "Room for bytes to the board, 257 to 65535",
         ))?
         .arg(faults(alloc))
@@ -182,27 +208,34 @@ fn command<'a>(alloc: Global) -> Result<Command<'a>, AllocError> {
 ///
 /// It is not inlined: what `clap` needs of the stack is free again before the task begins.
 #[inline(never)]
-pub fn read<'a>(alloc: Global, words: &'a [String]) -> Result<Task<'a>, Fault> {
+pub fn read<'a>(alloc: Global, words: &'a [String]) -> Result<Task<'a>, BadArguments> {
     match command(alloc)?.try_get_matches_from(words) {
         Ok(matches) => match requested(alloc, &matches)? {
             Some(task) => Ok(task),
-            None => Err(without_task(alloc)),
+            None => Err(without_task(alloc)?),
         },
-        Err(error) => unmatched(error),
+        Err(error) => unmatched(alloc, &error),
     }
 }
 
-// A request for help or for the version is a task, and any other error of clap a fault.
-fn unmatched<'a>(error: clap::Error) -> Result<Task<'a>, Fault> {
+// A request for help or for the version is a task, and any other error of clap is none.
+fn unmatched<'a>(alloc: Global, error: &clap::Error) -> Result<Task<'a>, BadArguments> {
     match error.kind() {
-        ErrorKind::DisplayHelp | ErrorKind::DisplayVersion => Ok(Task::Help(error)),
-        ErrorKind::OutOfMemory => Err(Fault::OutOfMemory),
-        _ => Err(Fault::CommandLine(error)),
+        ErrorKind::DisplayHelp | ErrorKind::DisplayVersion => {
+            Ok(Task::Help {
+                text: error.to_string(alloc)?,
+            })
+        }
+        ErrorKind::OutOfMemory => Err(BadArguments::OutOfMemory),
+        _ => Err(refused(alloc, error)?),
     }
 }
 
 // Each subcommand has its task here, and each option its value. What hasn't is refused.
-fn requested<'a>(alloc: Global, matches: &ArgMatches<'a>) -> Result<Option<Task<'a>>, Fault> {
+fn requested<'a>(
+    alloc: Global,
+    matches: &ArgMatches<'a>,
+) -> Result<Option<Task<'a>>, BadArguments> {
     match matches.subcommand() {
         Some(("ask", ask)) => Ok(Some(asked(alloc, ask.get_strs("word").unwrap_or(&[]))?)),
         Some((name, options)) => Ok(task_named(name, options)),
@@ -236,7 +269,7 @@ fn task_named<'a>(name: &str, options: &ArgMatches<'a>) -> Option<Task<'a>> {
 }
 
 // The task of the words of `ask`.
-fn asked<'a>(alloc: Global, words: &[&str]) -> Result<Task<'a>, Fault> {
+fn asked<'a>(alloc: Global, words: &[&str]) -> Result<Task<'a>, BadArguments> {
     let text = match asked_bytes(alloc, words) {
         Ok(bytes) => return Ok(Task::Ask { bytes }),
         Err(BadAsk::Help) => return help_of_ask(alloc),
@@ -249,49 +282,46 @@ fn asked<'a>(alloc: Global, words: &[&str]) -> Result<Task<'a>, Fault> {
             let (form, given) = (detail.form(), given.escape_debug());
             format!(in alloc; "{form}, not by '{given}'")?
         }
-        Err(BadAsk::OutOfMemory) => return Err(Fault::OutOfMemory),
+        Err(BadAsk::OutOfMemory) => return Err(BadArguments::OutOfMemory),
     };
     let mut ask = ask(alloc)?.bin_name("dgt ask")?;
-    Err(Fault::CommandLine(ask.error(ErrorKind::InvalidValue, text.as_str())?))
+    Err(refused(alloc, &ask.error(ErrorKind::InvalidValue, text.as_str())?)?)
 }
 
 // The help of `ask`, which one of its words asks for.
-fn help_of_ask<'a>(alloc: Global) -> Result<Task<'a>, Fault> {
+fn help_of_ask<'a>(alloc: Global) -> Result<Task<'a>, BadArguments> {
     match command(alloc)?.try_get_matches_from(&["dgt", "help", "ask"]) {
-        Ok(_) => Err(without_task(alloc)),
-        Err(error) => unmatched(error),
+        Ok(_) => Err(without_task(alloc)?),
+        Err(error) => unmatched(alloc, &error),
     }
 }
 
-/// The fault where the system gave no words as text.
-pub fn refuse_arguments(alloc: Global, error: &io::Error) -> Fault {
+/// Why there is no task where the system gave no words as text.
+pub fn refuse_arguments(alloc: Global, error: &io::Error) -> BadArguments {
     if error.kind() == io::ErrorKind::OutOfMemory {
-        return Fault::OutOfMemory;
+        return BadArguments::OutOfMemory;
     }
-    refuse(
-        alloc,
-        ErrorKind::InvalidValue,
-        "an argument is not UTF-8 text",
-    )
+    let kind = ErrorKind::InvalidValue;
+    refusal(alloc, kind, "an argument is not UTF-8 text").unwrap_or(BadArguments::OutOfMemory)
 }
 
-// The fault where a subcommand has no task.
-fn without_task(alloc: Global) -> Fault {
-    refuse(
+// Why there is no task where a subcommand has none.
+fn without_task(alloc: Global) -> Result<BadArguments, BadArguments> {
+    refusal(
         alloc,
         ErrorKind::InvalidSubcommand,
         "a subcommand has no task",
     )
 }
 
-// The fault of a command line, with a text of this program.
-fn refuse(alloc: Global, kind: ErrorKind, text: &str) -> Fault {
-    match command_error(alloc, kind, text) {
-        Ok(error) => Fault::CommandLine(error),
-        Err(AllocError) => Fault::OutOfMemory,
-    }
+// Why there is no task, in a text of this program.
+fn refusal(alloc: Global, kind: ErrorKind, text: &str) -> Result<BadArguments, BadArguments> {
+    refused(alloc, &command(alloc)?.error(kind, text)?)
 }
 
-fn command_error(alloc: Global, kind: ErrorKind, text: &str) -> Result<clap::Error, AllocError> {
-    command(alloc)?.error(kind, text)
+// Why there is no task, in the text of clap.
+fn refused(alloc: Global, error: &clap::Error) -> Result<BadArguments, BadArguments> {
+    Ok(BadArguments::Refused {
+        text: error.to_string(alloc)?,
+    })
 }

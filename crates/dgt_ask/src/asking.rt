@@ -1,18 +1,20 @@
-//! Commands by name, as `dgt ask` takes them.
-ghost use Rattle.std.specs.Prelude.{◌≡◌, ◌≢◌, ◌<◌, ◌≤◌, ◌*◌, ◌++◌, [], ◌∷◌, length, codes, slice_index as nth};
-ghost use Rattle.std.specs.Prelude.{OnOk, IfOk, IsOkAnd, IfSome, IfNone, IsSomeAnd, MatchResult, Ok, Some, None, ⊤};
-ghost use Rattle.dgt_command.specs.declared.ids.KnownId.{KnownId};
-ghost use Rattle.dgt_command.specs.Content.{command_content, ClockMessage, Leds, clock_content, known_clock};
+//! The words of a command line, and the bytes of their commands.
+
+ghost use Rattle.std.specs.Prelude.{◌≡◌, ◌≢◌, ◌++◌, [], ◌∷◌, codes, slice_index as nth};
+ghost use Rattle.std.specs.Prelude.{OnOk, IfOk, IsOkAnd, IsSomeAnd};
+ghost use Rattle.dgt_command.specs.Content.{command_content, ClockMessage};
 ghost use Rattle.dgt_command.specs.Spelling.{command_spelling};
 ghost use Rattle.dgt_host.specs.Host.{follow_bytes, restart_bytes};
 ghost use Rattle.hex.specs.Hex.{decode_of, decode_sized};
 
+use crate::details::{
+    Detail, beep, byte, detail_of, eight_letters, icons, leds, raw, set_and_run, six_places,
+};
 use dgt_command::{
-    ClockCommand, Command, CommandDecoder, CommandEvent, LedBytes, MAX_LED_BYTES, MAX_PAYLOAD,
-    MAX_WORD, Payload, RawClock, display, encode,
+    ClockCommand, Command, CommandDecoder, CommandEvent, MAX_LED_BYTES, MAX_PAYLOAD, MAX_WORD,
+    encode,
 };
 use dgt_host::{Host, RESTART_LENGTH};
-use hex::decode_to_slice;
 use std::alloc::{AllocError, Global};
 
 /// The words, as a fault lists them.
@@ -38,40 +40,6 @@ pub enum BadAsk<'a> {
 impl From<AllocError> for BadAsk<'_> {
     fn from(_error: AllocError) -> Self {
         BadAsk::OutOfMemory
-    }
-}
-
-/// What follows a word that is no command alone.
-#[derive(Clone, Copy)]
-pub enum Detail {
-    Beep,
-    Display,
-    Text,
-    Icons,
-    SetAndRun,
-    ClockMessage,
-    Leds,
-    Stray,
-}
-
-impl Detail {
-    /// What has to follow the word.
-    pub fn form(self) -> &'static str {
-        match self {
-            Detail::Beep => "beep is followed by a number from 0 to 255",
-            Detail::Display => "display is followed by six digits, spaces or hyphens at most, or \
-by eight bytes, two hexadecimal digits each",
-            Detail::Text => "text is followed by eight ASCII characters at most, or by nine bytes, \
-two hexadecimal digits each",
-            Detail::Icons => "icons is followed by 252 bytes at most, two hexadecimal digits each",
-            Detail::SetAndRun =>
-                "setandrun is followed by seven bytes, two hexadecimal digits each",
-            Detail::ClockMessage => "clockmessage is followed by an id, two hexadecimal digits, \
-and by 252 bytes at most, two hexadecimal digits each, that have no other word",
-            Detail::Leds => "leds is followed by 255 bytes at most, two hexadecimal digits each",
-            Detail::Stray => "stray is followed by a byte that begins no command, two hexadecimal \
-digits",
-        }
     }
 }
 
@@ -104,21 +72,6 @@ fn named(word: &str) -> Option<Asked> {
         _ => return Some(Asked::With(detail_of(word)?)),
     };
     Some(Asked::Command(command))
-}
-
-fn detail_of(word: &str) -> Option<Detail> {
-    let detail = match word {
-        "beep" => Detail::Beep,
-        "display" => Detail::Display,
-        "text" => Detail::Text,
-        "icons" => Detail::Icons,
-        "setandrun" => Detail::SetAndRun,
-        "clockmessage" => Detail::ClockMessage,
-        "leds" => Detail::Leds,
-        "stray" => Detail::Stray,
-        _ => return None,
-    };
-    Some(detail)
 }
 
 // What the next word has to be.
@@ -243,140 +196,6 @@ fn push_fit<'a>(
     }
 }
 
-fn clock(message: ClockCommand<'_>) -> Option<Command<'_>>
-    ensures { IsSomeAnd result (λ command.
-        command_content command ≡ ClockMessage (clock_content message.entry)) }
-{
-    Some(Command::ClockMessage(message))
-}
-
-// A number as scripts have it: digits, and no zero before others.
-fn beep(word: &str) -> Option<Command<'static>> {
-    let is_number = word.bytes().all(|digit| digit.is_ascii_digit());
-    if !is_number || word.len() > 1 && word.starts_with('0') {
-        return None;
-    }
-    clock(ClockCommand::Beep(word.parse().ok()?))
-}
-
-// The bytes of a payload, or characters and spaces in the place of those that are missing.
-fn six_places(word: &str) -> Option<Command<'static>>
-    ensures { MatchResult (decode_sized word.now 8)
-        (λ bytes. IsSomeAnd result (λ command.
-        command_content command ≡ ClockMessage (known_clock KnownId.Display bytes)))
-        (λ _. ⊤) }
-{
-    let mut payload = [0; 8];
-    if decode_to_slice(word, &mut payload).is_ok() {
-        let [c, b, a, f, e, d, dots, beep] = payload;
-        return clock(ClockCommand::Display {
-            places: [a, b, c, d, e, f],
-            dots,
-            beep,
-        });
-    }
-    let mut letters = word.chars();
-    let text = [
-        letters.next().unwrap_or(' '),
-        letters.next().unwrap_or(' '),
-        letters.next().unwrap_or(' '),
-        letters.next().unwrap_or(' '),
-        letters.next().unwrap_or(' '),
-        letters.next().unwrap_or(' '),
-    ];
-    if letters.next().is_some() {
-        return None;
-    }
-    clock(display(text, 0, 0).ok()?)
-}
-
-// The bytes of a payload, or characters and spaces in the place of those that are missing.
-fn eight_letters(word: &str) -> Option<Command<'static>>
-    ensures { MatchResult (decode_sized word.now 9)
-        (λ bytes. IsSomeAnd result (λ command.
-        command_content command ≡ ClockMessage (known_clock KnownId.Text bytes)))
-        (λ _. ⊤) }
-{
-    let mut payload = [0; 9];
-    if decode_to_slice(word, &mut payload).is_ok() {
-        let [a, b, c, d, e, f, g, h, beep] = payload;
-        return clock(ClockCommand::Text {
-            letters: [a, b, c, d, e, f, g, h],
-            beep,
-        });
-    }
-    if !word.is_ascii() {
-        return None;
-    }
-    let mut letters = [b' '; 8];
-    let places = letters.get_mut(..word.len())?;
-    places.copy_from_slice(word.as_bytes());
-    clock(ClockCommand::Text { letters, beep: 0 })
-}
-
-fn set_and_run(word: &str) -> Option<Command<'static>>
-    ensures { MatchResult (decode_sized word.now 7)
-        (λ bytes. IsSomeAnd result (λ command.
-        command_content command ≡ ClockMessage (known_clock KnownId.SetAndRun bytes)))
-        (λ _. result ≡ None) }
-{
-    let mut bytes = [0; 7];
-    decode_to_slice(word, &mut bytes).ok()?;
-    let [h, m, s, hours, minutes, seconds, control] = bytes;
-    clock(ClockCommand::SetAndRun {
-        left: [h, m, s],
-        right: [hours, minutes, seconds],
-        control,
-    })
-}
-
-fn icons<'r>(word: &str, room: &'r mut [u8]) -> Option<Command<'r>>
-    ensures none { word.now ≡ codes "-" → IsSomeAnd result (λ command.
-        command_content command ≡ ClockMessage (known_clock KnownId.Icons [])) }
-    ensures digits { word.now ≢ codes "-" → IfSome result (λ command.
-        IfOk (decode_of word.now) (λ bytes.
-        command_content command ≡ ClockMessage (known_clock KnownId.Icons bytes))) }
-{
-    clock(ClockCommand::Icons(Payload::new(decoded(word, room)?).ok()?))
-}
-
-fn leds<'r>(word: &str, room: &'r mut [u8; MAX_LED_BYTES]) -> Option<Command<'r>>
-    ensures none { word.now ≡ codes "-" → IsSomeAnd result (λ command.
-        command_content command ≡ Leds []) }
-    ensures digits { word.now ≢ codes "-" → IfSome result (λ command.
-        IfOk (decode_of word.now) (λ bytes. command_content command ≡ Leds bytes)) }
-    ensures refused { word.now ≢ codes "-" → IfNone result
-        (IfOk (decode_of word.now) (λ _. 2 * 255 < length word.now)) }
-{
-    Some(Command::Leds(LedBytes::new(decoded(word, room)?).ok()?))
-}
-
-// The bytes of hexadecimal digits, or none for a hyphen, where there is room for them.
-fn decoded<'r>(word: &str, room: &'r mut [u8]) -> Option<&'r [u8]>
-    ensures none { word.now ≡ codes "-" → IsSomeAnd result (λ bytes. bytes.now ≡ []) }
-    ensures digits { word.now ≢ codes "-"
-        → IfSome result (λ bytes. decode_of word.now ≡ Ok bytes.now) }
-    ensures room { IfSome result (λ bytes. length bytes.now ≤ length room.old) }
-    ensures refused { word.now ≢ codes "-" → IfNone result
-        (IfOk (decode_of word.now) (λ _. 2 * length room.old < length word.now)) }
-{
-    if word == "-" {
-        return Some(&[]);
-    }
-    let bytes = room.get_mut(..word.len() / 2)?;
-    decode_to_slice(word, bytes).ok()?;
-    Some(bytes)
-}
-
-fn byte(word: &str) -> Option<u8>
-    ensures { MatchResult (decode_sized word.now 1)
-        (λ bytes. result ≡ Some (nth bytes 0)) (λ _. result ≡ None) }
-{
-    let mut bytes = [0];
-    decode_to_slice(word, &mut bytes).ok()?;
-    Some(bytes[0])
-}
-
 // Appends a clock message whose id and bytes are in one word.
 fn push_id_and_bytes<'a>(word: &'a str, bytes: &mut Vec<u8>) -> Result<(), BadAsk<'a>> {
     match word.split_once(' ') {
@@ -407,17 +226,6 @@ fn push_clock_message<'a>(id: &'a str, word: &'a str, bytes: &mut Vec<u8>) -> Re
         }
         None => push_fit(None, Detail::ClockMessage, id, bytes),
     }
-}
-
-fn raw<'r>(id: u8, word: &str, room: &'r mut [u8]) -> Option<Command<'r>>
-    ensures none { word.now ≡ codes "-" → IfSome result (λ command.
-        command_content command ≡ ClockMessage (record { id = id; payload = [] })) }
-    ensures digits { word.now ≢ codes "-" → IfSome result (λ command.
-        IfOk (decode_of word.now) (λ bytes.
-        command_content command ≡ ClockMessage (record { id = id; payload = bytes }))) }
-{
-    let payload = Payload::new(decoded(word, room)?).ok()?;
-    clock(ClockCommand::Raw(RawClock::new(id, payload).ok()?))
 }
 
 // Appends a byte that begins no command.

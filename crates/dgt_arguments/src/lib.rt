@@ -1,0 +1,20 @@
+//! The command line of the program `dgt`, read by `clap`.
+//!
+//! [`read`] reads the words, and returns the [`Task`] that they ask for, or why they ask for none.
+//! [`help`] has the texts of the help.
+//!
+//! ```rust
+//! use dgt_arguments::{BadArguments, Task, read};
+//! use std::alloc::Global;
+//!
+//! /// Whether these words, of which the first is the program's name, ask for help.
+//! pub fn asks_for_help(alloc: Global, words: &[String]) -> Result<bool, BadArguments> {
+//!     Ok(matches!(read(alloc, words)?, Task::Help { .. }))
+//! }
+//! ```
+#![tactic(auto)]
+
+mod command_line;
+pub mod help;
+
+pub use command_line::{BadArguments, Task, read, refuse_arguments};
