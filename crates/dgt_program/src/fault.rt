@@ -3,7 +3,7 @@ use dgt_arguments::BadArguments;
 use dgt_link::WorldFault;
 use dgt_text::RunFault;
 use dgt_values::BadPlacement;
-use std::alloc::AllocFailed;
+use std::alloc::{AllocError, AllocFailed};
 use std::io::Write;
 use thiserror::Error;
 
@@ -52,6 +52,12 @@ impl From<WorldFault> for Fault {
             WorldFault::LineTooSmall => Fault::LineTooSmall,
             WorldFault::OutOfMemory => Fault::OutOfMemory,
         }
+    }
+}
+
+impl From<AllocError> for Fault {
+    fn from(_error: AllocError) -> Fault {
+        Fault::OutOfMemory
     }
 }
 
