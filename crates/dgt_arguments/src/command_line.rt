@@ -206,6 +206,8 @@ fn command<'a>(alloc: Global) -> Result<Command<'a>, AllocError> {
 
 /// The task of the words, of which the first is the program's name.
 ///
+/// `Refused` comes if they are no command line, and `OutOfMemory` if an allocation is refused.
+///
 /// It is not inlined: what `clap` needs of the stack is free again before the task begins.
 #[inline(never)]
 pub fn read<'a>(alloc: Global, words: &'a [String]) -> Result<Task<'a>, BadArguments> {
@@ -296,7 +298,7 @@ fn help_of_ask<'a>(alloc: Global) -> Result<Task<'a>, BadArguments> {
     }
 }
 
-/// Why there is no task where the system gave no words as text.
+/// Why there is no task if the system gave no words as text.
 pub fn refuse_arguments(alloc: Global, error: &io::Error) -> BadArguments {
     if error.kind() == io::ErrorKind::OutOfMemory {
         return BadArguments::OutOfMemory;
@@ -305,7 +307,7 @@ pub fn refuse_arguments(alloc: Global, error: &io::Error) -> BadArguments {
     refusal(alloc, kind, "an argument is not UTF-8 text").unwrap_or(BadArguments::OutOfMemory)
 }
 
-// Why there is no task where a subcommand has none.
+// Why there is no task if a subcommand has none.
 fn without_task(alloc: Global) -> Result<BadArguments, BadArguments> {
     refusal(
         alloc,

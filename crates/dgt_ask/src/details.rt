@@ -167,7 +167,7 @@ pub(crate) fn leds<'r>(word: &str, room: &'r mut [u8; MAX_LED_BYTES]) -> Option<
     Some(Command::Leds(LedBytes::new(decoded(word, room)?).ok()?))
 }
 
-// The bytes of hexadecimal digits, or none for a hyphen, where there is room for them.
+// The bytes of hexadecimal digits, or none for a hyphen, if there is room for them.
 fn decoded<'r>(word: &str, room: &'r mut [u8]) -> Option<&'r [u8]>
     ensures none { word.now ≡ codes "-" → IsSomeAnd result (λ bytes. bytes.now ≡ []) }
     ensures digits { word.now ≢ codes "-"
