@@ -1,8 +1,7 @@
 -- Askings after the last fault heal the clock, in the modes that report it: the patience and one more.
-use Rattle.std.proofs.Common.{◌≡◌, ◌⊎◌, inl, inr, ◌+◌, ◌<◌, ◌≤◌, Bool, true, false, if◌then◌else◌, Some, refl, ℕ, List, [], ◌∷◌, arith}
+use Rattle.std.proofs.Common.{◌≡◌, inl, inr, ◌+◌, ◌<◌, ◌≤◌, false, Some, refl, ℕ, List, [], ◌∷◌, arith}
 use Rattle.std.specs.List.{AllByRecursion}
 use Rattle.std.specs.Prelude.{IsTrue}
-use Rattle.dgt_values.specs.declared.kinds.Kind.{Kind}
 use Rattle.dgt_command.specs.Content.{CommandContent}
 use Rattle.dgt_board.specs.declared.modes.Mode.{Mode}
 use Rattle.dgt_board.specs.State.{command_mode, follows_clock}
@@ -10,26 +9,16 @@ use Rattle.dgt_follow.specs.declared.asking.Asking.{Asking}
 use Rattle.dgt_follow.specs.declared.asking.UpdateMode.{UpdateMode}
 use Rattle.dgt_follow.specs.Pace.{pace_after_asking}
 use Rattle.dgt_follow.specs.Follower.{asking_of}
-use Rattle.dgt_host.specs.Host.{awaits_too_many}
 use Rattle.dgt_link.specs.declared.acts.Outcome.{Outcome}
 use Rattle.dgt_link.specs.Clocks.{IsClockFollowing, IsClockPromisedWorld, stops_clock}
 use Rattle.dgt_link.specs.Faults.{FaultyContent, FaultyRuns, FaultyStep, is_fault}
 use Rattle.dgt_link.specs.Healing.{IsInStep, IsInStepBy, IsSane}
 use Rattle.dgt_link.specs.View.{WorldView}
-use Rattle.dgt_followed.specs.Followed.{FollowedRuns, FollowedStep, FollowedView, Happening, RunsDone, all_done, asking_acts, clock_count_after_asking, follower_of, sends, unsettles_clock}
-use Rattle.dgt_followed.proofs.Acts.{heartbeat_is_left}
-use Rattle.dgt_followed.proofs.Heals.{left_after, neither, one_more}
+use Rattle.dgt_followed.specs.Followed.{FollowedRuns, FollowedStep, FollowedView, Happening, RunsDone, asking_acts, clock_count_after_asking, follower_of, sends, unsettles_clock}
+use Rattle.dgt_followed.proofs.Askings.{Hope, Hopes, heartbeat_hope, neither, other_hope, promised_by_askings}
 
--- The clock is promised to heal, or the follower has not yet asked for it often enough.
-abbrev Hope : FollowedView → Type 0
-Hope followed =
-    IsClockPromisedWorld followed.world ⊎ (followed.clock_since + followed.pace.left ≤ followed.pace.patience)
-
--- what always holds
-record Hopes (followed : FollowedView) : Type 0 where
-  sane : IsSane followed.world
-  left : followed.pace.left ≤ followed.pace.patience
-  hope : Hope followed
+abbrev count : FollowedView → ℕ
+count followed = followed.clock_since
 
 -- no act is a fault, and after each the board goes on reporting its clock
 abbrev AreClockCalm : List FaultyContent → Type 0
@@ -62,37 +51,16 @@ module _
       kept_by_all acts between after calm.1
       (kept act world between Outcome.Done calm.0.0 calm.0.1 promised step) later
 
-  -- ---- anything but an asking
-
-  other_hope : (act : FaultyContent) (before after : FollowedView) (answer : Outcome) (ends : Bool)
-      → unsettles_clock act ≡ ends → FaultyStep act before.world answer after.world
-      → after.pace.patience ≡ before.pace.patience → after.pace.left ≡ before.pace.left
-      → after.clock_since ≡ (if ends then 0 else before.clock_since) → Hopes before → Hope after
-  other_hope act before after answer true e step patience left since hopes =
-      inr (omega (arith, patience, left, since, hopes.left))
-  other_hope act before after answer false e step patience left since hopes =
-      let both = neither (is_fault act) (stops_clock act) e in
-      elim hopes.hope [
-        | inl promised ↦ inl (kept act before.world after.world answer both.0 both.1 promised step)
-        | inr few ↦ inr (omega (arith, patience, left, since, few))
-      ]
-
-  -- ---- an asking
-
-  heartbeat_hope : (command : CommandContent) → stops_clock (sends command) ≡ false
-      → (now : ℕ) (before after : FollowedView) → asking_of (follower_of before) now ≡ Asking.Heartbeat
+  heartbeat_keeps : (command : CommandContent) → stops_clock (sends command) ≡ false → (now : ℕ)
+      → (before after : FollowedView) → asking_of (follower_of before) now ≡ Asking.Heartbeat
       → RunsDone (heartbeat_acts command) before.world after.world
       → after.pace ≡ pace_after_asking Asking.Heartbeat before.pace now
-      → after.clock_since ≡ before.clock_since + 1 → Hopes before → Hope after
-  heartbeat_hope command goes now before after e runs pace since hopes =
-      let some = heartbeat_is_left before.pace (awaits_too_many before.world.host (Some Kind.Dump)) now e in
-      elim hopes.hope [
-        | inl promised ↦ inl
-            (kept_by_all (heartbeat_acts command) before.world after.world
-            ((refl, goes), ((refl, refl), ((refl, refl), tt))) promised runs)
-        | inr few ↦ inr
-            (rw (pace, since) (one_more before.clock_since before.pace.left before.pace.patience some few))
-      ]
+      → after.clock_since ≡ before.clock_since + 1 → Hopes IsClockPromisedWorld count before
+      → Hope IsClockPromisedWorld count after
+  heartbeat_keeps command goes now before after e runs pace since hopes =
+      heartbeat_hope IsClockPromisedWorld count now before after e pace since
+      (λ promised. kept_by_all (heartbeat_acts command) before.world after.world
+      ((refl, goes), ((refl, refl), ((refl, refl), tt))) promised runs) hopes
 
   -- the board is in step after a restart, follows the clock after the mode, and then reads it
   anew_promises : (command : CommandContent) (mode : Mode) → command_mode command ≡ Some mode
@@ -105,55 +73,32 @@ module _
   ask_hope : (mode : UpdateMode) (what : Asking) (now : ℕ) (before after : FollowedView)
       → asking_of (follower_of before) now ≡ what → RunsDone (asking_acts mode what) before.world after.world
       → after.pace ≡ pace_after_asking what before.pace now
-      → after.clock_since ≡ clock_count_after_asking mode what before.clock_since → Hopes before → Hope after
+      → after.clock_since ≡ clock_count_after_asking mode what before.clock_since
+      → Hopes IsClockPromisedWorld count before → Hope IsClockPromisedWorld count after
   ask_hope mode Asking.Nothing now before after e same pace since hopes = rw (same, pace, since) hopes.hope
   ask_hope UpdateMode.Squares Asking.Heartbeat now before after e runs pace since hopes =
       inr (rw (pace, since) (omega (arith, hopes.left)))
   ask_hope UpdateMode.Squares Asking.Anew now before after e runs pace since hopes =
       inr (rw (pace, since) (omega arith))
   ask_hope UpdateMode.Clock Asking.Heartbeat now before after e runs pace since hopes =
-      heartbeat_hope CommandContent.Update refl now before after e runs pace since hopes
+      heartbeat_keeps CommandContent.Update refl now before after e runs pace since hopes
   ask_hope UpdateMode.Clock Asking.Anew now before after e runs pace since hopes =
       inl (anew_promises CommandContent.Update Mode.Update refl refl before.world after.world hopes.sane runs)
   ask_hope UpdateMode.ClockChanges Asking.Heartbeat now before after e runs pace since hopes =
-      heartbeat_hope CommandContent.UpdateNice refl now before after e runs pace since hopes
+      heartbeat_keeps CommandContent.UpdateNice refl now before after e runs pace since hopes
   ask_hope UpdateMode.ClockChanges Asking.Anew now before after e runs pace since hopes =
       inl (anew_promises CommandContent.UpdateNice Mode.UpdateNice refl refl before.world after.world hopes.sane runs)
 
-  -- ---- all that happens
-
-  happening_keeps : (happening : Happening) (before after : FollowedView) → FollowedStep happening before after
-      → Hopes before → Hopes after
-  happening_keeps (Happening.Ask now) before after (runs, pace, since, clock_since) hopes =
-      let mode = before.pace.mode in
-      let what = asking_of (follower_of before) now in
-      let acts = asking_acts mode what in
-      record {
-        sane = stay_sane acts before.world after.world (all_done acts) hopes.sane runs;
-        left = left_after what now before.pace after.pace pace hopes.left;
-        hope = ask_hope mode what now before after refl runs pace clock_since hopes;
-      }
-  happening_keeps (Happening.Other act) before after (answer, step, keeps, since, clock_since) hopes =
-      record {
-        sane = stay_sane (act ∷ []) before.world after.world (answer ∷ []) hopes.sane (after.world, step, refl);
-        left = omega (arith, keeps.patience, keeps.left, hopes.left);
-        hope = other_hope act before after answer (unsettles_clock act) refl step keeps.patience keeps.left
-            clock_since hopes;
-      }
-
-  happenings_keep : (happenings : List Happening) (before after : FollowedView)
-      → FollowedRuns happenings before after → Hopes before → Hopes after
-  happenings_keep [] before after same hopes = rw same hopes
-  happenings_keep (happening ∷ later) before after (between, step, runs) hopes =
-      happenings_keep later between after runs (happening_keeps happening before between step hopes)
+  hope_after : (happening : Happening) (before after : FollowedView) → FollowedStep happening before after
+      → Hopes IsClockPromisedWorld count before → Hope IsClockPromisedWorld count after
+  hope_after (Happening.Ask now) before after (runs, pace, since, clock_since) hopes =
+      ask_hope before.pace.mode (asking_of (follower_of before) now) now before after refl runs pace clock_since hopes
+  hope_after (Happening.Other act) before after (answer, step, keeps, since, clock_since) hopes =
+      other_hope IsClockPromisedWorld count (unsettles_clock act) before after keeps.patience keeps.left clock_since
+      (λ e promised. let both = neither (is_fault act) (stops_clock act) e in
+      kept act before.world after.world answer both.0 both.1 promised step) hopes
 
   pub askings_promise_clock : (happenings : List Happening) (before after : FollowedView) → IsSane before.world
       → before.pace.left ≤ before.pace.patience → before.clock_since ≡ 0 → FollowedRuns happenings before after
       → after.pace.patience < after.clock_since → IsClockPromisedWorld after.world
-  askings_promise_clock happenings before after sane left none runs often =
-      let begun : Hopes before = record { sane = sane; left = left; hope = inr (omega (arith, left, none)) } in
-      let ended = happenings_keep happenings before after runs begun in
-      elim ended.hope [
-        | inl promised ↦ promised
-        | inr few ↦ absurd (omega (arith, few, often))
-      ]
+  askings_promise_clock = promised_by_askings IsClockPromisedWorld count stay_sane hope_after

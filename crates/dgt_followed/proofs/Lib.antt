@@ -1,4 +1,5 @@
 mod Acts
+mod Askings
 mod Calls
 mod ClockHeals
 mod Heals

@@ -1,0 +1,108 @@
+-- What askings heal, the picture or the clock, is promised to heal once there were enough of them
+-- since it was unsettled: one more than the patience.
+use Rattle.std.proofs.Common.{◌≡◌, ◌⊎◌, inl, inr, ◌+◌, ◌-◌, ◌<◌, ◌≤◌, Bool, true, false, ◌||◌, if◌then◌else◌, Some, refl, ℕ, List, [], ◌∷◌, arith}
+use Rattle.dgt_values.specs.declared.kinds.Kind.{Kind}
+use Rattle.dgt_follow.specs.declared.asking.Asking.{Asking}
+use Rattle.dgt_follow.specs.Pace.{PaceView, pace_after_asking}
+use Rattle.dgt_follow.specs.Follower.{asking_of}
+use Rattle.dgt_host.specs.Host.{awaits_too_many}
+use Rattle.dgt_link.specs.declared.acts.Outcome.{Outcome}
+use Rattle.dgt_link.specs.Faults.{FaultyContent, FaultyRuns}
+use Rattle.dgt_link.specs.Healing.{IsSane}
+use Rattle.dgt_link.specs.View.{WorldView}
+use Rattle.dgt_followed.specs.Followed.{FollowedRuns, FollowedStep, FollowedView, Happening, all_done, asking_acts, follower_of}
+use Rattle.dgt_followed.proofs.Acts.{heartbeat_is_left}
+
+pub neither : (a b : Bool) → (a || b) ≡ false → (a ≡ false) × (b ≡ false)
+neither false false e = (refl, refl)
+neither false true e = cc
+neither true b e = cc
+
+-- one asking more, with a heartbeat less left
+one_more : (since left patience : ℕ) → 0 < left → since + left ≤ patience → (since + 1) + (left - 1) ≤ patience
+one_more since left patience some few = omega (arith, some, few)
+
+left_after : (what : Asking) (now : ℕ) (before after : PaceView) → after ≡ pace_after_asking what before now
+    → before.left ≤ before.patience → after.left ≤ after.patience
+left_after Asking.Nothing now before after e few = rw e few
+left_after Asking.Heartbeat now before after e few = rw e (omega (arith, few))
+left_after Asking.Anew now before after e few = rw e (omega arith)
+
+-- It is promised to heal, or the follower has not yet asked often enough.
+abbrev pub Hope : (WorldView → Type 0) → (FollowedView → ℕ) → FollowedView → Type 0
+Hope Promised count followed =
+    Promised followed.world ⊎ (count followed + followed.pace.left ≤ followed.pace.patience)
+
+-- what always holds
+pub record Hopes (Promised : WorldView → Type 0) (count : FollowedView → ℕ) (followed : FollowedView) : Type 0 where
+  pub sane : IsSane followed.world
+  pub left : followed.pace.left ≤ followed.pace.patience
+  pub hope : Hope Promised count followed
+
+module _ (Promised : WorldView → Type 0) (count : FollowedView → ℕ) where
+  -- anything but an asking
+  pub other_hope : (ends : Bool) (before after : FollowedView) → after.pace.patience ≡ before.pace.patience
+      → after.pace.left ≡ before.pace.left → count after ≡ (if ends then 0 else count before)
+      → (ends ≡ false → Promised before.world → Promised after.world) → Hopes Promised count before
+      → Hope Promised count after
+  other_hope true before after patience left since keeps hopes =
+      inr (omega (arith, patience, left, since, hopes.left))
+  other_hope false before after patience left since keeps hopes =
+      elim hopes.hope [
+        | inl promised ↦ inl (keeps refl promised)
+        | inr few ↦ inr (omega (arith, patience, left, since, few))
+      ]
+
+  pub heartbeat_hope : (now : ℕ) (before after : FollowedView)
+      → asking_of (follower_of before) now ≡ Asking.Heartbeat
+      → after.pace ≡ pace_after_asking Asking.Heartbeat before.pace now → count after ≡ count before + 1
+      → (Promised before.world → Promised after.world) → Hopes Promised count before → Hope Promised count after
+  heartbeat_hope now before after e pace since keeps hopes =
+      let some = heartbeat_is_left before.pace (awaits_too_many before.world.host (Some Kind.Dump)) now e in
+      elim hopes.hope [
+        | inl promised ↦ inl (keeps promised)
+        | inr few ↦ inr
+            (rw since (rw pace (one_more (count before) before.pace.left before.pace.patience some few)))
+      ]
+
+  -- ---- all that happens
+
+  module _
+      (stay_sane : (acts : List FaultyContent) (world after : WorldView) (answers : List Outcome)
+      → IsSane world → FaultyRuns acts world answers after → IsSane after)
+      (hope_after : (happening : Happening) (before after : FollowedView) → FollowedStep happening before after
+      → Hopes Promised count before → Hope Promised count after) where
+    happening_keeps : (happening : Happening) (before after : FollowedView) → FollowedStep happening before after
+        → Hopes Promised count before → Hopes Promised count after
+    happening_keeps (Happening.Ask now) before after (runs, pace, since, clock_since) hopes =
+        let what = asking_of (follower_of before) now in
+        let acts = asking_acts before.pace.mode what in
+        record {
+          sane = stay_sane acts before.world after.world (all_done acts) hopes.sane runs;
+          left = left_after what now before.pace after.pace pace hopes.left;
+          hope = hope_after (Happening.Ask now) before after (runs, pace, since, clock_since) hopes;
+        }
+    happening_keeps (Happening.Other act) before after (answer, step, keeps, since, clock_since) hopes =
+        record {
+          sane = stay_sane (act ∷ []) before.world after.world (answer ∷ []) hopes.sane (after.world, step, refl);
+          left = omega (arith, keeps.patience, keeps.left, hopes.left);
+          hope = hope_after (Happening.Other act) before after (answer, step, keeps, since, clock_since) hopes;
+        }
+
+    happenings_keep : (happenings : List Happening) (before after : FollowedView)
+        → FollowedRuns happenings before after → Hopes Promised count before → Hopes Promised count after
+    happenings_keep [] before after same hopes = rw same hopes
+    happenings_keep (happening ∷ later) before after (between, step, runs) hopes =
+        happenings_keep later between after runs (happening_keeps happening before between step hopes)
+
+    pub promised_by_askings : (happenings : List Happening) (before after : FollowedView) → IsSane before.world
+        → before.pace.left ≤ before.pace.patience → count before ≡ 0 → FollowedRuns happenings before after
+        → after.pace.patience < count after → Promised after.world
+    promised_by_askings happenings before after sane left none runs often =
+        let begun : Hopes Promised count before =
+        record { sane = sane; left = left; hope = inr (omega (arith, left, none)) } in
+        let ended = happenings_keep happenings before after runs begun in
+        elim ended.hope [
+          | inl promised ↦ promised
+          | inr few ↦ absurd (omega (arith, few, often))
+        ]
