@@ -4,10 +4,19 @@ pub mod GatherLemmas
 pub mod HexLemmas
 pub mod LineLemmas
 pub mod PictureLemmas
-pub mod PieceLemmas
+pub mod ChunkLemmas
 pub mod RankLemmas
 pub mod TextLemmas
+pub mod TurnLemmas
+pub mod Printed
+pub mod Heard
+pub mod Pictured
+pub mod Listed
+pub mod ClosingLemmas
+pub mod CommandChunkLemmas
+pub mod TellingLemmas
 mod ClockLemmas
 mod DoubtLemmas
 mod RefusalLemmas
 mod ReportLemmas
+mod ShownLemmas

@@ -32,21 +32,21 @@ picture_lines-append before xs ys =
     ap (flat_map picture_line) (pictures-append before xs ys) ∙ flat_map-append picture_line (pictures before xs)
     (pictures (picture_after_events before xs) ys)
 
--- ---- bytes, and a piece after them
+-- ---- bytes, and a chunk after them
 
-pub pictures_text-append : PiecesAdd → (bytes piece : List ℕ)
-    → pictures_text (bytes ++ piece) ≡ pictures_text bytes ++ picture_lines (picture_told bytes)
-    (events_after (open_message bytes) (length bytes) piece)
-pictures_text-append pieces bytes piece =
-    ap (picture_lines None) (pieces.behind bytes piece)
-    ∙ picture_lines-append None (events bytes) (events_after (open_message bytes) (length bytes) piece)
+pub pictures_text-append : PiecesAdd → (bytes chunk : List ℕ)
+    → pictures_text (bytes ++ chunk) ≡ pictures_text bytes ++ picture_lines (picture_told bytes)
+    (events_after (open_message bytes) (length bytes) chunk)
+pictures_text-append pieces bytes chunk =
+    ap (picture_lines None) (pieces.behind bytes chunk)
+    ∙ picture_lines-append None (events bytes) (events_after (open_message bytes) (length bytes) chunk)
 
-pub picture_told-append : PiecesAdd → (bytes piece : List ℕ)
-    → picture_told (bytes ++ piece) ≡ picture_after_events (picture_told bytes)
-    (events_after (open_message bytes) (length bytes) piece)
-picture_told-append pieces bytes piece =
-    ap (picture_after_events None) (pieces.behind bytes piece)
-    ∙ picture_after-append None (events bytes) (events_after (open_message bytes) (length bytes) piece)
+pub picture_told-append : PiecesAdd → (bytes chunk : List ℕ)
+    → picture_told (bytes ++ chunk) ≡ picture_after_events (picture_told bytes)
+    (events_after (open_message bytes) (length bytes) chunk)
+picture_told-append pieces bytes chunk =
+    ap (picture_after_events None) (pieces.behind bytes chunk)
+    ∙ picture_after-append None (events bytes) (events_after (open_message bytes) (length bytes) chunk)
 
 -- ---- the last line
 

@@ -10,7 +10,7 @@ use Rattle.dgt_lines.specs.Writing.{Gathered, Stopped, Writes}
 use Rattle.dgt_lines.specs.declared.doubts.PictureState.{PictureState}
 use Rattle.dgt_lines.specs.declared.faults.RunFault.{RunFault}
 use Rattle.dgt_lines.specs.declared.faults.RunFault.TheVariants.{WriteFailed}
-use Rattle.dgt_lines.specs.declared.ends.Sink.{Ghosts as Sink}
+use Rattle.dgt_lines.specs.declared.streams.Sink.{Ghosts as Sink}
 use Rattle.dgt_lines.proofs.GatherLemmas.{gathers_then}
 
 -- what waits for a flush still does after a call that gathers more
@@ -33,19 +33,19 @@ module _ {S : Type 0} (W : Sink S) where
   gathered_stop i a b c s t p q =
       let r : Result (Unit {0}) RunFault = Err WriteFailed in (gathers_then W [] i [] a b c s t r p (refl, q)).1
 
-  module _ (a c : S) (offset used : ℕ) (held piece held' : List ℕ) (within : used ≤ length piece)
-      (framed : held' ≡ open_message (held ++ take used piece)) where
+  module _ (a c : S) (offset used : ℕ) (held chunk held' : List ℕ) (within : used ≤ length chunk)
+      (framed : held' ≡ open_message (held ++ take used chunk)) where
     pub lines_stop : {A : Type 0} (r : Result A RunFault) (text : List ℕ)
-        → lines_after held offset (take used piece) ≡ text → Stopped W a c text
-        → OnErr r (StopsInLines W a c offset held piece held')
+        → lines_after held offset (take used chunk) ≡ text → Stopped W a c text
+        → OnErr r (StopsInLines W a c offset held chunk held')
     lines_stop (Ok x) text e h = tt
     lines_stop (Err f) text e h =
         record { used = used; within = within; stopped = subst (λ l. Stopped W a c l) (sym e) h; framed = framed }
 
     pub pictures_stop : {A : Type 0} (r : Result A RunFault) (text : List ℕ) (before after : PictureState)
-        → after ≡ state_after_events before (events_after held offset (take used piece))
-        → report_lines before (events_after held offset (take used piece)) ≡ text → Stopped W a c text
-        → OnErr r (StopsInPictures W a c offset held piece held' before after)
+        → after ≡ state_after_events before (events_after held offset (take used chunk))
+        → report_lines before (events_after held offset (take used chunk)) ≡ text → Stopped W a c text
+        → OnErr r (StopsInPictures W a c offset held chunk held' before after)
     pictures_stop (Ok x) text before after shown e h = tt
     pictures_stop (Err f) text before after shown e h =
         record {
@@ -58,8 +58,8 @@ module _ {S : Type 0} (W : Sink S) where
 
     -- what was gathered is refused
     pub lines_stop_out : {A : Type 0} (r : Result A RunFault) (b : S) (o : List ℕ)
-        → Gathered W [] o a b (lines_after held offset (take used piece)) → Writes W b c r o
-        → OnErr r (StopsInLines W a c offset held piece held')
+        → Gathered W [] o a b (lines_after held offset (take used chunk)) → Writes W b c r o
+        → OnErr r (StopsInLines W a c offset held chunk held')
     lines_stop_out (Ok x) b o h k = tt
     lines_stop_out {A = A} (Err f) b o h k =
         let r : Result A RunFault = Err f in
@@ -68,9 +68,9 @@ module _ {S : Type 0} (W : Sink S) where
 
     pub pictures_stop_out : {A : Type 0} (r : Result A RunFault) (b : S) (o : List ℕ)
         (before after : PictureState)
-        → after ≡ state_after_events before (events_after held offset (take used piece))
-        → Gathered W [] o a b (report_lines before (events_after held offset (take used piece))) → Writes W b c r o
-        → OnErr r (StopsInPictures W a c offset held piece held' before after)
+        → after ≡ state_after_events before (events_after held offset (take used chunk))
+        → Gathered W [] o a b (report_lines before (events_after held offset (take used chunk))) → Writes W b c r o
+        → OnErr r (StopsInPictures W a c offset held chunk held' before after)
     pictures_stop_out (Ok x) b o before after shown h k = tt
     pictures_stop_out {A = A} (Err f) b o before after shown h k =
         let r : Result A RunFault = Err f in

@@ -33,21 +33,21 @@ report_lines-append before xs ys =
     ap (flat_map report_line) (reports-append before xs ys) ∙ flat_map-append report_line (reports before xs)
     (reports (state_after_events before xs) ys)
 
--- ---- bytes, and a piece after them
+-- ---- bytes, and a chunk after them
 
-pub text_from-append : PiecesAdd → (before : PictureState) (bytes piece : List ℕ)
-    → text_from before (bytes ++ piece) ≡ text_from before bytes ++ report_lines (state_from before bytes)
-    (events_after (open_message bytes) (length bytes) piece)
-text_from-append pieces before bytes piece =
-    ap (report_lines before) (pieces.behind bytes piece)
-    ∙ report_lines-append before (events bytes) (events_after (open_message bytes) (length bytes) piece)
+pub text_from-append : PiecesAdd → (before : PictureState) (bytes chunk : List ℕ)
+    → text_from before (bytes ++ chunk) ≡ text_from before bytes ++ report_lines (state_from before bytes)
+    (events_after (open_message bytes) (length bytes) chunk)
+text_from-append pieces before bytes chunk =
+    ap (report_lines before) (pieces.behind bytes chunk)
+    ∙ report_lines-append before (events bytes) (events_after (open_message bytes) (length bytes) chunk)
 
-pub state_from-append : PiecesAdd → (before : PictureState) (bytes piece : List ℕ)
-    → state_from before (bytes ++ piece) ≡ state_after_events (state_from before bytes)
-    (events_after (open_message bytes) (length bytes) piece)
-state_from-append pieces before bytes piece =
-    ap (state_after_events before) (pieces.behind bytes piece)
-    ∙ state_after-append before (events bytes) (events_after (open_message bytes) (length bytes) piece)
+pub state_from-append : PiecesAdd → (before : PictureState) (bytes chunk : List ℕ)
+    → state_from before (bytes ++ chunk) ≡ state_after_events (state_from before bytes)
+    (events_after (open_message bytes) (length bytes) chunk)
+state_from-append pieces before bytes chunk =
+    ap (state_after_events before) (pieces.behind bytes chunk)
+    ∙ state_after-append before (events bytes) (events_after (open_message bytes) (length bytes) chunk)
 
 -- ---- one event more, which makes `after` of the state
 

@@ -1,9 +1,11 @@
 -- Texts that are written one part after another.
-use Rattle.std.proofs.Common.{◌≡◌, ℕ, ◌+◌, ◌-◌, ◌/◌, ◌%◌, ◌^◌, ◌<◌, List, [], ◌∷◌, ◌++◌, ◌∙◌, add-one, ap, append_assoc, append-nil, arith, get_or, inl, inr, length, map, refl, replicate, sym, take}
+use Rattle.std.proofs.Common.{◌≡◌, ℕ, ◌+◌, ◌-◌, ◌/◌, ◌%◌, ◌^◌, ◌<◌, List, [], ◌∷◌, ◌++◌, ◌∙◌, add-one, ap, append_assoc, append-nil, arith, get_or, inl, inr, length, map, refl, replicate, sym, take, Bool, true}
 use Rattle.std.proofs.Math.Seq.{take-suc}
 use Rattle.std.proofs.lemmas.Bool.{cases_lt}
+use Rattle.std.proofs.lemmas.List.Folds.{list_all-append}
 use Rattle.std.proofs.lemmas.Fmt.{decimal_digit, decimal_step, decimal_nonempty}
-use Rattle.std.specs.Prelude.{codes, decimal}
+use Rattle.std.specs.List.{list_all}
+use Rattle.std.specs.Prelude.{◌&&◌, codes, decimal}
 use Rattle.hex.specs.Hex.{encode_lower}
 use Rattle.dgt_message.specs.Clock.{ClockState, Times}
 use Rattle.dgt_lines.specs.Clocks.{clock_text, has_bit, low_text, running_text, shown_time, turn_text}
@@ -65,3 +67,8 @@ pub clock_in_parts : (t : Times)
     ≡ clock_text (ClockState.times t)
 unfolding clock_text
 clock_in_parts t = simp append_assoc refl
+
+-- where a test holds of the first ones, it holds of all where it holds of the last ones
+pub list_all_behind : (test : ℕ → Bool) (xs ys : List ℕ) → list_all test xs ≡ true
+    → list_all test (xs ++ ys) ≡ list_all test ys
+list_all_behind test xs ys h = list_all-append test xs ys ∙ ap (λ t. t && list_all test ys) h

@@ -8,6 +8,16 @@ pub mod Marks
 pub mod Writing
 pub mod Refusals
 pub mod Device
+pub mod CommandWords
+pub mod CommandLines
+pub mod CommandLaws
+pub mod Turns
+pub mod Monitoring
+pub mod Picturing
+pub mod Commanding
+pub mod Closing
 -- for bodies alone
-pub mod InPieces
+pub mod InChunks
 pub mod Wording
+pub mod ClockMessages
+pub mod Printing

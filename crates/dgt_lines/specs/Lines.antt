@@ -102,13 +102,13 @@ placed_line x = event_line x.place x.event
 abbrev pub lines : List ℕ → List ℕ
 lines bytes = flat_map placed_line (events bytes)
 
--- the events of a piece that comes after this many bytes, of which these are an unfinished message
+-- the events of a chunk that comes after this many bytes, of which these are an unfinished message
 abbrev pub events_after : List ℕ → ℕ → List ℕ → List Placed
-events_after held offset piece = events_behind offset (piece_events held piece)
+events_after held offset chunk = events_behind offset (piece_events held chunk)
 
 -- and their lines
 abbrev pub lines_after : List ℕ → ℕ → List ℕ → List ℕ
-lines_after held offset piece = flat_map placed_line (events_after held offset piece)
+lines_after held offset chunk = flat_map placed_line (events_after held offset chunk)
 
 -- the last line, where these bytes of a message are left unfinished at the end of this many bytes
 abbrev pub unfinished_line : ℕ → List ℕ → List ℕ

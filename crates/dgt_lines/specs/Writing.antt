@@ -3,7 +3,7 @@ use Rattle.std.specs.Prelude.{◌≡◌, ℕ, true, false, List, [], ◌++◌, R
 use Rattle.std.specs.Io.KnownBytes.{Appends}
 use Rattle.dgt_lines.specs.declared.faults.RunFault.{RunFault}
 use Rattle.dgt_lines.specs.declared.faults.RunFault.TheVariants.{WriteFailed}
-use Rattle.dgt_lines.specs.declared.ends.Sink.{Ghosts as Sink}
+use Rattle.dgt_lines.specs.declared.streams.Sink.{Ghosts as Sink}
 
 -- the sink, whose bytes and marks these are, took all of the text
 pub record Wrote {S : Type 0} (W : Sink S) (old new : S) (text : List ℕ) : Type 0 where

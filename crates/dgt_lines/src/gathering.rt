@@ -6,8 +6,8 @@ ghost use Rattle.dgt_lines.specs.Lines.{padded_decimal};
 ghost use Rattle.dgt_lines.specs.Marks.{Waits};
 ghost use Rattle.dgt_lines.specs.Writing.{Writes, Gathers};
 
-use crate::ends::{Failed, Sink};
 use crate::faults::RunFault;
+use crate::streams::{Failed, Sink};
 use std::marker::Model;
 
 /// Writes all of these bytes, in as many writes as the sink asks for, without a flush.
@@ -63,7 +63,7 @@ impl<const ROOM: usize> Model for Outgoing<ROOM> {
 
 impl<const ROOM: usize> Outgoing<ROOM> {
     /// Nothing to write yet.
-    pub fn new() -> Self
+    pub(crate) fn new() -> Self
         ensures { result ≡ [] }
     {
         Outgoing {
@@ -73,7 +73,7 @@ impl<const ROOM: usize> Outgoing<ROOM> {
     }
 
     /// How many bytes were gathered and not written.
-    pub fn len(&self) -> usize
+    pub(crate) fn len(&self) -> usize
         ensures len { result ≡ length self.now }
         ensures limit { result ≤ ROOM }
     {
@@ -96,7 +96,7 @@ impl<const ROOM: usize> Outgoing<ROOM> {
     }
 
     /// Writes all that was gathered. After a refused write the rest of it is dropped.
-    pub fn write_out<W: Sink>(&mut self, writer: &mut W) -> Result<(), RunFault>
+    pub(crate) fn write_out<W: Sink>(&mut self, writer: &mut W) -> Result<(), RunFault>
         ensures output { Writes W.Sink writer.old writer.new result self.old }
         ensures empty { self.new ≡ [] }
         ensures no_flush { W.flushed writer.old ≡ false → W.flushed writer.new ≡ false }
@@ -108,17 +108,21 @@ impl<const ROOM: usize> Outgoing<ROOM> {
         answer
     }
 
-    /// Writes what was gathered, unless there is room for a line after it. After a refused write
-    /// nothing is gathered.
-    pub(crate) fn make_room<W: Sink>(&mut self, writer: &mut W) -> Result<(), RunFault>
-        requires { LINE_ROOM ≤ ROOM }
+    /// Writes what was gathered, unless there is room for this many bytes after it. After a refused
+    /// write nothing is gathered.
+    pub(crate) fn make_room<W: Sink>(
+        &mut self,
+        writer: &mut W,
+        wanted: usize,
+    ) -> Result<(), RunFault>
+        requires { wanted ≤ ROOM }
         ensures output { Gathers W.Sink (self.old, self.new) writer.old writer.new
             result [] }
-        ensures room { OnOk result (length self.new + LINE_ROOM ≤ ROOM) }
+        ensures room { OnOk result (length self.new + wanted ≤ ROOM) }
         ensures dropped { OnErr result (self.new ≡ []) }
         ensures no_flush { W.flushed writer.old ≡ false → W.flushed writer.new ≡ false }
     {
-        if self.room() < LINE_ROOM {
+        if self.room() < wanted {
             return self.write_out(writer);
         }
         Ok(())
@@ -144,7 +148,7 @@ impl<const ROOM: usize> Outgoing<ROOM> {
     }
 
     /// Adds these bytes, for which there is room.
-    pub fn push(&mut self, bytes: &[u8])
+    pub(crate) fn push(&mut self, bytes: &[u8])
         requires { length self.old + length bytes.now ≤ ROOM }
         ensures bytes { self.new ≡ self.old ++ bytes.now }
         ensures len { length self.new ≡ length self.old + length bytes.now }
@@ -170,7 +174,7 @@ impl<const ROOM: usize> Outgoing<ROOM> {
     }
 
     /// Adds two hexadecimal digits for each byte.
-    pub fn push_hex(&mut self, bytes: &[u8])
+    pub(crate) fn push_hex(&mut self, bytes: &[u8])
         requires { length self.old + 2 * length bytes.now ≤ ROOM }
         ensures bytes { self.new ≡ self.old ++ encode_lower bytes.now }
         ensures len { length self.new ≡ length self.old + 2 * length bytes.now }
@@ -181,7 +185,7 @@ impl<const ROOM: usize> Outgoing<ROOM> {
     }
 
     /// Adds a number in decimal, with leading zeros to at least `width` digits.
-    pub fn push_decimal(&mut self, number: u64, width: usize)
+    pub(crate) fn push_decimal(&mut self, number: u64, width: usize)
         requires room { length self.old + 20 ≤ ROOM }
         requires some { 0 < width }
         requires fits { width ≤ 20 }

@@ -4,7 +4,8 @@
 ghost use Rattle.std.specs.Prelude.{◌≡◌, ◌++◌, ℕ, List, length};
 ghost use Rattle.dgt_values.specs.Equality.{CloneIsSame, EqualIsSame};
 ghost use Rattle.dgt_decode.specs.Grammar.{open_message};
-ghost use Rattle.dgt_lines.specs.InPieces.{InPieces};
+ghost use Rattle.dgt_lines.specs.CommandLaws.{EachCharacterIsShown, EachIsTold, EachIsToldOnce, OthersAreQuestionMarks, TextsAppend};
+ghost use Rattle.dgt_lines.specs.InChunks.{InChunks};
 ghost use Rattle.dgt_lines.specs.Lines.{events_after, lines, lines_after};
 ghost use Rattle.dgt_lines.specs.Pictures.{LastLineIsPicture, PictureIsTheHosts, picture_after_events, picture_lines, picture_told, pictures_text};
 ghost use Rattle.dgt_lines.specs.Reports.{ClockLeavesReports, DoubtsKeepThePicture, DoubtsLeavePictures, FirstFaultsAreReported, HiddenClockIsSilent, IgnoredFaultsAreSilent, LastClockIsTheHosts, OtherClocksAreReported, report_lines, state_after_events, state_from, text_from};
@@ -12,15 +13,17 @@ ghost use Rattle.dgt_lines.specs.Writing.{InARow};
 ghost use Rattle.dgt_lines.specs.declared.doubts.PictureState.{PictureState};
 
 use crate::doubts::{Doubt, PictureState};
-use crate::ends::{Failed, Sink};
 use crate::faults::RunFault;
-use crate::{LINES_ROOM, PICTURES_ROOM};
+use crate::streams::{Failed, Sink};
+use crate::{COMMANDS_ROOM, LINES_ROOM, MAX_CHUNK, PICTURES_ROOM};
 use dgt_decode::laws;
 
-/// The room that each call which writes lines takes for them, in bytes.
+/// The most bytes that an engine reads at once, and the room that it takes for their lines.
 pub fn limits()
+    ensures chunk { MAX_CHUNK ≡ 4096 }
     ensures lines { LINES_ROOM ≡ 32768 }
     ensures pictures { PICTURES_ROOM ≡ 66560 }
+    ensures commands { COMMANDS_ROOM ≡ 32768 }
 {}
 
 /// Two values are equal, as `==` answers, exactly where they are the same.
@@ -41,23 +44,46 @@ pub fn writes_in_a_row<W: Sink>()
     ensures { InARow W.Sink }
 {}
 
-/// The lines of bytes in a row are those of the first ones, and then those of the piece after them.
+/// The lines of bytes in a row are those of the first ones, and then those of the chunk after them.
 pub fn lines_append()
-    ensures { (bytes piece : List ℕ) → lines (bytes ++ piece)
-        ≡ lines bytes ++ lines_after (open_message bytes) (length bytes) piece }
+    ensures { (bytes chunk : List ℕ) → lines (bytes ++ chunk)
+        ≡ lines bytes ++ lines_after (open_message bytes) (length bytes) chunk }
 {
     laws::pieces_in_a_row();
 }
 
+/// Bytes that come after others have one text of commands and one rest of a command, and no second.
+pub fn one_text()
+    ensures told { EachIsTold }
+    ensures once { EachIsToldOnce }
+{
+    dgt_command::laws::one_division();
+    dgt_command::laws::parts_of_words();
+    dgt_command::laws::no_word_begins_another();
+}
+
+/// The text of commands in a row is that of the first bytes, and then that of the rest of these and
+/// what follows.
+pub fn texts_append()
+    ensures { TextsAppend }
+{}
+
+/// The lines of commands show each character by the segments that `dgt_values::segment` gives it. A
+/// question mark stands for segments that show none.
+pub fn segments_are_read_back()
+    ensures characters { EachCharacterIsShown }
+    ensures others { OthersAreQuestionMarks }
+{}
+
 /// The lines that show the board, of bytes in a row, are those of the first ones, and then those of
-/// the piece after them, and so it is with the picture.
+/// the chunk after them, and so it is with the picture.
 pub fn pictures_append()
-    ensures lines { (bytes piece : List ℕ) → pictures_text (bytes ++ piece)
+    ensures lines { (bytes chunk : List ℕ) → pictures_text (bytes ++ chunk)
         ≡ pictures_text bytes ++ picture_lines (picture_told bytes)
-        (events_after (open_message bytes) (length bytes) piece) }
-    ensures picture { (bytes piece : List ℕ) → picture_told (bytes ++ piece)
+        (events_after (open_message bytes) (length bytes) chunk) }
+    ensures picture { (bytes chunk : List ℕ) → picture_told (bytes ++ chunk)
         ≡ picture_after_events (picture_told bytes)
-        (events_after (open_message bytes) (length bytes) piece) }
+        (events_after (open_message bytes) (length bytes) chunk) }
 {
     laws::pieces_in_a_row();
 }
@@ -71,14 +97,14 @@ pub fn last_line_is_picture()
 /// The reports of bytes in a row are those of the first ones, and then those of the chunk after
 /// them, and so it is with the state.
 pub fn reports_append()
-    ensures lines { (before : PictureState) (bytes piece : List ℕ) →
-        text_from before (bytes ++ piece)
+    ensures lines { (before : PictureState) (bytes chunk : List ℕ) →
+        text_from before (bytes ++ chunk)
         ≡ text_from before bytes ++ report_lines (state_from before bytes)
-        (events_after (open_message bytes) (length bytes) piece) }
-    ensures state { (before : PictureState) (bytes piece : List ℕ) →
-        state_from before (bytes ++ piece)
+        (events_after (open_message bytes) (length bytes) chunk) }
+    ensures state { (before : PictureState) (bytes chunk : List ℕ) →
+        state_from before (bytes ++ chunk)
         ≡ state_after_events (state_from before bytes)
-        (events_after (open_message bytes) (length bytes) piece) }
+        (events_after (open_message bytes) (length bytes) chunk) }
 {
     laws::pieces_in_a_row();
 }
@@ -121,8 +147,8 @@ pub fn picture_is_the_hosts()
 {}
 
 // What comes in chunks is decoded as if it had come whole.
-pub(crate) fn in_pieces()
-    ensures { InPieces }
+pub(crate) fn in_chunks()
+    ensures { InChunks }
 {
     laws::pieces_in_a_row();
     laws::places_add();

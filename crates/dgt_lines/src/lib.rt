@@ -1,13 +1,13 @@
-//! Sources and sinks of bytes, and the lines of text of what a DGT board sends.
+//! Sources and sinks of bytes, and the lines of text of what a DGT board and its host send.
 //!
 //! | To | Use |
 //! |---|---|
 //! | read and write a slice, or any reader or writer of std | [`Bytes`], [`Device`] |
 //! | write bytes, and pass them on | [`put`], [`flush`] |
-//! | gather bytes for one write | [`Outgoing`] |
 //! | write the line of an event, as `00000005 field e4 P` | [`write_event`] |
-//! | write the lines of a chunk, and of what is unfinished | [`write_lines`], [`write_end`] |
-//! | write positions, doubts, and the clock | [`write_pictures`], with a [`PictureState`] |
+//! | write the line of a command, as `00000001 dump` | [`write_command`] |
+//! | write how a board and a host are at the end | [`write_closing`] |
+//! | write the lines of all that a source gives | [`monitor`], [`commands`], [`picture`] |
 //!
 //! ```rust
 //! use dgt_decode::Event;
@@ -20,6 +20,24 @@
 //! }
 //! ```
 //!
+//! The words for a command are those of `dgt ask`:
+//!
+//! ```rust
+//! use dgt_command::CommandDecoder;
+//! use dgt_lines::{RunFault, Sink, flush, write_command};
+//!
+//! /// Writes the line of each command of these bytes, such as `00000001 dump`.
+//! pub fn list<W: Sink>(bytes: &[u8], to: &mut W) -> Result<(), RunFault> {
+//!     let mut decoder = CommandDecoder::new();
+//!     for (before, byte) in bytes.iter().enumerate() {
+//!         if let Some(event) = decoder.feed(&[*byte]).event {
+//!             write_command(to, before as u64 + 1, &event)?;
+//!         }
+//!     }
+//!     flush(to)
+//! }
+//! ```
+//!
 //! A [`Source`] gives bytes and a [`Sink`] takes them. Contracts name the bytes that a source gave
 //! and a sink took, if these state them, also if a call was refused. [`RunFault`] is why a run over
 //! them stops.
@@ -28,29 +46,42 @@
 //! about lines and writes as such.
 #![tactic(auto)]
 
+mod chunks;
 mod clocks;
+mod closing;
+mod command_chunks;
+mod command_lines;
+mod command_wording;
 mod doubts;
-mod ends;
 mod faults;
 mod gathering;
 pub mod laws;
 mod lines;
+mod picture_chunks;
 mod pictures;
-mod picturing;
-mod pieces;
+mod printers;
+mod printing;
 mod slice_source;
 mod std_device;
+mod streams;
 mod wording;
 
+pub use chunks::LINES_ROOM;
 pub use clocks::ShownClock;
+pub use closing::write_closing;
+pub use command_chunks::COMMANDS_ROOM;
+pub use command_lines::write_command;
 pub use doubts::{Doubt, PictureState};
-pub use ends::{Failed, Sink, Source};
 pub use faults::RunFault;
-pub use gathering::{Outgoing, flush, put};
+pub use gathering::{flush, put};
 pub use lines::{write_event, write_unfinished};
+pub use picture_chunks::PICTURES_ROOM;
 pub use pictures::Picture;
-pub use picturing::{PICTURES_ROOM, write_pictures};
-pub use pieces::{LINES_ROOM, write_end, write_lines};
+pub use printers::MAX_CHUNK;
+pub use printing::{
+    commands, monitor, picture, picture_with_clock, picture_with_doubts,
+    picture_with_doubts_and_clock,
+};
 pub use slice_source::Bytes;
 pub use std_device::Device;
-pub use wording::push_clock;
+pub use streams::{Failed, Sink, Source};

@@ -8,9 +8,9 @@ ghost use Rattle.dgt_lines.specs.Writing.{Gathers, Writes};
 ghost use Rattle.dgt_lines.specs.Lines.{bytes_text, event_line, line, offset_text, padded_decimal, unfinished_text};
 ghost use Rattle.dgt_lines.specs.Marks.{Waits};
 
-use crate::ends::Sink;
 use crate::faults::RunFault;
 use crate::gathering::{LINE_ROOM, Outgoing};
+use crate::streams::Sink;
 use crate::wording::{push_event, push_fault, push_field};
 use dgt_decode::{Event, Found, Framer, field_update};
 
@@ -121,7 +121,7 @@ pub(crate) fn put_event<W: Sink, const ROOM: usize>(
     ensures no_flush { W.flushed writer.old ≡ false → W.flushed writer.new ≡ false }
     ensures waits { OnOk result (Waits outgoing.new (W.flushed writer.new)) }
 {
-    outgoing.make_room(writer)?;
+    outgoing.make_room(writer, LINE_ROOM)?;
     push_offset(outgoing, offset);
     match push_event(outgoing, event) {
         None => {
@@ -175,7 +175,7 @@ fn put_fault<W: Sink, const ROOM: usize>(
     ensures no_flush { W.flushed writer.old ≡ false → W.flushed writer.new ≡ false }
     ensures waits { OnOk result (Waits outgoing.new (W.flushed writer.new)) }
 {
-    outgoing.make_room(writer)?;
+    outgoing.make_room(writer, LINE_ROOM)?;
     push_offset(outgoing, offset);
     push_fault(outgoing, fault);
     outgoing.push(b"\n");
@@ -221,7 +221,7 @@ fn put_message<W: Sink, const ROOM: usize>(
     let Some((square, piece)) = field_update(framer.bytes()) else {
         return put_message_event(outgoing, writer, offset, framer);
     };
-    outgoing.make_room(writer)?;
+    outgoing.make_room(writer, LINE_ROOM)?;
     push_offset(outgoing, offset);
     push_field(outgoing, square, piece);
     outgoing.push(b"\n");

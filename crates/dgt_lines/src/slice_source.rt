@@ -2,7 +2,7 @@
 
 ghost use Rattle.std.specs.Prelude.{◌≡◌, false, Some};
 
-use crate::ends::{Failed, Source};
+use crate::streams::{Failed, Source};
 
 /// A source over a slice, which never refuses.
 #[derive(Drop)]

@@ -3,7 +3,7 @@
 ghost use Rattle.std.specs.Prelude.{◌≤◌, length, IfOk};
 ghost use Rattle.std.specs.Io.KnownBytes.{Keeps, ReadConsumes, WriteAppends};
 
-use crate::ends::{Failed, Sink, Source};
+use crate::streams::{Failed, Sink, Source};
 use std::io::{ErrorKind, Read, Write};
 
 // How often a call is made, at most, where each time it is interrupted.

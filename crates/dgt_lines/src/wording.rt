@@ -128,7 +128,7 @@ pub(crate) fn push_field<const ROOM: usize>(text: &mut Outgoing<ROOM>, square: S
 }
 
 /// Adds the text of what the host knows of a clock.
-pub fn push_clock<const ROOM: usize>(text: &mut Outgoing<ROOM>, clock: Clock)
+pub(crate) fn push_clock<const ROOM: usize>(text: &mut Outgoing<ROOM>, clock: Clock)
     requires { length text.old + 100 ≤ ROOM }
     ensures text { text.new ≡ text.old ++ message_text (clock_message (clock_seen clock)) }
     ensures room { length text.new ≤ length text.old + 28 }

@@ -5,7 +5,7 @@ use Rattle.hex.specs.Hex.{decode_of}
 use Rattle.hex.proofs.HexLemmas.{decode_of-same}
 use Rattle.dgt_command.specs.Laws.{SpellingsTellCommands}
 use Rattle.dgt_link.specs.Faults.{FaultyContent}
-use Rattle.dgt_lines.specs.Lines.{words_text}
+use Rattle.dgt_script.specs.ScriptWords.{words_text}
 use Rattle.dgt_script.specs.declared.script_words.FaultVerb.TheVariants as fault
 use Rattle.dgt_script.specs.declared.script_words.FaultyVerb.{FaultyVerb}
 use Rattle.dgt_script.specs.declared.script_words.FaultyVerb.TheVariants as faulty

@@ -3,4 +3,3 @@ pub mod ScriptLemmas
 pub mod MeaningLemmas
 pub mod FaultyMeaning
 pub mod KeepLemmas
-pub mod ClosingLemmas

@@ -5,7 +5,7 @@ use Rattle.dgt_command.specs.Laws.{SpellingsTellCommands}
 use Rattle.dgt_link.specs.Act.{ActContent, Change, ClockRead, Host, BoardSend, ToBoard, ToHost, Break, HostBreak}
 use Rattle.dgt_script.specs.declared.script_words.Verb.{Verb}
 use Rattle.dgt_script.specs.declared.script_words.Verb.TheVariants as verb
-use Rattle.dgt_lines.specs.Lines.{words_text}
+use Rattle.dgt_script.specs.ScriptWords.{words_text}
 use Rattle.dgt_script.specs.Script.{AreOf, Asks, GoesWrong, AsksFor, IsBadAt, IsBadFrom, IsBadIn, WordKind, kinds_after, words}
 use Rattle.dgt_script.specs.ScriptWords.{verb_text, IsClockWord, IsCommandWord, IsCountWord, IsPieceWord, IsSquareWord}
 use Rattle.dgt_script.proofs.ScriptWordLemmas.{IsRead, one_clock, one_command, one_count, one_piece, one_square}

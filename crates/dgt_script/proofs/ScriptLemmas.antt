@@ -9,7 +9,7 @@ use Rattle.std.proofs.lemmas.List.{get_or-take, length-drop, length-take-le, tak
 use Rattle.std.proofs.lemmas.List.Splits.{join_with_byte-slice_split, length-slice_split, slice_split_first, slice_split_none}
 use Rattle.std.proofs.lemmas.List.Sums.{fails_before_first, position_or_len_is}
 use Rattle.dgt_script.specs.declared.script.Wrong.{Wrong}
-use Rattle.dgt_lines.specs.Lines.{words_text}
+use Rattle.dgt_script.specs.ScriptWords.{words_text}
 use Rattle.dgt_script.specs.Script.{GoesWrong, IsBadFrom, IsBadIn, IsOf, WordKind, words}
 use Rattle.dgt_script.specs.ScriptReading.{left_words, GoesWrongBefore, IsBadBefore}
 

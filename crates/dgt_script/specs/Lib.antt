@@ -3,6 +3,6 @@ pub mod ScriptWords
 pub mod Script
 pub mod FaultyScript
 pub mod ScriptLines
-pub mod Closing
+pub mod Outcomes
 -- for bodies alone
 pub mod ScriptReading

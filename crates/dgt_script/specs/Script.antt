@@ -9,7 +9,7 @@ use Rattle.dgt_script.specs.declared.script.LineFault.{LineFault}
 use Rattle.dgt_script.specs.declared.script.LineFault.TheVariants.{BadLine}
 use Rattle.dgt_script.specs.declared.script_words.Verb.{Verb}
 use Rattle.dgt_script.specs.declared.script_words.Verb.TheVariants as verb
-use Rattle.dgt_lines.specs.Lines.{words_text}
+use Rattle.dgt_script.specs.ScriptWords.{words_text}
 use Rattle.dgt_script.specs.ScriptWords.{verb_text, IsBytesWord, IsSquareWord, IsPieceWord, IsClockWord, IsCommandWord, IsCountWord}
 
 -- the words of a line are its parts between single spaces; an empty part is an empty word

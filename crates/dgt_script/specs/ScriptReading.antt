@@ -8,7 +8,7 @@ use Rattle.dgt_link.specs.Faults.{faulty_content}
 use Rattle.dgt_script.specs.declared.script_words.FaultyVerb.{FaultyVerb}
 use Rattle.dgt_script.specs.declared.script_words.Verb.{Verb}
 use Rattle.dgt_script.specs.declared.script.Wrong.{Wrong}
-use Rattle.dgt_lines.specs.Lines.{words_text}
+use Rattle.dgt_script.specs.ScriptWords.{words_text}
 use Rattle.dgt_script.specs.Script.{Asks, GoesWrong, IsBadFrom, WordKind, a_count, kinds_after, some_bytes, words}
 use Rattle.dgt_script.specs.FaultyScript.{AsksFaulty, faulty_kinds, faulty_text}
 use Rattle.dgt_script.specs.ScriptWords.{verb_text, IsBytesWord, IsCountWord}

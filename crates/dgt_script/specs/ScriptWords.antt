@@ -1,5 +1,6 @@
 -- The words of a script line, and what each one stands for.
 use Rattle.std.specs.Prelude.{◌≡◌, ℕ, ◌<◌, ◌≤◌, ◌⊎◌, List, [], ◌∷◌, Ok, codes, decimal, length}
+use Rattle.std.specs.List.{join_with_byte}
 use Rattle.hex.specs.Hex.{decode_of}
 use Rattle.dgt_values.specs.declared.pieces.Piece.{Piece}
 use Rattle.dgt_values.specs.Board.{piece_letter, square_name}
@@ -12,6 +13,12 @@ use Rattle.dgt_command.specs.Content.{CommandContent}
 use Rattle.dgt_command.specs.Spelling.{SpellsCommand}
 use Rattle.dgt_script.specs.declared.script_words.Verb.{Verb}
 use Rattle.dgt_script.specs.declared.script_words.Verb.TheVariants as verb
+
+-- ---- Words in a row
+
+-- words with a space between two
+abbrev pub words_text : List (List ℕ) → List ℕ
+words_text words = join_with_byte 32 words
 
 -- ---- The first word
 

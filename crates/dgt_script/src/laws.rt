@@ -1,11 +1,10 @@
-//! What holds of the lines of a script, and of closing lines, as such. Nothing here runs: each
-//! function stands for the facts that its contract states.
+//! What holds of the lines of a script as such. Nothing here runs: each function stands for the
+//! facts that its contract states.
 
 ghost use Rattle.std.specs.Prelude.{◌≡◌, ◌≢◌, ◌↔◌, ◌∷◌, ℕ, List};
 ghost use Rattle.dgt_values.specs.Equality.{CloneIsSame, EqualIsSame};
 ghost use Rattle.dgt_link.specs.Act.{ActContent};
 ghost use Rattle.dgt_link.specs.Faults.{FaultyContent};
-ghost use Rattle.dgt_script.specs.Closing.{ClosingLinesAgree};
 ghost use Rattle.dgt_script.specs.FaultyScript.{AsksFaulty, AsksForFaulty, IsBadAtFaulty, faulty_kinds, faulty_text};
 ghost use Rattle.dgt_script.specs.Script.{AreOf, Asks, AsksFor, IsBadAt, kinds_after};
 ghost use Rattle.dgt_script.specs.ScriptWords.{verb_text};
@@ -63,10 +62,4 @@ pub fn kinds_are_asked_for()
     ensures faulty { (verb : FaultyVerb) (rest : List (List ℕ)) →
         AreOf (faulty_kinds verb) rest
         ↔ ((act : FaultyContent) × AsksFaulty (faulty_text verb ∷ rest) act) }
-{}
-
-/// If the host's picture is the board's position, the closing lines of board and host, which come
-/// first, have one and the same placement.
-pub fn closing_lines_agree()
-    ensures { ClosingLinesAgree }
 {}

@@ -1,4 +1,4 @@
-//! The lines of a script for a simulated DGT board, and the lines that say what came of it.
+//! The lines of a script for a simulated DGT board, and the lines that say what came of each.
 //!
 //! | To | Use |
 //! |---|---|
@@ -6,7 +6,6 @@
 //! | read a line of a world with faults, as `garbleup 8000` | [`read_faulty_act`] |
 //! | keep a line that comes in chunks | [`LineBuffer`], and [`len_before`] finds its end |
 //! | write what came of an act | [`outcome_text`] |
-//! | write how a world is left, in four lines | [`write_closing`] |
 //!
 //! ```rust
 //! use dgt_command::MAX_WORD;
@@ -25,16 +24,16 @@
 //! lines as such, and `specs/Script.antt` the definitions that contracts cite.
 #![tactic(auto)]
 
-mod closing;
 mod cutting;
 mod faulty_script;
 pub mod laws;
+mod outcomes;
 mod script;
 mod script_lines;
 mod script_words;
 
-pub use closing::{outcome_text, write_closing};
 pub use cutting::len_before;
 pub use faulty_script::read_faulty_act;
+pub use outcomes::outcome_text;
 pub use script::{LineFault, read_act};
 pub use script_lines::{LineBuffer, MAX_LINE};

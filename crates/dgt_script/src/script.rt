@@ -2,7 +2,7 @@
 
 ghost use Rattle.std.specs.Prelude.{◌≡◌, [], ◌∷◌, length, IfOk, IfErr, MatchResult};
 ghost use Rattle.dgt_link.specs.Act.{act_content};
-ghost use Rattle.dgt_lines.specs.Lines.{words_text};
+ghost use Rattle.dgt_script.specs.ScriptWords.{words_text};
 ghost use Rattle.dgt_script.specs.Script.{bad_offset, words, AsksFor, IsBadAt};
 ghost use Rattle.dgt_script.specs.ScriptReading.{left_words, GoesWrongBefore, ReadsBehind, ReadsCount, ReadsLine};
 ghost use Rattle.dgt_script.specs.declared.script_words.Verb.TheVariants as verb;

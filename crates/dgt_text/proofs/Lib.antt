@@ -1,10 +1,6 @@
-pub mod Printed
-pub mod Heard
-pub mod Pictured
-pub mod TurnLemmas
-pub mod Listed
 pub mod ConversationLemmas
 pub mod ServingLemmas
 pub mod PlayLemmas
 pub mod ScriptRuns
 pub mod PlayOnce
+pub mod ClosingLemmas

@@ -12,12 +12,13 @@ use Rattle.dgt_link.specs.View.{IsQuietWorld, WorldView}
 use Rattle.dgt_lines.specs.declared.faults.RunFault.{RunFault}
 use Rattle.dgt_lines.specs.declared.faults.RunFault.TheVariants.{ReadFailed, WriteFailed, TooManyTurns, BadLine}
 use Rattle.dgt_script.specs.declared.script_lines.LineBuffer.{LineBuffer}
-use Rattle.dgt_script.specs.Closing.{closing_lines, outcome_line}
-use Rattle.dgt_text.specs.Monitoring.{IsFront}
+use Rattle.dgt_text.specs.Closing.{closing_lines}
+use Rattle.dgt_script.specs.Outcomes.{outcome_line}
+use Rattle.dgt_lines.specs.Monitoring.{IsFront}
 use Rattle.dgt_lines.specs.Writing.{Writes, Stopped}
 use Rattle.dgt_script.specs.ScriptLines.{HasNoFeed, IsCut, KeepsLine, ended}
 use Rattle.dgt_text.specs.Simulating.{BeginsWith, IsSimulatedFrom, Plays, PlaysOn, PlaysTorn, Rules, Stops, Took, all_lines, part}
-use Rattle.dgt_lines.specs.declared.ends.Sink.{Ghosts as Sink}
+use Rattle.dgt_lines.specs.declared.streams.Sink.{Ghosts as Sink}
 
 -- ---- lines
 
@@ -245,7 +246,7 @@ module _ (rules : Rules) where
       MatchResult r (λ _. Took W old new (λ out. Plays rules world (line ∷ []) out last))
       (λ fault. Took W old new (Stops rules at_end (part number bytes world last) fault))
 
-  -- a piece of a script; the bytes are those since the last line feed before it, and the piece
+  -- a chunk of a script; the bytes are those since the last line feed before it, and the chunk
   abbrev PlaysPiece : {S A : Type 0} → Sink S → Bool → WorldView → WorldView → S → S → LineBuffer → ℕ → ℕ
       → Result A RunFault → List ℕ → Type 0
   PlaysPiece W at_end world last old new line number number' r bytes =
@@ -324,16 +325,16 @@ module _ (rules : Rules) where
         (q.rest ++ p)
     on_whole bytes q p = ap (λ l. l ++ p) q.cut.whole ∙ append_assoc (flat_map ended q.lines) q.rest p
 
-    pub on_more : (w m l : WorldView) (a b c : S) (line line' : LineBuffer) (n n' n'' : ℕ) (bytes piece : List ℕ)
+    pub on_more : (w m l : WorldView) (a b c : S) (line line' : LineBuffer) (n n' n'' : ℕ) (bytes chunk : List ℕ)
         (q : PlaysOn rules W (part n bytes w m) a b line n') → PlaysOn rules W
-        (part n' (q.rest ++ piece) m l) b c line' n''
-        → PlaysOn rules W (part n (bytes ++ piece) w l) a c line' n''
-    on_more w m l a b c line line' n n' n'' bytes piece q p = record {
+        (part n' (q.rest ++ chunk) m l) b c line' n''
+        → PlaysOn rules W (part n (bytes ++ chunk) w l) a c line' n''
+    on_more w m l a b c line line' n n' n'' bytes chunk q p = record {
       lines = q.lines ++ p.lines;
       rest = p.rest;
       text = q.text ++ p.text;
-      cut = cut_after (bytes ++ piece) (q.rest ++ piece) p.rest q.lines p.lines
-          (on_whole bytes q piece) q.cut.each p.cut;
+      cut = cut_after (bytes ++ chunk) (q.rest ++ chunk) p.rest q.lines p.lines
+          (on_whole bytes q chunk) q.cut.each p.cut;
       kept = p.kept;
       counted = let k = length-append q.lines p.lines in let i = q.counted in let j = p.counted in omega arith;
       plays = plays_append w m l q.lines p.lines q.text p.text q.plays p.plays;
@@ -381,7 +382,7 @@ module _ (rules : Rules) where
           (on_whole bytes q p) q.cut.each q.counted q.plays t.2,
     )
 
-    -- the exit of a `?` in a piece
+    -- the exit of a `?` in a chunk
     pub piece_exit : {A : Type 0} (at_end : Bool) (r : Result A RunFault) (e : RunFault) (w l : WorldView) (a b : S)
         (line : LineBuffer) (n n' : ℕ) (bytes : List ℕ) → IsErrAnd r (λ y. y ≡ e)
         → Took W a b (Stops rules at_end (part n bytes w l) e)
@@ -445,49 +446,49 @@ module _ (rules : Rules) where
           ),
         )
 
--- ---- the bytes of a piece
+-- ---- the bytes of a chunk
 
-pub held_bytes : (rest piece : List ℕ) (i n : ℕ)
-    → (rest ++ take i piece) ++ take n (take (length piece - i) (drop i piece)) ≡ rest ++ take (i + n) piece
-held_bytes rest piece i n = rw (take_rest, take-add i n piece) (append_assoc rest (take i piece) _)
+pub held_bytes : (rest chunk : List ℕ) (i n : ℕ)
+    → (rest ++ take i chunk) ++ take n (take (length chunk - i) (drop i chunk)) ≡ rest ++ take (i + n) chunk
+held_bytes rest chunk i n = rw (take_rest, take-add i n chunk) (append_assoc rest (take i chunk) _)
 
-line_feed : (piece : List ℕ) (i n : ℕ) → i + n < length piece
-    → (n < length (take (length piece - i) (drop i piece))
-    → slice_index (take (length piece - i) (drop i piece)) n ≡ 10)
-    → take (n + 1) (take (length piece - i) (drop i piece)) ≡ take n (take (length piece - i) (drop i piece)) ++ 10 ∷ []
-line_feed piece i n h k =
-    let room : n < length (take (length piece - i) (drop i piece)) = search (rules, places, h) in
-    rw add-one (take-suc (take (length piece - i) (drop i piece)) n 0 room) ∙
-    ap (λ b. take n (take (length piece - i) (drop i piece)) ++ b ∷ []) (k room)
+line_feed : (chunk : List ℕ) (i n : ℕ) → i + n < length chunk
+    → (n < length (take (length chunk - i) (drop i chunk))
+    → slice_index (take (length chunk - i) (drop i chunk)) n ≡ 10)
+    → take (n + 1) (take (length chunk - i) (drop i chunk)) ≡ take n (take (length chunk - i) (drop i chunk)) ++ 10 ∷ []
+line_feed chunk i n h k =
+    let room : n < length (take (length chunk - i) (drop i chunk)) = search (rules, places, h) in
+    rw add-one (take-suc (take (length chunk - i) (drop i chunk)) n 0 room) ∙
+    ap (λ b. take n (take (length chunk - i) (drop i chunk)) ++ b ∷ []) (k room)
 
-pub line_bytes : (rest piece : List ℕ) (i n : ℕ) → i + n < length piece
-    → (n < length (take (length piece - i) (drop i piece))
-    → slice_index (take (length piece - i) (drop i piece)) n ≡ 10)
-    → (rest ++ take i piece) ++ (take n (take (length piece - i) (drop i piece)) ++ 10 ∷ []) ≡ rest ++ take
-    (i + n + 1) piece
-line_bytes rest piece i n h k =
+pub line_bytes : (rest chunk : List ℕ) (i n : ℕ) → i + n < length chunk
+    → (n < length (take (length chunk - i) (drop i chunk))
+    → slice_index (take (length chunk - i) (drop i chunk)) n ≡ 10)
+    → (rest ++ take i chunk) ++ (take n (take (length chunk - i) (drop i chunk)) ++ 10 ∷ []) ≡ rest ++ take
+    (i + n + 1) chunk
+line_bytes rest chunk i n h k =
     let sum : i + (n + 1) ≡ i + n + 1 = omega arith in
-    ap (λ l. (rest ++ take i piece) ++ l) (sym (line_feed piece i n h k)) ∙ held_bytes rest piece i
-    (n + 1) ∙ ap (λ m. rest ++ take m piece) sum
+    ap (λ l. (rest ++ take i chunk) ++ l) (sym (line_feed chunk i n h k)) ∙ held_bytes rest chunk i
+    (n + 1) ∙ ap (λ m. rest ++ take m chunk) sum
 
 -- the bytes after those that were played
-pub left_bytes : (rest piece : List ℕ) (i : ℕ) → (rest ++ take i piece) ++ drop i piece ≡ rest ++ piece
-left_bytes rest piece i = append_assoc rest (take i piece) (drop i piece) ∙ ap (λ l. rest ++ l)
-    (take-append-drop i piece)
+pub left_bytes : (rest chunk : List ℕ) (i : ℕ) → (rest ++ take i chunk) ++ drop i chunk ≡ rest ++ chunk
+left_bytes rest chunk i = append_assoc rest (take i chunk) (drop i chunk) ∙ ap (λ l. rest ++ l)
+    (take-append-drop i chunk)
 
 -- they begin with a line
-pub feed_begins : (at_end : Bool) (rest piece : List ℕ) (i n : ℕ) → i + n < length piece
-    → (n < length (take (length piece - i) (drop i piece))
-    → slice_index (take (length piece - i) (drop i piece)) n ≡ 10) → HasNoFeed rest
-    → HasNoFeed (take n (take (length piece - i) (drop i piece))) → BeginsWith at_end (rest ++ drop i piece)
-    ((rest ++ take n (take (length piece - i) (drop i piece))) ∷ [])
-feed_begins at_end rest piece i n h k none clean =
-    let left = take (length piece - i) (drop i piece) in
+pub feed_begins : (at_end : Bool) (rest chunk : List ℕ) (i n : ℕ) → i + n < length chunk
+    → (n < length (take (length chunk - i) (drop i chunk))
+    → slice_index (take (length chunk - i) (drop i chunk)) n ≡ 10) → HasNoFeed rest
+    → HasNoFeed (take n (take (length chunk - i) (drop i chunk))) → BeginsWith at_end (rest ++ drop i chunk)
+    ((rest ++ take n (take (length chunk - i) (drop i chunk))) ∷ [])
+feed_begins at_end rest chunk i n h k none clean =
+    let left = take (length chunk - i) (drop i chunk) in
     let line = take n left in
-    begins_ended at_end (rest ++ line) (drop (n + 1) left) (rest ++ drop i piece)
+    begins_ended at_end (rest ++ line) (drop (n + 1) left) (rest ++ drop i chunk)
     (All-append (λ x. x ≢ 10) rest line none clean)
     (ap (λ l. rest ++ l)
-    (sym (take_rest piece i) ∙ sym (take-append-drop (n + 1) left) ∙ ap (λ l. l ++ drop (n + 1) left)
-    (line_feed piece i n h k))
+    (sym (take_rest chunk i) ∙ sym (take-append-drop (n + 1) left) ∙ ap (λ l. l ++ drop (n + 1) left)
+    (line_feed chunk i n h k))
     ∙ sym (append_assoc rest (line ++ 10 ∷ []) (drop (n + 1) left)) ∙ ap (λ l. l ++ drop (n + 1) left)
     (sym (append_assoc rest line (10 ∷ []))))

@@ -3,7 +3,7 @@ use Rattle.std.proofs.Common.{◌≡◌, ◌≢◌, ℕ, List, [], ◌∷◌, �
 use Rattle.std.specs.Prelude.{All, flat_map}
 use Rattle.dgt_link.specs.declared.acts.Outcome.{Outcome}
 use Rattle.dgt_link.specs.View.{WorldView}
-use Rattle.dgt_script.specs.Closing.{outcome_line}
+use Rattle.dgt_script.specs.Outcomes.{outcome_line}
 use Rattle.dgt_script.specs.ScriptLines.{HasNoFeed, IsCut, ended}
 use Rattle.dgt_text.specs.Simulating.{Plays, Rules}
 

@@ -7,13 +7,13 @@ use Rattle.dgt_link.specs.View.{IsQuietWorld, WorldView}
 use Rattle.dgt_lines.specs.declared.faults.RunFault.{RunFault}
 use Rattle.dgt_lines.specs.declared.faults.RunFault.TheVariants.{ReadFailed, WriteFailed, TooManyTurns, BadLine}
 use Rattle.dgt_script.specs.declared.script_lines.LineBuffer.{LineBuffer}
-use Rattle.dgt_script.specs.Closing.{ClosingLinesAgree, closing_lines}
+use Rattle.dgt_text.specs.Closing.{ClosingLinesAgree, closing_lines}
 use Rattle.dgt_lines.specs.Writing.{Stopped}
-use Rattle.dgt_text.specs.Turns.{HasTurns, Ran, change, InTurns}
+use Rattle.dgt_lines.specs.Turns.{HasTurns, Ran, change, InTurns}
 use Rattle.dgt_text.specs.Simulating.{EndsAlike, IsOfLine, IsSimulated, IsSimulatedFrom, PlaysOn, Stops, Rules, Took, part}
 use Rattle.dgt_text.proofs.PlayLemmas.{begins_none, end_exit, on_simulated, stopped_none, torn_none}
-use Rattle.dgt_lines.specs.declared.ends.Source.{Ghosts as Source}
-use Rattle.dgt_lines.specs.declared.ends.Sink.{Ghosts as Sink}
+use Rattle.dgt_lines.specs.declared.streams.Source.{Ghosts as Source}
+use Rattle.dgt_lines.specs.declared.streams.Sink.{Ghosts as Sink}
 
 -- a fault of a line is none of turns
 line_turns : {A : Type 0} (limit : ℕ) (r : Result A RunFault) (bytes : List ℕ) → IfErr r IsOfLine
@@ -59,31 +59,31 @@ plays_flushed rules W c d d' w m line n bytes q p = record {
 module _ (rules : Rules) {S T : Type 0} (R : Source S) (W : Sink T) where
   -- how the run ends
   pub scripted_ends : {A : Type 0} (at_end : Bool) (limit : ℕ) (r : Result A RunFault) (a b b' : S) (c d d' : T)
-      (w m l : WorldView) (line : LineBuffer) (n : ℕ) (bytes piece : List ℕ) → Consumes (R.left a) (R.left b) bytes
+      (w m l : WorldView) (line : LineBuffer) (n : ℕ) (bytes chunk : List ℕ) → Consumes (R.left a) (R.left b) bytes
       → (q : PlaysOn rules W (part 1 bytes w m) c d line n)
-      → Consumes (R.left b) (R.left b') piece → IfErr r IsOfLine
-      → Took W d d' (IsSimulatedFrom rules at_end (part n (q.rest ++ piece) m l) r)
+      → Consumes (R.left b) (R.left b') chunk → IfErr r IsOfLine
+      → Took W d d' (IsSimulatedFrom rules at_end (part n (q.rest ++ chunk) m l) r)
       → Ran R W (change a b') (change c d') (InTurns limit r (IsSimulated rules at_end r w l))
-  scripted_ends at_end limit r a b b' c d d' w m l line n bytes piece g q p f t =
-      let whole = on_simulated rules W at_end r w m l c d d' line 1 n bytes piece q t in (
-        bytes ++ piece,
+  scripted_ends at_end limit r a b b' c d d' w m l line n bytes chunk g q p f t =
+      let whole = on_simulated rules W at_end r w m l c d d' line 1 n bytes chunk q t in (
+        bytes ++ chunk,
         whole.0,
-        Consumes-trans _ _ _ bytes piece g p,
+        Consumes-trans _ _ _ bytes chunk g p,
         whole.1,
-        (line_turns limit r (bytes ++ piece) f, whole.2),
+        (line_turns limit r (bytes ++ chunk) f, whole.2),
       )
 
-  -- the exit of a `?` on a piece
+  -- the exit of a `?` on a chunk
   pub scripted_stops : {A : Type 0} (at_end : Bool) (limit : ℕ) (r : Result A RunFault) (e : RunFault) (a b b' : S)
-      (c d d' : T) (w m l : WorldView) (line : LineBuffer) (n : ℕ) (bytes piece : List ℕ)
+      (c d d' : T) (w m l : WorldView) (line : LineBuffer) (n : ℕ) (bytes chunk : List ℕ)
       → Consumes (R.left a) (R.left b) bytes → (q : PlaysOn rules W (part 1 bytes w m) c d line n)
-      → Consumes (R.left b) (R.left b') piece → IsErrAnd r (λ y. y ≡ e)
-      → Took W d d' (Stops rules at_end (part n (q.rest ++ piece) m l) e)
+      → Consumes (R.left b) (R.left b') chunk → IsErrAnd r (λ y. y ≡ e)
+      → Took W d d' (Stops rules at_end (part n (q.rest ++ chunk) m l) e)
       → Ran R W (change a b') (change c d') (InTurns limit r (IsSimulated rules at_end r w l))
-  scripted_stops at_end limit r e a b b' c d d' w m l line n bytes piece g q p k t =
-      scripted_ends at_end limit r a b b' c d d' w m l line n bytes piece g q p
-      (stop_line rules at_end r e m l n (q.rest ++ piece) t.0 k t.2)
-      (end_exit rules W at_end r e m l d d' n (q.rest ++ piece) k t)
+  scripted_stops at_end limit r e a b b' c d d' w m l line n bytes chunk g q p k t =
+      scripted_ends at_end limit r a b b' c d d' w m l line n bytes chunk g q p
+      (stop_line rules at_end r e m l n (q.rest ++ chunk) t.0 k t.2)
+      (end_exit rules W at_end r e m l d d' n (q.rest ++ chunk) k t)
 
   -- and on a flush
   pub scripted_unflushed : {A : Type 0} (at_end : Bool) (limit : ℕ) (r : Result A RunFault) (e : RunFault) (a b : S)

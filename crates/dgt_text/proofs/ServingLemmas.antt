@@ -12,28 +12,28 @@ use Rattle.dgt_command.specs.Words.{IsWord, IsPartial}
 use Rattle.dgt_board.specs.declared.sending.Polled.{Polled}
 use Rattle.dgt_board.specs.Sending.{after_sending, next_message}
 use Rattle.dgt_board.specs.View.{Polls, BoardView, after_bytes}
-use Rattle.dgt_lines.specs.declared.ends.Source.{Ghosts as Source}
-use Rattle.dgt_lines.specs.declared.ends.Sink.{Ghosts as Sink}
+use Rattle.dgt_lines.specs.declared.streams.Source.{Ghosts as Source}
+use Rattle.dgt_lines.specs.declared.streams.Sink.{Ghosts as Sink}
 use Rattle.dgt_lines.specs.declared.faults.RunFault.{RunFault}
 use Rattle.dgt_lines.specs.declared.faults.RunFault.TheVariants.{WriteFailed}
 use Rattle.dgt_lines.specs.Writing.{Wrote, Stopped, Writes, InARow}
-use Rattle.dgt_text.specs.Turns.{Ran, change, InTurns}
+use Rattle.dgt_lines.specs.Turns.{Ran, change, InTurns}
 use Rattle.dgt_text.specs.Conversation.{Exchange, told, heard, Converses, events_heard, bytes_told, Hears}
 use Rattle.dgt_text.specs.Serving.{IsAlmostTold, IsServed, Served, Halted, Serves}
-use Rattle.dgt_text.proofs.TurnLemmas.{BetweenReads}
+use Rattle.dgt_lines.proofs.TurnLemmas.{BetweenReads}
 use Rattle.dgt_text.proofs.ConversationLemmas.{events_heard-append, bytes_told-append, converses-told, hears_then, hears_nothing, hears_word, hears_part, front_then, front_longer, front_whole}
 use Rattle.dgt_text.specs.Simulating.{part}
 
 -- ---- pieces
 
--- n more bytes of a piece
-pub piece_more : (piece : List ℕ) (i n : ℕ)
-    → take (i + n) piece ≡ take i piece ++ take n (take (length piece - i) (drop i piece))
-piece_more piece i n = rw take_rest (take-add i n piece)
+-- n more bytes of a chunk
+pub chunk_more : (chunk : List ℕ) (i n : ℕ)
+    → take (i + n) chunk ≡ take i chunk ++ take n (take (length chunk - i) (drop i chunk))
+chunk_more chunk i n = rw take_rest (take-add i n chunk)
 
-pub piece_rest : (piece : List ℕ) (i n : ℕ) → (take i piece ++ take n (take (length piece - i) (drop i piece))) ++ drop
-    (i + n) piece ≡ piece
-piece_rest piece i n = rw (← piece_more piece i n) (take-append-drop (i + n) piece)
+pub chunk_rest : (chunk : List ℕ) (i n : ℕ) → (take i chunk ++ take n (take (length chunk - i) (drop i chunk))) ++ drop
+    (i + n) chunk ≡ chunk
+chunk_rest chunk i n = rw (← chunk_more chunk i n) (take-append-drop (i + n) chunk)
 
 -- ---- calls of the board
 
@@ -70,18 +70,18 @@ hears_some nothing content before after bytes None settled some word is = absurd
 hears_some nothing content before after bytes (Some e) settled some word is =
     (content e, hears_word nothing before after bytes (content e) settled word is)
 
--- bytes that ended none, and so are all of the piece
-pub hears_none : {E : Type 0} (content : E → EventContent) (before after : BoardView) (piece : List ℕ) (used : ℕ)
+-- bytes that ended none, and so are all of the chunk
+pub hears_none : {E : Type 0} (content : E → EventContent) (before after : BoardView) (chunk : List ℕ) (used : ℕ)
     (event : Option E) → false ≡ is_some event
-    → IfNone event ((used ≡ length piece) × IsPartial (before.partial ++ piece))
-    → after ≡ after_bytes before (take used piece) (option_map content event)
-    → IsPartial (before.partial ++ take used piece) × (after ≡ after_bytes before (take used piece) None)
-hears_none content before after piece used None none part is = (
-  subst (λ (l : List ℕ). IsPartial (before.partial ++ l)) (sym (take_all used piece (omega (arith, part.0))))
+    → IfNone event ((used ≡ length chunk) × IsPartial (before.partial ++ chunk))
+    → after ≡ after_bytes before (take used chunk) (option_map content event)
+    → IsPartial (before.partial ++ take used chunk) × (after ≡ after_bytes before (take used chunk) None)
+hears_none content before after chunk used None none part is = (
+  subst (λ (l : List ℕ). IsPartial (before.partial ++ l)) (sym (take_all used chunk (omega (arith, part.0))))
       part.1,
   is,
 )
-hears_none content before after piece used (Some e) none part is = absurd (cc)
+hears_none content before after chunk used (Some e) none part is = absurd (cc)
 
 -- ---- what was written
 
@@ -315,12 +315,12 @@ module _ {S T : Type 0} (R : Source S) (W : Sink T) where
 
 -- it refused after a read
 pub served_stops : {S T A : Type 0} {R : Source S} {W : Sink T} {a b : S} {c d : T} {taken limit : ℕ} → DivisionsAppend
-    → (b' : S) (d' : T) (old mid new : BoardView) (piece : List ℕ) (r : Result A RunFault) (e : RunFault)
-    → (t : BetweenReads R W a b c d taken limit) → Served W old mid c d t.bytes → Consumes (R.left b) (R.left b') piece
-    → Halted W mid new d d' piece
+    → (b' : S) (d' : T) (old mid new : BoardView) (chunk : List ℕ) (r : Result A RunFault) (e : RunFault)
+    → (t : BetweenReads R W a b c d taken limit) → Served W old mid c d t.bytes → Consumes (R.left b) (R.left b') chunk
+    → Halted W mid new d d' chunk
     → IsErrAnd r (λ y. y ≡ e) → e ≡ WriteFailed
     → Ran R W (change a b') (change c d') (InTurns limit r (IsServed r old new))
-served_stops {R = R} {W = W} {a = a} {b = b} {c = c} {d = d} {limit = limit} append b' d' old mid new piece r e t p k q
+served_stops {R = R} {W = W} {a = a} {b = b} {c = c} {d = d} {limit = limit} append b' d' old mid new chunk r e t p k q
     h w =
-    halted_run R W limit a b' c d' old new (t.bytes ++ piece) r e (Consumes-trans _ _ _ t.bytes piece t.given k)
-    (halted_then W append old mid new c d d' t.bytes piece p.steps p.answers.hears p.wrote q) h w
+    halted_run R W limit a b' c d' old new (t.bytes ++ chunk) r e (Consumes-trans _ _ _ t.bytes chunk t.given k)
+    (halted_then W append old mid new c d d' t.bytes chunk p.steps p.answers.hears p.wrote q) h w

@@ -5,10 +5,10 @@ use Rattle.dgt_board.specs.View.{BoardView}
 use Rattle.dgt_lines.specs.declared.faults.RunFault.{RunFault}
 use Rattle.dgt_lines.specs.declared.faults.RunFault.TheVariants.{ReadFailed, WriteFailed, TooManyTurns, BadLine}
 use Rattle.dgt_text.specs.Conversation.{Exchange, bytes_told, Answers, HearsFront}
-use Rattle.dgt_text.specs.Monitoring.{IsFront}
-use Rattle.dgt_text.specs.Turns.{Change}
+use Rattle.dgt_lines.specs.Monitoring.{IsFront}
+use Rattle.dgt_lines.specs.Turns.{Change}
 use Rattle.dgt_lines.specs.Writing.{Wrote}
-use Rattle.dgt_lines.specs.declared.ends.Sink.{Ghosts as Sink}
+use Rattle.dgt_lines.specs.declared.streams.Sink.{Ghosts as Sink}
 
 -- the board answered the bytes, and all that it reported was written
 abbrev pub IsAnswered : BoardView → BoardView → List ℕ → List ℕ → Type 0

@@ -11,12 +11,13 @@ use Rattle.dgt_link.specs.Stands.{StandsFor}
 use Rattle.dgt_link.specs.Step.{Step}
 use Rattle.dgt_link.specs.View.{IsQuietWorld, WorldView}
 use Rattle.dgt_values.specs.Placement.{placement_text}
-use Rattle.dgt_lines.specs.declared.ends.Sink.{Ghosts as Sink}
+use Rattle.dgt_lines.specs.declared.streams.Sink.{Ghosts as Sink}
 use Rattle.dgt_lines.specs.declared.faults.RunFault.{RunFault}
 use Rattle.dgt_lines.specs.declared.faults.RunFault.TheVariants.{ReadFailed, WriteFailed, TooManyTurns, BadLine}
 use Rattle.dgt_script.specs.declared.script_lines.LineBuffer.{LineBuffer}
-use Rattle.dgt_script.specs.Closing.{closing_lines, outcome_line}
-use Rattle.dgt_text.specs.Monitoring.{IsFront}
+use Rattle.dgt_text.specs.Closing.{closing_lines}
+use Rattle.dgt_script.specs.Outcomes.{outcome_line}
+use Rattle.dgt_lines.specs.Monitoring.{IsFront}
 use Rattle.dgt_script.specs.FaultyScript.{AsksForFaulty, IsBadAtFaulty}
 use Rattle.dgt_script.specs.Script.{AsksFor, IsBadAt}
 use Rattle.dgt_script.specs.ScriptLines.{HasNoFeed, IsCut, KeepsLine, ended}

@@ -3,6 +3,7 @@
 
 ghost use Rattle.std.specs.Prelude.{◌≡◌, ℕ, List};
 ghost use Rattle.dgt_link.specs.View.{WorldView};
+ghost use Rattle.dgt_text.specs.Closing.{ClosingLinesAgree};
 ghost use Rattle.dgt_text.specs.Conversation.{EachFrontGoesOn, EachIsAnswered, EachIsAnsweredOnce};
 ghost use Rattle.dgt_script.specs.ScriptLines.{IsCut};
 ghost use Rattle.dgt_text.specs.Simulating.{Plays, faulty_rules, plain_rules};
@@ -11,7 +12,7 @@ pub use dgt_lines::laws::{
     clock_leaves_reports, doubts_leave_pictures, first_faults_are_reported,
     last_clock_is_the_hosts, last_line_is_picture, other_clocks_are_reported,
 };
-pub use dgt_script::laws::{closing_lines_agree, lines_have_one_meaning};
+pub use dgt_script::laws::lines_have_one_meaning;
 
 /// One conversation: a board and the bytes that it hears have one, and only one. Whatever the board
 /// sends and hears while it hears a prefix of the bytes is a prefix of it.
@@ -41,3 +42,9 @@ pub fn scripts_have_one_play()
     lines_have_one_meaning();
     dgt_link::laws::acts_have_one_outcome();
 }
+
+/// If the host's picture is the board's position, the closing lines of board and host, which come
+/// first, have one and the same placement.
+pub fn closing_lines_agree()
+    ensures { ClosingLinesAgree }
+{}

@@ -19,29 +19,23 @@
 //! }
 //! ```
 //!
-//! A [`Source`] and a [`Sink`] are for example [`Bytes`] and [`Device`]; these and the lines of
-//! events are those of [`dgt_lines`]. The lines of scripts are those of [`dgt_script`]. Contracts
-//! say what is written of what was read, also if a call was refused. No call takes memory.
+//! A [`Source`] and a [`Sink`] are for example [`Bytes`] and [`Device`]. These, the lines of events
+//! and the engines that print are those of [`dgt_lines`]; the lines of scripts are those of
+//! [`dgt_script`]. Contracts say what is written of what was read, also if a call was refused. No
+//! call takes memory.
 //!
 //! [`laws`] says what holds of conversations, scripts and pictures.
 #![tactic(auto)]
 
 pub mod laws;
-mod printers;
-mod printing;
 mod serving;
 mod simulating;
 mod stage;
 
-pub use dgt_command_lines::write_command;
-pub use dgt_lines::{Bytes, Device, Failed, RunFault, Sink, Source, write_event};
-pub use dgt_script::{LineFault, read_act, read_faulty_act};
-pub use printing::{
-    commands, monitor, picture, picture_with_clock, picture_with_doubts,
-    picture_with_doubts_and_clock,
+pub use dgt_lines::{
+    Bytes, Device, Failed, RunFault, Sink, Source, commands, monitor, picture, picture_with_clock,
+    picture_with_doubts, picture_with_doubts_and_clock, write_command, write_event,
 };
+pub use dgt_script::{LineFault, read_act, read_faulty_act};
 pub use serving::serve;
 pub use simulating::{simulate, simulate_faults};
-
-// The most bytes that an engine reads at once.
-const MAX_PIECE: usize = 4096;

@@ -1,14 +1,13 @@
 //! The engine that answers for a board.
 
 ghost use Rattle.std.specs.Prelude.{[], IsTrue, OnOk};
-ghost use Rattle.dgt_text.specs.Turns.{change, InTurns, Ran, RunsInTurns};
+ghost use Rattle.dgt_lines.specs.Turns.{change, InTurns, Ran, RunsInTurns};
 ghost use Rattle.dgt_text.specs.Serving.{IsServed, Serves};
 
-use crate::MAX_PIECE;
 use dgt_board::{Board, MAX_SENT, Polled, Taken};
 use dgt_command::laws;
 use dgt_lines::laws::writes_in_a_row;
-use dgt_lines::{RunFault, Sink, Source, flush, put};
+use dgt_lines::{MAX_CHUNK, RunFault, Sink, Source, flush, put};
 
 // The board sends until it owes nothing. Each message is written before the next is asked for, so
 // the board is at most one message ahead of the sink.
@@ -24,11 +23,11 @@ fn send_all<W: Sink>(board: &mut Board, writer: &mut W) -> Result<(), RunFault>
     Ok(())
 }
 
-// The board sends until it owes nothing, and again after each command or fault of `piece`. Then the
+// The board sends until it owes nothing, and again after each command or fault of `chunk`. Then the
 // sink is flushed.
-fn answer<W: Sink>(board: &mut Board, piece: &[u8], writer: &mut W) -> Result<(), RunFault>
+fn answer<W: Sink>(board: &mut Board, chunk: &[u8], writer: &mut W) -> Result<(), RunFault>
     ensures served { Serves W.Sink (change board.old board.new) (change writer.old writer.new)
-        result piece.now }
+        result chunk.now }
     ensures flushed { OnOk result (IsTrue (W.flushed writer.new)) }
 {
     laws::divisions_append();
@@ -36,8 +35,8 @@ fn answer<W: Sink>(board: &mut Board, piece: &[u8], writer: &mut W) -> Result<()
     writes_in_a_row::<W>();
     send_all(board, writer)?;
     let mut at = 0;
-    while at < piece.len() {
-        let Taken { used, event } = board.take(&piece[at..]).unwrap();
+    while at < chunk.len() {
+        let Taken { used, event } = board.take(&chunk[at..]).unwrap();
         at += used;
         if event.is_some() {
             send_all(board, writer)?;
@@ -77,7 +76,7 @@ pub fn serve<R: Source, W: Sink>(
     laws::divisions_append();
     writes_in_a_row::<W>();
     answer(board, &[], writer)?;
-    let mut buffer = [0; MAX_PIECE];
+    let mut buffer = [0; MAX_CHUNK];
     for _ in 0..limit {
         let Ok(given) = reader.read_some(&mut buffer) else {
             return Err(RunFault::ReadFailed);

@@ -4,15 +4,15 @@ ghost use Rattle.std.specs.Prelude.{◌≡◌, ◌≢◌, ◌+◌, ◌^◌, ◌<
 ghost use Rattle.std.specs.Io.KnownBytes.{Appends};
 ghost use Rattle.dgt_link.specs.View.{IsQuietWorld};
 ghost use Rattle.dgt_lines.specs.Writing.{Writes};
-ghost use Rattle.dgt_script.specs.Closing.{closing_lines};
-ghost use Rattle.dgt_text.specs.Turns.{change, InTurns, Ran, sink_mark_after, RunsInTurns};
+ghost use Rattle.dgt_text.specs.Closing.{closing_lines};
+ghost use Rattle.dgt_lines.specs.Turns.{change, InTurns, Ran, sink_mark_after, RunsInTurns};
 ghost use Rattle.dgt_script.specs.ScriptLines.{HasNoFeed, KeepsLine};
 ghost use Rattle.dgt_text.specs.Simulating.{BeginsWith, IsOfLine, IsSimulated, IsSimulatedFrom, Plays, PlaysOn, Stops, TellsHealed, TellsPicture, Took, faulty_rules, part, plain_rules};
 
+use crate::laws;
 use crate::stage::Stage;
-use crate::{MAX_PIECE, laws};
 use dgt_lines::laws::writes_in_a_row;
-use dgt_lines::{RunFault, Sink, Source, flush, put};
+use dgt_lines::{MAX_CHUNK, RunFault, Sink, Source, flush, put};
 use dgt_link::{FaultyWorld, World};
 use dgt_script::{LineBuffer, LineFault, MAX_LINE, len_before, outcome_text};
 
@@ -58,21 +58,21 @@ fn play_line<S: Stage, W: Sink>(
     }
 }
 
-// Plays the lines that end in the piece, and keeps the bytes after them.
-fn play_piece<S: Stage, W: Sink>(
+// Plays the lines that end in the chunk, and keeps the bytes after them.
+fn play_chunk<S: Stage, W: Sink>(
     world: &mut S,
     line: &mut LineBuffer,
     number: &mut u64,
-    piece: &[u8],
+    chunk: &[u8],
     writer: &mut W,
 ) -> Result<(), RunFault>
-    requires { number.old + length piece.now < 2 ^ 64 }
+    requires { number.old + length chunk.now < 2 ^ 64 }
     ensures played { (at_end : Bool) (rest : List ℕ) → KeepsLine line.old rest → HasNoFeed rest
-        → let played = part number.old (rest ++ piece.now) (S.seen world.old) (S.seen world.new) in
+        → let played = part number.old (rest ++ chunk.now) (S.seen world.old) (S.seen world.new) in
         MatchResult result
         (λ _. PlaysOn S.rules W.Sink played writer.old writer.new line.new number.new)
         (λ fault. Took W.Sink writer.old writer.new (Stops S.rules at_end played fault)) }
-    ensures counted { OnOk result (number.new ≤ number.old + length piece.now) }
+    ensures counted { OnOk result (number.new ≤ number.old + length chunk.now) }
     ensures faults { IfErr result IsOfLine }
     ensures sink_failed { W.failed writer.new ≡ sink_mark_after result (W.failed writer.old) }
     ensures in_time { W.failed writer.old ≡ false → W.late writer.new ≡ W.late writer.old }
@@ -80,12 +80,12 @@ fn play_piece<S: Stage, W: Sink>(
         IsTrue (W.flushed writer.new)) }
 {
     let mut at = 0;
-    while at < piece.len() {
-        let left = &piece[at..];
+    while at < chunk.len() {
+        let left = &chunk[at..];
         let end = len_before(left, b'\n');
         line.add(&left[..end]);
         at += end;
-        if at < piece.len() {
+        if at < chunk.len() {
             play_line(world, line, *number, writer)?;
             *line = LineBuffer::new();
             *number += 1;
@@ -145,7 +145,7 @@ fn play<S: Stage, R: Source, W: Sink>(
     writes_in_a_row::<W>();
     let mut line = LineBuffer::new();
     let mut number = 1;
-    let mut buffer = [0; MAX_PIECE];
+    let mut buffer = [0; MAX_CHUNK];
     for _ in 0..limit {
         let Ok(given) = reader.read_some(&mut buffer) else {
             return Err(RunFault::ReadFailed);
@@ -153,7 +153,7 @@ fn play<S: Stage, R: Source, W: Sink>(
         if given == 0 {
             return play_end(world, &line, number, writer);
         }
-        play_piece(world, &mut line, &mut number, &buffer[..given], writer)?;
+        play_chunk(world, &mut line, &mut number, &buffer[..given], writer)?;
         flush(writer)?;
     }
     Err(RunFault::TooManyTurns)

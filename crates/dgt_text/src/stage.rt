@@ -4,14 +4,14 @@ ghost use Rattle.std.specs.Prelude.{◌≡◌, ◌<◌, ◌↔◌, ℕ, List, Bo
 ghost use Rattle.std.proofs.Common.{inl, refl};
 ghost use Rattle.dgt_lines.specs.Writing.{Writes};
 ghost use Rattle.dgt_link.specs.View.{IsQuietWorld, WorldView};
-ghost use Rattle.dgt_script.specs.Closing.{closing_lines};
+ghost use Rattle.dgt_text.specs.Closing.{closing_lines};
 ghost use Rattle.dgt_script.specs.Script.{bad_offset};
 ghost use Rattle.dgt_text.specs.Simulating.{Rules, faulty_rules, plain_rules};
 
 use dgt_command::MAX_WORD;
-use dgt_lines::{RunFault, Sink};
+use dgt_lines::{RunFault, Sink, write_closing};
 use dgt_link::{FaultyWorld, Outcome, World};
-use dgt_script::{LineFault, read_act, read_faulty_act, write_closing};
+use dgt_script::{LineFault, read_act, read_faulty_act};
 
 /// A world in which a script can be run.
 pub(crate) trait Stage {
@@ -52,7 +52,8 @@ impl Stage for World {
     }
 
     fn end<W: Sink>(&self, writer: &mut W) -> Result<(), RunFault> {
-        write_closing(self.board(), self.host(), self.quiet(), writer)
+        let squares = self.board().position();
+        write_closing(squares, self.host(), self.quiet(), writer)
     }
 }
 
@@ -70,6 +71,7 @@ impl Stage for FaultyWorld {
     }
 
     fn end<W: Sink>(&self, writer: &mut W) -> Result<(), RunFault> {
-        write_closing(self.board(), self.host(), self.quiet(), writer)
+        let squares = self.board().position();
+        write_closing(squares, self.host(), self.quiet(), writer)
     }
 }

@@ -2,8 +2,7 @@
 
 use crate::asserting::assert_same;
 use dgt_command::{Command, CommandEvent};
-use dgt_command_lines::write_command;
-use dgt_lines::Device;
+use dgt_lines::{Device, write_command};
 use std::test::Fail;
 
 #[test]

@@ -1,6 +1,5 @@
 use dgt_command::CommandDecoder;
-use dgt_command_lines::write_command;
-use dgt_lines::{RunFault, Sink, flush};
+use dgt_lines::{RunFault, Sink, flush, write_command};
 
 /// Writes the line of each command of these bytes, such as `00000001 dump`.
 pub fn list<W: Sink>(bytes: &[u8], to: &mut W) -> Result<(), RunFault> {

@@ -3,9 +3,9 @@
 use crate::asserting::assert_same;
 use arrayvec::ArrayVec;
 use dgt_board::{Identity, simulated_clock};
-use dgt_lines::{Device, RunFault};
+use dgt_lines::{Device, RunFault, write_closing};
 use dgt_link::{Outcome, World, WorldFault};
-use dgt_script::{outcome_text, write_closing};
+use dgt_script::outcome_text;
 use dgt_values::Position;
 use std::alloc::Global;
 use std::io;
@@ -55,7 +55,8 @@ fn a_new_world_and_one_that_is_refused(rt: HostRuntime) -> Result<(), Fail> {
             refuses,
         };
         let mut device = Device::new(&mut taking);
-        let closed = write_closing(world.board(), world.host(), world.quiet(), &mut device);
+        let squares = world.board().position();
+        let closed = write_closing(squares, world.host(), world.quiet(), &mut device);
         assert_same(&rt, closed, written);
         assert_same(&rt, taking.taken.as_slice(), lines);
         assert_same(&rt, taking.writes, 1);

@@ -4,9 +4,9 @@ use Rattle.dgt_text.proofs.serving.answer.Given as goal
 
 abbrev pub invariant-loop-at : goal.invariant-loop-at
 invariant-loop-at g l = record {
-  bound : l.at ≤ length l.piece;
-  served : Served g.W.Sink l.fn.board l.board l.fn.writer l.writer (take l.at l.piece);
+  bound : l.at ≤ length l.chunk;
+  served : Served g.W.Sink l.fn.board l.board l.fn.writer l.writer (take l.at l.chunk);
 }
 
 abbrev pub decreases-loop-at : goal.decreases-loop-at
-decreases-loop-at g l = length l.piece - l.at
+decreases-loop-at g l = length l.chunk - l.at

@@ -1,7 +1,7 @@
 use Rattle.std.proofs.Common.{[], refl}
 use Rattle.std.proofs.KnownBytes.{Consumes-nil}
 use Rattle.dgt_text.proofs.ServingLemmas.{served_more, served_stops, halted_run}
-use Rattle.dgt_text.proofs.TurnLemmas.{no_read, next_read}
+use Rattle.dgt_lines.proofs.TurnLemmas.{no_read, next_read}
 use Rattle.dgt_text.proofs.serving.serve.Goals as goal
 
 pub returns-in_err-answer-clause-output : goal.returns-in_err-answer-clause-output

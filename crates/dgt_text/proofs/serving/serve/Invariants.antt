@@ -1,5 +1,5 @@
 use Rattle.dgt_text.specs.Serving.{Served}
-use Rattle.dgt_text.proofs.TurnLemmas.{BetweenReads}
+use Rattle.dgt_lines.proofs.TurnLemmas.{BetweenReads}
 use Rattle.dgt_text.proofs.serving.serve.Given as goal
 
 abbrev pub invariant-loop : goal.invariant-loop

@@ -3,7 +3,7 @@ use Rattle.std.proofs.lemmas.List.{length-take-le}
 use Rattle.std.proofs.KnownBytes.{Consumes-trans}
 use Rattle.dgt_text.proofs.PlayLemmas.{no_byte, on_more, on_none}
 use Rattle.dgt_text.proofs.ScriptRuns.{plays_flushed, scripted_ends, scripted_stops, scripted_unflushed}
-use Rattle.dgt_text.proofs.TurnLemmas.{no_read, next_read}
+use Rattle.dgt_lines.proofs.TurnLemmas.{no_read, next_read}
 use Rattle.dgt_text.proofs.simulating.play.Goals as goal
 
 pub loop-init : goal.loop-init
@@ -17,16 +17,16 @@ pub loop-preserved : goal.loop-preserved
 loop-preserved g c =
     let q = c.loop.invariant.played in
     let read = c.in-Ok.ensures in
-    let piece = c.in_ok-play_piece.ensures in
+    let chunk = c.in_ok-play_chunk.ensures in
     let flushed = c.in_ok-flush.ensures in
     let given = length-take-le c.in-Ok.given c.read_some.new.buffer read.bound in record {
       in_turns = next_read c.loop.invariant.in_turns c.loop-test.true _ _ read.bound read.bytes.0 read.not_refused
-          read.no_end read.counted read.in_time c.if-given-eq0.false piece.sink_failed piece.in_time flushed.output
+          read.no_end read.counted read.in_time c.if-given-eq0.false chunk.sink_failed chunk.in_time flushed.output
           flushed.flushed;
       played = plays_flushed g.S.Stage.rules g.W.Sink _ _ _ _ _ _ _ _
-          (on_more g.S.Stage.rules g.W.Sink _ _ _ _ _ _ _ _ _ _ _ _ _ q (piece.played true q.rest q.kept q.cut.last))
+          (on_more g.S.Stage.rules g.W.Sink _ _ _ _ _ _ _ _ _ _ _ _ _ q (chunk.played true q.rest q.kept q.cut.last))
           flushed.output.appends;
-      short = omega (arith, read.bound, c.read_some.auto.buffer, piece.counted);
+      short = omega (arith, read.bound, c.read_some.auto.buffer, chunk.counted);
     }
 
 pub returns-then-given-eq0-clause-output : goal.returns-then-given-eq0-clause-output
@@ -40,15 +40,15 @@ returns-then-given-eq0-clause-output g c =
     (rw c.if-given-eq0.true at c.in-Ok.ensures.bytes.0) c.play_end.ensures.faults
     (rw (append-nil q.rest) (c.play_end.ensures.played at_end q.rest ends q.kept q.cut.last))
 
-pub returns-in_err-play_piece-clause-output : goal.returns-in_err-play_piece-clause-output
-returns-in_err-play_piece-clause-output g c =
+pub returns-in_err-play_chunk-clause-output : goal.returns-in_err-play_chunk-clause-output
+returns-in_err-play_chunk-clause-output g c =
     let turns = c.loop.invariant.in_turns in
     let q = c.loop.invariant.played in
     let at_end = g.R.Source.ended c.read_some.new.self in
     scripted_stops g.S.Stage.rules g.R.Source g.W.Sink at_end c.args.limit _ _ _ _ _ _ _ _ _ _ _ _ _
     turns.bytes _ turns.given q
     c.in-Ok.ensures.bytes.0 c.from_residual.ensures.1
-    (c.in_err-play_piece.ensures.played at_end q.rest q.kept q.cut.last)
+    (c.in_err-play_chunk.ensures.played at_end q.rest q.kept q.cut.last)
 
 pub returns-in_err-flush-clause-output : goal.returns-in_err-flush-clause-output
 returns-in_err-flush-clause-output g c =
@@ -58,5 +58,5 @@ returns-in_err-flush-clause-output g c =
     scripted_unflushed g.S.Stage.rules g.R.Source g.W.Sink at_end c.args.limit _ _ _ _ _ _ _ _ _ _ _ _
     (Consumes-trans _ _ _ turns.bytes _ turns.given c.in-Ok.ensures.bytes.0)
     (on_more g.S.Stage.rules g.W.Sink _ _ _ _ _ _ _ _ _ _ _ _ _ q
-    (c.in_ok-play_piece.ensures.played at_end q.rest q.kept q.cut.last))
+    (c.in_ok-play_chunk.ensures.played at_end q.rest q.kept q.cut.last))
     c.from_residual-in_err-flush.ensures.1 c.in_err-flush.ensures.output

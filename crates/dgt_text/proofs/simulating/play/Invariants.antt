@@ -1,6 +1,6 @@
 use Rattle.std.proofs.Common.{◌≤◌, ◌+◌, ◌*◌}
 use Rattle.dgt_text.specs.Simulating.{PlaysOn, part}
-use Rattle.dgt_text.proofs.TurnLemmas.{BetweenReads}
+use Rattle.dgt_lines.proofs.TurnLemmas.{BetweenReads}
 use Rattle.dgt_text.proofs.simulating.play.Given as goal
 
 abbrev pub invariant-loop : goal.invariant-loop

@@ -1,4 +1,0 @@
-pub mod TextLemmas
-pub mod TellingLemmas
-pub mod PieceLemmas
-mod ShownLemmas

@@ -1,5 +1,0 @@
-use Rattle.dgt_command_lines.proofs.TellingLemmas
-use Rattle.dgt_command_lines.proofs.laws.texts_append.Goals as goal
-
-pub returns : goal.returns
-returns c = TellingLemmas.texts_append

@@ -1,0 +1,10 @@
+use Rattle.dgt_lines.proofs.Heard.{heard_none, monitored}
+use Rattle.dgt_lines.proofs.Printed.{ran_with}
+use Rattle.dgt_lines.proofs.printing.monitor.Goals as goal
+
+pub print_input-requires-clause-begins : goal.print_input-requires-clause-begins
+print_input-requires-clause-begins g c = heard_none _ c.new.ensures
+
+pub returns-clause-output : goal.returns-clause-output
+returns-clause-output g c =
+    ran_with g.R.Source g.W.Sink _ _ _ _ c.args.limit _ _ _ (monitored _) c.print_input.ensures.output

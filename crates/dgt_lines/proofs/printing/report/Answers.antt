@@ -1,0 +1,11 @@
+use Rattle.dgt_lines.proofs.Pictured.{pictured_none, reported}
+use Rattle.dgt_lines.proofs.Printed.{ran_with}
+use Rattle.dgt_lines.proofs.printing.report.Goals as goal
+
+pub print_input-requires-clause-begins : goal.print_input-requires-clause-begins
+print_input-requires-clause-begins g c = rw c.new.ensures (pictured_none c.args.first)
+
+pub returns-clause-output : goal.returns-clause-output
+returns-clause-output g c =
+    ran_with g.R.Source g.W.Sink _ _ _ _ c.args.limit _ _ _ (reported _ c.args.first)
+    c.print_input.ensures.output

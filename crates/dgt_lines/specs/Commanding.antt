@@ -1,0 +1,14 @@
+-- What `commands` leaves in its sink.
+use Rattle.std.specs.Prelude.{ℕ, List, ◌++◌, length, Result}
+use Rattle.dgt_lines.specs.declared.faults.RunFault.{RunFault}
+use Rattle.dgt_lines.specs.Lines.{unfinished_line}
+use Rattle.dgt_lines.specs.CommandLines.{Tells}
+use Rattle.dgt_lines.specs.Monitoring.{IsInSink}
+
+-- what stands in the sink for the bytes that were read, where `commands` gave this answer: they
+-- have this text, and leave this rest of a word
+pub record IsListed {A : Type 0} (r : Result A RunFault) (bytes out : List ℕ) : Type 0 where
+  pub text : List ℕ
+  pub rest : List ℕ
+  pub tells : Tells 0 bytes rest text
+  pub stands : IsInSink r text (text ++ unfinished_line (length bytes) rest) out

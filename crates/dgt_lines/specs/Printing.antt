@@ -1,0 +1,57 @@
+-- What an engine prints of the bytes that it reads.
+use Rattle.std.specs.Prelude.{◌≡◌, ℕ, List, [], ◌++◌, length, Result, OnOk}
+use Rattle.dgt_decode.specs.Grammar.{open_message}
+use Rattle.dgt_lines.specs.declared.doubts.PictureState.{PictureState}
+use Rattle.dgt_lines.specs.declared.streams.Sink.{Ghosts as Sink}
+use Rattle.dgt_lines.specs.declared.faults.RunFault.{RunFault}
+use Rattle.dgt_lines.specs.Lines.{lines, unfinished_line}
+use Rattle.dgt_lines.specs.Reports.{state_from, text_from}
+use Rattle.dgt_lines.specs.Writing.{Writes}
+use Rattle.dgt_lines.specs.CommandLines.{Tells}
+use Rattle.dgt_lines.specs.Monitoring.{IsInSink}
+
+-- what stands in the sink, where the bytes that were read have these lines, and a last one for what
+-- is unfinished at their end
+pub record IsPrinted {A : Type 0} (HasLines : List ℕ → List ℕ → List ℕ → Type 0)
+    (r : Result A RunFault) (bytes out : List ℕ) : Type 0 where
+  pub text : List ℕ
+  pub last : List ℕ
+  pub has : HasLines bytes text last
+  pub stands : IsInSink r text (text ++ last) out
+
+-- a call that writes the lines of a chunk after this text; `bytes` are all up to the chunk's end
+pub record PrintsMore {S A : Type 0} (W : Sink S) (old new : S) (r : Result A RunFault)
+    (HasLines : List ℕ → List ℕ → List ℕ → Type 0) (HasPrinted : List ℕ → List ℕ → Type 0)
+    (bytes text : List ℕ) : Type 0 where
+  pub more : List ℕ
+  pub last : List ℕ
+  pub writes : Writes W old new r more
+  pub has : HasLines bytes (text ++ more) last
+  pub keeps : OnOk r (HasPrinted bytes (text ++ more))
+
+-- ---- The lines of events
+
+abbrev pub HasEventLines : List ℕ → List ℕ → List ℕ → Type 0
+HasEventLines bytes text last =
+    (text ≡ lines bytes) × (last ≡ unfinished_line (length bytes) (open_message bytes))
+
+-- a framer that keeps these bytes holds what is unfinished
+abbrev pub HasPrintedEvents : List ℕ → List ℕ → List ℕ → Type 0
+HasPrintedEvents kept bytes text = (text ≡ lines bytes) × (open_message kept ≡ open_message bytes)
+
+-- ---- The lines that show the board, from this state on
+
+abbrev pub HasReportLines : PictureState → List ℕ → List ℕ → List ℕ → Type 0
+HasReportLines first bytes text last = (text ≡ text_from first bytes) × (last ≡ [])
+
+-- and `state` is the one after them
+abbrev pub HasPrintedReports : PictureState → List ℕ → PictureState → List ℕ → List ℕ → Type 0
+HasPrintedReports first kept state bytes text =
+    (text ≡ text_from first bytes) × (state ≡ state_from first bytes)
+    × (open_message kept ≡ open_message bytes)
+
+-- ---- The lines of what a host sends
+
+abbrev pub HasCommandLines : List ℕ → List ℕ → List ℕ → Type 0
+HasCommandLines bytes text last =
+    (rest : List ℕ) × Tells 0 bytes rest text × (last ≡ unfinished_line (length bytes) rest)

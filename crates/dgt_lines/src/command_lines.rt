@@ -1,0 +1,73 @@
+//! The lines of what a host sends.
+
+ghost use Rattle.std.specs.Prelude.{◌≡◌, ◌+◌, ◌≤◌, [], ◌++◌, false, length, OnOk, OnErr};
+ghost use Rattle.dgt_command.specs.Content.{command_event_content};
+ghost use Rattle.dgt_lines.specs.Marks.{Waits};
+ghost use Rattle.dgt_lines.specs.Writing.{Gathers, Writes};
+ghost use Rattle.dgt_lines.specs.CommandLines.{command_line};
+
+use crate::command_wording::push_event;
+use crate::faults::RunFault;
+use crate::gathering::Outgoing;
+use crate::laws::writes_in_a_row;
+use crate::streams::Sink;
+use dgt_command::CommandEvent;
+
+/// Room for a line.
+pub(crate) const LINE_ROOM: usize = 600;
+
+// Adds the line of an event.
+fn push_line<const ROOM: usize>(text: &mut Outgoing<ROOM>, offset: u64, event: &CommandEvent<'_>)
+    requires { length text.old + LINE_ROOM ≤ ROOM }
+    ensures { text.new ≡ text.old ++ command_line offset (command_event_content event.now) }
+{
+    text.push_decimal(offset, 8);
+    text.push(b" ");
+    push_event(text, event);
+    text.push(b"\n");
+}
+
+/// Gathers the line of an event that the last of this number of bytes makes.
+pub(crate) fn put_command<W: Sink, const ROOM: usize>(
+    outgoing: &mut Outgoing<ROOM>,
+    writer: &mut W,
+    offset: u64,
+    event: &CommandEvent<'_>,
+) -> Result<(), RunFault>
+    requires { LINE_ROOM ≤ ROOM }
+    ensures output { Gathers W.Sink (outgoing.old, outgoing.new) writer.old writer.new
+        result (command_line offset (command_event_content event.now)) }
+    ensures dropped { OnErr result (outgoing.new ≡ []) }
+    ensures no_flush { W.flushed writer.old ≡ false → W.flushed writer.new ≡ false }
+    ensures waits { OnOk result (Waits outgoing.new (W.flushed writer.new)) }
+{
+    writes_in_a_row::<W>();
+    outgoing.make_room(writer, LINE_ROOM)?;
+    push_line(outgoing, offset, event);
+    Ok(())
+}
+
+/// Writes the line of an event, without a flush.
+///
+/// A line is the offset in decimal, with leading zeros to at least eight digits, a space, the words
+/// for what came, and a line feed, as in `00000006 beep 3`. The offset is the number of bytes up to
+/// and including the one that made the event. The format is this project's own choice.
+///
+/// `WriteFailed` comes where the writer refuses, which then took the front of the line and gets
+/// nothing more.
+pub fn write_command<W: Sink>(
+    writer: &mut W,
+    offset: u64,
+    event: &CommandEvent<'_>,
+) -> Result<(), RunFault>
+    ensures output { Writes W.Sink writer.old writer.new result
+        (command_line offset (command_event_content event.now)) }
+
+    // nothing is flushed: the line waits for a flush, and what waited before still does
+    ensures unflushed { OnOk result (W.flushed writer.new ≡ false) }
+    ensures no_flush { W.flushed writer.old ≡ false → W.flushed writer.new ≡ false }
+{
+    let mut text = Outgoing::<LINE_ROOM>::new();
+    push_line(&mut text, offset, event);
+    text.write_out(writer)
+}

@@ -1,5 +1,0 @@
-use Rattle.dgt_script.proofs.ClosingLemmas.{closing_lines-agree}
-use Rattle.dgt_script.proofs.laws.closing_lines_agree.Goals as goal
-
-pub returns : goal.returns
-returns c = closing_lines-agree

@@ -1,0 +1,28 @@
+-- The closing lines of a board and a host that agree.
+use Rattle.std.proofs.Common.{◌≡◌, ℕ, List, ◌++◌, sym, ◌∙◌, ap, append_assoc, codes}
+use Rattle.dgt_values.specs.Placement.{placement_text}
+use Rattle.dgt_lines.specs.Closing.{clock_text, closing_text, named_line, picture_text, quiet_text}
+use Rattle.dgt_text.specs.Closing.{ClosingLinesAgree}
+
+-- a text that ends one line and the next
+text-twice : (text : List ℕ) → (text ++ codes "\n") ++ named_line (codes "host") text ≡ text ++ codes "\nhost " ++ text
+    ++ codes "\n"
+text-twice text =
+    append_assoc text (codes "\n") (named_line (codes "host") text)
+    ∙ sym (append_assoc text (codes "\nhost ") (text ++ codes "\n"))
+    ∙ sym (append_assoc (text ++ codes "\nhost ") text (codes "\n"))
+
+-- the first two lines where the picture is the position
+pub closing_lines-agree : ClosingLinesAgree
+unfolding closing_text
+closing_lines-agree world quiet h =
+    let placement = placement_text world.board.state.squares in
+    let first = (placement ++ codes "\n") ++ named_line (codes "host") placement in
+    let third = named_line (codes "hostclock") (clock_text world.host.clock) in
+    let fourth = named_line (codes "quiet") (quiet_text quiet) in (
+      third ++ fourth,
+      ap (λ picture. named_line (codes "board") placement ++ named_line (codes "host") (picture_text picture) ++ third
+          ++ fourth) h
+          ∙ ap (λ l. codes "board " ++ l)
+          (append_assoc first third fourth ∙ ap (λ l. l ++ (third ++ fourth)) (text-twice placement)),
+    )
