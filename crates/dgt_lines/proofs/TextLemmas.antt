@@ -8,8 +8,8 @@ use Rattle.std.specs.List.{list_all}
 use Rattle.std.specs.Prelude.{◌&&◌, codes, decimal}
 use Rattle.hex.specs.Hex.{encode_lower}
 use Rattle.dgt_message.specs.Clock.{ClockState, Times}
-use Rattle.dgt_lines.specs.Clocks.{clock_text, has_bit, low_text, running_text, shown_time, turn_text}
-use Rattle.dgt_lines.specs.Lines.{byte_text, bytes_text, padded_decimal, words_text}
+use Rattle.dgt_lines.specs.Clocks.{clock_text, has_bit, low_text, running_text, turn_text}
+use Rattle.dgt_lines.specs.Lines.{byte_text, bytes_text, padded_decimal, shown_time, words_text}
 
 -- no leading zero
 pub padded_one : (n : ℕ) → n < 2 ^ 64 → padded_decimal 1 n ≡ decimal n

@@ -1,13 +1,7 @@
 -- The text of the clock of a board.
-use Rattle.std.specs.Prelude.{ℕ, ◌^◌, ◌==◌, not, Bool, true, false, bit_and, if◌then◌else◌, List, [], ◌∷◌, ◌++◌, codes, decimal}
-use Rattle.dgt_message.specs.Clock.{ClockState, Time}
-use Rattle.dgt_lines.specs.Lines.{padded_decimal, words_text}
-
--- hours, minutes and seconds
-unfoldable pub shown_time : Time → List ℕ
-shown_time t =
-    decimal t.hours ++ codes ":" ++ padded_decimal 2 t.minutes ++ codes ":" ++ padded_decimal 2
-    t.seconds
+use Rattle.std.specs.Prelude.{ℕ, ◌^◌, ◌==◌, not, Bool, true, false, bit_and, if◌then◌else◌, List, [], ◌∷◌, ◌++◌, codes}
+use Rattle.dgt_message.specs.Clock.{ClockState}
+use Rattle.dgt_lines.specs.Lines.{shown_time, words_text}
 
 -- D0 to D6 of a status
 abbrev pub has_bit : ℕ → ℕ → Bool

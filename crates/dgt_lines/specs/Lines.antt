@@ -35,12 +35,15 @@ words_text words = join_with_byte 32 words
 
 -- ---- What is said
 
--- hours, minutes and seconds, and the flags
-unfoldable pub time_text : Time → List ℕ
-time_text t =
+-- hours, minutes and seconds
+unfoldable pub shown_time : Time → List ℕ
+shown_time t =
     decimal t.hours ++ codes ":" ++ padded_decimal 2 t.minutes ++ codes ":" ++ padded_decimal 2
     t.seconds
-    ++ codes " " ++ decimal t.flags
+
+-- and the flags
+unfoldable pub reading_text : Time → List ℕ
+reading_text t = shown_time t ++ codes " " ++ decimal t.flags
 
 -- what a body is that is carried unread
 abbrev pub carried_words : Option KnownCode → ℕ → List (List ℕ)
@@ -54,7 +57,7 @@ message_text (dump pieces) = words_text (codes "dump" ∷ placement_text pieces 
 message_text (field square piece) =
     words_text (codes "field" ∷ square_name square ∷ (piece_letter piece ∷ []) ∷ [])
 message_text (times t) =
-    words_text (codes "times" ∷ time_text t.first ∷ time_text t.second ∷ byte_text t.status ∷ [])
+    words_text (codes "times" ∷ reading_text t.first ∷ reading_text t.second ∷ byte_text t.status ∷ [])
 message_text (no_clock absence) =
     words_text (codes "noclock" ∷ bytes_text absence.raw ∷ byte_text absence.status ∷ [])
 message_text (ack answer) =

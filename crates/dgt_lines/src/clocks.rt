@@ -3,7 +3,8 @@
 ghost use Rattle.std.specs.Prelude.{◌≡◌, ◌+◌, ◌≤◌, ℕ, [], ◌++◌, codes, length, if◌then◌else◌};
 ghost use Rattle.dgt_message.specs.Content.{clock_seen, status_code, time_seen, times_seen};
 ghost use Rattle.dgt_message.specs.Clock.{ClockState};
-ghost use Rattle.dgt_lines.specs.Clocks.{clock_text, has_bit, low_text, running_text, shown_time, turn_text};
+ghost use Rattle.dgt_lines.specs.Clocks.{clock_text, has_bit, low_text, running_text, turn_text};
+ghost use Rattle.dgt_lines.specs.Lines.{shown_time};
 ghost use Rattle.dgt_lines.specs.Reports.{clock_known_at, clock_reports, shown_after};
 
 use crate::gathering::Outgoing;
@@ -67,7 +68,8 @@ fn push_times(text: &mut Outgoing<CLOCK_ROOM>, times: Times)
     push_low(text, times.status());
 }
 
-fn time_text(reading: Reading) -> [u8; 7]
+/// The hours, minutes and seconds of a reading.
+pub(crate) fn time_text(reading: Reading) -> [u8; 7]
     ensures { result ≡ shown_time (time_seen reading) }
 {
     let (minutes, seconds) = (reading.minutes(), reading.seconds());

@@ -92,7 +92,7 @@ fn push_display<const ROOM: usize>(text: &mut Outgoing<ROOM>, places: &[u8; 6], 
     ensures room { length text.new ≤ length text.old + 24 }
 {
     let [a, b, c, d, e, f] = *places;
-    let shown = shown_characters([a, b, c, d, e, f]);
+    let shown = characters([a, b, c, d, e, f]);
     text.push(b"display ");
     if are_shown(shown) && dots == 0 && beep == 0 {
         text.push(&shown);
@@ -101,22 +101,22 @@ fn push_display<const ROOM: usize>(text: &mut Outgoing<ROOM>, places: &[u8; 6], 
     }
 }
 
-fn shown_characters(places: [u8; 6]) -> [u8; 6]
+fn characters(places: [u8; 6]) -> [u8; 6]
     ensures { result ≡ map shown_character places }
 {
     let [a, b, c, d, e, f] = places;
     [
-        shown_character(a),
-        shown_character(b),
-        shown_character(c),
-        shown_character(d),
-        shown_character(e),
-        shown_character(f),
+        character(a),
+        character(b),
+        character(c),
+        character(d),
+        character(e),
+        character(f),
     ]
 }
 
 // The character that these segments show, or a question mark where they show none.
-fn shown_character(segments: u8) -> u8
+fn character(segments: u8) -> u8
     ensures { result ≡ shown_character segments }
 {
     match segments {
@@ -168,10 +168,10 @@ fn four_are_printable(letters: [u8; 4]) -> bool
     ensures { result ≡ list_all is_printable letters }
 {
     let [a, b, c, d] = letters;
-    is_printable(a) && is_printable(b) && is_printable(c) && is_printable(d)
+    printable(a) && printable(b) && printable(c) && printable(d)
 }
 
-fn is_printable(byte: u8) -> bool
+fn printable(byte: u8) -> bool
     ensures { result ≡ is_printable byte }
 {
     b' ' <= byte && byte <= b'~'

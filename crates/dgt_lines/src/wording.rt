@@ -7,9 +7,10 @@ ghost use Rattle.dgt_message.specs.Content.{clock_message, clock_seen, content, 
 ghost use Rattle.dgt_message.specs.Content.Content.{field, times, no_clock, ack, serial};
 ghost use Rattle.dgt_decode.specs.Grammar.{Cut, Refused, Stray};
 ghost use Rattle.dgt_decode.specs.Feeding.{event_content, event_found_in};
-ghost use Rattle.dgt_lines.specs.Lines.{byte_text, event_text, message_text, time_text};
+ghost use Rattle.dgt_lines.specs.Lines.{byte_text, event_text, message_text, reading_text};
 ghost use Rattle.dgt_lines.specs.Wording.{text_with};
 
+use crate::clocks::time_text;
 use crate::gathering::Outgoing;
 use dgt_decode::{Event, Found};
 use dgt_message::{BodyFault, Clock, ClockAck, Message, NoClock, Reading, Times};
@@ -146,27 +147,20 @@ fn push_times<const ROOM: usize>(text: &mut Outgoing<ROOM>, readings: Times)
     ensures len { length text.new ≡ length text.old + 28 }
 {
     text.push(b"times ");
-    text.push(&time_text(readings.first()));
+    push_reading(text, readings.first());
     text.push(b" ");
-    text.push(&time_text(readings.second()));
+    push_reading(text, readings.second());
     push_byte(text, readings.status().code().get());
 }
 
-fn time_text(reading: Reading) -> [u8; 9]
-    ensures { result ≡ time_text (time_seen reading) }
+// The time that a clock shows for a side, and its flags.
+fn push_reading<const ROOM: usize>(text: &mut Outgoing<ROOM>, reading: Reading)
+    requires { length text.old + 9 ≤ ROOM }
+    ensures text { text.new ≡ text.old ++ reading_text (time_seen reading) }
+    ensures len { length text.new ≡ length text.old + 9 }
 {
-    let (minutes, seconds) = (reading.minutes(), reading.seconds());
-    [
-        b'0' + reading.hours(),
-        b':',
-        b'0' + minutes / 10,
-        b'0' + minutes % 10,
-        b':',
-        b'0' + seconds / 10,
-        b'0' + seconds % 10,
-        b' ',
-        b'0' + reading.flags(),
-    ]
+    text.push(&time_text(reading));
+    text.push(&[b' ', b'0' + reading.flags()]);
 }
 
 // The text of a board without a clock.

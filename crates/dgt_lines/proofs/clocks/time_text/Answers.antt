@@ -1,6 +1,6 @@
 use Rattle.std.proofs.Common.{arith, refl}
 use Rattle.std.proofs.lemmas.Fmt.{decimal_digit}
-use Rattle.dgt_lines.specs.Clocks.{shown_time}
+use Rattle.dgt_lines.specs.Lines.{shown_time}
 use Rattle.dgt_lines.proofs.TextLemmas.{padded_two}
 use Rattle.dgt_lines.proofs.clocks.time_text.Goals as goal
 

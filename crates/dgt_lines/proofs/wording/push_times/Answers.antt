@@ -7,15 +7,13 @@ unfolding message_text
 returns-clause-text g c =
     rw (
       c.push_byte.ensures.text,
-      c.push-4.ensures.bytes,
-      c.push-3.ensures.bytes,
+      c.push_reading-2.ensures.text,
       c.push-2.ensures.bytes,
+      c.push_reading.ensures.text,
       c.push.ensures.bytes,
     )
     (simp (
       append_assoc,
-      c.time_text.ensures,
-      c.time_text-2.ensures,
       c.first.ensures,
       c.second.ensures,
       c.get.ensures.value,
