@@ -1,57 +1,131 @@
--- The lines of bytes that come in chunks.
-use Rattle.std.proofs.Common.{◌≡◌, ℕ, ◌+◌, ◌-◌, ◌≤◌, List, [], ◌∷◌, ◌++◌, ◌∙◌, ap, length, take, drop, append_assoc, append-nil}
-use Rattle.std.proofs.lemmas.Grind.{flat_map-append}
-use Rattle.std.specs.List.{flat_map}
-use Rattle.dgt_decode.specs.Grammar.{Event, at_place, events, open_message}
-use Rattle.dgt_decode.specs.Laws.{PiecesAdd}
-use Rattle.dgt_lines.specs.InChunks.{InChunks}
-use Rattle.dgt_lines.specs.Lines.{event_line, events_after, lines, lines_after, placed_line}
-use Rattle.dgt_lines.proofs.EventLemmas.{advance_event, advance_none, events_after-none, events_after-rest}
+-- What is gathered of a chunk, call after call, until it is written.
+use Rattle.std.proofs.Common.{◌≡◌, ℕ, ◌+◌, ◌-◌, ◌≤◌, List, [], ◌∷◌, ◌++◌, Bool, false, Result, Ok, Err, IsErrAnd, OnOk, refl, ◌∙◌, ap, sym, subst, suc, arith, length, take, drop, append_assoc, append-nil, length-append}
+use Rattle.std.proofs.lemmas.List.{length-take-le, take-append-drop, take_rest}
+use Rattle.std.proofs.Math.Seq.{take-add}
+use Rattle.dgt_command.specs.Spelling.{AreBytes}
+use Rattle.dgt_lines.specs.declared.faults.RunFault.{RunFault}
+use Rattle.dgt_lines.specs.declared.faults.RunFault.TheVariants.{WriteFailed}
+use Rattle.dgt_lines.specs.declared.streams.Sink.{Ghosts as Sink}
+use Rattle.dgt_lines.specs.Marks.{Waits}
+use Rattle.dgt_lines.specs.Printing.{GathersFront, GathersMore, PrintsMore}
+use Rattle.dgt_lines.specs.Writing.{Gathered, Stopped, Writes}
+use Rattle.dgt_lines.proofs.GatherLemmas.{gathered_none, gathered_out, gathers_then, stopped_longer}
+use Rattle.dgt_lines.proofs.Printed.{on_ok}
 
-module _ (laws : InChunks) (s : List ℕ) (offset : ℕ) where
-  pub lines_after-none : lines_after (open_message s) offset [] ≡ []
-  lines_after-none = ap (flat_map placed_line) (events_after-none laws s offset)
+-- bytes of a chunk that come after its first i
+pub more_bytes : (bytes chunk : List ℕ) (i n : ℕ)
+    → (bytes ++ take i chunk) ++ take n (take (length chunk - i) (drop i chunk)) ≡ bytes ++ take (i + n) chunk
+more_bytes bytes chunk i n = rw (take_rest, take-add i n chunk) (append_assoc bytes (take i chunk) _)
 
-  -- ---- a call of `advance` with `&chunk[i..]` that used n bytes, where the framer held o before
+-- and all that come after them
+pub all_bytes : (bytes chunk : List ℕ) (i n : ℕ)
+    → ((bytes ++ take i chunk) ++ take n (take (length chunk - i) (drop i chunk))) ++ drop (i + n) chunk
+    ≡ bytes ++ chunk
+all_bytes bytes chunk i n =
+    ap (λ l. l ++ drop (i + n) chunk) (more_bytes bytes chunk i n)
+    ∙ append_assoc bytes (take (i + n) chunk) (drop (i + n) chunk)
+    ∙ ap (λ l. bytes ++ l) (take-append-drop (i + n) chunk)
 
-  module _ (chunk o : List ℕ) (i n : ℕ) (held : o ≡ open_message (open_message s ++ take i chunk)) where
-    -- the line of its event
-    pub feed_line : (event : Event) → i ≤ length chunk
-        → events (o ++ take n (take (length chunk - i) (drop i chunk))) ≡ at_place (length o + n) event ∷ []
-        → lines_after (open_message s) offset (take (i + n) chunk) ≡ lines_after (open_message s) offset
-        (take i chunk) ++ event_line (offset + (i + n)) event
-    feed_line event h e =
-        let front = events_after (open_message s) offset (take i chunk) in
-        let one = at_place (offset + (i + n)) event ∷ [] in
-        ap (flat_map placed_line) (advance_event laws s offset chunk o i n held event h e)
-        ∙ flat_map-append placed_line front one ∙ ap (λ l. flat_map placed_line front ++ l) (append-nil _)
+pub counted_on : (bytes chunk : List ℕ) (i offset : ℕ) → offset ≡ length bytes → i ≤ length chunk
+    → offset + i ≡ length (bytes ++ take i chunk)
+counted_on bytes chunk i offset e h =
+    omega (arith, e, length-append bytes (take i chunk), length-take-le i chunk h)
 
-    -- no line
-    pub feed_none : i ≤ length chunk → n ≡ length (take (length chunk - i) (drop i chunk))
-        → events (o ++ take (length chunk - i) (drop i chunk)) ≡ []
-        → lines_after (open_message s) offset (take (i + n) chunk) ≡ lines_after (open_message s) offset
-        (take i chunk)
-    feed_none h l e = ap (flat_map placed_line) (advance_none laws s offset chunk o i n held h l e)
+-- what follows in bytes is bytes
+bytes_right : (xs ys : List ℕ) → AreBytes (xs ++ ys) → AreBytes ys
+bytes_right [] ys h i = h i
+bytes_right (x ∷ xs) ys h i = bytes_right xs ys (λ j. h (suc j)) i
 
-    -- an event whose line stops
-    pub feed_whole : (event : Event) → i ≤ length chunk
-        → events (o ++ take n (take (length chunk - i) (drop i chunk))) ≡ at_place (length o + n) event ∷ []
-        → lines_after (open_message s) offset chunk ≡ lines_after (open_message s) offset (take i chunk)
-        ++ (event_line (offset + (i + n)) event
-        ++ lines_after (open_message (open_message s ++ take (i + n) chunk)) (offset + length (take (i + n) chunk))
-        (drop (i + n) chunk))
-    feed_whole event h e =
-        let front = events_after (open_message s) offset (take (i + n) chunk) in
-        let later = events_after (open_message (open_message s ++ take (i + n) chunk))
-        (offset + length (take (i + n) chunk)) (drop (i + n) chunk) in
-        ap (flat_map placed_line) (events_after-rest laws s offset chunk (i + n))
-        ∙ flat_map-append placed_line front later
-        ∙ ap (λ l. l ++ flat_map placed_line later) (feed_line event h e)
-        ∙ append_assoc (lines_after (open_message s) offset (take i chunk)) _ _
+pub later_bytes : (chunk : List ℕ) (i : ℕ) → AreBytes chunk → AreBytes (drop i chunk)
+later_bytes chunk i are =
+    bytes_right (take i chunk) (drop i chunk) (subst AreBytes (sym (take-append-drop i chunk)) are)
 
--- the lines of bytes, and of a chunk after them
-pub lines-append : PiecesAdd → (bytes chunk : List ℕ)
-    → lines (bytes ++ chunk) ≡ lines bytes ++ lines_after (open_message bytes) (length bytes) chunk
-lines-append pieces bytes chunk =
-    ap (flat_map placed_line) (pieces.behind bytes chunk) ∙ flat_map-append placed_line (events bytes)
-    (events_after (open_message bytes) (length bytes) chunk)
+-- what waits for a flush still does after a call that gathers more
+waits_then : (o o' s t : List ℕ) (before now after : Bool) → (Waits s before → Waits o now)
+    → (Waits (o ++ t) now → Waits o' after) → Waits (s ++ t) before → Waits o' after
+waits_then [] o' s [] before now after p q w = q (λ e. p (λ z. w (append-nil s ∙ z)) refl)
+waits_then [] o' s (x ∷ t) before now after p q w = q (λ e. absurd (omega (arith, ap length e)))
+waits_then (x ∷ o) o' s t before now after p q w = q (λ e. absurd (omega (arith, ap length e)))
+
+-- ---- a call that uses bytes of what is left of a chunk
+
+module _ {S : Type 0} {W : Sink S} {P : List ℕ → List ℕ → Type 0} (bytes rest text : List ℕ) (used : ℕ) where
+  -- they end no event
+  pub gathers_none : {a : S} {held : List ℕ} → P (bytes ++ take used rest) (text ++ [])
+      → GathersFront W (held, held) a a (Ok used) P bytes rest text
+  gathers_none {a = a} {held = held} has =
+      (used, refl, record { more = []; gathers = gathered_none W held a; has = has; waits = rw append-nil (λ w. w) })
+
+  module _ {a b : S} {held held' : List ℕ} (more : List ℕ) (has : P (bytes ++ take used rest) (text ++ more)) where
+    -- they end one, and this is its line
+    pub gathers_some : Gathered W held held' a b more
+        → (Waits (held ++ more) (W.flushed a) → Waits held' (W.flushed b))
+        → GathersFront W (held, held') a b (Ok used) P bytes rest text
+    gathers_some q waits = (used, refl, record { more = more; gathers = q; has = has; waits = waits })
+
+    -- and the line was refused
+    pub gathers_refused : (r : Result ℕ RunFault) (e : RunFault) → IsErrAnd r (λ y. y ≡ e)
+        → (e ≡ WriteFailed) × Stopped W a b (held ++ more) → GathersFront W (held, held') a b r P bytes rest text
+    gathers_refused (Ok x) e k q = absurd k
+    gathers_refused (Err y) e k q =
+        (used, tt, record { more = more; gathers = (k ∙ q.0, q.1); has = has; waits = tt })
+
+-- ---- one call after another
+
+module _ {S : Type 0} {W : Sink S} {P : List ℕ → List ℕ → Type 0} where
+  -- before the first call
+  pub gathered_first : (a : S) (held bytes text : List ℕ) → held ≡ [] → P bytes text
+      → GathersMore {A = Unit {0}} W ([], held) a a (Ok tt) P (bytes ++ []) text
+  gathered_first a held bytes text e has = record {
+    more = [];
+    gathers = rw e (gathered_none W [] a);
+    has = rw (append-nil bytes, append-nil text) has;
+    waits = rw e (λ w. w);
+  }
+
+  module _ (a b c : S) (i bytes text : List ℕ) (p : GathersMore {A = Unit {0}} W ([], i) a b (Ok tt) P bytes text)
+      {Q : List ℕ → List ℕ → Type 0} (j read : List ℕ) where
+    -- a call that gathers more
+    pub gathered_more : {A : Type 0} (x : A) → GathersMore {A = A} W (i, j) b c (Ok x) Q read (text ++ p.more)
+        → GathersMore {A = Unit {0}} W ([], j) a c (Ok tt) Q read text
+    gathered_more x q = record {
+      more = p.more ++ q.more;
+      gathers = gathers_then W [] i j a b c p.more q.more (Ok (tt {0})) p.gathers q.gathers;
+      has = subst (Q read) (append_assoc text p.more q.more) q.has;
+      waits = waits_then i j p.more q.more _ _ _ p.waits q.waits;
+    }
+
+    -- a call that was refused: these are lines of all bytes of the chunk
+    pub prints_refused : {A : Type 0} {HasLines : List ℕ → List ℕ → List ℕ → Type 0} (e : RunFault)
+        (q : GathersMore {A = A} W (i, j) b c (Err e) Q read (text ++ p.more)) (r : Result (Unit {0}) RunFault)
+        → IsErrAnd r (λ y. y ≡ e) → (front all others last : List ℕ) → front ≡ all
+        → HasLines front (((text ++ p.more) ++ q.more) ++ others) last → PrintsMore W a c r HasLines Q all text
+    prints_refused e q (Ok x) k front all others last same has = absurd k
+    prints_refused {A = A} {HasLines = HasLines} e q (Err y) k front all others last same has =
+        let stop = gathers_then W {A = A} [] i j a b c p.more q.more (Err y) p.gathers
+        (k ∙ q.gathers.0, q.gathers.1) in
+        let whole : ((text ++ p.more) ++ q.more) ++ others ≡ text ++ ((p.more ++ q.more) ++ others) =
+        ap (λ l. l ++ others) (append_assoc text p.more q.more) ∙ append_assoc text (p.more ++ q.more) others in
+        record {
+          more = (p.more ++ q.more) ++ others;
+          last = last;
+          writes = (stop.0, stopped_longer W a c (p.more ++ q.more) others stop.1);
+          has = subst (λ l. HasLines l (text ++ ((p.more ++ q.more) ++ others)) last) same
+              (subst (λ l. HasLines front l last) whole has);
+          keeps = tt;
+          waits = tt;
+        }
+
+  -- after the last call, all is written
+  pub prints_out : {HasLines : List ℕ → List ℕ → List ℕ → Type 0} (a b c : S) (i bytes text : List ℕ)
+      (p : GathersMore {A = Unit {0}} W ([], i) a b (Ok tt) P bytes text) (r : Result (Unit {0}) RunFault)
+      → Writes W b c r i → OnOk r (Waits i (W.flushed b) → W.flushed c ≡ false) → (last : List ℕ)
+      → HasLines bytes (text ++ p.more) last → PrintsMore W a c r HasLines P bytes text
+  prints_out a b c i bytes text p r w out last has = record {
+    more = p.more;
+    last = last;
+    writes = gathered_out W i a b c p.more r p.gathers w;
+    has = has;
+    keeps = on_ok r (λ _. p.has) out;
+    waits = on_ok r (λ f z. f (p.waits z)) out;
+  }

@@ -108,11 +108,3 @@ module _ {S : Type 0} (W : Sink S) where
   pub gathered_out : {A : Type 0} (h : List ℕ) (a b c : S) (s : List ℕ) (r : Result A RunFault) → Gathered W [] h a b s
       → Writes W b c r h → Writes W a c r s
   gathered_out h a b c s r p q = subst (λ l. Writes W a c r l) (sym p.whole) (writes_then a b c p.out h r p.wrote q)
-
-  -- the exit of a `?` on a call that gathers a part of a text, from nothing held
-  pub gathered_exit : {A : Type 0} (i : List ℕ) (a b c : S) (s t rest whole : List ℕ) (r : Result A RunFault)
-      (e : RunFault) → Gathered W [] i a b s → whole ≡ s ++ (t ++ rest)
-      → IsErrAnd r (λ y. y ≡ e) → (e ≡ WriteFailed) × Stopped W b c (i ++ t) → Writes W a c r whole
-  gathered_exit i a b c s t rest whole (Ok x) e p w k q = absurd k
-  gathered_exit {A = A} i a b c s t rest whole (Err y) e p w k q =
-      gathers_stopped {A = A} [] i [] a b c s t rest whole (Err y) e p w k q

@@ -13,10 +13,8 @@ pub mod Heard
 pub mod Pictured
 pub mod Listed
 pub mod ClosingLemmas
-pub mod CommandChunkLemmas
 pub mod TellingLemmas
 mod ClockLemmas
 mod DoubtLemmas
-mod RefusalLemmas
 mod ReportLemmas
 mod ShownLemmas

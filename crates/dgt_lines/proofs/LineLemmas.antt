@@ -1,5 +1,5 @@
 -- Lines in parts.
-use Rattle.std.proofs.Common.{◌≡◌, ℕ, List, [], ◌∷◌, ◌++◌, ◌∙◌, ap, ◌<◌, append_assoc, arith, codes, length, sym}
+use Rattle.std.proofs.Common.{◌≡◌, ℕ, List, [], ◌∷◌, ◌++◌, ◌∙◌, ap, ◌<◌, append_assoc, arith, codes, length, refl, sym}
 use Rattle.dgt_lines.specs.Lines.{line, offset_text, unfinished_line, unfinished_text}
 
 -- after what is held comes a line: its offset, its text up to the bytes that are carried, these bytes and the line's
@@ -13,6 +13,10 @@ line-parts offset held start said text bytes s e =
     (e ∙ ap (λ l. l ++ said) s ∙ append_assoc held (offset_text offset ++ 32 ∷ []) said ∙ ap (λ l. held ++ l)
     (append_assoc (offset_text offset) (32 ∷ []) said))
     ∙ append_assoc held (offset_text offset ++ 32 ∷ said) (codes "\n")
+
+pub unfinished_line-none : (held : List ℕ) (offset : ℕ) → 0 ≡ length held → unfinished_line offset held ≡ []
+unfinished_line-none [] offset e = refl
+unfinished_line-none (b ∷ held) offset e = absurd (omega (arith, e))
 
 -- the line of a message that is unfinished
 pub unfinished_line-some : (held : List ℕ) (offset have : ℕ) → 0 < length held → have ≡ length held

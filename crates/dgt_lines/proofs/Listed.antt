@@ -1,44 +1,58 @@
--- The lines of what a host sends, chunk after chunk.
-use Rattle.std.proofs.Common.{◌≡◌, ◌≤◌, ◌+◌, ◌-◌, ℕ, List, [], ◌++◌, Result, length, refl, ap, subst, arith, length-append}
-use Rattle.std.specs.Prelude.{flat_map}
-use Rattle.dgt_command.specs.Words.{IsPartial}
-use Rattle.dgt_lines.specs.declared.streams.Sink.{Ghosts as Sink}
+-- The lines of what a host sends, of all bytes that were read.
+use Rattle.std.proofs.Common.{◌≡◌, ◌≤◌, ◌+◌, ◌-◌, ℕ, List, [], ◌++◌, Result, length, refl, ap, arith, length-append, take}
+use Rattle.std.proofs.lemmas.List.{length-take-le}
+use Rattle.dgt_command.specs.Content.{EventContent}
+use Rattle.dgt_command.specs.Spelling.{AreBytes}
+use Rattle.dgt_command.specs.Words.{IsPartial, IsWord}
 use Rattle.dgt_lines.specs.declared.faults.RunFault.{RunFault}
-use Rattle.dgt_lines.specs.Lines.{unfinished_line}
-use Rattle.dgt_lines.specs.CommandLines.{Tells, Word, WritesChunk}
-use Rattle.dgt_lines.specs.CommandLaws.{TextsAppend}
+use Rattle.dgt_lines.specs.CommandLines.{Tells, command_line}
+use Rattle.dgt_lines.specs.CommandLaws.{EachIsTold}
 use Rattle.dgt_lines.specs.Commanding.{IsListed}
-use Rattle.dgt_lines.specs.Printing.{HasCommandLines, IsPrinted, PrintsMore}
-use Rattle.dgt_lines.proofs.Printed.{on_ok, stands_by}
+use Rattle.dgt_lines.specs.Printing.{HasCommandLines, IsPrinted}
+use Rattle.dgt_lines.proofs.Printed.{stands_by}
+use Rattle.dgt_lines.proofs.TellingLemmas.{texts_append, told_part, told_word, word_bytes}
 
 pub listed_none : IsPartial [] → (held : List ℕ) → held ≡ [] → Tells 0 [] held []
-listed_none none held h =
-    rw h (record { words = []; are_words = record { each = tt; whole = refl; partial = none }; said = refl })
+listed_none none held h = rw h (told_part 0 [] none)
 
 -- what is left of a word is a part of the bytes
-pub rest_short : (bytes rest text : List ℕ) → Tells 0 bytes rest text → length rest ≤ length bytes
+rest_short : (bytes rest text : List ℕ) → Tells 0 bytes rest text → length rest ≤ length bytes
 rest_short bytes rest text h =
-    omega (
-      arith,
-      ap length h.are_words.whole,
-      length-append (flat_map (λ (word : Word). word.bytes) h.words) rest,
-    )
+    omega (arith, ap length h.are_words.whole, length-append (word_bytes h.words) rest)
 
-module _ {T : Type 0} {W : Sink T} (d d' : T) (r : Result (Unit {0}) RunFault) (held : List ℕ) (offset : ℕ)
-    (bytes text : List ℕ) (h : Tells 0 bytes held text) (counted : offset ≡ length bytes) where
-  pub listed_more : TextsAppend → (held' chunk : List ℕ) → WritesChunk W d d' r offset held chunk held'
-      → PrintsMore W d d' r HasCommandLines (λ bytes text. Tells 0 bytes held' text) (bytes ++ chunk) text
-  listed_more appends held' chunk p =
-      let same : offset - length held ≡ 0 + (length bytes - length held) = omega (arith, counted) in
-      let tells : Tells 0 (bytes ++ chunk) p.rest (text ++ p.text) =
-      appends 0 bytes chunk held p.rest text p.text h (subst (λ k. Tells k (held ++ chunk) p.rest p.text) same p.tells)
-      in record {
-        more = p.text;
-        last = unfinished_line (length (bytes ++ chunk)) p.rest;
-        writes = p.writes;
-        has = (p.rest, tells, refl);
-        keeps = on_ok r (λ e. rw e tells) p.keeps;
-      }
+-- ---- after a call of `advance`, with a piece of which it used n bytes
+
+module _ (held bytes text : List ℕ) (h : Tells 0 bytes held text) where
+  -- they complete a word
+  pub listed_event : (piece : List ℕ) (n offset : ℕ) (event : EventContent) → n ≤ length piece → offset ≡ length bytes
+      → IsPartial [] → IsWord event (held ++ take n piece) → (held' : List ℕ) → held' ≡ []
+      → Tells 0 (bytes ++ take n piece) held' (text ++ command_line (offset + n) event)
+  listed_event piece n offset event within counted none word held' e =
+      let place = 0 + (length bytes - length held) in
+      let same : place + length (held ++ take n piece) ≡ offset + n =
+      omega (
+        arith,
+        counted,
+        rest_short bytes held text h,
+        length-append held (take n piece),
+        length-take-le n piece within,
+      ) in
+      rw (e, ← same)
+      (texts_append 0 bytes (take n piece) held [] text _ h (told_word none place (held ++ take n piece) event word))
+
+  -- they complete none
+  pub listed_part : (more held' : List ℕ) → held' ≡ held ++ more → IsPartial held'
+      → Tells 0 (bytes ++ more) held' (text ++ [])
+  listed_part more held' e part =
+      let place = 0 + (length bytes - length held) in
+      texts_append 0 bytes more held held' text [] h (rw (← e) (told_part place held' part))
+
+  -- whatever comes after
+  pub listed_on : EachIsTold → (more : List ℕ) → AreBytes (held ++ more)
+      → (others : List ℕ) × (last : List ℕ) × HasCommandLines (bytes ++ more) (text ++ others) last
+  listed_on each more are =
+      let on = each (0 + (length bytes - length held)) (held ++ more) are in
+      (on.1, _, (on.0, texts_append 0 bytes more held on.0 text on.1 h on.2, refl))
 
 pub listed : {A : Type 0} (r : Result A RunFault) (bytes out : List ℕ) → IsPrinted HasCommandLines r bytes out
     → IsListed r bytes out

@@ -1,8 +1,8 @@
 -- Reports of events, one event after another.
-use Rattle.std.proofs.Common.{◌≡◌, ℕ, List, [], ◌∷◌, ◌++◌, refl, sym, ◌∙◌, ap, append_assoc, append-nil, length}
+use Rattle.std.proofs.Common.{◌≡◌, ℕ, List, [], ◌∷◌, ◌++◌, refl, sym, ◌∙◌, ap, append_assoc, length}
 use Rattle.std.proofs.lemmas.Grind.{flat_map-append}
 use Rattle.std.specs.List.{flat_map}
-use Rattle.dgt_decode.specs.Grammar.{Event, Placed, at_place, events, open_message}
+use Rattle.dgt_decode.specs.Grammar.{Event, Placed, events, open_message}
 use Rattle.dgt_decode.specs.Feeding.{event_content}
 use Rattle.dgt_decode.specs.Laws.{PiecesAdd}
 use Rattle.dgt_decode.specs.declared.event.Event as code
@@ -48,32 +48,6 @@ pub state_from-append : PiecesAdd → (before : PictureState) (bytes chunk : Lis
 state_from-append pieces before bytes chunk =
     ap (state_after_events before) (pieces.behind bytes chunk)
     ∙ state_after-append before (events bytes) (events_after (open_message bytes) (length bytes) chunk)
-
--- ---- one event more, which makes `after` of the state
-
-module _ (before now after : PictureState) (xs : List Placed) (place : ℕ) (event : Event)
-    (shown : now ≡ state_after_events before xs) (heard : after ≡ state_after_event now event) where
-  pub state_more : after ≡ state_after_events before (xs ++ at_place place event ∷ [])
-  state_more =
-      heard ∙ ap (λ s. state_after_event s event) shown ∙ sym (state_after-append before xs (at_place place event ∷ []))
-
-  pub lines_more : report_lines before (xs ++ at_place place event ∷ []) ≡ report_lines before xs ++ flat_map
-      report_line (reports_at place event now)
-  lines_more =
-      report_lines-append before xs (at_place place event ∷ [])
-      ∙ ap (λ l. report_lines before xs ++ flat_map report_line l)
-      (append-nil _ ∙ ap (reports_at place event) (sym shown))
-
-  -- and events after it
-  pub lines_whole : (all later : List Placed) → all ≡ (xs ++ at_place place event ∷ []) ++ later
-      → report_lines before all ≡ report_lines before xs ++
-      (flat_map report_line (reports_at place event now) ++ report_lines
-      (state_after_events before (xs ++ at_place place event ∷ [])) later)
-  lines_whole all later e =
-      ap (report_lines before) e
-      ∙ report_lines-append before (xs ++ at_place place event ∷ []) later
-      ∙ ap (λ l. l ++ report_lines (state_after_events before (xs ++ at_place place event ∷ [])) later) lines_more
-      ∙ append_assoc (report_lines before xs) _ _
 
 -- an event that is no message is a fault
 pub no_message : (e : code.Event) (event : Event)

@@ -1,13 +1,9 @@
 -- The lines that say what a host sends. A line is an offset, a space, a text and a line feed.
-use Rattle.std.specs.Prelude.{◌≡◌, ℕ, ◌+◌, ◌-◌, ◌≤◌, false, List, [], ◌∷◌, ◌++◌, length, take, Result, OnOk, flat_map}
+use Rattle.std.specs.Prelude.{◌≡◌, ℕ, ◌+◌, List, [], ◌∷◌, ◌++◌, length, flat_map}
 use Rattle.std.specs.List.{AllByRecursion}
 use Rattle.dgt_command.specs.Content.{EventContent}
 use Rattle.dgt_command.specs.Words.{IsWord, IsPartial}
-use Rattle.dgt_lines.specs.declared.streams.Sink.{Ghosts as Sink}
-use Rattle.dgt_lines.specs.declared.faults.RunFault.{RunFault}
 use Rattle.dgt_lines.specs.Lines.{line}
-use Rattle.dgt_lines.specs.Marks.{Waits}
-use Rattle.dgt_lines.specs.Writing.{Stopped, Writes}
 use Rattle.dgt_lines.specs.CommandWords.{command_event_text}
 
 -- the line of an event that the last of this number of bytes makes
@@ -37,24 +33,3 @@ pub record Tells (offset : ℕ) (bytes rest text : List ℕ) : Type 0 where
   pub words : List Word
   pub are_words : AreWords bytes words rest
   pub said : text ≡ word_lines offset words
-
--- A call that writes the text of a chunk that comes after this number of bytes, of which `held` is
--- a part of a word, and then keeps `held'`. It flushes nothing, so that the text waits for a flush.
-pub record WritesChunk {S A : Type 0} (W : Sink S) (old new : S) (r : Result A RunFault)
-    (offset : ℕ) (held chunk held' : List ℕ) : Type 0 where
-  pub text : List ℕ
-  pub rest : List ℕ
-  pub tells : Tells (offset - length held) (held ++ chunk) rest text
-  pub writes : Writes W old new r text
-  pub keeps : OnOk r (held' ≡ rest)
-  pub waits : OnOk r (Waits text (W.flushed old) → W.flushed new ≡ false)
-
--- The sink took a prefix of the text of the first bytes of such a chunk, and then refused. These
--- bytes were read and no more, and `held'` is kept of them.
-pub record StopsInChunk {S : Type 0} (W : Sink S) (old new : S) (offset : ℕ)
-    (held chunk held' : List ℕ) : Type 0 where
-  pub used : ℕ
-  pub within : used ≤ length chunk
-  pub text : List ℕ
-  pub tells : Tells (offset - length held) (held ++ take used chunk) held' text
-  pub stopped : Stopped W old new text

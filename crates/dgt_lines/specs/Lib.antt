@@ -6,7 +6,6 @@ pub mod Reports
 pub mod FaultText
 pub mod Marks
 pub mod Writing
-pub mod Refusals
 pub mod Device
 pub mod CommandWords
 pub mod CommandLines
@@ -17,7 +16,6 @@ pub mod Picturing
 pub mod Commanding
 pub mod Closing
 -- for bodies alone
-pub mod InChunks
 pub mod Wording
 pub mod ClockMessages
 pub mod Printing

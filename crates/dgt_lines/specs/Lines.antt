@@ -57,7 +57,8 @@ message_text (dump pieces) = words_text (codes "dump" ∷ placement_text pieces 
 message_text (field square piece) =
     words_text (codes "field" ∷ square_name square ∷ (piece_letter piece ∷ []) ∷ [])
 message_text (times t) =
-    words_text (codes "times" ∷ reading_text t.first ∷ reading_text t.second ∷ byte_text t.status ∷ [])
+    words_text (codes "times" ∷ reading_text t.first ∷ reading_text t.second ∷ byte_text t.status
+    ∷ [])
 message_text (no_clock absence) =
     words_text (codes "noclock" ∷ bytes_text absence.raw ∷ byte_text absence.status ∷ [])
 message_text (ack answer) =

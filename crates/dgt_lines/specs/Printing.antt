@@ -1,12 +1,13 @@
 -- What an engine prints of the bytes that it reads.
-use Rattle.std.specs.Prelude.{◌≡◌, ℕ, List, [], ◌++◌, length, Result, OnOk}
+use Rattle.std.specs.Prelude.{◌≡◌, ℕ, false, List, [], ◌++◌, length, take, Result, IfOk, OnOk}
 use Rattle.dgt_decode.specs.Grammar.{open_message}
 use Rattle.dgt_lines.specs.declared.doubts.PictureState.{PictureState}
 use Rattle.dgt_lines.specs.declared.streams.Sink.{Ghosts as Sink}
 use Rattle.dgt_lines.specs.declared.faults.RunFault.{RunFault}
 use Rattle.dgt_lines.specs.Lines.{lines, unfinished_line}
 use Rattle.dgt_lines.specs.Reports.{state_from, text_from}
-use Rattle.dgt_lines.specs.Writing.{Writes}
+use Rattle.dgt_lines.specs.Marks.{Waits}
+use Rattle.dgt_lines.specs.Writing.{Gathers, Writes}
 use Rattle.dgt_lines.specs.CommandLines.{Tells}
 use Rattle.dgt_lines.specs.Monitoring.{IsInSink}
 
@@ -19,6 +20,23 @@ pub record IsPrinted {A : Type 0} (HasLines : List ℕ → List ℕ → List ℕ
   pub has : HasLines bytes text last
   pub stands : IsInSink r text (text ++ last) out
 
+-- A call that gathers the lines of some bytes after this text, and flushes nothing; `bytes` are all
+-- up to their end. If the sink refuses, these bytes were read and no more.
+pub record GathersMore {S A : Type 0} (W : Sink S) (held : List ℕ × List ℕ) (old new : S)
+    (r : Result A RunFault) (HasPrinted : List ℕ → List ℕ → Type 0) (bytes text : List ℕ) :
+    Type 0 where
+  pub more : List ℕ
+  pub gathers : Gathers W held old new r more
+  pub has : HasPrinted bytes (text ++ more)
+  pub waits : OnOk r (Waits (held.0 ++ more) (W.flushed old) → Waits held.1 (W.flushed new))
+
+-- the same of a front of `rest` after these bytes: the call answers how long it is
+abbrev pub GathersFront : {S : Type 0} → Sink S → List ℕ × List ℕ → S → S → Result ℕ RunFault
+    → (List ℕ → List ℕ → Type 0) → List ℕ → List ℕ → List ℕ → Type 0
+GathersFront W held old new r HasPrinted bytes rest text =
+    (used : ℕ) × IfOk r (λ n. n ≡ used)
+    × GathersMore W held old new r HasPrinted (bytes ++ take used rest) text
+
 -- a call that writes the lines of a chunk after this text; `bytes` are all up to the chunk's end
 pub record PrintsMore {S A : Type 0} (W : Sink S) (old new : S) (r : Result A RunFault)
     (HasLines : List ℕ → List ℕ → List ℕ → Type 0) (HasPrinted : List ℕ → List ℕ → Type 0)
@@ -28,6 +46,7 @@ pub record PrintsMore {S A : Type 0} (W : Sink S) (old new : S) (r : Result A Ru
   pub writes : Writes W old new r more
   pub has : HasLines bytes (text ++ more) last
   pub keeps : OnOk r (HasPrinted bytes (text ++ more))
+  pub waits : OnOk r (Waits more (W.flushed old) → W.flushed new ≡ false)
 
 -- ---- The lines of events
 

@@ -13,12 +13,12 @@ use crate::laws::writes_in_a_row;
 use crate::streams::Sink;
 use dgt_command::CommandEvent;
 
-/// Room for a line.
-pub(crate) const LINE_ROOM: usize = 600;
+/// Room for the line of a command.
+pub(crate) const COMMAND_ROOM: usize = 600;
 
 // Adds the line of an event.
 fn push_line<const ROOM: usize>(text: &mut Outgoing<ROOM>, offset: u64, event: &CommandEvent<'_>)
-    requires { length text.old + LINE_ROOM ≤ ROOM }
+    requires { length text.old + COMMAND_ROOM ≤ ROOM }
     ensures { text.new ≡ text.old ++ command_line offset (command_event_content event.now) }
 {
     text.push_decimal(offset, 8);
@@ -34,7 +34,7 @@ pub(crate) fn put_command<W: Sink, const ROOM: usize>(
     offset: u64,
     event: &CommandEvent<'_>,
 ) -> Result<(), RunFault>
-    requires { LINE_ROOM ≤ ROOM }
+    requires { COMMAND_ROOM ≤ ROOM }
     ensures output { Gathers W.Sink (outgoing.old, outgoing.new) writer.old writer.new
         result (command_line offset (command_event_content event.now)) }
     ensures dropped { OnErr result (outgoing.new ≡ []) }
@@ -42,7 +42,7 @@ pub(crate) fn put_command<W: Sink, const ROOM: usize>(
     ensures waits { OnOk result (Waits outgoing.new (W.flushed writer.new)) }
 {
     writes_in_a_row::<W>();
-    outgoing.make_room(writer, LINE_ROOM)?;
+    outgoing.make_room(writer, COMMAND_ROOM)?;
     push_line(outgoing, offset, event);
     Ok(())
 }
@@ -53,8 +53,8 @@ pub(crate) fn put_command<W: Sink, const ROOM: usize>(
 /// for what came, and a line feed, as in `00000006 beep 3`. The offset is the number of bytes up to
 /// and including the one that made the event. The format is this project's own choice.
 ///
-/// `WriteFailed` comes where the writer refuses, which then took the front of the line and gets
-/// nothing more.
+/// `WriteFailed` comes if the writer refuses. It then took a prefix of the line, and gets nothing
+/// more.
 pub fn write_command<W: Sink>(
     writer: &mut W,
     offset: u64,
@@ -67,7 +67,7 @@ pub fn write_command<W: Sink>(
     ensures unflushed { OnOk result (W.flushed writer.new ≡ false) }
     ensures no_flush { W.flushed writer.old ≡ false → W.flushed writer.new ≡ false }
 {
-    let mut text = Outgoing::<LINE_ROOM>::new();
+    let mut text = Outgoing::<COMMAND_ROOM>::new();
     push_line(&mut text, offset, event);
     text.write_out(writer)
 }

@@ -5,7 +5,6 @@ ghost use Rattle.std.specs.Prelude.{◌≡◌, ◌++◌, ℕ, List, length};
 ghost use Rattle.dgt_values.specs.Equality.{CloneIsSame, EqualIsSame};
 ghost use Rattle.dgt_decode.specs.Grammar.{open_message};
 ghost use Rattle.dgt_lines.specs.CommandLaws.{EachCharacterIsShown, EachIsTold, EachIsToldOnce, OthersAreQuestionMarks, TextsAppend};
-ghost use Rattle.dgt_lines.specs.InChunks.{InChunks};
 ghost use Rattle.dgt_lines.specs.Lines.{events_after, lines, lines_after};
 ghost use Rattle.dgt_lines.specs.Pictures.{LastLineIsPicture, PictureIsTheHosts, picture_after_events, picture_lines, picture_told, pictures_text};
 ghost use Rattle.dgt_lines.specs.Reports.{ClockLeavesReports, DoubtsKeepThePicture, DoubtsLeavePictures, FirstFaultsAreReported, HiddenClockIsSilent, IgnoredFaultsAreSilent, LastClockIsTheHosts, OtherClocksAreReported, report_lines, state_after_events, state_from, text_from};
@@ -145,13 +144,3 @@ pub fn other_clocks_are_reported()
 pub fn picture_is_the_hosts()
     ensures { PictureIsTheHosts }
 {}
-
-// What comes in chunks is decoded as if it had come whole.
-pub(crate) fn in_chunks()
-    ensures { InChunks }
-{
-    laws::pieces_in_a_row();
-    laws::places_add();
-    laws::open_append();
-    laws::open_is_quiet();
-}

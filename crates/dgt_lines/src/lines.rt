@@ -1,15 +1,15 @@
 //! The lines of events.
 
-ghost use Rattle.std.specs.Prelude.{◌≡◌, ◌≢◌, ◌+◌, ◌/◌, ◌%◌, ◌<◌, ◌≤◌, ℕ, List, ◌++◌, [], ◌∷◌, false, length, OnOk, OnErr};
+ghost use Rattle.std.specs.Prelude.{◌≡◌, ◌≢◌, ◌+◌, ◌/◌, ◌%◌, ◌<◌, ◌≤◌, ℕ, List, ◌++◌, [], ◌∷◌, false, length, IsTrue, OnOk, OnErr};
 ghost use Rattle.hex.specs.Hex.{encode_lower};
 ghost use Rattle.dgt_decode.specs.Grammar.{message_event};
 ghost use Rattle.dgt_decode.specs.Feeding.{IsWholeMessage, event_content, event_found_in};
 ghost use Rattle.dgt_lines.specs.Writing.{Gathers, Writes};
-ghost use Rattle.dgt_lines.specs.Lines.{bytes_text, event_line, line, offset_text, padded_decimal, unfinished_text};
+ghost use Rattle.dgt_lines.specs.Lines.{bytes_text, event_line, line, offset_text, padded_decimal, unfinished_line, unfinished_text};
 ghost use Rattle.dgt_lines.specs.Marks.{Waits};
 
 use crate::faults::RunFault;
-use crate::gathering::{LINE_ROOM, Outgoing};
+use crate::gathering::{LINE_ROOM, Outgoing, flush};
 use crate::streams::Sink;
 use crate::wording::{push_event, push_fault, push_field};
 use dgt_decode::{Event, Found, Framer, field_update};
@@ -242,14 +242,28 @@ pub fn write_unfinished<W: Sink>(writer: &mut W, offset: u64, have: usize) -> Re
     text.write_out(writer)
 }
 
+/// Writes and flushes a last line after `offset` bytes, if a message or a command is unfinished, of
+/// which `have` bytes came.
+pub(crate) fn write_end<W: Sink>(writer: &mut W, offset: u64, have: usize) -> Result<(), RunFault>
+    ensures output { (held : List ℕ) → have ≡ length held →
+        Writes W.Sink writer.old writer.new result (unfinished_line offset held) }
+    ensures flushed { OnOk result (IsTrue (W.flushed writer.old) → IsTrue (W.flushed writer.new)) }
+{
+    if have == 0 {
+        return Ok(());
+    }
+    write_unfinished(writer, offset, have)?;
+    flush(writer)
+}
+
 /// Writes the line of an event, without a flush.
 ///
 /// A line is the offset in decimal, with leading zeros to at least eight digits, a space, what
 /// came, and a line feed, as in `00000005 field e4 P`. The offset is the number of bytes up to and
 /// including the one that made the event. The format is this project's own choice.
 ///
-/// `WriteFailed` comes where the writer refuses, which then took the front of the line and gets
-/// nothing more.
+/// `WriteFailed` comes if the writer refuses. It then took a prefix of the line, and gets nothing
+/// more.
 pub fn write_event<W: Sink>(writer: &mut W, offset: u64, event: &Event<'_>) -> Result<(), RunFault>
     ensures output { Writes W.Sink writer.old writer.new result
         (event_line offset (event_content event.now)) }

@@ -1,23 +1,24 @@
 //! The lines that show the board and its clock, chunk after chunk.
 
-ghost use Rattle.std.specs.Prelude.{◌≡◌, ◌+◌, ◌^◌, ◌<◌, ◌≤◌, [], ◌++◌, false, codes, length, map, OnOk, OnErr};
+ghost use Rattle.std.specs.Prelude.{◌≡◌, ◌+◌, ◌≤◌, [], ◌++◌, false, codes, length, map, refl, OnOk, OnErr};
 ghost use Rattle.std.specs.List.{flat_map};
-ghost use Rattle.dgt_decode.specs.Grammar.{message_event, open_message};
+ghost use Rattle.dgt_decode.specs.Grammar.{message_event};
 ghost use Rattle.dgt_decode.specs.Feeding.{IsWholeMessage, event_found_in};
-ghost use Rattle.dgt_lines.specs.Lines.{events_after, line};
+ghost use Rattle.dgt_lines.specs.Lines.{line};
 ghost use Rattle.dgt_lines.specs.Marks.{Waits};
 ghost use Rattle.dgt_lines.specs.Pictures.{known_at};
-ghost use Rattle.dgt_lines.specs.Refusals.{StopsInPictures};
-ghost use Rattle.dgt_lines.specs.Reports.{Shows, clock_known_at, fault_reports, report_line, report_lines, reports_at, state_after_event, state_after_events, state_after_fault};
-ghost use Rattle.dgt_lines.specs.Writing.{Gathers, Writes};
+ghost use Rattle.dgt_lines.specs.Printing.{HasPrintedReports, HasReportLines};
+ghost use Rattle.dgt_lines.specs.Reports.{Shows, clock_known_at, fault_reports, report_line, reports_at, state_after_event, state_after_fault};
+ghost use Rattle.dgt_lines.specs.Writing.{Gathers};
 
 use crate::clocks::{CLOCK_ROOM, ShownClock};
 use crate::doubts::{News, PictureState};
 use crate::faults::RunFault;
 use crate::gathering::{LINE_ROOM, Outgoing};
-use crate::laws;
+use crate::laws::{self, writes_in_a_row};
 use crate::lines::push_offset;
 use crate::pictures::Picture;
+use crate::printers::Printer;
 use crate::streams::Sink;
 use dgt_decode::{Event, Found, Framer, field_update};
 
@@ -188,53 +189,49 @@ fn hear_found<W: Sink>(
     put_known(outgoing, writer, offset, &state.picture)
 }
 
-/// Writes a line with the placement of the board for each message that sets its picture, of a chunk
-/// that comes after `offset` bytes, in one write if there is room for them.
-///
-/// A fault that raises a doubt has a line with the word `doubt`. The first fault since a dump does,
-/// unless faults raise no doubt. The next dump ends it. A message of the clock has a line with its
-/// text if the clock is shown and the text is another one than before, or the first.
-///
-/// `framer` holds what is unfinished of the bytes before, and `state` is the one after them. The
-/// first one is [`PictureState::new`]. Nothing is flushed.
-///
-/// `WriteFailed` comes if the writer refuses. Then `framer` has read a prefix of the chunk and no
-/// more, `state` is the one after it, the writer took a prefix of its lines, and what was gathered
-/// is dropped.
-pub(crate) fn write_pictures<W: Sink>(
-    framer: &mut Framer,
-    state: &mut PictureState,
-    outgoing: &mut Outgoing<PICTURES_ROOM>,
-    offset: u64,
-    chunk: &[u8],
-    writer: &mut W,
-) -> Result<(), RunFault>
-    requires empty { outgoing.old ≡ [] }
-    requires fits { offset + length chunk.now < 2 ^ 64 }
-    ensures output { Writes W.Sink writer.old writer.new result
-        (report_lines state.old (events_after (open_message framer.old) offset chunk.now)) }
-    ensures state { OnOk result (state.new ≡ state_after_events state.old
-        (events_after (open_message framer.old) offset chunk.now)) }
-    ensures framed { OnOk result (open_message framer.new ≡
-        open_message (open_message framer.old ++ chunk.now)) }
-    ensures stops { OnErr result (StopsInPictures W.Sink writer.old writer.new offset
-        (open_message framer.old) chunk.now (open_message framer.new) state.old state.new) }
-    ensures empty { outgoing.new ≡ [] }
+/// What is known of a board and its clock after the messages before, and the unfinished one.
+#[derive(Drop)]
+pub(crate) struct Pictures {
+    pub(crate) framer: Framer,
+    pub(crate) state: PictureState,
+}
 
-    // nothing is flushed: the lines wait for a flush, and what waited before still does
-    ensures unflushed { OnOk result (Waits
-        (report_lines state.old (events_after (open_message framer.old) offset chunk.now))
-        (W.flushed writer.old) → W.flushed writer.new ≡ false) }
-    ensures no_flush { W.flushed writer.old ≡ false → W.flushed writer.new ≡ false }
-{
-    laws::in_chunks();
-    let mut at = 0;
-    while at < chunk.len() {
-        let advanced = framer.advance(&chunk[at..]);
-        at += advanced.used;
+// The lines that show the board: one with its placement for each message that sets its picture.
+//
+// A fault that raises a doubt has a line with the word `doubt`. The first fault since a dump does,
+// unless faults raise no doubt. The next dump ends it. A message of the clock has a line with its
+// text if the clock is shown and the text is another one than before, or the first.
+impl Printer<PICTURES_ROOM> for Pictures {
+    ghost has_lines = { λ first. HasReportLines first.state };
+
+    ghost has_printed = { λ first now. HasPrintedReports first.state now.framer now.state };
+
+    ghost are_lines = { λ first now bytes text printed. ([], (printed.0, refl)) };
+
+    fn gather<W: Sink>(
+        &mut self,
+        outgoing: &mut Outgoing<PICTURES_ROOM>,
+        offset: u64,
+        rest: &[u8],
+        writer: &mut W,
+    ) -> Result<usize, RunFault> {
+        laws::reports_append();
+        dgt_decode::laws::open_append();
+        let (framer, state) = (&mut self.framer, &mut self.state);
+        let advanced = framer.advance(rest);
         if let Some(found) = &advanced.found {
-            hear_found(state, outgoing, writer, offset + at as u64, framer, found)?;
+            let end = offset + advanced.used as u64;
+            hear_found(state, outgoing, writer, end, framer, found)?;
         }
+        Ok(advanced.used)
     }
-    outgoing.write_out(writer)
+
+    fn print_end<W: Sink>(&self, _offset: u64, _writer: &mut W) -> Result<(), RunFault> {
+        writes_in_a_row::<W>();
+        Ok(())
+    }
+
+    fn lines_go_on() {
+        laws::reports_append();
+    }
 }

@@ -1,34 +1,23 @@
-//! What the engines that print have in common: the loop over chunks, and what is printed of each.
+//! What the engines that print have in common: the loop over the bytes of a chunk, and the one over
+//! chunks.
 
-ghost use Rattle.std.specs.Prelude.{◌≡◌, ◌+◌, ◌^◌, ◌<◌, ◌++◌, [], ℕ, List, length, refl, IsTrue, OnOk};
-ghost use Rattle.dgt_command.specs.Framing.{rest_of};
-ghost use Rattle.dgt_lines.specs.CommandLines.{Tells};
-ghost use Rattle.dgt_decode.specs.Grammar.{open_message};
-ghost use Rattle.dgt_lines.specs.Lines.{unfinished_line};
+ghost use Rattle.std.specs.Prelude.{◌≡◌, ◌+◌, ◌^◌, ◌<◌, ◌≤◌, ◌++◌, [], ℕ, List, false, length, IsTrue, IfOk, OnErr, OnOk};
+ghost use Rattle.dgt_command.specs.Spelling.{AreBytes};
 ghost use Rattle.dgt_lines.specs.Writing.{Writes};
-ghost use Rattle.dgt_lines.specs.Printing.{HasCommandLines, HasEventLines, HasPrintedEvents, HasPrintedReports, HasReportLines, IsPrinted, PrintsMore};
+ghost use Rattle.dgt_lines.specs.Printing.{GathersFront, IsPrinted, PrintsMore};
 ghost use Rattle.dgt_lines.specs.Turns.{change, InTurns, Ran, RunsInTurns};
 
-use crate::chunks::{LINES_ROOM, write_end, write_lines};
-use crate::command_chunks::{COMMANDS_ROOM, write_commands, write_commands_end};
-use crate::doubts::PictureState;
 use crate::faults::RunFault;
 use crate::gathering::{Outgoing, flush};
-use crate::laws::{self, writes_in_a_row};
-use crate::picture_chunks::{PICTURES_ROOM, write_pictures};
+use crate::laws::writes_in_a_row;
 use crate::streams::{Sink, Source};
-use dgt_command::WordFramer;
-use dgt_decode::Framer;
 
 /// The most bytes that an engine reads at once.
 pub const MAX_CHUNK: usize = 4096;
 
 /// Prints the lines of bytes that come in chunks, each of which is read after what is unfinished of
-/// those before. The lines of a chunk are gathered in an `O`.
-pub(crate) trait Printer<O> {
-    // nothing is gathered
-    ghost is_empty: { O → Type 0 };
-
+/// those before. The lines of a chunk are gathered, with room for `ROOM` bytes of them.
+pub(crate) trait Printer<const ROOM: usize> {
     // bytes have these lines from the first state on, and a last one for what is unfinished at
     // their end
     ghost has_lines: { Self → List ℕ → List ℕ → List ℕ → Type 0 };
@@ -36,23 +25,25 @@ pub(crate) trait Printer<O> {
     // from the first state on, these lines were printed of bytes, and led to the second state
     ghost has_printed: { Self → Self → List ℕ → List ℕ → Type 0 };
 
-    /// Writes the lines of a chunk that comes after `offset` bytes, without a flush.
-    fn print<W: Sink>(
+    /// Uses bytes of the rest of a chunk, which comes after `offset` bytes: those up to and
+    /// including the first that ends an event, or all of them. Gathers the lines of the event, and
+    /// returns how many bytes were used. After a refused write nothing is gathered.
+    fn gather<W: Sink>(
         &mut self,
-        outgoing: &mut O,
+        outgoing: &mut Outgoing<ROOM>,
         offset: u64,
-        chunk: &[u8],
+        rest: &[u8],
         writer: &mut W,
-    ) -> Result<(), RunFault>
-        requires empty { is_empty outgoing.old }
-        requires fits { offset + length chunk.now < 2 ^ 64 }
-        requires follows { (first : Self) × (bytes : List ℕ) × (text : List ℕ)
-            × has_printed first self.old bytes text × (offset ≡ length bytes) }
+    ) -> Result<usize, RunFault>
+        requires fits { offset + length rest.now < 2 ^ 64 }
+        ensures within { IfOk result (λ used. used ≤ length rest.now) }
+        ensures progress { IfOk result (λ used. 0 < length rest.now → 0 < used) }
         ensures output { (first : Self) (bytes text : List ℕ) →
             has_printed first self.old bytes text → offset ≡ length bytes →
-            PrintsMore W.Sink writer.old writer.new result (has_lines first)
-            (has_printed first self.new) (bytes ++ chunk.now) text }
-        ensures empty { is_empty outgoing.new };
+            GathersFront W.Sink (outgoing.old, outgoing.new) writer.old writer.new result
+            (has_printed first self.new) bytes rest.now text }
+        ensures dropped { OnErr result (outgoing.new ≡ []) }
+        ensures no_flush { W.flushed writer.old ≡ false → W.flushed writer.new ≡ false };
 
     /// Writes and flushes a last line after `offset` bytes, if something is unfinished that has
     /// one.
@@ -64,22 +55,56 @@ pub(crate) trait Printer<O> {
         ensures flushed { OnOk result
             (IsTrue (W.flushed writer.old) → IsTrue (W.flushed writer.new)) };
 
+    /// Whatever bytes come after those that were printed, all of them have lines, of which the
+    /// printed ones are the first. Nothing here runs.
+    fn lines_go_on()
+        ensures { (first state : Self) (bytes text more : List ℕ) →
+            has_printed first state bytes text → AreBytes more →
+            (others : List ℕ) × (last : List ℕ)
+            × has_lines first (bytes ++ more) (text ++ others) last };
+
     // what was printed of bytes are their lines
     ghost are_lines: { (first state : Self) (bytes text : List ℕ) →
         has_printed first state bytes text → (last : List ℕ) × has_lines first bytes text last };
 }
 
+// Writes the lines of a chunk that comes after `offset` bytes, in one write if there is room for
+// them. Nothing is flushed.
+fn print_chunk<const ROOM: usize, P: Printer<ROOM>, W: Sink>(
+    printer: &mut P,
+    outgoing: &mut Outgoing<ROOM>,
+    offset: u64,
+    chunk: &[u8],
+    writer: &mut W,
+) -> Result<(), RunFault>
+    requires empty { outgoing.old ≡ [] }
+    requires fits { offset + length chunk.now < 2 ^ 64 }
+    ensures output { (first : P) (bytes text : List ℕ) →
+        P.has_printed first printer.old bytes text → offset ≡ length bytes →
+        PrintsMore W.Sink writer.old writer.new result (P.has_lines first)
+        (P.has_printed first printer.new) (bytes ++ chunk.now) text }
+    ensures empty { outgoing.new ≡ [] }
+    ensures no_flush { W.flushed writer.old ≡ false → W.flushed writer.new ≡ false }
+{
+    P::lines_go_on();
+    let mut at = 0;
+    while at < chunk.len() {
+        at += printer.gather(outgoing, offset + at as u64, &chunk[at..], writer)?;
+    }
+    outgoing.write_out(writer)
+}
+
 /// Prints the lines of the bytes that the reader gives, in at most `limit` reads. Those of a read
 /// are written and flushed before the next.
-pub(crate) fn print_input<O, P: Printer<O>, R: Source, W: Sink>(
+pub(crate) fn print_input<const ROOM: usize, P: Printer<ROOM>, R: Source, W: Sink>(
     printer: &mut P,
-    outgoing: &mut O,
+    outgoing: &mut Outgoing<ROOM>,
     reader: &mut R,
     writer: &mut W,
     limit: u32,
 ) -> Result<(), RunFault>
     requires begins { P.has_printed printer.old printer.old [] [] }
-    requires empty { P.is_empty outgoing.old }
+    requires empty { outgoing.old ≡ [] }
     ensures output { Ran R.Source W.Sink
         (change reader.old reader.new) (change writer.old writer.new)
         (InTurns limit result (IsPrinted (P.has_lines printer.old) result)) }
@@ -96,100 +121,9 @@ pub(crate) fn print_input<O, P: Printer<O>, R: Source, W: Sink>(
         if given == 0 {
             return printer.print_end(offset, writer);
         }
-        printer.print(outgoing, offset, &buffer[..given], writer)?;
+        print_chunk(printer, outgoing, offset, &buffer[..given], writer)?;
         flush(writer)?;
         offset += given as u64;
     }
     Err(RunFault::TooManyTurns)
-}
-
-// The lines of events.
-impl Printer<Outgoing<LINES_ROOM>> for Framer {
-    ghost is_empty = { λ gathered. gathered ≡ [] };
-
-    ghost has_lines = { λ first. HasEventLines };
-
-    ghost has_printed = { λ first kept. HasPrintedEvents kept };
-
-    ghost are_lines = { λ first kept bytes text printed.
-        (unfinished_line (length bytes) (open_message bytes), (printed.0, refl)) };
-
-    fn print<W: Sink>(
-        &mut self,
-        outgoing: &mut Outgoing<LINES_ROOM>,
-        offset: u64,
-        chunk: &[u8],
-        writer: &mut W,
-    ) -> Result<(), RunFault> {
-        laws::lines_append();
-        dgt_decode::laws::open_append();
-        write_lines(self, outgoing, offset, chunk, writer)
-    }
-
-    fn print_end<W: Sink>(&self, offset: u64, writer: &mut W) -> Result<(), RunFault> {
-        write_end(self, offset, writer)
-    }
-}
-
-/// What is known of a board and its clock after the messages before, and the unfinished one.
-#[derive(Drop)]
-pub(crate) struct Pictures {
-    pub(crate) framer: Framer,
-    pub(crate) state: PictureState,
-}
-
-// The lines that show the board.
-impl Printer<Outgoing<PICTURES_ROOM>> for Pictures {
-    ghost is_empty = { λ gathered. gathered ≡ [] };
-
-    ghost has_lines = { λ first. HasReportLines first.state };
-
-    ghost has_printed = { λ first now. HasPrintedReports first.state now.framer now.state };
-
-    ghost are_lines = { λ first now bytes text printed. ([], (printed.0, refl)) };
-
-    fn print<W: Sink>(
-        &mut self,
-        outgoing: &mut Outgoing<PICTURES_ROOM>,
-        offset: u64,
-        chunk: &[u8],
-        writer: &mut W,
-    ) -> Result<(), RunFault> {
-        laws::reports_append();
-        dgt_decode::laws::open_append();
-        let (framer, state) = (&mut self.framer, &mut self.state);
-        write_pictures(framer, state, outgoing, offset, chunk, writer)
-    }
-
-    fn print_end<W: Sink>(&self, _offset: u64, _writer: &mut W) -> Result<(), RunFault> {
-        writes_in_a_row::<W>();
-        Ok(())
-    }
-}
-
-// The lines of what a host sends.
-impl Printer<Outgoing<COMMANDS_ROOM>> for WordFramer {
-    ghost is_empty = { λ gathered. gathered ≡ [] };
-
-    ghost has_lines = { λ first. HasCommandLines };
-
-    ghost has_printed = { λ first kept bytes text. Tells 0 bytes (rest_of kept) text };
-
-    ghost are_lines = { λ first kept bytes text printed.
-        (unfinished_line (length bytes) (rest_of kept), (rest_of kept, printed, refl)) };
-
-    fn print<W: Sink>(
-        &mut self,
-        outgoing: &mut Outgoing<COMMANDS_ROOM>,
-        offset: u64,
-        chunk: &[u8],
-        writer: &mut W,
-    ) -> Result<(), RunFault> {
-        laws::texts_append();
-        write_commands(self, outgoing, offset, chunk, writer)
-    }
-
-    fn print_end<W: Sink>(&self, offset: u64, writer: &mut W) -> Result<(), RunFault> {
-        write_commands_end(self, offset, writer)
-    }
 }

@@ -12,8 +12,8 @@ use crate::doubts::{Doubt, PictureState};
 use crate::faults::RunFault;
 use crate::gathering::Outgoing;
 use crate::laws;
-use crate::picture_chunks::PICTURES_ROOM;
-use crate::printers::{Pictures, print_input};
+use crate::picture_chunks::{PICTURES_ROOM, Pictures};
+use crate::printers::print_input;
 use crate::streams::{Sink, Source};
 use dgt_command::WordFramer;
 use dgt_decode::Framer;
@@ -26,7 +26,7 @@ use dgt_decode::Framer;
 ///
 /// - `ReadFailed` comes if the reader refuses, and `TooManyTurns` if `limit` reads succeeded
 ///   and none gave the end. All lines of what was read are written then.
-/// - `WriteFailed` comes where the writer refuses. It took the front of the lines, and gets nothing
+/// - `WriteFailed` comes if the writer refuses. It took a prefix of the lines, and gets nothing
 ///   more.
 pub fn monitor<R: Source, W: Sink>(
     reader: &mut R,

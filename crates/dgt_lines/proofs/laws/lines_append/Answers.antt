@@ -1,4 +1,4 @@
-use Rattle.dgt_lines.proofs.ChunkLemmas.{lines-append}
+use Rattle.dgt_lines.proofs.EventLemmas.{lines-append}
 use Rattle.dgt_lines.proofs.laws.lines_append.Goals as goal
 
 pub returns : goal.returns

@@ -12,11 +12,6 @@ loop-init g c = record {
   short = omega arith;
 }
 
-pub print-requires-clause-follows : goal.print-requires-clause-follows
-print-requires-clause-follows g c =
-    let printed = c.loop.invariant.printed in
-    (c.args.printer.now, c.loop.invariant.in_turns.bytes, printed.text, printed.has, printed.counted)
-
 pub returns-then-given-eq0-clause-output : goal.returns-then-given-eq0-clause-output
 returns-then-given-eq0-clause-output g c =
     let printed = c.loop.invariant.printed in
@@ -24,17 +19,17 @@ returns-then-given-eq0-clause-output g c =
     printed_end c.writes_in_a_row.ensures _ _ _ _ c.loop.invariant.in_turns printed
     (rw c.if-given-eq0.true at c.in-Ok.ensures.bytes.0) end.1 end.2
 
-pub returns-in_err-print-clause-output : goal.returns-in_err-print-clause-output
-returns-in_err-print-clause-output g c =
+pub returns-in_err-print_chunk-clause-output : goal.returns-in_err-print_chunk-clause-output
+returns-in_err-print_chunk-clause-output g c =
     let printed = c.loop.invariant.printed in
-    let chunk = c.in_err-print.ensures.output _ _ _ printed.has printed.counted in
+    let chunk = c.in_err-print_chunk.ensures.output _ _ _ printed.has printed.counted in
     printed_stopped c.writes_in_a_row.ensures _ _ _ _ _ _ _ c.loop.invariant.in_turns printed
     c.in-Ok.ensures.bytes.0 chunk.has c.from_residual.ensures.1 chunk.writes
 
 pub returns-in_err-flush-clause-output : goal.returns-in_err-flush-clause-output
 returns-in_err-flush-clause-output g c =
     let printed = c.loop.invariant.printed in
-    let chunk = c.in_ok-print.ensures.output _ _ _ printed.has printed.counted in
+    let chunk = c.in_ok-print_chunk.ensures.output _ _ _ printed.has printed.counted in
     printed_stopped c.writes_in_a_row.ensures _ _ _ _ _ _ _ c.loop.invariant.in_turns printed
     c.in-Ok.ensures.bytes.0 chunk.has c.from_residual-in_err-flush.ensures.1
     (rw append-nil at (c.writes_in_a_row.ensures.writes _ _ _ _ [] (Err _) chunk.writes c.in_err-flush.ensures.output))
@@ -43,14 +38,14 @@ pub loop-preserved : goal.loop-preserved
 loop-preserved g c =
     let read = c.in-Ok.ensures in
     let printed = c.loop.invariant.printed in
-    let chunk = c.in_ok-print.ensures.output _ _ _ printed.has printed.counted in
+    let chunk = c.in_ok-print_chunk.ensures.output _ _ _ printed.has printed.counted in
     let flushed = c.in_ok-flush.ensures in record {
       in_turns = next_read c.loop.invariant.in_turns c.loop-test.true _ _ read.bound read.bytes.0 read.not_refused
           read.no_end read.counted read.in_time c.if-given-eq0.false chunk.writes.kept chunk.writes.in_time
           flushed.output flushed.flushed;
       printed = printed_more c.writes_in_a_row.ensures _ _ _ _ _ _ _ _ _ printed
           (length-take-le c.in-Ok.given c.read_some.new.buffer read.bound) chunk.writes flushed.output chunk.keeps;
-      empty = c.in_ok-print.ensures.empty;
+      empty = c.in_ok-print_chunk.ensures.empty;
       short = omega (arith, read.bound, c.read_some.auto.buffer);
     }
 

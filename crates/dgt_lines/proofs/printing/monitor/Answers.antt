@@ -1,9 +1,10 @@
+use Rattle.std.proofs.Common.{arith}
 use Rattle.dgt_lines.proofs.Heard.{heard_none, monitored}
 use Rattle.dgt_lines.proofs.Printed.{ran_with}
 use Rattle.dgt_lines.proofs.printing.monitor.Goals as goal
 
-pub print_input-requires-clause-begins : goal.print_input-requires-clause-begins
-print_input-requires-clause-begins g c = heard_none _ c.new.ensures
+pub print_input-requires : goal.print_input-requires
+print_input-requires g c = (omega arith, (heard_none _ c.new.ensures, c.new-outgoing.ensures))
 
 pub returns-clause-output : goal.returns-clause-output
 returns-clause-output g c =

@@ -1,9 +1,10 @@
+use Rattle.std.proofs.Common.{arith}
 use Rattle.dgt_lines.proofs.Pictured.{pictured_none, reported}
 use Rattle.dgt_lines.proofs.Printed.{ran_with}
 use Rattle.dgt_lines.proofs.printing.report.Goals as goal
 
-pub print_input-requires-clause-begins : goal.print_input-requires-clause-begins
-print_input-requires-clause-begins g c = rw c.new.ensures (pictured_none c.args.first)
+pub print_input-requires : goal.print_input-requires
+print_input-requires g c = (omega arith, (rw c.new.ensures (pictured_none c.args.first), c.new-outgoing.ensures))
 
 pub returns-clause-output : goal.returns-clause-output
 returns-clause-output g c =

@@ -1,0 +1,10 @@
+use Rattle.std.proofs.Common.{refl}
+use Rattle.dgt_decode.specs.Grammar.{open_message}
+use Rattle.dgt_lines.proofs.chunks.FramerPrinterLINES_ROOM.print_end.Goals as goal
+
+pub returns-clause-output : goal.returns-clause-output
+returns-clause-output g c = λ first bytes text printed counted. (
+  _,
+  (printed.0, rw (counted, printed.1) refl),
+  c.write_end.ensures.output (open_message c.args.self.now) c.open_len.ensures,
+)
