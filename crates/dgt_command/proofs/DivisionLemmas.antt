@@ -9,8 +9,8 @@ use Rattle.std.specs.Prelude.{Bool, true, false, slice_index, if◌then◌else�
 use Rattle.dgt_command.specs.Content.{CommandContent, ClockMessage, Leds, EventContent, Read, BadSize, BadStart, Stray}
 use Rattle.dgt_command.specs.Spelling.{AreBytes, command_spelling, SpellsCommand}
 use Rattle.dgt_command.specs.Lengths.{word_length}
-use Rattle.dgt_command.specs.Words.{BeginsNoCommand, HasForm, IsPartial, Divides, IsNoise, IsNoiseList}
-use Rattle.dgt_command.specs.Laws.{EachDividesOnce, NoWordBeginsAPart, NoWordBeginsAnother, CommandsAreReadBack, ZerosSettleTheReader, DivisionsAppend, FrontsDivideFirst}
+use Rattle.dgt_command.specs.Words.{BeginsNoCommand, HasForm, IsWord, IsPartial, Divides, Word, AreWords, word_bytes, IsNoise, IsNoiseList}
+use Rattle.dgt_command.specs.Laws.{EachDividesOnce, EachHasItsWords, NoWordBeginsAPart, NoWordBeginsAnother, CommandsAreReadBack, ZerosSettleTheReader, DivisionsAppend, FrontsDivideFirst}
 use Rattle.dgt_command.proofs.WordLemmas.{body_length, form_length, same_word, begins, clock_word}
 use Rattle.dgt_command.proofs.CodeLemmas.{no_command}
 
@@ -255,15 +255,58 @@ divide (suc n) s short bytes = elim (cases_lt (length s) (word_length s)) [
       )
 ]
 
+-- the words of a division
+divided_words : (s : List ℕ) (events : List EventContent) (rest : List ℕ) → Divides s events rest
+    → (words : List Word) × AreWords s words rest × (map (λ (word : Word). word.event) words ≡ events)
+divided_words s [] rest h = ([], record { each = tt; whole = h.0; partial = h.1 }, refl)
+divided_words s (event ∷ events) rest h =
+    let more = divided_words h.1 events rest h.4 in (
+      record { event = event; bytes = h.0 } ∷ more.0,
+      record {
+        each = (h.2, more.1.each);
+        whole = h.3 ∙ ap (λ l. h.0 ++ l) more.1.whole ∙ sym (append_assoc h.0 (word_bytes more.0) rest);
+        partial = more.1.partial;
+      },
+      ap (λ (es : List EventContent). event ∷ es) more.2,
+    )
+
+-- words in a row, and a part of one after them, are no others
+words_once : (xs ys : List Word) (r q : List ℕ)
+    → AllByRecursion (λ word. IsWord word.event word.bytes) xs
+    → AllByRecursion (λ word. IsWord word.event word.bytes) ys → IsPartial r → IsPartial q
+    → word_bytes xs ++ r ≡ word_bytes ys ++ q → (xs ≡ ys) × (r ≡ q)
+words_once [] [] r q h k o p e = (refl, e)
+words_once [] (y ∷ ys) r q h k o p e = absurd (not_both r y.event y.bytes (word_bytes ys ++ q) o k.0.form
+    (e ∙ append_assoc y.bytes (word_bytes ys) q))
+words_once (x ∷ xs) [] r q h k o p e = absurd (not_both q x.event x.bytes (word_bytes xs ++ r) p h.0.form
+    (sym e ∙ append_assoc x.bytes (word_bytes xs) r))
+words_once (x ∷ xs) (y ∷ ys) r q h k o p e =
+    let both : x.bytes ++ (word_bytes xs ++ r) ≡ y.bytes ++ (word_bytes ys ++ q) =
+    sym (append_assoc x.bytes (word_bytes xs) r) ∙ e ∙ append_assoc y.bytes (word_bytes ys) q in
+    let same = same_word x.event y.event x.bytes y.bytes (word_bytes xs ++ r) (word_bytes ys ++ q) h.0.form k.0.form
+    both in
+    let first : x ≡ y =
+    ap (λ (z : EventContent). let word : Word = record { event = z; bytes = x.bytes } in word) same.event
+    ∙ ap (λ (l : List ℕ). let word : Word = record { event = y.event; bytes = l } in word) same.word in
+    let more = words_once xs ys r q h.1 k.1 o p same.after in
+    (ap (λ (z : Word). z ∷ xs) first ∙ ap (λ (l : List Word). y ∷ l) more.0, more.1)
+
+-- bytes are words and a rest in one way, and in only one
+pub each_has_its_words : EachHasItsWords
+each_has_its_words = (
+  (λ bytes are.
+    let found = divide (length bytes) bytes (omega arith) are in
+    let words = divided_words bytes found.0 found.1 found.2 in (words.0, found.1, words.1)),
+  (λ bytes xs ys r q h k. words_once xs ys r q h.each k.each h.partial k.partial (sym h.whole ∙ k.whole)),
+)
+
 -- two divisions of bytes are the same
 once : (s : List ℕ) (es fs : List EventContent) (r q : List ℕ) → Divides s es r → Divides s fs q → (es ≡ fs) × (r ≡ q)
-once s [] [] r q h k = (refl, sym h.0 ∙ k.0)
-once s [] (f ∷ fs) r q h k = absurd (not_both r f k.0 k.1 h.1 k.2.form (sym h.0 ∙ k.3))
-once s (e ∷ es) [] r q h k = absurd (not_both q e h.0 h.1 k.1 h.2.form (sym k.0 ∙ h.3))
-once s (e ∷ es) (f ∷ fs) r q h k =
-    let same = same_word e f h.0 k.0 h.1 k.1 h.2.form k.2.form (sym h.3 ∙ k.3) in
-    let others = once k.1 es fs r q (subst (λ (z : List ℕ). Divides z es r) same.after h.4) k.4 in
-    (ap (λ (x : EventContent). x ∷ es) same.event ∙ ap (λ (xs : List EventContent). f ∷ xs) others.0, others.1)
+once s es fs r q h k =
+    let first = divided_words s es r h in
+    let second = divided_words s fs q k in
+    let same = each_has_its_words.1 s first.0 second.0 r q first.1 second.1 in
+    (sym first.2 ∙ ap (map (λ (word : Word). word.event)) same.0 ∙ second.2, same.1)
 
 -- bytes divide in one way, and in only one
 pub each_divides_once : EachDividesOnce

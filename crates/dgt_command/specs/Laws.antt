@@ -3,7 +3,7 @@ use Rattle.std.specs.Prelude.{◌≡◌, ℕ, ◌<◌, ◌≤◌, List, [], ◌+
 use Rattle.std.specs.List.{flat_map, AllByRecursion}
 use Rattle.dgt_command.specs.Content.{CommandContent, EventContent, Read}
 use Rattle.dgt_command.specs.Spelling.{AreBytes, command_spelling, SpellsCommand, command_in}
-use Rattle.dgt_command.specs.Words.{IsWord, IsPartial, Divides, IsNoiseList}
+use Rattle.dgt_command.specs.Words.{IsWord, IsPartial, Divides, Word, AreWords, IsNoiseList}
 
 -- each list of bytes divides into words and a rest, and any two divisions of it are the same
 abbrev pub EachDividesOnce : Type 0
@@ -13,6 +13,15 @@ EachDividesOnce =
     × ((bytes : List ℕ) (events others : List EventContent) (rest remainder : List ℕ) →
     Divides bytes events rest → Divides bytes others remainder →
     (events ≡ others) × (rest ≡ remainder))
+
+-- each list of bytes is words and a rest, and no other words and no other rest
+abbrev pub EachHasItsWords : Type 0
+EachHasItsWords =
+    ((bytes : List ℕ) → AreBytes bytes →
+    (words : List Word) × (rest : List ℕ) × AreWords bytes words rest)
+    × ((bytes : List ℕ) (words others : List Word) (rest remainder : List ℕ) →
+    AreWords bytes words rest → AreWords bytes others remainder →
+    (words ≡ others) × (rest ≡ remainder))
 
 -- a word that begins with a word is that word, and has the same event
 abbrev pub NoWordBeginsAnother : Type 0

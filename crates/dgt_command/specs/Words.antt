@@ -1,5 +1,5 @@
 -- The words of the line from the host to the board, and how a list of bytes divides into them.
-use Rattle.std.specs.Prelude.{◌≡◌, ◌≢◌, ℕ, ◌+◌, ◌<◌, ◌≤◌, List, [], ◌∷◌, ◌++◌, length}
+use Rattle.std.specs.Prelude.{◌≡◌, ◌≢◌, ℕ, ◌+◌, ◌<◌, ◌≤◌, List, [], ◌∷◌, ◌++◌, length, flat_map}
 use Rattle.std.specs.List.{AllByRecursion}
 use Rattle.dgt_command.specs.Content.{CommandContent, ClockMessage, Leds, EventContent, Read, BadSize, BadStart, BadEnd, Stray}
 use Rattle.dgt_command.specs.Spelling.{AreBytes, command_spelling}
@@ -41,6 +41,20 @@ Divides bytes [] rest = (bytes ≡ rest) × IsPartial rest
 Divides bytes (event ∷ events) rest =
     (word : List ℕ) × (after : List ℕ)
     × IsWord event word × (bytes ≡ word ++ after) × Divides after events rest
+
+-- some bytes in a row, and the event that they are said to be
+pub record Word : Type 0 where
+  pub event : EventContent
+  pub bytes : List ℕ
+
+abbrev pub word_bytes : List Word → List ℕ
+word_bytes words = flat_map (λ word. word.bytes) words
+
+-- the bytes are these words in a row, and then a proper prefix of a word
+pub record AreWords (bytes : List ℕ) (words : List Word) (rest : List ℕ) : Type 0 where
+  pub each : AllByRecursion (λ word. IsWord word.event word.bytes) words
+  pub whole : bytes ≡ word_bytes words ++ rest
+  pub partial : IsPartial rest
 
 -- clock messages, LED frames and faults
 abbrev pub IsNoise : EventContent → Type 0

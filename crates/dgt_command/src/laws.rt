@@ -7,7 +7,7 @@ ghost use Rattle.dgt_command.specs.declared.ids.KnownId.{KnownId};
 ghost use Rattle.dgt_command.specs.Content.{led_bytes, payload_bytes, raw_id, raw_payload, EventContent, clock_content, command_content, command_event_content};
 ghost use Rattle.dgt_command.specs.Equality.{CommandHasArrays, EventHasArrays, FedHasArrays, HasArrays, fed_seen};
 ghost use Rattle.dgt_command.specs.Ids.{id_number, id_with};
-ghost use Rattle.dgt_command.specs.Laws.{CommandsAreReadBack, DivisionsAppend, EachDividesOnce, FrontsDivideFirst, NoWordBeginsAPart, NoWordBeginsAnother, SpellingsTellCommands, WordsAreShort, ZerosSettleTheReader};
+ghost use Rattle.dgt_command.specs.Laws.{CommandsAreReadBack, DivisionsAppend, EachDividesOnce, EachHasItsWords, FrontsDivideFirst, NoWordBeginsAPart, NoWordBeginsAnother, SpellingsTellCommands, WordsAreShort, ZerosSettleTheReader};
 ghost use Rattle.dgt_command.specs.Spelling.{AreBytes};
 ghost use Rattle.dgt_command.specs.Words.{Divides, IsPartial};
 
@@ -68,6 +68,12 @@ pub fn a_number_has_one_id()
 /// only one way.
 pub fn one_division()
     ensures { EachDividesOnce }
+{}
+
+/// One list of words: each list of bytes is words in a row and a rest that some word extends, and
+/// in only one way.
+pub fn words_of_bytes()
+    ensures { EachHasItsWords }
 {}
 
 /// No word is a proper prefix of another, and no word has two events.

@@ -3,14 +3,14 @@ use Rattle.std.proofs.Common.{◌≡◌, ◌≤◌, ◌+◌, ◌-◌, ℕ, List,
 use Rattle.std.proofs.lemmas.List.{length-take-le}
 use Rattle.dgt_command.specs.Content.{EventContent}
 use Rattle.dgt_command.specs.Spelling.{AreBytes}
-use Rattle.dgt_command.specs.Words.{IsPartial, IsWord}
+use Rattle.dgt_command.specs.Words.{IsPartial, IsWord, word_bytes}
 use Rattle.dgt_lines.specs.declared.faults.RunFault.{RunFault}
 use Rattle.dgt_lines.specs.CommandLines.{Tells, command_line}
 use Rattle.dgt_lines.specs.CommandLaws.{EachIsTold}
 use Rattle.dgt_lines.specs.Commanding.{IsListed}
 use Rattle.dgt_lines.specs.Printing.{HasCommandLines, IsPrinted}
 use Rattle.dgt_lines.proofs.Printed.{stands_by}
-use Rattle.dgt_lines.proofs.TellingLemmas.{texts_append, told_part, told_word, word_bytes}
+use Rattle.dgt_lines.proofs.TellingLemmas.{texts_append, told_part, told_word}
 
 pub listed_none : IsPartial [] → (held : List ℕ) → held ≡ [] → Tells 0 [] held []
 listed_none none held h = rw h (told_part 0 [] none)

@@ -1,20 +1,12 @@
 -- The text of bytes that come in chunks.
-use Rattle.std.proofs.Common.{◌≡◌, ℕ, ◌+◌, ◌-◌, ◌≤◌, List, [], ◌∷◌, ◌++◌, refl, sym, ◌∙◌, ap, subst, length, arith, take, drop, append_assoc, append-nil, length-append, inl, inr}
-use Rattle.std.proofs.lemmas.Bool.{cases_lt}
+use Rattle.std.proofs.Common.{◌≡◌, ℕ, ◌+◌, ◌-◌, List, [], ◌∷◌, ◌++◌, refl, sym, ◌∙◌, ap, length, arith, append_assoc, append-nil, length-append}
 use Rattle.std.proofs.lemmas.Grind.{flat_map-append}
-use Rattle.std.proofs.lemmas.List.{take-append-drop, take-append-le, append_cancel_left}
-use Rattle.std.proofs.Math.Seq.{take-append_seam}
 use Rattle.std.specs.List.{AllByRecursion}
-use Rattle.std.specs.Prelude.{flat_map}
 use Rattle.dgt_command.specs.Content.{EventContent}
-use Rattle.dgt_command.specs.Words.{IsWord, IsPartial, Divides}
-use Rattle.dgt_command.specs.Laws.{EachDividesOnce, NoWordBeginsAnother}
-use Rattle.dgt_lines.specs.CommandLines.{Word, AreWords, Tells, command_line, word_lines}
+use Rattle.dgt_command.specs.Words.{IsWord, IsPartial, Word, word_bytes}
+use Rattle.dgt_command.specs.Laws.{EachHasItsWords}
+use Rattle.dgt_lines.specs.CommandLines.{Tells, command_line, word_lines}
 use Rattle.dgt_lines.specs.CommandLaws.{EachIsTold, EachIsToldOnce, TextsAppend}
-
--- the bytes of words in a row
-abbrev pub word_bytes : List Word → List ℕ
-word_bytes words = flat_map (λ word. word.bytes) words
 
 -- each is the word that it is said to be
 abbrev pub AllWords : List Word → Type 0
@@ -80,75 +72,14 @@ told_part k rest h = record {
   said = refl;
 }
 
--- ---- each list of bytes has a text
+-- each list of bytes has a text
+pub each_is_told : EachHasItsWords → EachIsTold
+each_is_told has k s are =
+    let found = has.0 s are in
+    (found.1, word_lines k found.0, record { words = found.0; are_words = found.2; said = refl })
 
-divided_words : (s : List ℕ) (events : List EventContent) (rest : List ℕ) → Divides s events rest
-    → (words : List Word) × AreWords s words rest
-divided_words s [] rest h = ([], record { each = tt; whole = h.0; partial = h.1 })
-divided_words s (event ∷ events) rest h =
-    let more = divided_words h.1 events rest h.4 in (
-      record { event = event; bytes = h.0 } ∷ more.0,
-      record {
-        each = (h.2, more.1.each);
-        whole = h.3 ∙ ap (λ l. h.0 ++ l) more.1.whole ∙ sym (append_assoc h.0 (word_bytes more.0) rest);
-        partial = more.1.partial;
-      },
-    )
-
-pub each_is_told : EachDividesOnce → EachIsTold
-each_is_told once k s are =
-    let divided = once.0 s are in
-    let found = divided_words s divided.0 divided.1 divided.2 in
-    (divided.1, word_lines k found.0, record { words = found.0; are_words = found.1; said = refl })
-
--- ---- and only one
-
--- of two lists that have the same list with what follows them, the shorter begins the longer
-begins : (w v x y : List ℕ) → length w ≤ length v → w ++ x ≡ v ++ y → v ≡ w ++ drop (length w) v
-begins w v x y h e =
-    let front : take (length w) v ≡ w =
-    sym (take-append-le (length w) v y h) ∙ ap (take (length w)) (sym e) ∙ take-append_seam w x in
-    sym (take-append-drop (length w) v) ∙ ap (λ l. l ++ drop (length w) v) front
-
-abbrev NoPart : Type 0
-NoPart = (event : EventContent) (word more : List ℕ) → IsWord event word → IsPartial (word ++ more) → ⊥
-
-module _ (one : NoWordBeginsAnother) (no_part : NoPart) where
-  same_first : (x y : Word) (s t : List ℕ) → IsWord x.event x.bytes → IsWord y.event y.bytes
-      → length x.bytes ≤ length y.bytes → x.bytes ++ s ≡ y.bytes ++ t → x ≡ y
-  same_first x y s t h k short e =
-      let longer = begins x.bytes y.bytes s t short e in
-      let same = one x.event y.event x.bytes y.bytes (drop (length x.bytes) y.bytes) h k longer in
-      let bytes : y.bytes ≡ x.bytes = longer ∙ ap (λ l. x.bytes ++ l) same.1 ∙ append-nil x.bytes in
-      ap (λ (z : EventContent). let word : Word = record { event = z; bytes = x.bytes } in word) same.0
-      ∙ ap (λ (l : List ℕ). let word : Word = record { event = y.event; bytes = l } in word) (sym bytes)
-
-  same_word : (x y : Word) (s t : List ℕ) → IsWord x.event x.bytes → IsWord y.event y.bytes
-      → x.bytes ++ s ≡ y.bytes ++ t → x ≡ y
-  same_word x y s t h k e = elim (cases_lt (length y.bytes) (length x.bytes)) [
-    | inl less ↦ sym (same_first y x t s k h (omega arith) (sym e))
-    | inr more ↦ same_first x y s t h k more e
-  ]
-
-  words_once : (xs ys : List Word) (r q : List ℕ) → AllWords xs → AllWords ys → IsPartial r → IsPartial q
-      → word_bytes xs ++ r ≡ word_bytes ys ++ q → (xs ≡ ys) × (r ≡ q)
-  words_once [] [] r q h k p o e = (refl, e)
-  words_once [] (y ∷ ys) r q h k p o e = absurd (no_part y.event y.bytes (word_bytes ys ++ q) k.0
-      (subst IsPartial (e ∙ append_assoc y.bytes (word_bytes ys) q) p))
-  words_once (x ∷ xs) [] r q h k p o e = absurd (no_part x.event x.bytes (word_bytes xs ++ r) h.0
-      (subst IsPartial (sym e ∙ append_assoc x.bytes (word_bytes xs) r) o))
-  words_once (x ∷ xs) (y ∷ ys) r q h k p o e =
-      let both : x.bytes ++ (word_bytes xs ++ r) ≡ y.bytes ++ (word_bytes ys ++ q) =
-      sym (append_assoc x.bytes (word_bytes xs) r) ∙ e ∙ append_assoc y.bytes (word_bytes ys) q in
-      let same = same_word x y (word_bytes xs ++ r) (word_bytes ys ++ q) h.0 k.0 both in
-      let after : word_bytes xs ++ r ≡ word_bytes ys ++ q =
-      append_cancel_left y.bytes _ _
-      (ap (λ (z : Word). z.bytes ++ (word_bytes xs ++ r)) (sym same) ∙ both) in
-      let more = words_once xs ys r q h.1 k.1 p o after in
-      (ap (λ (z : Word). z ∷ xs) same ∙ ap (λ (l : List Word). y ∷ l) more.0, more.1)
-
-  pub each_is_told_once : EachIsToldOnce
-  each_is_told_once k s r q text also h g =
-      let same = words_once h.words g.words r q h.are_words.each g.are_words.each h.are_words.partial
-      g.are_words.partial (sym h.are_words.whole ∙ g.are_words.whole) in
-      (same.1, h.said ∙ ap (word_lines k) same.0 ∙ sym g.said)
+-- and only one
+pub each_is_told_once : EachHasItsWords → EachIsToldOnce
+each_is_told_once has k s r q text also h g =
+    let same = has.1 s h.words g.words r q h.are_words g.are_words in
+    (same.1, h.said ∙ ap (word_lines k) same.0 ∙ sym g.said)

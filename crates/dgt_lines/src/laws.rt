@@ -56,9 +56,7 @@ pub fn one_text()
     ensures told { EachIsTold }
     ensures once { EachIsToldOnce }
 {
-    dgt_command::laws::one_division();
-    dgt_command::laws::parts_of_words();
-    dgt_command::laws::no_word_begins_another();
+    dgt_command::laws::words_of_bytes();
 }
 
 /// The text of commands in a row is that of the first bytes, and then that of the rest of these and
