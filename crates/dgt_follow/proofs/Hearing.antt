@@ -100,14 +100,14 @@ one_event f now place bytes (Some event) e =
     ap (λ (xs : List Placed). with_unread (follower_after_events f now xs) rest) e
     ∙ sym (ap (λ (xs : List Placed). following (record (host_after_events f.host xs) { unread = rest }) pace) e)
 
--- a follower after a call is its host after it, with what it notes of the event
-pub heard_once : (f : FollowerView) (now used : ℕ) (chunk : List ℕ) (event : Option Event)
-    → FirstEvent f.host.unread chunk used event
-    → follower_after f now (take used chunk) ≡ following (host_after f.host (take used chunk))
-    (pace_after_event_if_any f.pace now f.host.awaited event)
-heard_once f now used chunk event first =
-    one_event f now (length f.host.unread + used) (take used chunk) event
-    (first_event_heard f.host.unread chunk used event first)
+-- the host after a call, with what the pace notes of the event, is the follower after it
+pub heard_once : (host : HostView) (pace : PaceView) (now used : ℕ) (chunk : List ℕ) (event : Option Event)
+    → FirstEvent host.unread chunk used event
+    → following (host_after host (take used chunk)) (pace_after_event_if_any pace now host.awaited event)
+    ≡ follower_after (following host pace) now (take used chunk)
+heard_once host pace now used chunk event first =
+    sym (one_event (following host pace) now (length host.unread + used) (take used chunk) event
+    (first_event_heard host.unread chunk used event first))
 
 -- ---- what it does to the host and to the counts
 
@@ -124,16 +124,8 @@ host_of_heard f now bytes =
 
 counts_of_events : (f : FollowerView) (now : ℕ) (xs : List Placed)
     → KeepsCount f.pace (follower_after_events f now xs).pace
-counts_of_events f now [] = record { period = refl; patience = refl; mode = refl; left = refl; asked = refl }
-counts_of_events f now (x ∷ xs) =
-    let later = counts_of_events (follower_after_event f now x.event) now xs in
-    record {
-      period = later.period;
-      patience = later.patience;
-      mode = later.mode;
-      left = later.left;
-      asked = later.asked;
-    }
+counts_of_events f now [] = assumption
+counts_of_events f now (x ∷ xs) = assumption (counts_of_events (follower_after_event f now x.event) now xs)
 
 pub counts_of_heard : (f : FollowerView) (now : ℕ) (bytes : List ℕ)
     → KeepsCount f.pace (follower_after f now bytes).pace
