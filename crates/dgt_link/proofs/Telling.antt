@@ -107,26 +107,10 @@ field_tells board square =
       followed = inr (refl, refl);
     }
 
-clock_message_tells : (board : BoardState) (clock : ClockState) → board.clock ≡ clock
+clock_message_tells : (board : BoardState) (clock : ClockState) → Some clock ≡ Some board.clock
     → ToldIsHeard board (clock_message clock)
-clock_message_tells board (ClockState.times readings) e =
-    record {
-      squares = λ s t. t;
-      picture = refl;
-      first_picture = inl refl;
-      clock = ap Some (sym e);
-      first_clock = inr (ap Some (sym e));
-      followed = inl refl;
-    }
-clock_message_tells board (ClockState.no_clock absence) e =
-    record {
-      squares = λ s t. t;
-      picture = refl;
-      first_picture = inl refl;
-      clock = ap Some (sym e);
-      first_clock = inr (ap Some (sym e));
-      followed = inl refl;
-    }
+clock_message_tells board (ClockState.times readings) same = search (inl, inr)
+clock_message_tells board (ClockState.no_clock absence) same = search (inl, inr)
 
 pub clock_tells : (board : BoardState) → ToldIsHeard board (clock_message board.clock)
 clock_tells board = clock_message_tells board board.clock refl
