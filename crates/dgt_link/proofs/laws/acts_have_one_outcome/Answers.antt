@@ -3,8 +3,5 @@ use Rattle.dgt_link.proofs.laws.acts_have_one_outcome.Goals as goal
 
 pub returns : goal.returns
 returns c =
-    record {
-      one = one_step c.one_taking.ensures;
-      all = one_run c.one_taking.ensures;
-      faulty = one_faulty_step c.one_taking.ensures;
-    }
+    let taking = c.one_taking.ensures in
+    record { one = one_step taking; all = one_run taking; faulty = one_faulty_step taking }

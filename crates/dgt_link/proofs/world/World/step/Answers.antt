@@ -1,6 +1,5 @@
 use Rattle.std.proofs.Common.{refl}
 use Rattle.dgt_link.specs.Act.{act_content}
-use Rattle.dgt_link.specs.Faults.{FaultyContent}
 use Rattle.dgt_link.proofs.Counting.{faulty_step}
 use Rattle.dgt_link.proofs.world.World.step.Goals as goal
 
@@ -22,18 +21,15 @@ returns-clause-clock_asked c =
 
 pub returns-clause-clock_following : goal.returns-clause-clock_following
 returns-clause-clock_following c =
-    λ is going. c.clocks_heal.ensures.following (FaultyContent.Plain (act_content c.args.act)) _ _ c.act.result refl
-    going is (faulty_step _ _ _ _ c.act.ensures)
+    λ is going. c.clocks_heal.ensures.following _ _ _ _ refl going is (faulty_step _ _ _ _ c.act.ensures)
 
 pub returns-clause-reading : goal.returns-clause-reading
 returns-clause-reading c =
-    λ is done follows. c.clocks_heal.ensures.reading _ _ follows
-    (faulty_step _ _ _ _ (rw (is, done) at c.act.ensures))
+    λ is done follows. c.clocks_heal.ensures.reading _ _ follows (faulty_step _ _ _ _ (rw (is, done) at c.act.ensures))
 
 pub returns-clause-clock_kept : goal.returns-clause-clock_kept
 returns-clause-clock_kept c =
-    λ going is. c.clocks_heal.ensures.kept (FaultyContent.Plain (act_content c.args.act)) _ _ c.act.result refl
-    going is (faulty_step _ _ _ _ c.act.ensures)
+    λ going is. c.clocks_heal.ensures.kept _ _ _ _ refl going is (faulty_step _ _ _ _ c.act.ensures)
 
 pub returns-clause-stays_exact : goal.returns-clause-stays_exact
 returns-clause-stays_exact c =
