@@ -10,7 +10,6 @@ use Rattle.dgt_message.specs.Content.{Content, IsMessage, kind_of}
 use Rattle.dgt_message.specs.Clock.{ClockState}
 use Rattle.dgt_message.specs.Spelling.{spelling}
 use Rattle.dgt_command.specs.Content.{CommandContent, kind_of_command}
-use Rattle.dgt_command.specs.Spelling.{command_spelling}
 use Rattle.dgt_board.specs.State.{BoardState, after_change, after_hand_clock}
 use Rattle.dgt_board.specs.Sending.{after_sending, next_message}
 use Rattle.dgt_decode.specs.Grammar.{Event, Message, Placed, cut_of, events, events_behind, open_message}
@@ -29,7 +28,7 @@ use Rattle.dgt_link.proofs.Hearing.{heard_front, host_after_messages}
 use Rattle.dgt_link.proofs.Lists.{IsShorter, Reaches, all_append, fronts, not_empty}
 use Rattle.dgt_link.proofs.Runs.{moves_sound}
 use Rattle.dgt_link.proofs.Sending.{next_is_sent}
-use Rattle.dgt_link.proofs.Soundness.{ask-kinds, move_sound}
+use Rattle.dgt_link.proofs.Soundness.{ask-kinds, asked_sound, move_sound}
 use Rattle.dgt_link.proofs.Subsequences.{awaited_after-subsequence, subsequence_append, subsequence_later}
 use Rattle.dgt_link.specs.Readers.{Grammars}
 use Rattle.dgt_link.proofs.Standing.{front_of, hears, taken_state, takes, with_host, taken_as}
@@ -105,18 +104,6 @@ same_awaited host other (message ∷ messages) e =
 abbrev pub awaiting : MachineState → List Kind → MachineState
 awaiting x awaited = record x { awaited = awaited }
 
-pub awaiting_sound : (x : MachineState) (awaited : List Kind) → IsSound x → IsSubsequence awaited (coming_kinds x)
-    → IsSound (awaiting x awaited)
-awaiting_sound x awaited sound h =
-    record {
-      squares = sound.squares;
-      told_squares = sound.told_squares;
-      picture = sound.picture;
-      followed = sound.followed;
-      clock = sound.clock;
-      awaited = h;
-    }
-
 -- ---- garbage, and what begins after it
 
 events_in_a_row : (host : HostView) (told more : List Placed)
@@ -178,18 +165,7 @@ board_behind : (garbage : List ℕ) (world : WorldView) (x : MachineState) (stat
     → StandsBehind garbage world x
     → IsSound (record x { board = board }) → state ≡ board
     → StandsBehind garbage (with_state world state) (record x { board = board })
-board_behind garbage world x state board stands sound same =
-    record {
-      sound = sound;
-      board = same;
-      picture = stands.picture;
-      clock = stands.clock;
-      unheard = stands.unheard;
-      are_messages = stands.are_messages;
-      up = stands.up;
-      down = stands.down;
-      partial = stands.partial;
-    }
+board_behind garbage world x state board stands sound same = assumption
 
 -- an act that is no break leads a state after garbage by its moves
 abbrev pub ActsBehind : Type 0
@@ -241,7 +217,7 @@ module _ (laws : Grammars) where
             let sound : IsSound (with_host (awaiting x host.awaited) (host_after_messages state_host front.heard)
             front.left)
             = rw ran at (moves_sound (awaiting x host.awaited) moves
-            (awaiting_sound x host.awaited stands.sound (awaits a))) in
+            (asked_sound x x.down host.awaited stands.sound (awaits a))) in
             rw (same_awaited host state_host front.heard refl) sound.awaited),
       )
 
@@ -349,19 +325,11 @@ module _ (laws : Grammars) where
     Move.Ask command ∷ [],
     refl,
     rw same
-        (record {
-          sound = move_sound x (Move.Ask command) stands.sound;
-          board = stands.board;
-          picture = stands.picture;
-          clock = stands.clock;
-          unheard = stands.unheard;
-          are_messages = stands.are_messages;
-          up = stands.up;
-          down = rw (append_assoc world.board.partial world.down.bytes (command_spelling command)) at
-              (divides_command laws.nothing laws.divisions_append
-              (world.board.partial ++ world.down.bytes) x.down command stands.down spells);
-          partial = stands.partial;
-        }),
+        (assumption (
+          move_sound x (Move.Ask command) stands.sound,
+          divides_command laws.nothing laws.divisions_append world.board.partial world.down.bytes x.down command
+              stands.down spells,
+        )),
     rw same (λ a. rw (ask-kinds x command)
         (subsequence_append world.host.awaited (coming_kinds x) (option_to_list (kind_of_command command)) a)),
   )
@@ -374,23 +342,17 @@ module _ (laws : Grammars) where
         by.0 ∷ [],
         (by.0, by.1, refl),
         rw (same, by.2)
-            (record {
-              sound = rw by.2 at (move_sound x by.0 stands.sound);
-              board = ap (λ (board : BoardState). after_sending board message) stands.board;
-              picture = stands.picture;
-              clock = stands.clock;
-              unheard = stands.unheard;
-              are_messages = all_append IsMessage x.up (message ∷ []) stands.are_messages (spells.is_message, tt);
-              up =
-                  sym (append_assoc world.host.unread world.up.bytes (spelling message))
+            (assumption (
+              rw by.2 at (move_sound x by.0 stands.sound),
+              ap (λ (board : BoardState). after_sending board message) stands.board,
+              all_append IsMessage x.up (message ∷ []) stands.are_messages (spells.is_message, tt),
+              sym (append_assoc world.host.unread world.up.bytes (spelling message))
                   ∙ ap (λ (front : List ℕ). front ++ spelling message) stands.up
                   ∙ append_assoc garbage (flat_map spelling x.up) (spelling message)
                   ∙ ap (λ (behind : List ℕ). garbage ++ behind)
                   (sym (flat_map-append spelling x.up (message ∷ [])
-                  ∙ ap (λ (last : List ℕ). flat_map spelling x.up ++ last) (append-nil (spelling message))));
-              down = stands.down;
-              partial = stands.partial;
-            }),
+                  ∙ ap (λ (last : List ℕ). flat_map spelling x.up ++ last) (append-nil (spelling message)))),
+            )),
         rw (same, by.2) (λ a.
             let also = next_is_sent (awaiting x world.host.awaited) message
             (ap next_message (sym stands.board) ∙ is_next) in
@@ -399,7 +361,7 @@ module _ (laws : Grammars) where
               up = x.up ++ message ∷ [];
             })
             = rw also.2 at (move_sound (awaiting x world.host.awaited) also.0
-            (awaiting_sound x world.host.awaited stands.sound a)) in
+            (asked_sound x x.down world.host.awaited stands.sound a)) in
             sound.awaited),
       )
 
@@ -412,25 +374,14 @@ module _ (laws : Grammars) where
         garbage,
         moves,
         (length taken.events, refl),
-        rw (delivers.leaves, taken.led)
-            (record {
-              sound = rw taken.led at (moves_sound x moves stands.sound);
-              board = taken.board;
-              picture = stands.picture;
-              clock = stands.clock;
-              unheard = stands.unheard;
-              are_messages = stands.are_messages;
-              up = stands.up;
-              down = taken.down;
-              partial = taken.partial;
-            }),
+        rw (delivers.leaves, taken.led) (assumption (rw taken.led at (moves_sound x moves stands.sound))),
         rw (delivers.leaves, taken.led) (λ a.
             let ran : after_moves (awaiting x world.host.awaited) moves
             ≡ taken_state (awaiting x world.host.awaited) taken.events taken.left
             = takes taken.events taken.left (awaiting x world.host.awaited) taken.all in
             let sound : IsSound (taken_state (awaiting x world.host.awaited) taken.events taken.left)
             = rw ran at (moves_sound (awaiting x world.host.awaited) moves
-            (awaiting_sound x world.host.awaited stands.sound a)) in
+            (asked_sound x x.down world.host.awaited stands.sound a)) in
             sound.awaited),
       )
 

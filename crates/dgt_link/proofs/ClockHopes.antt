@@ -1,5 +1,5 @@
 -- What each act does to the promise of a host's clock, and what counts for it after many.
-use Rattle.std.proofs.Common.{◌≡◌, refl, sym, ◌∙◌, ap, inr, List, [], ◌∷◌, Some, None, true, false}
+use Rattle.std.proofs.Common.{◌≡◌, refl, sym, ◌∙◌, ap, inr, List, [], ◌∷◌, Some, None, true, false, arith}
 use Rattle.std.specs.Prelude.{IsTrue, filter_map}
 use Rattle.dgt_command.specs.Content.{CommandContent}
 use Rattle.dgt_command.specs.Laws.{EachDividesOnce}
@@ -8,44 +8,34 @@ use Rattle.dgt_board.specs.State.{BoardState, command_mode, follows_clock}
 use Rattle.dgt_link.specs.Act.{ActContent}
 use Rattle.dgt_link.specs.declared.acts.Outcome.{Outcome}
 use Rattle.dgt_link.specs.Clocks.{ClockIsComing, IsClockFollowing, IsClockPromised, IsClockPromisedWorld, stops_clock}
-use Rattle.dgt_link.specs.Faults.{FaultyContent, FaultyStep, begins_anew, is_fault, loses_step}
+use Rattle.dgt_link.specs.Faults.{FaultyContent, FaultyStep, begins_anew, is_fault, loses_step, sends}
 use Rattle.dgt_link.specs.Healing.{Counted, IsClockHealing, IsInStep}
 use Rattle.dgt_link.specs.Promise.{last_mode, mode_after}
 use Rattle.dgt_link.specs.View.{IsQuietWorld, WorldView}
 use Rattle.dgt_link.proofs.Behind.{ActsBehind}
 use Rattle.dgt_link.proofs.Clocks.{clock_is_asked, promised_clock, step_keeps_clock}
-use Rattle.dgt_link.proofs.Counting.{Holds, known_picture, quiet_behind}
+use Rattle.dgt_link.proofs.Counting.{Holds, follows_with, host_knows, quiet_behind}
 use Rattle.dgt_link.proofs.Hopes.{Follows, Hope, garbled, asked_promises, kept, other_following, other_promised, set_promises}
 use Rattle.dgt_link.proofs.Settling.{by_settling}
 
 pub clock_at_quiet : EachDividesOnce → (world : WorldView) → IsClockPromisedWorld world → IsQuietWorld world
     → world.host.clock ≡ Some world.board.state.clock
 clock_at_quiet once world is quiet =
-    rw is.stands.board
-    (known_picture is.state.host_clock world.host.clock is.state.board.clock is.stands.clock
-    (promised_clock is.state is.stands.sound is.holds
-    (quiet_behind once is.garbage world is.state is.stands quiet)))
+    let still = quiet_behind once is.garbage world is.state is.stands quiet in
+    rw is.stands.board (host_knows is.stands.clock (promised_clock is.state is.stands.sound is.holds still))
 
 -- ---- it is a hope
 
 command_stays : (before : Mode) (command : CommandContent)
-    → stops_clock (FaultyContent.Plain (ActContent.Host command)) ≡ false
-    → IsTrue (follows_clock before) → IsTrue (follows_clock (mode_after before (Some command ∷ [])))
-command_stays before CommandContent.Reset going asks = cc
-command_stays before CommandContent.UpdateBoard going asks = cc
-command_stays before CommandContent.Update going asks = refl
-command_stays before CommandContent.UpdateNice going asks = refl
-command_stays before _ going asks = asks
+    → stops_clock (sends command) ≡ false → IsTrue (follows_clock before)
+    → IsTrue (follows_clock (mode_after before (Some command ∷ [])))
+command_stays before command going asks = grind arith
 
 pub clock_hope : Hope follows_clock stops_clock ClockIsComing
 clock_hope =
-    record {
-      command = command_stays;
-      breaks = refl;
-      settling =
-          by_settling (λ act. stops_clock (FaultyContent.Plain act) ≡ false) refl (λ count. refl) (λ count. refl);
-      comes = step_keeps_clock;
-    }
+    let settling = by_settling (λ act. stops_clock (FaultyContent.Plain act) ≡ false) refl (λ count. refl)
+    (λ count. refl) in
+    record { command = command_stays; breaks = refl; settling = settling; comes = step_keeps_clock }
 
 -- what begins anew ends it
 anew_ends : (act : FaultyContent) → begins_anew act ≡ true → stops_clock act ≡ false → ⊥
@@ -56,9 +46,7 @@ anew_ends _ is going = cc
 module _ (behind : ActsBehind) where
   pub clock_owed_promises : (command : CommandContent) (mode : Mode) (world after : WorldView)
       → command_mode command ≡ Some mode → IsTrue (follows_clock mode) → world.board.state.told_clock ≡ None
-      → IsInStep world
-      → FaultyStep (FaultyContent.Plain (ActContent.Host command)) world Outcome.Done after
-      → IsClockPromisedWorld after
+      → IsInStep world → FaultyStep (sends command) world Outcome.Done after → IsClockPromisedWorld after
   clock_owed_promises command mode world after sets asks none is step =
       set_promises behind follows_clock stops_clock ClockIsComing clock_hope (λ x. x.board.told_clock ≡ None) command
       mode world after (λ x moves e told. rw e (inr (inr (inr told)))) sets asks
@@ -71,8 +59,7 @@ module _ (behind : ActsBehind) where
       step
 
   pub clock_promises : (world after : WorldView) → IsClockFollowing world
-      → FaultyStep (FaultyContent.Plain (ActContent.Host CommandContent.Clock)) world Outcome.Done after
-      → IsClockPromisedWorld after
+      → FaultyStep (sends CommandContent.Clock) world Outcome.Done after → IsClockPromisedWorld after
   clock_promises =
       asked_promises behind follows_clock stops_clock ClockIsComing clock_hope CommandContent.Clock refl clock_is_asked
 
@@ -107,14 +94,7 @@ pub clock_healing_promised : (c : Counted) (world : WorldView) → Holds c world
     → IsClockPromisedWorld world
 clock_healing_promised c world holds healing =
     let f = holds.follows healing.in_step in
-    record {
-      garbage = f.garbage;
-      state = f.state;
-      stands = f.stands;
-      holds = record {
-        coming = f.clock healing.asked;
-        mode =
-            rw f.comes.mode
-            (followed_from_any f.comes.before (filter_map command_mode c.asked) healing.mode);
-      };
-    }
+    follows_with IsClockPromised f (record {
+      coming = f.clock healing.asked;
+      mode = rw f.comes.mode (followed_from_any f.comes.before (filter_map command_mode c.asked) healing.mode);
+    })

@@ -21,17 +21,17 @@ use Rattle.dgt_host.specs.Host.{follow_bytes, restart_bytes}
 use Rattle.dgt_link.specs.Act.{ActContent}
 use Rattle.dgt_link.specs.declared.acts.Outcome.{Outcome}
 use Rattle.dgt_link.specs.Faults.{FaultyBecomes, FaultyContent, FaultyRuns, FaultyStep, is_break}
-use Rattle.dgt_link.specs.Healing.{AwaitsWhatComes, Counted, IsFaultyWorld, IsInStep, IsInTurn, IsSane, StandsBehind, counted_after, counted_after_all, counted_by, nothing_counted, sets_mode}
+use Rattle.dgt_link.specs.Healing.{AwaitsWhatComes, Counted, IsFaultyWorld, IsInStep, IsInTurn, IsSane, StandsBehind, StandsWith, counted_after, counted_after_all, counted_by, nothing_counted, sets_mode}
 use Rattle.dgt_link.specs.Machine.{MachineState, Move, after_move, after_moves, commands_anew, state_of_board}
 use Rattle.dgt_link.specs.Promise.{IsQuiet, act_requests, commands_after, event_mode, last_mode}
 use Rattle.dgt_link.specs.Sound.{IsSound, IsSubsequence, IsUnknownOr, coming_kinds, kind_of_event, kind_of_reply}
 use Rattle.dgt_link.specs.Stands.{AreMovesOfStep, IsWorld, StandsFor}
 use Rattle.dgt_link.specs.Step.{Becomes, Step}
-use Rattle.dgt_link.specs.View.{IsQuietWorld, WorldView}
+use Rattle.dgt_link.specs.View.{IsQuietWorld, LineContents, WorldView, line_holding}
 use Rattle.dgt_link.proofs.Asking.{requests-step}
 use Rattle.dgt_link.specs.Clocks.{ClockIsComing}
 use Rattle.dgt_link.proofs.Clocks.{clock_is_asked, step_keeps_clock}
-use Rattle.dgt_link.proofs.Behind.{awaiting, awaiting_sound, step_behind}
+use Rattle.dgt_link.proofs.Behind.{awaiting, step_behind}
 use Rattle.dgt_link.proofs.Dividing.{anew_divides}
 use Rattle.dgt_link.proofs.Lists.{Contains-cons, nothing_contained, right_empty}
 use Rattle.dgt_link.proofs.Promises.{IsComing, last_mode-append, noise-modes, nothing_asked}
@@ -39,7 +39,7 @@ use Rattle.dgt_link.proofs.Quiet.{quiet_awaited}
 use Rattle.dgt_link.proofs.Resting.{nothing_first}
 use Rattle.dgt_link.proofs.Runs.{moves_come, moves_sound}
 use Rattle.dgt_link.proofs.Sending.{next_is_sent}
-use Rattle.dgt_link.proofs.Soundness.{move_sound, new_sound, noise-kinds}
+use Rattle.dgt_link.proofs.Soundness.{asked_sound, board_sound, move_sound, new_sound, noise-kinds}
 use Rattle.dgt_link.proofs.Subsequences.{subsequence_at_end}
 use Rattle.dgt_link.specs.Readers.{Grammars}
 use Rattle.dgt_link.proofs.Standing.{HasRooms, becomes_rooms, same_rooms, taken_state, takes}
@@ -78,15 +78,7 @@ commanded_state board events = record (state_of_board board) { down = events }
 
 commanded_sound : (x : MachineState) (events : List EventContent) → IsSound x
     → IsSound (commanded_state x.board events)
-commanded_sound x events sound =
-    record {
-      squares = sound.squares;
-      told_squares = sound.told_squares;
-      picture = inl refl;
-      followed = sound.followed;
-      clock = inl refl;
-      awaited = tt;
-    }
+commanded_sound x events sound = asked_sound (state_of_board x.board) events [] (board_sound x sound) tt
 
 lost_sound : (board : BoardState) → IsSound (state_of_board board) → IsSound (state_of_board (after_line_lost board))
 lost_sound board sound = new_sound board.squares board.clock board.identity sound.squares
@@ -103,38 +95,18 @@ effects_sound board events sound =
 module _ (laws : Grammars) where
   becomes_sane : (act : ActContent) (world after : WorldView) → IsSane world → Becomes act world after → IsSane after
   becomes_sane (ActContent.Change square piece) world after sane same =
-      rw same
-      (record {
-        board = move_sound (state_of_board world.board.state) (Move.Change square piece) sane.board;
-        partial = sane.partial;
-        down = sane.down;
-      })
+      rw same (assumption (move_sound (state_of_board world.board.state) (Move.Change square piece) sane.board))
   becomes_sane (ActContent.ClockRead clock) world after sane same =
-      rw same
-      (record {
-        board = move_sound (state_of_board world.board.state) (Move.HandClock clock) sane.board;
-        partial = sane.partial;
-        down = sane.down;
-      })
+      rw same (assumption (move_sound (state_of_board world.board.state) (Move.HandClock clock) sane.board))
   becomes_sane (ActContent.Host command) world after sane (spells, same) =
-      rw same
-      (record {
-        board = sane.board;
-        partial = sane.partial;
-        down = bytes_append world.down.bytes (command_spelling command) sane.down spells.are_bytes;
-      })
+      rw same (assumption (bytes_append world.down.bytes (command_spelling command) sane.down spells.are_bytes))
   becomes_sane ActContent.BoardSend world after sane (message, is_next, spells, same) =
       let x = state_of_board world.board.state in
       let by = next_is_sent x message is_next in
       let y = after_move x by.0 in
       let sound : IsSound (state_of_board (after_move x by.0).board)
       = commanded_sound (after_move x by.0) [] (move_sound x by.0 sane.board) in
-      rw same
-      (record {
-        board = rw by.2 at sound;
-        partial = sane.partial;
-        down = sane.down;
-      })
+      rw same (assumption (rw by.2 at sound))
   becomes_sane (ActContent.ToBoard count) world after sane delivers =
       let taken = delivers.taken in
       rw delivers.leaves
@@ -170,12 +142,7 @@ module _ (laws : Grammars) where
         down = sane.down;
       })
   faulty_sane FaultyContent.Restart world after sane same =
-      rw same
-      (record {
-        board = sane.board;
-        partial = sane.partial;
-        down = bytes_append world.down.bytes restart_bytes sane.down bytes_restart;
-      })
+      rw same (assumption (bytes_append world.down.bytes restart_bytes sane.down bytes_restart))
 
   pub step_sane : (act : FaultyContent) (world : WorldView) (answer : Outcome) (after : WorldView) → IsSane world
       → FaultyStep act world answer after → IsSane after
@@ -198,9 +165,14 @@ pub record Holds (c : Counted) (world : WorldView) : Type 0 where
   pub sane : IsSane world
   pub follows : IsTrue c.in_step → Follows c.in_turn c.asked world
 
+-- what holds of that state
+pub follows_with : {in_turn : Bool} {asked : List CommandContent} {world : WorldView} (Q : MachineState → Type 0)
+    (f : Follows in_turn asked world) → Q f.state → StandsWith Q world
+follows_with Q f holds = record { garbage = f.garbage; state = f.state; stands = f.stands; holds = holds }
+
 pub follows_in_step : (in_turn : Bool) (asked : List CommandContent) (world : WorldView)
     → Follows in_turn asked world → IsInStep world
-follows_in_step in_turn asked world f = record { garbage = f.garbage; state = f.state; stands = f.stands; holds = tt }
+follows_in_step in_turn asked world f = follows_with (λ x. Unit {0}) f tt
 
 -- nothing was asked for yet
 pub in_step_follows : (world : WorldView) → IsInStep world → Follows false [] world
@@ -295,10 +267,11 @@ modes_stay (_ ∷ commands) = modes_stay commands
 abbrev pub forgotten : MachineState → MachineState
 forgotten x = commanded_state x.board x.down
 
--- all that is under way to the host may count as garbage
-pub forgotten_stands : (garbage : List ℕ) (world : WorldView) (x : MachineState) → StandsBehind garbage world x
-    → StandsBehind (world.host.unread ++ world.up.bytes) world (forgotten x)
-forgotten_stands garbage world x stands =
+-- all that is under way to the host may count as garbage, whatever it is
+pub forgotten_stands : (garbage : List ℕ) (world : WorldView) (up : LineContents) (x : MachineState)
+    → StandsBehind garbage world x
+    → StandsBehind (world.host.unread ++ up.bytes) (record world { up = up }) (forgotten x)
+forgotten_stands garbage world up x stands =
     record {
       sound = commanded_sound x x.down stands.sound;
       board = stands.board;
@@ -306,7 +279,7 @@ forgotten_stands garbage world x stands =
       clock = inl refl;
       unheard = inr (refl, refl);
       are_messages = tt;
-      up = sym (append-nil (world.host.unread ++ world.up.bytes));
+      up = sym (append-nil (world.host.unread ++ up.bytes));
       down = stands.down;
       partial = stands.partial;
     }
@@ -316,18 +289,7 @@ pub garbled_stands : (bytes : List ℕ) (world after : WorldView) (garbage : Lis
     → StandsBehind garbage world x → FaultyBecomes (FaultyContent.GarbleUp bytes) world after
     → StandsBehind (world.host.unread ++ bytes) after (forgotten x)
 garbled_stands bytes world after garbage x stands same =
-    rw same
-    (record {
-      sound = commanded_sound x x.down stands.sound;
-      board = stands.board;
-      picture = inl refl;
-      clock = inl refl;
-      unheard = inr (refl, refl);
-      are_messages = tt;
-      up = sym (append-nil (world.host.unread ++ bytes));
-      down = stands.down;
-      partial = stands.partial;
-    })
+    rw same (forgotten_stands garbage world (line_holding bytes world.up.capacity) x stands)
 
 garbled_follows : (in_turn : Bool) (asked : List CommandContent) (bytes : List ℕ) (world after : WorldView)
     → Follows in_turn asked world
@@ -601,10 +563,10 @@ quiet_behind once garbage world x stands (up, down, unread, partial, none) =
     }
 
 -- what the state knows the host knows
-pub known_picture : {X : Type 0} (known seen : Option X) (x : X) → IsUnknownOr known seen → known ≡ Some x
+pub host_knows : {X : Type 0} {known seen : Option X} {x : X} → IsUnknownOr known seen → known ≡ Some x
     → seen ≡ Some x
-known_picture known seen x (inl none) is = cc
-known_picture known seen x (inr same) is = sym same ∙ is
+host_knows (inl none) is = cc
+host_knows (inr same) is = sym same ∙ is
 
 -- nothing is awaited, where all that is awaited was still to come
 pub in_turn_awaits_nothing : EachDividesOnce → (c : Counted) (world : WorldView) → Holds c world → IsInTurn c
@@ -613,7 +575,7 @@ in_turn_awaits_nothing once c world holds turn quiet =
     let f = holds.follows turn.in_step in
     let still = quiet_behind once f.garbage world f.state f.stands quiet in
     quiet_awaited (awaiting f.state world.host.awaited)
-    (awaiting_sound f.state world.host.awaited f.stands.sound (f.awaits turn.in_turn))
+    (asked_sound f.state f.state.down world.host.awaited f.stands.sound (f.awaits turn.in_turn))
     (record { up = still.up; down = still.down; pending = still.pending })
 
 -- ---- a world with no fault

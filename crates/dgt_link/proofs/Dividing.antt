@@ -1,5 +1,5 @@
 -- Commands after others.
-use Rattle.std.proofs.Common.{rules, refl, sym, ℕ, List, [], ◌∷◌, ◌++◌, map}
+use Rattle.std.proofs.Common.{rules, refl, sym, ℕ, List, [], ◌∷◌, ◌++◌, append_assoc, map}
 use Rattle.std.proofs.lemmas.List.{append-nil}
 use Rattle.dgt_command.specs.Content.{CommandContent, EventContent}
 use Rattle.dgt_command.specs.Words.{Divides, IsPartial}
@@ -9,18 +9,19 @@ use Rattle.dgt_host.specs.Host.{follow_bytes}
 use Rattle.dgt_link.specs.Machine.{commands_anew}
 
 module _ (nothing : IsPartial []) where
-  -- one more command after bytes with no rest
-  pub divides_command : DivisionsAppend → (bytes : List ℕ) (events : List EventContent) (command : CommandContent)
-      → Divides bytes events [] → SpellsCommand command (command_spelling command)
-      → Divides (bytes ++ command_spelling command) (events ++ EventContent.Read command ∷ []) []
-  divides_command append bytes events command divides spells =
-      append bytes (command_spelling command) events (EventContent.Read command ∷ []) [] [] divides (
+  -- one more command in a line after bytes with no rest
+  pub divides_command : DivisionsAppend → (held bytes : List ℕ) (events : List EventContent) (command : CommandContent)
+      → Divides (held ++ bytes) events [] → SpellsCommand command (command_spelling command)
+      → Divides (held ++ (bytes ++ command_spelling command)) (events ++ EventContent.Read command ∷ []) []
+  divides_command append held bytes events command divides spells =
+      rw (append_assoc held bytes (command_spelling command)) at
+      (append (held ++ bytes) (command_spelling command) events (EventContent.Read command ∷ []) [] [] divides (
         command_spelling command,
         [],
         record { form = refl; are_bytes = spells.are_bytes },
         sym (append-nil (command_spelling command)),
         (refl, nothing),
-      )
+      ))
 
   -- what a host asks with that begins anew is what it asks for
   pub anew_divides : Divides follow_bytes (map EventContent.Read commands_anew) []

@@ -7,7 +7,7 @@ use Rattle.dgt_board.specs.declared.modes.Mode.{Mode}
 use Rattle.dgt_board.specs.State.{command_mode}
 use Rattle.dgt_link.specs.Act.{ActContent}
 use Rattle.dgt_link.specs.declared.acts.Outcome.{Outcome}
-use Rattle.dgt_link.specs.Faults.{FaultyBecomes, FaultyContent, FaultyStep, begins_anew, is_break}
+use Rattle.dgt_link.specs.Faults.{FaultyBecomes, FaultyContent, FaultyStep, begins_anew, is_break, sends}
 use Rattle.dgt_link.specs.Healing.{IsInStep, StandsWith}
 use Rattle.dgt_link.specs.Machine.{MachineState, Move, after_moves}
 use Rattle.dgt_link.specs.Promise.{IsPromisedBy, act_requests, coming_mode, mode_after}
@@ -28,8 +28,7 @@ Follows asks x = IsTrue (asks (coming_mode x))
 -- what is asked of the mode to come, what ends that, and what comes
 pub record Hope (asks : Mode → Bool) (ends : FaultyContent → Bool) (Comes : MachineState → Type 0) : Type 0 where
   pub command : (before : Mode) (command : CommandContent)
-      → ends (FaultyContent.Plain (ActContent.Host command)) ≡ false → IsTrue (asks before)
-      → IsTrue (asks (mode_after before (Some command ∷ [])))
+      → ends (sends command) ≡ false → IsTrue (asks before) → IsTrue (asks (mode_after before (Some command ∷ [])))
   pub breaks : ends (FaultyContent.Plain ActContent.Break) ≡ true
   pub settling : (act : ActContent) → IsSettling act → ends (FaultyContent.Plain act) ≡ false
   pub comes : (x : MachineState) (act : ActContent) (answer : Outcome) (moves : List Move) → is_break act ≡ false
@@ -110,8 +109,7 @@ module _ (behind : ActsBehind) (asks : Mode → Bool) (ends : FaultyContent → 
 
   pub asked_follows : (command : CommandContent) (mode : Mode) (world after : WorldView)
       → command_mode command ≡ Some mode → IsTrue (asks mode) → IsInStep world
-      → FaultyStep (FaultyContent.Plain (ActContent.Host command)) world Outcome.Done after
-      → StandsWith (Follows asks) after
+      → FaultyStep (sends command) world Outcome.Done after → StandsWith (Follows asks) after
   asked_follows command mode world after sets asked is step =
       led behind (λ x. Unit {0}) (Follows asks) (ActContent.Host command) world Outcome.Done after refl
       (λ x moves are any. mode_is_set mode command x moves sets asked are) is
@@ -122,8 +120,7 @@ module _ (behind : ActsBehind) (asks : Mode → Bool) (ends : FaultyContent → 
       → ((x : MachineState) (moves : List Move) → AreMovesOfStep (ActContent.Host command) Outcome.Done moves → Q x
       → Comes (after_moves x moves))
       → command_mode command ≡ Some mode → IsTrue (asks mode) → StandsWith Q world
-      → FaultyStep (FaultyContent.Plain (ActContent.Host command)) world Outcome.Done after
-      → StandsWith (IsPromisedBy Comes asks) after
+      → FaultyStep (sends command) world Outcome.Done after → StandsWith (IsPromisedBy Comes asks) after
   set_promises Q command mode world after comes sets asked is step =
       led behind Q (IsPromisedBy Comes asks) (ActContent.Host command) world Outcome.Done after refl
       (λ x moves are q.
@@ -131,12 +128,11 @@ module _ (behind : ActsBehind) (asks : Mode → Bool) (ends : FaultyContent → 
       (plain_step (ActContent.Host command) world Outcome.Done after step)
 
   -- it is asked for, while the mode to come asks for changes
-  pub asked_promises : (command : CommandContent) → ends (FaultyContent.Plain (ActContent.Host command)) ≡ false
+  pub asked_promises : (command : CommandContent) → ends (sends command) ≡ false
       → ((x : MachineState) (moves : List Move) → AreMovesOfStep (ActContent.Host command) Outcome.Done moves
       → Comes (after_moves x moves))
       → (world after : WorldView) → StandsWith (Follows asks) world
-      → FaultyStep (FaultyContent.Plain (ActContent.Host command)) world Outcome.Done after
-      → StandsWith (IsPromisedBy Comes asks) after
+      → FaultyStep (sends command) world Outcome.Done after → StandsWith (IsPromisedBy Comes asks) after
   asked_promises command going comes world after is step =
       led behind (Follows asks) (IsPromisedBy Comes asks) (ActContent.Host command) world Outcome.Done after refl
       (λ x moves are asked.

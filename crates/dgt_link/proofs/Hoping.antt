@@ -7,7 +7,7 @@ use Rattle.dgt_board.specs.declared.modes.Mode.{Mode}
 use Rattle.dgt_board.specs.State.{updates}
 use Rattle.dgt_link.specs.Act.{ActContent}
 use Rattle.dgt_link.specs.declared.acts.Outcome.{Outcome}
-use Rattle.dgt_link.specs.Faults.{FaultyContent, FaultyRuns, FaultyStep, begins_anew, is_break, is_fault, loses_step, stops}
+use Rattle.dgt_link.specs.Faults.{FaultyContent, FaultyRuns, FaultyStep, begins_anew, is_break, is_fault, loses_step, sends, stops}
 use Rattle.dgt_link.specs.Healing.{IsFollowing, IsInStep, IsPromisedWorld, IsSane}
 use Rattle.dgt_link.specs.Machine.{MachineState, Move, after_moves, commands_anew}
 use Rattle.dgt_link.specs.Promise.{IsPromised, PictureIsComing, mode_after}
@@ -17,7 +17,7 @@ use Rattle.dgt_link.specs.View.{WorldView}
 use Rattle.dgt_link.proofs.Asking.{dump_is_coming, step_keeps_coming}
 use Rattle.dgt_link.proofs.Behind.{ActsBehind}
 use Rattle.dgt_link.proofs.Clocks.{no_break}
-use Rattle.dgt_link.proofs.Counting.{Follows as Counted, break_follows, follows_in_step, host_break_follows, plain_step, restart_follows}
+use Rattle.dgt_link.proofs.Counting.{Follows as Counted, break_follows, follows_in_step, follows_with, host_break_follows, plain_step, restart_follows}
 use Rattle.dgt_link.proofs.Hopes.{Follows, Hope, asked_promises, garbled, kept, led, other_following, other_promised}
 use Rattle.dgt_link.proofs.Settling.{by_settling}
 use Rattle.dgt_link.proofs.Promises.{coming_promise}
@@ -26,13 +26,9 @@ use Rattle.dgt_link.proofs.Running.{run_keeps}
 -- ---- it is a hope
 
 command_stays : (before : Mode) (command : CommandContent)
-    → stops (FaultyContent.Plain (ActContent.Host command)) ≡ false → IsTrue (updates before)
+    → stops (sends command) ≡ false → IsTrue (updates before)
     → IsTrue (updates (mode_after before (Some command ∷ [])))
-command_stays before CommandContent.Reset going asks = cc
-command_stays before CommandContent.Update going asks = refl
-command_stays before CommandContent.UpdateBoard going asks = refl
-command_stays before CommandContent.UpdateNice going asks = refl
-command_stays before _ going asks = asks
+command_stays before command going asks = grind arith
 
 stays_coming : (x : MachineState) (act : ActContent) (answer : Outcome) (moves : List Move) → is_break act ≡ false
     → AreMovesOfStep act answer moves → PictureIsComing x → PictureIsComing (after_moves x moves)
@@ -41,13 +37,8 @@ stays_coming x act answer moves other are coming =
 
 pub picture_hope : Hope updates stops PictureIsComing
 picture_hope =
-    record {
-      command = command_stays;
-      breaks = refl;
-      settling =
-          by_settling (λ act. stops (FaultyContent.Plain act) ≡ false) refl (λ count. refl) (λ count. refl);
-      comes = stays_coming;
-    }
+    let settling = by_settling (λ act. stops (FaultyContent.Plain act) ≡ false) refl (λ count. refl) (λ count. refl) in
+    record { command = command_stays; breaks = refl; settling = settling; comes = stays_coming }
 
 promised_follows : (world : WorldView) → IsPromisedWorld world → IsFollowing world
 promised_follows world is =
@@ -55,8 +46,7 @@ promised_follows world is =
 
 module _ (behind : ActsBehind) where
   pub dump_promises : (world after : WorldView) → IsFollowing world
-      → FaultyStep (FaultyContent.Plain (ActContent.Host CommandContent.Dump)) world Outcome.Done after
-      → IsPromisedWorld after
+      → FaultyStep (sends CommandContent.Dump) world Outcome.Done after → IsPromisedWorld after
   dump_promises =
       asked_promises behind updates stops PictureIsComing picture_hope CommandContent.Dump refl dump_is_coming
 
@@ -65,12 +55,8 @@ module _ (behind : ActsBehind) where
 
     anew_promised : (in_turn : _) (world : WorldView) → Counted in_turn commands_anew world → IsPromisedWorld world
     anew_promised in_turn world f =
-        record {
-          garbage = f.garbage;
-          state = f.state;
-          stands = f.stands;
-          holds = coming_promise commands_anew f.state f.comes (record { dump = (1, omega arith, refl); mode = refl });
-        }
+        follows_with IsPromised f
+        (coming_promise commands_anew f.state f.comes (record { dump = (1, omega arith, refl); mode = refl }))
 
     pub anew_heals : (act : FaultyContent) (world after : WorldView) → begins_anew act ≡ true → IsSane world
         → FaultyStep act world Outcome.Done after → IsPromisedWorld after

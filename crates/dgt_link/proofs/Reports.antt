@@ -326,7 +326,7 @@ module _ (behind : ActsBehind) where
       → AllByRecursion (λ act. is_break act ≡ false) acts → IsInStep world → Runs acts world answers after
       → IsReportedBy acts answers after
   reported_by acts world after answers all is runs =
-      let stands = forgotten_stands is.garbage world is.state is.stands in
+      let stands = forgotten_stands is.garbage world world.up is.state is.stands in
       let reached = run_behind acts (world.host.unread ++ world.up.bytes) world after answers (forgotten is.state) all
       stands runs in
       record {

@@ -16,7 +16,7 @@ use Rattle.dgt_link.specs.Machine.{MachineState}
 use Rattle.dgt_link.specs.Promise.{IsPromised, IsQuiet}
 use Rattle.dgt_link.specs.Settling.{SettlesIn}
 use Rattle.dgt_link.specs.View.{IsQuietWorld, WorldView}
-use Rattle.dgt_link.proofs.Counting.{Holds, known_picture, nothing_said, quiet_behind}
+use Rattle.dgt_link.proofs.Counting.{Holds, follows_with, host_knows, nothing_said, quiet_behind}
 use Rattle.dgt_link.specs.Readers.{Reads}
 use Rattle.dgt_link.proofs.Lists.{right_empty}
 use Rattle.dgt_link.proofs.Promises.{coming_promise}
@@ -29,21 +29,14 @@ use Rattle.dgt_link.proofs.Settling.{nothing_left_open, nothing_partial, settled
 pub healing_promised : (c : Counted) (world : WorldView) → Holds c world → IsHealing c → IsPromisedWorld world
 healing_promised c world holds healing =
     let f = holds.follows healing.in_step in
-    record {
-      garbage = f.garbage;
-      state = f.state;
-      stands = f.stands;
-      holds = coming_promise c.asked f.state f.comes healing.asked;
-    }
+    follows_with IsPromised f (coming_promise c.asked f.state f.comes healing.asked)
 
 -- and a promised world that is quiet has the board's squares as its picture
 pub promised_at_quiet : EachDividesOnce → (world : WorldView) → IsPromisedWorld world → IsQuietWorld world
     → world.host.picture ≡ Some world.board.state.squares
 promised_at_quiet once world is quiet =
-    rw is.stands.board
-    (known_picture is.state.picture world.host.picture is.state.board.squares is.stands.picture
-    (promised_picture is.state is.stands.sound is.holds
-    (quiet_behind once is.garbage world is.state is.stands quiet)))
+    let still = quiet_behind once is.garbage world is.state is.stands quiet in
+    rw is.stands.board (host_knows is.stands.picture (promised_picture is.state is.stands.sound is.holds still))
 
 -- ---- at rest
 

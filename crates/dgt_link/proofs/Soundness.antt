@@ -4,7 +4,7 @@ use Rattle.std.proofs.Common.{append_assoc}
 use Rattle.std.proofs.lemmas.List.{length-set}
 use Rattle.std.proofs.lemmas.List.Elements.{filter_map-append}
 use Rattle.std.proofs.lemmas.Bool.{cond_both, false≢true}
-use Rattle.std.specs.Prelude.{filter_map, option_to_list}
+use Rattle.std.specs.Prelude.{filter_map, map, option_to_list}
 use Rattle.std.specs.List.{cons_option}
 use Rattle.dgt_values.specs.declared.pieces.Piece.{Piece}
 use Rattle.dgt_values.specs.declared.kinds.Kind.{Kind}
@@ -15,8 +15,8 @@ use Rattle.dgt_board.specs.declared.replies.Reply.{Reply}
 use Rattle.dgt_board.specs.State.{IdentityContent, updates, effect}
 use Rattle.dgt_board.specs.Sending.{differs, field_of, reply_message}
 use Rattle.dgt_host.specs.Host.{awaited_after}
-use Rattle.dgt_link.specs.Machine.{IsHostBreak, Move, MachineState, new_state, after_move, after_told, after_take, after_reply, after_hear}
-use Rattle.dgt_link.specs.Sound.{IsSound, IsExact, coming_kinds, kind_of_event, kind_of_reply}
+use Rattle.dgt_link.specs.Machine.{IsHostBreak, Move, MachineState, commands_anew, new_state, state_of_board, after_move, after_told, after_take, after_reply, after_hear}
+use Rattle.dgt_link.specs.Sound.{IsSound, IsExact, IsSubsequence, coming_kinds, kind_of_event, kind_of_reply}
 use Rattle.dgt_link.proofs.Subsequences.{subsequence_at_end, subsequence_append, awaited_after-subsequence}
 use Rattle.dgt_link.proofs.Subsequences.{awaited_exactly, one_more, moved_over}
 use Rattle.dgt_link.proofs.Telling.{ToldIsHeard, field_tells, clock_tells, reply_tells, reply_message-kind}
@@ -31,40 +31,36 @@ owing x owed = record x { board = record x.board { owed = owed } }
 
 -- ---- a message is sent, whose kind was the first owed
 
-send-kinds : (x : MachineState) (owed : List Reply) (message : Content)
-    → filter_map kind_of_reply x.board.owed ≡ cons_option (kind_of message) (filter_map kind_of_reply owed)
-    → coming_kinds (after_told (owing x owed) message) ≡ coming_kinds x
-send-kinds x owed message first =
-    ap (λ (up : List Kind). up ++ (filter_map kind_of_reply owed ++ filter_map kind_of_event x.down))
-    (filter_map-append kind_of x.up (message ∷ []))
-    ∙ moved_over (filter_map kind_of x.up) (kind_of message) (filter_map kind_of_reply owed)
-    (filter_map kind_of_event x.down)
-    ∙ ap (λ (owed : List Kind). filter_map kind_of x.up ++ (owed ++ filter_map kind_of_event x.down)) (sym first)
+module _ (x : MachineState) (owed : List Reply) (message : Content)
+    (tells : ToldIsHeard (record x.board { owed = owed }) message)
+    (first : filter_map kind_of_reply x.board.owed
+    ≡ cons_option (kind_of message) (filter_map kind_of_reply owed)) where
+  send-kinds : coming_kinds (after_told (owing x owed) message) ≡ coming_kinds x
+  send-kinds =
+      ap (λ (up : List Kind). up ++ (filter_map kind_of_reply owed ++ filter_map kind_of_event x.down))
+      (filter_map-append kind_of x.up (message ∷ []))
+      ∙ moved_over (filter_map kind_of x.up) (kind_of message) (filter_map kind_of_reply owed)
+      (filter_map kind_of_event x.down)
+      ∙ ap (λ (owed : List Kind). filter_map kind_of x.up ++ (owed ++ filter_map kind_of_event x.down)) (sym first)
 
-send_sound : (x : MachineState) (owed : List Reply) (message : Content)
-    → ToldIsHeard (record x.board { owed = owed }) message
-    → filter_map kind_of_reply x.board.owed ≡ cons_option (kind_of message) (filter_map kind_of_reply owed) → IsSound x
-    → IsSound (after_told (owing x owed) message)
-send_sound x owed message tells first sound =
-    record {
-      squares = sound.squares;
-      told_squares = tells.squares sound.squares sound.told_squares;
-      picture = picture_told (record x.board { owed = owed }) message tells x.picture x.up sound.picture;
-      followed = λ h. followed_after (record x.board { owed = owed }) message tells (sound.followed h);
-      clock = clock_told_of (record x.board { owed = owed }) message tells x.host_clock x.up sound.clock;
-      awaited = rw (send-kinds x owed message first) sound.awaited;
-    }
+  send_sound : IsSound x → IsSound (after_told (owing x owed) message)
+  send_sound sound =
+      record {
+        squares = sound.squares;
+        told_squares = tells.squares sound.squares sound.told_squares;
+        picture = picture_told (record x.board { owed = owed }) message tells x.picture x.up sound.picture;
+        followed = λ h. followed_after (record x.board { owed = owed }) message tells (sound.followed h);
+        clock = clock_told_of (record x.board { owed = owed }) message tells x.host_clock x.up sound.clock;
+        awaited = rw send-kinds sound.awaited;
+      }
 
-send_exact : (x : MachineState) (owed : List Reply) (message : Content)
-    → ToldIsHeard (record x.board { owed = owed }) message
-    → filter_map kind_of_reply x.board.owed ≡ cons_option (kind_of message) (filter_map kind_of_reply owed) → IsExact x
-    → IsExact (after_told (owing x owed) message)
-send_exact x owed message tells first exact =
-    record {
-      sound = send_sound x owed message tells first exact.sound;
-      clock = clock_after_all-append x.host_clock x.up message ∙ rw exact.clock tells.clock;
-      awaited = exact.awaited ∙ sym (send-kinds x owed message first);
-    }
+  send_exact : IsExact x → IsExact (after_told (owing x owed) message)
+  send_exact exact =
+      record {
+        sound = send_sound exact.sound;
+        clock = clock_after_all-append x.host_clock x.up message ∙ rw exact.clock tells.clock;
+        awaited = exact.awaited ∙ sym send-kinds;
+      }
 
 -- ---- the moves, one by one
 
@@ -190,36 +186,32 @@ host_break-kinds x noise is_noise =
 
 -- ---- every move
 
+-- other commands are under way, and what is awaited is among the kinds that come with them
+pub asked_sound : (x : MachineState) (down : List EventContent) (awaited : List Kind) → IsSound x
+    → IsSubsequence awaited (coming_kinds (record x { down = down }))
+    → IsSound (record x { down = down; awaited = awaited })
+asked_sound x down awaited sound coming = assumption
+
+-- what the host knows and what is under way is forgotten
+pub board_sound : (x : MachineState) → IsSound x → IsSound (state_of_board x.board)
+board_sound x sound =
+    record {
+      squares = sound.squares;
+      told_squares = sound.told_squares;
+      picture = inl refl;
+      followed = sound.followed;
+      clock = inl refl;
+      awaited = tt;
+    }
+
 pub move_sound : (x : MachineState) (move : Move) → IsSound x → IsSound (after_move x move)
 move_sound x (Move.Change square piece) sound =
-    record {
-      squares = length-set x.board.squares square piece ∙ sound.squares;
-      told_squares = sound.told_squares;
-      picture = sound.picture;
-      followed = sound.followed;
-      clock = sound.clock;
-      awaited = sound.awaited;
-    }
-move_sound x (Move.HandClock clock) sound =
-    record {
-      squares = sound.squares;
-      told_squares = sound.told_squares;
-      picture = sound.picture;
-      followed = handed_or_told x.board.mode x.board.told_clock clock;
-      clock = sound.clock;
-      awaited = sound.awaited;
-    }
+    assumption (length-set x.board.squares square piece ∙ sound.squares)
+move_sound x (Move.HandClock clock) sound = assumption (handed_or_told x.board.mode x.board.told_clock clock)
 move_sound x (Move.Ask command) sound =
-    record {
-      squares = sound.squares;
-      told_squares = sound.told_squares;
-      picture = sound.picture;
-      followed = sound.followed;
-      clock = sound.clock;
-      awaited =
-          rw (ask-kinds x command) (subsequence_append x.awaited (coming_kinds x)
-          (option_to_list (kind_of_command command)) sound.awaited);
-    }
+    let more : List Kind = option_to_list (kind_of_command command) in
+    asked_sound x (x.down ++ EventContent.Read command ∷ []) (x.awaited ++ more) sound
+    (rw (ask-kinds x command) (subsequence_append x.awaited (coming_kinds x) more sound.awaited))
 move_sound x Move.Take sound = take_sound x x.down refl sound
 move_sound x Move.Reply sound = reply_sound x x.board.owed refl sound
 move_sound x (Move.Tell square) sound =
@@ -232,16 +224,10 @@ move_sound x Move.TellClock sound =
 move_sound x Move.Hear sound = hear_sound x x.up refl sound
 move_sound x Move.Break sound = new_sound x.board.squares x.board.clock x.board.identity sound.squares
 move_sound x (Move.HostBreak noise is_noise) sound =
-    record {
-      squares = sound.squares;
-      told_squares = sound.told_squares;
-      picture = inl refl;
-      followed = sound.followed;
-      clock = inl refl;
-      awaited =
-          rw (host_break-kinds x noise is_noise)
-          (subsequence_at_end (Kind.Dump ∷ []) (filter_map kind_of_reply x.board.owed));
-    }
+    asked_sound (state_of_board x.board) (noise ++ map EventContent.Read commands_anew) (Kind.Dump ∷ [])
+    (board_sound x sound)
+    (rw (host_break-kinds x noise is_noise)
+    (subsequence_at_end (Kind.Dump ∷ []) (filter_map kind_of_reply x.board.owed)))
 
 -- both ends are as new, but for the squares, the clock and the identity
 pub break_exact : (x : MachineState) → IsSound x → IsExact (after_move x Move.Break)

@@ -11,7 +11,6 @@ use Rattle.dgt_message.specs.Content.{Content, IsMessage}
 use Rattle.dgt_message.specs.Clock.{ClockState}
 use Rattle.dgt_message.specs.Spelling.{Spells, spelling}
 use Rattle.dgt_command.specs.Content.{CommandContent, EventContent, kind_of_command}
-use Rattle.dgt_command.specs.Spelling.{command_spelling}
 use Rattle.dgt_command.specs.Words.{Divides, IsPartial}
 use Rattle.dgt_board.specs.State.{IdentityContent, BoardState, after_change, after_hand_clock, after_line_lost, effect, effects}
 use Rattle.dgt_board.specs.Sending.{after_sending, next_message}
@@ -149,17 +148,7 @@ spelled_more bytes messages message spells spelled =
 board_stands : (world : WorldView) (x : MachineState) (state board : BoardState) → StandsFor world x
     → IsSound (record x { board = board }) → state ≡ board
     → StandsFor (with_state world state) (record x { board = board })
-board_stands world x state board stands sound same =
-    record {
-      sound = sound;
-      board = same;
-      picture = stands.picture;
-      clock = stands.clock;
-      awaited = stands.awaited;
-      up = stands.up;
-      down = stands.down;
-      partial = stands.partial;
-    }
+board_stands world x state board stands sound same = assumption
 
 change_reaches : (world : WorldView) (square : ℕ) (piece : Piece) (after : WorldView) (x : MachineState)
     → StandsFor world x → Becomes (ActContent.Change square piece) world after
@@ -189,43 +178,22 @@ module _ (laws : Grammars) where
   ask_reaches : (world : WorldView) (command : CommandContent) (after : WorldView) (x : MachineState)
       → StandsFor world x → Becomes (ActContent.Host command) world after
       → StandsAfterStep (ActContent.Host command) Outcome.Done x after
-  ask_reaches world command after x stands (spells, same) = (
-    Move.Ask command ∷ [],
-    refl,
-    rw same
-        (record {
-          sound = move_sound x (Move.Ask command) stands.sound;
-          board = stands.board;
-          picture = stands.picture;
-          clock = stands.clock;
-          awaited = ap (λ (awaited : List Kind). awaited ++ option_to_list (kind_of_command command)) stands.awaited;
-          up = stands.up;
-          down = rw (append_assoc world.board.partial world.down.bytes (command_spelling command)) at
-              (divides_command laws.nothing laws.divisions_append
-              (world.board.partial ++ world.down.bytes) x.down command stands.down spells);
-          partial = stands.partial;
-        }),
-  )
+  ask_reaches world command after x stands (spells, same) =
+      let sound = move_sound x (Move.Ask command) stands.sound in
+      let awaited = ap (λ (kinds : List Kind). kinds ++ option_to_list (kind_of_command command)) stands.awaited in
+      let down = divides_command laws.nothing laws.divisions_append world.board.partial world.down.bytes x.down command
+      stands.down spells in
+      (Move.Ask command ∷ [], refl, rw same assumption)
 
   send_reaches : (world after : WorldView) (x : MachineState) → StandsFor world x
       → Becomes ActContent.BoardSend world after → StandsAfterStep ActContent.BoardSend Outcome.Done x after
   send_reaches world after x stands (message, is_next, spells, same) =
-      let by = next_is_sent x message (ap next_message (sym stands.board) ∙ is_next) in (
-        by.0 ∷ [],
-        (by.0, by.1, refl),
-        rw (same, by.2)
-            (record {
-              sound = rw by.2 at (move_sound x by.0 stands.sound);
-              board = ap (λ (board : BoardState). after_sending board message) stands.board;
-              picture = stands.picture;
-              clock = stands.clock;
-              awaited = stands.awaited;
-              up = rw (append_assoc world.host.unread world.up.bytes (spelling message)) at
-                  (spelled_more (world.host.unread ++ world.up.bytes) x.up message spells stands.up);
-              down = stands.down;
-              partial = stands.partial;
-            }),
-      )
+      let by = next_is_sent x message (ap next_message (sym stands.board) ∙ is_next) in
+      let sound = rw by.2 at (move_sound x by.0 stands.sound) in
+      let board = ap (λ (state : BoardState). after_sending state message) stands.board in
+      let up = rw (append_assoc world.host.unread world.up.bytes (spelling message)) at
+      (spelled_more (world.host.unread ++ world.up.bytes) x.up message spells stands.up) in
+      (by.0 ∷ [], (by.0, by.1, refl), rw (same, by.2) assumption)
 
   pub taken_as : (world : WorldView) (moved : ℕ) (board : BoardView) (x : MachineState)
       → HasTaken world.board (take moved world.down.bytes) board → world.board.state ≡ x.board
@@ -250,21 +218,9 @@ module _ (laws : Grammars) where
       → Becomes (ActContent.ToBoard count) world after → StandsAfterStep (ActContent.ToBoard count) Outcome.Done x after
   take_reaches world count after x stands delivers =
       let taken = taken_as world delivers.moved delivers.board x delivers.taken stands.board stands.down in
-      let moves : List Move = replicate (length taken.events) Move.Take in (
-        moves,
-        (length taken.events, refl),
-        rw (delivers.leaves, taken.led)
-            (record {
-              sound = rw taken.led at (moves_sound x moves stands.sound);
-              board = taken.board;
-              picture = stands.picture;
-              clock = stands.clock;
-              awaited = stands.awaited;
-              up = stands.up;
-              down = taken.down;
-              partial = taken.partial;
-            }),
-      )
+      let moves : List Move = replicate (length taken.events) Move.Take in
+      let sound = rw taken.led at (moves_sound x moves stands.sound) in
+      (moves, (length taken.events, refl), rw (delivers.leaves, taken.led) assumption)
 
   hear_reaches : (world : WorldView) (count : ℕ) (after : WorldView) (x : MachineState) → StandsFor world x
       → Becomes (ActContent.ToHost count) world after → StandsAfterStep (ActContent.ToHost count) Outcome.Done x after
@@ -278,17 +234,7 @@ module _ (laws : Grammars) where
       (record { picture = stands.picture; clock = stands.clock; awaited = stands.awaited }) in (
         moves,
         (length front.heard, refl),
-        rw (same, led, front.host world.host)
-            (record {
-              sound = rw led at (moves_sound x moves stands.sound);
-              board = stands.board;
-              picture = refl;
-              clock = refl;
-              awaited = refl;
-              up = front.spelled;
-              down = stands.down;
-              partial = stands.partial;
-            }),
+        rw (same, led, front.host world.host) (assumption (rw led at (moves_sound x moves stands.sound))),
       )
 
   break_reaches : (world after : WorldView) (x : MachineState) → StandsFor world x

@@ -27,6 +27,10 @@ pub data FaultyContent : Type 0 where
   -- the host begins anew: it gives up what it awaits and appends its restart bytes to the down line
   Restart : FaultyContent
 
+-- the act of a host that sends a command
+abbrev pub sends : CommandContent → FaultyContent
+sends command = FaultyContent.Plain (ActContent.Host command)
+
 abbrev pub faulty_content : FaultyAct → FaultyContent
 faulty_content (faulty.Plain act) = FaultyContent.Plain (act_content act)
 faulty_content (faulty.GarbleUp bytes) = FaultyContent.GarbleUp bytes.now

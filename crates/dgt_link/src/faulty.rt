@@ -12,7 +12,7 @@ ghost use Rattle.dgt_link.specs.Settling.{IsNext, SettlesIn};
 ghost use Rattle.dgt_link.specs.Work.{work_left};
 ghost use Rattle.dgt_link.specs.declared.acts.Outcome.{Outcome as Answer};
 ghost use Rattle.dgt_link.specs.Clocks.{IsClockFollowing, IsClockPromisedWorld, stops_clock};
-ghost use Rattle.dgt_link.specs.Faults.{IfRan, FaultyContent, FaultyRuns, FaultyStep, begins_anew, faulty_content, is_fault, loses_step, stops};
+ghost use Rattle.dgt_link.specs.Faults.{FaultyContent, FaultyRuns, FaultyStep, IfRan, begins_anew, faulty_content, is_fault, loses_step, sends, stops};
 ghost use Rattle.dgt_link.specs.Healing.{IsClockHealing, IsFaultyWorld, IsFollowing, IsHealing, IsInStep, IsInStepBy, IsInTurn, IsPromisedWorld, IsRestedWorld, StandsBehind, counted_by};
 ghost use Rattle.dgt_link.specs.Machine.{MachineState};
 ghost use Rattle.dgt_host.specs.Host.{picture_after_all};
@@ -105,33 +105,31 @@ impl FaultyWorld {
             IsPromisedWorld self.new }
         ensures in_step { loses_step (faulty_content act.entry) ≡ false → IsInStep self.old →
             IsInStep self.new }
-        ensures asked { (command : CommandContent) (mode : Mode) → faulty_content act.entry
-            ≡ FaultyContent.Plain (ActContent.Host command) → command_mode command ≡ Some mode →
+        ensures asked { (command : CommandContent) (mode : Mode) →
+            faulty_content act.entry ≡ sends command → command_mode command ≡ Some mode →
             IsTrue (updates mode) → result ≡ Outcome.Done → IsInStep self.old →
             IsFollowing self.new }
         ensures following { loses_step (faulty_content act.entry) ≡ false →
             stops (faulty_content act.entry) ≡ false → IsFollowing self.old → IsFollowing self.new }
-        ensures dump { faulty_content act.entry
-            ≡ FaultyContent.Plain (ActContent.Host CommandContent.Dump) → result ≡ Outcome.Done →
-            IsFollowing self.old → IsPromisedWorld self.new }
+        ensures dump { faulty_content act.entry ≡ sends CommandContent.Dump →
+            result ≡ Outcome.Done → IsFollowing self.old → IsPromisedWorld self.new }
         ensures kept { is_fault (faulty_content act.entry) ≡ false →
             stops (faulty_content act.entry) ≡ false →
             IsPromisedWorld self.old → IsPromisedWorld self.new }
         // and the clock
-        ensures clock_asked { (command : CommandContent) (mode : Mode) → faulty_content act.entry
-            ≡ FaultyContent.Plain (ActContent.Host command) → command_mode command ≡ Some mode →
+        ensures clock_asked { (command : CommandContent) (mode : Mode) →
+            faulty_content act.entry ≡ sends command → command_mode command ≡ Some mode →
             IsTrue (follows_clock mode) → result ≡ Outcome.Done → IsInStep self.old →
             IsClockFollowing self.new }
-        ensures clock_owed { (command : CommandContent) (mode : Mode) → faulty_content act.entry
-            ≡ FaultyContent.Plain (ActContent.Host command) → command_mode command ≡ Some mode →
+        ensures clock_owed { (command : CommandContent) (mode : Mode) →
+            faulty_content act.entry ≡ sends command → command_mode command ≡ Some mode →
             IsTrue (follows_clock mode) → self.old.board.state.told_clock ≡ None →
             result ≡ Outcome.Done → IsInStep self.old → IsClockPromisedWorld self.new }
         ensures clock_following { loses_step (faulty_content act.entry) ≡ false →
             stops_clock (faulty_content act.entry) ≡ false → IsClockFollowing self.old →
             IsClockFollowing self.new }
-        ensures reading { faulty_content act.entry
-            ≡ FaultyContent.Plain (ActContent.Host CommandContent.Clock) → result ≡ Outcome.Done →
-            IsClockFollowing self.old → IsClockPromisedWorld self.new }
+        ensures reading { faulty_content act.entry ≡ sends CommandContent.Clock →
+            result ≡ Outcome.Done → IsClockFollowing self.old → IsClockPromisedWorld self.new }
         ensures clock_kept { is_fault (faulty_content act.entry) ≡ false →
             stops_clock (faulty_content act.entry) ≡ false →
             IsClockPromisedWorld self.old → IsClockPromisedWorld self.new }

@@ -18,7 +18,7 @@ ghost use Rattle.dgt_link.specs.Step.{Runs, Step};
 ghost use Rattle.dgt_link.specs.Settling.{SettlesIn};
 ghost use Rattle.dgt_link.specs.View.{IsQuietWorld, WorldView};
 ghost use Rattle.dgt_link.specs.Clocks.{IsClockFollowing, IsClockPromisedWorld, stops_clock};
-ghost use Rattle.dgt_link.specs.Faults.{AreCalm, FaultyContent, FaultyRuns, FaultyStep, begins_anew, is_break, is_fault, loses_step, stops};
+ghost use Rattle.dgt_link.specs.Faults.{AreCalm, FaultyContent, FaultyRuns, FaultyStep, begins_anew, is_break, is_fault, loses_step, sends, stops};
 ghost use Rattle.dgt_link.specs.Healing.{AfterFaults, IsClockHealing, IsFaultyWorld, IsFollowing, IsHealing, IsInStep, IsInStepBy, IsInTurn, IsPromisedWorld, IsRestedWorld, IsSane, StandsBehind, StandsBehindAfter, counted_by};
 
 use crate::laws;
@@ -105,14 +105,13 @@ pub fn steps_heal()
         → FaultyStep act world answer after → IsInStep after }
     ensures asked { (command : CommandContent) (mode : Mode) (world after : WorldView) →
         command_mode command ≡ Some mode → IsTrue (updates mode) → IsInStep world
-        → FaultyStep (FaultyContent.Plain (ActContent.Host command)) world Outcome.Done after
-        → IsFollowing after }
+        → FaultyStep (sends command) world Outcome.Done after → IsFollowing after }
     ensures following { (act : FaultyContent) (world after : WorldView) (answer : Outcome) →
         loses_step act ≡ false → stops act ≡ false → IsSane world → IsFollowing world
         → FaultyStep act world answer after → IsFollowing after }
     ensures dump { (world after : WorldView) → IsFollowing world
-        → FaultyStep (FaultyContent.Plain (ActContent.Host CommandContent.Dump)) world Outcome.Done
-        after → IsPromisedWorld after }
+        → FaultyStep (sends CommandContent.Dump) world Outcome.Done after
+        → IsPromisedWorld after }
     ensures kept { (act : FaultyContent) (world after : WorldView) (answer : Outcome) →
         is_fault act ≡ false → stops act ≡ false → IsSane world → IsPromisedWorld world
         → FaultyStep act world answer after → IsPromisedWorld after }
@@ -136,9 +135,9 @@ pub fn calm_heals()
         (answers others : List Outcome) →
         AllByRecursion (λ act. (loses_step act ≡ false) × (stops act ≡ false)) acts
         → IsSane world → IsFollowing world → FaultyRuns acts world answers between
-        → FaultyStep (FaultyContent.Plain (ActContent.Host CommandContent.Dump)) between
-        Outcome.Done begun → AreCalm later → FaultyRuns later begun others after
-        → IsQuietWorld after → after.host.picture ≡ Some after.board.state.squares }
+        → FaultyStep (sends CommandContent.Dump) between Outcome.Done begun
+        → AreCalm later → FaultyRuns later begun others after → IsQuietWorld after
+        → after.host.picture ≡ Some after.board.state.squares }
 {
     faults_heal();
     promised_worlds_heal();
@@ -153,19 +152,17 @@ pub fn calm_heals()
 pub fn clocks_heal()
     ensures asked { (command : CommandContent) (mode : Mode) (world after : WorldView) →
         command_mode command ≡ Some mode → IsTrue (follows_clock mode) → IsInStep world
-        → FaultyStep (FaultyContent.Plain (ActContent.Host command)) world Outcome.Done after
-        → IsClockFollowing after }
+        → FaultyStep (sends command) world Outcome.Done after → IsClockFollowing after }
     ensures owed { (command : CommandContent) (mode : Mode) (world after : WorldView) →
         command_mode command ≡ Some mode → IsTrue (follows_clock mode)
         → world.board.state.told_clock ≡ None → IsInStep world
-        → FaultyStep (FaultyContent.Plain (ActContent.Host command)) world Outcome.Done after
-        → IsClockPromisedWorld after }
+        → FaultyStep (sends command) world Outcome.Done after → IsClockPromisedWorld after }
     ensures following { (act : FaultyContent) (world after : WorldView) (answer : Outcome) →
         loses_step act ≡ false → stops_clock act ≡ false → IsClockFollowing world
         → FaultyStep act world answer after → IsClockFollowing after }
     ensures reading { (world after : WorldView) → IsClockFollowing world
-        → FaultyStep (FaultyContent.Plain (ActContent.Host CommandContent.Clock)) world Outcome.Done
-        after → IsClockPromisedWorld after }
+        → FaultyStep (sends CommandContent.Clock) world Outcome.Done after
+        → IsClockPromisedWorld after }
     ensures kept { (act : FaultyContent) (world after : WorldView) (answer : Outcome) →
         is_fault act ≡ false → stops_clock act ≡ false → IsClockPromisedWorld world
         → FaultyStep act world answer after → IsClockPromisedWorld after }
