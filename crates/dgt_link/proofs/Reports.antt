@@ -16,7 +16,7 @@ use Rattle.dgt_link.specs.declared.acts.Outcome.{Outcome}
 use Rattle.dgt_link.specs.Faults.{is_break}
 use Rattle.dgt_link.specs.Healing.{IsInStep, StandsBehind}
 use Rattle.dgt_link.specs.Machine.{IsHostBreak, MachineState, Move, after_hear, after_move, after_moves, after_reply, after_take, after_told}
-use Rattle.dgt_link.specs.Reported.{IsReportedBy, WasReported, first_reply, sent_by, sent_by_all}
+use Rattle.dgt_link.specs.Reported.{IsReportedBy, ReportedBefore, WasReported, first_reply, sent_by, sent_by_all}
 use Rattle.dgt_link.specs.Sound.{IsSound, IsUnknownOr, coming_picture}
 use Rattle.dgt_link.specs.Stands.{AreMovesOfRun, AreMovesOfStep}
 use Rattle.dgt_link.specs.Step.{Runs}
@@ -120,14 +120,8 @@ one_at_most x _ = inl refl
 
 -- once the messages of this front are heard too, the picture is unknown or what was reported when
 -- the last of them was sent
-record Since (x : MachineState) (moves : List Move) (front back : List Content) : Type 0 where
-  pub earlier : List Move
-  pub later : List Move
-  pub split : moves ≡ earlier ++ later
-  pub sent : sent_by_all (after_moves x earlier) later ≡ back
-  pub picture :
-      IsUnknownOr (picture_after_all (after_moves x moves).picture front)
-      (Some (after_moves x earlier).board.told_squares)
+abbrev Since : MachineState → List Move → List Content → List Content → Type 0
+Since x moves front back = ReportedBefore x moves (picture_after_all (after_moves x moves).picture front) back
 
 abbrev SinceEach : MachineState → List Move → Type 0
 SinceEach x moves =
@@ -272,14 +266,7 @@ nothing_since x sound none front back up =
 pub was_reported : (x : MachineState) (moves : List Move) → IsSound x → x.up ≡ []
     → AllByRecursion IsPlain moves → WasReported x moves
 was_reported x moves sound none all =
-    let since = moves_since x [] moves sound all (nothing_since x sound none) [] (after_moves x moves).up refl in
-    record {
-      earlier = since.earlier;
-      later = since.later;
-      split = since.split;
-      sent = since.sent;
-      picture = since.picture;
-    }
+    moves_since x [] moves sound all (nothing_since x sound none) [] (after_moves x moves).up refl
 
 -- ---- worlds
 

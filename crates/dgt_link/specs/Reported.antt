@@ -1,5 +1,6 @@
 -- What a picture that a host has between faults and quiet was, on the board, and when.
-use Rattle.std.specs.Prelude.{◌≡◌, ℕ, List, [], ◌∷◌, ◌++◌, ◌&&◌, if◌then◌else◌, Some, None}
+use Rattle.std.specs.Prelude.{◌≡◌, ℕ, List, [], ◌∷◌, ◌++◌, ◌&&◌, if◌then◌else◌, Option, Some, None}
+use Rattle.dgt_values.specs.declared.pieces.Piece.{Piece}
 use Rattle.dgt_message.specs.Content.{Content, clock_message}
 use Rattle.dgt_board.specs.declared.replies.Reply.{Reply}
 use Rattle.dgt_board.specs.State.{BoardState, updates}
@@ -29,16 +30,20 @@ abbrev pub sent_by_all : MachineState → List Move → List Content
 sent_by_all x [] = []
 sent_by_all x (move ∷ moves) = sent_by x move ++ sent_by_all (after_move x move) moves
 
--- After these moves the picture is unknown, or what the board had reported by the moment when it
--- sent the last message that was heard. Since then it has sent just the messages still under way.
-pub record WasReported (x : MachineState) (moves : List Move) : Type 0 where
+-- A picture is unknown, or what the board had reported after the earlier of these moves. By the
+-- later ones it has sent just these messages.
+pub record ReportedBefore (x : MachineState) (moves : List Move) (seen : Option (List Piece))
+    (left : List Content) : Type 0 where
   pub earlier : List Move
   pub later : List Move
   pub split : moves ≡ earlier ++ later
-  pub sent : sent_by_all (after_moves x earlier) later ≡ (after_moves x moves).up
-  pub picture :
-      IsUnknownOr (after_moves x moves).picture
-      (Some (after_moves x earlier).board.told_squares)
+  pub sent : sent_by_all (after_moves x earlier) later ≡ left
+  pub picture : IsUnknownOr seen (Some (after_moves x earlier).board.told_squares)
+
+-- After these moves the picture is unknown, or what the board had reported by the moment when it
+-- sent the last message that was heard. Since then it has sent just the messages still under way.
+abbrev pub WasReported : MachineState → List Move → Type 0
+WasReported x moves = ReportedBefore x moves (after_moves x moves).picture (after_moves x moves).up
 
 -- After some garbage, the world after these acts stands for a state to which their moves lead from
 -- one that knows no picture and has no message under way. What that state knows was reported.
