@@ -10,9 +10,9 @@ use Rattle.dgt_follow.specs.Pace.{PaceView, asking, asking_bytes, clock_request,
 use Rattle.dgt_follow.specs.Follower.{Asks, FollowerView, asking_of, host_after_asking}
 use Rattle.dgt_host.specs.Host.{HostView, awaits_too_many, host_awaiting, restart_bytes, without_awaited}
 use Rattle.dgt_link.specs.declared.acts.Outcome.{Outcome}
-use Rattle.dgt_link.specs.Faults.{FaultyContent, FaultyStep}
+use Rattle.dgt_link.specs.Faults.{FaultyContent, FaultyStep, sends}
 use Rattle.dgt_link.specs.View.{LineContents, WorldView, overflows, with_bytes}
-use Rattle.dgt_followed.specs.Followed.{HasRoom, RunsDone, asking_acts, reading_acts, sends}
+use Rattle.dgt_followed.specs.Followed.{HasRoom, RunsDone, after_writing, asking_acts, reading_acts}
 
 -- ---- a heartbeat is sent only while replies and patience are left
 
@@ -60,12 +60,10 @@ mode_spells UpdateMode.Clock = record { are_bytes = one_byte 0x43 (search rules)
 mode_spells UpdateMode.ClockChanges = record { are_bytes = one_byte 0x4b (search rules); spelled = refl }
 
 same_host : (world : WorldView) (bytes : List ℕ) → record world { down = with_bytes world.down bytes }
-    ≡ record world { host = host_awaiting world.host None; down = with_bytes world.down bytes }
+    ≡ after_writing world (host_awaiting world.host None) bytes
 same_host world bytes =
-    ap (λ (kinds : List Kind). record world {
-      host = record world.host { awaited = kinds };
-      down = with_bytes world.down bytes;
-    }) (sym (append-nil world.host.awaited))
+    ap (λ (kinds : List Kind). after_writing world (record world.host { awaited = kinds }) bytes)
+    (sym (append-nil world.host.awaited))
 
 mode_done : (mode : UpdateMode) (world : WorldView) → HasRoom world.down (command_spelling (mode_command mode))
     → FaultyStep (sends (mode_command mode)) world Outcome.Done
@@ -91,10 +89,8 @@ mode_done UpdateMode.ClockChanges world room =
 
 dump_done : (world : WorldView) → awaits_too_many world.host (Some Kind.Dump) ≡ false
     → HasRoom world.down (command_spelling CommandContent.Dump)
-    → FaultyStep (sends CommandContent.Dump) world Outcome.Done (record world {
-      host = host_awaiting world.host (Some Kind.Dump);
-      down = with_bytes world.down (command_spelling CommandContent.Dump);
-    })
+    → FaultyStep (sends CommandContent.Dump) world Outcome.Done
+    (after_writing world (host_awaiting world.host (Some Kind.Dump)) (command_spelling CommandContent.Dump))
 dump_done world few room =
     let free = fits world.down (command_spelling CommandContent.Dump) room in
     record {
@@ -116,10 +112,8 @@ clock_done world room =
     }
 
 restart_done : (world : WorldView) → HasRoom world.down restart_bytes
-    → FaultyStep FaultyContent.Restart world Outcome.Done (record world {
-      host = host_awaiting (without_awaited world.host) (Some Kind.Dump);
-      down = with_bytes world.down restart_bytes;
-    })
+    → FaultyStep FaultyContent.Restart world Outcome.Done
+    (after_writing world (host_awaiting (without_awaited world.host) (Some Kind.Dump)) restart_bytes)
 restart_done world room =
     let free = fits world.down restart_bytes room in record { answers = rw free refl; leaves = refl }
 
@@ -136,36 +130,20 @@ reading_done UpdateMode.ClockChanges world room = (_, clock_done world room, ref
 -- there is room for the first bytes, for the next and for the last
 room_first : (line : LineContents) (first next last : List ℕ) → HasRoom line (first ++ next ++ last)
     → HasRoom line first
-room_first line first next last room =
-    omega (arith, room, length-append (first ++ next) last, length-append first next)
+room_first line first next last room = omega (arith, length-append {A = ℕ})
 
 room_next : (line : LineContents) (first next last : List ℕ) → HasRoom line (first ++ next ++ last)
     → HasRoom (with_bytes line first) next
-room_next line first next last room =
-    omega (
-      arith,
-      room,
-      length-append (first ++ next) last,
-      length-append first next,
-      length-append line.bytes first,
-    )
+room_next line first next last room = omega (arith, length-append {A = ℕ})
 
 room_last : (line : LineContents) (first next last : List ℕ) → HasRoom line (first ++ next ++ last)
     → HasRoom (with_bytes (with_bytes line first) next) last
-room_last line first next last room =
-    omega (
-      arith,
-      room,
-      length-append (first ++ next) last,
-      length-append first next,
-      length-append (line.bytes ++ first) next,
-      length-append line.bytes first,
-    )
+room_last line first next last room = omega (arith, length-append {A = ℕ})
 
 -- the line with all of them, one after the other
 in_a_row : (world : WorldView) (host : HostView) (first next last : List ℕ)
     → record world { host = host; down = with_bytes (with_bytes (with_bytes world.down first) next) last }
-    ≡ record world { host = host; down = with_bytes world.down (first ++ next ++ last) }
+    ≡ after_writing world host (first ++ next ++ last)
 in_a_row world host first next last =
     ap (λ (bytes : List ℕ). record world { host = host; down = record world.down { bytes = bytes } })
     (ap (λ (bytes : List ℕ). bytes ++ last) (append_assoc world.down.bytes first next)
@@ -173,11 +151,7 @@ in_a_row world host first next last =
 
 -- what an asking leaves of a world with room for it
 abbrev after_acts : UpdateMode → Asking → WorldView → WorldView
-after_acts mode what world =
-    record world {
-      host = host_after_asking what world.host;
-      down = with_bytes world.down (asking_bytes mode what);
-    }
+after_acts mode what world = after_writing world (host_after_asking what world.host) (asking_bytes mode what)
 
 -- two acts, and the request of the clock
 acts_and_reading : (mode : UpdateMode) (one two : FaultyContent) (first next : List ℕ)
@@ -186,12 +160,12 @@ acts_and_reading : (mode : UpdateMode) (one two : FaultyContent) (first next : L
     → third ≡ record world { host = host; down = with_bytes (with_bytes world.down first) next }
     → HasRoom world.down (first ++ next ++ clock_request mode)
     → RunsDone (one ∷ two ∷ reading_acts mode) world
-    (record world { host = host; down = with_bytes world.down (first ++ next ++ clock_request mode) })
+    (after_writing world host (first ++ next ++ clock_request mode))
 acts_and_reading mode one two first next world second third host step later is room =
     let read : RunsDone (reading_acts mode) third (record third { down = with_bytes third.down (clock_request mode) })
     = reading_done mode third (rw is (room_last world.down first next (clock_request mode) room)) in
     let ends : record third { down = with_bytes third.down (clock_request mode) }
-    ≡ record world { host = host; down = with_bytes world.down (first ++ next ++ clock_request mode) }
+    ≡ after_writing world host (first ++ next ++ clock_request mode)
     = rw is (in_a_row world host first next (clock_request mode)) in
     let P : WorldView → Type 0 = λ w. RunsDone (reading_acts mode) third w in
     (second, step, (third, later, subst P ends read))
@@ -215,7 +189,7 @@ acts_done mode Asking.Anew world few room =
     let next = command_spelling (mode_command mode) in
     let last = clock_request mode in
     let host : HostView = host_awaiting (without_awaited world.host) (Some Kind.Dump) in
-    let between : WorldView = record world { host = host; down = with_bytes world.down restart_bytes } in
+    let between : WorldView = after_writing world host restart_bytes in
     acts_and_reading mode FaultyContent.Restart (sends (mode_command mode)) restart_bytes next world between _ host
     (restart_done world (room_first world.down restart_bytes next last room))
     (mode_done mode between (room_next world.down restart_bytes next last room)) refl room
@@ -229,7 +203,7 @@ pub asking_is_acts : (follower after : FollowerView) (now written : ℕ) (old ne
     → Asks (asking_of follower now) now follower after old new (Ok written) → world.host ≡ follower.host
     → HasRoom world.down (asking_bytes follower.pace.mode (asking_of follower now))
     → RunsDone (asking_acts follower.pace.mode (asking_of follower now)) world
-    (record world { host = after.host; down = with_bytes world.down (take written new) })
+    (after_writing world after.host (take written new))
 asking_is_acts follower after now written old new world asked same room =
     let mode = follower.pace.mode in
     let what = asking_of follower now in
@@ -239,8 +213,6 @@ asking_is_acts follower after now written old new world asked same room =
     let host : host_after_asking what world.host ≡ after.host
     = ap (host_after_asking what) same ∙ sym asked.0.1 in
     let front : bytes ≡ take written new = sym (front_of bytes old new written asked.0.0.0 asked.0.0.2) in
-    let P : HostView → Type 0 = λ h. RunsDone (asking_acts mode what) world
-    (record world { host = h; down = with_bytes world.down bytes }) in
-    let Q : List ℕ → Type 0 = λ bs. RunsDone (asking_acts mode what) world
-    (record world { host = after.host; down = with_bytes world.down bs }) in
+    let P : HostView → Type 0 = λ h. RunsDone (asking_acts mode what) world (after_writing world h bytes) in
+    let Q : List ℕ → Type 0 = λ bs. RunsDone (asking_acts mode what) world (after_writing world after.host bs) in
     subst Q front (subst P host done)

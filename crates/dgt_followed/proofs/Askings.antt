@@ -10,7 +10,7 @@ use Rattle.dgt_link.specs.declared.acts.Outcome.{Outcome}
 use Rattle.dgt_link.specs.Faults.{FaultyContent, FaultyRuns}
 use Rattle.dgt_link.specs.Healing.{IsSane}
 use Rattle.dgt_link.specs.View.{WorldView}
-use Rattle.dgt_followed.specs.Followed.{FollowedRuns, FollowedStep, FollowedView, Happening, all_done, asking_acts, follower_of}
+use Rattle.dgt_followed.specs.Followed.{AfterAskings, FollowedRuns, FollowedStep, FollowedView, Happening, all_done, asking_acts, follower_of}
 use Rattle.dgt_followed.proofs.Acts.{heartbeat_is_left}
 
 pub neither : (a b : Bool) → (a || b) ≡ false → (a ≡ false) × (b ≡ false)
@@ -95,9 +95,7 @@ module _ (Promised : WorldView → Type 0) (count : FollowedView → ℕ) where
     happenings_keep (happening ∷ later) before after (between, step, runs) hopes =
         happenings_keep later between after runs (happening_keeps happening before between step hopes)
 
-    pub promised_by_askings : (happenings : List Happening) (before after : FollowedView) → IsSane before.world
-        → before.pace.left ≤ before.pace.patience → count before ≡ 0 → FollowedRuns happenings before after
-        → after.pace.patience < count after → Promised after.world
+    pub promised_by_askings : AfterAskings count Promised
     promised_by_askings happenings before after sane left none runs often =
         let begun : Hopes Promised count before =
         record { sane = sane; left = left; hope = inr (omega (arith, left, none)) } in

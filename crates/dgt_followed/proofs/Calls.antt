@@ -7,20 +7,17 @@ use Rattle.dgt_follow.specs.Pace.{KeepsCount, asking_bytes}
 use Rattle.dgt_follow.specs.Follower.{Asks, FollowerView, asking_of, follower_after}
 use Rattle.dgt_link.specs.declared.acts.Outcome.{Outcome}
 use Rattle.dgt_link.specs.Act.{ActContent}
-use Rattle.dgt_link.specs.Faults.{FaultyContent}
+use Rattle.dgt_link.specs.Faults.{FaultyContent, sends}
 use Rattle.dgt_link.specs.Step.{moves_nothing}
-use Rattle.dgt_link.specs.View.{LineContents, with_bytes, without_first}
-use Rattle.dgt_followed.specs.Followed.{FollowedStep, FollowedView, Happening, HasRoom, clock_count_after, clock_count_after_asking, count_after, count_after_asking, follower_of, sends}
+use Rattle.dgt_link.specs.View.{LineContents, without_first}
+use Rattle.dgt_followed.specs.Followed.{FollowedStep, FollowedView, Happening, HasRoom, after_writing, clock_count_after, clock_count_after_asking, count_after, count_after_asking, follower_of}
 use Rattle.dgt_followed.proofs.Acts.{asking_is_acts, fits, front_of}
 
 pub ask_happens : (before : FollowedView) (after : FollowerView) (now written : ℕ) (old new : List ℕ)
     → Asks (asking_of (follower_of before) now) now (follower_of before) after old new (Ok written)
     → HasRoom before.world.down (asking_bytes before.pace.mode (asking_of (follower_of before) now))
     → FollowedStep (Happening.Ask now) before (record {
-      world = record before.world {
-        host = after.host;
-        down = with_bytes before.world.down (take written new);
-      };
+      world = after_writing before.world after.host (take written new);
       pace = after.pace;
       since = count_after_asking (asking_of (follower_of before) now) before.since;
       clock_since = clock_count_after_asking before.pace.mode (asking_of (follower_of before) now) before.clock_since;
@@ -68,10 +65,7 @@ pub send_happens : (before : FollowedView) (command : CommandContent) (after : H
     new (Ok written)
     → SpellsCommand command (command_spelling command) → HasRoom before.world.down (command_spelling command)
     → FollowedStep (Happening.Other (sends command)) before (record {
-      world = record before.world {
-        host = after;
-        down = with_bytes before.world.down (take written new);
-      };
+      world = after_writing before.world after (take written new);
       pace = before.pace;
       since = count_after (sends command) before.since;
       clock_since = clock_count_after (sends command) before.clock_since;

@@ -1,5 +1,5 @@
 -- Askings after the last fault heal the clock, in the modes that report it: the patience and one more.
-use Rattle.std.proofs.Common.{◌≡◌, inl, inr, ◌+◌, ◌<◌, ◌≤◌, false, Some, refl, ℕ, List, [], ◌∷◌, arith}
+use Rattle.std.proofs.Common.{◌≡◌, inl, inr, ◌+◌, false, Some, refl, ℕ, List, [], ◌∷◌, arith}
 use Rattle.std.specs.List.{AllByRecursion}
 use Rattle.std.specs.Prelude.{IsTrue}
 use Rattle.dgt_command.specs.Content.{CommandContent}
@@ -11,10 +11,10 @@ use Rattle.dgt_follow.specs.Pace.{pace_after_asking}
 use Rattle.dgt_follow.specs.Follower.{asking_of}
 use Rattle.dgt_link.specs.declared.acts.Outcome.{Outcome}
 use Rattle.dgt_link.specs.Clocks.{IsClockFollowing, IsClockPromisedWorld, stops_clock}
-use Rattle.dgt_link.specs.Faults.{FaultyContent, FaultyRuns, FaultyStep, is_fault}
+use Rattle.dgt_link.specs.Faults.{FaultyContent, FaultyRuns, FaultyStep, is_fault, sends}
 use Rattle.dgt_link.specs.Healing.{IsInStep, IsInStepBy, IsSane}
 use Rattle.dgt_link.specs.View.{WorldView}
-use Rattle.dgt_followed.specs.Followed.{FollowedRuns, FollowedStep, FollowedView, Happening, RunsDone, asking_acts, clock_count_after_asking, follower_of, sends, unsettles_clock}
+use Rattle.dgt_followed.specs.Followed.{AfterAskings, FollowedStep, FollowedView, Happening, RunsDone, asking_acts, clock_count_after_asking, follower_of, unsettles_clock}
 use Rattle.dgt_followed.proofs.Askings.{Hope, Hopes, heartbeat_hope, neither, other_hope, promised_by_askings}
 
 abbrev count : FollowedView → ℕ
@@ -98,7 +98,5 @@ module _
       (λ e promised. let both = neither (is_fault act) (stops_clock act) e in
       kept act before.world after.world answer both.0 both.1 promised step) hopes
 
-  pub askings_promise_clock : (happenings : List Happening) (before after : FollowedView) → IsSane before.world
-      → before.pace.left ≤ before.pace.patience → before.clock_since ≡ 0 → FollowedRuns happenings before after
-      → after.pace.patience < after.clock_since → IsClockPromisedWorld after.world
+  pub askings_promise_clock : AfterAskings count IsClockPromisedWorld
   askings_promise_clock = promised_by_askings IsClockPromisedWorld count stay_sane hope_after

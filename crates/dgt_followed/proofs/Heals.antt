@@ -1,14 +1,14 @@
 -- Askings after the last fault heal the picture: the patience and one more.
-use Rattle.std.proofs.Common.{◌≡◌, inl, ◌<◌, ◌≤◌, true, false, refl, ℕ, List, [], ◌∷◌}
+use Rattle.std.proofs.Common.{◌≡◌, inl, true, false, refl, ℕ, List, [], ◌∷◌}
 use Rattle.dgt_follow.specs.declared.asking.Asking.{Asking}
 use Rattle.dgt_follow.specs.declared.asking.UpdateMode.{UpdateMode}
 use Rattle.dgt_follow.specs.Pace.{mode_command, pace_after_asking}
 use Rattle.dgt_follow.specs.Follower.{asking_of}
 use Rattle.dgt_link.specs.declared.acts.Outcome.{Outcome}
-use Rattle.dgt_link.specs.Faults.{AreCalm, FaultyContent, FaultyRuns, FaultyStep, begins_anew, is_fault, stops}
+use Rattle.dgt_link.specs.Faults.{AreCalm, FaultyContent, FaultyRuns, FaultyStep, begins_anew, is_fault, sends, stops}
 use Rattle.dgt_link.specs.Healing.{IsPromisedWorld, IsSane}
 use Rattle.dgt_link.specs.View.{WorldView}
-use Rattle.dgt_followed.specs.Followed.{FollowedRuns, FollowedStep, FollowedView, Happening, RunsDone, asking_acts, count_after_asking, follower_of, reading_acts, sends, unsettles}
+use Rattle.dgt_followed.specs.Followed.{AfterAskings, FollowedStep, FollowedView, Happening, RunsDone, asking_acts, count_after_asking, follower_of, reading_acts, unsettles}
 use Rattle.dgt_followed.proofs.Askings.{Hope, Hopes, heartbeat_hope, neither, other_hope, promised_by_askings}
 
 abbrev count : FollowedView → ℕ
@@ -69,7 +69,5 @@ module _
       (λ e promised. let both = neither (is_fault act) (stops act) e in
       kept act before.world after.world answer both.0 both.1 hopes.sane promised step) hopes
 
-  pub askings_promise : (happenings : List Happening) (before after : FollowedView) → IsSane before.world
-      → before.pace.left ≤ before.pace.patience → before.since ≡ 0 → FollowedRuns happenings before after
-      → after.pace.patience < after.since → IsPromisedWorld after.world
+  pub askings_promise : AfterAskings count IsPromisedWorld
   askings_promise = promised_by_askings IsPromisedWorld count stay_sane hope_after

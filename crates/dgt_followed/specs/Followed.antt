@@ -1,21 +1,18 @@
 -- A board and a follower on lines that may fail: which acts an asking is, and what happens to both.
-use Rattle.std.specs.Prelude.{◌≡◌, ℕ, ◌+◌, ◌≤◌, List, [], ◌∷◌, length, map, Bool, ◌||◌, if◌then◌else◌}
+use Rattle.std.specs.Prelude.{◌≡◌, ℕ, ◌+◌, ◌<◌, ◌≤◌, List, [], ◌∷◌, length, map, Bool, ◌||◌, if◌then◌else◌}
 use Rattle.dgt_command.specs.Content.{CommandContent}
+use Rattle.dgt_host.specs.Host.{HostView}
 use Rattle.dgt_follow.specs.declared.asking.Asking.{Asking}
 use Rattle.dgt_follow.specs.declared.asking.UpdateMode.{UpdateMode}
 use Rattle.dgt_follow.specs.Pace.{PaceView, mode_command, pace_after_asking}
 use Rattle.dgt_follow.specs.Follower.{FollowerView, asking_of, following}
 use Rattle.dgt_link.specs.declared.acts.Outcome.{Outcome}
-use Rattle.dgt_link.specs.Act.{ActContent}
 use Rattle.dgt_link.specs.Clocks.{stops_clock}
-use Rattle.dgt_link.specs.Faults.{FaultyContent, FaultyRuns, FaultyStep, is_fault, stops}
-use Rattle.dgt_link.specs.View.{LineContents, WorldView}
+use Rattle.dgt_link.specs.Faults.{FaultyContent, FaultyRuns, FaultyStep, is_fault, sends, stops}
+use Rattle.dgt_link.specs.Healing.{IsSane}
+use Rattle.dgt_link.specs.View.{LineContents, WorldView, with_bytes}
 
 -- ---- an asking
-
--- the act of a host that sends a command
-abbrev pub sends : CommandContent → FaultyContent
-sends command = FaultyContent.Plain (ActContent.Host command)
 
 -- the acts that request a reading of the clock, in the modes that report it
 abbrev pub reading_acts : UpdateMode → List FaultyContent
@@ -40,6 +37,10 @@ RunsDone acts world after = FaultyRuns acts world (all_done acts) after
 -- the line has room for this number of bytes more
 abbrev pub HasRoom : LineContents → List ℕ → Type 0
 HasRoom line bytes = length line.bytes + length bytes ≤ line.capacity
+
+-- the host has become this one and has written these bytes into its line
+abbrev pub after_writing : WorldView → HostView → List ℕ → WorldView
+after_writing world host bytes = record world { host = host; down = with_bytes world.down bytes }
 
 -- ---- what happens
 
@@ -111,3 +112,11 @@ FollowedRuns [] before after = after ≡ before
 FollowedRuns (happening ∷ later) before after =
     (between : FollowedView) × FollowedStep happening before between
     × FollowedRuns later between after
+
+-- what holds of the world after any happenings by which this count rises from zero above the
+-- patience, if the world was sane
+abbrev pub AfterAskings : (FollowedView → ℕ) → (WorldView → Type 0) → Type 0
+AfterAskings count Holds =
+    (happenings : List Happening) (before after : FollowedView) → IsSane before.world
+    → before.pace.left ≤ before.pace.patience → count before ≡ 0
+    → FollowedRuns happenings before after → after.pace.patience < count after → Holds after.world

@@ -13,18 +13,18 @@
 //! dgt_follow has an example of a program that asks.
 #![tactic(auto)]
 
-ghost use Rattle.std.specs.Prelude.{◌≡◌, ◌<◌, ◌≤◌, ℕ, List, Some, length, take};
+ghost use Rattle.std.specs.Prelude.{◌≡◌, ◌<◌, ℕ, List, Some, length, take};
 ghost use Rattle.dgt_command.specs.Content.{CommandContent, kind_of_command};
 ghost use Rattle.dgt_command.specs.Spelling.{SpellsCommand, command_spelling};
 ghost use Rattle.dgt_host.specs.Host.{HostView, Sends};
 ghost use Rattle.dgt_follow.specs.Pace.{asking_bytes};
 ghost use Rattle.dgt_follow.specs.Follower.{Asks, FollowerView, asking_of, follower_after};
-ghost use Rattle.dgt_followed.specs.Followed.{FollowedRuns, FollowedStep, FollowedView, Happening, HasRoom, RunsDone, asking_acts, clock_count_after, clock_count_after_asking, count_after, count_after_asking, follower_of, sends};
+ghost use Rattle.dgt_followed.specs.Followed.{AfterAskings, FollowedStep, FollowedView, Happening, HasRoom, RunsDone, after_writing, asking_acts, clock_count_after, clock_count_after_asking, count_after, count_after_asking, follower_of};
 ghost use Rattle.dgt_link.specs.Act.{ActContent};
 ghost use Rattle.dgt_link.specs.Clocks.{IsClockPromisedWorld};
-ghost use Rattle.dgt_link.specs.Faults.{FaultyContent};
-ghost use Rattle.dgt_link.specs.Healing.{IsPromisedWorld, IsSane};
-ghost use Rattle.dgt_link.specs.View.{IsQuietWorld, WorldView, with_bytes, without_first};
+ghost use Rattle.dgt_link.specs.Faults.{FaultyContent, sends};
+ghost use Rattle.dgt_link.specs.Healing.{IsPromisedWorld};
+ghost use Rattle.dgt_link.specs.View.{IsQuietWorld, WorldView, without_first};
 
 /// What a follower's `ask` writes and leaves are acts of the faulty world of its host, each of them
 /// done: `Host(mode)` and `Host(Dump)`, or `Restart` and `Host(mode)`, or none. In a mode that
@@ -35,10 +35,8 @@ pub fn asking_is_acts()
         (world : WorldView) → let what = asking_of follower now in
         Asks what now follower after old new (Ok written) → world.host ≡ follower.host →
         HasRoom world.down (asking_bytes follower.pace.mode what) →
-        RunsDone (asking_acts follower.pace.mode what) world (record world {
-          host = after.host;
-          down = with_bytes world.down (take written new);
-        }) }
+        RunsDone (asking_acts follower.pace.mode what) world
+        (after_writing world after.host (take written new)) }
 {}
 
 /// What the calls of a follower do to it, to its host's world and to the counts is a step of
@@ -50,10 +48,7 @@ pub fn calls_are_happenings()
         Asks what now (follower_of before) after old new (Ok written) →
         HasRoom before.world.down (asking_bytes before.pace.mode what) →
         FollowedStep (Happening.Ask now) before (record {
-          world = record before.world {
-            host = after.host;
-            down = with_bytes before.world.down (take written new);
-          };
+          world = after_writing before.world after.host (take written new);
           pace = after.pace;
           since = count_after_asking what before.since;
           clock_since = clock_count_after_asking before.pace.mode what before.clock_since;
@@ -78,10 +73,7 @@ pub fn calls_are_happenings()
         SpellsCommand command (command_spelling command) →
         HasRoom before.world.down (command_spelling command) →
         FollowedStep (Happening.Other (sends command)) before (record {
-          world = record before.world {
-            host = after;
-            down = with_bytes before.world.down (take written new);
-          };
+          world = after_writing before.world after (take written new);
           pace = before.pace;
           since = count_after (sends command) before.since;
           clock_since = clock_count_after (sends command) before.clock_since;
@@ -96,15 +88,9 @@ pub fn calls_are_happenings()
 /// come with no fault, no break that both sides see and no reset among them. If the world is quiet,
 /// the picture is the board's position.
 pub fn askings_heal()
-    ensures promised { (happenings : List Happening) (before after : FollowedView) →
-        IsSane before.world → before.pace.left ≤ before.pace.patience → before.since ≡ 0 →
-        FollowedRuns happenings before after → after.pace.patience < after.since →
-        IsPromisedWorld after.world }
-    ensures picture { (happenings : List Happening) (before after : FollowedView) →
-        IsSane before.world → before.pace.left ≤ before.pace.patience → before.since ≡ 0 →
-        FollowedRuns happenings before after → after.pace.patience < after.since →
-        IsQuietWorld after.world →
-        after.world.host.picture ≡ Some after.world.board.state.squares }
+    ensures promised { AfterAskings (λ followed. followed.since) IsPromisedWorld }
+    ensures picture { AfterAskings (λ followed. followed.since) (λ world.
+        IsQuietWorld world → world.host.picture ≡ Some world.board.state.squares) }
 {
     dgt_link::healing::faults_heal();
     dgt_link::healing::promised_worlds_heal();
@@ -119,15 +105,9 @@ pub fn askings_heal()
 /// An asking with `Squares` begins the count anew, and so does any other act that unsettles the
 /// clock: a fault, a break, a restart, a reset or the command `UpdateBoard`.
 pub fn clocks_heal()
-    ensures clock_promised { (happenings : List Happening) (before after : FollowedView) →
-        IsSane before.world → before.pace.left ≤ before.pace.patience → before.clock_since ≡ 0 →
-        FollowedRuns happenings before after → after.pace.patience < after.clock_since →
-        IsClockPromisedWorld after.world }
-    ensures clock { (happenings : List Happening) (before after : FollowedView) →
-        IsSane before.world → before.pace.left ≤ before.pace.patience → before.clock_since ≡ 0 →
-        FollowedRuns happenings before after → after.pace.patience < after.clock_since →
-        IsQuietWorld after.world →
-        after.world.host.clock ≡ Some after.world.board.state.clock }
+    ensures clock_promised { AfterAskings (λ followed. followed.clock_since) IsClockPromisedWorld }
+    ensures clock { AfterAskings (λ followed. followed.clock_since) (λ world.
+        IsQuietWorld world → world.host.clock ≡ Some world.board.state.clock) }
 {
     dgt_link::healing::faults_heal();
     dgt_link::healing::clocks_heal();
