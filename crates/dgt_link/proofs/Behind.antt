@@ -20,7 +20,7 @@ use Rattle.dgt_link.specs.Act.{ActContent}
 use Rattle.dgt_link.specs.declared.acts.Outcome.{Outcome}
 use Rattle.dgt_link.specs.Machine.{MachineState, Move, after_moves}
 use Rattle.dgt_link.specs.Sound.{IsSound, IsSubsequence, IsUnknownOr, coming_kinds}
-use Rattle.dgt_link.specs.Step.{Becomes, Step, with_state}
+use Rattle.dgt_link.specs.Step.{Becomes, Step}
 use Rattle.dgt_link.specs.View.{WorldView, without_first}
 use Rattle.dgt_link.specs.Healing.{AwaitsWhatComes, StandsBehind, StandsBehindAfter}
 use Rattle.dgt_link.proofs.Dividing.{divides_command}
@@ -160,13 +160,6 @@ heard_world world count =
 abbrev all_heard : WorldView → ℕ → List ℕ
 all_heard world count = world.host.unread ++ take count world.up.bytes
 
--- only the board is another
-board_behind : (garbage : List ℕ) (world : WorldView) (x : MachineState) (state board : BoardState)
-    → StandsBehind garbage world x
-    → IsSound (record x { board = board }) → state ≡ board
-    → StandsBehind garbage (with_state world state) (record x { board = board })
-board_behind garbage world x state board stands sound same = assumption
-
 -- an act that is no break leads a state after garbage by its moves
 abbrev pub ActsBehind : Type 0
 ActsBehind =
@@ -291,31 +284,18 @@ module _ (laws : Grammars) where
       (x : MachineState)
       → StandsBehind garbage world x → Becomes (ActContent.Change square piece) world after
       → StandsBehindAfter (ActContent.Change square piece) Outcome.Done world x after
-  change_behind garbage world square piece after x stands same = (
-    garbage,
-    Move.Change square piece ∷ [],
-    refl,
-    rw same
-        (board_behind garbage world x (after_change world.board.state square piece)
-        (after_change x.board square piece) stands
-        (move_sound x (Move.Change square piece) stands.sound)
-        (ap (λ (board : BoardState). after_change board square piece) stands.board)),
-    rw same (λ a. a),
-  )
+  change_behind garbage world square piece after x stands same =
+      let sound = move_sound x (Move.Change square piece) stands.sound in
+      let board = ap (λ (state : BoardState). after_change state square piece) stands.board in
+      (garbage, Move.Change square piece ∷ [], refl, rw same assumption, rw same (λ a. a))
 
   clock_behind : (garbage : List ℕ) (world : WorldView) (clock : ClockState) (after : WorldView) (x : MachineState)
       → StandsBehind garbage world x → Becomes (ActContent.ClockRead clock) world after
       → StandsBehindAfter (ActContent.ClockRead clock) Outcome.Done world x after
-  clock_behind garbage world clock after x stands same = (
-    garbage,
-    Move.HandClock clock ∷ [],
-    refl,
-    rw same
-        (board_behind garbage world x (after_hand_clock world.board.state clock) (after_hand_clock x.board clock) stands
-        (move_sound x (Move.HandClock clock) stands.sound)
-        (ap (λ (board : BoardState). after_hand_clock board clock) stands.board)),
-    rw same (λ a. a),
-  )
+  clock_behind garbage world clock after x stands same =
+      let sound = move_sound x (Move.HandClock clock) stands.sound in
+      let board = ap (λ (state : BoardState). after_hand_clock state clock) stands.board in
+      (garbage, Move.HandClock clock ∷ [], refl, rw same assumption, rw same (λ a. a))
 
   ask_behind : (garbage : List ℕ) (world : WorldView) (command : CommandContent) (after : WorldView) (x : MachineState)
       → StandsBehind garbage world x → Becomes (ActContent.Host command) world after

@@ -21,9 +21,8 @@ use Rattle.dgt_link.specs.declared.acts.Outcome.{Outcome}
 use Rattle.dgt_link.specs.declared.world.TheConstants.{MIN_DOWN, MIN_UP}
 use Rattle.dgt_link.specs.Machine.{Move, MachineState, commands_anew, after_hear, after_move, after_moves, after_take, new_state}
 use Rattle.dgt_link.specs.Readers.{Grammars}
-use Rattle.dgt_link.specs.Sound.{IsSound}
 use Rattle.dgt_link.specs.Stands.{AreSpelled, IsExactWorld, IsWorld, StandsFor, StandsAfterRun, StandsAfterStep}
-use Rattle.dgt_link.specs.Step.{Becomes, Runs, Step, with_state}
+use Rattle.dgt_link.specs.Step.{Becomes, Runs, Step}
 use Rattle.dgt_link.specs.View.{WorldView, new_world}
 use Rattle.dgt_link.proofs.Asking.{break_moves, run_is_other, step_is_other}
 use Rattle.dgt_link.proofs.Dividing.{anew_divides, divides_command}
@@ -144,35 +143,21 @@ spelled_more bytes messages message spells spelled =
           (λ (last : List ℕ). flat_map spelling messages ++ last) (append-nil (spelling message)));
     }
 
--- only the board is another
-board_stands : (world : WorldView) (x : MachineState) (state board : BoardState) → StandsFor world x
-    → IsSound (record x { board = board }) → state ≡ board
-    → StandsFor (with_state world state) (record x { board = board })
-board_stands world x state board stands sound same = assumption
-
 change_reaches : (world : WorldView) (square : ℕ) (piece : Piece) (after : WorldView) (x : MachineState)
     → StandsFor world x → Becomes (ActContent.Change square piece) world after
     → StandsAfterStep (ActContent.Change square piece) Outcome.Done x after
-change_reaches world square piece after x stands same = (
-  Move.Change square piece ∷ [],
-  refl,
-  rw same
-      (board_stands world x (after_change world.board.state square piece) (after_change x.board square piece) stands
-      (move_sound x (Move.Change square piece) stands.sound)
-      (ap (λ (board : BoardState). after_change board square piece) stands.board)),
-)
+change_reaches world square piece after x stands same =
+    let sound = move_sound x (Move.Change square piece) stands.sound in
+    let board = ap (λ (state : BoardState). after_change state square piece) stands.board in
+    (Move.Change square piece ∷ [], refl, rw same assumption)
 
 clock_reaches : (world : WorldView) (clock : ClockState) (after : WorldView) (x : MachineState) → StandsFor world x
     → Becomes (ActContent.ClockRead clock) world after
     → StandsAfterStep (ActContent.ClockRead clock) Outcome.Done x after
-clock_reaches world clock after x stands same = (
-  Move.HandClock clock ∷ [],
-  refl,
-  rw same
-      (board_stands world x (after_hand_clock world.board.state clock) (after_hand_clock x.board clock) stands
-      (move_sound x (Move.HandClock clock) stands.sound)
-      (ap (λ (board : BoardState). after_hand_clock board clock) stands.board)),
-)
+clock_reaches world clock after x stands same =
+    let sound = move_sound x (Move.HandClock clock) stands.sound in
+    let board = ap (λ (state : BoardState). after_hand_clock state clock) stands.board in
+    (Move.HandClock clock ∷ [], refl, rw same assumption)
 
 module _ (laws : Grammars) where
   ask_reaches : (world : WorldView) (command : CommandContent) (after : WorldView) (x : MachineState)
