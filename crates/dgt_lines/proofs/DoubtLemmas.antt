@@ -2,31 +2,26 @@
 use Rattle.std.proofs.Common.{◌≡◌, ◌⊎◌, ℕ, List, [], ◌∷◌, ◌++◌, Option, Some, None, refl, sym, ◌∙◌, ap, subst, inl, inr, append-nil, map}
 use Rattle.std.proofs.lemmas.List.{map-append}
 use Rattle.std.specs.List.{AllByRecursion, flat_map}
-use Rattle.std.specs.Prelude.{bytes_eq, if◌then◌else◌, option_map, ⊤, Bool, true, false}
+use Rattle.std.specs.Prelude.{option_map, ⊤}
 use Rattle.dgt_values.specs.declared.pieces.Piece.{Piece}
 use Rattle.dgt_message.specs.Content.{Content}
-use Rattle.dgt_message.specs.Content.Content.{dump, field, times, no_clock, ack, serial, version, carried}
-use Rattle.dgt_decode.specs.Grammar.{Event, Message, Refused, Cut, BadLength, Stray, Placed, at_place, events}
+use Rattle.dgt_message.specs.Content.Content.{dump, field, times, no_clock}
+use Rattle.dgt_decode.specs.Grammar.{Event, Message, Placed, at_place, events}
 use Rattle.dgt_lines.specs.declared.doubts.Doubt.{Doubt}
-use Rattle.dgt_lines.specs.declared.doubts.Doubt.TheVariants.{Ignored, Clear, Raised}
+use Rattle.dgt_lines.specs.declared.doubts.Doubt.TheVariants.{Ignored, Clear}
 use Rattle.dgt_lines.specs.declared.doubts.PictureState.{PictureState}
-use Rattle.dgt_lines.specs.declared.clocks.ShownClock.{ShownClock}
-use Rattle.dgt_lines.specs.declared.clocks.ShownClock.TheVariants.{Hidden, Unknown, Known}
-use Rattle.dgt_host.specs.Host.{picture_after}
+use Rattle.dgt_lines.specs.declared.clocks.ShownClock.TheVariants.{Hidden}
 use Rattle.dgt_lines.specs.Pictures.{PlacedPicture, picture_after_event, picture_after_events, picture_line, picture_set, pictures}
-use Rattle.dgt_lines.specs.Reports.{Report, Shows, ShowsClock, Doubts, DoubtsKeepThePicture, DoubtsLeavePictures, FirstFaultsAreReported, IgnoredFaultsAreSilent, IsFault, IsMessage, IsSure, clock_reports, clock_shown_after, doubt_after, doubt_after_fault, doubt_cleared, doubt_raised, doubting, fault_reports, message_reports, new_state, pictures_shown, report_line, reports, reports_at, state_after_event, state_after_events}
+use Rattle.dgt_lines.specs.Reports.{Report, Shows, Doubts, DoubtsKeepThePicture, DoubtsLeavePictures, FirstFaultsAreReported, IgnoredFaultsAreSilent, IsFault, IsMessage, IsSure, clock_reports, doubt_after, doubt_after_fault, doubt_cleared, doubt_raised, doubting, fault_reports, message_reports, new_state, pictures_shown, report_line, reports, reports_at, shown_after, state_after_event, state_after_events}
 use Rattle.dgt_lines.proofs.PictureLemmas.{picture_after-append}
-use Rattle.dgt_lines.proofs.ReportLemmas.{reports-append, state_after-append}
+use Rattle.dgt_lines.proofs.ReportLemmas.{of_clock, of_raised, reports-append, state_after-append}
 
 -- ---- the picture
 
 one_picture : (before : PictureState) (event : Event)
     → (state_after_event before event).picture ≡ picture_after_event before.picture event
 one_picture before (Message said) = refl
-one_picture before (Refused code fault) = refl
-one_picture before (Cut have) = refl
-one_picture before BadLength = refl
-one_picture before (Stray byte) = refl
+one_picture before _ = refl
 
 pub picture_kept : DoubtsKeepThePicture
 picture_kept before [] = refl
@@ -39,51 +34,21 @@ picture_kept before (x ∷ xs) =
 shown-append : (xs ys : List Report) → pictures_shown (xs ++ ys) ≡ pictures_shown xs ++ pictures_shown ys
 shown-append [] ys = refl
 shown-append (Shows x ∷ xs) ys = ap (λ l. x ∷ l) (shown-append xs ys)
-shown-append (Doubts place ∷ xs) ys = shown-append xs ys
-shown-append (ShowsClock place text ∷ xs) ys = shown-append xs ys
+shown-append (_ ∷ xs) ys = shown-append xs ys
 
 shown_all : (xs : List PlacedPicture) → pictures_shown (map Shows xs) ≡ xs
 shown_all [] = refl
 shown_all (x ∷ xs) = ap (λ l. x ∷ l) (shown_all xs)
 
-doubt_shows_none : (place : ℕ) (picture : Option (List Piece)) (doubt : Doubt)
-    → pictures_shown (doubt_raised place picture doubt) ≡ []
-doubt_shows_none place None doubt = refl
-doubt_shows_none place (Some pieces) Ignored = refl
-doubt_shows_none place (Some pieces) Clear = refl
-doubt_shows_none place (Some pieces) Raised = refl
-
-other_shows_none : (place : ℕ) (text : List ℕ) (same : Bool)
-    → pictures_shown (if same then [] else ShowsClock place text ∷ []) ≡ []
-other_shows_none place text true = refl
-other_shows_none place text false = refl
-
-clock_shows_none : (place : ℕ) (text : List ℕ) (clock : ShownClock)
-    → pictures_shown (clock_reports place text clock) ≡ []
-clock_shows_none place text Hidden = refl
-clock_shows_none place text Unknown = refl
-clock_shows_none place text (Known last) = other_shows_none place text (bytes_eq last text)
-
-message_shows : (place : ℕ) (said : Content) (before : PictureState)
-    → pictures_shown (message_reports place said before) ≡ picture_set place (Message said)
-    (picture_after before.picture said)
-message_shows place (dump pieces) before = shown_all _
-message_shows place (field square piece) before = shown_all _
-message_shows place (times readings) before = clock_shows_none place _ before.clock
-message_shows place (no_clock absence) before = clock_shows_none place _ before.clock
-message_shows place (ack answer) before = refl
-message_shows place (serial digits) before = refl
-message_shows place (version main sub) before = refl
-message_shows place (carried code body) before = refl
-
 one_shown : (place : ℕ) (event : Event) (before : PictureState)
     → pictures_shown (reports_at place event before) ≡ picture_set place event
     (picture_after_event before.picture event)
-one_shown place (Message said) before = message_shows place said before
-one_shown place (Refused code fault) before = doubt_shows_none place before.picture before.doubt
-one_shown place (Cut have) before = doubt_shows_none place before.picture before.doubt
-one_shown place BadLength before = doubt_shows_none place before.picture before.doubt
-one_shown place (Stray byte) before = doubt_shows_none place before.picture before.doubt
+one_shown place (Message (field square piece)) before = shown_all _
+one_shown place (Message (times readings)) before = of_clock (λ l. pictures_shown l ≡ []) place _ before.clock refl refl
+one_shown place (Message (no_clock absence)) before =
+    of_clock (λ l. pictures_shown l ≡ []) place _ before.clock refl refl
+one_shown place (Message _) before = refl
+one_shown place _ before = of_raised (λ l. pictures_shown l ≡ []) place before.picture before.doubt refl refl
 
 shown_are_pictures : (before : PictureState) (xs : List Placed)
     → pictures_shown (reports before xs) ≡ pictures before.picture xs
@@ -103,13 +68,7 @@ doubts_leave_pictures doubt bytes = shown_are_pictures (new_state doubt) (events
 doubt_or_cleared : (P : Doubt → Type 0) (doubt : Doubt) (said : Content) → P doubt → P (doubt_cleared doubt)
     → P (doubt_after doubt said)
 doubt_or_cleared P doubt (dump pieces) p q = q
-doubt_or_cleared P doubt (field square piece) p q = p
-doubt_or_cleared P doubt (times readings) p q = p
-doubt_or_cleared P doubt (no_clock absence) p q = p
-doubt_or_cleared P doubt (ack answer) p q = p
-doubt_or_cleared P doubt (serial digits) p q = p
-doubt_or_cleared P doubt (version main sub) p q = p
-doubt_or_cleared P doubt (carried code body) p q = p
+doubt_or_cleared P doubt _ p q = p
 
 -- ---- if the clock is not shown
 
@@ -117,23 +76,11 @@ doubt_or_cleared P doubt (carried code body) p q = p
 abbrev sets : ℕ → Event → PictureState → List Report
 sets place event before = map Shows (picture_set place event (picture_after_event before.picture event))
 
-hidden_said : (said : Content) → clock_shown_after Hidden said ≡ Hidden
-hidden_said (dump pieces) = refl
-hidden_said (field square piece) = refl
-hidden_said (times readings) = refl
-hidden_said (no_clock absence) = refl
-hidden_said (ack answer) = refl
-hidden_said (serial digits) = refl
-hidden_said (version main sub) = refl
-hidden_said (carried code body) = refl
-
 still_hidden : (before : PictureState) (event : Event) → before.clock ≡ Hidden
     → (state_after_event before event).clock ≡ Hidden
-still_hidden before (Message said) h = ap (λ c. clock_shown_after c said) h ∙ hidden_said said
-still_hidden before (Refused code fault) h = h
-still_hidden before (Cut have) h = h
-still_hidden before BadLength h = h
-still_hidden before (Stray byte) h = h
+still_hidden before (Message (times readings)) h = ap (shown_after _) h
+still_hidden before (Message (no_clock absence)) h = ap (shown_after _) h
+still_hidden before _ h = h
 
 pub always_hidden : (before : PictureState) (xs : List Placed) → before.clock ≡ Hidden
     → (state_after_events before xs).clock ≡ Hidden
@@ -142,14 +89,9 @@ always_hidden before (x ∷ xs) h = always_hidden (state_after_event before x.ev
 
 hidden_message : (place : ℕ) (said : Content) (before : PictureState) → before.clock ≡ Hidden
     → message_reports place said before ≡ sets place (Message said) before
-hidden_message place (dump pieces) before h = refl
-hidden_message place (field square piece) before h = refl
 hidden_message place (times readings) before h = ap (clock_reports place _) h
 hidden_message place (no_clock absence) before h = ap (clock_reports place _) h
-hidden_message place (ack answer) before h = refl
-hidden_message place (serial digits) before h = refl
-hidden_message place (version main sub) before h = refl
-hidden_message place (carried code body) before h = refl
+hidden_message place _ before h = refl
 
 -- ---- if faults raise no doubt
 
@@ -168,10 +110,7 @@ module _ (before : PictureState) (ignored : before.doubt ≡ Ignored) where
   still_ignored : (event : Event) → (state_after_event before event).doubt ≡ Ignored
   still_ignored (Message said) =
       ap (λ d. doubt_after d said) ignored ∙ doubt_or_cleared (λ d. d ≡ Ignored) Ignored said refl refl
-  still_ignored (Refused code fault) = fault_ignored
-  still_ignored (Cut have) = fault_ignored
-  still_ignored BadLength = fault_ignored
-  still_ignored (Stray byte) = fault_ignored
+  still_ignored _ = fault_ignored
 
   fault_silent : (place : ℕ) → fault_reports place before ≡ []
   fault_silent place = ap (doubt_raised place before.picture) ignored ∙ silent_fault place before.picture
@@ -179,10 +118,7 @@ module _ (before : PictureState) (ignored : before.doubt ≡ Ignored) where
   one_ignored : (place : ℕ) (event : Event) → before.clock ≡ Hidden
       → reports_at place event before ≡ sets place event before
   one_ignored place (Message said) h = hidden_message place said before h
-  one_ignored place (Refused code fault) h = fault_silent place
-  one_ignored place (Cut have) h = fault_silent place
-  one_ignored place BadLength h = fault_silent place
-  one_ignored place (Stray byte) h = fault_silent place
+  one_ignored place _ h = fault_silent place
 
 all_ignored : (before : PictureState) (xs : List Placed) → before.doubt ≡ Ignored → before.clock ≡ Hidden
     → reports before xs ≡ map Shows (pictures before.picture xs)
@@ -208,75 +144,53 @@ ignored_faults_are_silent bytes =
 -- ---- a state in which the next fault is reported
 
 abbrev Settled : Option (List Piece) → Doubt → Type 0
-Settled None _ = ⊥
-Settled (Some _) Ignored = ⊥
 Settled (Some _) Clear = ⊤
-Settled (Some _) Raised = ⊥
+Settled _ _ = ⊥
 
 abbrev IsSettled : PictureState → Type 0
 IsSettled state = Settled state.picture state.doubt
 
 settled_fault : (place : ℕ) (picture : Option (List Piece)) (doubt : Doubt) → Settled picture doubt
     → doubt_raised place picture doubt ≡ Doubts place ∷ []
-settled_fault place None doubt h = absurd h
-settled_fault place (Some pieces) Ignored h = absurd h
 settled_fault place (Some pieces) Clear h = refl
-settled_fault place (Some pieces) Raised h = absurd h
+settled_fault place _ _ h = absurd h
 
 unsettled_fault : (place : ℕ) (picture : Option (List Piece)) (doubt : Doubt) → (Settled picture doubt → ⊥)
     → doubt_raised place picture doubt ≡ []
-unsettled_fault place None doubt h = refl
-unsettled_fault place (Some pieces) Ignored h = refl
 unsettled_fault place (Some pieces) Clear h = absurd (h tt)
-unsettled_fault place (Some pieces) Raised h = refl
+unsettled_fault place _ _ h = refl
 
 fault_unsettles : (picture : Option (List Piece)) (doubt : Doubt)
     → Settled picture (doubt_after_fault picture doubt) → ⊥
-fault_unsettles None doubt h = h
-fault_unsettles (Some pieces) Ignored h = h
 fault_unsettles (Some pieces) Clear h = h
-fault_unsettles (Some pieces) Raised h = h
+fault_unsettles _ _ h = h
 
 -- a message but a dump leaves it so or not so
 set_settles : (f : List Piece → List Piece) (picture : Option (List Piece)) (doubt : Doubt) → Settled picture doubt
     → Settled (option_map f picture) doubt
-set_settles f None doubt h = h
-set_settles f (Some pieces) Ignored h = h
 set_settles f (Some pieces) Clear h = h
-set_settles f (Some pieces) Raised h = h
+set_settles f _ _ h = h
 
 was_settled : (f : List Piece → List Piece) (picture : Option (List Piece)) (doubt : Doubt)
     → Settled (option_map f picture) doubt → Settled picture doubt
-was_settled f None doubt h = h
-was_settled f (Some pieces) Ignored h = h
 was_settled f (Some pieces) Clear h = h
-was_settled f (Some pieces) Raised h = h
+was_settled f _ _ h = h
 
 settled_cleared : (picture : Option (List Piece)) (pieces : List Piece) (doubt : Doubt) → Settled picture doubt
     → Settled (Some pieces) (doubt_cleared doubt)
-settled_cleared None pieces doubt h = absurd h
-settled_cleared (Some old) pieces Ignored h = h
 settled_cleared (Some old) pieces Clear h = h
-settled_cleared (Some old) pieces Raised h = absurd h
+settled_cleared _ pieces _ h = absurd h
 
 message_settles : (before : PictureState) (said : Content) → IsSettled before
     → IsSettled (state_after_event before (Message said))
 message_settles before (dump pieces) h = settled_cleared before.picture pieces before.doubt h
 message_settles before (field square piece) h = set_settles _ before.picture before.doubt h
-message_settles before (times readings) h = h
-message_settles before (no_clock absence) h = h
-message_settles before (ack answer) h = h
-message_settles before (serial digits) h = h
-message_settles before (version main sub) h = h
-message_settles before (carried code body) h = h
+message_settles before _ h = h
 
 event_settles : (before : PictureState) (event : Event) → (IsFault event → ⊥) → IsSettled before
     → IsSettled (state_after_event before event)
 event_settles before (Message said) m h = message_settles before said h
-event_settles before (Refused code fault) m h = absurd (m tt)
-event_settles before (Cut have) m h = absurd (m tt)
-event_settles before BadLength m h = absurd (m tt)
-event_settles before (Stray byte) m h = absurd (m tt)
+event_settles before _ m h = absurd (m tt)
 
 messages_settle : (before : PictureState) (xs : List Placed) → AllByRecursion IsMessage xs → IsSettled before
     → IsSettled (state_after_events before xs)
@@ -288,28 +202,21 @@ messages_settle before (x ∷ xs) m h =
 
 abbrev MayRaise : Doubt → Type 0
 MayRaise Ignored = ⊥
-MayRaise Clear = ⊤
-MayRaise Raised = ⊤
+MayRaise _ = ⊤
 
 cleared_may : (doubt : Doubt) → MayRaise doubt → MayRaise (doubt_cleared doubt)
 cleared_may Ignored h = h
-cleared_may Clear h = h
-cleared_may Raised h = h
+cleared_may _ h = h
 
 fault_may : (picture : Option (List Piece)) (doubt : Doubt) → MayRaise doubt
     → MayRaise (doubt_after_fault picture doubt)
-fault_may None doubt h = h
-fault_may (Some pieces) Ignored h = h
 fault_may (Some pieces) Clear h = h
-fault_may (Some pieces) Raised h = h
+fault_may _ _ h = h
 
 event_may : (before : PictureState) (event : Event) → MayRaise before.doubt
     → MayRaise (state_after_event before event).doubt
 event_may before (Message said) h = doubt_or_cleared MayRaise before.doubt said h (cleared_may before.doubt h)
-event_may before (Refused code fault) h = fault_may before.picture before.doubt h
-event_may before (Cut have) h = fault_may before.picture before.doubt h
-event_may before BadLength h = fault_may before.picture before.doubt h
-event_may before (Stray byte) h = fault_may before.picture before.doubt h
+event_may before _ h = fault_may before.picture before.doubt h
 
 events_may : (before : PictureState) (xs : List Placed) → MayRaise before.doubt
     → MayRaise (state_after_events before xs).doubt
@@ -318,8 +225,7 @@ events_may before (x ∷ xs) h = events_may (state_after_event before x.event) x
 
 dump_settles : (pieces : List Piece) (doubt : Doubt) → MayRaise doubt → Settled (Some pieces) (doubt_cleared doubt)
 dump_settles pieces Ignored h = h
-dump_settles pieces Clear h = h
-dump_settles pieces Raised h = h
+dump_settles pieces _ h = h
 
 -- ---- it is so after a dump, and no fault since
 
@@ -346,20 +252,12 @@ module _ (before : PictureState) (place : ℕ) (xs : List Placed) (m : AllByRecu
   since_message (dump pieces) h = inr
       (record { early = []; place = place; pieces = pieces; late = xs; whole = refl; no_fault = m })
   since_message (field square piece) h = inl (was_settled _ before.picture before.doubt h, (λ f. f, m))
-  since_message (times readings) h = inl (h, (λ f. f, m))
-  since_message (no_clock absence) h = inl (h, (λ f. f, m))
-  since_message (ack answer) h = inl (h, (λ f. f, m))
-  since_message (serial digits) h = inl (h, (λ f. f, m))
-  since_message (version main sub) h = inl (h, (λ f. f, m))
-  since_message (carried code body) h = inl (h, (λ f. f, m))
+  since_message _ h = inl (h, (λ f. f, m))
 
   since_event : (event : Event) → IsSettled (state_after_event before event)
       → Since before (at_place place event ∷ xs)
   since_event (Message said) h = since_message said h
-  since_event (Refused code fault) h = absurd (fault_unsettles before.picture before.doubt h)
-  since_event (Cut have) h = absurd (fault_unsettles before.picture before.doubt h)
-  since_event BadLength h = absurd (fault_unsettles before.picture before.doubt h)
-  since_event (Stray byte) h = absurd (fault_unsettles before.picture before.doubt h)
+  since_event _ h = absurd (fault_unsettles before.picture before.doubt h)
 
 sure_later : (x : Placed) (xs : List Placed) → IsSure xs → IsSure (x ∷ xs)
 sure_later x xs s = record {
@@ -387,18 +285,12 @@ settled_sure xs h = elim (since start xs h) [ inl k ↦ absurd k.0 | inr s ↦ s
 fault_at : (place : ℕ) (event : Event) (before : PictureState) → IsFault event
     → reports_at place event before ≡ fault_reports place before
 fault_at place (Message said) before f = absurd f
-fault_at place (Refused code fault) before f = refl
-fault_at place (Cut have) before f = refl
-fault_at place BadLength before f = refl
-fault_at place (Stray byte) before f = refl
+fault_at place _ before f = refl
 
 message_at : (place : ℕ) (event : Event) (before : PictureState) → (IsFault event → ⊥) → before.clock ≡ Hidden
     → reports_at place event before ≡ sets place event before
 message_at place (Message said) before m h = hidden_message place said before h
-message_at place (Refused code fault) before m h = absurd (m tt)
-message_at place (Cut have) before m h = absurd (m tt)
-message_at place BadLength before m h = absurd (m tt)
-message_at place (Stray byte) before m h = absurd (m tt)
+message_at place _ before m h = absurd (m tt)
 
 one_more : (earlier : List Placed) (x : Placed) (told : List Report)
     → reports_at x.place x.event (state_after_events start earlier) ≡ told

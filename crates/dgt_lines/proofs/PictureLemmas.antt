@@ -4,8 +4,8 @@ use Rattle.std.proofs.lemmas.Grind.{flat_map-append}
 use Rattle.std.proofs.lemmas.List.{map-append}
 use Rattle.std.specs.List.{flat_map, last_or}
 use Rattle.dgt_values.specs.declared.pieces.Piece.{Piece}
-use Rattle.dgt_message.specs.Content.Content.{dump, field, times, no_clock, ack, serial, version, carried}
-use Rattle.dgt_decode.specs.Grammar.{Event, Message, Refused, Cut, BadLength, Stray, Placed, events, open_message}
+use Rattle.dgt_message.specs.Content.Content.{dump, field}
+use Rattle.dgt_decode.specs.Grammar.{Event, Message, Placed, events, open_message}
 use Rattle.dgt_decode.specs.Laws.{PiecesAdd}
 use Rattle.dgt_host.specs.Host.{HostView, host_after_event, host_after_events, new_host}
 use Rattle.dgt_lines.specs.Lines.{events_after}
@@ -50,7 +50,7 @@ picture_told-append pieces bytes chunk =
 
 -- ---- the last line
 
-last_or-append : {A : Type 0} (o : Option A) (xs ys : List A) → last_or o (xs ++ ys) ≡ last_or (last_or o xs) ys
+pub last_or-append : {A : Type 0} (o : Option A) (xs ys : List A) → last_or o (xs ++ ys) ≡ last_or (last_or o xs) ys
 last_or-append o [] ys = refl
 last_or-append o (x ∷ xs) ys = last_or-append (Some x) xs ys
 
@@ -63,17 +63,7 @@ set_last : (before : Option (List Piece)) (place : ℕ) (event : Event) →
     last_or before (pieces_set (picture_set place event after)) ≡ after
 set_last before place (Message (dump pieces)) = refl
 set_last None place (Message (field square piece)) = refl
-set_last (Some pieces) place (Message (field square piece)) = refl
-set_last before place (Message (times readings)) = refl
-set_last before place (Message (no_clock absence)) = refl
-set_last before place (Message (ack answer)) = refl
-set_last before place (Message (serial digits)) = refl
-set_last before place (Message (version main sub)) = refl
-set_last before place (Message (carried code body)) = refl
-set_last before place (Refused code fault) = refl
-set_last before place (Cut have) = refl
-set_last before place BadLength = refl
-set_last before place (Stray byte) = refl
+set_last before place _ = refl
 
 pictures_last : (before : Option (List Piece)) (xs : List Placed)
     → last_or before (pieces_set (pictures before xs)) ≡ picture_after_events before xs
@@ -94,10 +84,7 @@ last_line_is_picture bytes = pictures_last None (events bytes)
 host_picture_one : (host : HostView) (event : Event)
     → (host_after_event host event).picture ≡ picture_after_event host.picture event
 host_picture_one host (Message said) = refl
-host_picture_one host (Refused code fault) = refl
-host_picture_one host (Cut have) = refl
-host_picture_one host BadLength = refl
-host_picture_one host (Stray byte) = refl
+host_picture_one host _ = refl
 
 host_picture : (host : HostView) (xs : List Placed)
     → (host_after_events host xs).picture ≡ picture_after_events host.picture xs

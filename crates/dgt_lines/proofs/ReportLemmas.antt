@@ -1,16 +1,37 @@
 -- Reports of events, one event after another.
-use Rattle.std.proofs.Common.{◌≡◌, ℕ, List, [], ◌∷◌, ◌++◌, refl, sym, ◌∙◌, ap, append_assoc, length}
+use Rattle.std.proofs.Common.{◌≡◌, ℕ, List, [], ◌∷◌, ◌++◌, Option, Some, refl, sym, ◌∙◌, ap, append_assoc, length}
 use Rattle.std.proofs.lemmas.Grind.{flat_map-append}
 use Rattle.std.specs.List.{flat_map}
+use Rattle.std.specs.Prelude.{bytes_eq, if◌then◌else◌, true, false}
+use Rattle.dgt_values.specs.declared.pieces.Piece.{Piece}
 use Rattle.dgt_decode.specs.Grammar.{Event, Placed, events, open_message}
 use Rattle.dgt_decode.specs.Feeding.{event_content}
 use Rattle.dgt_decode.specs.Laws.{PiecesAdd}
 use Rattle.dgt_decode.specs.declared.event.Event as code
 use Rattle.dgt_decode.specs.declared.event.Event.TheVariants as code_events
 use Rattle.dgt_message.specs.declared.message.Message as code_message
+use Rattle.dgt_lines.specs.declared.clocks.ShownClock.{ShownClock}
+use Rattle.dgt_lines.specs.declared.clocks.ShownClock.TheVariants.{Hidden, Unknown, Known}
+use Rattle.dgt_lines.specs.declared.doubts.Doubt.{Doubt}
+use Rattle.dgt_lines.specs.declared.doubts.Doubt.TheVariants.{Clear}
 use Rattle.dgt_lines.specs.declared.doubts.PictureState.{PictureState}
 use Rattle.dgt_lines.specs.Lines.{events_after}
-use Rattle.dgt_lines.specs.Reports.{fault_reports, report_line, report_lines, reports, reports_at, state_after_event, state_after_events, state_after_fault, state_from, text_from}
+use Rattle.dgt_lines.specs.Reports.{Report, Doubts, ShowsClock, clock_reports, doubt_raised, fault_reports, report_line, report_lines, reports, reports_at, state_after_event, state_after_events, state_after_fault, state_from, text_from}
+
+-- what a fault reports is nothing or a doubt
+pub of_raised : (P : List Report → Type 0) (place : ℕ) (picture : Option (List Piece)) (doubt : Doubt) → P []
+    → P (Doubts place ∷ []) → P (doubt_raised place picture doubt)
+of_raised P place (Some pieces) Clear none one = one
+of_raised P place _ _ none one = none
+
+-- what a text of the clock reports is nothing or the text
+pub of_clock : (P : List Report → Type 0) (place : ℕ) (text : List ℕ) (clock : ShownClock) → P []
+    → P (ShowsClock place text ∷ []) → P (clock_reports place text clock)
+of_clock P place text Hidden none one = none
+of_clock P place text Unknown none one = one
+of_clock P place text (Known last) none one =
+    elim (bytes_eq last text) as (λ same. P (if same then [] else ShowsClock place text ∷ []))
+    [ true ↦ none | false ↦ one ]
 
 -- the state after more events
 pub state_after-append : (before : PictureState) (xs ys : List Placed)
@@ -55,7 +76,4 @@ pub no_message : (e : code.Event) (event : Event)
     → (state : PictureState) (place : ℕ) → (state_after_fault state ≡ state_after_event state event)
     × (fault_reports place state ≡ reports_at place event state)
 no_message (code_events.Message message) event h e = absurd (h message refl)
-no_message (code_events.Refused code fault) event h e = λ state place. rw (← e) (refl, refl)
-no_message (code_events.Cut have) event h e = λ state place. rw (← e) (refl, refl)
-no_message code_events.BadLength event h e = λ state place. rw (← e) (refl, refl)
-no_message (code_events.Stray byte) event h e = λ state place. rw (← e) (refl, refl)
+no_message _ event h e = λ state place. rw (← e) (refl, refl)

@@ -166,8 +166,7 @@ report_text_with_clock doubt bytes = report_lines (new_state_with_clock doubt) (
 abbrev pub pictures_shown : List Report → List PlacedPicture
 pictures_shown [] = []
 pictures_shown (Shows x ∷ more) = x ∷ pictures_shown more
-pictures_shown (Doubts _ ∷ more) = pictures_shown more
-pictures_shown (ShowsClock _ _ ∷ more) = pictures_shown more
+pictures_shown (_ ∷ more) = pictures_shown more
 
 -- without the doubts they are the pictures that the bytes set
 abbrev pub DoubtsLeavePictures : Type 0
@@ -223,16 +222,14 @@ pub record FirstFaultsAreReported : Type 0 where
 -- the reports but those of the clock
 abbrev pub without_clock : List Report → List Report
 without_clock [] = []
-without_clock (Shows x ∷ more) = Shows x ∷ without_clock more
-without_clock (Doubts place ∷ more) = Doubts place ∷ without_clock more
 without_clock (ShowsClock _ _ ∷ more) = without_clock more
+without_clock (report ∷ more) = report ∷ without_clock more
 
 -- the texts of the clock among the reports
 abbrev pub clocks_shown : List Report → List (List ℕ)
 clocks_shown [] = []
-clocks_shown (Shows _ ∷ more) = clocks_shown more
-clocks_shown (Doubts _ ∷ more) = clocks_shown more
 clocks_shown (ShowsClock _ text ∷ more) = text ∷ clocks_shown more
+clocks_shown (_ ∷ more) = clocks_shown more
 
 -- without the lines of the clock, they are those if the clock is not shown
 abbrev pub ClockLeavesReports : Type 0
