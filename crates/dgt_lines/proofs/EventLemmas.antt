@@ -15,7 +15,7 @@ lines-append pieces bytes chunk =
     ap (flat_map placed_line) (pieces.behind bytes chunk) ∙ flat_map-append placed_line (events bytes)
     (events_after (open_message bytes) (length bytes) chunk)
 
--- ---- a call of `advance` with a piece, of which it used n bytes, where the framer held this before
+-- ---- a call of `advance` with a piece, of which it used n bytes, if the framer held this before
 
 -- all events of these bytes
 first_events : (held piece : List ℕ) (n : ℕ) (event : Option Event) → FirstEvent held piece n event

@@ -68,7 +68,7 @@ pub clock_in_parts : (t : Times)
 unfolding clock_text
 clock_in_parts t = simp append_assoc refl
 
--- where a test holds of the first ones, it holds of all where it holds of the last ones
+-- if a test holds of the first ones, it holds of all if it holds of the last ones
 pub list_all_behind : (test : ℕ → Bool) (xs ys : List ℕ) → list_all test xs ≡ true
     → list_all test (xs ++ ys) ≡ list_all test ys
 list_all_behind test xs ys h = list_all-append test xs ys ∙ ap (λ t. t && list_all test ys) h

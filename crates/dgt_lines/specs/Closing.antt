@@ -11,12 +11,12 @@ use Rattle.dgt_lines.specs.Lines.{message_text, words_text}
 abbrev pub named_line : List ℕ → List ℕ → List ℕ
 named_line name text = words_text (name ∷ text ∷ []) ++ codes "\n"
 
--- the placement of a picture, where it is known
+-- the placement of a picture, if it is known
 abbrev pub picture_text : Option (List Piece) → List ℕ
 picture_text None = codes "unknown"
 picture_text (Some pieces) = placement_text pieces
 
--- what the message of a clock says, where the clock is known
+-- what the message of a clock says, if the clock is known
 abbrev pub clock_text : Option ClockState → List ℕ
 clock_text None = codes "unknown"
 clock_text (Some clock) = message_text (clock_message clock)

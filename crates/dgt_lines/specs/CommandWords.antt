@@ -10,14 +10,14 @@ use Rattle.dgt_lines.specs.Lines.{byte_text, bytes_text, words_text}
 
 -- ---- Characters
 
--- the digit that these segments show, where the digits from this one on have the segments of the
+-- the digit that these segments show, if the digits from this one on have the segments of the
 -- list; or else another character
 abbrev pub shown_digit : ℕ → ℕ → List ℕ → ℕ → ℕ
 shown_digit other digit [] segments = other
 shown_digit other digit (first ∷ more) segments =
     if segments == first then digit else shown_digit other (digit + 1) more segments
 
--- the character that these segments show, or a question mark where they show none
+-- the character that these segments show, or a question mark if they show none
 abbrev pub shown_character : ℕ → ℕ
 shown_character segments = shown_digit other (ascii "0") digit_segments segments
   where

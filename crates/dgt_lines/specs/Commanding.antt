@@ -5,7 +5,7 @@ use Rattle.dgt_lines.specs.Lines.{unfinished_line}
 use Rattle.dgt_lines.specs.CommandLines.{Tells}
 use Rattle.dgt_lines.specs.Monitoring.{IsInSink}
 
--- what stands in the sink for the bytes that were read, where `commands` gave this answer: they
+-- what stands in the sink for the bytes that were read, if `commands` gave this answer: they
 -- have this text, and leave this rest of a word
 pub record IsListed {A : Type 0} (r : Result A RunFault) (bytes out : List ℕ) : Type 0 where
   pub text : List ℕ

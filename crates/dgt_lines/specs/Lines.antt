@@ -114,7 +114,7 @@ events_after held offset chunk = events_behind offset (piece_events held chunk)
 abbrev pub lines_after : List ℕ → ℕ → List ℕ → List ℕ
 lines_after held offset chunk = flat_map placed_line (events_after held offset chunk)
 
--- the last line, where these bytes of a message are left unfinished at the end of this many bytes
+-- the last line, if these bytes of a message are left unfinished at the end of this many bytes
 abbrev pub unfinished_line : ℕ → List ℕ → List ℕ
 unfinished_line offset [] = []
 unfinished_line offset (byte ∷ bytes) = line offset (unfinished_text (length (byte ∷ bytes)))

@@ -8,7 +8,7 @@ use Rattle.dgt_lines.specs.Lines.{lines, monitor_text}
 abbrev pub IsFront : List ℕ → List ℕ → Type 0
 IsFront front whole = (rest : List ℕ) × (whole ≡ front ++ rest)
 
--- what stands in the sink, where an engine gave this answer: the bytes that were read have this
+-- what stands in the sink, if an engine gave this answer: the bytes that were read have this
 -- text, and it is the whole one if they end there
 abbrev pub IsInSink : {A : Type 0} → Result A RunFault → List ℕ → List ℕ → List ℕ → Type 0
 IsInSink (Ok _) text whole out = out ≡ whole
@@ -17,6 +17,6 @@ IsInSink (Err TooManyTurns) text whole out = out ≡ text
 IsInSink (Err WriteFailed) text whole out = IsFront out whole
 IsInSink (Err (BadLine _ _)) text whole out = ⊥
 
--- and for the bytes that were read, where `monitor` gave it
+-- and for the bytes that were read, if `monitor` gave it
 abbrev pub IsMonitored : {A : Type 0} → Result A RunFault → List ℕ → List ℕ → Type 0
 IsMonitored r bytes out = IsInSink r (lines bytes) (monitor_text bytes) out

@@ -40,14 +40,14 @@ abbrev pub known_at : ℕ → Option (List Piece) → List PlacedPicture
 known_at place None = []
 known_at place (Some pieces) = picture_at place pieces ∷ []
 
--- what an event at this place sets, where this is the picture after it: a dump sets the picture,
--- and a field does where it is known
+-- what an event at this place sets, if this is the picture after it: a dump sets the picture,
+-- and a field does if it is known
 abbrev pub picture_set : ℕ → Event → Option (List Piece) → List PlacedPicture
 picture_set place (Message (dump _)) after = known_at place after
 picture_set place (Message (field _ _)) after = known_at place after
 picture_set place _ after = []
 
--- the pictures that events set, where the picture is this before them
+-- the pictures that events set, if the picture is this before them
 abbrev pub pictures : Option (List Piece) → List Placed → List PlacedPicture
 pictures before [] = []
 pictures before (x ∷ more) =

@@ -47,7 +47,7 @@ pub record RunsInTurns {S T A : Type 0} (R : Source S) (W : Sink T) (source : Ch
     (sink : Change T) (limit : ℕ) (r : Result A RunFault) : Type 0 where
   -- Ok comes if nothing is left to read
   pub all_read : OnOk r (IsAtEnd (R.left source.new))
-  -- the source has failed where the answer says so, and else its mark is as before
+  -- the source has failed if the answer says so, and else its mark is as before
   pub source_failed : R.failed source.new ≡ source_mark_after r (R.failed source.old)
   -- and so it is of the sink
   pub sink_failed : W.failed sink.new ≡ sink_mark_after r (W.failed sink.old)
@@ -63,7 +63,7 @@ pub record RunsInTurns {S T A : Type 0} (R : Source S) (W : Sink T) (source : Ch
   -- there are at most `limit` reads
   pub turns : R.reads source.old + limit < 2 ^ 64
       → R.reads source.new ≤ R.reads source.old + limit
-  -- and as many where they are too many
+  -- and as many if they are too many
   pub all_turns : r ≡ Err TooManyTurns → R.reads source.old + limit < 2 ^ 64
       → R.reads source.new ≡ R.reads source.old + limit
   -- nothing is left to flush

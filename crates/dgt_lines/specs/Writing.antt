@@ -20,7 +20,7 @@ pub record Stopped {S : Type 0} (W : Sink S) (old new : S) (text : List ℕ) : T
   pub refused : W.failed new ≡ true
   pub in_time : W.failed old ≡ false → W.late new ≡ W.late old
 
--- a call that writes the text, or a prefix of it where the sink refuses
+-- a call that writes the text, or a prefix of it if the sink refuses
 abbrev pub Writes : {S A : Type 0} → Sink S → S → S → Result A RunFault → List ℕ → Type 0
 Writes W old new r text =
     MatchResult r (λ _. Wrote W old new text) (λ e. (e ≡ WriteFailed) × Stopped W old new text)
@@ -32,7 +32,7 @@ pub record Gathered {S : Type 0} (W : Sink S) (held held' : List ℕ) (old new :
   pub whole : held ++ text ≡ out ++ held'
   pub wrote : Wrote W old new out
 
--- a call that gathers the text, where these two were held before and after it; where the sink
+-- a call that gathers the text, if these two were held before and after it; if the sink
 -- refuses, it has a prefix of what was held and the text
 abbrev pub Gathers : {S A : Type 0} → Sink S → List ℕ × List ℕ → S → S → Result A RunFault → List ℕ
     → Type 0

@@ -115,7 +115,7 @@ fn characters(places: [u8; 6]) -> [u8; 6]
     ]
 }
 
-// The character that these segments show, or a question mark where they show none.
+// The character that these segments show, or a question mark if they show none.
 fn character(segments: u8) -> u8
     ensures { result ≡ shown_character segments }
 {
@@ -207,7 +207,7 @@ fn push_raw<const ROOM: usize>(text: &mut Outgoing<ROOM>, raw: RawClock<'_>)
     push_bytes(text, raw.payload().bytes());
 }
 
-// Adds the digits of bytes, or a hyphen where there are none.
+// Adds the digits of bytes, or a hyphen if there are none.
 fn push_bytes<const ROOM: usize>(text: &mut Outgoing<ROOM>, bytes: &[u8])
     requires few { length bytes.now ≤ 255 }
     requires room { length text.old + 511 ≤ ROOM }

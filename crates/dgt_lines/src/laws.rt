@@ -137,7 +137,7 @@ pub fn other_clocks_are_reported()
     ensures { OtherClocksAreReported }
 {}
 
-/// The picture that lines show is that of a host that hears the same bytes, also where this is
+/// The picture that lines show is that of a host that hears the same bytes, also if this is
 /// unknown.
 pub fn picture_is_the_hosts()
     ensures { PictureIsTheHosts }

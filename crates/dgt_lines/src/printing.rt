@@ -76,7 +76,7 @@ pub fn commands<R: Source, W: Sink>(
 /// Writes a line with the placement of the board for each message that sets its picture, of the
 /// bytes that the reader gives, in at most `limit` reads.
 ///
-/// A dump always sets the picture, and a field message does where it is known. A line is the offset
+/// A dump always sets the picture, and a field message does if it is known. A line is the offset
 /// as in [`write_event`](crate::write_event), a space, the placement and a line feed. What came in
 /// a read has its lines written and flushed before the next read. An unfinished message at the end
 /// has none.

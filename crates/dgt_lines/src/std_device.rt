@@ -6,10 +6,10 @@ ghost use Rattle.std.specs.Io.KnownBytes.{Keeps, ReadConsumes, WriteAppends};
 use crate::streams::{Failed, Sink, Source};
 use std::io::{ErrorKind, Read, Write};
 
-// How often a call is made, at most, where each time it is interrupted.
+// How often a call is made, at most, if each time it is interrupted.
 const MAX_TRIES: u32 = 1 << 20;
 
-// A read, made again where it is interrupted.
+// A read, made again if it is interrupted.
 fn read_retrying<T: Read>(reader: &mut T, buffer: &mut [u8]) -> Result<usize, Failed>
     ensures bound { IfOk result (λ n. n ≤ length buffer.new) }
     ensures bytes { ReadConsumes (T.remaining reader.old) (T.remaining reader.new) result
@@ -25,7 +25,7 @@ fn read_retrying<T: Read>(reader: &mut T, buffer: &mut [u8]) -> Result<usize, Fa
     Err(Failed)
 }
 
-// A write, made again where it is interrupted.
+// A write, made again if it is interrupted.
 fn write_retrying<T: Write>(writer: &mut T, bytes: &[u8]) -> Result<usize, Failed>
     ensures bound { IfOk result (λ n. n ≤ length bytes.now) }
     ensures bytes { WriteAppends (T.contents writer.old) (T.contents writer.new) result bytes.now }
@@ -40,7 +40,7 @@ fn write_retrying<T: Write>(writer: &mut T, bytes: &[u8]) -> Result<usize, Faile
     Err(Failed)
 }
 
-// A flush, made again where it is interrupted.
+// A flush, made again if it is interrupted.
 fn flush_retrying<T: Write>(writer: &mut T) -> Result<(), Failed>
     ensures { Keeps (T.contents writer.old) (T.contents writer.new) }
 {
