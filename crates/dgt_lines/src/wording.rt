@@ -7,7 +7,7 @@ ghost use Rattle.dgt_message.specs.Content.{clock_message, clock_seen, content, 
 ghost use Rattle.dgt_message.specs.Content.Content.{field, times, no_clock, ack, serial};
 ghost use Rattle.dgt_decode.specs.Grammar.{Cut, Refused, Stray};
 ghost use Rattle.dgt_decode.specs.Feeding.{event_content, event_found_in};
-ghost use Rattle.dgt_lines.specs.Lines.{byte_text, event_text, message_text, reading_text};
+ghost use Rattle.dgt_lines.specs.Lines.{byte_text, event_text, fault_text, message_text, reading_text};
 ghost use Rattle.dgt_lines.specs.Wording.{text_with};
 
 use crate::clocks::time_text;
@@ -17,6 +17,7 @@ use dgt_message::{BodyFault, Clock, ClockAck, Message, NoClock, Reading, Times};
 use dgt_values::{Body, Piece, SevenBit, Square};
 
 /// Adds the text of an event up to the bytes that it carries, and answers these.
+#[tactic(auto, unfolding(crate::specs::Lines::event_text))]
 pub(crate) fn push_event<'a, const ROOM: usize>(
     text: &mut Outgoing<ROOM>,
     event: &Event<'a>,
@@ -36,6 +37,7 @@ pub(crate) fn push_event<'a, const ROOM: usize>(
 }
 
 /// Adds the text of what was found, if it is no message.
+#[tactic(auto, unfolding(crate::specs::Lines::event_text))]
 pub(crate) fn push_fault<const ROOM: usize>(text: &mut Outgoing<ROOM>, fault: Found)
     requires room { length text.old + 100 ≤ ROOM }
     requires fault { fault ≢ Found.Message }
@@ -71,6 +73,7 @@ fn push_stray<const ROOM: usize>(text: &mut Outgoing<ROOM>, byte: u8)
     text.push_hex(&[byte]);
 }
 
+#[tactic(auto, unfolding(crate::specs::Lines::message_text))]
 fn push_message<'a, const ROOM: usize>(
     text: &mut Outgoing<ROOM>,
     message: &Message<'a>,
@@ -235,6 +238,15 @@ fn push_refusal<const ROOM: usize>(text: &mut Outgoing<ROOM>, code: SevenBit, fa
 {
     text.push(b"refused ");
     text.push_hex(&[code.get()]);
+    push_body_fault(text, fault);
+}
+
+// A space, and what is wrong with a body.
+fn push_body_fault<const ROOM: usize>(text: &mut Outgoing<ROOM>, fault: BodyFault)
+    requires { length text.old + 32 ≤ ROOM }
+    ensures text { text.new ≡ text.old ++ 32 ∷ fault_text fault }
+    ensures room { length text.new ≤ length text.old + 32 }
+{
     match fault {
         BodyFault::WrongSize => text.push(b" wrongsize"),
         BodyFault::BadPiece { at } => push_place(text, b" badpiece ", at),

@@ -4,20 +4,6 @@ use Rattle.dgt_lines.proofs.TextLemmas.{padded_one}
 use Rattle.dgt_lines.proofs.wording.push_message.Goals as goal
 use Rattle.dgt_lines.proofs.wording.push_message.Goals.{in-Dump, in-Field, in-Times, in-NoClock, in-Ack, in-Serial, in-Version}
 
-pub returns-in-Trademark-clause-text : goal.returns-in-Trademark-clause-text
-unfolding message_text
-returns-in-Trademark-clause-text g c = rw (c.in-Trademark.is, c.push-in-Trademark.ensures.bytes)
-    (simp append_assoc refl)
-
-pub returns-in-Battery-clause-text : goal.returns-in-Battery-clause-text
-unfolding message_text
-returns-in-Battery-clause-text g c = rw (c.in-Battery.is, c.push-in-Battery.ensures.bytes) (simp append_assoc refl)
-
-pub returns-in-LongSerial-clause-text : goal.returns-in-LongSerial-clause-text
-unfolding message_text
-returns-in-LongSerial-clause-text g c = rw (c.in-LongSerial.is, c.push-in-LongSerial.ensures.bytes)
-    (simp append_assoc refl)
-
 pub returns-in-Other-clause-text : goal.returns-in-Other-clause-text
 unfolding message_text
 returns-in-Other-clause-text g c =
