@@ -3,12 +3,12 @@ use Rattle.std.proofs.Common.{◌≡◌, ◌+◌, List, ℕ, [], ◌++◌, Optio
 use Rattle.std.specs.List.{flat_map}
 use Rattle.dgt_decode.specs.Feeding.{FirstEvent, at_place_if_any}
 use Rattle.dgt_decode.specs.Grammar.{Event, events, open_message}
-use Rattle.dgt_decode.specs.Laws.{OpenAppend}
+use Rattle.dgt_decode.specs.Laws.{OpenAppend, PiecesAdd}
 use Rattle.dgt_lines.specs.declared.faults.RunFault.{RunFault}
 use Rattle.dgt_lines.specs.Lines.{event_line, lines, lines_after, placed_line}
 use Rattle.dgt_lines.specs.Monitoring.{IsMonitored}
 use Rattle.dgt_lines.specs.Printing.{HasEventLines, HasPrintedEvents, IsPrinted}
-use Rattle.dgt_lines.proofs.EventLemmas.{events_found, held_then}
+use Rattle.dgt_lines.proofs.EventLemmas.{events_found, held_then, lines-append}
 use Rattle.dgt_lines.proofs.Printed.{stands_by}
 
 lines-none : lines [] ≡ []
@@ -16,14 +16,9 @@ unfolding events
 lines-none = refl
 
 pub heard_none : (kept : List ℕ) → kept ≡ [] → HasPrintedEvents kept [] []
-heard_none kept e = (sym lines-none, ap open_message e)
+heard_none kept e = record { said = sym lines-none; held = ap open_message e }
 
-abbrev pub LinesAppend : Type 0
-LinesAppend =
-    (bytes chunk : List ℕ) → lines (bytes ++ chunk)
-    ≡ lines bytes ++ lines_after (open_message bytes) (length bytes) chunk
-
-module _ (appends : LinesAppend) (kept bytes text : List ℕ) (h : HasPrintedEvents kept bytes text) where
+module _ {kept bytes text : List ℕ} (h : HasPrintedEvents kept bytes text) (pieces : PiecesAdd) where
   module _ (opens : OpenAppend) (piece : List ℕ) (n offset : ℕ) (counted : offset ≡ length bytes) (kept' : List ℕ)
       (held : open_message kept' ≡ open_message (open_message kept ++ take n piece)) where
     -- after a call of `advance`
@@ -31,8 +26,9 @@ module _ (appends : LinesAppend) (kept bytes text : List ℕ) (h : HasPrintedEve
         → HasPrintedEvents kept' (bytes ++ take n piece)
         (text ++ flat_map placed_line (at_place_if_any (offset + n) event))
     heard_more event found =
-        rw (h.0, ← events_found kept bytes piece n h.1 offset event found counted, ← appends bytes (take n piece))
-        (refl, held_then kept bytes piece n h.1 opens kept' held)
+        let same = events_found kept bytes piece n h.held offset event found counted in
+        rw (h.said, ← same, ← lines-append pieces bytes (take n piece))
+        (record { said = refl; held = held_then kept bytes piece n h.held opens kept' held })
 
     -- one that found an event
     pub heard_event : (event : Event) → FirstEvent (open_message kept) piece n (Some event)
@@ -44,7 +40,7 @@ module _ (appends : LinesAppend) (kept bytes text : List ℕ) (h : HasPrintedEve
       → (others : List ℕ) × (last : List ℕ) × HasEventLines (bytes ++ more) (text ++ others) last
   heard_on more =
       let others = lines_after (open_message bytes) (length bytes) more in
-      (others, _, (ap (λ l. l ++ others) h.0 ∙ sym (appends bytes more), refl))
+      (others, _, (ap (λ l. l ++ others) h.said ∙ sym (lines-append pieces bytes more), refl))
 
 pub monitored : {A : Type 0} (r : Result A RunFault) (bytes out : List ℕ) → IsPrinted HasEventLines r bytes out
     → IsMonitored r bytes out

@@ -4,7 +4,7 @@ use Rattle.std.proofs.Common.{◌≡◌, ◌+◌, List, ℕ, [], ◌++◌, Optio
 use Rattle.std.specs.List.{flat_map}
 use Rattle.dgt_decode.specs.Feeding.{FirstEvent, at_place_if_any}
 use Rattle.dgt_decode.specs.Grammar.{Event, events, open_message}
-use Rattle.dgt_decode.specs.Laws.{OpenAppend}
+use Rattle.dgt_decode.specs.Laws.{OpenAppend, PiecesAdd}
 use Rattle.dgt_lines.specs.declared.doubts.PictureState.{PictureState}
 use Rattle.dgt_lines.specs.declared.faults.RunFault.{RunFault}
 use Rattle.dgt_lines.specs.Lines.{events_after}
@@ -14,6 +14,7 @@ use Rattle.dgt_lines.specs.Picturing.{HasText}
 use Rattle.dgt_lines.specs.Printing.{HasPrintedReports, HasReportLines, IsPrinted}
 use Rattle.dgt_lines.proofs.EventLemmas.{events_found, held_then}
 use Rattle.dgt_lines.proofs.Printed.{stands_by}
+use Rattle.dgt_lines.proofs.ReportLemmas.{state_from-append, text_from-append}
 
 text_none : (first : PictureState) → text_from first [] ≡ []
 unfolding events
@@ -24,31 +25,21 @@ unfolding events
 state_none first = refl
 
 pub pictured_none : (first : PictureState) → HasPrintedReports first [] first [] []
-pictured_none first = (sym (text_none first), sym (state_none first), refl)
+pictured_none first = record { said = sym (text_none first); after = sym (state_none first); held = refl }
 
-abbrev pub LinesAppend : PictureState → Type 0
-LinesAppend first =
-    (bytes chunk : List ℕ) → text_from first (bytes ++ chunk) ≡ text_from first bytes ++ report_lines
-    (state_from first bytes) (events_after (open_message bytes) (length bytes) chunk)
-
-abbrev pub StatesAppend : PictureState → Type 0
-StatesAppend first =
-    (bytes chunk : List ℕ) → state_from first (bytes ++ chunk) ≡ state_after_events (state_from first bytes)
-    (events_after (open_message bytes) (length bytes) chunk)
-
-module _ (first : PictureState) (lines : LinesAppend first) (kept bytes text : List ℕ) (state : PictureState)
-    (h : HasPrintedReports first kept state bytes text) where
-  module _ (states : StatesAppend first) (opens : OpenAppend) (piece : List ℕ) (n offset : ℕ)
-      (counted : offset ≡ length bytes) (kept' : List ℕ)
+module _ {first state : PictureState} {kept bytes text : List ℕ} (h : HasPrintedReports first kept state bytes text)
+    (pieces : PiecesAdd) where
+  module _ (opens : OpenAppend) (piece : List ℕ) (n offset : ℕ) (counted : offset ≡ length bytes) (kept' : List ℕ)
       (held : open_message kept' ≡ open_message (open_message kept ++ take n piece)) where
     -- after a call of `advance`
     pub pictured_more : (event : Option Event) → FirstEvent (open_message kept) piece n event
         → HasPrintedReports first kept' (state_after_events state (at_place_if_any (offset + n) event))
         (bytes ++ take n piece) (text ++ report_lines state (at_place_if_any (offset + n) event))
     pictured_more event found =
-        let same = events_found kept bytes piece n h.2 offset event found counted in
-        rw (h.0, h.1, ← same, ← lines bytes (take n piece), ← states bytes (take n piece))
-        (refl, refl, held_then kept bytes piece n h.2 opens kept' held)
+        let same = events_found kept bytes piece n h.held offset event found counted in
+        let lines = text_from-append pieces first bytes (take n piece) in
+        rw (h.said, h.after, ← same, ← lines, ← state_from-append pieces first bytes (take n piece))
+        (record { said = refl; after = refl; held = held_then kept bytes piece n h.held opens kept' held })
 
     -- one that found an event
     pub pictured_event : (event : Event) → FirstEvent (open_message kept) piece n (Some event)
@@ -63,7 +54,7 @@ module _ (first : PictureState) (lines : LinesAppend first) (kept bytes text : L
       → (others : List ℕ) × (last : List ℕ) × HasReportLines first (bytes ++ more) (text ++ others) last
   pictured_on more =
       let others = report_lines (state_from first bytes) (events_after (open_message bytes) (length bytes) more) in
-      (others, [], (ap (λ l. l ++ others) h.0 ∙ sym (lines bytes more), refl))
+      (others, [], (ap (λ l. l ++ others) h.said ∙ sym (text_from-append pieces first bytes more), refl))
 
 pub reported : {A : Type 0} (r : Result A RunFault) (first : PictureState) (bytes out : List ℕ)
     → IsPrinted (HasReportLines first) r bytes out → HasText (text_from first) r bytes out

@@ -11,7 +11,7 @@ use Rattle.dgt_lines.specs.Writing.{Gathers, Writes}
 use Rattle.dgt_lines.specs.CommandLines.{Tells}
 use Rattle.dgt_lines.specs.Monitoring.{IsInSink}
 
--- what stands in the sink, where the bytes that were read have these lines, and a last one for what
+-- what stands in the sink, if the bytes that were read have these lines, and a last one for what
 -- is unfinished at their end
 pub record IsPrinted {A : Type 0} (HasLines : List ℕ → List ℕ → List ℕ → Type 0)
     (r : Result A RunFault) (bytes out : List ℕ) : Type 0 where
@@ -54,9 +54,10 @@ abbrev pub HasEventLines : List ℕ → List ℕ → List ℕ → Type 0
 HasEventLines bytes text last =
     (text ≡ lines bytes) × (last ≡ unfinished_line (length bytes) (open_message bytes))
 
--- a framer that keeps these bytes holds what is unfinished
-abbrev pub HasPrintedEvents : List ℕ → List ℕ → List ℕ → Type 0
-HasPrintedEvents kept bytes text = (text ≡ lines bytes) × (open_message kept ≡ open_message bytes)
+-- and a framer that keeps `kept` holds what is unfinished
+pub record HasPrintedEvents (kept bytes text : List ℕ) : Type 0 where
+  pub said : text ≡ lines bytes
+  pub held : open_message kept ≡ open_message bytes
 
 -- ---- The lines that show the board, from this state on
 
@@ -64,10 +65,11 @@ abbrev pub HasReportLines : PictureState → List ℕ → List ℕ → List ℕ 
 HasReportLines first bytes text last = (text ≡ text_from first bytes) × (last ≡ [])
 
 -- and `state` is the one after them
-abbrev pub HasPrintedReports : PictureState → List ℕ → PictureState → List ℕ → List ℕ → Type 0
-HasPrintedReports first kept state bytes text =
-    (text ≡ text_from first bytes) × (state ≡ state_from first bytes)
-    × (open_message kept ≡ open_message bytes)
+pub record HasPrintedReports (first : PictureState) (kept : List ℕ) (state : PictureState)
+    (bytes text : List ℕ) : Type 0 where
+  pub said : text ≡ text_from first bytes
+  pub after : state ≡ state_from first bytes
+  pub held : open_message kept ≡ open_message bytes
 
 -- ---- The lines of what a host sends
 

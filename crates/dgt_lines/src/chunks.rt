@@ -7,11 +7,10 @@ ghost use Rattle.dgt_lines.specs.Printing.{HasEventLines, HasPrintedEvents};
 
 use crate::faults::RunFault;
 use crate::gathering::Outgoing;
-use crate::laws;
 use crate::lines::{put_found, write_end};
 use crate::printers::Printer;
 use crate::streams::Sink;
-use dgt_decode::Framer;
+use dgt_decode::{Framer, laws};
 
 /// Room for the lines of 4,096 bytes of field updates: 820 lines of at most 32 bytes.
 pub const LINES_ROOM: usize = 32768;
@@ -20,10 +19,10 @@ pub const LINES_ROOM: usize = 32768;
 impl Printer<LINES_ROOM> for Framer {
     ghost has_lines = { λ first. HasEventLines };
 
-    ghost has_printed = { λ first kept. HasPrintedEvents kept };
+    ghost has_printed = { λ first kept bytes text. HasPrintedEvents kept bytes text };
 
     ghost are_lines = { λ first kept bytes text printed.
-        (unfinished_line (length bytes) (open_message bytes), (printed.0, refl)) };
+        (unfinished_line (length bytes) (open_message bytes), (printed.said, refl)) };
 
     fn gather<W: Sink>(
         &mut self,
@@ -32,8 +31,8 @@ impl Printer<LINES_ROOM> for Framer {
         rest: &[u8],
         writer: &mut W,
     ) -> Result<usize, RunFault> {
-        laws::lines_append();
-        dgt_decode::laws::open_append();
+        laws::pieces_in_a_row();
+        laws::open_append();
         let advanced = self.advance(rest);
         if let Some(found) = &advanced.found {
             let end = offset + advanced.used as u64;
@@ -47,6 +46,6 @@ impl Printer<LINES_ROOM> for Framer {
     }
 
     fn lines_go_on() {
-        laws::lines_append();
+        laws::pieces_in_a_row();
     }
 }

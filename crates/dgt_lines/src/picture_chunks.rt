@@ -15,15 +15,15 @@ use crate::clocks::{CLOCK_ROOM, ShownClock};
 use crate::doubts::{News, PictureState};
 use crate::faults::RunFault;
 use crate::gathering::{LINE_ROOM, Outgoing};
-use crate::laws::{self, writes_in_a_row};
+use crate::laws::writes_in_a_row;
 use crate::lines::push_offset;
 use crate::pictures::Picture;
 use crate::printers::Printer;
 use crate::streams::Sink;
-use dgt_decode::{Event, Found, Framer, field_update};
+use dgt_decode::{Event, Found, Framer, field_update, laws};
 
 /// Room for the lines of placements of 4,096 bytes of field updates: 820 lines of at most 81 bytes,
-/// where the offset has eight digits.
+/// if the offset has eight digits.
 pub const PICTURES_ROOM: usize = 66560;
 
 // The line of a picture that is known. Inlined, since a call costs as much as a tenth of the line.
@@ -204,9 +204,10 @@ pub(crate) struct Pictures {
 impl Printer<PICTURES_ROOM> for Pictures {
     ghost has_lines = { λ first. HasReportLines first.state };
 
-    ghost has_printed = { λ first now. HasPrintedReports first.state now.framer now.state };
+    ghost has_printed = { λ first now bytes text.
+        HasPrintedReports first.state now.framer now.state bytes text };
 
-    ghost are_lines = { λ first now bytes text printed. ([], (printed.0, refl)) };
+    ghost are_lines = { λ first now bytes text printed. ([], (printed.said, refl)) };
 
     fn gather<W: Sink>(
         &mut self,
@@ -215,8 +216,8 @@ impl Printer<PICTURES_ROOM> for Pictures {
         rest: &[u8],
         writer: &mut W,
     ) -> Result<usize, RunFault> {
-        laws::reports_append();
-        dgt_decode::laws::open_append();
+        laws::pieces_in_a_row();
+        laws::open_append();
         let (framer, state) = (&mut self.framer, &mut self.state);
         let advanced = framer.advance(rest);
         if let Some(found) = &advanced.found {
@@ -232,6 +233,6 @@ impl Printer<PICTURES_ROOM> for Pictures {
     }
 
     fn lines_go_on() {
-        laws::reports_append();
+        laws::pieces_in_a_row();
     }
 }

@@ -5,6 +5,6 @@ use Rattle.dgt_lines.proofs.chunks.FramerPrinterLINES_ROOM.print_end.Goals as go
 pub returns-clause-output : goal.returns-clause-output
 returns-clause-output g c = λ first bytes text printed counted. (
   _,
-  (printed.0, rw (counted, printed.1) refl),
+  (printed.said, rw (counted, printed.held) refl),
   c.write_end.ensures.output (open_message c.args.self.now) c.open_len.ensures,
 )
