@@ -1,6 +1,11 @@
 -- Lines in parts.
-use Rattle.std.proofs.Common.{◌≡◌, ℕ, List, [], ◌∷◌, ◌++◌, ◌∙◌, ap, ◌<◌, append_assoc, arith, codes, length, refl, sym}
+use Rattle.std.proofs.Common.{◌≡◌, ℕ, Bool, List, [], ◌∷◌, ◌++◌, Result, ◌∙◌, ap, ◌<◌, append_assoc, arith, codes, length, length-append, refl, sym}
+use Rattle.dgt_lines.specs.declared.faults.RunFault.{RunFault}
+use Rattle.dgt_lines.specs.declared.streams.Sink.{Ghosts as Sink}
 use Rattle.dgt_lines.specs.Lines.{line, offset_text, unfinished_line, unfinished_text}
+use Rattle.dgt_lines.specs.Marks.{Waits}
+use Rattle.dgt_lines.specs.Writing.{Gathered, Gathers}
+use Rattle.dgt_lines.proofs.GatherLemmas.{gathers_via}
 
 -- after what is held comes a line: its offset, its text up to the bytes that are carried, these bytes and the line's
 -- end
@@ -13,6 +18,22 @@ line-parts offset held start said text bytes s e =
     (e ∙ ap (λ l. l ++ said) s ∙ append_assoc held (offset_text offset ++ 32 ∷ []) said ∙ ap (λ l. held ++ l)
     (append_assoc (offset_text offset) (32 ∷ []) said))
     ∙ append_assoc held (offset_text offset ++ 32 ∷ said) (codes "\n")
+
+-- room was made for a line, it was added up to the bytes that are carried, and then a call gathers the rest of it
+pub gathers_line : {S A : Type 0} (W : Sink S) (offset : ℕ) (held left start said text bytes after : List ℕ)
+    (a b c : S) (r : Result A RunFault) → Gathered W held left a b []
+    → start ≡ left ++ (offset_text offset ++ 32 ∷ []) → text ++ bytes ≡ start ++ said
+    → Gathers W (text, after) b c r (bytes ++ codes "\n") → Gathers W (held, after) a c r (line offset said)
+gathers_line W offset held left start said text bytes after a b c r room began pushed rest =
+    gathers_via W held left text after a b c _ _ r room (line-parts offset left start said text bytes began pushed) rest
+
+-- what ends with a line waits for a flush
+pub line_waits : (held : List ℕ) (offset : ℕ) (said all : List ℕ) (flushed : Bool) → all ≡ held ++ line offset said
+    → Waits all flushed
+line_waits held offset said all flushed e none =
+    let whole = ap length (sym none ∙ e) in
+    let ended = length-append (offset_text offset ++ 32 ∷ said) (codes "\n") in
+    absurd (omega (arith, whole, length-append held (line offset said), ended))
 
 pub unfinished_line-none : (held : List ℕ) (offset : ℕ) → 0 ≡ length held → unfinished_line offset held ≡ []
 unfinished_line-none [] offset e = refl

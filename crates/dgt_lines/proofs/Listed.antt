@@ -22,7 +22,7 @@ rest_short bytes rest text h =
 
 -- ---- after a call of `advance`, with a piece of which it used n bytes
 
-module _ (held bytes text : List ℕ) (h : Tells 0 bytes held text) where
+module _ {held bytes text : List ℕ} (h : Tells 0 bytes held text) where
   -- they complete a word
   pub listed_event : (piece : List ℕ) (n offset : ℕ) (event : EventContent) → n ≤ length piece → offset ≡ length bytes
       → IsPartial [] → IsWord event (held ++ take n piece) → (held' : List ℕ) → held' ≡ []

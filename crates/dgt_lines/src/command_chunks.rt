@@ -6,7 +6,7 @@ ghost use Rattle.dgt_lines.specs.CommandLines.{Tells};
 ghost use Rattle.dgt_lines.specs.Lines.{unfinished_line};
 ghost use Rattle.dgt_lines.specs.Printing.{HasCommandLines};
 
-use crate::command_lines::put_command;
+use crate::command_lines::{COMMAND_ROOM, push_line};
 use crate::faults::RunFault;
 use crate::gathering::Outgoing;
 use crate::laws;
@@ -38,7 +38,8 @@ impl Printer<COMMANDS_ROOM> for WordFramer {
         let advanced = self.advance(rest);
         if let Some(found) = advanced.found {
             let end = offset + advanced.used as u64;
-            put_command(outgoing, writer, end, &self.event(found))?;
+            outgoing.make_room(writer, COMMAND_ROOM)?;
+            push_line(outgoing, end, &self.event(found));
         }
         Ok(advanced.used)
     }

@@ -1,23 +1,25 @@
 //! The lines of what a host sends.
 
-ghost use Rattle.std.specs.Prelude.{◌≡◌, ◌+◌, ◌≤◌, [], ◌++◌, false, length, OnOk, OnErr};
+ghost use Rattle.std.specs.Prelude.{◌≡◌, ◌+◌, ◌≤◌, ◌++◌, false, length, OnOk};
 ghost use Rattle.dgt_command.specs.Content.{command_event_content};
-ghost use Rattle.dgt_lines.specs.Marks.{Waits};
-ghost use Rattle.dgt_lines.specs.Writing.{Gathers, Writes};
+ghost use Rattle.dgt_lines.specs.Writing.{Writes};
 ghost use Rattle.dgt_lines.specs.CommandLines.{command_line};
 
 use crate::command_wording::push_event;
 use crate::faults::RunFault;
 use crate::gathering::Outgoing;
-use crate::laws::writes_in_a_row;
 use crate::streams::Sink;
 use dgt_command::CommandEvent;
 
 /// Room for the line of a command.
 pub(crate) const COMMAND_ROOM: usize = 600;
 
-// Adds the line of an event.
-fn push_line<const ROOM: usize>(text: &mut Outgoing<ROOM>, offset: u64, event: &CommandEvent<'_>)
+/// Adds the line of an event that the last of this number of bytes makes.
+pub(crate) fn push_line<const ROOM: usize>(
+    text: &mut Outgoing<ROOM>,
+    offset: u64,
+    event: &CommandEvent<'_>,
+)
     requires { length text.old + COMMAND_ROOM ≤ ROOM }
     ensures { text.new ≡ text.old ++ command_line offset (command_event_content event.now) }
 {
@@ -25,26 +27,6 @@ fn push_line<const ROOM: usize>(text: &mut Outgoing<ROOM>, offset: u64, event: &
     text.push(b" ");
     push_event(text, event);
     text.push(b"\n");
-}
-
-/// Gathers the line of an event that the last of this number of bytes makes.
-pub(crate) fn put_command<W: Sink, const ROOM: usize>(
-    outgoing: &mut Outgoing<ROOM>,
-    writer: &mut W,
-    offset: u64,
-    event: &CommandEvent<'_>,
-) -> Result<(), RunFault>
-    requires { COMMAND_ROOM ≤ ROOM }
-    ensures output { Gathers W.Sink (outgoing.old, outgoing.new) writer.old writer.new
-        result (command_line offset (command_event_content event.now)) }
-    ensures dropped { OnErr result (outgoing.new ≡ []) }
-    ensures no_flush { W.flushed writer.old ≡ false → W.flushed writer.new ≡ false }
-    ensures waits { OnOk result (Waits outgoing.new (W.flushed writer.new)) }
-{
-    writes_in_a_row::<W>();
-    outgoing.make_room(writer, COMMAND_ROOM)?;
-    push_line(outgoing, offset, event);
-    Ok(())
 }
 
 /// Writes the line of an event, without a flush.

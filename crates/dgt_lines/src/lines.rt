@@ -136,7 +136,7 @@ pub(crate) fn put_event<W: Sink, const ROOM: usize>(
 }
 
 /// Gathers the line of what a framer found. `found` is lent, since its copies cost more than the
-/// rest.
+/// rest. Most messages are fields, whose lines are formed without an event: that spares copies.
 pub(crate) fn put_found<W: Sink, const ROOM: usize>(
     outgoing: &mut Outgoing<ROOM>,
     writer: &mut W,
@@ -153,9 +153,17 @@ pub(crate) fn put_found<W: Sink, const ROOM: usize>(
     ensures waits { OnOk result (Waits outgoing.new (W.flushed writer.new)) }
 {
     match found {
-        Found::Message => put_message(outgoing, writer, offset, framer),
-        fault => put_fault(outgoing, writer, offset, *fault),
+        Found::Message => {}
+        fault => return put_fault(outgoing, writer, offset, *fault),
     }
+    let Some((square, piece)) = field_update(framer.bytes()) else {
+        return put_message_event(outgoing, writer, offset, framer);
+    };
+    outgoing.make_room(writer, LINE_ROOM)?;
+    push_offset(outgoing, offset);
+    push_field(outgoing, square, piece);
+    outgoing.push(b"\n");
+    Ok(())
 }
 
 // The line of a fault, which takes no event. Not inlined, so that it takes nothing from the lines
@@ -200,32 +208,6 @@ fn put_message_event<W: Sink, const ROOM: usize>(
     ensures waits { OnOk result (Waits outgoing.new (W.flushed writer.new)) }
 {
     put_event(outgoing, writer, offset, &framer.event(Found::Message))
-}
-
-// The line of a whole message. Most messages are fields, whose lines are formed without an event:
-// that spares copies.
-fn put_message<W: Sink, const ROOM: usize>(
-    outgoing: &mut Outgoing<ROOM>,
-    writer: &mut W,
-    offset: u64,
-    framer: &Framer,
-) -> Result<(), RunFault>
-    requires room { LINE_ROOM ≤ ROOM }
-    requires whole { IsWholeMessage framer.now }
-    ensures output { Gathers W.Sink (outgoing.old, outgoing.new) writer.old writer.new
-        result (event_line offset (message_event framer.now)) }
-    ensures dropped { OnErr result (outgoing.new ≡ []) }
-    ensures no_flush { W.flushed writer.old ≡ false → W.flushed writer.new ≡ false }
-    ensures waits { OnOk result (Waits outgoing.new (W.flushed writer.new)) }
-{
-    let Some((square, piece)) = field_update(framer.bytes()) else {
-        return put_message_event(outgoing, writer, offset, framer);
-    };
-    outgoing.make_room(writer, LINE_ROOM)?;
-    push_offset(outgoing, offset);
-    push_field(outgoing, square, piece);
-    outgoing.push(b"\n");
-    Ok(())
 }
 
 /// Writes the line of a message or a command of which this number of bytes came, and no more,
