@@ -1,5 +1,6 @@
 -- Which faults are reported, and that the pictures are.
 use Rattle.std.proofs.Common.{◌≡◌, ◌⊎◌, ℕ, List, [], ◌∷◌, ◌++◌, Option, Some, None, refl, sym, ◌∙◌, ap, subst, inl, inr, append-nil, map}
+use Rattle.std.proofs.lemmas.Grind.{fold-append}
 use Rattle.std.proofs.lemmas.List.{map-append}
 use Rattle.std.specs.List.{AllByRecursion, flat_map}
 use Rattle.std.specs.Prelude.{option_map, ⊤}
@@ -13,8 +14,7 @@ use Rattle.dgt_lines.specs.declared.doubts.PictureState.{PictureState}
 use Rattle.dgt_lines.specs.declared.clocks.ShownClock.TheVariants.{Hidden}
 use Rattle.dgt_lines.specs.Pictures.{PlacedPicture, picture_after_event, picture_after_events, picture_line, picture_set, pictures}
 use Rattle.dgt_lines.specs.Reports.{Report, Shows, Doubts, DoubtsKeepThePicture, DoubtsLeavePictures, FirstFaultsAreReported, IgnoredFaultsAreSilent, IsFault, IsMessage, IsSure, clock_reports, doubt_after, doubt_after_fault, doubt_cleared, doubt_raised, doubting, fault_reports, message_reports, new_state, pictures_shown, report_line, reports, reports_at, shown_after, state_after_event, state_after_events}
-use Rattle.dgt_lines.proofs.PictureLemmas.{picture_after-append}
-use Rattle.dgt_lines.proofs.ReportLemmas.{of_clock, of_raised, reports-append, state_after-append}
+use Rattle.dgt_lines.proofs.ReportLemmas.{of_clock, of_raised, reports-append}
 
 -- ---- the picture
 
@@ -239,7 +239,7 @@ sure_settled xs s =
     let settled : IsSettled (state_after_event before event) =
     dump_settles s.pieces before.doubt (events_may start s.early tt) in
     subst (λ l. IsSettled (state_after_events start l)) (sym s.whole)
-    (subst IsSettled (sym (state_after-append start s.early (at_place s.place event ∷ s.late)))
+    (subst IsSettled (sym (fold-append _ start s.early (at_place s.place event ∷ s.late)))
     (messages_settle (state_after_event before event) s.late s.no_fault settled))
 
 -- either these events have the dump, or it was so before them
@@ -318,5 +318,5 @@ first_faults_are_reported = record {
       (message_at x.place x.event now m (always_hidden start earlier refl)
       ∙ ap (λ p. map Shows (picture_set x.place x.event p))
       (ap (λ p. picture_after_event p x.event) (picture_kept start earlier)
-      ∙ sym (picture_after-append None earlier (x ∷ []))));
+      ∙ sym (fold-append _ None earlier (x ∷ []))));
 }

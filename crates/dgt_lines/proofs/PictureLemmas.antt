@@ -1,35 +1,31 @@
 -- Pictures that events set, one event after another.
 use Rattle.std.proofs.Common.{◌≡◌, ℕ, List, [], ◌∷◌, ◌++◌, Option, Some, None, refl, sym, ◌∙◌, ap, append_assoc, length, map}
-use Rattle.std.proofs.lemmas.Grind.{flat_map-append}
+use Rattle.std.proofs.lemmas.Grind.{flat_map-append, fold-append}
 use Rattle.std.proofs.lemmas.List.{map-append}
 use Rattle.std.specs.List.{flat_map, last_or}
+use Rattle.std.specs.Prelude.{fold}
 use Rattle.dgt_values.specs.declared.pieces.Piece.{Piece}
 use Rattle.dgt_message.specs.Content.Content.{dump, field}
 use Rattle.dgt_decode.specs.Grammar.{Event, Message, Placed, events, open_message}
 use Rattle.dgt_decode.specs.Laws.{PiecesAdd}
 use Rattle.dgt_host.specs.Host.{HostView, host_after_event, host_after_events, new_host}
 use Rattle.dgt_lines.specs.Lines.{events_after}
-use Rattle.dgt_lines.specs.Pictures.{LastLineIsPicture, PictureIsTheHosts, PlacedPicture, picture_after_event, picture_after_events, picture_line, picture_lines, picture_set, picture_told, pictures, pictures_text}
+use Rattle.dgt_lines.specs.Pictures.{LastLineIsPicture, PictureIsTheHosts, PlacedPicture, made_by, picture_after_event, picture_after_events, picture_line, picture_lines, picture_set, picture_told, pictures, pictures_text}
 
--- the picture after more events
-pub picture_after-append : (before : Option (List Piece)) (xs ys : List Placed)
-    → picture_after_events before (xs ++ ys) ≡ picture_after_events (picture_after_events before xs) ys
-picture_after-append before [] ys = refl
-picture_after-append before (x ∷ xs) ys = picture_after-append (picture_after_event before x.event) xs ys
-
-pictures-append : (before : Option (List Piece)) (xs ys : List Placed)
-    → pictures before (xs ++ ys) ≡ pictures before xs ++ pictures (picture_after_events before xs) ys
-pictures-append before [] ys = refl
-pictures-append before (x ∷ xs) ys =
-    let after = picture_after_event before x.event in
-    let set = picture_set x.place x.event after in
-    ap (λ l. set ++ l) (pictures-append after xs ys) ∙ sym (append_assoc set (pictures after xs) _)
+-- what more events make
+pub made_by-append : {S A : Type 0} (after : S → Event → S) (made : ℕ → Event → S → List A) (before : S)
+    (xs ys : List Placed) → made_by after made before (xs ++ ys) ≡ made_by after made before xs
+    ++ made_by after made (fold (λ state x. after state x.event) before xs) ys
+made_by-append after made before [] ys = refl
+made_by-append after made before (x ∷ xs) ys =
+    ap (λ l. made x.place x.event before ++ l) (made_by-append after made (after before x.event) xs ys)
+    ∙ sym (append_assoc (made x.place x.event before) _ _)
 
 -- the lines of more events
 pub picture_lines-append : (before : Option (List Piece)) (xs ys : List Placed)
     → picture_lines before (xs ++ ys) ≡ picture_lines before xs ++ picture_lines (picture_after_events before xs) ys
 picture_lines-append before xs ys =
-    ap (flat_map picture_line) (pictures-append before xs ys) ∙ flat_map-append picture_line (pictures before xs)
+    ap (flat_map picture_line) (made_by-append _ _ before xs ys) ∙ flat_map-append picture_line (pictures before xs)
     (pictures (picture_after_events before xs) ys)
 
 -- ---- bytes, and a chunk after them
@@ -46,7 +42,7 @@ pub picture_told-append : PiecesAdd → (bytes chunk : List ℕ)
     (events_after (open_message bytes) (length bytes) chunk)
 picture_told-append pieces bytes chunk =
     ap (picture_after_events None) (pieces.behind bytes chunk)
-    ∙ picture_after-append None (events bytes) (events_after (open_message bytes) (length bytes) chunk)
+    ∙ fold-append _ None (events bytes) (events_after (open_message bytes) (length bytes) chunk)
 
 -- ---- the last line
 

@@ -1,6 +1,6 @@
 -- Reports of events, one event after another.
-use Rattle.std.proofs.Common.{◌≡◌, ℕ, List, [], ◌∷◌, ◌++◌, Option, Some, refl, sym, ◌∙◌, ap, append_assoc, length}
-use Rattle.std.proofs.lemmas.Grind.{flat_map-append}
+use Rattle.std.proofs.Common.{◌≡◌, ℕ, List, [], ◌∷◌, ◌++◌, Option, Some, refl, ◌∙◌, ap, length}
+use Rattle.std.proofs.lemmas.Grind.{flat_map-append, fold-append}
 use Rattle.std.specs.List.{flat_map}
 use Rattle.std.specs.Prelude.{bytes_eq, if◌then◌else◌, true, false}
 use Rattle.dgt_values.specs.declared.pieces.Piece.{Piece}
@@ -16,6 +16,7 @@ use Rattle.dgt_lines.specs.declared.doubts.Doubt.{Doubt}
 use Rattle.dgt_lines.specs.declared.doubts.Doubt.TheVariants.{Clear}
 use Rattle.dgt_lines.specs.declared.doubts.PictureState.{PictureState}
 use Rattle.dgt_lines.specs.Lines.{events_after}
+use Rattle.dgt_lines.proofs.PictureLemmas.{made_by-append}
 use Rattle.dgt_lines.specs.Reports.{Report, Doubts, ShowsClock, clock_reports, doubt_raised, fault_reports, report_line, report_lines, reports, reports_at, state_after_event, state_after_events, state_after_fault, state_from, text_from}
 
 -- what a fault reports is nothing or a doubt
@@ -33,19 +34,9 @@ of_clock P place text (Known last) none one =
     elim (bytes_eq last text) as (λ same. P (if same then [] else ShowsClock place text ∷ []))
     [ true ↦ none | false ↦ one ]
 
--- the state after more events
-pub state_after-append : (before : PictureState) (xs ys : List Placed)
-    → state_after_events before (xs ++ ys) ≡ state_after_events (state_after_events before xs) ys
-state_after-append before [] ys = refl
-state_after-append before (x ∷ xs) ys = state_after-append (state_after_event before x.event) xs ys
-
 pub reports-append : (before : PictureState) (xs ys : List Placed)
     → reports before (xs ++ ys) ≡ reports before xs ++ reports (state_after_events before xs) ys
-reports-append before [] ys = refl
-reports-append before (x ∷ xs) ys =
-    let after = state_after_event before x.event in
-    let first = reports_at x.place x.event before in
-    ap (λ l. first ++ l) (reports-append after xs ys) ∙ sym (append_assoc first (reports after xs) _)
+reports-append before xs ys = made_by-append state_after_event reports_at before xs ys
 
 -- the lines of more events
 pub report_lines-append : (before : PictureState) (xs ys : List Placed)
@@ -68,7 +59,7 @@ pub state_from-append : PiecesAdd → (before : PictureState) (bytes chunk : Lis
     (events_after (open_message bytes) (length bytes) chunk)
 state_from-append pieces before bytes chunk =
     ap (state_after_events before) (pieces.behind bytes chunk)
-    ∙ state_after-append before (events bytes) (events_after (open_message bytes) (length bytes) chunk)
+    ∙ fold-append _ before (events bytes) (events_after (open_message bytes) (length bytes) chunk)
 
 -- an event that is no message is a fault
 pub no_message : (e : code.Event) (event : Event)

@@ -1,6 +1,6 @@
 -- The lines that show the board. A line is an offset, a space and a placement: one for each message
 -- that sets the picture of the board.
-use Rattle.std.specs.Prelude.{◌≡◌, ℕ, List, [], ◌∷◌, ◌++◌, map, Option, Some, None}
+use Rattle.std.specs.Prelude.{◌≡◌, ℕ, List, [], ◌∷◌, ◌++◌, fold, map, Option, Some, None}
 use Rattle.std.specs.List.{flat_map, last_or}
 use Rattle.dgt_values.specs.declared.pieces.Piece.{Piece}
 use Rattle.dgt_values.specs.Placement.{placement_text}
@@ -17,9 +17,8 @@ picture_after_event picture (Message said) = picture_after picture said
 picture_after_event picture _ = picture
 
 abbrev pub picture_after_events : Option (List Piece) → List Placed → Option (List Piece)
-picture_after_events picture [] = picture
-picture_after_events picture (x ∷ more) =
-    picture_after_events (picture_after_event picture x.event) more
+picture_after_events picture placed =
+    fold (λ before x. picture_after_event before x.event) picture placed
 
 -- the picture after all events of these bytes, if nothing was known before
 abbrev pub picture_told : List ℕ → Option (List Piece)
@@ -47,12 +46,18 @@ picture_set place (Message (dump _)) after = known_at place after
 picture_set place (Message (field _ _)) after = known_at place after
 picture_set place _ after = []
 
+-- what events make one after another, each with the state before it
+abbrev pub made_by : {S A : Type 0} → (S → Event → S) → (ℕ → Event → S → List A) → S → List Placed
+    → List A
+made_by after made before [] = []
+made_by after made before (x ∷ more) =
+    made x.place x.event before ++ made_by after made (after before x.event) more
+
 -- the pictures that events set, if the picture is this before them
 abbrev pub pictures : Option (List Piece) → List Placed → List PlacedPicture
-pictures before [] = []
-pictures before (x ∷ more) =
-    let after = picture_after_event before x.event in
-    picture_set x.place x.event after ++ pictures after more
+pictures before placed =
+    made_by picture_after_event
+    (λ place event state. picture_set place event (picture_after_event state event)) before placed
 
 -- ---- Lines
 

@@ -1,7 +1,7 @@
 -- The lines that show the board, those that say that it may be wrong, and those of its clock. A
 -- fault of the line may have swallowed a message: the first one since a dump puts the picture in
 -- doubt, up to the next dump. The clock has a line if its text is another one than before.
-use Rattle.std.specs.Prelude.{◌≡◌, ◌≢◌, ⊤, ℕ, List, [], ◌∷◌, ◌++◌, map, bytes_eq, codes, if◌then◌else◌, Option, Some, None, option_map}
+use Rattle.std.specs.Prelude.{◌≡◌, ◌≢◌, ⊤, ℕ, List, [], ◌∷◌, ◌++◌, fold, map, bytes_eq, codes, if◌then◌else◌, Option, Some, None, option_map}
 use Rattle.std.specs.List.{AllByRecursion, flat_map, last_or}
 use Rattle.dgt_values.specs.declared.pieces.Piece.{Piece}
 use Rattle.dgt_message.specs.Clock.{ClockState}
@@ -18,7 +18,7 @@ use Rattle.dgt_lines.specs.declared.doubts.News.TheVariants.{Nothing, Picture, C
 use Rattle.dgt_lines.specs.declared.doubts.PictureState.{PictureState}
 use Rattle.dgt_lines.specs.Clocks.{clock_text}
 use Rattle.dgt_lines.specs.Lines.{line}
-use Rattle.dgt_lines.specs.Pictures.{PlacedPicture, known_at, picture_after_events, picture_line, picture_set, pictures, pictures_text}
+use Rattle.dgt_lines.specs.Pictures.{PlacedPicture, known_at, made_by, picture_after_events, picture_line, picture_set, pictures, pictures_text}
 
 -- ---- The state
 
@@ -76,8 +76,7 @@ state_after_event before (Message said) = state_after_message before said
 state_after_event before _ = state_after_fault before
 
 abbrev pub state_after_events : PictureState → List Placed → PictureState
-state_after_events before [] = before
-state_after_events before (x ∷ more) = state_after_events (state_after_event before x.event) more
+state_after_events before placed = fold (λ state x. state_after_event state x.event) before placed
 
 -- ---- What is reported
 
@@ -130,9 +129,7 @@ reports_at place _ before = fault_reports place before
 
 -- and of events, one after another
 abbrev pub reports : PictureState → List Placed → List Report
-reports before [] = []
-reports before (x ∷ more) =
-    reports_at x.place x.event before ++ reports (state_after_event before x.event) more
+reports before placed = made_by state_after_event reports_at before placed
 
 -- ---- Lines
 
