@@ -1,6 +1,7 @@
 -- Bytes that are written and gathered in a row.
-use Rattle.std.proofs.Common.{◌≡◌, ℕ, List, [], ◌++◌, Result, Ok, Err, IsErrAnd, refl, sym, ◌∙◌, ap, subst, append_assoc, append-nil}
+use Rattle.std.proofs.Common.{◌≡◌, ℕ, List, [], ◌++◌, false, Result, Ok, Err, IsErrAnd, refl, sym, ◌∙◌, ap, subst, append_assoc, append-nil}
 use Rattle.std.proofs.KnownBytes.{Appends-trans, Appends-nil}
+use Rattle.dgt_lines.specs.Printing.{Puts}
 use Rattle.dgt_lines.specs.Writing.{Wrote, Stopped, Writes, Gathered, Gathers}
 use Rattle.dgt_lines.specs.declared.faults.RunFault.{RunFault}
 use Rattle.dgt_lines.specs.declared.faults.RunFault.TheVariants.{WriteFailed}
@@ -87,6 +88,23 @@ module _ {S : Type 0} (W : Sink S) where
       → IsErrAnd r (λ y. y ≡ e) → (e ≡ WriteFailed) × Stopped W a b (h ++ t) → Gathers W (h, j) a b r whole
   gathers_first h j a b t rest whole r e w k q =
       gathers_stopped h h j a a b [] t rest whole r e (gathered_none h a) w k q
+
+  -- a call that gathers nothing
+  pub puts_none : (h : List ℕ) (a : S) → Puts {A = Unit {0}} W (h, h) a a (Ok tt) []
+  puts_none h a =
+      record { output = gathered_none h a; dropped = tt; no_flush = λ e. e; waits = rw append-nil (λ w. w) }
+
+  -- the exit of a `?` on a call that makes room for a text
+  pub puts_refused : {A : Type 0} (h j : List ℕ) (a b : S) (text : List ℕ) (r : Result A RunFault) (e : RunFault)
+      → IsErrAnd r (λ y. y ≡ e) → (e ≡ WriteFailed) × Stopped W a b (h ++ []) → j ≡ []
+      → (W.flushed a ≡ false → W.flushed b ≡ false) → Puts W (h, j) a b r text
+  puts_refused h j a b text (Ok x) e k q dropped no_flush = absurd k
+  puts_refused {A = A} h j a b text (Err y) e k q dropped no_flush = record {
+    output = gathers_first {A = A} h j a b [] text text (Err y) e refl k q;
+    dropped = dropped;
+    no_flush = no_flush;
+    waits = tt;
+  }
 
   -- a text of which the front is held already
   pub gathers_via : {A : Type 0} (h i j k : List ℕ) (a b c : S) (s t : List ℕ) (r : Result A RunFault)

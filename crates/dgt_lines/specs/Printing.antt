@@ -1,5 +1,5 @@
 -- What an engine prints of the bytes that it reads.
-use Rattle.std.specs.Prelude.{◌≡◌, ℕ, false, List, [], ◌++◌, length, take, Result, IfOk, OnOk}
+use Rattle.std.specs.Prelude.{◌≡◌, ℕ, false, List, [], ◌++◌, length, take, Result, IfOk, OnErr, OnOk}
 use Rattle.dgt_decode.specs.Grammar.{open_message}
 use Rattle.dgt_lines.specs.declared.doubts.PictureState.{PictureState}
 use Rattle.dgt_lines.specs.declared.streams.Sink.{Ghosts as Sink}
@@ -19,6 +19,14 @@ pub record IsPrinted {A : Type 0} (HasLines : List ℕ → List ℕ → List ℕ
   pub last : List ℕ
   pub has : HasLines bytes text last
   pub stands : IsInSink r text (text ++ last) out
+
+-- a call that gathers this text and flushes nothing; if the sink refuses, nothing is held then
+pub record Puts {S A : Type 0} (W : Sink S) (held : List ℕ × List ℕ) (old new : S)
+    (r : Result A RunFault) (text : List ℕ) : Type 0 where
+  pub output : Gathers W held old new r text
+  pub dropped : OnErr r (held.1 ≡ [])
+  pub no_flush : W.flushed old ≡ false → W.flushed new ≡ false
+  pub waits : OnOk r (Waits (held.0 ++ text) (W.flushed old) → Waits held.1 (W.flushed new))
 
 -- A call that gathers the lines of some bytes after this text, and flushes nothing; `bytes` are all
 -- up to their end. If the sink refuses, these bytes were read and no more.

@@ -5,11 +5,9 @@ ghost use Rattle.std.specs.List.{flat_map};
 ghost use Rattle.dgt_decode.specs.Grammar.{message_event};
 ghost use Rattle.dgt_decode.specs.Feeding.{IsWholeMessage, event_found_in};
 ghost use Rattle.dgt_lines.specs.Lines.{line};
-ghost use Rattle.dgt_lines.specs.Marks.{Waits};
 ghost use Rattle.dgt_lines.specs.Pictures.{known_at};
-ghost use Rattle.dgt_lines.specs.Printing.{HasPrintedReports, HasReportLines};
+ghost use Rattle.dgt_lines.specs.Printing.{HasPrintedReports, HasReportLines, Puts};
 ghost use Rattle.dgt_lines.specs.Reports.{Shows, clock_known_at, fault_reports, report_line, reports_at, state_after_event, state_after_fault};
-ghost use Rattle.dgt_lines.specs.Writing.{Gathers};
 
 use crate::clocks::{CLOCK_ROOM, ShownClock};
 use crate::doubts::{News, PictureState};
@@ -34,13 +32,8 @@ fn put_known<W: Sink>(
     offset: u64,
     picture: &Option<Picture>,
 ) -> Result<(), RunFault>
-    ensures output { Gathers W.Sink (outgoing.old, outgoing.new) writer.old writer.new
-        result (flat_map report_line (map Shows (known_at offset picture.now))) }
-    ensures dropped { OnErr result (outgoing.new ≡ []) }
-    ensures no_flush { W.flushed writer.old ≡ false → W.flushed writer.new ≡ false }
-    ensures waits { OnOk result (Waits
-        (outgoing.old ++ flat_map report_line (map Shows (known_at offset picture.now)))
-        (W.flushed writer.old) → Waits outgoing.new (W.flushed writer.new)) }
+    ensures { Puts W.Sink (outgoing.old, outgoing.new) writer.old writer.new result
+        (flat_map report_line (map Shows (known_at offset picture.now))) }
 {
     let Some(picture) = picture else {
         return Ok(());
@@ -60,13 +53,8 @@ fn hear_fault<W: Sink>(
     offset: u64,
 ) -> Result<(), RunFault>
     ensures state { state.new ≡ state_after_fault state.old }
-    ensures output { Gathers W.Sink (outgoing.old, outgoing.new) writer.old writer.new
-        result (flat_map report_line (fault_reports offset state.old)) }
-    ensures dropped { OnErr result (outgoing.new ≡ []) }
-    ensures no_flush { W.flushed writer.old ≡ false → W.flushed writer.new ≡ false }
-    ensures waits { OnOk result (Waits
-        (outgoing.old ++ flat_map report_line (fault_reports offset state.old))
-        (W.flushed writer.old) → Waits outgoing.new (W.flushed writer.new)) }
+    ensures puts { Puts W.Sink (outgoing.old, outgoing.new) writer.old writer.new result
+        (flat_map report_line (fault_reports offset state.old)) }
 {
     if !state.raise() {
         return Ok(());
@@ -81,11 +69,8 @@ fn put_doubt<W: Sink>(
     writer: &mut W,
     offset: u64,
 ) -> Result<(), RunFault>
-    ensures output { Gathers W.Sink (outgoing.old, outgoing.new) writer.old writer.new
-        result (line offset (codes "doubt")) }
-    ensures dropped { OnErr result (outgoing.new ≡ []) }
-    ensures no_flush { W.flushed writer.old ≡ false → W.flushed writer.new ≡ false }
-    ensures waits { OnOk result (Waits outgoing.new (W.flushed writer.new)) }
+    ensures { Puts W.Sink (outgoing.old, outgoing.new) writer.old writer.new result
+        (line offset (codes "doubt")) }
 {
     outgoing.make_room(writer, LINE_ROOM)?;
     push_offset(outgoing, offset);
@@ -101,13 +86,8 @@ fn put_clock<W: Sink>(
     offset: u64,
     clock: &ShownClock,
 ) -> Result<(), RunFault>
-    ensures output { Gathers W.Sink (outgoing.old, outgoing.new) writer.old writer.new
-        result (flat_map report_line (clock_known_at offset clock.now)) }
-    ensures dropped { OnErr result (outgoing.new ≡ []) }
-    ensures no_flush { W.flushed writer.old ≡ false → W.flushed writer.new ≡ false }
-    ensures waits { OnOk result (Waits
-        (outgoing.old ++ flat_map report_line (clock_known_at offset clock.now))
-        (W.flushed writer.old) → Waits outgoing.new (W.flushed writer.new)) }
+    ensures { Puts W.Sink (outgoing.old, outgoing.new) writer.old writer.new result
+        (flat_map report_line (clock_known_at offset clock.now)) }
 {
     let ShownClock::Known(text) = clock else {
         return Ok(());
@@ -138,13 +118,8 @@ fn hear_event<W: Sink>(
 ) -> Result<(), RunFault>
     requires { IsWholeMessage framer.now }
     ensures state { state.new ≡ state_after_event state.old (message_event framer.now) }
-    ensures output { Gathers W.Sink (outgoing.old, outgoing.new) writer.old writer.new result
+    ensures puts { Puts W.Sink (outgoing.old, outgoing.new) writer.old writer.new result
         (flat_map report_line (reports_at offset (message_event framer.now) state.old)) }
-    ensures dropped { OnErr result (outgoing.new ≡ []) }
-    ensures no_flush { W.flushed writer.old ≡ false → W.flushed writer.new ≡ false }
-    ensures waits { OnOk result (Waits (outgoing.old
-        ++ flat_map report_line (reports_at offset (message_event framer.now) state.old))
-        (W.flushed writer.old) → Waits outgoing.new (W.flushed writer.new)) }
 {
     let Event::Message(message) = framer.event(Found::Message) else {
         return hear_fault(state, outgoing, writer, offset);
@@ -168,14 +143,9 @@ fn hear_found<W: Sink>(
     requires { found.now ≡ Found.Message → IsWholeMessage framer.now }
     ensures state { state.new
         ≡ state_after_event state.old (event_found_in framer.now found.now) }
-    ensures output { Gathers W.Sink (outgoing.old, outgoing.new) writer.old writer.new result
+    ensures puts { Puts W.Sink (outgoing.old, outgoing.new) writer.old writer.new result
         (flat_map report_line
         (reports_at offset (event_found_in framer.now found.now) state.old)) }
-    ensures dropped { OnErr result (outgoing.new ≡ []) }
-    ensures no_flush { W.flushed writer.old ≡ false → W.flushed writer.new ≡ false }
-    ensures waits { OnOk result (Waits (outgoing.old ++ flat_map report_line
-        (reports_at offset (event_found_in framer.now found.now) state.old))
-        (W.flushed writer.old) → Waits outgoing.new (W.flushed writer.new)) }
 {
     if !matches!(found, Found::Message) {
         return hear_fault(state, outgoing, writer, offset);

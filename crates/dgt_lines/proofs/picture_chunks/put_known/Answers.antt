@@ -1,8 +1,7 @@
-use Rattle.std.proofs.Common.{[], refl}
-use Rattle.dgt_lines.proofs.GatherLemmas.{gathers_first}
+use Rattle.dgt_lines.proofs.GatherLemmas.{puts_refused}
 use Rattle.dgt_lines.proofs.picture_chunks.put_known.Goals as goal
 
-pub returns-in_err-make_room-clause-output : goal.returns-in_err-make_room-clause-output
-returns-in_err-make_room-clause-output g c =
-    rw c.in-Some.is
-    (gathers_first _ _ _ _ _ [] _ _ _ _ refl c.from_residual.ensures.1 c.in_err-make_room.ensures.output)
+pub returns-in_err-make_room : goal.returns-in_err-make_room
+returns-in_err-make_room g c =
+    puts_refused _ _ _ _ _ _ _ _ c.from_residual.ensures.1 c.in_err-make_room.ensures.output
+    c.in_err-make_room.ensures.dropped c.in_err-make_room.ensures.no_flush
