@@ -1,5 +1,5 @@
 -- Closing lines in parts.
-use Rattle.std.proofs.Common.{◌≡◌, ℕ, List, [], ◌++◌, Bool, ◌∙◌, ap, codes}
+use Rattle.std.proofs.Common.{◌≡◌, ℕ, List, [], ◌++◌, Bool, ◌∙◌, ap, append_assoc, codes, sym}
 use Rattle.dgt_values.specs.declared.pieces.Piece.{Piece}
 use Rattle.dgt_values.specs.Placement.{placement_text}
 use Rattle.dgt_host.specs.Host.{HostView}
@@ -7,16 +7,17 @@ use Rattle.dgt_lines.specs.Closing.{clock_text, closing_text, named_line, pictur
 
 -- the four lines, one after another
 pub closing_text-parts : (squares : List Piece) (host : HostView) (quiet : Bool)
-    (empty one two three all : List ℕ) → empty ≡ []
+    (empty one three all : List ℕ) → empty ≡ []
     → one ≡ empty ++ named_line (codes "board") (placement_text squares)
-    → two ≡ one ++ named_line (codes "host") (picture_text host.picture)
-    → three ≡ two ++ named_line (codes "hostclock") (clock_text host.clock)
+    → three ≡ one ++ (named_line (codes "host") (picture_text host.picture)
+    ++ named_line (codes "hostclock") (clock_text host.clock))
     → all ≡ three ++ named_line (codes "quiet") (quiet_text quiet)
     → all ≡ closing_text squares host quiet
 unfolding closing_text
-closing_text-parts squares host quiet empty one two three all e b p c q =
+closing_text-parts squares host quiet empty one three all e b h q =
     let first = named_line (codes "board") (placement_text squares) in
     let second = named_line (codes "host") (picture_text host.picture) in
     let third = named_line (codes "hostclock") (clock_text host.clock) in
     let fourth = named_line (codes "quiet") (quiet_text quiet) in
-    q ∙ ap (λ l. l ++ fourth) (c ∙ ap (λ l. l ++ third) (p ∙ ap (λ l. l ++ second) (b ∙ ap (λ l. l ++ first) e)))
+    q ∙ ap (λ l. l ++ fourth)
+    (h ∙ ap (λ l. l ++ (second ++ third)) (b ∙ ap (λ l. l ++ first) e) ∙ sym (append_assoc first second third))

@@ -35,27 +35,18 @@ fn push_board(text: &mut Outgoing<CLOSING_ROOM>, board: &Position)
     text.push(b"\n");
 }
 
-fn push_picture(text: &mut Outgoing<CLOSING_ROOM>, host: &Host)
-    requires { length text.old + 100 ≤ CLOSING_ROOM }
-    ensures text { text.new ≡ text.old
-        ++ named_line (codes "host") (picture_text host.now.picture) }
-    ensures room { length text.new ≤ length text.old + 100 }
+fn push_host(text: &mut Outgoing<CLOSING_ROOM>, host: &Host)
+    requires { length text.old + 200 ≤ CLOSING_ROOM }
+    ensures text { text.new ≡ text.old ++ (named_line (codes "host") (picture_text host.now.picture)
+        ++ named_line (codes "hostclock") (clock_text host.now.clock)) }
+    ensures room { length text.new ≤ length text.old + 200 }
 {
     text.push(b"host ");
     match host.picture() {
         Some(position) => push_placement(text, position),
         None => text.push(b"unknown"),
     }
-    text.push(b"\n");
-}
-
-fn push_host_clock(text: &mut Outgoing<CLOSING_ROOM>, host: &Host)
-    requires { length text.old + 110 ≤ CLOSING_ROOM }
-    ensures text { text.new ≡ text.old
-        ++ named_line (codes "hostclock") (clock_text host.now.clock) }
-    ensures room { length text.new ≤ length text.old + 100 }
-{
-    text.push(b"hostclock ");
+    text.push(b"\nhostclock ");
     match host.clock() {
         Some(clock) => push_clock(text, *clock),
         None => text.push(b"unknown"),
@@ -83,8 +74,7 @@ pub fn write_closing<W: Sink>(
 {
     let mut text = Outgoing::<CLOSING_ROOM>::new();
     push_board(&mut text, board);
-    push_picture(&mut text, host);
-    push_host_clock(&mut text, host);
+    push_host(&mut text, host);
     push_quiet(&mut text, quiet);
     text.write_out(writer)
 }
