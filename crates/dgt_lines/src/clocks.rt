@@ -44,6 +44,7 @@ impl ShownClock {
     }
 }
 
+#[tactic(auto, unfolding(crate::specs::Clocks::clock_text))]
 fn form_clock(clock: Clock) -> Outgoing<CLOCK_ROOM>
     ensures { result ≡ clock_text (clock_seen clock) }
 {

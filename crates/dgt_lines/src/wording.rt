@@ -64,6 +64,7 @@ fn push_cut<const ROOM: usize>(text: &mut Outgoing<ROOM>, have: usize)
 }
 
 // The text of a byte that belongs to no message.
+#[tactic(auto, unfolding(crate::specs::Lines::event_text))]
 fn push_stray<const ROOM: usize>(text: &mut Outgoing<ROOM>, byte: u8)
     requires { length text.old + 100 ≤ ROOM }
     ensures text { text.new ≡ text.old ++ event_text (Stray byte) }
@@ -121,6 +122,7 @@ fn push_message<'a, const ROOM: usize>(
 }
 
 /// Adds the text of what stands on a square.
+#[tactic(auto, unfolding(crate::specs::Lines::message_text))]
 pub(crate) fn push_field<const ROOM: usize>(text: &mut Outgoing<ROOM>, square: Square, piece: Piece)
     requires { length text.old + 100 ≤ ROOM }
     ensures text { text.new ≡ text.old ++ message_text (field (square_number square) piece) }
@@ -144,6 +146,7 @@ pub(crate) fn push_clock<const ROOM: usize>(text: &mut Outgoing<ROOM>, clock: Cl
 }
 
 // The text of the times that a clock shows.
+#[tactic(auto, unfolding(crate::specs::Lines::message_text))]
 fn push_times<const ROOM: usize>(text: &mut Outgoing<ROOM>, readings: Times)
     requires { length text.old + 100 ≤ ROOM }
     ensures text { text.new ≡ text.old ++ message_text (times (times_seen readings)) }
@@ -167,6 +170,7 @@ fn push_reading<const ROOM: usize>(text: &mut Outgoing<ROOM>, reading: Reading)
 }
 
 // The text of a board without a clock.
+#[tactic(auto, unfolding(crate::specs::Lines::message_text))]
 fn push_absence<const ROOM: usize>(text: &mut Outgoing<ROOM>, absence: NoClock)
     requires { length text.old + 100 ≤ ROOM }
     ensures text { text.new ≡ text.old ++ message_text (no_clock (absence_seen absence)) }
@@ -214,6 +218,7 @@ fn push_byte<const ROOM: usize>(text: &mut Outgoing<ROOM>, byte: u8)
     text.push_hex(&[byte]);
 }
 
+#[tactic(auto, unfolding(crate::specs::Lines::message_text))]
 fn push_serial<const ROOM: usize>(text: &mut Outgoing<ROOM>, digits: &[SevenBit; 5])
     requires { length text.old + 100 ≤ ROOM }
     ensures text { text.new ≡ text.old ++ message_text (serial (map number digits.now)) }
@@ -231,6 +236,7 @@ fn serial_bytes(digits: &[SevenBit; 5]) -> [u8; 5]
     [a.get(), b.get(), c.get(), d.get(), e.get()]
 }
 
+#[tactic(auto, unfolding(crate::specs::Lines::event_text))]
 fn push_refusal<const ROOM: usize>(text: &mut Outgoing<ROOM>, code: SevenBit, fault: BodyFault)
     requires { length text.old + 100 ≤ ROOM }
     ensures text { text.new ≡ text.old ++ event_text (Refused (number code) fault) }
