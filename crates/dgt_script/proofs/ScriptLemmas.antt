@@ -1,6 +1,6 @@
 -- The words of a script's lines, and where they go wrong.
 use Rattle.std.proofs.Common.{◌≡◌, ◌≢◌, ℕ, ◌+◌, ◌-◌, ◌<◌, ◌≤◌, ◌==◌, List, [], ◌∷◌, Option, Some, None, refl, sym, ◌∙◌, ap, subst, arith, false, true, get_or, inl, inr, length, length-append, take, drop}
-use Rattle.std.specs.Prelude.{All, MatchResult, Result, Ok, Err, slice_index}
+use Rattle.std.specs.Prelude.{All, slice_index}
 use Rattle.std.specs.List.{position_or_len}
 use Rattle.std.specs.Slice.{IsGetRangeResult}
 use Rattle.std.specs.Borrow.{Bor}
@@ -10,8 +10,8 @@ use Rattle.std.proofs.lemmas.List.Splits.{join_with_byte-slice_split, length-sli
 use Rattle.std.proofs.lemmas.List.Sums.{fails_before_first, position_or_len_is}
 use Rattle.dgt_script.specs.declared.script.Wrong.{Wrong}
 use Rattle.dgt_script.specs.ScriptWords.{words_text}
-use Rattle.dgt_script.specs.Script.{GoesWrong, IsBadFrom, IsBadIn, IsOf, WordKind, words}
-use Rattle.dgt_script.specs.ScriptReading.{left_words, GoesWrongBefore, IsBadBefore}
+use Rattle.dgt_script.specs.Script.{AsksFor, GoesWrong, IsBadAt, IsOf, Vocabulary, WordKind, words}
+use Rattle.dgt_script.specs.ScriptReading.{left_words, GoesWrongBefore}
 
 -- the words of a line make the line
 pub words_text-words : (line : List ℕ) → words_text (words line) ≡ line
@@ -55,15 +55,6 @@ goes_wrong_within (kind ∷ kinds) (word ∷ parts) bad (inl h) = let e = ap (λ
 goes_wrong_within (kind ∷ kinds) (word ∷ parts) bad (inr h) =
     let later = goes_wrong_within kinds parts bad h.1 in
     let shorter = words_text-tail word parts in
-    omega arith
-
-pub bad_within : {V : Type 0} (text_of : V → List ℕ) (kinds_of : V → List WordKind) (parts bad : List (List ℕ))
-    → IsBadFrom text_of kinds_of parts bad → length (words_text bad) ≤ length (words_text parts)
-bad_within text_of kinds_of parts bad (inl h) = let e = ap (λ l. length (words_text l)) h.1 in omega arith
-bad_within text_of kinds_of parts bad (inr h) =
-    let whole = ap (λ l. length (words_text l)) h.2 in
-    let later = goes_wrong_within (kinds_of h.0) h.1 bad h.3 in
-    let shorter = words_text-tail (text_of h.0) h.1 in
     omega arith
 
 -- ---- The first word
@@ -111,31 +102,35 @@ word_refused kind kinds (first ∷ parts) rest word wrong e refused k =
     let same : first ≡ word = cc in
     (first ∷ parts, inl (λ of. refused (subst (λ w. IsOf kind w) same of), refl), k)
 
--- a first word that is not allowed
-pub verb_refused : {V : Type 0} (text_of : V → List ℕ) (kinds_of : V → List WordKind) (parts rest : List (List ℕ))
-    (first : List ℕ) → parts ≡ first ∷ rest → ((verb : V) → first ≢ text_of verb)
-    → IsBadFrom text_of kinds_of parts parts
-verb_refused text_of kinds_of parts rest first e refused =
-    inl (λ verb later h. refused verb (let both : first ∷ rest ≡ text_of verb ∷ later = sym e ∙ h in cc both), refl)
+-- ---- A line that is cut after its first word
 
--- a line is read as its first word and those after it are
-pub line_read : {V A : Type 0} (text_of : V → List ℕ) (kinds_of : V → List WordKind)
-    (asks : List (List ℕ) → A → Type 0) (parts later : List (List ℕ)) (first : List ℕ) (verb : V)
-    (answer : Result A Wrong) → parts ≡ first ∷ later → first ≡ text_of verb
-    → MatchResult answer (λ act. asks (text_of verb ∷ later) act) (λ wrong. GoesWrongBefore (kinds_of verb) later wrong)
-    → MatchResult answer (λ act. asks parts act) (λ wrong. IsBadBefore text_of kinds_of parts wrong)
-line_read text_of kinds_of asks parts later first verb (Ok act) e f m =
-    subst (λ l. asks l act) (sym (e ∙ ap (λ w. w ∷ later) f)) m
-line_read text_of kinds_of asks parts later first verb (Err wrong) e f m =
-    (m.0, inr (verb, later, e ∙ ap (λ w. w ∷ later) f, m.1), m.2)
+module _ {V A : Type 0} (v : Vocabulary V A) (line first : List ℕ) (later : List (List ℕ))
+    (cut : words line ≡ first ∷ later) (short : length line ≤ 519) where
+  -- that word is not allowed
+  pub verb_refused : ((verb : V) → first ≢ v.text_of verb) → IsBadAt v line 0
+  verb_refused refused = inr (
+    short,
+    words line,
+    inl (λ verb rest h. refused verb (let both : first ∷ later ≡ v.text_of verb ∷ rest = sym cut ∙ h in cc both), refl),
+    omega (arith, length-words line),
+  )
 
-pub left_within : {V : Type 0} (text_of : V → List ℕ) (kinds_of : V → List WordKind) (line : List ℕ) (wrong : Wrong)
-    → IsBadBefore text_of kinds_of (words line) wrong → wrong.left ≤ length line
-left_within text_of kinds_of line wrong h = let within = bad_within text_of kinds_of (words line) h.0 h.1 in
-    let whole = length-words line in let e = h.2 in omega arith
+  -- it is allowed
+  module _ (verb : V) (same : first ≡ v.text_of verb) where
+    begins : words line ≡ v.text_of verb ∷ later
+    begins = cut ∙ ap (λ word. word ∷ later) same
 
-pub bad_from_there : {V : Type 0} (text_of : V → List ℕ) (kinds_of : V → List WordKind) (line : List ℕ) (wrong : Wrong)
-    → length line ≤ 519 → IsBadBefore text_of kinds_of (words line) wrong
-    → IsBadIn text_of kinds_of line (length line - wrong.left)
-bad_from_there text_of kinds_of line wrong short h = let within = left_within text_of kinds_of line wrong h in
-    let e = h.2 in inr (short, h.0, h.1, omega arith)
+    pub line_asks : (act : A) → v.asks (v.text_of verb ∷ later) act → AsksFor v line act
+    line_asks act h = (short, subst (λ parts. v.asks parts act) (sym begins) h)
+
+    pub left_within : (wrong : Wrong) → GoesWrongBefore (v.kinds_of verb) later wrong → wrong.left ≤ length line
+    left_within wrong h =
+        let within = goes_wrong_within (v.kinds_of verb) later h.0 h.1 in
+        let shorter = words_text-tail (v.text_of verb) later in
+        let whole = ap (λ parts. length (words_text parts)) begins in
+        omega (arith, h.2, length-words line)
+
+    pub bad_from_there : (wrong : Wrong) → GoesWrongBefore (v.kinds_of verb) later wrong
+        → IsBadAt v line (length line - wrong.left)
+    bad_from_there wrong h =
+        let within = left_within wrong h in inr (short, h.0, inr (verb, later, begins, h.1), omega (arith, h.2))

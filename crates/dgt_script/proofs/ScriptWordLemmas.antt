@@ -285,7 +285,7 @@ not_zero : (word : List ℕ) (n : ℕ) → 48 < get_or word 0 0 → decimal n �
 not_zero word zero first e = absurd (omega (arith, ap (λ w. get_or w 0 0) (sym (decimal_digit 0 (omega arith)) ∙ e)))
 not_zero word n first e = omega arith
 
--- what is parsed is a count where its first byte is above the digit 0
+-- what is parsed is a count if its first byte is above the digit 0
 pub parsed_count : {E : Type 0} (word : List ℕ) (n : ℕ) (r : Result ℕ E) → ParsesUnsigned 16 10 word r → r ≡ Ok n
     → 48 < get_or word 0 0 → IsCountWord word n
 parsed_count {E} word n r h e first =

@@ -16,30 +16,7 @@ use Rattle.dgt_script.specs.ScriptWords.{verb_text, IsBytesWord, IsSquareWord, I
 abbrev pub words : List ℕ → List (List ℕ)
 words line = slice_split (λ byte. byte == 32) line
 
--- ---- Lines that are acts
-
--- these words ask for this act
-abbrev pub Asks : List (List ℕ) → ActContent → Type 0
-Asks parts (Change square piece) =
-    (first : List ℕ) × (second : List ℕ) × (parts ≡ verb_text verb.Change ∷ first ∷ second ∷ [])
-    × IsSquareWord first square × IsPieceWord second piece
-Asks parts (ClockRead clock) = (word : List ℕ) × (parts ≡ verb_text verb.Clock ∷ word ∷ [])
-    × IsClockWord word clock
-Asks parts (Host command) = (word : List ℕ) × (parts ≡ verb_text verb.Host ∷ word ∷ [])
-    × IsCommandWord word command
-Asks parts BoardSend = parts ≡ verb_text verb.Send ∷ []
-Asks parts (ToBoard count) = (word : List ℕ) × (parts ≡ verb_text verb.ToBoard ∷ word ∷ [])
-    × IsCountWord word count
-Asks parts (ToHost count) = (word : List ℕ) × (parts ≡ verb_text verb.ToHost ∷ word ∷ [])
-    × IsCountWord word count
-Asks parts Break = parts ≡ verb_text verb.Break ∷ []
-Asks parts HostBreak = parts ≡ verb_text verb.HostBreak ∷ []
-
--- this line asks for this act
-abbrev pub AsksFor : List ℕ → ActContent → Type 0
-AsksFor line act = (length line ≤ 519) × Asks (words line) act
-
--- ---- Lines that are not
+-- ---- Words after the first one
 
 -- what a word after the first one may be
 pub data WordKind : Type 0 where
@@ -59,17 +36,6 @@ IsOf a_command word = (command : CommandContent) × IsCommandWord word command
 IsOf a_count word = (count : ℕ) × IsCountWord word count
 IsOf some_bytes word = (bytes : List ℕ) × IsBytesWord word bytes
 
--- what has to follow a first word, word for word
-abbrev pub kinds_after : Verb → List WordKind
-kinds_after verb.Change = a_square ∷ a_letter ∷ []
-kinds_after verb.Clock = a_clock ∷ []
-kinds_after verb.Host = a_command ∷ []
-kinds_after verb.Send = []
-kinds_after verb.ToBoard = a_count ∷ []
-kinds_after verb.ToHost = a_count ∷ []
-kinds_after verb.Break = []
-kinds_after verb.HostBreak = []
-
 -- the words are of these kinds, one of each
 abbrev pub AreOf : List WordKind → List (List ℕ) → Type 0
 AreOf [] [] = ⊤
@@ -86,26 +52,77 @@ GoesWrong (kind ∷ kinds) [] bad = bad ≡ []
 GoesWrong (kind ∷ kinds) (word ∷ parts) bad = ((¬ IsOf kind word) × (bad ≡ word ∷ parts))
     ⊎ (IsOf kind word × GoesWrong kinds parts bad)
 
--- the words of a line go wrong where `bad` begins: at the first, if it is none of these texts, or
--- after it; `kinds_of` are the kinds of the words after a first one
-abbrev pub IsBadFrom : {V : Type 0} → (V → List ℕ) → (V → List WordKind) → List (List ℕ)
-    → List (List ℕ) → Type 0
-IsBadFrom {V} text_of kinds_of parts bad =
-    (((verb : V) (rest : List (List ℕ)) → parts ≢ text_of verb ∷ rest) × (bad ≡ parts))
-    ⊎ ((verb : V) × (rest : List (List ℕ)) × (parts ≡ text_of verb ∷ rest)
-    × GoesWrong (kinds_of verb) rest bad)
+-- the words are this first one and one more, which has this value
+abbrev pub HasWordAfter : {A : Type 0} → List ℕ → (List ℕ → A → Type 0) → List (List ℕ) → A
+    → Type 0
+HasWordAfter first has_value parts value =
+    (word : List ℕ) × (parts ≡ first ∷ word ∷ []) × has_value word value
 
--- with these first words the line asks for no act, and goes wrong at this offset, where the bad
--- words begin
-abbrev pub IsBadIn : {V : Type 0} → (V → List ℕ) → (V → List WordKind) → List ℕ → ℕ → Type 0
-IsBadIn text_of kinds_of line at =
+-- ---- Lines
+
+-- the words that a line may begin with, the kinds of the words after each one, and which words of a
+-- line ask for which act
+pub record Vocabulary (V A : Type 0) : Type 1 where
+  pub text_of : V → List ℕ
+  pub kinds_of : V → List WordKind
+  pub asks : List (List ℕ) → A → Type 0
+
+-- this line asks for this act
+abbrev pub AsksFor : {V A : Type 0} → Vocabulary V A → List ℕ → A → Type 0
+AsksFor vocabulary line act = (length line ≤ 519) × vocabulary.asks (words line) act
+
+-- the words of a line go wrong where `bad` begins: at the first, if no line may begin with it, or
+-- after it
+abbrev pub IsBadFrom : {V A : Type 0} → Vocabulary V A → List (List ℕ) → List (List ℕ) → Type 0
+IsBadFrom {V} vocabulary parts bad =
+    (((verb : V) (rest : List (List ℕ)) → parts ≢ vocabulary.text_of verb ∷ rest) × (bad ≡ parts))
+    ⊎ ((verb : V) × (rest : List (List ℕ)) × (parts ≡ vocabulary.text_of verb ∷ rest)
+    × GoesWrong (vocabulary.kinds_of verb) rest bad)
+
+-- this line asks for no act, and goes wrong at this offset, where the bad words begin
+abbrev pub IsBadAt : {V A : Type 0} → Vocabulary V A → List ℕ → ℕ → Type 0
+IsBadAt vocabulary line at =
     ((519 < length line) × (at ≡ 519))
-    ⊎ ((length line ≤ 519) × (bad : List (List ℕ)) × IsBadFrom text_of kinds_of (words line) bad
+    ⊎ ((length line ≤ 519) × (bad : List (List ℕ)) × IsBadFrom vocabulary (words line) bad
     × (at + length (words_text bad) ≡ length line))
 
--- this line asks for no act, and goes wrong at this offset
-abbrev pub IsBadAt : List ℕ → ℕ → Type 0
-IsBadAt line at = IsBadIn verb_text kinds_after line at
+-- ---- Lines for a world without faults
+
+-- what has to follow a first word, word for word
+abbrev pub kinds_after : Verb → List WordKind
+kinds_after verb.Change = a_square ∷ a_letter ∷ []
+kinds_after verb.Clock = a_clock ∷ []
+kinds_after verb.Host = a_command ∷ []
+kinds_after verb.Send = []
+kinds_after verb.ToBoard = a_count ∷ []
+kinds_after verb.ToHost = a_count ∷ []
+kinds_after verb.Break = []
+kinds_after verb.HostBreak = []
+
+-- these words ask for this act
+abbrev pub Asks : List (List ℕ) → ActContent → Type 0
+Asks parts (Change square piece) =
+    (first : List ℕ) × (second : List ℕ) × (parts ≡ verb_text verb.Change ∷ first ∷ second ∷ [])
+    × IsSquareWord first square × IsPieceWord second piece
+Asks parts (ClockRead clock) = HasWordAfter (verb_text verb.Clock) IsClockWord parts clock
+Asks parts (Host command) = HasWordAfter (verb_text verb.Host) IsCommandWord parts command
+Asks parts BoardSend = parts ≡ verb_text verb.Send ∷ []
+Asks parts (ToBoard count) = HasWordAfter (verb_text verb.ToBoard) IsCountWord parts count
+Asks parts (ToHost count) = HasWordAfter (verb_text verb.ToHost) IsCountWord parts count
+Asks parts Break = parts ≡ verb_text verb.Break ∷ []
+Asks parts HostBreak = parts ≡ verb_text verb.HostBreak ∷ []
+
+abbrev pub plain_words : Vocabulary Verb ActContent
+plain_words = record { text_of = verb_text; kinds_of = kinds_after; asks = Asks }
+
+-- ---- One meaning
+
+-- a line has one of these at most
+abbrev pub IsSingleValued : {A : Type 0} → (List ℕ → A → Type 0) → Type 0
+IsSingleValued {A} has =
+    (line : List ℕ) (first second : A) → has line first → has line second → first ≡ second
+
+-- ---- In code
 
 -- the offset that is reported
 abbrev pub bad_offset : LineFault → ℕ

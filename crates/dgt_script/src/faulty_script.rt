@@ -2,13 +2,14 @@
 
 ghost use Rattle.std.specs.Prelude.{IfOk, IfErr};
 ghost use Rattle.dgt_link.specs.Faults.{faulty_content};
-ghost use Rattle.dgt_script.specs.FaultyScript.{AsksForFaulty, IsBadAtFaulty};
-ghost use Rattle.dgt_script.specs.Script.{bad_offset, words};
-ghost use Rattle.dgt_script.specs.ScriptReading.{left_words, ReadsBytes, ReadsFaultyBehind, ReadsFaultyLine};
+ghost use Rattle.dgt_script.specs.FaultyScript.{faulty_text, faulty_words};
+ghost use Rattle.dgt_script.specs.Script.{bad_offset, some_bytes, AsksFor, IsBadAt};
+ghost use Rattle.dgt_script.specs.ScriptReading.{left_words, seen_as, FindsWord, ReadsWord};
+ghost use Rattle.dgt_script.specs.ScriptWords.{IsBytesWord};
 
-use crate::script::{LineFault, Wrong, cut_word, next_word, no_word, read_rest, wrong_from};
-use crate::script_lines::MAX_LINE;
-use crate::script_words::{FaultVerb, FaultyVerb, bytes_word, faulty_word};
+use crate::first_word::{FirstWord, read_line};
+use crate::script::{LineFault, Wrong, next_word, no_word, wrong_from};
+use crate::script_words::{FaultyVerb, Store, bytes_word, faulty_word};
 use dgt_command::MAX_WORD;
 use dgt_link::FaultyAct;
 
@@ -30,61 +31,44 @@ pub fn read_faulty_act<'a>(
     line: &[u8],
     store: &'a mut [u8; MAX_WORD],
 ) -> Result<FaultyAct<'a>, LineFault>
-    ensures asked { IfOk result (λ act. AsksForFaulty line.now (faulty_content act)) }
-    ensures bad { IfErr result (λ fault. IsBadAtFaulty line.now (bad_offset fault)) }
+    ensures asked { IfOk result (λ act. AsksFor faulty_words line.now (faulty_content act)) }
+    ensures bad { IfErr result (λ fault. IsBadAt faulty_words line.now (bad_offset fault)) }
 {
-    if line.len() > MAX_LINE {
-        return Err(LineFault::BadLine { at: MAX_LINE });
-    }
-    match read_words(line, store) {
-        Ok(act) => Ok(act),
-        Err(Wrong { left }) => Err(LineFault::BadLine {
-            at: line.len() - left,
-        }),
-    }
+    read_line::<FaultyVerb>(line, store)
 }
 
-// The act that all words of a line ask for.
-fn read_words<'a>(line: &[u8], store: &'a mut [u8; MAX_WORD]) -> Result<FaultyAct<'a>, Wrong>
-    ensures { ReadsFaultyLine (words line.now) result }
-{
-    let (first, rest) = cut_word(line);
-    let Some(verb) = faulty_word(first) else {
-        return Err(Wrong { left: line.len() });
-    };
-    read_faulty_rest(verb, rest, store)
-}
+impl<'a> FirstWord<'a> for FaultyVerb {
+    type Act = FaultyAct<'a>;
 
-// The act that the words after this first one ask for.
-fn read_faulty_rest<'a>(
-    first: FaultyVerb,
-    rest: Option<&[u8]>,
-    store: &'a mut [u8; MAX_WORD],
-) -> Result<FaultyAct<'a>, Wrong>
-    ensures { ReadsFaultyBehind first (left_words rest.entry) result }
-{
-    match first {
-        FaultyVerb::Plain(verb) => Ok(FaultyAct::Plain(read_rest(verb, rest, store)?)),
-        FaultyVerb::Fault(FaultVerb::GarbleUp) => {
-            Ok(FaultyAct::GarbleUp(bytes_line(rest, store)?))
-        }
-        FaultyVerb::Fault(FaultVerb::GarbleDown) => {
-            Ok(FaultyAct::GarbleDown(bytes_line(rest, store)?))
-        }
-        FaultyVerb::Fault(FaultVerb::BoardLost) => {
-            no_word(rest)?;
-            Ok(FaultyAct::BoardLost)
-        }
-        FaultyVerb::Fault(FaultVerb::Restart) => {
-            no_word(rest)?;
-            Ok(FaultyAct::Restart)
+    ghost vocabulary = { seen_as faulty_content faulty_words };
+
+    fn of_text(text: &[u8]) -> Option<Self>
+        ensures { FindsWord faulty_text text.now result }
+    {
+        faulty_word(text)
+    }
+
+    fn read_rest(self, rest: Option<&[u8]>, store: &'a mut Store) -> Result<FaultyAct<'a>, Wrong> {
+        match self {
+            FaultyVerb::Plain(verb) => Ok(FaultyAct::Plain(verb.read_rest(rest, store)?)),
+            FaultyVerb::GarbleUp => Ok(FaultyAct::GarbleUp(bytes_line(rest, store)?)),
+            FaultyVerb::GarbleDown => Ok(FaultyAct::GarbleDown(bytes_line(rest, store)?)),
+            FaultyVerb::BoardLost => {
+                no_word(rest)?;
+                Ok(FaultyAct::BoardLost)
+            }
+            FaultyVerb::Restart => {
+                no_word(rest)?;
+                Ok(FaultyAct::Restart)
+            }
         }
     }
 }
 
 // The bytes after `garbleup` or `garbledown`.
-fn bytes_line<'a>(rest: Option<&[u8]>, store: &'a mut [u8; MAX_WORD]) -> Result<&'a [u8], Wrong>
-    ensures { ReadsBytes (left_words rest.entry) result }
+fn bytes_line<'a>(rest: Option<&[u8]>, store: &'a mut Store) -> Result<&'a [u8], Wrong>
+    ensures { ReadsWord some_bytes (λ word bytes. IsBytesWord word bytes.now)
+        (left_words rest.entry) result }
 {
     let (word, last) = next_word(rest)?;
     let Some(bytes) = bytes_word(word, store) else {

@@ -5,8 +5,8 @@ ghost use Rattle.std.specs.Prelude.{◌≡◌, ◌≢◌, ◌↔◌, ◌∷◌, 
 ghost use Rattle.dgt_values.specs.Equality.{CloneIsSame, EqualIsSame};
 ghost use Rattle.dgt_link.specs.Act.{ActContent};
 ghost use Rattle.dgt_link.specs.Faults.{FaultyContent};
-ghost use Rattle.dgt_script.specs.FaultyScript.{AsksFaulty, AsksForFaulty, IsBadAtFaulty, faulty_kinds, faulty_text};
-ghost use Rattle.dgt_script.specs.Script.{AreOf, Asks, AsksFor, IsBadAt, kinds_after};
+ghost use Rattle.dgt_script.specs.FaultyScript.{AsksFaulty, faulty_kinds, faulty_text, faulty_words};
+ghost use Rattle.dgt_script.specs.Script.{AreOf, Asks, AsksFor, IsBadAt, IsSingleValued, kinds_after, plain_words};
 ghost use Rattle.dgt_script.specs.ScriptWords.{verb_text};
 ghost use Rattle.dgt_script.specs.declared.script_words.FaultyVerb.{FaultyVerb};
 ghost use Rattle.dgt_script.specs.declared.script_words.Verb.{Verb};
@@ -19,7 +19,7 @@ pub fn limits()
     ensures line { MAX_LINE ≡ 519 }
 {}
 
-/// Two values are equal, as `==` answers, exactly where they are the same.
+/// Two values are equal, as `==` answers, exactly if they are the same.
 pub fn equal_is_same()
     ensures line_fault { EqualIsSame ⟦<LineFault as PartialEq>⟧.eq }
 {}
@@ -34,22 +34,18 @@ pub fn clone_is_same()
 /// The same holds of lines for a world with faults. There a line of a plain script asks for the
 /// same act, and one that goes wrong after its first word goes wrong at the same place.
 pub fn lines_have_one_meaning()
-    ensures one_act { (line : List ℕ) (first second : ActContent) →
-        AsksFor line first → AsksFor line second → first ≡ second }
+    ensures one_act { IsSingleValued (AsksFor plain_words) }
     ensures act_or_fault { (line : List ℕ) (act : ActContent) (at : ℕ) →
-        AsksFor line act → ¬ (IsBadAt line at) }
-    ensures one_place { (line : List ℕ) (first second : ℕ) →
-        IsBadAt line first → IsBadAt line second → first ≡ second }
-    ensures one_faulty_act { (line : List ℕ) (first second : FaultyContent) →
-        AsksForFaulty line first → AsksForFaulty line second → first ≡ second }
+        AsksFor plain_words line act → ¬ (IsBadAt plain_words line at) }
+    ensures one_place { IsSingleValued (IsBadAt plain_words) }
+    ensures one_faulty_act { IsSingleValued (AsksFor faulty_words) }
     ensures faulty_act_or_fault { (line : List ℕ) (act : FaultyContent) (at : ℕ) →
-        AsksForFaulty line act → ¬ (IsBadAtFaulty line at) }
-    ensures one_faulty_place { (line : List ℕ) (first second : ℕ) →
-        IsBadAtFaulty line first → IsBadAtFaulty line second → first ≡ second }
+        AsksFor faulty_words line act → ¬ (IsBadAt faulty_words line at) }
+    ensures one_faulty_place { IsSingleValued (IsBadAt faulty_words) }
     ensures plain { (line : List ℕ) (act : ActContent) →
-        AsksFor line act ↔ AsksForFaulty line (FaultyContent.Plain act) }
+        AsksFor plain_words line act ↔ AsksFor faulty_words line (FaultyContent.Plain act) }
     ensures plain_place { (line : List ℕ) (at : ℕ) →
-        IsBadAt line at → at ≢ 0 → IsBadAtFaulty line at }
+        IsBadAt plain_words line at → at ≢ 0 → IsBadAt faulty_words line at }
 {
     dgt_message::laws::reading_is_exact();
     dgt_command::laws::spellings_tell_commands();

@@ -26,6 +26,7 @@
 
 mod cutting;
 mod faulty_script;
+mod first_word;
 pub mod laws;
 mod outcomes;
 mod script;

@@ -2,15 +2,15 @@
 
 ghost use Rattle.std.specs.Prelude.{◌≡◌, [], ◌∷◌, length, IfOk, IfErr, MatchResult};
 ghost use Rattle.dgt_link.specs.Act.{act_content};
-ghost use Rattle.dgt_script.specs.ScriptWords.{words_text};
-ghost use Rattle.dgt_script.specs.Script.{bad_offset, words, AsksFor, IsBadAt};
-ghost use Rattle.dgt_script.specs.ScriptReading.{left_words, GoesWrongBefore, ReadsBehind, ReadsCount, ReadsLine};
+ghost use Rattle.dgt_script.specs.ScriptWords.{verb_text, words_text, IsCountWord};
+ghost use Rattle.dgt_script.specs.Script.{a_count, bad_offset, plain_words, words, AsksFor, IsBadAt};
+ghost use Rattle.dgt_script.specs.ScriptReading.{left_words, plain_acts, FindsWord, GoesWrongBefore, ReadsAfter, ReadsWord};
 ghost use Rattle.dgt_script.specs.declared.script_words.Verb.TheVariants as verb;
 
 use crate::cutting::len_before;
-use crate::script_lines::MAX_LINE;
+use crate::first_word::{FirstWord, read_line};
 use crate::script_words::{
-    Verb, clock_word, command_word, count_word, piece_word, square_word, verb_word,
+    Store, Verb, clock_word, command_word, count_word, piece_word, square_word, verb_word,
 };
 use dgt_command::MAX_WORD;
 use dgt_link::Act;
@@ -51,63 +51,49 @@ pub(crate) struct Wrong {
 /// Hexadecimal digits may be of either case. Any other line, and one of more than 519 bytes, is
 /// `BadLine`.
 pub fn read_act<'a>(line: &[u8], store: &'a mut [u8; MAX_WORD]) -> Result<Act<'a>, LineFault>
-    ensures asked { IfOk result (λ act. AsksFor line.now (act_content act)) }
-    ensures bad { IfErr result (λ fault. IsBadAt line.now (bad_offset fault)) }
+    ensures asked { IfOk result (λ act. AsksFor plain_words line.now (act_content act)) }
+    ensures bad { IfErr result (λ fault. IsBadAt plain_words line.now (bad_offset fault)) }
 {
-    if line.len() > MAX_LINE {
-        return Err(LineFault::BadLine { at: MAX_LINE });
-    }
-    match read_words(line, store) {
-        Ok(act) => Ok(act),
-        Err(Wrong { left }) => Err(LineFault::BadLine {
-            at: line.len() - left,
-        }),
-    }
+    read_line::<Verb>(line, store)
 }
 
-// The act that all words of a line ask for.
-fn read_words<'a>(line: &[u8], store: &'a mut [u8; MAX_WORD]) -> Result<Act<'a>, Wrong>
-    ensures { ReadsLine (words line.now) result }
-{
-    let (first, rest) = cut_word(line);
-    let Some(verb) = verb_word(first) else {
-        return Err(Wrong { left: line.len() });
-    };
-    read_rest(verb, rest, store)
-}
+impl<'a> FirstWord<'a> for Verb {
+    type Act = Act<'a>;
 
-/// The act that the words after this first one ask for.
-pub(crate) fn read_rest<'a>(
-    first: Verb,
-    rest: Option<&[u8]>,
-    store: &'a mut [u8; MAX_WORD],
-) -> Result<Act<'a>, Wrong>
-    ensures { ReadsBehind first (left_words rest.entry) result }
-{
-    match first {
-        Verb::Change => change_line(rest),
-        Verb::Clock => clock_line(rest),
-        Verb::Host => host_line(rest, store),
-        Verb::Send => {
-            no_word(rest)?;
-            Ok(Act::BoardSend)
-        }
-        Verb::ToBoard => Ok(Act::ToBoard(count_line(rest)?)),
-        Verb::ToHost => Ok(Act::ToHost(count_line(rest)?)),
-        Verb::Break => {
-            no_word(rest)?;
-            Ok(Act::Break)
-        }
-        Verb::HostBreak => {
-            no_word(rest)?;
-            Ok(Act::HostBreak)
+    ghost vocabulary = { plain_acts };
+
+    fn of_text(text: &[u8]) -> Option<Self>
+        ensures { FindsWord verb_text text.now result }
+    {
+        verb_word(text)
+    }
+
+    fn read_rest(self, rest: Option<&[u8]>, store: &'a mut Store) -> Result<Act<'a>, Wrong> {
+        match self {
+            Verb::Change => change_line(rest),
+            Verb::Clock => clock_line(rest),
+            Verb::Host => host_line(rest, store),
+            Verb::Send => {
+                no_word(rest)?;
+                Ok(Act::BoardSend)
+            }
+            Verb::ToBoard => Ok(Act::ToBoard(count_line(rest)?)),
+            Verb::ToHost => Ok(Act::ToHost(count_line(rest)?)),
+            Verb::Break => {
+                no_word(rest)?;
+                Ok(Act::Break)
+            }
+            Verb::HostBreak => {
+                no_word(rest)?;
+                Ok(Act::HostBreak)
+            }
         }
     }
 }
 
 // Below, `rest` is what stands after the first word and its space.
 fn change_line(rest: Option<&[u8]>) -> Result<Act<'static>, Wrong>
-    ensures { ReadsBehind verb.Change (left_words rest.entry) result }
+    ensures { ReadsAfter plain_acts verb.Change (left_words rest.entry) result }
 {
     let (word, later) = next_word(rest)?;
     let Some(square) = square_word(word) else {
@@ -122,7 +108,7 @@ fn change_line(rest: Option<&[u8]>) -> Result<Act<'static>, Wrong>
 }
 
 fn clock_line(rest: Option<&[u8]>) -> Result<Act<'static>, Wrong>
-    ensures { ReadsBehind verb.Clock (left_words rest.entry) result }
+    ensures { ReadsAfter plain_acts verb.Clock (left_words rest.entry) result }
 {
     let (word, last) = next_word(rest)?;
     let Some(clock) = clock_word(word) else {
@@ -132,8 +118,8 @@ fn clock_line(rest: Option<&[u8]>) -> Result<Act<'static>, Wrong>
     Ok(Act::ClockRead(clock))
 }
 
-fn host_line<'a>(rest: Option<&[u8]>, store: &'a mut [u8; MAX_WORD]) -> Result<Act<'a>, Wrong>
-    ensures { ReadsBehind verb.Host (left_words rest.entry) result }
+fn host_line<'a>(rest: Option<&[u8]>, store: &'a mut Store) -> Result<Act<'a>, Wrong>
+    ensures { ReadsAfter plain_acts verb.Host (left_words rest.entry) result }
 {
     let (word, last) = next_word(rest)?;
     let Some(command) = command_word(word, store) else {
@@ -144,7 +130,7 @@ fn host_line<'a>(rest: Option<&[u8]>, store: &'a mut [u8; MAX_WORD]) -> Result<A
 }
 
 fn count_line(rest: Option<&[u8]>) -> Result<usize, Wrong>
-    ensures { ReadsCount (left_words rest.entry) result }
+    ensures { ReadsWord a_count IsCountWord (left_words rest.entry) result }
 {
     let (word, last) = next_word(rest)?;
     let Some(count) = count_word(word) else {

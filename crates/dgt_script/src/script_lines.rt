@@ -38,7 +38,7 @@ impl LineBuffer {
             .unwrap();
     }
 
-    /// The whole line; `None` where it has more than 519 bytes.
+    /// The whole line; `None` if it has more than 519 bytes.
     pub fn line(&self) -> Option<&[u8]>
         ensures { (line : List ℕ) → KeepsLine self.now line → IsShort line result }
     {

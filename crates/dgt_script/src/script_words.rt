@@ -1,21 +1,22 @@
 //! The words of a script line: the first one, and squares, pieces, clocks, commands and counts.
 
-ghost use Rattle.std.specs.Prelude.{◌≡◌, ◌≢◌, ◌≤◌, ℕ, List, MatchOption, length};
+ghost use Rattle.std.specs.Prelude.{◌≤◌, ℕ, List, MatchOption, length};
 ghost use Rattle.dgt_values.specs.declared.pieces.Piece.{Piece};
 ghost use Rattle.dgt_values.specs.Board.{square_number};
 ghost use Rattle.dgt_message.specs.Content.{clock_seen, content};
 ghost use Rattle.dgt_message.specs.Clock.{ClockState};
 ghost use Rattle.dgt_command.specs.Content.{command_content, CommandContent};
-ghost use Rattle.dgt_script.specs.FaultyScript.{fault_text, faulty_text};
+ghost use Rattle.dgt_script.specs.FaultyScript.{faulty_text};
+ghost use Rattle.dgt_script.specs.ScriptReading.{FindsWord};
 ghost use Rattle.dgt_script.specs.ScriptWords.{verb_text, IsBytesWord, IsClockWord, IsCommandWord, IsCountWord, IsHexOf, IsPieceWord, IsSquareWord, TellsClock};
-ghost use Rattle.dgt_script.specs.declared.script_words.FaultVerb.{FaultVerb};
-ghost use Rattle.dgt_script.specs.declared.script_words.FaultyVerb.{FaultyVerb};
-ghost use Rattle.dgt_script.specs.declared.script_words.Verb.{Verb};
 
 use dgt_command::{Command, MAX_WORD, view_command};
 use dgt_message::{Clock, KnownCode, Message, view};
 use dgt_values::{Body, Piece, SevenBit, Square};
 use hex::FromHex;
+
+/// Room for the bytes of any command.
+pub(crate) type Store = [u8; MAX_WORD];
 
 /// The words that a line may begin with.
 #[derive(Clone, Copy)]
@@ -30,90 +31,56 @@ pub(crate) enum Verb {
     HostBreak,
 }
 
-/// The words that ask for a fault or a restart.
+/// The words that a line may begin with if the world may have faults.
 #[derive(Clone, Copy)]
-pub(crate) enum FaultVerb {
+pub(crate) enum FaultyVerb {
+    Plain(Verb),
     GarbleUp,
     GarbleDown,
     BoardLost,
     Restart,
 }
 
-/// The words that a line may begin with if the world may have faults.
-#[derive(Clone, Copy)]
-pub(crate) enum FaultyVerb {
-    Plain(Verb),
-    Fault(FaultVerb),
+// The value of the row with this word. A `match` over byte strings takes three times as long to
+// prove.
+macro_rules! match_word {
+    ($word:ident { $($text:literal => $value:expr),+ $(,)? }) => {{
+        $(if $word == $text.as_slice() {
+            return Some($value);
+        })+
+        None
+    }};
 }
 
 /// What a first word begins.
 pub(crate) fn verb_word(word: &[u8]) -> Option<Verb>
-    ensures { MatchOption result
-        ((verb : Verb) → word.now ≢ verb_text verb)
-        (λ verb. word.now ≡ verb_text verb) }
+    ensures { FindsWord verb_text word.now result }
 {
-    // A match over byte strings takes three times as long to prove.
-    if word == b"change".as_slice() {
-        return Some(Verb::Change);
-    }
-    if word == b"clock".as_slice() {
-        return Some(Verb::Clock);
-    }
-    if word == b"host".as_slice() {
-        return Some(Verb::Host);
-    }
-    if word == b"send".as_slice() {
-        return Some(Verb::Send);
-    }
-    if word == b"toboard".as_slice() {
-        return Some(Verb::ToBoard);
-    }
-    if word == b"tohost".as_slice() {
-        return Some(Verb::ToHost);
-    }
-    if word == b"break".as_slice() {
-        return Some(Verb::Break);
-    }
-    if word == b"hostbreak".as_slice() {
-        return Some(Verb::HostBreak);
-    }
-    None
-}
-
-// What a first word begins if it is none of a plain script.
-fn fault_word(word: &[u8]) -> Option<FaultVerb>
-    ensures { MatchOption result
-        ((verb : FaultVerb) → word.now ≢ fault_text verb)
-        (λ verb. word.now ≡ fault_text verb) }
-{
-    if word == b"garbleup".as_slice() {
-        return Some(FaultVerb::GarbleUp);
-    }
-    if word == b"garbledown".as_slice() {
-        return Some(FaultVerb::GarbleDown);
-    }
-    if word == b"boardlost".as_slice() {
-        return Some(FaultVerb::BoardLost);
-    }
-    if word == b"restart".as_slice() {
-        return Some(FaultVerb::Restart);
-    }
-    None
+    match_word!(word {
+        b"change" => Verb::Change,
+        b"clock" => Verb::Clock,
+        b"host" => Verb::Host,
+        b"send" => Verb::Send,
+        b"toboard" => Verb::ToBoard,
+        b"tohost" => Verb::ToHost,
+        b"break" => Verb::Break,
+        b"hostbreak" => Verb::HostBreak,
+    })
 }
 
 /// What a first word begins if the world may have faults.
 pub(crate) fn faulty_word(word: &[u8]) -> Option<FaultyVerb>
-    ensures { MatchOption result
-        ((verb : FaultyVerb) → word.now ≢ faulty_text verb)
-        (λ verb. word.now ≡ faulty_text verb) }
+    ensures { FindsWord faulty_text word.now result }
 {
-    match fault_word(word) {
-        Some(fault) => Some(FaultyVerb::Fault(fault)),
-        None => match verb_word(word) {
-            Some(verb) => Some(FaultyVerb::Plain(verb)),
-            None => None,
-        },
+    if let Some(verb) = verb_word(word) {
+        return Some(FaultyVerb::Plain(verb));
     }
+    match_word!(word {
+        b"garbleup" => FaultyVerb::GarbleUp,
+        b"garbledown" => FaultyVerb::GarbleDown,
+        b"boardlost" => FaultyVerb::BoardLost,
+        b"restart" => FaultyVerb::Restart,
+    })
 }
 
 /// The square of a name such as `e4`.
@@ -166,7 +133,7 @@ fn clock_of(message: Message<'_>) -> Option<Clock>
 /// The command whose bytes are these hexadecimal digits of either case, two for each byte. The
 /// bytes are put at the front of `store`, which has room for those of any command, and the command
 /// lends what it carries from there.
-pub(crate) fn command_word<'a>(word: &[u8], store: &'a mut [u8; MAX_WORD]) -> Option<Command<'a>>
+pub(crate) fn command_word<'a>(word: &[u8], store: &'a mut Store) -> Option<Command<'a>>
     ensures { MatchOption result
         ((command : CommandContent) → ¬ (IsCommandWord word.now command))
         (λ command. IsCommandWord word.now (command_content command)) }
@@ -177,7 +144,7 @@ pub(crate) fn command_word<'a>(word: &[u8], store: &'a mut [u8; MAX_WORD]) -> Op
 
 /// No byte for `-`, or the 1 to 257 bytes of hexadecimal digits of either case, two for each byte.
 /// The bytes are put at the start of `store`.
-pub(crate) fn bytes_word<'a>(word: &[u8], store: &'a mut [u8; MAX_WORD]) -> Option<&'a [u8]>
+pub(crate) fn bytes_word<'a>(word: &[u8], store: &'a mut Store) -> Option<&'a [u8]>
     ensures { MatchOption result
         ((bytes : List ℕ) → ¬ (IsBytesWord word.now bytes))
         (λ bytes. IsBytesWord word.now bytes.now) }
@@ -193,7 +160,7 @@ pub(crate) fn bytes_word<'a>(word: &[u8], store: &'a mut [u8; MAX_WORD]) -> Opti
 }
 
 // The bytes of hexadecimal digits, at the start of `store`, if it has room for them.
-fn hex_bytes<'a>(word: &[u8], store: &'a mut [u8; MAX_WORD]) -> Option<&'a [u8]>
+fn hex_bytes<'a>(word: &[u8], store: &'a mut Store) -> Option<&'a [u8]>
     ensures { MatchOption result
         ((bytes : List ℕ) → length bytes ≤ 257 → ¬ (IsHexOf word.now bytes))
         (λ bytes. (length bytes.now ≤ 257) × IsHexOf word.now bytes.now) }

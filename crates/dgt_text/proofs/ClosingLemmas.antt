@@ -12,7 +12,7 @@ text-twice text =
     ∙ sym (append_assoc text (codes "\nhost ") (text ++ codes "\n"))
     ∙ sym (append_assoc (text ++ codes "\nhost ") text (codes "\n"))
 
--- the first two lines where the picture is the position
+-- the first two lines if the picture is the position
 pub closing_lines-agree : ClosingLinesAgree
 unfolding closing_text
 closing_lines-agree world quiet h =

@@ -4,8 +4,9 @@ use Rattle.std.specs.Prelude.{All, flat_map}
 use Rattle.dgt_link.specs.declared.acts.Outcome.{Outcome}
 use Rattle.dgt_link.specs.View.{WorldView}
 use Rattle.dgt_script.specs.Outcomes.{outcome_line}
+use Rattle.dgt_script.specs.Script.{AsksFor, IsSingleValued, Vocabulary}
 use Rattle.dgt_script.specs.ScriptLines.{HasNoFeed, IsCut, ended}
-use Rattle.dgt_text.specs.Simulating.{Plays, Rules}
+use Rattle.dgt_text.specs.Simulating.{Plays, Rules, rules_of}
 
 rest_of : {A : Type 0} (P : A → Type 0) (x : A) (xs : List A) → All P (x ∷ xs) → All P xs
 rest_of P x xs h k d b = h (suc k) d (omega arith)
@@ -56,10 +57,14 @@ pub cut_once : (bytes : List ℕ) (lines others : List (List ℕ)) (rest other :
 cut_once bytes lines others rest other c d = lines_once lines others rest other c.each d.each c.last d.last
     (sym c.whole ∙ d.whole)
 
+-- each line has one outcome
+abbrev pub HasOneOutcome : Rules → Type 0
+HasOneOutcome rules =
+    (line : List ℕ) (world after other : WorldView) (answer also : Outcome) → rules.does line world answer after
+    → rules.does line world also other → (answer ≡ also) × (after ≡ other)
+
 -- lines of which each has one outcome
-module _ (rules : Rules)
-    (one : (line : List ℕ) (world after other : WorldView) (answer also : Outcome) → rules.does line world answer after
-    → rules.does line world also other → (answer ≡ also) × (after ≡ other)) where
+module _ (rules : Rules) (one : HasOneOutcome rules) where
   pub plays_once : (w : WorldView) (ls : List (List ℕ)) (t u : List ℕ) (l k : WorldView) → Plays rules w ls t l
       → Plays rules w ls u k → (t ≡ u) × (l ≡ k)
   plays_once w [] t u l k p q = (p.0 ∙ sym q.0, sym p.1 ∙ q.1)
@@ -69,14 +74,11 @@ module _ (rules : Rules)
       (p.4 ∙ ap (λ o. outcome_line o ++ p.2) step.0 ∙ ap (λ r. outcome_line q.0 ++ r) more.0 ∙ sym q.4, more.1)
 
 -- a line asks for one act, which has one outcome
-pub acts_once : {A : Type 0} (asks : List ℕ → A → Type 0) (steps : A → WorldView → Outcome → WorldView → Type 0)
-    → ((line : List ℕ) (first second : A) → asks line first → asks line second → first ≡ second)
+pub acts_once : {V A : Type 0} (vocabulary : Vocabulary V A) (steps : A → WorldView → Outcome → WorldView → Type 0)
+    → IsSingleValued (AsksFor vocabulary)
     → ((act : A) (world after other : WorldView) (answer also : Outcome) → steps act world answer after
     → steps act world also other → (answer ≡ also) × (after ≡ other))
-    → (line : List ℕ) (world after other : WorldView) (answer also : Outcome)
-    → ((act : A) × asks line act × steps act world answer after)
-    → ((act : A) × asks line act × steps act world also other)
-    → (answer ≡ also) × (after ≡ other)
-acts_once asks steps meaning one line w l k o v p q =
+    → HasOneOutcome (rules_of vocabulary steps)
+acts_once vocabulary steps meaning one line w l k o v p q =
     let same : p.0 ≡ q.0 = meaning line p.0 q.0 p.1 q.1 in
     one q.0 w l k o v (subst (λ a. steps a w o l) same p.2) q.2

@@ -30,8 +30,8 @@ pub record IsBrokenOff (before after : BoardView) (bytes out : List ℕ) : Type 
   pub hears : HearsFront before bytes steps after
   pub told : IsAlmostTold steps out
 
--- the board before and after, the bytes that were read and those that were written, where `serve`
--- gave this answer
+-- the board before and after, the bytes that were read and those that were written, if `serve` gave
+-- this answer
 abbrev pub IsServed : {A : Type 0} → Result A RunFault → BoardView → BoardView → List ℕ → List ℕ
     → Type 0
 IsServed (Ok _) before after bytes out = IsAnswered before after bytes out

@@ -1,9 +1,9 @@
 -- A script that is played in a world.
-use Rattle.std.specs.Prelude.{◌≡◌, ◌+◌, ◌≤◌, ◌↔◌, ◌⊎◌, ⊤, ℕ, Bool, true, List, [], ◌∷◌, ◌++◌, All, IsTrue, Result, Ok, Err, codes, flat_map, length}
+use Rattle.std.specs.Prelude.{◌≡◌, ◌+◌, ◌<◌, ◌≤◌, ◌↔◌, ◌⊎◌, ⊤, ℕ, Bool, true, List, [], ◌∷◌, ◌++◌, All, IsTrue, Result, Ok, Err, codes, flat_map, length}
 use Rattle.std.specs.Io.KnownBytes.{Appends}
-use Rattle.dgt_link.specs.Act.{ActContent}
+use Rattle.std.proofs.Common.{inl, refl}
 use Rattle.dgt_link.specs.declared.acts.Outcome.{Outcome}
-use Rattle.dgt_link.specs.Faults.{FaultyContent, FaultyStep}
+use Rattle.dgt_link.specs.Faults.{FaultyStep}
 use Rattle.dgt_link.specs.Healing.{IsPromisedWorld}
 use Rattle.dgt_link.specs.Machine.{MachineState}
 use Rattle.dgt_link.specs.Promise.{IsPromised}
@@ -18,8 +18,8 @@ use Rattle.dgt_script.specs.declared.script_lines.LineBuffer.{LineBuffer}
 use Rattle.dgt_text.specs.Closing.{closing_lines}
 use Rattle.dgt_script.specs.Outcomes.{outcome_line}
 use Rattle.dgt_lines.specs.Monitoring.{IsFront}
-use Rattle.dgt_script.specs.FaultyScript.{AsksForFaulty, IsBadAtFaulty}
-use Rattle.dgt_script.specs.Script.{AsksFor, IsBadAt}
+use Rattle.dgt_script.specs.FaultyScript.{faulty_words}
+use Rattle.dgt_script.specs.Script.{AsksFor, IsBadAt, Vocabulary, plain_words}
 use Rattle.dgt_script.specs.ScriptLines.{HasNoFeed, IsCut, KeepsLine, ended}
 
 -- ---- lines
@@ -45,22 +45,26 @@ pub record Rules : Type 1 where
   pub does : List ℕ → WorldView → Outcome → WorldView → Type 0
   -- this line asks for no act, and goes wrong at this offset
   pub is_bad : List ℕ → ℕ → Type 0
+  -- a line of more than 519 bytes goes wrong at 519
+  pub long_is_bad : (line : List ℕ) → 519 < length line → is_bad line 519
+
+-- the rules of scripts whose lines ask for acts, which take these steps
+abbrev pub rules_of : {V A : Type 0} → Vocabulary V A
+    → (A → WorldView → Outcome → WorldView → Type 0) → Rules
+rules_of {A = A} vocabulary steps = record {
+  does = λ line world outcome after.
+      (act : A) × AsksFor vocabulary line act × steps act world outcome after;
+  is_bad = IsBadAt vocabulary;
+  long_is_bad = λ line long. inl (long, refl);
+}
 
 -- the rules of a script for a world without faults
 abbrev pub plain_rules : Rules
-plain_rules = record {
-  does = λ line world outcome after.
-      (act : ActContent) × AsksFor line act × Step act world outcome after;
-  is_bad = IsBadAt;
-}
+plain_rules = rules_of plain_words Step
 
 -- the rules of a script for a world with faults
 abbrev pub faulty_rules : Rules
-faulty_rules = record {
-  does = λ line world outcome after.
-      (act : FaultyContent) × AsksForFaulty line act × FaultyStep act world outcome after;
-  is_bad = IsBadAtFaulty;
-}
+faulty_rules = rules_of faulty_words FaultyStep
 
 -- ---- playing
 
@@ -118,7 +122,7 @@ PlaysWhole rules p out =
     (lines : List (List ℕ)) × (rest : List ℕ) × IsCut p.bytes lines rest
     × Plays rules p.world lines out p.last
 
--- what stands in the sink for this part, and which world is left, where the answer is this and
+-- what stands in the sink for this part, and which world is left, if the answer is this and
 -- `at_end` says whether the source has given the end
 abbrev pub IsSimulatedFrom : {A : Type 0} → Rules → Bool → Part → Result A RunFault → List ℕ
     → Type 0

@@ -1,7 +1,6 @@
 //! The worlds in which a script can be run.
 
-ghost use Rattle.std.specs.Prelude.{◌≡◌, ◌<◌, ◌↔◌, ℕ, List, Bool, length, IfOk, IfErr, IsTrue, OnErr};
-ghost use Rattle.std.proofs.Common.{inl, refl};
+ghost use Rattle.std.specs.Prelude.{◌≡◌, ◌↔◌, Bool, IfOk, IfErr, IsTrue, OnErr};
 ghost use Rattle.dgt_lines.specs.Writing.{Writes};
 ghost use Rattle.dgt_link.specs.View.{IsQuietWorld, WorldView};
 ghost use Rattle.dgt_text.specs.Closing.{closing_lines};
@@ -33,17 +32,12 @@ pub(crate) trait Stage {
     fn end<W: Sink>(&self, writer: &mut W) -> Result<(), RunFault>
         ensures { (quiet : Bool) × (IsTrue quiet ↔ IsQuietWorld (seen self.now))
             × Writes W.Sink writer.old writer.new result (closing_lines (seen self.now) quiet) };
-
-    // a line of more than 519 bytes is bad at 519
-    ghost long_is_bad: { (line : List ℕ) → 519 < length line → rules.is_bad line 519 };
 }
 
 impl Stage for World {
     ghost seen = { λ world. world };
 
     ghost rules = { plain_rules };
-
-    ghost long_is_bad = { λ line long. inl (long, refl) };
 
     fn play(&mut self, line: &[u8]) -> Result<Outcome, LineFault> {
         let mut store = [0; MAX_WORD];
@@ -61,8 +55,6 @@ impl Stage for FaultyWorld {
     ghost seen = { λ world. world };
 
     ghost rules = { faulty_rules };
-
-    ghost long_is_bad = { λ line long. inl (long, refl) };
 
     fn play(&mut self, line: &[u8]) -> Result<Outcome, LineFault> {
         let mut store = [0; MAX_WORD];

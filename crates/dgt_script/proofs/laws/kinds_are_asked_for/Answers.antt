@@ -1,6 +1,12 @@
-use Rattle.dgt_script.proofs.FaultyMeaning.{faulty_kinds_are_asked_for}
-use Rattle.dgt_script.proofs.MeaningLemmas.{kinds_are_asked_for}
+use Rattle.dgt_script.specs.FaultyScript.{faulty_words}
+use Rattle.dgt_script.specs.Script.{plain_words}
+use Rattle.dgt_script.proofs.FaultyMeaning.{faulty_kinds_ask, faulty_order}
+use Rattle.dgt_script.proofs.MeaningLemmas.{kinds_ask, plain_order}
+use Rattle.dgt_script.proofs.VocabularyLemmas.{kinds_are_asked_for}
 use Rattle.dgt_script.proofs.laws.kinds_are_asked_for.Goals as goal
 
 pub returns : goal.returns
-returns c = record { plain = kinds_are_asked_for; faulty = faulty_kinds_are_asked_for }
+returns c = record {
+  plain = kinds_are_asked_for plain_words plain_order kinds_ask;
+  faulty = kinds_are_asked_for faulty_words faulty_order faulty_kinds_ask;
+}

@@ -1,18 +1,21 @@
-use Rattle.dgt_script.specs.ScriptWords.{verb_text}
-use Rattle.dgt_script.specs.Script.{kinds_after}
-use Rattle.dgt_script.proofs.MeaningLemmas.{asked_not_bad, one_act, one_place, one_verb}
-use Rattle.dgt_script.proofs.FaultyMeaning.{asked_not_bad_faulty, bad_with_faults, one_faulty_act, one_faulty_place}
+use Rattle.dgt_script.specs.FaultyScript.{faulty_words}
+use Rattle.dgt_script.specs.Script.{plain_words}
+use Rattle.dgt_script.proofs.FaultyMeaning.{bad_with_faults, faulty_order, same_faulty_act}
+use Rattle.dgt_script.proofs.MeaningLemmas.{plain_order, same_act}
+use Rattle.dgt_script.proofs.VocabularyLemmas.{asked_not_bad, one_act, one_place}
 use Rattle.dgt_script.proofs.laws.lines_have_one_meaning.Goals as goal
 
 pub returns : goal.returns
 returns c =
+    let exact = c.reading_is_exact.ensures.message in
+    let tells = c.spellings_tell_commands.ensures in
     record {
-      one_act = one_act c.reading_is_exact.ensures.message c.spellings_tell_commands.ensures;
-      act_or_fault = asked_not_bad;
-      one_place = one_place verb_text kinds_after one_verb;
-      one_faulty_act = one_faulty_act c.reading_is_exact.ensures.message c.spellings_tell_commands.ensures;
-      faulty_act_or_fault = asked_not_bad_faulty;
-      one_faulty_place = one_faulty_place;
+      one_act = one_act plain_words plain_order (same_act exact tells);
+      act_or_fault = asked_not_bad plain_words plain_order;
+      one_place = one_place plain_words plain_order;
+      one_faulty_act = one_act faulty_words faulty_order (same_faulty_act exact tells);
+      faulty_act_or_fault = asked_not_bad faulty_words faulty_order;
+      one_faulty_place = one_place faulty_words faulty_order;
       plain = λ line act. (λ h. h, λ h. h);
       plain_place = bad_with_faults;
     }

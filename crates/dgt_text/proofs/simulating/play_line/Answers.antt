@@ -7,7 +7,7 @@ returns-in_default-clause-played g c = λ at_end whole bytes h b.
     let stage = g.S.Stage in
     line_refused stage.rules g.W.Sink at_end c.refuse.result (stage.seen c.args.world.now) c.args.writer.now
     c.refuse.new.writer c.args.number 519 whole bytes c.refuse.ensures.refused c.refuse.ensures.bytes
-    (g.met.S.Stage.long_is_bad whole (rw c.in_default.is at c.line.ensures whole h)) b
+    (stage.rules.long_is_bad whole (rw c.in_default.is at c.line.ensures whole h)) b
 
 pub returns-in-Ok-clause-played : goal.returns-in-Ok-clause-played
 returns-in-Ok-clause-played g c = λ at_end whole bytes h b.
