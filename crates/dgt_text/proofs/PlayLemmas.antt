@@ -17,7 +17,7 @@ use Rattle.dgt_script.specs.Outcomes.{outcome_line}
 use Rattle.dgt_lines.specs.Monitoring.{IsFront}
 use Rattle.dgt_lines.specs.Writing.{Writes, Stopped}
 use Rattle.dgt_script.specs.ScriptLines.{HasNoFeed, IsCut, KeepsLine, ended}
-use Rattle.dgt_text.specs.Simulating.{BeginsWith, IsSimulatedFrom, Plays, PlaysOn, PlaysTorn, Rules, Stops, Took, all_lines, part}
+use Rattle.dgt_text.specs.Simulating.{BeginsWith, IsSimulatedFrom, Plays, Part, PlaysOn, PlaysTorn, Rules, Stops, Took, all_lines, part}
 use Rattle.dgt_lines.specs.declared.streams.Sink.{Ghosts as Sink}
 
 -- ---- lines
@@ -169,10 +169,14 @@ module _ (rules : Rules) where
 
   -- ---- lines, and then what is made of the rest
 
-  stops_after : (at_end : Bool) (e : RunFault) (w m l : WorldView) (number number' : ℕ) (bytes tail t out : List ℕ)
-      (ls : List (List ℕ)) → bytes ≡ flat_map ended ls ++ tail → All HasNoFeed ls → number' ≡ number + length ls
-      → Plays rules w ls t m → Stops rules at_end (part number' tail m l) e out → Stops rules at_end
-      (part number bytes w l) e (t ++ out)
+  -- what holds of a part of a script and its text holds of that part with lines before it, too
+  abbrev pub HoldsWithLines : (Part → List ℕ → Type 0) → Type 0
+  HoldsWithLines P =
+      (w m l : WorldView) (number number' : ℕ) (bytes tail t out : List ℕ) (ls : List (List ℕ))
+      → bytes ≡ flat_map ended ls ++ tail → All HasNoFeed ls → number' ≡ number + length ls → Plays rules w ls t m
+      → P (part number' tail m l) out → P (part number bytes w l) (t ++ out)
+
+  pub stops_after : (at_end : Bool) (e : RunFault) → HoldsWithLines (λ p. Stops rules at_end p e)
   stops_after at_end ReadFailed w m l number number' bytes tail t out ls e h n p s = absurd s
   stops_after at_end TooManyTurns w m l number number' bytes tail t out ls e h n p s = absurd s
   stops_after at_end WriteFailed w m l number number' bytes tail t out ls e h n p s =
@@ -193,10 +197,8 @@ module _ (rules : Rules) where
       (sym (all_lines-append ls ks rest))
       (plays_append w m l ls (all_lines ks rest) t u p q)
 
-  simulated_after : {A : Type 0} (at_end : Bool) (r : Result A RunFault) (w m l : WorldView) (number number' : ℕ)
-      (bytes tail t out : List ℕ) (ls : List (List ℕ)) → bytes ≡ flat_map ended ls ++ tail → All HasNoFeed ls
-      → number' ≡ number + length ls → Plays rules w ls t m → IsSimulatedFrom rules at_end (part number' tail m l) r out
-      → IsSimulatedFrom rules at_end (part number bytes w l) r (t ++ out)
+  pub simulated_after : {A : Type 0} (at_end : Bool) (r : Result A RunFault)
+      → HoldsWithLines (λ p. IsSimulatedFrom rules at_end p r)
   simulated_after at_end (Ok x) w m l number number' bytes tail t out ls e h n p s = (
     ls ++ s.0,
     s.1,
@@ -273,7 +275,6 @@ module _ (rules : Rules) where
           ),
         )
 
-  module _ {S : Type 0} (W : Sink S) where
     -- a line that asks for no act
     pub line_refused : {A : Type 0} (at_end : Bool) (r : Result A RunFault) (w : WorldView) (a b : S) (number at : ℕ)
         (line bytes : List ℕ) → (r ≡ Err (BadLine number at)) ⊎ (r ≡ Err WriteFailed)
@@ -359,27 +360,15 @@ module _ (rules : Rules) where
         (subst (λ x. PlaysOn rules W (part n' x m l) b c line' (n' + 1)) (append_assoc q.rest p (10 ∷ []))
         (on_one m l b c line' n' (q.rest ++ p) k (All-append (λ x. x ≢ 10) q.rest p q.cut.last h) t))
 
-    -- what stops the run after them
-    pub on_stops : (at_end : Bool) (e : RunFault) (w m l : WorldView) (a b c : S) (line : LineBuffer) (n n' : ℕ)
-        (bytes p : List ℕ) (q : PlaysOn rules W (part n bytes w m) a b line n')
-        → Took W b c (Stops rules at_end (part n' (q.rest ++ p) m l) e)
-        → Took W a c (Stops rules at_end (part n (bytes ++ p) w l) e)
-    on_stops at_end e w m l a b c line n n' bytes p q t = (
+    -- what holds of the rest, with them before it
+    pub on_rest : (P : Part → List ℕ → Type 0) → HoldsWithLines P → (w m l : WorldView) (a b c : S) (line : LineBuffer)
+        (n n' : ℕ) (bytes p : List ℕ) (q : PlaysOn rules W (part n bytes w m) a b line n')
+        → Took W b c (P (part n' (q.rest ++ p) m l)) → Took W a c (P (part n (bytes ++ p) w l))
+    on_rest P holds w m l a b c line n n' bytes p q t = (
       q.text ++ t.0,
       Appends-trans _ _ _ q.text t.0 q.wrote t.1,
-      stops_after at_end e w m l n n' (bytes ++ p) (q.rest ++ p) q.text t.0 q.lines
-          (on_whole bytes q p) q.cut.each q.counted q.plays t.2,
-    )
-
-    pub on_simulated : {A : Type 0} (at_end : Bool) (r : Result A RunFault) (w m l : WorldView) (a b c : S)
-        (line : LineBuffer) (n n' : ℕ) (bytes p : List ℕ) (q : PlaysOn rules W (part n bytes w m) a b line n')
-        → Took W b c (IsSimulatedFrom rules at_end (part n' (q.rest ++ p) m l) r)
-        → Took W a c (IsSimulatedFrom rules at_end (part n (bytes ++ p) w l) r)
-    on_simulated at_end r w m l a b c line n n' bytes p q t = (
-      q.text ++ t.0,
-      Appends-trans _ _ _ q.text t.0 q.wrote t.1,
-      simulated_after at_end r w m l n n' (bytes ++ p) (q.rest ++ p) q.text t.0 q.lines
-          (on_whole bytes q p) q.cut.each q.counted q.plays t.2,
+      holds w m l n n' (bytes ++ p) (q.rest ++ p) q.text t.0 q.lines (on_whole bytes q p) q.cut.each q.counted q.plays
+          t.2,
     )
 
     -- the exit of a `?` in a chunk

@@ -11,7 +11,7 @@ use Rattle.dgt_text.specs.Closing.{ClosingLinesAgree, closing_lines}
 use Rattle.dgt_lines.specs.Writing.{Stopped}
 use Rattle.dgt_lines.specs.Turns.{HasTurns, Ran, change, InTurns}
 use Rattle.dgt_text.specs.Simulating.{EndsAlike, IsOfLine, IsSimulated, IsSimulatedFrom, PlaysOn, Stops, Rules, Took, part}
-use Rattle.dgt_text.proofs.PlayLemmas.{begins_none, end_exit, on_simulated, stopped_none, torn_none}
+use Rattle.dgt_text.proofs.PlayLemmas.{begins_none, end_exit, on_rest, simulated_after, stopped_none, torn_none}
 use Rattle.dgt_lines.specs.declared.streams.Source.{Ghosts as Source}
 use Rattle.dgt_lines.specs.declared.streams.Sink.{Ghosts as Sink}
 
@@ -65,7 +65,8 @@ module _ (rules : Rules) {S T : Type 0} (R : Source S) (W : Sink T) where
       → Took W d d' (IsSimulatedFrom rules at_end (part n (q.rest ++ chunk) m l) r)
       → Ran R W (change a b') (change c d') (InTurns limit r (IsSimulated rules at_end r w l))
   scripted_ends at_end limit r a b b' c d d' w m l line n bytes chunk g q p f t =
-      let whole = on_simulated rules W at_end r w m l c d d' line 1 n bytes chunk q t in (
+      let whole = on_rest rules W (λ p. IsSimulatedFrom rules at_end p r) (simulated_after rules at_end r) w m l c d d'
+      line 1 n bytes chunk q t in (
         bytes ++ chunk,
         whole.0,
         Consumes-trans _ _ _ bytes chunk g p,

@@ -1,6 +1,7 @@
 use Rattle.std.proofs.Common.{refl, sym, ◌∙◌, append-nil, drop, true, arith, rules}
 use Rattle.std.proofs.lemmas.List.{places}
-use Rattle.dgt_text.proofs.PlayLemmas.{on_none, on_held, on_line, on_stops, piece_exit, held_bytes, line_bytes, left_bytes, feed_begins}
+use Rattle.dgt_text.specs.Simulating.{Stops}
+use Rattle.dgt_text.proofs.PlayLemmas.{on_none, on_held, on_line, on_rest, piece_exit, stops_after, held_bytes, line_bytes, left_bytes, feed_begins}
 use Rattle.dgt_text.proofs.simulating.play_chunk.Goals as goal
 
 pub loop-at-init : goal.loop-at-init
@@ -50,10 +51,12 @@ loop-at-preserved-then-at-chunk g c =
 pub returns-in_err-play_line-clause-played : goal.returns-in_err-play_line-clause-played
 returns-in_err-play_line-clause-played g c = λ at_end rest h k.
     let p = c.args.chunk.now in let i = c.loop-at.at in let n = c.len_before-end.result in
+    let fault = c.in_err-play_line.field-0.0 in
     let q = c.loop-at.invariant.played rest h k in
     let begins = feed_begins at_end q.rest p i n c.if-at-chunk.true c.len_before-end.ensures.found q.cut.last
     c.len_before-end.ensures.before in
     piece_exit g.S.Stage.rules g.W.Sink at_end _ _ _ _ _ _ _ _ _ _ c.from_residual.ensures.1
     (rw (left_bytes rest p i) at
-    (on_stops g.S.Stage.rules g.W.Sink at_end _ _ _ _ _ _ _ _ _ _ _ (drop i p) q
+    (on_rest g.S.Stage.rules g.W.Sink (λ part. Stops g.S.Stage.rules at_end part fault)
+    (stops_after g.S.Stage.rules at_end fault) _ _ _ _ _ _ _ _ _ _ (drop i p) q
     (c.in_err-play_line.ensures.played at_end _ _ (c.add.ensures q.rest q.kept) begins)))
