@@ -1,5 +1,5 @@
 -- A script that is played in a world.
-use Rattle.std.specs.Prelude.{◌≡◌, ◌+◌, ◌<◌, ◌≤◌, ◌↔◌, ◌⊎◌, ⊤, ℕ, Bool, true, List, [], ◌∷◌, ◌++◌, All, IsTrue, Result, Ok, Err, codes, flat_map, length}
+use Rattle.std.specs.Prelude.{◌≡◌, ◌≢◌, ◌+◌, ◌<◌, ◌≤◌, ◌↔◌, ◌⊎◌, ⊤, ℕ, Bool, true, false, List, [], ◌∷◌, ◌++◌, All, IfErr, IsTrue, Result, Ok, Err, codes, flat_map, length}
 use Rattle.std.specs.Io.KnownBytes.{Appends}
 use Rattle.std.proofs.Common.{inl, refl}
 use Rattle.dgt_link.specs.declared.acts.Outcome.{Outcome}
@@ -18,6 +18,7 @@ use Rattle.dgt_script.specs.declared.script_lines.LineBuffer.{LineBuffer}
 use Rattle.dgt_text.specs.Closing.{closing_lines}
 use Rattle.dgt_script.specs.Outcomes.{outcome_line}
 use Rattle.dgt_lines.specs.Monitoring.{IsFront}
+use Rattle.dgt_lines.specs.Turns.{Change, sink_mark_after}
 use Rattle.dgt_script.specs.FaultyScript.{faulty_words}
 use Rattle.dgt_script.specs.Script.{AsksFor, IsBadAt, Vocabulary, plain_words}
 use Rattle.dgt_script.specs.ScriptLines.{HasNoFeed, IsCut, KeepsLine, ended}
@@ -179,6 +180,15 @@ IsOfLine WriteFailed = ⊤
 IsOfLine (BadLine _ _) = ⊤
 IsOfLine ReadFailed = ⊥
 IsOfLine TooManyTurns = ⊥
+
+-- The answer of a call that a line or the sink may stop, and the marks that it leaves. Nothing is
+-- asked of the sink after a refusal. All is flushed if a line is refused.
+pub record StopsAtLines {S A : Type 0} (W : Sink S) (sink : Change S) (r : Result A RunFault)
+    : Type 0 where
+  pub of_line : IfErr r IsOfLine
+  pub failed : W.failed sink.new ≡ sink_mark_after r (W.failed sink.old)
+  pub in_time : W.failed sink.old ≡ false → W.late sink.new ≡ W.late sink.old
+  pub flushed : IfErr r (λ fault. fault ≢ WriteFailed → IsTrue (W.flushed sink.new))
 
 -- between two moments the sink took bytes of which P holds
 abbrev pub Took : {S : Type 0} → Sink S → S → S → (List ℕ → Type 0) → Type 0

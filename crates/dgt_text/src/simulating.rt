@@ -1,13 +1,13 @@
 //! The engine that plays a script.
 
-ghost use Rattle.std.specs.Prelude.{◌≡◌, ◌≢◌, ◌+◌, ◌^◌, ◌<◌, ◌≤◌, ◌↔◌, ◌⊎◌, ◌∷◌, ◌++◌, [], ℕ, Bool, false, List, length, IfErr, MatchResult, IsTrue, OnOk};
+ghost use Rattle.std.specs.Prelude.{◌≡◌, ◌≢◌, ◌+◌, ◌^◌, ◌<◌, ◌≤◌, ◌↔◌, ◌⊎◌, ◌∷◌, ◌++◌, [], ℕ, Bool, List, length, MatchResult, IsTrue, OnOk};
 ghost use Rattle.std.specs.Io.KnownBytes.{Appends};
 ghost use Rattle.dgt_link.specs.View.{IsQuietWorld};
 ghost use Rattle.dgt_lines.specs.Writing.{Writes};
 ghost use Rattle.dgt_text.specs.Closing.{closing_lines};
-ghost use Rattle.dgt_lines.specs.Turns.{change, InTurns, Ran, sink_mark_after, RunsInTurns};
+ghost use Rattle.dgt_lines.specs.Turns.{change, InTurns, Ran, RunsInTurns};
 ghost use Rattle.dgt_script.specs.ScriptLines.{HasNoFeed, KeepsLine};
-ghost use Rattle.dgt_text.specs.Simulating.{BeginsWith, IsOfLine, IsSimulated, IsSimulatedFrom, Plays, PlaysOn, Stops, TellsHealed, TellsPicture, Took, faulty_rules, part, plain_rules};
+ghost use Rattle.dgt_text.specs.Simulating.{BeginsWith, IsSimulated, IsSimulatedFrom, Plays, PlaysOn, Stops, StopsAtLines, TellsHealed, TellsPicture, Took, faulty_rules, part, plain_rules};
 
 use crate::laws;
 use crate::stage::Stage;
@@ -21,10 +21,7 @@ fn refuse<W: Sink>(writer: &mut W, line: u64, at: usize) -> Result<(), RunFault>
     ensures bytes { Appends (W.written writer.old) (W.written writer.new) [] }
     ensures refused { (result ≡ Err (RunFault.BadLine line at))
         ⊎ (result ≡ Err RunFault.WriteFailed) }
-    ensures sink_failed { W.failed writer.new ≡ sink_mark_after result (W.failed writer.old) }
-    ensures in_time { W.failed writer.old ≡ false → W.late writer.new ≡ W.late writer.old }
-    ensures flushed { IfErr result (λ fault. fault ≢ RunFault.WriteFailed →
-        IsTrue (W.flushed writer.new)) }
+    ensures marks { StopsAtLines W.Sink (change writer.old writer.new) result }
 {
     flush(writer)?;
     Err(RunFault::BadLine { line, at })
@@ -43,11 +40,7 @@ fn play_line<S: Stage, W: Sink>(
         (λ out. Plays S.rules (S.seen world.old) (whole ∷ []) out (S.seen world.new)))
         (λ fault. Took W.Sink writer.old writer.new
         (Stops S.rules at_end (part number bytes (S.seen world.old) (S.seen world.new)) fault)) }
-    ensures faults { IfErr result IsOfLine }
-    ensures sink_failed { W.failed writer.new ≡ sink_mark_after result (W.failed writer.old) }
-    ensures in_time { W.failed writer.old ≡ false → W.late writer.new ≡ W.late writer.old }
-    ensures flushed { IfErr result (λ fault. fault ≢ RunFault.WriteFailed →
-        IsTrue (W.flushed writer.new)) }
+    ensures marks { StopsAtLines W.Sink (change writer.old writer.new) result }
 {
     let Some(bytes) = line.line() else {
         return refuse(writer, number, MAX_LINE);
@@ -73,11 +66,7 @@ fn play_chunk<S: Stage, W: Sink>(
         (λ _. PlaysOn S.rules W.Sink played writer.old writer.new line.new number.new)
         (λ fault. Took W.Sink writer.old writer.new (Stops S.rules at_end played fault)) }
     ensures counted { OnOk result (number.new ≤ number.old + length chunk.now) }
-    ensures faults { IfErr result IsOfLine }
-    ensures sink_failed { W.failed writer.new ≡ sink_mark_after result (W.failed writer.old) }
-    ensures in_time { W.failed writer.old ≡ false → W.late writer.new ≡ W.late writer.old }
-    ensures flushed { IfErr result (λ fault. fault ≢ RunFault.WriteFailed →
-        IsTrue (W.flushed writer.new)) }
+    ensures marks { StopsAtLines W.Sink (change writer.old writer.new) result }
 {
     let mut at = 0;
     while at < chunk.len() {
@@ -117,9 +106,7 @@ fn play_end<S: Stage, W: Sink>(
         → HasNoFeed rest → Took W.Sink writer.old writer.new
         (IsSimulatedFrom S.rules at_end
         (part number rest (S.seen world.old) (S.seen world.new)) result) }
-    ensures faults { IfErr result IsOfLine }
-    ensures sink_failed { W.failed writer.new ≡ sink_mark_after result (W.failed writer.old) }
-    ensures in_time { W.failed writer.old ≡ false → W.late writer.new ≡ W.late writer.old }
+    ensures marks { StopsAtLines W.Sink (change writer.old writer.new) result }
     ensures flushed { result ≢ Err RunFault.WriteFailed → IsTrue (W.flushed writer.new) }
 {
     if !line.is_empty() {

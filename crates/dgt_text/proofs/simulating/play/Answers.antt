@@ -21,7 +21,7 @@ loop-preserved g c =
     let flushed = c.in_ok-flush.ensures in
     let given = length-take-le c.in-Ok.given c.read_some.new.buffer read.bound in record {
       in_turns = next_read c.loop.invariant.in_turns c.loop-test.true _ _ read.bound read.bytes.0 read.not_refused
-          read.no_end read.counted read.in_time c.if-given-eq0.false chunk.sink_failed chunk.in_time flushed.output
+          read.no_end read.counted read.in_time c.if-given-eq0.false chunk.marks.failed chunk.marks.in_time flushed.output
           flushed.flushed;
       played = plays_flushed g.S.Stage.rules g.W.Sink _ _ _ _ _ _ _ _
           (on_more g.S.Stage.rules g.W.Sink _ _ _ _ _ _ _ _ _ _ _ _ _ q (chunk.played true q.rest q.kept q.cut.last))
@@ -37,7 +37,7 @@ returns-then-given-eq0-clause-output g c =
     let ends = c.in-Ok.ensures.end (c.if-given-eq0.true, omega (arith, c.read_some.auto.buffer)) in
     scripted_ends g.S.Stage.rules g.R.Source g.W.Sink at_end c.args.limit _ _ _ _ _ _ _ _ _ _ _ _
     turns.bytes [] turns.given q
-    (rw c.if-given-eq0.true at c.in-Ok.ensures.bytes.0) c.play_end.ensures.faults
+    (rw c.if-given-eq0.true at c.in-Ok.ensures.bytes.0) c.play_end.ensures.marks.of_line
     (rw (append-nil q.rest) (c.play_end.ensures.played at_end q.rest ends q.kept q.cut.last))
 
 pub returns-in_err-play_chunk-clause-output : goal.returns-in_err-play_chunk-clause-output

@@ -36,8 +36,8 @@ loop-at-preserved-then-at-chunk g c =
     record {
       bound = let k = c.if-at-chunk.true in omega arith;
       count = let k = c.loop-at.invariant.count in omega arith;
-      not_failed = rw c.in_ok-play_line.ensures.sink_failed c.loop-at.invariant.not_failed;
-      in_time = λ h. c.in_ok-play_line.ensures.in_time
+      not_failed = rw c.in_ok-play_line.ensures.marks.failed c.loop-at.invariant.not_failed;
+      in_time = λ h. c.in_ok-play_line.ensures.marks.in_time
           (c.loop-at.invariant.not_failed ∙ h) ∙ c.loop-at.invariant.in_time h;
       played = λ rest h k.
           let q = c.loop-at.invariant.played rest h k in
