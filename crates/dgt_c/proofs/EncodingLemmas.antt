@@ -5,14 +5,16 @@ use Rattle.std.specs.Prelude.{slice_index_or}
 use Rattle.dgt_values.specs.declared.pieces.Piece.{Piece}
 use Rattle.dgt_values.specs.Board.{piece_code}
 use Rattle.dgt_message.specs.declared.known.KnownCode.{KnownCode}
+use Rattle.dgt_message.specs.Clock.{ClockState}
 use Rattle.dgt_message.specs.Code.{known_with}
 use Rattle.dgt_message.specs.Content.{Content}
 use Rattle.dgt_message.proofs.Codes.{piece_code-below}
+use Rattle.dgt_c.specs.Clocks.{SaysClock}
 use Rattle.dgt_c.specs.Encoding.{SaysMessage}
 use Rattle.dgt_c.specs.Starting.{ArePieces}
 use Rattle.dgt_c.specs.Told.{carried_kind}
 use Rattle.dgt_c.specs.declared.header.DgtEvent.{DgtEvent}
-use Rattle.dgt_c.specs.declared.header.TheConstants.{EVENT_DUMP}
+use Rattle.dgt_c.specs.declared.header.TheConstants.{EVENT_DUMP, EVENT_NO_CLOCK, EVENT_TIMES}
 
 -- the codes of pieces are codes of pieces
 pub are_pieces : (pieces : List Piece) (codes : List ℕ) → map piece_code pieces ≡ codes → ArePieces codes
@@ -41,3 +43,12 @@ no_dump said body kind none (Content.dump pieces) says = none (are_pieces pieces
 no_dump said body kind none (Content.carried code bytes) says =
     absurd (omega (arith, kind, says.1.0, (carried_bounds (known_with code)).0))
 no_dump said body kind none _ says = absurd (omega (arith, kind, says.1.0))
+
+-- nor does an event of a clock that says no clock
+pub no_clock : (said : DgtEvent) (body : List ℕ) → EVENT_TIMES ≤ said.kind → said.kind ≤ EVENT_NO_CLOCK
+    → ((shown : ClockState) → SaysClock said.clock shown → ⊥) → (message : Content) → SaysMessage said body message → ⊥
+no_clock said body least most none (Content.times readings) says = none (ClockState.times readings) says.1.1
+no_clock said body least most none (Content.no_clock absence) says = none (ClockState.no_clock absence) says.1.1
+no_clock said body least most none (Content.carried code bytes) says =
+    absurd (omega (arith, most, says.1.0, (carried_bounds (known_with code)).0))
+no_clock said body least most none _ says = absurd (omega (arith, least, most, says.1.0))

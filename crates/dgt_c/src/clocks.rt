@@ -73,8 +73,8 @@ fn read_status(status: u8) -> Option<Status>
     Some(Status::new(code))
 }
 
-/// The times that C says, if they are times.
-pub(crate) fn read_times(clock: &DgtClock) -> Option<Times>
+// The times that C says, if they are times.
+fn read_times(clock: &DgtClock) -> Option<Times>
     ensures { let times = times_said clock.now in MatchOption result (¬ (AreTimes times))
         (λ read. (times_seen read ≡ times) × AreTimes times) }
 {
@@ -84,8 +84,8 @@ pub(crate) fn read_times(clock: &DgtClock) -> Option<Times>
     Times::new(first, second, status).ok()
 }
 
-/// What C says of a board without a clock, if it is that.
-pub(crate) fn read_absence(clock: &DgtClock) -> Option<NoClock>
+// What C says of a board without a clock, if it is that.
+fn read_absence(clock: &DgtClock) -> Option<NoClock>
     ensures { let absence = absence_said clock.now in MatchOption result (¬ (IsAbsence absence))
         (λ read. (absence_seen read ≡ absence) × IsAbsence absence) }
 {

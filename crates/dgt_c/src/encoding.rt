@@ -1,20 +1,20 @@
 //! Messages that C has encoded and viewed without a handle.
 
-ghost use Rattle.std.specs.Prelude.{◌≡◌, ℕ, List, false, IsTrue, MatchOption};
+ghost use Rattle.std.specs.Prelude.{◌≡◌, false, IsTrue, MatchOption};
 ghost use Rattle.dgt_values.specs.Bytes.{body_bytes};
 ghost use Rattle.dgt_message.specs.Content.{IsCarried};
 ghost use Rattle.dgt_c.specs.Encoding.{EncodesMessage, IsCodeAndBody, ReadsMessage, encoded_told, view_told};
 
 use crate::checking::{read_position, read_seven_bits};
-use crate::clocks::{read_absence, read_times};
+use crate::clocks::read_clock;
 use crate::events::tell;
 use crate::header::{
-    CLOCK_NONE, CLOCK_TIMES, DgtEncoded, DgtEvent, ENCODED, EVENT_ACK, EVENT_BATTERY, EVENT_DUMP,
-    EVENT_FIELD, EVENT_LONG_SERIAL, EVENT_NO_CLOCK, EVENT_OTHER, EVENT_SERIAL, EVENT_TIMES,
-    EVENT_TRADEMARK, EVENT_VERSION, NOTHING_ENCODED, TOO_SHORT,
+    DgtEncoded, DgtEvent, ENCODED, EVENT_ACK, EVENT_BATTERY, EVENT_DUMP, EVENT_FIELD,
+    EVENT_LONG_SERIAL, EVENT_NO_CLOCK, EVENT_OTHER, EVENT_SERIAL, EVENT_TIMES, EVENT_TRADEMARK,
+    EVENT_VERSION, NOTHING_ENCODED, TOO_SHORT,
 };
 use dgt_decode::Event;
-use dgt_message::{ClockAck, Message, OtherCode, encode, view};
+use dgt_message::{Clock, ClockAck, Message, OtherCode, encode, view};
 use dgt_values::{Body, NoRoom, Piece, SevenBit, Square};
 
 pub(crate) fn encoded_told(outcome: Result<usize, NoRoom>) -> DgtEncoded
@@ -27,67 +27,6 @@ pub(crate) fn encoded_told(outcome: Result<usize, NoRoom>) -> DgtEncoded
     DgtEncoded { status, bytes }
 }
 
-fn read_dump(said: &DgtEvent) -> Option<Message<'static>>
-    requires { said.now.kind ≡ EVENT_DUMP }
-    ensures { (body : List ℕ) → ReadsMessage said.now body result }
-{
-    Some(Message::Dump(read_position(&said.pieces)?))
-}
-
-fn read_field(said: &DgtEvent) -> Option<Message<'static>>
-    requires { said.now.kind ≡ EVENT_FIELD }
-    ensures { (body : List ℕ) → ReadsMessage said.now body result }
-{
-    let square = Square::from_index(said.square).ok()?;
-    let piece = Piece::from_code(said.piece).ok()?;
-    Some(Message::Field { square, piece })
-}
-
-fn read_times_message(said: &DgtEvent) -> Option<Message<'static>>
-    requires { said.now.kind ≡ EVENT_TIMES }
-    ensures { (body : List ℕ) → ReadsMessage said.now body result }
-{
-    if said.clock.kind != CLOCK_TIMES {
-        return None;
-    }
-    Some(Message::Times(read_times(&said.clock)?))
-}
-
-fn read_no_clock(said: &DgtEvent) -> Option<Message<'static>>
-    requires { said.now.kind ≡ EVENT_NO_CLOCK }
-    ensures { (body : List ℕ) → ReadsMessage said.now body result }
-{
-    if said.clock.kind != CLOCK_NONE {
-        return None;
-    }
-    Some(Message::NoClock(read_absence(&said.clock)?))
-}
-
-fn read_ack(said: &DgtEvent) -> Option<Message<'static>>
-    requires { said.now.kind ≡ EVENT_ACK }
-    ensures { (body : List ℕ) → ReadsMessage said.now body result }
-{
-    let status = SevenBit::try_from(said.ack_status).ok()?;
-    let ack = said.ack;
-    Some(Message::Ack(ClockAck { ack, status }))
-}
-
-fn read_serial_number(said: &DgtEvent) -> Option<Message<'static>>
-    requires { said.now.kind ≡ EVENT_SERIAL }
-    ensures { (body : List ℕ) → ReadsMessage said.now body result }
-{
-    Some(Message::Serial(read_seven_bits(&said.serial)?))
-}
-
-fn read_version(said: &DgtEvent) -> Option<Message<'static>>
-    requires { said.now.kind ≡ EVENT_VERSION }
-    ensures { (body : List ℕ) → ReadsMessage said.now body result }
-{
-    let main = SevenBit::try_from(said.main_number).ok()?;
-    let sub = SevenBit::try_from(said.sub_number).ok()?;
-    Some(Message::Version { main, sub })
-}
-
 // The body of these bytes, if a message carries them.
 fn read_body(body: &[u8]) -> Option<Body<'_>>
     ensures { MatchOption result (¬ (IsCarried body.now))
@@ -96,32 +35,40 @@ fn read_body(body: &[u8]) -> Option<Body<'_>>
     Body::new(body).ok()
 }
 
-fn read_other<'a>(said: &DgtEvent, body: &'a [u8]) -> Option<Message<'a>>
-    requires { said.now.kind ≡ EVENT_OTHER }
-    ensures { ReadsMessage said.now body.now result }
-{
-    let code = SevenBit::try_from(said.code).ok()?;
-    let code = OtherCode::new(code).ok()?;
-    let body = read_body(body)?;
-    Some(Message::Other { code, body })
-}
-
 // The message that C says, if it says one.
 fn read_message<'a>(said: &DgtEvent, body: &'a [u8]) -> Option<Message<'a>>
     ensures { ReadsMessage said.now body.now result }
 {
     match said.kind {
-        EVENT_DUMP => read_dump(said),
-        EVENT_FIELD => read_field(said),
-        EVENT_TIMES => read_times_message(said),
-        EVENT_NO_CLOCK => read_no_clock(said),
-        EVENT_ACK => read_ack(said),
-        EVENT_SERIAL => read_serial_number(said),
+        EVENT_DUMP => Some(Message::Dump(read_position(&said.pieces)?)),
+        EVENT_FIELD => Some(Message::Field {
+            square: Square::from_index(said.square).ok()?,
+            piece: Piece::from_code(said.piece).ok()?,
+        }),
+        EVENT_TIMES => match read_clock(&said.clock)? {
+            Clock::Times(times) => Some(Message::Times(times)),
+            Clock::NoClock(_) => None,
+        },
+        EVENT_NO_CLOCK => match read_clock(&said.clock)? {
+            Clock::NoClock(absence) => Some(Message::NoClock(absence)),
+            Clock::Times(_) => None,
+        },
+        EVENT_ACK => Some(Message::Ack(ClockAck {
+            ack: said.ack,
+            status: SevenBit::try_from(said.ack_status).ok()?,
+        })),
+        EVENT_SERIAL => Some(Message::Serial(read_seven_bits(&said.serial)?)),
         EVENT_TRADEMARK => Some(Message::Trademark(read_body(body)?)),
-        EVENT_VERSION => read_version(said),
+        EVENT_VERSION => Some(Message::Version {
+            main: SevenBit::try_from(said.main_number).ok()?,
+            sub: SevenBit::try_from(said.sub_number).ok()?,
+        }),
         EVENT_BATTERY => Some(Message::Battery(read_body(body)?)),
         EVENT_LONG_SERIAL => Some(Message::LongSerial(read_body(body)?)),
-        EVENT_OTHER => read_other(said, body),
+        EVENT_OTHER => Some(Message::Other {
+            code: OtherCode::new(SevenBit::try_from(said.code).ok()?).ok()?,
+            body: read_body(body)?,
+        }),
         _ => None,
     }
 }

@@ -1,6 +1,21 @@
 use Rattle.std.proofs.Common.{arith}
-use Rattle.dgt_c.proofs.EncodingLemmas.{no_message}
+use Rattle.dgt_c.proofs.EncodingLemmas.{no_clock, no_dump, no_message}
 use Rattle.dgt_c.proofs.encoding.read_message.Goals as goal
 
 pub returns-in_default : goal.returns-in_default
 returns-in_default c = no_message c.args.said.now c.args.body.now (λ least most. omega (arith, least, most))
+
+pub returns-in_err-read_position-in-1 : goal.returns-in_err-read_position-in-1
+returns-in_err-read_position-in-1 c =
+    rw c.from_residual.ensures
+    (no_dump c.args.said.now c.args.body.now c.in-1.is c.in_err-read_position-in-1.ensures)
+
+pub returns-in_err-times-in-3 : goal.returns-in_err-times-in-3
+returns-in_err-times-in-3 c =
+    rw c.from_residual-in_err-times-in-3.ensures
+    (no_clock c.args.said.now c.args.body.now (omega arith) (omega arith) c.in_err-times-in-3.ensures)
+
+pub returns-in_err-absence-in-4 : goal.returns-in_err-absence-in-4
+returns-in_err-absence-in-4 c =
+    rw c.from_residual-in_err-absence-in-4.ensures
+    (no_clock c.args.said.now c.args.body.now (omega arith) (omega arith) c.in_err-absence-in-4.ensures)
