@@ -5,7 +5,7 @@ ghost use Rattle.dgt_command.specs.Content.{CommandContent, command_content, kin
 ghost use Rattle.dgt_command.specs.Spelling.{command_spelling};
 ghost use Rattle.dgt_command.specs.declared.carried.TheConstants.{MAX_LED_BYTES, MAX_PAYLOAD};
 ghost use Rattle.dgt_host.specs.Host.{HostView, Sends};
-ghost use Rattle.dgt_c.specs.ClockSending.{SendsDisplay, SendsMessage};
+ghost use Rattle.dgt_c.specs.ClockSending.{SendsClock, SendsDisplay, SendsMessage};
 ghost use Rattle.dgt_c.specs.Sent.{RefusesCommand, SendsTold};
 
 use crate::header::{DgtSent, NO_SUCH_COMMAND};
@@ -108,11 +108,7 @@ pub(crate) fn send_clock<S: Sender>(
     out: &mut [u8],
 ) -> DgtSent
     ensures sends { length payload.now ≤ MAX_PAYLOAD →
-        SendsTold (record {
-          kind = None;
-          bytes = command_spelling
-              (CommandContent.ClockMessage (record { id = id; payload = payload.now }));
-        })
+        SendsClock (record { id = id; payload = payload.now })
         (S.host sender.old) (S.host sender.new) out.old out.new result }
     ensures refused { MAX_PAYLOAD < length payload.now →
         RefusesCommand (S.host sender.old) (S.host sender.new) out.old out.new result }

@@ -84,11 +84,7 @@ pub extern "C" fn dgt_host_send_clock(
 ) -> DgtSent
     ensures place { host.new.at ≡ host.old.at }
     ensures sends { length payload.now ≤ MAX_PAYLOAD →
-        SendsTold (record {
-          kind = None;
-          bytes = command_spelling
-              (CommandContent.ClockMessage (record { id = id; payload = payload.now }));
-        })
+        SendsClock (record { id = id; payload = payload.now })
         host.old.inside host.new.inside out.old out.new result }
     ensures refused { MAX_PAYLOAD < length payload.now →
         RefusesCommand host.old.inside host.new.inside out.old out.new result }
@@ -138,11 +134,7 @@ pub extern "C" fn dgt_follower_send_clock(
 ) -> DgtSent
     ensures place { follower.new.at ≡ follower.old.at }
     ensures sends { length payload.now ≤ MAX_PAYLOAD →
-        SendsTold (record {
-          kind = None;
-          bytes = command_spelling
-              (CommandContent.ClockMessage (record { id = id; payload = payload.now }));
-        })
+        SendsClock (record { id = id; payload = payload.now })
         follower.old.inside.host follower.new.inside.host out.old out.new result }
     ensures refused { MAX_PAYLOAD < length payload.now →
         RefusesCommand follower.old.inside.host follower.new.inside.host out.old out.new result }
