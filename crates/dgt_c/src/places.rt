@@ -8,16 +8,8 @@ ghost use Rattle.dgt_host.specs.Host.{new_host};
 ghost use Rattle.dgt_c.specs.PlainBoard.{plain_board};
 ghost use Rattle.dgt_c.specs.PlainFollower.{plain_follower};
 ghost use Rattle.dgt_c.specs.Rooms.{board_room, command_decoder_room, decoder_room, follower_room, host_room};
-ghost use Rattle.dgt_c.specs.contracts.handles.DgtBoard.{the_row as board_handle};
-ghost use Rattle.dgt_c.specs.contracts.handles.DgtCommandDecoder.{the_row as command_decoder_handle};
-ghost use Rattle.dgt_c.specs.contracts.handles.DgtDecoder.{the_row as decoder_handle};
-ghost use Rattle.dgt_c.specs.contracts.handles.DgtFollower.{the_row as follower_handle};
-ghost use Rattle.dgt_c.specs.contracts.handles.DgtHost.{the_row as host_handle};
-ghost use Rattle.dgt_c.specs.contracts.places.BoardPlace.{the_row as board_place};
-ghost use Rattle.dgt_c.specs.contracts.places.CommandDecoderPlace.{the_row as command_decoder_place};
-ghost use Rattle.dgt_c.specs.contracts.places.DecoderPlace.{the_row as decoder_place};
-ghost use Rattle.dgt_c.specs.contracts.places.FollowerPlace.{the_row as follower_place};
-ghost use Rattle.dgt_c.specs.contracts.places.HostPlace.{the_row as host_place};
+ghost use Rattle.dgt_c.specs.contracts.handles.{DgtBoard.the_row as board_handle, DgtCommandDecoder.the_row as command_decoder_handle, DgtDecoder.the_row as decoder_handle, DgtFollower.the_row as follower_handle, DgtHost.the_row as host_handle};
+ghost use Rattle.dgt_c.specs.contracts.places.{BoardPlace.the_row as board_place, CommandDecoderPlace.the_row as command_decoder_place, DecoderPlace.the_row as decoder_place, FollowerPlace.the_row as follower_place, HostPlace.the_row as host_place};
 
 use crate::handles::{DgtBoard, DgtCommandDecoder, DgtDecoder, DgtFollower, DgtHost};
 use crate::plain_board::board_of_program;
@@ -27,6 +19,20 @@ use dgt_command::CommandDecoder;
 use dgt_decode::Decoder;
 use dgt_follow::Follower;
 use dgt_host::Host;
+
+// Makes a handle in the room of such a place, and this value in the part after the handle.
+macro_rules! make {
+    ($handle:ident: $type:ident in $place:ident, $value:expr) => {
+        let place = $handle as *mut $place;
+        unsafe {
+            let inside = &raw mut (*place).inside;
+            inside.write($value);
+            $handle.write($type {
+                at: inside as *mut u8,
+            });
+        }
+    };
+}
 
 /// What C calls a `dgt_host`: the handle, and the room that it points to.
 #[repr(C)]
@@ -43,14 +49,7 @@ pub unsafe extern "C" fn dgt_host_init(host: *mut DgtHost)
     ensures* { sem 𝓛 (lies_at host_handle full_share host
         (record { at = host +ₚ 8; inside = new_host })) }
 {
-    let place = host as *mut HostPlace;
-    unsafe {
-        let inside = &raw mut (*place).inside;
-        inside.write(Host::new());
-        host.write(DgtHost {
-            at: inside as *mut u8,
-        });
-    }
+    make!(host: DgtHost in HostPlace, Host::new());
 }
 
 /// How many bytes a `dgt_host` takes.
@@ -76,14 +75,7 @@ pub unsafe extern "C" fn dgt_follower_init(follower: *mut DgtFollower)
     ensures* { sem 𝓛 (lies_at follower_handle full_share follower
         (record { at = follower +ₚ 8; inside = plain_follower })) }
 {
-    let place = follower as *mut FollowerPlace;
-    unsafe {
-        let inside = &raw mut (*place).inside;
-        inside.write(plain_follower());
-        follower.write(DgtFollower {
-            at: inside as *mut u8,
-        });
-    }
+    make!(follower: DgtFollower in FollowerPlace, plain_follower());
 }
 
 /// How many bytes a `dgt_follower` takes.
@@ -109,14 +101,7 @@ pub unsafe extern "C" fn dgt_decoder_init(decoder: *mut DgtDecoder)
     ensures* { sem 𝓛 (lies_at decoder_handle full_share decoder
         (record { at = decoder +ₚ 8; inside = [] })) }
 {
-    let place = decoder as *mut DecoderPlace;
-    unsafe {
-        let inside = &raw mut (*place).inside;
-        inside.write(Decoder::new());
-        decoder.write(DgtDecoder {
-            at: inside as *mut u8,
-        });
-    }
+    make!(decoder: DgtDecoder in DecoderPlace, Decoder::new());
 }
 
 /// How many bytes a `dgt_decoder` takes.
@@ -142,14 +127,7 @@ pub unsafe extern "C" fn dgt_command_decoder_init(command_decoder: *mut DgtComma
     ensures* { sem 𝓛 (lies_at command_decoder_handle full_share command_decoder
         (record { at = command_decoder +ₚ 8; inside = [] })) }
 {
-    let place = command_decoder as *mut CommandDecoderPlace;
-    unsafe {
-        let inside = &raw mut (*place).inside;
-        inside.write(CommandDecoder::new());
-        command_decoder.write(DgtCommandDecoder {
-            at: inside as *mut u8,
-        });
-    }
+    make!(command_decoder: DgtCommandDecoder in CommandDecoderPlace, CommandDecoder::new());
 }
 
 /// How many bytes a `dgt_command_decoder` takes.
@@ -175,14 +153,7 @@ pub unsafe extern "C" fn dgt_board_init(board: *mut DgtBoard)
     ensures* { sem 𝓛 (lies_at board_handle full_share board
         (record { at = board +ₚ 8; inside = plain_board })) }
 {
-    let place = board as *mut BoardPlace;
-    unsafe {
-        let inside = &raw mut (*place).inside;
-        inside.write(board_of_program());
-        board.write(DgtBoard {
-            at: inside as *mut u8,
-        });
-    }
+    make!(board: DgtBoard in BoardPlace, board_of_program());
 }
 
 /// How many bytes a `dgt_board` takes.
