@@ -1,11 +1,7 @@
 -- How many bytes a handle and what it owns take.
 use Rattle.std.specs.Prelude.{ℕ}
 use Rattle.std.specs.Mem.{type_size}
-use Rattle.dgt_c.specs.contracts.places.BoardPlace.{the_row as board_place}
-use Rattle.dgt_c.specs.contracts.places.CommandDecoderPlace.{the_row as command_decoder_place}
-use Rattle.dgt_c.specs.contracts.places.DecoderPlace.{the_row as decoder_place}
-use Rattle.dgt_c.specs.contracts.places.FollowerPlace.{the_row as follower_place}
-use Rattle.dgt_c.specs.contracts.places.HostPlace.{the_row as host_place}
+use Rattle.dgt_c.specs.contracts.places.{BoardPlace.the_row as board_place, CommandDecoderPlace.the_row as command_decoder_place, DecoderPlace.the_row as decoder_place, FollowerPlace.the_row as follower_place, HostPlace.the_row as host_place}
 
 abbrev pub host_room : ℕ
 host_room = type_size host_place
