@@ -35,9 +35,7 @@ pub(crate) fn read_position(codes: &[u8; 64]) -> Option<Position>
 {
     let mut position = Position::empty();
     for (index, code) in codes.iter().enumerate() {
-        let Ok(piece) = Piece::from_code(*code) else {
-            return None;
-        };
+        let piece = Piece::from_code(*code).ok()?;
         position.set(Square::from_small(index as u8), piece);
     }
     Some(position)
