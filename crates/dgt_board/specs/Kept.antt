@@ -1,7 +1,11 @@
 -- What contracts see of the state that a board keeps, and what is due of it.
-use Rattle.std.specs.Prelude.{option_map}
+use Rattle.std.specs.Prelude.{ℕ, ◌≤◌, List, length, option_map, Result}
+use Rattle.dgt_values.specs.declared.refusals.NoRoom.{NoRoom}
 use Rattle.dgt_values.specs.Board.{pieces_of, square_number}
+use Rattle.dgt_values.specs.Bytes.{WritesFront}
 use Rattle.dgt_message.specs.Content.{clock_message, clock_seen, Content}
+use Rattle.dgt_message.specs.Spelling.{Spells, spelling}
+use Rattle.dgt_board.specs.declared.sending.TheConstants.{MAX_SENT}
 use Rattle.dgt_board.specs.declared.sending.Due.{Due}
 use Rattle.dgt_board.specs.declared.state.State.{State}
 use Rattle.dgt_board.specs.State.{BoardState}
@@ -25,3 +29,10 @@ abbrev pub due_message : BoardState → Due → Content
 due_message board (Due.Reply reply) = reply_message board reply
 due_message board (Due.Field square) = field_of board (square_number square)
 due_message board Due.Times = clock_message board.clock
+
+-- The message is written at the beginning of the slice, or this is too short. Its bytes encode it,
+-- and are at most as many as a board sends.
+pub record WritesMessage (message : Content) (old new : List ℕ) (r : Result ℕ NoRoom) : Type 0 where
+  pub written : WritesFront (spelling message) old new r
+  pub spells : Spells message (spelling message)
+  pub short : length (spelling message) ≤ MAX_SENT

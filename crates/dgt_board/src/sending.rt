@@ -1,13 +1,13 @@
 //! What a board sends, and in which order.
 
 ghost use Rattle.std.specs.Prelude.{◌≡◌, ◌↔◌, ◌≤◌, ◌<◌, ℕ, List, IfSome, Some, [], ◌∷◌, false, drop, filter, length, option_map, slice_get};
-ghost use Rattle.dgt_values.specs.Bytes.{number, WritesFront};
+ghost use Rattle.dgt_values.specs.Bytes.{number};
 ghost use Rattle.dgt_values.specs.Board.{square_number};
 ghost use Rattle.dgt_message.specs.Content.{clock_message, Content, content};
-ghost use Rattle.dgt_message.specs.Spelling.{Spells, spelling};
+ghost use Rattle.dgt_message.specs.Spelling.{spelling};
 ghost use Rattle.dgt_board.specs.Sending.{after_sending, after_telling, differs, every_square, left_to_send, next_message, reply_message, untold_squares};
 ghost use Rattle.dgt_board.specs.View.{Polls};
-ghost use Rattle.dgt_board.specs.Kept.{due_message};
+ghost use Rattle.dgt_board.specs.Kept.{WritesMessage, due_message};
 
 use crate::modes::Mode;
 use crate::replies::Reply;
@@ -98,11 +98,7 @@ impl State {
     // encoded in the arm that makes it: one that is first brought together with the others is
     // copied as long as a dump is.
     fn write_reply(&self, reply: Reply, out: &mut [u8]) -> Result<usize, NoRoom>
-        ensures written { let message = reply_message (state_of self.now) reply in
-            WritesFront (spelling message) out.old out.new result }
-        ensures spells { let message = reply_message (state_of self.now) reply in
-            Spells message (spelling message) }
-        ensures short { length (spelling (reply_message (state_of self.now) reply)) ≤ MAX_SENT }
+        ensures { WritesMessage (reply_message (state_of self.now) reply) out.old out.new result }
     {
         let identity = &self.identity;
         match reply {
@@ -125,11 +121,7 @@ impl State {
 
     // Writes what the clock shows at the beginning of the slice.
     fn write_clock(&self, out: &mut [u8]) -> Result<usize, NoRoom>
-        ensures written { let message = clock_message (state_of self.now).clock in
-            WritesFront (spelling message) out.old out.new result }
-        ensures spells { let message = clock_message (state_of self.now).clock in
-            Spells message (spelling message) }
-        ensures short { length (spelling (clock_message (state_of self.now).clock)) ≤ MAX_SENT }
+        ensures { WritesMessage (clock_message (state_of self.now).clock) out.old out.new result }
     {
         match self.clock {
             Clock::Times(times) => encode(&Message::Times(times), out),
@@ -139,11 +131,7 @@ impl State {
 
     // Writes what is due at the beginning of the slice, as the board stands.
     fn write(&self, due: Due, out: &mut [u8]) -> Result<usize, NoRoom>
-        ensures written { let message = due_message (state_of self.now) due in
-            WritesFront (spelling message) out.old out.new result }
-        ensures spells { let message = due_message (state_of self.now) due in
-            Spells message (spelling message) }
-        ensures short { length (spelling (due_message (state_of self.now) due)) ≤ MAX_SENT }
+        ensures { WritesMessage (due_message (state_of self.now) due) out.old out.new result }
     {
         match due {
             Due::Reply(reply) => self.write_reply(reply, out),
