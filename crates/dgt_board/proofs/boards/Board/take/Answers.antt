@@ -1,4 +1,4 @@
-use Rattle.std.proofs.Common.{rules, ◌≡◌, refl, [], ◌++◌, take}
+use Rattle.std.proofs.Common.{rules, ◌≡◌, [], ◌++◌, take}
 use Rattle.dgt_command.specs.Content.{EventContent, Read, command_content, command_event_content}
 use Rattle.dgt_command.specs.Framing.{rest_of, word_found_in}
 use Rattle.dgt_command.specs.Words.{IsWord}
@@ -22,17 +22,8 @@ returns c =
     let rest : rest_of c.advance-advanced.new.self ≡ [] = rw c.in-Some.is at c.advance-advanced.ensures.held in
     let after : BoardView = record { state = state_of c.obey.new.self; partial = rest_of c.advance-advanced.new.self }
     in
-    let both = takes_word c.parts_of_words.ensures.nothing c.args.self.now after bytes event word state rest in (
-      (refl, λ _. tt, both),
-      record {
-        after_borrow = tt;
-        busy = search rules;
-        within = c.advance-advanced.ensures.within;
-        progress = c.advance-advanced.ensures.progress;
-        event = word;
-        none = tt;
-      },
-    )
+    let both = takes_word c.parts_of_words.ensures.nothing c.args.self.now after bytes event word state rest in
+    search rules
 
 pub returns-in-Some-bare_command : goal.returns-in-Some-bare_command
 returns-in-Some-bare_command c =
@@ -49,14 +40,5 @@ returns-in-Some-bare_command c =
       state = state_of c.obey_command.new.self;
       partial = rest_of c.advance-advanced.new.self;
     } in
-    let both = takes_word c.parts_of_words.ensures.nothing c.args.self.now after bytes event word state rest in (
-      (refl, λ _. tt, both),
-      record {
-        after_borrow = tt;
-        busy = search rules;
-        within = c.advance-advanced.ensures.within;
-        progress = c.advance-advanced.ensures.progress;
-        event = word;
-        none = tt;
-      },
-    )
+    let both = takes_word c.parts_of_words.ensures.nothing c.args.self.now after bytes event word state rest in
+    search rules
