@@ -22,15 +22,14 @@ pub record IsBeginning (total : ℕ) (rest : List ℕ) (used : ℕ) : Type 0 whe
   pub seven : SevenByRecursion (take (used - 3) (drop 3 rest))
 
 -- these are those before the next set top bit after the header
-pub beginning : (total run : ℕ) (rest : List ℕ) → Begins total rest
-    → run ≡ position_or_len has_top_bit (take (min (length rest) total - 3) (drop 3 rest))
-    → IsBeginning total rest (3 + run)
-beginning total run [] begins is = absurd (omega (arith, begins.enough))
-beginning total run (b ∷ []) begins is = absurd (omega (arith, begins.enough))
-beginning total run (b ∷ h ∷ []) begins is = absurd (omega (arith, begins.enough))
-beginning total run (b ∷ h ∷ l ∷ more) begins is =
+pub beginning : (total end run : ℕ) (rest : List ℕ) → Begins total rest → end ≡ min (length rest) total
+    → run ≡ position_or_len has_top_bit (take (end - 3) (drop 3 rest)) → IsBeginning total rest (3 + run)
+beginning total end run [] begins least is = absurd (omega (arith, begins.enough))
+beginning total end run (b ∷ []) begins least is = absurd (omega (arith, begins.enough))
+beginning total end run (b ∷ h ∷ []) begins least is = absurd (omega (arith, begins.enough))
+beginning total end run (b ∷ h ∷ l ∷ more) begins least is =
     let header = by_recursion (h ∷ l ∷ []) begins.header in
-    let missing = min (length (b ∷ h ∷ l ∷ more)) total - 3 in
+    let missing = end - 3 in
     let wanted = take missing more in
     let up_to : run ≤ length wanted = omega (arith, is, prefix_len-le-length (λ x. not (has_top_bit x)) wanted) in
     let long = length-take missing more in

@@ -100,9 +100,10 @@ front-stray kept (b ∷ rest) none some seven =
 -- ---- A byte of the header
 
 -- the second byte of a message reports nothing
-pub frames-short : (kept : List ℕ) (b : ℕ) → IsHeld kept → length kept ≡ 1 → b < 128
-    → Frames kept (b ∷ []) (kept ++ b ∷ []) None × IsKept Head (kept ++ b ∷ [])
-frames-short kept b h one seven =
+pub frames-short : (state : FramerState) (kept : List ℕ) (b : ℕ) → IsKept state kept → state ≡ Head → length kept ≡ 1
+    → b < 128 → Frames kept (b ∷ []) (kept ++ b ∷ []) None × IsKept Head (kept ++ b ∷ [])
+frames-short state kept b is head one seven =
+    let h = opened state kept is (inl head) in
     let long : length (kept ++ b ∷ []) ≡ 2 = omega (arith, length-append kept (b ∷ [])) in
     let g = next-short kept (b ∷ []) h (omega arith) (seven, tt) (omega arith) in (
       record {
@@ -115,6 +116,12 @@ frames-short kept b h one seven =
       (g.leaves, omega arith, omega arith),
     )
 
+-- after the first byte there are two
+two_kept : (state : FramerState) (kept : List ℕ) → IsKept state kept → state ≡ Head → length kept ≢ 1
+    → IsHeld kept × (length kept ≡ 2)
+two_kept state kept is head more =
+    let two : IsKept Head kept = subst (λ s. IsKept s kept) head is in (two.0, omega (arith, two.1, two.2))
+
 -- the third byte ends the total
 pub head_total : (kept : List ℕ) (b : ℕ) → length kept ≡ 2
     → announced_total (kept ++ b ∷ []) ≡ 128 * slice_index kept 1 + b
@@ -124,9 +131,10 @@ head_total (x ∷ []) b two = absurd (omega arith)
 head_total [] b two = absurd (omega arith)
 
 -- a total below 3 is reported as such
-pub frames-bad : (kept : List ℕ) (b : ℕ) → IsHeld kept → length kept ≡ 2 → b < 128 → 128 * slice_index kept 1 + b < 3
-    → Frames kept (b ∷ []) [] (Some found.BadLength)
-frames-bad kept b h two seven small =
+pub frames-bad : (state : FramerState) (kept : List ℕ) (b : ℕ) → IsKept state kept → state ≡ Head → length kept ≢ 1
+    → b < 128 → 128 * slice_index kept 1 + b < 3 → Frames kept (b ∷ []) [] (Some found.BadLength)
+frames-bad state kept b is head more seven small =
+    let (h, two) = two_kept state kept is head more in
     let long : length (kept ++ b ∷ []) ≡ 3 = omega (arith, length-append kept (b ∷ [])) in
     let g = next-bad kept (b ∷ []) h (omega arith) (seven, tt) long (omega (arith, head_total kept b two)) in
     let place : 3 ≡ length kept + 1 = omega arith in
@@ -213,20 +221,24 @@ frames-after kept b left h two seven all =
     )
 
 -- a byte of the body does
-pub frames-body : (kept : List ℕ) (b left : ℕ) → IsKept (Body left) kept → b < 128
+pub frames-body : (state : FramerState) (kept : List ℕ) (b left : ℕ) → IsKept state kept → state ≡ Body left → b < 128
     → Frames kept (b ∷ []) (kept ++ b ∷ []) (after (left - 1)).1 × IsKept (after (left - 1)).0 (kept ++ b ∷ [])
-frames-body kept b left is seven =
+frames-body state kept b left was body seven =
+    let is : IsKept (Body left) kept = subst (λ s. IsKept s kept) body was in
     let count : length (kept ++ b ∷ []) ≡ length kept + 1 = length-append kept (b ∷ []) in
     frames-after kept b (left - 1) is.0 (omega (arith, is.1)) seven
     (omega (arith, announced_total-append kept (b ∷ []) is.1, is.2, is.3))
 
 -- and so does the third byte, with no body to come
-pub frames-head : (kept : List ℕ) (b total : ℕ) → IsHeld kept → length kept ≡ 2 → b < 128
-    → total ≡ 128 * slice_index kept 1 + b → 3 ≤ total
-    → Frames kept (b ∷ []) (kept ++ b ∷ []) (after (total - 3)).1 × IsKept (after (total - 3)).0 (kept ++ b ∷ [])
-frames-head kept b total h two seven is large =
+pub frames-head : (state : FramerState) (kept : List ℕ) (b high low : ℕ) → IsKept state kept → state ≡ Head
+    → length kept ≢ 1 → b < 128 → high ≡ slice_index kept 1 → low ≡ b → 3 ≤ 128 * high + low
+    → let left = 128 * high + low - 3 in
+    Frames kept (b ∷ []) (kept ++ b ∷ []) (after left).1 × IsKept (after left).0 (kept ++ b ∷ [])
+frames-head state kept b high low is head more seven second third large =
+    let (h, two) = two_kept state kept is head more in
     let count : length (kept ++ b ∷ []) ≡ length kept + 1 = length-append kept (b ∷ []) in
-    frames-after kept b (total - 3) h (omega arith) seven (omega (arith, head_total kept b two, is))
+    frames-after kept b (128 * high + low - 3) h (omega arith) seven
+    (omega (arith, head_total kept b two, second, third))
 
 -- a message that isn't whole leaves room
 pub kept_room : (state : FramerState) (kept : List ℕ) → IsKept state kept → (state ≡ Head)

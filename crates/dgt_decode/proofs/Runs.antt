@@ -1,9 +1,10 @@
 -- A run of a message's body.
-use Rattle.std.proofs.Common.{◌≡◌, ℕ, zero, suc, ◌+◌, ◌-◌, ◌<◌, ◌≤◌, Bool, true, false, cond, not, List, [], ◌∷◌, ◌++◌, length, take, get_or, refl, arith}
+use Rattle.std.proofs.Common.{◌≡◌, ℕ, zero, suc, ◌+◌, ◌-◌, ◌<◌, ◌≤◌, Bool, true, false, cond, not, List, [], ◌∷◌, ◌++◌, length, take, get_or, refl, subst, arith}
 use Rattle.std.specs.List.{position_or_len}
 use Rattle.std.proofs.lemmas.Bool.{leb-false, lt-leb}
 use Rattle.std.proofs.lemmas.List.{length-append, length-take, take-take}
 use Rattle.std.proofs.lemmas.List.Sums.{prefix_len-le-length}
+use Rattle.dgt_decode.specs.declared.framer.FramerState.{FramerState}
 use Rattle.dgt_decode.specs.declared.framer.FramerState.TheVariants.{Body}
 use Rattle.dgt_decode.specs.Grammar.{has_top_bit, announced_total}
 use Rattle.dgt_decode.specs.Taking.{FramesFront, IsKept}
@@ -63,10 +64,12 @@ seven-take (suc n) [] seven = tt
 seven-take (suc n) (b ∷ bytes) seven = (seven.0, seven-take n bytes seven.1)
 
 -- A run of the body ends the message where none of it is missing then, and reports nothing otherwise.
-pub frames-body_run : (kept rest : List ℕ) (left used : ℕ) → IsKept (Body left) kept → IsBodyRun left rest used
+pub frames-body_run : (state : FramerState) (kept rest : List ℕ) (left used : ℕ) → IsKept state kept
+    → state ≡ Body left → IsBodyRun left rest used
     → FramesFront kept rest used (kept ++ take used rest) (after (left - used)).1
     × IsKept (after (left - used)).0 (kept ++ take used rest)
-frames-body_run kept rest left used is run =
+frames-body_run state kept rest left used was body run =
+    let is : IsKept (Body left) kept = subst (λ s. IsKept s kept) body was in
     let bytes = take used rest in
     let count : length bytes ≡ used = omega (arith, length-take used rest, run.within) in
     let sum : length (kept ++ bytes) ≡ length kept + length bytes = length-append kept bytes in

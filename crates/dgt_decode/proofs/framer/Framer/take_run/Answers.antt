@@ -23,21 +23,17 @@ overflow_sub-left c =
 
 pub invariant_of-self : goal.invariant_of-self
 invariant_of-self c =
-    let kept = c.self.inside.kept in
-    let is : IsKept (Body c.in-Body.left) kept = subst (λ s. IsKept s kept) c.in-Body.is c.self.invariant in
     let run = body_run c.in-Body.left _ c.args.rest.now (omega arith) c.requires c.if-rest-lt-TOP_BIT.true
     c.append_run-used.ensures.count in
     rw (c.after_byte-state.ensures, c.append_run-used.ensures.appended)
-    (frames-body_run kept c.args.rest.now c.in-Body.left _ is run).1
+    (frames-body_run _ _ c.args.rest.now c.in-Body.left _ c.self.invariant c.in-Body.is run).1
 
 pub returns-in-Body : goal.returns-in-Body
 returns-in-Body c =
-    let kept = c.self.inside.kept in
-    let is : IsKept (Body c.in-Body.left) kept = subst (λ s. IsKept s kept) c.in-Body.is c.self.invariant in
     let run = body_run c.in-Body.left _ c.args.rest.now (omega arith) c.requires c.if-rest-lt-TOP_BIT.true
     c.append_run-used.ensures.count in
     rw (← c.self.view_is, c.after_byte-state.ensures, c.append_run-used.ensures.appended)
-    (frames-body_run kept c.args.rest.now c.in-Body.left _ is run).0
+    (frames-body_run _ _ c.args.rest.now c.in-Body.left _ c.self.invariant c.in-Body.is run).0
 
 pub take_beginning-requires-clause-closed : goal.take_beginning-requires-clause-closed
 take_beginning-requires-clause-closed c = rw (← c.self.view_is) (closed _ _ c.self.invariant c.in-Hunting.is)
