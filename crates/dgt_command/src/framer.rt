@@ -5,6 +5,7 @@ ghost use Rattle.std.specs.Prelude.{IsTrue, IfSome, IfNone, OnSome, is_some};
 ghost use Rattle.dgt_command.specs.Content.{CommandContent, Read, command_content, command_event_content};
 ghost use Rattle.dgt_command.specs.Spelling.{IsSpelling, SpellsCommand, command_in};
 ghost use Rattle.dgt_command.specs.Framing.{word_found_in, rest_after, rest_of};
+ghost use Rattle.dgt_command.specs.Lengths.{Adds};
 ghost use Rattle.dgt_command.specs.Words.{IsPartial, IsWholeWord, IsWord};
 
 use crate::codes::{CLOCK_MESSAGE, END, bare_command};
@@ -75,12 +76,7 @@ impl Model for WordFramer {
 #[inline(never)]
 fn add_each(word: &mut Kept, piece: &[u8]) -> (usize, bool)
     requires { IsPartial word.old }
-    ensures used { result.0 ≤ length piece.now }
-    ensures word { word.new ≡ word.old ++ take result.0 piece.now }
-    ensures whole { IsTrue result.1 → IsWholeWord word.new }
-    ensures partial { result.1 ≡ false → IsPartial word.new }
-    ensures all { result.1 ≡ false → result.0 ≡ length piece.now }
-    ensures progress { 0 < length piece.now → 0 < result.0 }
+    ensures { Adds word.old piece.now word.new result.0 result.1 }
 {
     for (i, byte) in piece.iter().enumerate() {
         word.push(*byte);
@@ -95,12 +91,7 @@ fn add_each(word: &mut Kept, piece: &[u8]) -> (usize, bool)
 #[inline(always)]
 fn add_bytes(word: &mut Kept, piece: &[u8]) -> (usize, bool)
     requires { IsPartial word.old }
-    ensures used { result.0 ≤ length piece.now }
-    ensures word { word.new ≡ word.old ++ take result.0 piece.now }
-    ensures whole { IsTrue result.1 → IsWholeWord word.new }
-    ensures partial { result.1 ≡ false → IsPartial word.new }
-    ensures all { result.1 ≡ false → result.0 ≡ length piece.now }
-    ensures progress { 0 < length piece.now → 0 < result.0 }
+    ensures { Adds word.old piece.now word.new result.0 result.1 }
 {
     let length = length_so_far(piece);
     if word.len() > 0 || length > piece.len() {

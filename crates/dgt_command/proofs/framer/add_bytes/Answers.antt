@@ -1,5 +1,7 @@
 use Rattle.std.proofs.Common.{arith}
+use Rattle.std.proofs.lemmas.Grind.{common_steps}
 use Rattle.dgt_command.specs.Spelling.{AreBytes}
+use Rattle.dgt_command.specs.Words.{IsWholeWord}
 use Rattle.dgt_command.proofs.ReaderLemmas.{whole_front, word_limit}
 use Rattle.dgt_command.proofs.framer.add_bytes.Goals as goal
 
@@ -8,9 +10,10 @@ set_front-requires c =
     let bytes : AreBytes c.args.piece.now = λ i. omega (arith, c.type_inv.piece i) in
     record { within = omega arith; fits = omega (arith, word_limit c.args.piece.now bytes) }
 
-pub returns-clause-whole : goal.returns-clause-whole
-returns-clause-whole c =
+pub returns : goal.returns
+returns c =
     let bytes : AreBytes c.args.piece.now = λ i. omega (arith, c.type_inv.piece i) in
-    let whole = whole_front c.args.piece.now c.length_so_far-length.result bytes c.length_so_far-length.ensures
+    let front = whole_front c.args.piece.now c.length_so_far-length.result bytes c.length_so_far-length.ensures
     (omega arith) in
-    λ _. rw c.set_front.ensures whole
+    let whole : IsWholeWord c.set_front.new.self = rw c.set_front.ensures front in
+    grind (arith, common_steps)
