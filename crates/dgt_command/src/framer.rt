@@ -10,9 +10,9 @@ ghost use Rattle.dgt_command.specs.Words.{IsPartial, IsWholeWord, IsWord};
 
 use crate::codes::{CLOCK_MESSAGE, END, bare_command};
 use crate::command::{Command, CommandEvent};
-use crate::kept::Kept;
 use crate::lengths::{is_whole, length_so_far};
 use crate::viewing::view_command;
+use dgt_values::Kept;
 use std::marker::Model;
 
 /// The most bytes of a word: a clock message or an LED frame with a size of 255.
@@ -55,7 +55,7 @@ pub struct AdvancedWord {
 /// (`rest_of`).
 #[derive(Drop)]
 pub struct WordFramer {
-    word: Kept,
+    word: Kept<MAX_WORD>,
     is_whole: bool,
 }
 
@@ -74,7 +74,7 @@ impl Model for WordFramer {
 // Adds bytes of the chunk to a part of a word, up to the one that completes it: how many, and
 // whether one did.
 #[inline(never)]
-fn add_each(word: &mut Kept, piece: &[u8]) -> (usize, bool)
+fn add_each(word: &mut Kept<MAX_WORD>, piece: &[u8]) -> (usize, bool)
     requires { IsPartial word.old }
     ensures { Adds word.old piece.now word.new result.0 result.1 }
 {
@@ -89,7 +89,7 @@ fn add_each(word: &mut Kept, piece: &[u8]) -> (usize, bool)
 
 // The same. A word that begins with the chunk, and is whole in it, is copied at once.
 #[inline(always)]
-fn add_bytes(word: &mut Kept, piece: &[u8]) -> (usize, bool)
+fn add_bytes(word: &mut Kept<MAX_WORD>, piece: &[u8]) -> (usize, bool)
     requires { IsPartial word.old }
     ensures { Adds word.old piece.now word.new result.0 result.1 }
 {

@@ -49,7 +49,6 @@ mod decoder;
 mod displaying;
 mod framer;
 mod ids;
-mod kept;
 pub mod laws;
 mod lengths;
 mod questions;

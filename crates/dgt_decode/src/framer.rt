@@ -1,7 +1,8 @@
 //! The reading of one message after another: its states, and the bytes that have come.
 
 ghost use Rattle.std.specs.Prelude.{◌≡◌, ◌≢◌, ◌≤◌, ◌<◌, ◌+◌, List, ℕ, [], ◌∷◌, ◌++◌, true, length, take, option_map, ◌==◌, if◌then◌else◌, Some, None};
-ghost use Rattle.dgt_decode.specs.Grammar.{message_event, open_message};
+ghost use Rattle.std.specs.List.{position_or_len};
+ghost use Rattle.dgt_decode.specs.Grammar.{has_top_bit, message_event, open_message};
 ghost use Rattle.dgt_decode.specs.Feeding.{FirstEvent, IsWholeMessage, event_content, event_found_in};
 ghost use Rattle.dgt_decode.specs.Taking.{Begins, Frames, FramesFront};
 
@@ -9,10 +10,9 @@ use crate::dumps::dump_position;
 use crate::event::{Event, Found};
 use crate::fields::field_update;
 use crate::header::{FIELD, HEADER, TOP_BIT, is_field_at_front, total_at_front};
-use crate::kept::Kept;
 use crate::lanes::first_top;
 use dgt_message::{Message, view};
-use dgt_values::{Body, SevenBit};
+use dgt_values::{Body, Kept, SevenBit};
 use std::marker::Model;
 
 /// The most bytes of a message, its header of three bytes counted.
@@ -53,7 +53,7 @@ pub struct Advanced {
 #[derive(Drop)]
 pub struct Framer {
     state: FramerState,
-    kept: Kept,
+    kept: Kept<MAX_TOTAL>,
 }
 
 impl Model for Framer {
@@ -78,6 +78,19 @@ fn after_byte(left: usize) -> (FramerState, Option<Found>)
     } else {
         (FramerState::Body { left }, None)
     }
+}
+
+// Appends the bytes at the front of the chunk whose top bit isn't set, no more than are missing.
+// Returns how many they are.
+fn append_run(kept: &mut Kept<MAX_TOTAL>, missing: usize, piece: &[u8]) -> usize
+    requires { length kept.old + missing ≤ MAX_TOTAL }
+    ensures count { result ≡ position_or_len has_top_bit (take missing piece.now) }
+    ensures appended { kept.new ≡ kept.old ++ take result piece.now }
+{
+    let wanted = &piece[..piece.len().min(missing)];
+    let run = first_top(wanted);
+    kept.append(&wanted[..run]);
+    run
 }
 
 /// What the bytes of one message make known. No byte of its body is looked at but by the message's
@@ -242,7 +255,7 @@ impl Framer {
     {
         match self.state {
             FramerState::Body { left } if left >= MANY && rest[0] < TOP_BIT => {
-                let used = self.kept.append_run(left, rest);
+                let used = append_run(&mut self.kept, left, rest);
                 let (state, found) = after_byte(left - used);
                 self.state = state;
                 return Advanced { used, found };

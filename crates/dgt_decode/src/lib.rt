@@ -48,7 +48,6 @@ mod event;
 mod fields;
 mod framer;
 mod header;
-mod kept;
 mod lanes;
 pub mod laws;
 mod listening;

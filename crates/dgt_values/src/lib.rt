@@ -24,7 +24,8 @@
 //! ```
 //!
 //! [`laws`] says that reading and writing agree. [`TooMuch`], [`Known`] and [`NoRoom`] are refusals
-//! that the crates above return too, and [`Kind`] lists the kinds of replies that a host awaits.
+//! that the crates above return too, [`Kind`] lists the kinds of replies that a host awaits, and
+//! [`Kept`] is what decoders keep.
 //!
 //! Piece codes, square numbers and segment bytes are those of the DGT Electronic Board Protocol
 //! Description (the published `dgtbrd` header). The letters `.`, `X`, `Y` and `Z`, and that a
@@ -33,6 +34,7 @@
 
 mod bodies;
 mod bytes;
+mod kept;
 mod kinds;
 pub mod laws;
 mod pieces;
@@ -44,6 +46,7 @@ mod squares;
 
 pub use bodies::{Body, MAX_BODY};
 pub use bytes::SevenBit;
+pub use kept::Kept;
 pub use kinds::Kind;
 pub use pieces::Piece;
 pub use positions::Position;

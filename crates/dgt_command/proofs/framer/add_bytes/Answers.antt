@@ -1,19 +1,17 @@
-use Rattle.std.proofs.Common.{arith}
+use Rattle.std.proofs.Common.{◌≡◌, ap, arith, min, take, ◌∙◌}
 use Rattle.std.proofs.lemmas.Grind.{common_steps}
 use Rattle.dgt_command.specs.Spelling.{AreBytes}
 use Rattle.dgt_command.specs.Words.{IsWholeWord}
 use Rattle.dgt_command.proofs.ReaderLemmas.{whole_front, word_limit}
 use Rattle.dgt_command.proofs.framer.add_bytes.Goals as goal
 
-pub set_front-requires : goal.set_front-requires
-set_front-requires c =
-    let bytes : AreBytes c.args.piece.now = λ i. omega (arith, c.type_inv.piece i) in
-    record { within = omega arith; fits = omega (arith, word_limit c.args.piece.now bytes) }
-
 pub returns : goal.returns
 returns c =
-    let bytes : AreBytes c.args.piece.now = λ i. omega (arith, c.type_inv.piece i) in
-    let front = whole_front c.args.piece.now c.length_so_far-length.result bytes c.length_so_far-length.ensures
-    (omega arith) in
-    let whole : IsWholeWord c.set_front.new.self = rw c.set_front.ensures front in
+    let piece = c.args.piece.now in
+    let length = c.length_so_far-length.result in
+    let bytes : AreBytes piece = λ i. omega (arith, c.type_inv.piece i) in
+    let fits : min length 257 ≡ length = omega (arith, c.length_so_far-length.ensures, word_limit piece bytes) in
+    let front : c.set_front.new.self ≡ take length piece = c.set_front.ensures ∙ ap (λ n. take n piece) fits in
+    let whole : IsWholeWord c.set_front.new.self =
+    rw front (whole_front piece length bytes c.length_so_far-length.ensures (omega arith)) in
     grind (arith, common_steps)

@@ -1,4 +1,4 @@
-use Rattle.std.proofs.Common.{arith}
+use Rattle.std.proofs.Common.{◌≡◌, ◌+◌, min, arith}
 use Rattle.dgt_decode.proofs.Beginnings.{beginning, frames-beginning}
 use Rattle.dgt_decode.proofs.framer.Framer.take_beginning.Goals as goal
 
@@ -7,22 +7,21 @@ overflow_add-used c =
     let run = beginning _ _ _ _ c.requires.begins c.min.ensures c.first_top-used.ensures in
     omega (arith, run.fits, run.short)
 
-pub set_front-requires : goal.set_front-requires
-set_front-requires c =
-    let run = beginning _ _ _ _ c.requires.begins c.min.ensures c.first_top-used.ensures in
-    record { within = run.within; fits = omega (arith, run.fits, run.short) }
-
 pub overflow_sub-total : goal.overflow_sub-total
 overflow_sub-total c = (beginning _ _ _ _ c.requires.begins c.min.ensures c.first_top-used.ensures).fits
 
 pub invariant_of-self : goal.invariant_of-self
 invariant_of-self c =
     let run = beginning _ _ _ _ c.requires.begins c.min.ensures c.first_top-used.ensures in
-    rw (c.after_byte-state.ensures, c.set_front.ensures)
+    let fits : min (3 + c.first_top-used.result) 16383 ≡ 3 + c.first_top-used.result =
+    omega (arith, run.fits, run.short) in
+    rw (c.after_byte-state.ensures, c.set_front.ensures, fits)
     (frames-beginning c.args.self.now c.args.rest.now c.args.total _ c.requires.closed c.requires.begins run).1
 
 pub returns : goal.returns
 returns c =
     let run = beginning _ _ _ _ c.requires.begins c.min.ensures c.first_top-used.ensures in
-    rw (c.after_byte-state.ensures, c.set_front.ensures)
+    let fits : min (3 + c.first_top-used.result) 16383 ≡ 3 + c.first_top-used.result =
+    omega (arith, run.fits, run.short) in
+    rw (c.after_byte-state.ensures, c.set_front.ensures, fits)
     (frames-beginning c.args.self.now c.args.rest.now c.args.total _ c.requires.closed c.requires.begins run).0

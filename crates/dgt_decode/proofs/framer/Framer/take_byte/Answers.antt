@@ -1,4 +1,4 @@
-use Rattle.std.proofs.Common.{◌≡◌, inr, refl, arith}
+use Rattle.std.proofs.Common.{◌≡◌, inl, inr, refl, arith}
 use Rattle.std.specs.Prelude.{slice_index}
 use Rattle.dgt_decode.proofs.Framing.{closed, kept_room, frames-stray, frames-short, frames-bad, frames-head, frames-body}
 use Rattle.dgt_decode.proofs.framer.Framer.take_byte.Goals as goal
@@ -11,12 +11,14 @@ returns-in-Hunting c =
 
 pub invariant_of-self : goal.invariant_of-self
 invariant_of-self c =
-    rw (c.in-Head.is, c.push.ensures)
+    let pushed = c.push.ensures.kept (kept_room _ _ c.self.invariant (inl c.in-Head.is)) in
+    rw (c.in-Head.is, pushed)
     (frames-short _ _ c.args.byte c.self.invariant c.in-Head.is (omega arith) c.if-byte-ge-TOP_BIT.false).1
 
 pub returns-in-Head : goal.returns-in-Head
 returns-in-Head c =
-    rw (← c.self.view_is, c.push.ensures)
+    let pushed = c.push.ensures.kept (kept_room _ _ c.self.invariant (inl c.in-Head.is)) in
+    rw (← c.self.view_is, pushed)
     (frames-short _ _ c.args.byte c.self.invariant c.in-Head.is (omega arith) c.if-byte-ge-TOP_BIT.false).0
 
 pub returns-then-total-lt-HEADER : goal.returns-then-total-lt-HEADER
@@ -28,25 +30,26 @@ returns-then-total-lt-HEADER c =
 
 pub invariant_of-self-in-Head-2 : goal.invariant_of-self-in-Head-2
 invariant_of-self-in-Head-2 c =
-    rw (c.after_byte-state.ensures, c.push-in-Head-2.ensures)
+    let pushed = c.push-in-Head-2.ensures.kept (kept_room _ _ c.self.invariant (inl c.in-Head-2.is)) in
+    rw (c.after_byte-state.ensures, pushed)
     (frames-head _ _ c.args.byte c.from.result _ c.self.invariant c.in-Head-2.is (omega arith)
     c.if-byte-ge-TOP_BIT.false (rw (c.from.ensures, c.as_slice.ensures) refl) c.from-in-Head-2.ensures (omega arith)).1
 
 pub returns-else-total-lt-HEADER : goal.returns-else-total-lt-HEADER
 returns-else-total-lt-HEADER c =
-    rw (← c.self.view_is, c.after_byte-state.ensures, c.push-in-Head-2.ensures)
+    let pushed = c.push-in-Head-2.ensures.kept (kept_room _ _ c.self.invariant (inl c.in-Head-2.is)) in
+    rw (← c.self.view_is, c.after_byte-state.ensures, pushed)
     (frames-head _ _ c.args.byte c.from.result _ c.self.invariant c.in-Head-2.is (omega arith)
     c.if-byte-ge-TOP_BIT.false (rw (c.from.ensures, c.as_slice.ensures) refl) c.from-in-Head-2.ensures (omega arith)).0
 
-pub push-requires-in-Body : goal.push-requires-in-Body
-push-requires-in-Body c = omega (arith, kept_room _ _ c.self.invariant (inr (c.in-Body.left, c.in-Body.is)))
-
 pub invariant_of-self-in-Body : goal.invariant_of-self-in-Body
 invariant_of-self-in-Body c =
-    rw (c.after_byte-state-in-Body.ensures, c.push-in-Body.ensures)
+    let pushed = c.push-in-Body.ensures.kept (kept_room _ _ c.self.invariant (inr (c.in-Body.left, c.in-Body.is))) in
+    rw (c.after_byte-state-in-Body.ensures, pushed)
     (frames-body _ _ c.args.byte c.in-Body.left c.self.invariant c.in-Body.is c.if-byte-ge-TOP_BIT.false).1
 
 pub returns-in-Body : goal.returns-in-Body
 returns-in-Body c =
-    rw (← c.self.view_is, c.after_byte-state-in-Body.ensures, c.push-in-Body.ensures)
+    let pushed = c.push-in-Body.ensures.kept (kept_room _ _ c.self.invariant (inr (c.in-Body.left, c.in-Body.is))) in
+    rw (← c.self.view_is, c.after_byte-state-in-Body.ensures, pushed)
     (frames-body _ _ c.args.byte c.in-Body.left c.self.invariant c.in-Body.is c.if-byte-ge-TOP_BIT.false).0
