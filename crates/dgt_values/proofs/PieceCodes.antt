@@ -1,5 +1,6 @@
 -- A piece is known by its code.
-use Rattle.std.proofs.Common.{◌≡◌, List, [], ◌∷◌, get_or, refl, sym, ◌∙◌, ap}
+use Rattle.std.proofs.Common.{◌≡◌, ◌<◌, ℕ, List, [], ◌∷◌, arith, get_or, length, lit<, map, refl, sym, ◌∙◌, ap}
+use Rattle.std.proofs.lemmas.List.{get_or-map, get_or_default, length-map, same_lists}
 use Rattle.dgt_values.specs.declared.pieces.Piece.{Piece}
 use Rattle.dgt_values.specs.declared.pieces.Piece.TheVariants.{Empty, WhitePawn, WhiteRook, WhiteKnight, WhiteBishop}
 use Rattle.dgt_values.specs.declared.pieces.Piece.TheVariants.{WhiteKing, WhiteQueen, BlackPawn, BlackRook, BlackKnight}
@@ -20,3 +21,16 @@ piece_of_code _ = refl
 
 pub same_code : (a b : Piece) → piece_code a ≡ piece_code b → a ≡ b
 same_code a b same = sym (piece_of_code a) ∙ ap (λ code. get_or by_code code Empty) same ∙ piece_of_code b
+
+-- a code has four bits
+pub piece_code-below : (piece : Piece) → piece_code piece < 16
+piece_code-below Empty = lit< tt
+piece_code-below _ = lit< tt
+
+-- codes of 64 pieces, each in its place
+pub coded : (codes : List ℕ) (pieces : List Piece) → length codes ≡ 64 → length pieces ≡ 64
+    → ((n : ℕ) → n < 64 → get_or codes n 0 ≡ piece_code (get_or pieces n Empty)) → codes ≡ map piece_code pieces
+coded codes pieces long all each =
+    same_lists codes (map piece_code pieces) (long ∙ sym (length-map pieces piece_code ∙ all))
+    (λ n d h. get_or_default codes n d 0 h ∙ each n (omega (arith, long))
+    ∙ sym (get_or-map piece_code pieces n Empty d (omega (arith, long, all))))

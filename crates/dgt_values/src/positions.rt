@@ -1,7 +1,7 @@
 //! What stands on each square.
 
-ghost use Rattle.std.specs.Prelude.{◌≡◌, ◌↔◌, length, map, replicate, IsTrue};
-ghost use Rattle.std.specs.Prelude.{slice_get, slice_set};
+ghost use Rattle.std.specs.Prelude.{◌≡◌, ◌↔◌, ◌<◌, ◌≤◌, ℕ, length, map, replicate, IsTrue, MatchResult};
+ghost use Rattle.std.specs.Prelude.{slice_get, slice_index, slice_set};
 
 use crate::pieces::Piece;
 use crate::squares::Square;
@@ -65,6 +65,24 @@ impl Position {
         ensures { pieces_of result ≡ pieces }
     {
         Position { pieces }
+    }
+
+    /// The position of these codes, from a8 to h1. `Err` has the first square with a code above 15,
+    /// which is no piece's.
+    pub fn from_codes(codes: &[u8; 64]) -> Result<Self, Square>
+        ensures { MatchResult result
+            (λ position. map piece_code (pieces_of position) ≡ codes.now)
+            (λ square. (16 ≤ slice_index codes.now (square_number square))
+            × ((n : ℕ) → n < square_number square → slice_index codes.now n < 16)) }
+    {
+        let mut pieces = [Piece::Empty; 64];
+        for (at, code) in codes.iter().enumerate() {
+            let Ok(piece) = Piece::from_code(*code) else {
+                return Err(Square::from_small(at as u8));
+            };
+            pieces[at] = piece;
+        }
+        Ok(Position { pieces })
     }
 
     /// The pieces of all squares by their numbers, from a8 to h1.
