@@ -52,17 +52,17 @@ impl CommandDecoder {
     /// event. If no byte completes one, it uses the whole chunk.
     ///
     /// A command lends what it carries from the reader until the next call.
-    pub fn feed(&mut self, piece: &[u8]) -> CommandFed<'_>
+    pub fn feed(&mut self, chunk: &[u8]) -> CommandFed<'_>
         ensures* after_borrow { sem 𝓛 (Rests the_row self.entry (λ new.
-            new ≡ rest_after result.event (self.old ++ take result.used piece.now))) }
-        ensures within { result.used ≤ length piece.now }
-        ensures progress { 0 < length piece.now → 0 < result.used }
+            new ≡ rest_after result.event (self.old ++ take result.used chunk.now))) }
+        ensures within { result.used ≤ length chunk.now }
+        ensures progress { 0 < length chunk.now → 0 < result.used }
         ensures first { IfSome result.event (λ event.
-            IsWord (command_event_content event) (self.old ++ take result.used piece.now)) }
+            IsWord (command_event_content event) (self.old ++ take result.used chunk.now)) }
         ensures none { IfNone result.event
-            ((result.used ≡ length piece.now) × IsPartial (self.old ++ piece.now)) }
+            ((result.used ≡ length chunk.now) × IsPartial (self.old ++ chunk.now)) }
     {
-        let advanced = self.framer.advance(piece);
+        let advanced = self.framer.advance(chunk);
         let used = advanced.used;
         let Some(found) = advanced.found else {
             return CommandFed { used, event: None };

@@ -74,30 +74,30 @@ impl Model for WordFramer {
 // Adds bytes of the chunk to a part of a word, up to the one that completes it: how many, and
 // whether one did.
 #[inline(never)]
-fn add_each(word: &mut Kept<MAX_WORD>, piece: &[u8]) -> (usize, bool)
+fn add_each(word: &mut Kept<MAX_WORD>, chunk: &[u8]) -> (usize, bool)
     requires { IsPartial word.old }
-    ensures { Adds word.old piece.now word.new result.0 result.1 }
+    ensures { Adds word.old chunk.now word.new result.0 result.1 }
 {
-    for (i, byte) in piece.iter().enumerate() {
+    for (i, byte) in chunk.iter().enumerate() {
         word.push(*byte);
         if is_whole(word.as_slice()) {
             return (i + 1, true);
         }
     }
-    (piece.len(), false)
+    (chunk.len(), false)
 }
 
 // The same. A word that begins with the chunk, and is whole in it, is copied at once.
 #[inline(always)]
-fn add_bytes(word: &mut Kept<MAX_WORD>, piece: &[u8]) -> (usize, bool)
+fn add_bytes(word: &mut Kept<MAX_WORD>, chunk: &[u8]) -> (usize, bool)
     requires { IsPartial word.old }
-    ensures { Adds word.old piece.now word.new result.0 result.1 }
+    ensures { Adds word.old chunk.now word.new result.0 result.1 }
 {
-    let length = length_so_far(piece);
-    if word.len() > 0 || length > piece.len() {
-        return add_each(word, piece);
+    let length = length_so_far(chunk);
+    if word.len() > 0 || length > chunk.len() {
+        return add_each(word, chunk);
     }
-    word.set_front(piece, length);
+    word.set_front(chunk, length);
     (length, true)
 }
 
@@ -174,21 +174,21 @@ impl WordFramer {
 
     /// Uses bytes of the chunk up to and including the first that completes a frame, and returns
     /// what that frame is. If no byte completes one, it uses the whole chunk.
-    pub fn advance(&mut self, piece: &[u8]) -> AdvancedWord
-        ensures within { result.used ≤ length piece.now }
-        ensures progress { 0 < length piece.now → 0 < result.used }
+    pub fn advance(&mut self, chunk: &[u8]) -> AdvancedWord
+        ensures within { result.used ≤ length chunk.now }
+        ensures progress { 0 < length chunk.now → 0 < result.used }
         ensures first { IfSome result.found (λ found.
             IsWord (word_found_in self.new.word found)
-            (rest_of self.old ++ take result.used piece.now)) }
+            (rest_of self.old ++ take result.used chunk.now)) }
         ensures whole { result.found ≡ Some FoundWord.Command → IsSpelling self.new.word }
         ensures none { IfNone result.found
-            ((result.used ≡ length piece.now) × IsPartial (rest_of self.old ++ piece.now)) }
+            ((result.used ≡ length chunk.now) × IsPartial (rest_of self.old ++ chunk.now)) }
         ensures held { rest_of self.new
-            ≡ rest_after result.found (rest_of self.old ++ take result.used piece.now) }
+            ≡ rest_after result.found (rest_of self.old ++ take result.used chunk.now) }
         ensures unfinished { IsPartial (rest_of self.new) }
         ensures limit { length self.new.word ≤ MAX_WORD }
         ensures kept { self.new ≡ record {
-          word = rest_of self.old ++ take result.used piece.now;
+          word = rest_of self.old ++ take result.used chunk.now;
           is_whole = is_some result.found;
         } }
     {
@@ -196,7 +196,7 @@ impl WordFramer {
             self.word.clear();
             self.is_whole = false;
         }
-        let (used, has_word) = add_bytes(&mut self.word, piece);
+        let (used, has_word) = add_bytes(&mut self.word, chunk);
         self.is_whole = has_word;
         let found = if has_word {
             Some(found_word(self.word.as_slice()))

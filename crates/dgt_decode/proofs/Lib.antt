@@ -13,8 +13,8 @@ pub mod Bytes
 pub mod Loops
 pub mod Division
 pub mod Framing
-pub mod AnyPieces
-pub mod Pieces
+pub mod AnyChunks
+pub mod ChunkEvents
 pub mod Cutting
 pub mod Chunks
 pub mod Runs

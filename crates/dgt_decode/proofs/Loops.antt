@@ -1,4 +1,4 @@
--- A loop over the bytes of a piece, which takes them one by one or run by run.
+-- A loop over the bytes of a chunk, which takes them one by one or run by run.
 use Rattle.std.proofs.Common.{◌≡◌, ◌≢◌, ℕ, ◌+◌, ◌-◌, ◌<◌, ◌≤◌, true, false, List, [], ◌∷◌, ◌++◌, length, take, drop, get_or, option_map, Option, Some, None, refl, sym, ap, ◌∙◌, append_assoc, arith}
 use Rattle.std.specs.Prelude.{is_some}
 use Rattle.std.proofs.Math.Seq.{drop-cons, take-add, take-length}
@@ -32,14 +32,14 @@ events-more s p n event quiet now =
     (events_behind-at_place_if_any (length s - length (open_message s)) (length (open_message s) + n)
     (length s + n) event place)
 
--- Such a reader has taken i bytes of the piece without an event, and holds this.
-pub record HasTaken (held piece : List ℕ) (i : ℕ) (now : List ℕ) : Type 0 where
-  pub holds : now ≡ open_message (held ++ take i piece)
-  pub quiet : events (held ++ take i piece) ≡ []
+-- Such a reader has taken i bytes of the chunk without an event, and holds this.
+pub record HasTaken (held chunk : List ℕ) (i : ℕ) (now : List ℕ) : Type 0 where
+  pub holds : now ≡ open_message (held ++ take i chunk)
+  pub quiet : events (held ++ take i chunk) ≡ []
 
--- at first no byte of the piece is taken
-pub taken_none : (held piece : List ℕ) → IsHeld held → HasTaken held piece 0 held
-taken_none held piece h =
+-- at first no byte of the chunk is taken
+pub taken_none : (held chunk : List ℕ) → IsHeld held → HasTaken held chunk 0 held
+taken_none held chunk h =
     record {
       holds = rw (append-nil held) (sym h);
       quiet = rw (append-nil held) (events-of_open held (IsOpen-held held h));
@@ -49,49 +49,49 @@ taken_none held piece h =
 
 -- the bytes from i to j are this run
 abbrev pub IsRun : List ℕ → ℕ → List ℕ → ℕ → Type 0
-IsRun piece i run j = take j piece ≡ take i piece ++ run
+IsRun chunk i run j = take j chunk ≡ take i chunk ++ run
 
 -- a run leaves open what the bytes to its end leave open
-pub run_holds : (held piece : List ℕ) (i j : ℕ) (now run : List ℕ) → IsRun piece i run j → HasTaken held piece i now
-    → open_message (now ++ run) ≡ open_message (held ++ take j piece)
-run_holds held piece i j now run r t =
-    rw (t.holds, r, ← append_assoc held (take i piece) run) (sym (open-append (held ++ take i piece) run))
+pub run_holds : (held chunk : List ℕ) (i j : ℕ) (now run : List ℕ) → IsRun chunk i run j → HasTaken held chunk i now
+    → open_message (now ++ run) ≡ open_message (held ++ take j chunk)
+run_holds held chunk i j now run r t =
+    rw (t.holds, r, ← append_assoc held (take i chunk) run) (sym (open-append (held ++ take i chunk) run))
 
 -- a run reports what the bytes to its end report
-pub run_told : (held piece : List ℕ) (i j n : ℕ) (now run : List ℕ) (event : Option Event) → IsRun piece i run j
-    → HasTaken held piece i now
-    → events (now ++ run) ≡ at_place_if_any (length now + n) event → events (held ++ take j piece) ≡ at_place_if_any
-    (length (held ++ take i piece) + n) event
-run_told held piece i j n now run event r t told =
-    rw (r, ← append_assoc held (take i piece) run)
-    (events-more (held ++ take i piece) run n event t.quiet (rw (← t.holds) told))
+pub run_told : (held chunk : List ℕ) (i j n : ℕ) (now run : List ℕ) (event : Option Event) → IsRun chunk i run j
+    → HasTaken held chunk i now
+    → events (now ++ run) ≡ at_place_if_any (length now + n) event → events (held ++ take j chunk) ≡ at_place_if_any
+    (length (held ++ take i chunk) + n) event
+run_told held chunk i j n now run event r t told =
+    rw (r, ← append_assoc held (take i chunk) run)
+    (events-more (held ++ take i chunk) run n event t.quiet (rw (← t.holds) told))
 
 -- a run without an event goes on
-pub run_quiet : (held piece : List ℕ) (i j : ℕ) (now run : List ℕ) → IsRun piece i run j → HasTaken held piece i now
-    → events (now ++ run) ≡ [] → HasTaken held piece j (open_message (now ++ run))
-run_quiet held piece i j now run r t told =
+pub run_quiet : (held chunk : List ℕ) (i j : ℕ) (now run : List ℕ) → IsRun chunk i run j → HasTaken held chunk i now
+    → events (now ++ run) ≡ [] → HasTaken held chunk j (open_message (now ++ run))
+run_quiet held chunk i j now run r t told =
     record {
-      holds = run_holds held piece i j now run r t;
-      quiet = run_told held piece i j 0 now run None r t told;
+      holds = run_holds held chunk i j now run r t;
+      quiet = run_told held chunk i j 0 now run None r t told;
     }
 
 -- what is held and a run are what was held and the bytes to its end
-pub run_came : (held piece : List ℕ) (i j : ℕ) (now run : List ℕ) → IsRun piece i run j → HasTaken held piece i now
-    → now ++ run ≡ held ++ take j piece
-run_came held piece i j now run r t =
-    rw (t.holds, quiet_held (held ++ take i piece) t.quiet, r) (append_assoc held (take i piece) run)
+pub run_came : (held chunk : List ℕ) (i j : ℕ) (now run : List ℕ) → IsRun chunk i run j → HasTaken held chunk i now
+    → now ++ run ≡ held ++ take j chunk
+run_came held chunk i j now run r t =
+    rw (t.holds, quiet_held (held ++ take i chunk) t.quiet, r) (append_assoc held (take i chunk) run)
 
 -- ---- A step of a loop
 
 -- one byte is a step
-pub one_byte : (kept piece : List ℕ) (i : ℕ) (new : List ℕ) (what : Option Found) → i < length piece
-    → Frames kept (get_or piece i 0 ∷ []) new what
-    → FramesFront kept (drop i piece) 1 new what
-one_byte kept piece i new what within byte =
-    let front : take 1 (drop i piece) ≡ get_or piece i 0 ∷ [] = rw (drop-cons piece i 0 within) refl in
+pub one_byte : (kept chunk : List ℕ) (i : ℕ) (new : List ℕ) (what : Option Found) → i < length chunk
+    → Frames kept (get_or chunk i 0 ∷ []) new what
+    → FramesFront kept (drop i chunk) 1 new what
+one_byte kept chunk i new what within byte =
+    let front : take 1 (drop i chunk) ≡ get_or chunk i 0 ∷ [] = rw (drop-cons chunk i 0 within) refl in
     record {
       some = omega arith;
-      within = omega (arith, length-drop i piece);
+      within = omega (arith, length-drop i chunk);
       frames = rw front byte;
     }
 
@@ -107,69 +107,69 @@ front_of_front kept rest n used new what f =
       frames = rw same at f.frames;
     }
 
--- A framer that kept these bytes has taken the first ones of a piece without an event, and takes some more.
-module _ (kept piece : List ℕ) (at used : ℕ) (now new : List ℕ) (what : Option Found)
-    (taken : HasTaken (open_message kept) piece at (open_message now))
-    (step : FramesFront now (drop at piece) used new what) where
-  next : (n : ℕ) → IsRun piece at (take n (drop at piece)) (at + n)
-  next n = take-add at n piece
+-- A framer that kept these bytes has taken the first ones of a chunk without an event, and takes some more.
+module _ (kept chunk : List ℕ) (at used : ℕ) (now new : List ℕ) (what : Option Found)
+    (taken : HasTaken (open_message kept) chunk at (open_message now))
+    (step : FramesFront now (drop at chunk) used new what) where
+  next : (n : ℕ) → IsRun chunk at (take n (drop at chunk)) (at + n)
+  next n = take-add at n chunk
 
-  -- it stays within the piece
-  pub step_within : at ≤ length piece → at + used ≤ length piece
-  step_within within = omega (arith, step.within, length-drop at piece, within)
+  -- it stays within the chunk
+  pub step_within : at ≤ length chunk → at + used ≤ length chunk
+  step_within within = omega (arith, step.within, length-drop at chunk, within)
 
   -- what it holds then
-  pub step_held : open_message new ≡ open_message (open_message kept ++ take (at + used) piece)
-  step_held = step.frames.held ∙ run_holds (open_message kept) piece at (at + used) (open_message now)
-      (take used (drop at piece)) (next used) taken
+  pub step_held : open_message new ≡ open_message (open_message kept ++ take (at + used) chunk)
+  step_held = step.frames.held ∙ run_holds (open_message kept) chunk at (at + used) (open_message now)
+      (take used (drop at chunk)) (next used) taken
 
   -- which bytes came
-  pub step_came : what ≡ Some found.Message → new ≡ open_message kept ++ take (at + used) piece
-  step_came e = step.frames.came e ∙ run_came (open_message kept) piece at (at + used) (open_message now)
-      (take used (drop at piece)) (next used) taken
+  pub step_came : what ≡ Some found.Message → new ≡ open_message kept ++ take (at + used) chunk
+  step_came e = step.frames.came e ∙ run_came (open_message kept) chunk at (at + used) (open_message now)
+      (take used (drop at chunk)) (next used) taken
 
   -- the step that makes the first event ends the call
-  event_first : (event : Event) → at ≤ length piece → FirstEvent (open_message now) (take used (drop at piece))
-      (length (take used (drop at piece))) (Some event)
-      → FirstEvent (open_message kept) piece (at + used) (Some event)
+  event_first : (event : Event) → at ≤ length chunk → FirstEvent (open_message now) (take used (drop at chunk))
+      (length (take used (drop at chunk))) (Some event)
+      → FirstEvent (open_message kept) chunk (at + used) (Some event)
   event_first event within first =
-      let run = take used (drop at piece) in
+      let run = take used (drop at chunk) in
       let held = open_message kept in
-      let count : length run ≡ used = length-take-le used (drop at piece) step.within in
-      let place : length (held ++ take at piece) + used ≡ length held + (at + used) =
-      omega (arith, length-append held (take at piece), length-take at piece, within) in
+      let count : length run ≡ used = length-take-le used (drop at chunk) step.within in
+      let place : length (held ++ take at chunk) + used ≡ length held + (at + used) =
+      omega (arith, length-append held (take at chunk), length-take at chunk, within) in
       let last : at + used ≡ at + (used - 1) + 1 = omega (arith, step.some) in
-      let early : take (used - 1) run ≡ take (used - 1) (drop at piece) =
-      take-take (used - 1) used (drop at piece) (omega arith) in
-      let quiet : events (open_message now ++ take (used - 1) (drop at piece)) ≡ [] =
+      let early : take (used - 1) run ≡ take (used - 1) (drop at chunk) =
+      take-take (used - 1) used (drop at chunk) (omega arith) in
+      let quiet : events (open_message now ++ take (used - 1) (drop at chunk)) ≡ [] =
       rw early at (first.2 (used - 1) (omega (arith, count, step.some))) in
       let told : events (open_message now ++ run) ≡ at_place (length (open_message now) + used) event ∷ [] =
       ap (λ x. events (open_message now ++ x))
       (sym (take-length run)) ∙ first.1 ∙ ap (λ n. at_place (length (open_message now) + n) event ∷ []) count in
-      FirstEvent-some held piece (at + (used - 1)) (at + used) event last (step_within within)
-      (run_told held piece at (at + (used - 1)) 0 (open_message now) (take (used - 1) (drop at piece)) None
+      FirstEvent-some held chunk (at + (used - 1)) (at + used) event last (step_within within)
+      (run_told held chunk at (at + (used - 1)) 0 (open_message now) (take (used - 1) (drop at chunk)) None
       (next (used - 1)) taken quiet)
-      (run_told held piece at (at + used) used (open_message now) run (Some event)
+      (run_told held chunk at (at + used) used (open_message now) run (Some event)
       (next used) taken told ∙ ap (λ (n : ℕ). at_place n event ∷ []) place)
 
 -- with something found
-pub found_first : (kept piece : List ℕ) (at used : ℕ) (now new : List ℕ) (what : Option Found)
-    → HasTaken (open_message kept) piece at (open_message now) → FramesFront now (drop at piece) used new what
-    → at ≤ length piece → is_some what ≡ true → FirstEvent (open_message kept) piece (at + used)
+pub found_first : (kept chunk : List ℕ) (at used : ℕ) (now new : List ℕ) (what : Option Found)
+    → HasTaken (open_message kept) chunk at (open_message now) → FramesFront now (drop at chunk) used new what
+    → at ≤ length chunk → is_some what ≡ true → FirstEvent (open_message kept) chunk (at + used)
     (option_map (event_found_in new) what)
-found_first kept piece at used now new None taken step within some = absurd cc
-found_first kept piece at used now new (Some it) taken step within some =
-    event_first kept piece at used now new (Some it) taken step (event_found_in new it) within step.frames.first
+found_first kept chunk at used now new None taken step within some = absurd cc
+found_first kept chunk at used now new (Some it) taken step within some =
+    event_first kept chunk at used now new (Some it) taken step (event_found_in new it) within step.frames.first
 
 -- with nothing found
-pub found_none : (kept piece : List ℕ) (at used : ℕ) (now new : List ℕ) (what : Option Found)
-    → HasTaken (open_message kept) piece at (open_message now) → FramesFront now (drop at piece) used new what
-    → is_some what ≡ false → HasTaken (open_message kept) piece (at + used) (open_message new)
-found_none kept piece at used now new None taken step none =
+pub found_none : (kept chunk : List ℕ) (at used : ℕ) (now new : List ℕ) (what : Option Found)
+    → HasTaken (open_message kept) chunk at (open_message now) → FramesFront now (drop at chunk) used new what
+    → is_some what ≡ false → HasTaken (open_message kept) chunk (at + used) (open_message new)
+found_none kept chunk at used now new None taken step none =
     rw step.frames.held
-    (run_quiet (open_message kept) piece at (at + used) (open_message now) (take used (drop at piece))
-    (take-add at used piece) taken step.frames.first.1)
-found_none kept piece at used now new (Some it) taken step none = absurd cc
+    (run_quiet (open_message kept) chunk at (at + used) (open_message now) (take used (drop at chunk))
+    (take-add at used chunk) taken step.frames.first.1)
+found_none kept chunk at used now new (Some it) taken step none = absurd cc
 
 -- nor a message
 pub not_found : (what : Option Found) → is_some what ≡ false → what ≢ Some found.Message

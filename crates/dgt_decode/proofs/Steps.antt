@@ -11,7 +11,7 @@ use Rattle.dgt_decode.proofs.More.{IsAlone, IsAlone-from, lead-seven, segments-s
 use Rattle.dgt_decode.proofs.Open.{IsOpen, nothing, waiting, IsOpen-open, open-of_open, events-of_open, events-alone, open-alone}
 use Rattle.dgt_decode.proofs.SevenBit.{SevenByRecursion}
 
--- a list that is held between two pieces
+-- a list that is held between two chunks
 abbrev pub IsHeld : List ℕ → Type 0
 IsHeld held = open_message held ≡ held
 

@@ -1,4 +1,4 @@
--- What a reader that holds an unfinished message does with a piece: it uses the bytes up to and
+-- What a reader that holds an unfinished message does with a chunk: it uses the bytes up to and
 -- including the first one that makes an event.
 use Rattle.std.specs.Prelude.{◌≡◌, ℕ, ◌+◌, ◌<◌, ◌≤◌, List, [], ◌∷◌, ◌++◌, length, map, ◌-◌, drop, take, slice_index, option_map, Option, Some, None}
 use Rattle.dgt_values.specs.Bytes.{number, AreSevenBit}
@@ -13,17 +13,17 @@ use Rattle.dgt_decode.specs.Grammar.{Event, Message, Refused, Cut, BadLength, St
 -- Used is the least number of the chunk's bytes with which there is an event, and this is it. If
 -- there is none, the whole chunk is used.
 abbrev pub FirstEvent : List ℕ → List ℕ → ℕ → Option Event → Type 0
-FirstEvent held piece used None = (used ≡ length piece) × (events (held ++ piece) ≡ [])
-FirstEvent held piece used (Some event) =
-    (used ≤ length piece)
-    × (events (held ++ take used piece) ≡ at_place (length held + used) event ∷ [])
-    × ((k : ℕ) → k < used → events (held ++ take k piece) ≡ [])
+FirstEvent held chunk used None = (used ≡ length chunk) × (events (held ++ chunk) ≡ [])
+FirstEvent held chunk used (Some event) =
+    (used ≤ length chunk)
+    × (events (held ++ take used chunk) ≡ at_place (length held + used) event ∷ [])
+    × ((k : ℕ) → k < used → events (held ++ take k chunk) ≡ [])
 
 -- The events of a chunk after an unfinished message. The place of each is how many bytes of the
 -- chunk come up to and including the one that makes it.
 abbrev pub piece_events : List ℕ → List ℕ → List Placed
-piece_events held piece =
-    map (λ x. at_place (x.place - length held) x.event) (events (held ++ piece))
+piece_events held chunk =
+    map (λ x. at_place (x.place - length held) x.event) (events (held ++ chunk))
 
 -- an event that the code reports
 abbrev pub event_content : code.Event → Event
@@ -36,7 +36,7 @@ event_content (code_events.Stray byte) = Stray byte
 abbrev pub event_content_if_any : Option code.Event → Option Event
 event_content_if_any event = option_map event_content event
 
--- an answer to a piece
+-- an answer to a chunk
 abbrev pub fed_content : Fed → ℕ × Option Event
 fed_content fed = (fed.used, event_content_if_any fed.event)
 

@@ -58,8 +58,8 @@ pub record OpenIsQuiet : Type 0 where
 -- After any bytes, those of a chunk make the events of the chunk. A chunk's events are those of its
 -- prefix, and then those of the rest.
 pub record PiecesAdd : Type 0 where
-  pub behind : (s piece : List ℕ) → events (s ++ piece)
-      ≡ events s ++ events_behind (length s) (piece_events (open_message s) piece)
+  pub behind : (s chunk : List ℕ) → events (s ++ chunk)
+      ≡ events s ++ events_behind (length s) (piece_events (open_message s) chunk)
   pub in_two : (s front rest : List ℕ) →
       piece_events (open_message s) (front ++ rest)
       ≡ piece_events (open_message s) front
@@ -100,32 +100,32 @@ SpellingIsRead = (s : List ℕ) (said : Content) → IsMessage said →
 
 -- ---- In chunks
 
--- a piece that a reader is fed, and its answer: how many bytes it used, and the event
+-- a chunk that a reader is fed, and its answer: how many bytes it used, and the event
 pub record Call : Type 0 where
-  pub piece : List ℕ
+  pub chunk : List ℕ
   pub used : ℕ
   pub event : Option Event
 
 -- the bytes that these calls used, in a row
 abbrev pub used_bytes : List Call → List ℕ
-used_bytes calls = flat_map (λ call. take call.used call.piece) calls
+used_bytes calls = flat_map (λ call. take call.used call.chunk) calls
 
 -- These are calls, one after another, of a reader that at first holds this.
 abbrev pub AreCalls : List ℕ → List Call → Type 0
 AreCalls held [] = Unit {0}
 AreCalls held (call ∷ calls) =
-    FirstEvent held call.piece call.used call.event
-    × AreCalls (open_message (held ++ take call.used call.piece)) calls
+    FirstEvent held call.chunk call.used call.event
+    × AreCalls (open_message (held ++ take call.used call.chunk)) calls
 
 -- the events that these calls report of a reader that has read n bytes before
-abbrev pub events_in_pieces : ℕ → List Call → List Placed
-events_in_pieces n [] = []
-events_in_pieces n (call ∷ calls) =
-    at_place_if_any (n + call.used) call.event ++ events_in_pieces (n + call.used) calls
+abbrev pub events_in_chunks : ℕ → List Call → List Placed
+events_in_chunks n [] = []
+events_in_chunks n (call ∷ calls) =
+    at_place_if_any (n + call.used) call.event ++ events_in_chunks (n + call.used) calls
 
 -- the events of chunks in a row after n bytes, of which these are an unfinished message
-abbrev pub events_of_pieces : ℕ → List ℕ → List (List ℕ) → List Placed
-events_of_pieces n held [] = []
-events_of_pieces n held (piece ∷ more) =
-    events_behind n (piece_events held piece)
-    ++ events_of_pieces (n + length piece) (open_message (held ++ piece)) more
+abbrev pub events_of_chunks : ℕ → List ℕ → List (List ℕ) → List Placed
+events_of_chunks n held [] = []
+events_of_chunks n held (chunk ∷ more) =
+    events_behind n (piece_events held chunk)
+    ++ events_of_chunks (n + length chunk) (open_message (held ++ chunk)) more

@@ -28,7 +28,7 @@ pub record Frames (kept run new : List ℕ) (what : Option Found) : Type 0 where
   pub came : what ≡ Some found.Message → new ≡ open_message kept ++ run
   pub unfinished : what ≢ Some found.Message → open_message new ≡ new
 
--- The first of the bytes that are left of a piece, at least one, are such a run.
+-- The first of the bytes that are left of a chunk, at least one, are such a run.
 pub record FramesFront (kept rest : List ℕ) (used : ℕ) (new : List ℕ) (what : Option Found)
     : Type 0 where
   pub some : 0 < used

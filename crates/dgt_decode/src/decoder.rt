@@ -62,15 +62,15 @@ impl Decoder {
     /// Uses bytes of the chunk up to and including the first that makes an event, or all of it.
     ///
     /// The event lends its body from the decoder until the next call.
-    pub fn feed(&mut self, piece: &[u8]) -> Fed<'_>
+    pub fn feed(&mut self, chunk: &[u8]) -> Fed<'_>
         ensures* after_borrow { sem 𝓛 (Rests the_row self.entry
-            (λ new. new ≡ open_message (self.old ++ take result.used piece.now))) }
-        ensures within { result.used ≤ length piece.now }
-        ensures first { FirstEvent self.old piece.now result.used
+            (λ new. new ≡ open_message (self.old ++ take result.used chunk.now))) }
+        ensures within { result.used ≤ length chunk.now }
+        ensures first { FirstEvent self.old chunk.now result.used
             (event_content_if_any result.event) }
-        ensures progress { 0 < length piece.now → 0 < result.used }
+        ensures progress { 0 < length chunk.now → 0 < result.used }
     {
-        let Advanced { used, found } = self.framer.advance(piece);
+        let Advanced { used, found } = self.framer.advance(chunk);
         let Some(found) = found else {
             return Fed { used, event: None };
         };
@@ -85,13 +85,13 @@ impl Decoder {
     ///
     /// However the bytes are cut, the events are those of the bytes in a row
     /// (`laws::pieces_in_a_row`).
-    pub fn feed_all<L: Listener>(&mut self, piece: &[u8], listener: &mut L)
-        ensures told { FoldsTo L.hears listener.old (piece_events self.old piece.now) listener.new }
-        ensures held { self.new ≡ open_message (self.old ++ piece.now) }
+    pub fn feed_all<L: Listener>(&mut self, chunk: &[u8], listener: &mut L)
+        ensures told { FoldsTo L.hears listener.old (piece_events self.old chunk.now) listener.new }
+        ensures held { self.new ≡ open_message (self.old ++ chunk.now) }
     {
         let mut at = 0;
-        while at < piece.len() {
-            let advanced = self.framer.advance(&piece[at..]);
+        while at < chunk.len() {
+            let advanced = self.framer.advance(&chunk[at..]);
             at += advanced.used;
             if let Some(found) = advanced.found {
                 listener.hear(at, &self.framer.event(found));

@@ -82,12 +82,12 @@ fn after_byte(left: usize) -> (FramerState, Option<Found>)
 
 // Appends the bytes at the front of the chunk whose top bit isn't set, no more than are missing.
 // Returns how many they are.
-fn append_run(kept: &mut Kept<MAX_TOTAL>, missing: usize, piece: &[u8]) -> usize
+fn append_run(kept: &mut Kept<MAX_TOTAL>, missing: usize, chunk: &[u8]) -> usize
     requires { length kept.old + missing ≤ MAX_TOTAL }
-    ensures count { result ≡ position_or_len has_top_bit (take missing piece.now) }
-    ensures appended { kept.new ≡ kept.old ++ take result piece.now }
+    ensures count { result ≡ position_or_len has_top_bit (take missing chunk.now) }
+    ensures appended { kept.new ≡ kept.old ++ take result chunk.now }
 {
-    let wanted = &piece[..piece.len().min(missing)];
+    let wanted = &chunk[..chunk.len().min(missing)];
     let run = first_top(wanted);
     kept.append(&wanted[..run]);
     run
@@ -145,23 +145,23 @@ impl Framer {
 
     /// Uses bytes of the chunk up to and including the first that makes something known, or all of
     /// it.
-    pub fn advance(&mut self, piece: &[u8]) -> Advanced
-        ensures within { result.used ≤ length piece.now }
-        ensures first { FirstEvent (open_message self.old) piece.now result.used
+    pub fn advance(&mut self, chunk: &[u8]) -> Advanced
+        ensures within { result.used ≤ length chunk.now }
+        ensures first { FirstEvent (open_message self.old) chunk.now result.used
             (option_map (event_found_in self.new) result.found) }
         ensures held { open_message self.new
-            ≡ open_message (open_message self.old ++ take result.used piece.now) }
+            ≡ open_message (open_message self.old ++ take result.used chunk.now) }
         ensures whole { result.found ≡ Some Found.Message → IsWholeMessage self.new }
         ensures kept { result.found ≡ Some Found.Message →
-            self.new ≡ open_message self.old ++ take result.used piece.now }
+            self.new ≡ open_message self.old ++ take result.used chunk.now }
         ensures unfinished { 0 < result.used → result.found ≢ Some Found.Message →
             open_message self.new ≡ self.new }
         ensures untouched { result.used ≡ 0 → self.new ≡ self.old }
-        ensures progress { 0 < length piece.now → 0 < result.used }
+        ensures progress { 0 < length chunk.now → 0 < result.used }
     {
         let mut used = 0;
-        while used < piece.len() {
-            let front = self.take_front(&piece[used..]);
+        while used < chunk.len() {
+            let front = self.take_front(&chunk[used..]);
             used += front.used;
             if front.found.is_some() {
                 return Advanced {

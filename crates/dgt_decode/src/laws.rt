@@ -8,7 +8,7 @@ ghost use Rattle.dgt_message.specs.Content.{Content, IsMessage};
 ghost use Rattle.dgt_message.specs.Spelling.{Spells, spelling};
 ghost use Rattle.dgt_decode.specs.Feeding.{FirstEvent, event_content, fed_content};
 ghost use Rattle.dgt_decode.specs.Grammar.{Event as EventSaid, Message, at_place, cut_of, events, events_behind, lead, open_message, segments};
-ghost use Rattle.dgt_decode.specs.Laws.{AreCalls, BeginsAnew, Call, CutsInto, EventsAppend, OpenAppend, OpenIsPart, OpenIsQuiet, PiecesAdd, PlacesAdd, QuietHeld, Sent, SpellingIsRead, arrivals, events_in_pieces, events_of_pieces, sent_bytes, used_bytes};
+ghost use Rattle.dgt_decode.specs.Laws.{AreCalls, BeginsAnew, Call, CutsInto, EventsAppend, OpenAppend, OpenIsPart, OpenIsQuiet, PiecesAdd, PlacesAdd, QuietHeld, Sent, SpellingIsRead, arrivals, events_in_chunks, events_of_chunks, sent_bytes, used_bytes};
 
 use crate::decoder::{Fed, Unfinished};
 use crate::event::{Event, Found};
@@ -120,15 +120,15 @@ pub fn spelling_is_read()
 
 /// A reader that holds some bytes has one answer to a chunk.
 pub fn one_first_event()
-    ensures { (held piece : List ℕ) (j k : ℕ) (x y : Option EventSaid) →
-        FirstEvent held piece j x → FirstEvent held piece k y → (j ≡ k) × (x ≡ y) }
+    ensures { (held chunk : List ℕ) (j k : ℕ) (x y : Option EventSaid) →
+        FirstEvent held chunk j x → FirstEvent held chunk k y → (j ≡ k) × (x ≡ y) }
 {}
 
 /// However bytes are cut into chunks, of one byte or of none, the events reported are those of the
 /// bytes in a row.
 pub fn in_any_pieces()
     ensures { (s : List ℕ) (calls : List Call) → AreCalls (open_message s) calls →
-        events (s ++ used_bytes calls) ≡ events s ++ events_in_pieces (length s) calls }
+        events (s ++ used_bytes calls) ≡ events s ++ events_in_chunks (length s) calls }
 {}
 
 /// What is written of a message is read as this message, at its last byte, however it is cut and
@@ -136,7 +136,7 @@ pub fn in_any_pieces()
 pub fn spelling_in_pieces()
     ensures { (s : List ℕ) (said : Content) (calls : List Call) →
         IsMessage said → AreCalls (open_message s) calls → used_bytes calls ≡ spelling said →
-        events_in_pieces (length s) calls
+        events_in_chunks (length s) calls
         ≡ events_behind (length s) (cut_of (open_message s))
         ++ at_place (length s + length (spelling said)) (Message said) ∷ [] }
 {
@@ -147,6 +147,6 @@ pub fn spelling_in_pieces()
 /// The events of chunks, one after another, are those of the bytes in a row.
 pub fn pieces_in_a_row()
     ensures add { PiecesAdd }
-    ensures any { (s : List ℕ) (pieces : List (List ℕ)) → events (s ++ concat pieces)
-        ≡ events s ++ events_of_pieces (length s) (open_message s) pieces }
+    ensures any { (s : List ℕ) (chunks : List (List ℕ)) → events (s ++ concat chunks)
+        ≡ events s ++ events_of_chunks (length s) (open_message s) chunks }
 {}

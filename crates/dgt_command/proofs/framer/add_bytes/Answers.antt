@@ -7,11 +7,11 @@ use Rattle.dgt_command.proofs.framer.add_bytes.Goals as goal
 
 pub returns : goal.returns
 returns c =
-    let piece = c.args.piece.now in
+    let chunk = c.args.chunk.now in
     let length = c.length_so_far-length.result in
-    let bytes : AreBytes piece = λ i. omega (arith, c.type_inv.piece i) in
-    let fits : min length 257 ≡ length = omega (arith, c.length_so_far-length.ensures, word_limit piece bytes) in
-    let front : c.set_front.new.self ≡ take length piece = c.set_front.ensures ∙ ap (λ n. take n piece) fits in
+    let bytes : AreBytes chunk = λ i. omega (arith, c.type_inv.chunk i) in
+    let fits : min length 257 ≡ length = omega (arith, c.length_so_far-length.ensures, word_limit chunk bytes) in
+    let front : c.set_front.new.self ≡ take length chunk = c.set_front.ensures ∙ ap (λ n. take n chunk) fits in
     let whole : IsWholeWord c.set_front.new.self =
-    rw front (whole_front piece length bytes c.length_so_far-length.ensures (omega arith)) in
+    rw front (whole_front chunk length bytes c.length_so_far-length.ensures (omega arith)) in
     grind (arith, common_steps)

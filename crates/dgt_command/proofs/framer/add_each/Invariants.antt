@@ -4,6 +4,6 @@ use Rattle.dgt_command.proofs.framer.add_each.Given as goal
 
 abbrev pub invariant-loop-i : goal.invariant-loop-i
 invariant-loop-i l = record {
-  read : l.word ≡ l.fn.word ++ take l.i l.piece;
+  read : l.word ≡ l.fn.word ++ take l.i l.chunk;
   partial : IsPartial l.word;
 }

@@ -1,4 +1,4 @@
-use Rattle.dgt_decode.proofs.Pieces.{open_is_quiet}
+use Rattle.dgt_decode.proofs.ChunkEvents.{open_is_quiet}
 use Rattle.dgt_decode.proofs.laws.open_is_quiet.Goals as goal
 
 pub returns : goal.returns

@@ -1,4 +1,4 @@
-use Rattle.dgt_decode.proofs.Pieces.{in_a_row, pieces_add}
+use Rattle.dgt_decode.proofs.ChunkEvents.{in_a_row, pieces_add}
 use Rattle.dgt_decode.proofs.laws.pieces_in_a_row.Goals as goal
 
 pub returns-clause-add : goal.returns-clause-add

@@ -1,4 +1,4 @@
-use Rattle.dgt_decode.proofs.AnyPieces.{spelling_in_pieces}
+use Rattle.dgt_decode.proofs.AnyChunks.{spelling_in_pieces}
 use Rattle.dgt_decode.proofs.laws.spelling_in_pieces.Goals as goal
 
 pub returns : goal.returns

@@ -6,8 +6,8 @@ use Rattle.std.proofs.Math.Seq.{drop-length, take-add}
 use Rattle.std.specs.List.{FoldsTo, concat}
 use Rattle.dgt_decode.specs.Grammar.{Event, Placed, at_place, events, events_behind, open_message, segment_events, verdict}
 use Rattle.dgt_decode.specs.Feeding.{FirstEvent, at_place_if_any, piece_events}
-use Rattle.dgt_decode.specs.Laws.{Call, OpenIsQuiet, PiecesAdd, events_of_pieces}
-use Rattle.dgt_decode.proofs.AnyPieces.{call_told}
+use Rattle.dgt_decode.specs.Laws.{Call, OpenIsQuiet, PiecesAdd, events_of_chunks}
+use Rattle.dgt_decode.proofs.AnyChunks.{call_told}
 use Rattle.dgt_decode.proofs.Places.{events_behind-append, events_behind-events_behind, events_behind-zero}
 use Rattle.dgt_decode.proofs.More.{events-append}
 use Rattle.dgt_decode.proofs.Open.{IsOpen, nothing, waiting, IsOpen-open, events-of_open, length-open, open-append}
@@ -89,9 +89,9 @@ all_behind s (b ∷ p) =
           (append_assoc (events s) (events_behind (length s) one.early) (events_behind (length s + 1) later.early));
     }
 
--- ---- the events of a piece
+-- ---- the events of a chunk
 
--- each event at its place in the piece
+-- each event at its place in the chunk
 abbrev nearer : ℕ → List Placed → List Placed
 nearer n told = map (λ x. at_place (x.place - n) x.event) told
 
@@ -149,15 +149,15 @@ pieces_add = record {
 }
 
 -- any chunks
-pub in_a_row : (s : List ℕ) (pieces : List (List ℕ))
-    → events (s ++ concat pieces) ≡ events s ++ events_of_pieces (length s) (open_message s) pieces
+pub in_a_row : (s : List ℕ) (chunks : List (List ℕ))
+    → events (s ++ concat chunks) ≡ events s ++ events_of_chunks (length s) (open_message s) chunks
 in_a_row s [] = rw (append-nil s) (sym (append-nil (events s)))
-in_a_row s (piece ∷ more) =
-    ap events (sym (append_assoc s piece (concat more)))
-    ∙ in_a_row (s ++ piece) more
-    ∙ rw (length-append s piece, behind s piece, open-append s piece)
-    (append_assoc (events s) (events_behind (length s) (piece_events (open_message s) piece))
-    (events_of_pieces (length s + length piece) (open_message (open_message s ++ piece)) more))
+in_a_row s (chunk ∷ more) =
+    ap events (sym (append_assoc s chunk (concat more)))
+    ∙ in_a_row (s ++ chunk) more
+    ∙ rw (length-append s chunk, behind s chunk, open-append s chunk)
+    (append_assoc (events s) (events_behind (length s) (piece_events (open_message s) chunk))
+    (events_of_chunks (length s + length chunk) (open_message (open_message s ++ chunk)) more))
 
 -- ---- nothing
 
@@ -178,12 +178,12 @@ open_is_quiet = record {
 
 -- ---- a listener of calls
 
--- The first i bytes of a piece have been fed, and each of their events was heard.
-pub record HasHeard {L : Type 0} (hears : L → Placed → L → Type 0) (held piece : List ℕ) (i : ℕ) (old new : L)
+-- The first i bytes of a chunk have been fed, and each of their events was heard.
+pub record HasHeard {L : Type 0} (hears : L → Placed → L → Type 0) (held chunk : List ℕ) (i : ℕ) (old new : L)
     (now : List ℕ) : Type 0 where
-  pub within : i ≤ length piece
-  pub holds : now ≡ open_message (held ++ take i piece)
-  pub told : FoldsTo hears old (piece_events held (take i piece)) new
+  pub within : i ≤ length chunk
+  pub holds : now ≡ open_message (held ++ take i chunk)
+  pub told : FoldsTo hears old (piece_events held (take i chunk)) new
 
 FoldsTo-one : {L : Type 0} (hears : L → Placed → L → Type 0) (a b c : L) (told : List Placed) (x : Placed)
     → FoldsTo hears a told b → hears b x c → FoldsTo hears a (told ++ x ∷ []) c
@@ -192,28 +192,28 @@ FoldsTo-one hears a b c (y ∷ told) x p q = (p.0, p.1, FoldsTo-one hears p.0 b 
 
 module _ {L : Type 0} (hears : L → Placed → L → Type 0) where
   -- nothing yet
-  pub heard_none : (held piece : List ℕ) (old : L) → IsHeld held → HasHeard hears held piece 0 old old held
-  heard_none held piece old h = record {
+  pub heard_none : (held chunk : List ℕ) (old : L) → IsHeld held → HasHeard hears held chunk 0 old old held
+  heard_none held chunk old h = record {
     within = omega arith;
     holds = sym (ap open_message (append-nil held) ∙ h);
     told = rw (held_none held h) refl;
   }
 
   -- what a call uses makes one event more
-  next_told : (held piece : List ℕ) (i used : ℕ) (now : List ℕ) (event : Option Event) → i ≤ length piece
-      → now ≡ open_message (held ++ take i piece) → FirstEvent now (drop i piece) used event
-      → piece_events held (take (i + used) piece)
-      ≡ piece_events held (take i piece) ++ at_place_if_any (i + used) event
-  next_told held piece i used now event h e first =
-      let s = held ++ take i piece in
-      let call : Call = record { piece = drop i piece; used = used; event = event } in
+  next_told : (held chunk : List ℕ) (i used : ℕ) (now : List ℕ) (event : Option Event) → i ≤ length chunk
+      → now ≡ open_message (held ++ take i chunk) → FirstEvent now (drop i chunk) used event
+      → piece_events held (take (i + used) chunk)
+      ≡ piece_events held (take i chunk) ++ at_place_if_any (i + used) event
+  next_told held chunk i used now event h e first =
+      let s = held ++ take i chunk in
+      let call : Call = record { chunk = drop i chunk; used = used; event = event } in
       let place : length s + used ≡ length held + (i + used) =
-      omega (arith, length-append held (take i piece), length-take-le i piece h) in
+      omega (arith, length-append held (take i chunk), length-take-le i chunk h) in
       ap (λ (xs : List ℕ). nearer (length held) (events xs))
-      (ap (λ (xs : List ℕ). held ++ xs) (take-add i used piece) ∙ sym (append_assoc held (take i piece) _))
+      (ap (λ (xs : List ℕ). held ++ xs) (take-add i used chunk) ∙ sym (append_assoc held (take i chunk) _))
       ∙ ap (nearer (length held)) (call_told s call (rw e at first))
       ∙ nearer-append (length held) (events s) (at_place_if_any (length s + used) event)
-      ∙ ap (λ (xs : List Placed). piece_events held (take i piece) ++ xs)
+      ∙ ap (λ (xs : List Placed). piece_events held (take i chunk) ++ xs)
       (ap (λ (n : ℕ). nearer (length held) (at_place_if_any n event)) place ∙ near event)
     where
       near : (x : Option Event) → nearer (length held) (at_place_if_any (length held + (i + used)) x) ≡ at_place_if_any
@@ -221,33 +221,33 @@ module _ {L : Type 0} (hears : L → Placed → L → Type 0) where
       near None = refl
       near (Some x) = ap (λ (n : ℕ). at_place n x ∷ []) (omega arith)
 
-  next_holds : (held piece : List ℕ) (i used : ℕ) (now new : List ℕ) → now ≡ open_message (held ++ take i piece)
-      → new ≡ open_message (now ++ take used (drop i piece)) → new ≡ open_message (held ++ take (i + used) piece)
-  next_holds held piece i used now new e f =
-      f ∙ ap (λ (o : List ℕ). open_message (o ++ take used (drop i piece))) e
-      ∙ sym (ap (λ (xs : List ℕ). open_message (held ++ xs)) (take-add i used piece)
-      ∙ ap open_message (sym (append_assoc held (take i piece) _)) ∙ open-append (held ++ take i piece) _)
+  next_holds : (held chunk : List ℕ) (i used : ℕ) (now new : List ℕ) → now ≡ open_message (held ++ take i chunk)
+      → new ≡ open_message (now ++ take used (drop i chunk)) → new ≡ open_message (held ++ take (i + used) chunk)
+  next_holds held chunk i used now new e f =
+      f ∙ ap (λ (o : List ℕ). open_message (o ++ take used (drop i chunk))) e
+      ∙ sym (ap (λ (xs : List ℕ). open_message (held ++ xs)) (take-add i used chunk)
+      ∙ ap open_message (sym (append_assoc held (take i chunk) _)) ∙ open-append (held ++ take i chunk) _)
 
   -- a call with no event
-  pub heard_quiet : (held piece : List ℕ) (i used : ℕ) (old now : L) (before new : List ℕ)
-      → HasHeard hears held piece i old now before → used ≤ length (drop i piece)
-      → FirstEvent before (drop i piece) used None → new ≡ open_message (before ++ take used (drop i piece))
-      → HasHeard hears held piece (i + used) old now new
-  heard_quiet held piece i used old now before new heard fits first e = record {
-    within = omega (arith, fits, length-drop i piece, heard.within);
-    holds = next_holds held piece i used before new heard.holds e;
-    told = rw (next_told held piece i used before None heard.within heard.holds first, append-nil) heard.told;
+  pub heard_quiet : (held chunk : List ℕ) (i used : ℕ) (old now : L) (before new : List ℕ)
+      → HasHeard hears held chunk i old now before → used ≤ length (drop i chunk)
+      → FirstEvent before (drop i chunk) used None → new ≡ open_message (before ++ take used (drop i chunk))
+      → HasHeard hears held chunk (i + used) old now new
+  heard_quiet held chunk i used old now before new heard fits first e = record {
+    within = omega (arith, fits, length-drop i chunk, heard.within);
+    holds = next_holds held chunk i used before new heard.holds e;
+    told = rw (next_told held chunk i used before None heard.within heard.holds first, append-nil) heard.told;
   }
 
   -- a call with an event, which is heard
-  pub heard_one : (held piece : List ℕ) (i used : ℕ) (old now later : L) (before new : List ℕ) (event : Event)
-      → HasHeard hears held piece i old now before → used ≤ length (drop i piece)
-      → FirstEvent before (drop i piece) used (Some event) → new ≡ open_message (before ++ take used (drop i piece))
+  pub heard_one : (held chunk : List ℕ) (i used : ℕ) (old now later : L) (before new : List ℕ) (event : Event)
+      → HasHeard hears held chunk i old now before → used ≤ length (drop i chunk)
+      → FirstEvent before (drop i chunk) used (Some event) → new ≡ open_message (before ++ take used (drop i chunk))
       → hears now (at_place (i + used) event) later
-      → HasHeard hears held piece (i + used) old later new
-  heard_one held piece i used old now later before new event heard fits first e one = record {
-    within = omega (arith, fits, length-drop i piece, heard.within);
-    holds = next_holds held piece i used before new heard.holds e;
-    told = rw (next_told held piece i used before (Some event) heard.within heard.holds first)
+      → HasHeard hears held chunk (i + used) old later new
+  heard_one held chunk i used old now later before new event heard fits first e one = record {
+    within = omega (arith, fits, length-drop i chunk, heard.within);
+    holds = next_holds held chunk i used before new heard.holds e;
+    told = rw (next_told held chunk i used before (Some event) heard.within heard.holds first)
         (FoldsTo-one hears old now later _ _ heard.told one);
   }
