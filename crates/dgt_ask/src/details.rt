@@ -1,13 +1,13 @@
 //! What follows a word that is no command alone.
 
 ghost use Rattle.std.specs.Prelude.{◌≡◌, ◌≢◌, ◌<◌, ◌≤◌, ◌*◌, [], length, codes, slice_index as nth};
-ghost use Rattle.std.specs.Prelude.{IfOk, IfSome, IfNone, IsSomeAnd, MatchResult, Ok, Some, None, ⊤};
+ghost use Rattle.std.specs.Prelude.{IfOk, IfSome, IfNone, IsSomeAnd, MatchResult, Ok, Some, None};
 ghost use Rattle.dgt_command.specs.declared.ids.KnownId.{KnownId};
 ghost use Rattle.dgt_command.specs.Content.{command_content, ClockMessage, Leds, clock_content, known_clock};
 ghost use Rattle.hex.specs.Hex.{decode_of, decode_sized};
 
 use dgt_command::{ClockCommand, Command, LedBytes, MAX_LED_BYTES, Payload, RawClock, display};
-use hex::decode_to_slice;
+use hex::{FromHex, decode_to_slice};
 
 /// What a word is that is no command alone: something follows it.
 #[derive(Clone, Copy)]
@@ -77,13 +77,10 @@ pub(crate) fn beep(word: &str) -> Option<Command<'static>> {
 
 // The bytes of a payload, or characters and spaces in the place of those that are missing.
 pub(crate) fn six_places(word: &str) -> Option<Command<'static>>
-    ensures { MatchResult (decode_sized word.now 8)
-        (λ bytes. IsSomeAnd result (λ command.
-        command_content command ≡ ClockMessage (known_clock KnownId.Display bytes)))
-        (λ _. ⊤) }
+    ensures { IfOk (decode_sized word.now 8) (λ bytes. IsSomeAnd result (λ command.
+        command_content command ≡ ClockMessage (known_clock KnownId.Display bytes))) }
 {
-    let mut payload = [0; 8];
-    if decode_to_slice(word, &mut payload).is_ok() {
+    if let Ok(payload) = <[u8; 8]>::from_hex(word) {
         let [c, b, a, f, e, d, dots, beep] = payload;
         return clock(ClockCommand::Display {
             places: [a, b, c, d, e, f],
@@ -108,13 +105,10 @@ pub(crate) fn six_places(word: &str) -> Option<Command<'static>>
 
 // The bytes of a payload, or characters and spaces in the place of those that are missing.
 pub(crate) fn eight_letters(word: &str) -> Option<Command<'static>>
-    ensures { MatchResult (decode_sized word.now 9)
-        (λ bytes. IsSomeAnd result (λ command.
-        command_content command ≡ ClockMessage (known_clock KnownId.Text bytes)))
-        (λ _. ⊤) }
+    ensures { IfOk (decode_sized word.now 9) (λ bytes. IsSomeAnd result (λ command.
+        command_content command ≡ ClockMessage (known_clock KnownId.Text bytes))) }
 {
-    let mut payload = [0; 9];
-    if decode_to_slice(word, &mut payload).is_ok() {
+    if let Ok(payload) = <[u8; 9]>::from_hex(word) {
         let [a, b, c, d, e, f, g, h, beep] = payload;
         return clock(ClockCommand::Text {
             letters: [a, b, c, d, e, f, g, h],
@@ -136,9 +130,7 @@ pub(crate) fn set_and_run(word: &str) -> Option<Command<'static>>
         command_content command ≡ ClockMessage (known_clock KnownId.SetAndRun bytes)))
         (λ _. result ≡ None) }
 {
-    let mut bytes = [0; 7];
-    decode_to_slice(word, &mut bytes).ok()?;
-    let [h, m, s, hours, minutes, seconds, control] = bytes;
+    let [h, m, s, hours, minutes, seconds, control] = <[u8; 7]>::from_hex(word).ok()?;
     clock(ClockCommand::SetAndRun {
         left: [h, m, s],
         right: [hours, minutes, seconds],
@@ -188,8 +180,7 @@ pub(crate) fn byte(word: &str) -> Option<u8>
     ensures { MatchResult (decode_sized word.now 1)
         (λ bytes. result ≡ Some (nth bytes 0)) (λ _. result ≡ None) }
 {
-    let mut bytes = [0];
-    decode_to_slice(word, &mut bytes).ok()?;
+    let bytes = <[u8; 1]>::from_hex(word).ok()?;
     Some(bytes[0])
 }
 
