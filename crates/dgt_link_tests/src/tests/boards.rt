@@ -5,7 +5,6 @@ use super::scenes::{Scene, Subject, play};
 use dgt_board::{Board, Busy, MAX_OWED, MAX_SENT, Mode, Polled, TooLong};
 use dgt_command::{ClockCommand, Command, CommandEvent};
 use dgt_values::{Piece, Position, Square};
-use std::process::Abort;
 use std::test::Fail;
 
 const TRADEMARK: [u8; 18] = [
@@ -51,6 +50,9 @@ enum Step {
     LoseLine,
     // The board sends these messages, in order, and then has nothing to send.
     Sends(&'static [&'static [u8]]),
+    // The board takes each of these bytes in a call of its own, and then sends these messages, in
+    // order, and no more.
+    Answers(&'static [u8], &'static [&'static [u8]]),
     // The board sends this message this number of times.
     SendsEach(usize, &'static [u8]),
     // The board has the first number of bytes of room, sends nothing, and needs the second.
@@ -209,6 +211,7 @@ impl Subject<Step> for Board {
                 true
             }
             Sends(messages) => sends_all(self, messages),
+            Answers(bytes, messages) => takes_each(self, bytes) && sends_all(self, messages),
             SendsEach(times, message) => sends_each(self, times, message),
             NeedsRoom(room, need) => needs_room(self, room, need),
             IsSettled => is_settled(self),
@@ -222,20 +225,19 @@ impl Subject<Step> for Board {
     }
 }
 
-// Which message goes first, and what each mode reports.
-const SENDING: [Scene<Step>; 8] = [
+const SCENES: [Scene<Step>; 15] = [
+    // which message goes first, and what each mode reports
     Scene {
         name: "replies go before fields and fields before times",
         steps: &[
             Take(&[0x43]),
             Change("e2", Piece::Empty),
-            Take(&[0x45]),
-            Sends(&[&SERIAL, &E2_FIELD, &ZEROS]),
+            Answers(&[0x45], &[&SERIAL, &E2_FIELD, &ZEROS]),
         ],
     },
     Scene {
         name: "times asked for twice are sent once",
-        steps: &[TakeEach(&[0x43, 0x41]), Sends(&[&ZEROS])],
+        steps: &[Answers(&[0x43, 0x41], &[&ZEROS])],
     },
     Scene {
         name: "a dump reports the changes before it",
@@ -243,8 +245,7 @@ const SENDING: [Scene<Step>; 8] = [
             Take(&[0x42]),
             Change("e2", Piece::Empty),
             Sends(&[&NO_E2_DUMP]),
-            Take(&[0x44]),
-            IsSettled,
+            Answers(&[0x44], &[]),
         ],
     },
     Scene {
@@ -252,17 +253,14 @@ const SENDING: [Scene<Step>; 8] = [
         steps: &[
             Take(&[0x44]),
             Change("e2", Piece::Empty),
-            Take(&[0x40]),
-            IsSettled,
-            Take(&[0x44]),
-            Sends(&[&E2_FIELD]),
+            Answers(&[0x40], &[]),
+            Answers(&[0x44], &[&E2_FIELD]),
         ],
     },
     Scene {
         name: "one mode sends the times if they differ",
         steps: &[
-            Take(&[0x4b]),
-            Sends(&[&ZEROS]),
+            Answers(&[0x4b], &[&ZEROS]),
             Hand(Shown::Running),
             Hand(Shown::Zeros),
             IsSettled,
@@ -273,12 +271,10 @@ const SENDING: [Scene<Step>; 8] = [
     Scene {
         name: "another mode sends each reading",
         steps: &[
-            Take(&[0x43]),
-            Sends(&[&ZEROS]),
+            Answers(&[0x43], &[&ZEROS]),
             Hand(Shown::Zeros),
             Sends(&[&ZEROS]),
-            Take(&[0x43]),
-            IsSettled,
+            Answers(&[0x43], &[]),
         ],
     },
     Scene {
@@ -286,8 +282,7 @@ const SENDING: [Scene<Step>; 8] = [
         steps: &[
             Hand(Shown::Absent),
             Take(&BEEP),
-            Take(&[0x41]),
-            Sends(&[&NO_CLOCK]),
+            Answers(&[0x41], &[&NO_CLOCK]),
         ],
     },
     Scene {
@@ -305,10 +300,7 @@ const SENDING: [Scene<Step>; 8] = [
             ]),
         ],
     },
-];
-
-// What a board takes and lends, and when it can't.
-const TAKING: [Scene<Step>; 4] = [
+    // what a board takes and lends, and when it can't
     Scene {
         name: "a dump waits for 67 bytes of room",
         steps: &[
@@ -335,18 +327,14 @@ const TAKING: [Scene<Step>; 4] = [
             Lends(&FRAME_AND_DUMP, 6, Lent::Leds(&FRAME)),
             IsIn(Mode::Idle),
             IsSettled,
-            TakeEach(&[0x60, 0x00]),
-            IsSettled,
-            Take(&[0x42]),
-            Sends(&[&START_DUMP]),
+            Answers(&[0x60, 0x00], &[]),
+            Answers(&[0x42], &[&START_DUMP]),
             Take(&[0x44]),
             Lends(&FRAME_AND_DUMP, 6, Lent::Leds(&FRAME)),
             IsIn(Mode::UpdateBoard),
             IsSettled,
-            TakeEach(&[0x60, 0x00]),
-            IsSettled,
-            Take(&[0x42]),
-            Sends(&[&START_DUMP]),
+            Answers(&[0x60, 0x00], &[]),
+            Answers(&[0x42], &[&START_DUMP]),
         ],
     },
     Scene {
@@ -369,10 +357,7 @@ const TAKING: [Scene<Step>; 4] = [
             IsSettled,
         ],
     },
-];
-
-// What a lost line leaves.
-const LOSING: [Scene<Step>; 3] = [
+    // what a lost line leaves
     Scene {
         name: "a lost line leaves the squares and the clock",
         steps: &[
@@ -391,15 +376,11 @@ const LOSING: [Scene<Step>; 3] = [
             HasClock(Shown::Running),
             // only a dump reports the change; the clock is owed again, though its reading didn't
             // come again
-            Take(&[0x44]),
-            IsSettled,
-            Take(&[0x42]),
-            Sends(&[&NO_E2_DUMP]),
-            Take(&[0x4b]),
-            Sends(&[&RUNNING]),
+            Answers(&[0x44], &[]),
+            Answers(&[0x42], &[&NO_E2_DUMP]),
+            Answers(&[0x4b], &[&RUNNING]),
             LoseLine,
-            Take(&[0x4b]),
-            Sends(&[&RUNNING]),
+            Answers(&[0x4b], &[&RUNNING]),
         ],
     },
     Scene {
@@ -418,24 +399,16 @@ const LOSING: [Scene<Step>; 3] = [
             IsBusy(&[0x40]),
             LoseLine,
             IsSettled,
-            Take(&[0x45]),
-            Sends(&[&SERIAL]),
+            Answers(&[0x45], &[&SERIAL]),
         ],
     },
 ];
 
-fn play_all(rt: &impl Abort, scenes: &[Scene<Step>]) -> Result<(), Fail> {
-    for scene in scenes {
-        play(rt, &mut new_board(), scene);
-    }
-    Ok(())
-}
-
 #[test]
-fn boards(rt: HostRuntime) -> Result<(), Fail> {
-    play_all(&rt, &SENDING)?;
-    play_all(&rt, &TAKING)?;
-    play_all(&rt, &LOSING)
+fn boards(rt: HostRuntime) {
+    for scene in &SCENES {
+        play(&rt, &mut new_board(), scene);
+    }
 }
 
 #[test]

@@ -167,7 +167,8 @@ impl Subject<Step> for Host {
     }
 }
 
-const SENDING: [Scene<Step>; 5] = [
+const SCENES: [Scene<Step>; 13] = [
+    // what a host writes
     Scene {
         name: "restarting",
         steps: &[
@@ -220,9 +221,7 @@ const SENDING: [Scene<Step>; 5] = [
             HearsUnasked(&VERSION_END, Seen::Version(1, 3)),
         ],
     },
-];
-
-const HEARING: [Scene<Step>; 8] = [
+    // what it makes of what it hears
     Scene {
         name: "a version that nobody asked for",
         steps: &[HearsUnasked(&VERSION, Seen::Version(1, 3)), Awaits(&[])],
@@ -317,10 +316,7 @@ const HEARING: [Scene<Step>; 8] = [
 
 #[test]
 fn hosts(rt: HostRuntime) {
-    for scene in &SENDING {
-        play(&rt, &mut Host::new(), scene);
-    }
-    for scene in &HEARING {
+    for scene in &SCENES {
         play(&rt, &mut Host::new(), scene);
     }
 }
