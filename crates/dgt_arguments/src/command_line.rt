@@ -75,6 +75,21 @@ impl From<AllocFailed<String>> for BadArguments {
     }
 }
 
+// What each command does.
+const SHOW: &str = "Shows the messages in the bytes of a hexadecimal word";
+
+const MONITOR: &str = "Shows the messages in the bytes of standard input, as they come";
+
+const PICTURE: &str = "Shows the pieces of the board after each change on standard input";
+
+const ASK: &str = "Writes the bytes of commands to a board";
+
+const COMMANDS: &str = "Shows the commands in the bytes of standard input, as they come";
+
+const BOARD: &str = "Answers the commands on standard input, as a board does";
+
+const SIMULATE: &str = "Plays a script with a board, a host, and the lines between them";
+
 /// What `--version` prints, after the name.
 const VERSION: &str = "1.0.0";
 
@@ -103,44 +118,30 @@ fn line_bytes<'a>(alloc: Global, name: &'a str, least: i64, help: &'a str) -> Ar
         .help(help)
 }
 
-// Whether the script may have acts that are faults.
-fn faults<'a>(alloc: Global) -> Arg<'a> {
-    Arg::new(alloc, "faults")
-        .long("faults")
+// A command of the program, what it does, and the notes of its help.
+fn subcommand<'a>(alloc: Global, name: &'a str, about: &'a str, notes: &'a str) -> Command<'a> {
+    Command::new(alloc, name).about(about).after_help(notes)
+}
+
+// An option that is given or not.
+fn flag<'a>(alloc: Global, name: &'a str, help: &'a str) -> Arg<'a> {
+    Arg::new(alloc, name)
+        .long(name)
         .action(ArgAction::SetTrue)
-        .help("Takes garbleup, garbledown, boardlost and restart too")
+        .help(help)
 }
 
 fn show<'a>(alloc: Global) -> Result<Command<'a>, AllocError> {
     let word = Arg::new(alloc, "hex").value_name("HEX").required(true).help(
         "The bytes that a board sends, two hexadecimal digits each",
     );
-    Command::new(alloc, "show")
-        .about("Shows the messages in the bytes of a hexadecimal word")
-        .after_help(SHOW_NOTES)
-        .arg(word)
-}
-
-fn monitor<'a>(alloc: Global) -> Command<'a> {
-    Command::new(alloc, "monitor")
-        .about("Shows the messages in the bytes of standard input, as they come")
-        .after_help(MONITOR_NOTES)
+    subcommand(alloc, "show", SHOW, SHOW_NOTES).arg(word)
 }
 
 fn picture<'a>(alloc: Global) -> Result<Command<'a>, AllocError> {
-    let doubt = Arg::new(alloc, "doubt")
-        .long("doubt")
-        .action(ArgAction::SetTrue)
-        .help("Reports when the pieces may be wrong, too");
-    let clock = Arg::new(alloc, "clock")
-        .long("clock")
-        .action(ArgAction::SetTrue)
-        .help("Shows the clock after each change, too");
-    Command::new(alloc, "picture")
-        .about("Shows the pieces of the board after each change on standard input")
-        .after_help(PICTURE_NOTES)
-        .arg(doubt)?
-        .arg(clock)
+    subcommand(alloc, "picture", PICTURE, PICTURE_NOTES)
+        .arg(flag(alloc, "doubt", "Reports when the pieces may be wrong, too"))?
+        .arg(flag(alloc, "clock", "Shows the clock after each change, too"))
 }
 
 fn ask<'a>(alloc: Global) -> Result<Command<'a>, AllocError> {
@@ -150,29 +151,15 @@ fn ask<'a>(alloc: Global) -> Result<Command<'a>, AllocError> {
         .required(true)
         .allow_hyphen_values(true)
         .help("The commands by name, in order");
-    Command::new(alloc, "ask")
-        .about("Writes the bytes of commands to a board")
-        .after_help(ASK_NOTES)
-        .arg(words)
-}
-
-fn commands<'a>(alloc: Global) -> Command<'a> {
-    Command::new(alloc, "commands")
-        .about("Shows the commands in the bytes of standard input, as they come")
-        .after_help(COMMANDS_NOTES)
+    subcommand(alloc, "ask", ASK, ASK_NOTES).arg(words)
 }
 
 fn board<'a>(alloc: Global) -> Result<Command<'a>, AllocError> {
-    Command::new(alloc, "board")
-        .about("Answers the commands on standard input, as a board does")
-        .after_help(BOARD_NOTES)
-        .arg(position(alloc))
+    subcommand(alloc, "board", BOARD, BOARD_NOTES).arg(position(alloc))
 }
 
 fn simulate<'a>(alloc: Global) -> Result<Command<'a>, AllocError> {
-    Command::new(alloc, "simulate")
-        .about("Plays a script with a board, a host, and the lines between them")
-        .after_help(SIMULATE_NOTES)
+    subcommand(alloc, "simulate", SIMULATE, SIMULATE_NOTES)
         .arg(position(alloc))?
         .arg(line_bytes(
             alloc,
@@ -186,7 +173,11 @@ fn simulate<'a>(alloc: Global) -> Result<Command<'a>, AllocError> {
             MAX_WORD as i64,
             "Room for bytes to the board, 257 to 65535",
         ))?
-        .arg(faults(alloc))
+        .arg(flag(
+            alloc,
+            "faults",
+            "Takes garbleup, garbledown, boardlost and restart too",
+        ))
 }
 
 fn command<'a>(alloc: Global) -> Result<Command<'a>, AllocError> {
@@ -196,10 +187,10 @@ fn command<'a>(alloc: Global) -> Result<Command<'a>, AllocError> {
         .after_help(PROGRAM_NOTES)
         .subcommand_required(true)
         .subcommand(show(alloc)?)?
-        .subcommand(monitor(alloc))?
+        .subcommand(subcommand(alloc, "monitor", MONITOR, MONITOR_NOTES))?
         .subcommand(picture(alloc)?)?
         .subcommand(ask(alloc)?)?
-        .subcommand(commands(alloc))?
+        .subcommand(subcommand(alloc, "commands", COMMANDS, COMMANDS_NOTES))?
         .subcommand(board(alloc)?)?
         .subcommand(simulate(alloc)?)
 }
