@@ -44,9 +44,9 @@ fn run<I: Read + Drop, O: Write + Drop>(
     match read(alloc, words)? {
         Task::Help { text } => Ok(write_bytes(text.as_bytes(), &mut output)?),
         Task::Show { word } => show(alloc, word, output),
-        Task::Monitor => show_input(input, output),
+        Task::Monitor => print_input(input, output, |from, to| monitor(from, to, MOST_TURNS)),
         Task::Picture { doubt, clock } => show_picture(doubt, clock, input, output),
-        Task::Commands => show_commands(input, output),
+        Task::Commands => print_input(input, output, |from, to| commands(from, to, MOST_TURNS)),
         Task::Ask { bytes } => Ok(write_bytes(bytes.as_slice(), &mut output)?),
         Task::Board { placement } => answer(placement, input, output),
         Task::Simulate {
@@ -69,33 +69,31 @@ fn show<O: Write + Drop>(alloc: Global, word: &str, output: O) -> Result<(), Fau
     Ok(monitor(&mut shown, &mut Device::new(output), MOST_TURNS)?)
 }
 
+// Runs an engine that prints what it reads.
 #[inline(never)]
-fn show_input<I: Read + Drop, O: Write + Drop>(input: I, output: O) -> Result<(), Fault> {
-    let mut output = Device::new(output);
-    Ok(monitor(&mut Device::new(input), &mut output, MOST_TURNS)?)
+fn print_input<I, O, F>(input: I, output: O, engine: F) -> Result<(), Fault>
+where
+    I: Read + Drop,
+    O: Write + Drop,
+    F: FnOnce(&mut Device<I>, &mut Device<O>) -> Result<(), RunFault>,
+    requires { F.IsAlwaysCallable engine }
+{
+    let (mut input, mut output) = (Device::new(input), Device::new(output));
+    Ok(engine(&mut input, &mut output)?)
 }
 
-#[inline(never)]
 fn show_picture<I: Read + Drop, O: Write + Drop>(
     doubt: bool,
     clock: bool,
     input: I,
     output: O,
 ) -> Result<(), Fault> {
-    let (mut input, mut output) = (Device::new(input), Device::new(output));
-    let shown = match (doubt, clock) {
-        (false, false) => picture(&mut input, &mut output, MOST_TURNS),
-        (true, false) => picture_with_doubts(&mut input, &mut output, MOST_TURNS),
-        (false, true) => picture_with_clock(&mut input, &mut output, MOST_TURNS),
-        (true, true) => picture_with_doubts_and_clock(&mut input, &mut output, MOST_TURNS),
-    };
-    Ok(shown?)
-}
-
-#[inline(never)]
-fn show_commands<I: Read + Drop, O: Write + Drop>(input: I, output: O) -> Result<(), Fault> {
-    let mut output = Device::new(output);
-    Ok(commands(&mut Device::new(input), &mut output, MOST_TURNS)?)
+    print_input(input, output, |from, to| match (doubt, clock) {
+        (false, false) => picture(from, to, MOST_TURNS),
+        (true, false) => picture_with_doubts(from, to, MOST_TURNS),
+        (false, true) => picture_with_clock(from, to, MOST_TURNS),
+        (true, true) => picture_with_doubts_and_clock(from, to, MOST_TURNS),
+    })
 }
 
 #[inline(never)]
