@@ -2,7 +2,7 @@
 
 ghost use Rattle.std.specs.Prelude.{◌≡◌, ◌≢◌, ◌↔◌, ◌⊎◌, ◌<◌, ◌≤◌, ◌+◌, ◌*◌, false, List, []};
 ghost use Rattle.std.specs.Prelude.{◌∷◌, ◌++◌, All, Contains, Some, None, IsTrue, IfOk};
-ghost use Rattle.std.specs.Prelude.{IsErr, IsErrOf, map, length};
+ghost use Rattle.std.specs.Prelude.{IsErrAnd, IsErrOf, map, length};
 ghost use Rattle.dgt_values.specs.Board.{pieces_of};
 ghost use Rattle.dgt_values.specs.declared.kinds.Kind.{Kind};
 ghost use Rattle.dgt_message.specs.Content.{Content, clock_seen, kind_of};
@@ -11,6 +11,8 @@ ghost use Rattle.dgt_board.specs.Sending.{backlog};
 ghost use Rattle.dgt_board.specs.State.{command_mode, follows_clock, updates};
 ghost use Rattle.dgt_board.specs.declared.modes.Mode.{Mode};
 ghost use Rattle.dgt_host.specs.Host.{picture_after_all};
+ghost use Rattle.dgt_link.specs.declared.line.LineMemory.{LineMemory};
+ghost use Rattle.dgt_link.specs.declared.world.NoWorld.{NoWorld};
 ghost use Rattle.dgt_link.specs.Act.{ActContent, act_content};
 ghost use Rattle.dgt_link.specs.Clocks.{IsClockFollowing, IsClockPromisedWorld, stops_clock};
 ghost use Rattle.dgt_link.specs.Faults.{FaultyContent};
@@ -32,7 +34,7 @@ use dgt_command::MAX_WORD;
 use dgt_host::{Host, RESTART_LENGTH};
 use dgt_message::Clock;
 use dgt_values::Position;
-use std::alloc::{AllocError, Global};
+use std::alloc::Global;
 use std::marker::Model;
 use thiserror::Error;
 
@@ -50,6 +52,14 @@ pub enum WorldFault {
     LineTooSmall,
     /// The memory of a line was refused.
     #[error("out of memory")]
+    OutOfMemory,
+}
+
+// Why no world was made of memory for its lines.
+#[derive(Drop)]
+enum NoWorld {
+    // a line would be too small; none of this memory was taken
+    LineTooSmall(LineMemory),
     OutOfMemory,
 }
 
@@ -97,14 +107,14 @@ impl World {
     {
         let memory = LineMemory::new(alloc);
         match World::with_memory(memory, position, clock, identity, up, down) {
-            Ok(Ok(world)) => Ok(world),
-            Ok(Err(_refused)) => Err(WorldFault::OutOfMemory),
-            Err(_untaken) => Err(WorldFault::LineTooSmall),
+            Ok(world) => Ok(world),
+            Err(NoWorld::LineTooSmall(_untaken)) => Err(WorldFault::LineTooSmall),
+            Err(NoWorld::OutOfMemory) => Err(WorldFault::OutOfMemory),
         }
     }
 
-    // A new world whose lines have this memory, where it isn't refused. It comes back, with none
-    // taken, where a line would be too small.
+    // A new world whose lines have this memory, if it isn't refused. It comes back, with none taken,
+    // if a line would be too small.
     fn with_memory(
         memory: LineMemory,
         position: Position,
@@ -112,26 +122,28 @@ impl World {
         identity: Identity,
         up: usize,
         down: usize,
-    ) -> Result<Result<Self, AllocError>, LineMemory>
-        ensures too_small { IsErr result ↔ ((up < MIN_UP) ⊎ (down < MIN_DOWN)) }
-        ensures made { IfOk result (λ made. IfOk made (λ world.
-            world ≡ new_world (pieces_of position) (clock_seen clock) identity up down)) }
-        ensures exact { IfOk result (λ made. IfOk made (λ world. IsExactWorld world)) }
+    ) -> Result<Self, NoWorld>
+        ensures too_small { IsErrAnd result (λ why.
+            (untaken : LineMemory) × (why ≡ NoWorld.LineTooSmall untaken))
+            ↔ ((up < MIN_UP) ⊎ (down < MIN_DOWN)) }
+        ensures made { IfOk result (λ world.
+            world ≡ new_world (pieces_of position) (clock_seen clock) identity up down) }
+        ensures exact { IfOk result (λ world. IsExactWorld world) }
     {
         dgt_command::laws::parts_of_words();
         if up < MIN_UP || down < MIN_DOWN {
-            return Err(memory);
+            return Err(NoWorld::LineTooSmall(memory));
         }
         match memory.lines(up, down) {
-            Ok((up, down)) => Ok(Ok(World {
+            Ok((up, down)) => Ok(World {
                 inner: FaultyWorld {
                     board: Board::new(position, clock, identity),
                     host: Host::new(),
                     up,
                     down,
                 },
-            })),
-            Err(refused) => Ok(Err(refused)),
+            }),
+            Err(_refused) => Err(NoWorld::OutOfMemory),
         }
     }
 
