@@ -5,7 +5,7 @@ ghost use Rattle.dgt_values.specs.Board.{piece_code, pieces_of};
 ghost use Rattle.dgt_values.specs.Bytes.{AreSevenBit, number};
 ghost use Rattle.dgt_c.specs.Starting.{ArePieces};
 
-use dgt_values::{Piece, Position, SevenBit, Square};
+use dgt_values::{Position, SevenBit};
 
 fn are_seven_bit(bytes: &[u8]) -> bool
     ensures { IsTrue result ↔ AreSevenBit bytes.now }
@@ -28,15 +28,10 @@ pub(crate) fn read_seven_bits<const N: usize>(bytes: &[u8; N]) -> Option<[SevenB
     Some(read)
 }
 
-/// The position of these codes, from a8 to h1, where each is the code of a piece.
+/// The position of these codes, from a8 to h1, if each is the code of a piece.
 pub(crate) fn read_position(codes: &[u8; 64]) -> Option<Position>
     ensures { MatchOption result (¬ (ArePieces codes.now))
         (λ position. map piece_code (pieces_of position) ≡ codes.now) }
 {
-    let mut position = Position::empty();
-    for (index, code) in codes.iter().enumerate() {
-        let piece = Piece::from_code(*code).ok()?;
-        position.set(Square::from_small(index as u8), piece);
-    }
-    Some(position)
+    Position::from_codes(codes).ok()
 }
