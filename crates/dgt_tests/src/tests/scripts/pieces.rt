@@ -1,6 +1,6 @@
 //! Lines in chunks, and lines that are too long.
 
-use crate::asserting::assert_same;
+use crate::tests::asserting::assert_same;
 use dgt_script::{LineBuffer, len_before};
 use std::process::Abort;
 

@@ -15,6 +15,11 @@ pub fn assert_same<T: PartialEq + Debug + Drop>(rt: &impl Abort, got: T, right: 
     assert_eq!(rt; got, right);
 }
 
+/// Two values are the same in this row of a table.
+pub fn assert_row<T: PartialEq + Debug + Drop>(rt: &impl Abort, row: usize, got: T, right: T) {
+    assert_eq!(rt; got, right, "row {row}");
+}
+
 /// An error has this text.
 pub fn assert_said<T: Display>(
     rt: &impl Abort,

@@ -1,7 +1,7 @@
 //! What fails in a run, and what a run should leave then.
 
-use crate::engines::asserting::assert_that;
-use crate::engines::devices::{Lender, Recorder};
+use crate::tests::asserting::assert_that;
+use crate::tests::engines::devices::{Lender, Recorder};
 use arrayvec::ArrayVec;
 use dgt_text::RunFault;
 use std::process::Abort;

@@ -1,12 +1,12 @@
 //! Runs in which something fails, at each place where it can.
 
-use crate::engines::asserting::assert_that;
-use crate::engines::devices::{Lender, Recorder};
-use crate::engines::engine::{Answer, Engine, Subject, asked_board, new_world};
-use crate::engines::messages::{
+use crate::tests::asserting::assert_that;
+use crate::tests::engines::devices::{Lender, Recorder};
+use crate::tests::engines::engine::{Answer, Engine, Subject, asked_board, new_world};
+use crate::tests::engines::messages::{
     BATTERY, FIELD, NEW_LINES, SERIAL, START, START_LINE, TRADEMARK, VERSION, ZERO_TIMES,
 };
-use crate::engines::troubles::{Row, TROUBLES, Text, Trial, Trouble};
+use crate::tests::engines::troubles::{Row, TROUBLES, Text, Trial, Trouble};
 use dgt_board::{Board, Polled};
 use dgt_link::World;
 use dgt_text::{RunFault, read_act};

@@ -1,6 +1,6 @@
 //! What is written of an outcome, and of a board and a host at the end. `checks/rows` has others.
 
-use crate::asserting::assert_same;
+use crate::tests::asserting::assert_same;
 use arrayvec::ArrayVec;
 use dgt_board::{Identity, simulated_clock};
 use dgt_lines::{Device, RunFault, write_closing};

@@ -1,9 +1,9 @@
 //! Readers and writers of the standard library that count their calls, under devices.
 
-use crate::engines::asserting::assert_same;
-use crate::engines::devices::{CallCounter, Lender, Refuser, Stutterer, TakesNone};
-use crate::engines::engine::Engine;
-use crate::engines::messages::{BEEP, BEEP_AND_MORE, FIELD, QUESTIONS};
+use crate::tests::asserting::assert_row;
+use crate::tests::engines::devices::{CallCounter, Lender, Refuser, Stutterer, TakesNone};
+use crate::tests::engines::engine::Engine;
+use crate::tests::engines::messages::{BEEP, BEEP_AND_MORE, FIELD, QUESTIONS};
 use arrayvec::ArrayVec;
 use dgt_text::{Device, Failed, Sink, Source};
 use std::io::ErrorKind;
@@ -37,7 +37,7 @@ fn bytes_read(source: &mut impl Source, times: u64) -> u64 {
 fn a_device_reads_on_after_a_million_interrupted_reads(rt: HostRuntime) {
     let mut reader = Stutterer::new();
     let came = bytes_read(&mut Device::new(&mut reader), READS);
-    assert_same(&rt, 0, (came, reader.calls), (READS, 2 * READS));
+    assert_row(&rt, 0, (came, reader.calls), (READS, 2 * READS));
 }
 
 #[test]
@@ -45,15 +45,15 @@ fn a_device_that_fails_is_called_once(rt: HostRuntime) {
     for (row, kind) in KINDS.iter().enumerate() {
         let mut reader = Refuser::new(*kind);
         let answer = Device::new(&mut reader).read_some(&mut [0; 8]);
-        assert_same(&rt, row, answer, Err(Failed));
-        assert_same(&rt, row, reader.calls, 1);
+        assert_row(&rt, row, answer, Err(Failed));
+        assert_row(&rt, row, reader.calls, 1);
         let mut writer = Refuser::new(*kind);
         let answer = Device::new(&mut writer).write_some(b"a");
-        assert_same(&rt, row, answer, Err(Failed));
-        assert_same(&rt, row, writer.calls, 1);
+        assert_row(&rt, row, answer, Err(Failed));
+        assert_row(&rt, row, writer.calls, 1);
         let answer = Device::new(&mut writer).flush_all();
-        assert_same(&rt, row, answer, Err(Failed));
-        assert_same(&rt, row, writer.calls, 2);
+        assert_row(&rt, row, answer, Err(Failed));
+        assert_row(&rt, row, writer.calls, 2);
     }
 }
 
@@ -61,20 +61,20 @@ fn a_device_that_fails_is_called_once(rt: HostRuntime) {
 fn a_writer_that_takes_none_is_called_once(rt: HostRuntime) {
     let mut writer = TakesNone::new();
     let answer = Device::new(&mut writer).write_some(b"a");
-    assert_same(&rt, 0, answer, Err(Failed));
-    assert_same(&rt, 0, writer.calls, 1);
+    assert_row(&rt, 0, answer, Err(Failed));
+    assert_row(&rt, 0, writer.calls, 1);
     // to take none of no bytes is no failure
     let answer = Device::new(&mut writer).write_some(b"");
-    assert_same(&rt, 1, answer, Ok(0));
+    assert_row(&rt, 1, answer, Ok(0));
 }
 
 #[test]
 fn a_device_passes_each_call_on_once(rt: HostRuntime) {
     let mut counter = CallCounter::new();
     let mut device = Device::new(&mut counter);
-    assert_same(&rt, 0, device.write_some(b"ab"), Ok(2));
-    assert_same(&rt, 1, device.flush_all(), Ok(()));
-    assert_same(&rt, 2, (counter.writes, counter.flushes), (1, 1));
+    assert_row(&rt, 0, device.write_some(b"ab"), Ok(2));
+    assert_row(&rt, 1, device.flush_all(), Ok(()));
+    assert_row(&rt, 2, (counter.writes, counter.flushes), (1, 1));
 }
 
 // These parts, each this number of times.
@@ -126,8 +126,8 @@ fn a_write_and_a_flush_for_each_chunk(rt: HostRuntime) -> Result<(), Fail> {
         let mut source = Lender::new(bytes.as_slice(), *step);
         let mut counter = CallCounter::new();
         let answer = engine.run(&rt, 0, &mut source, &mut Device::new(&mut counter), *limit)?;
-        assert_same(&rt, row, answer, Ok(()));
-        assert_same(
+        assert_row(&rt, row, answer, Ok(()));
+        assert_row(
             &rt,
             row,
             (counter.writes, counter.flushes),

@@ -1,6 +1,6 @@
 //! The lines of a command and of a fault. `checks/rows` has the others.
 
-use crate::asserting::assert_same;
+use crate::tests::asserting::assert_same;
 use dgt_command::{Command, CommandEvent};
 use dgt_lines::{Device, write_command};
 use std::test::Fail;

@@ -1,6 +1,6 @@
 //! The acts that lines of scripts ask for. `checks/rows` has the lines that ask for none.
 
-use crate::asserting::assert_that;
+use crate::tests::asserting::assert_that;
 use dgt_command::{Command, LedBytes};
 use dgt_link::{Act, FaultyAct};
 use dgt_message::{Clock, Message};

@@ -1,14 +1,14 @@
 //! Runs that fail, and worked ones beside them.
 
-use crate::engines::asserting::{assert_same, assert_that};
-use crate::engines::devices::{Broken, Lender, Recorder, Trickle, Zeros};
-use crate::engines::engine::{Answer, Engine, joined};
-use crate::engines::messages::{
+use crate::tests::asserting::{assert_row, assert_that};
+use crate::tests::engines::devices::{Broken, Lender, Recorder, Trickle, Zeros};
+use crate::tests::engines::engine::{Answer, Engine, joined};
+use crate::tests::engines::messages::{
     AGAIN_LINE, BATTERY, BEEP, BEEP_AND_MORE, BEEP_LINE, CLOCK_VERSION, FIELD, FIELD_LINE,
     NEW_LINES, PLACEMENT_LINE, QUESTIONS, SERIAL, START, TRADEMARK, VERSION,
 };
-use crate::engines::troubles::Trouble::{Flush, Read, Room, Turns};
-use crate::engines::troubles::{Trial, Trouble};
+use crate::tests::engines::troubles::Trouble::{Flush, Read, Room, Turns};
+use crate::tests::engines::troubles::{Trial, Trouble};
 use dgt_decode::Event;
 use dgt_message::{BodyFault, Message};
 use dgt_text::{Bytes, Device, RunFault, Source, monitor, write_event};
@@ -184,9 +184,9 @@ fn assert_ran(
     let (bytes, lines) = (joined(parts)?, joined(lines)?);
     let (mut source, mut sink, limit) = Trial { trouble, at }.ends(bytes.as_slice(), step);
     let answered = engine.run(rt, unread, &mut source, &mut sink, limit)?;
-    assert_same(rt, row, answered, answer);
-    assert_same(rt, row, source.reads, reads);
-    assert_same(rt, row, sink.taken(), lines.as_slice());
+    assert_row(rt, row, answered, answer);
+    assert_row(rt, row, source.reads, reads);
+    assert_row(rt, row, sink.taken(), lines.as_slice());
     assert_that(rt, !source.late && !sink.late, "no call that came late");
     assert_that(rt, source.ended || answer != Ok(()), "the end");
     assert_that(rt, sink.flushed || answer == WRITE_FAILED, "all is flushed");
@@ -303,14 +303,14 @@ const TRIED: [(Engine<'static>, &[u8]); 5] = [
 fn readers_and_writers_of_std_that_fail(rt: HostRuntime) -> Result<(), Fail> {
     for (row, (engine, bytes)) in TRIED.iter().enumerate() {
         let answer = engine.run(&rt, 0, &mut Bytes::new(bytes), &mut Device::new(Broken), 10)?;
-        assert_same(&rt, row, answer, WRITE_FAILED);
+        assert_row(&rt, row, answer, WRITE_FAILED);
         let mut sink = Recorder::new();
         let answer = engine.run(&rt, 0, &mut Device::new(Broken), &mut sink, 10)?;
-        assert_same(&rt, row, answer, READ_FAILED);
+        assert_row(&rt, row, answer, READ_FAILED);
         assert_that(&rt, sink.taken().is_empty(), "nothing is written");
     }
     let answer = write_event(&mut Device::new(Broken), 1, &Event::Stray(0x05));
-    assert_same(&rt, 0, answer, WRITE_FAILED);
+    assert_row(&rt, 0, answer, WRITE_FAILED);
     Ok(())
 }
 
@@ -318,9 +318,9 @@ fn readers_and_writers_of_std_that_fail(rt: HostRuntime) -> Result<(), Fail> {
 fn a_reader_that_never_ends(rt: HostRuntime) {
     let mut sink = Recorder::new();
     let answer = monitor(&mut Device::new(Zeros), &mut sink, 3);
-    assert_same(&rt, 0, answer, TOO_MANY_TURNS);
+    assert_row(&rt, 0, answer, TOO_MANY_TURNS);
     let lines = b"00000001 stray 00\n00000002 stray 00\n00000003 stray 00\n".as_slice();
-    assert_same(&rt, 0, sink.taken(), lines);
+    assert_row(&rt, 0, sink.taken(), lines);
 }
 
 // What is run, its bytes and the turns; the answer, what is written, and how many flushes there
@@ -358,9 +358,9 @@ fn assert_interrupted(
     let mut reader = Device::new(Trickle::new(bytes, times));
     let mut taken = Trickle::new(&[], times);
     let answered = engine.run(rt, 0, &mut reader, &mut Device::new(&mut taken), limit)?;
-    assert_same(rt, row, answered, answer);
-    assert_same(rt, row, taken.taken.as_slice(), joined(lines)?.as_slice());
-    assert_same(rt, row, taken.flushes, flushes.unwrap_or(taken.flushes));
+    assert_row(rt, row, answered, answer);
+    assert_row(rt, row, taken.taken.as_slice(), joined(lines)?.as_slice());
+    assert_row(rt, row, taken.flushes, flushes.unwrap_or(taken.flushes));
     Ok(())
 }
 
@@ -383,9 +383,9 @@ fn a_call_that_is_interrupted_for_ever(rt: HostRuntime) {
         "a read that fails",
     );
     let mut sink = Recorder::new();
-    assert_same(&rt, 0, monitor(&mut reader, &mut sink, 10), READ_FAILED);
+    assert_row(&rt, 0, monitor(&mut reader, &mut sink, 10), READ_FAILED);
     let mut taken = Trickle::new(&[], u32::MAX);
     let answer = monitor(&mut Bytes::new(FIELD), &mut Device::new(&mut taken), 10);
-    assert_same(&rt, 1, answer, WRITE_FAILED);
+    assert_row(&rt, 1, answer, WRITE_FAILED);
     assert_that(&rt, taken.taken.is_empty(), "nothing is written");
 }

@@ -1,6 +1,6 @@
 //! The engines, each with what it runs on.
 
-use crate::engines::asserting::assert_that;
+use crate::tests::asserting::assert_that;
 use arrayvec::ArrayVec;
 use dgt_board::{Board, Identity, simulated_clock};
 use dgt_link::{FaultyWorld, World, WorldFault};
