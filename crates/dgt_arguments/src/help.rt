@@ -385,10 +385,15 @@ Example. The host asks for all squares and gets them, byte for byte:
   hostclock unknown
   quiet yes
 
-Example with faults. The command of the host is lost, and the host restarts. The
-lines of the six acts are left out:
+Example with faults. The command of the host is lost, and the host restarts:
   $ acts='host 42\\ngarbledown -\\nrestart\\ntoboard 257\\nsend\\ntohost 67\\n'
-  $ printf \"$acts\" | dgt simulate --faults | tail -4
+  $ printf \"$acts\" | dgt simulate --faults
+  done
+  done
+  done
+  done
+  done
+  done
   board rnbqkbnr/pppppppp/8/8/8/8/PPPPPPPP/RNBQKBNR
   host rnbqkbnr/pppppppp/8/8/8/8/PPPPPPPP/RNBQKBNR
   hostclock unknown

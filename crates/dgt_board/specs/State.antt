@@ -4,9 +4,8 @@ use Rattle.std.specs.Option.{option_map_or}
 use Rattle.dgt_values.specs.declared.pieces.Piece.{Piece}
 use Rattle.dgt_message.specs.Clock.{ClockState, clock_eq}
 use Rattle.dgt_command.specs.declared.ids.KnownId.{KnownId}
-use Rattle.dgt_command.specs.Content.{ClockContent, CommandContent, EventContent, kind_of_command}
+use Rattle.dgt_command.specs.Content.{ClockContent, CommandContent, EventContent, requested_kind}
 use Rattle.dgt_command.specs.Ids.{id_number}
-use Rattle.dgt_command.specs.Spelling.{clock_id}
 use Rattle.dgt_board.specs.declared.identities.TheConstants.{MAX_KEPT_BODY}
 use Rattle.dgt_board.specs.declared.modes.Mode.{Mode}
 use Rattle.dgt_board.specs.declared.replies.Reply.{Reply}
@@ -102,8 +101,8 @@ command_mode _ = None
 -- board with no clock acknowledges nothing.
 abbrev pub acknowledgements : ClockState → IdentityContent → ClockContent → List Reply
 acknowledgements (ClockState.times readings) identity message =
-    let asked = clock_id message == id_number KnownId.Version in
-    Reply.Ack (clock_id message) (if asked then identity.clock_version else 0x00) ∷ []
+    let asked = message.id == id_number KnownId.Version in
+    Reply.Ack message.id (if asked then identity.clock_version else 0x00) ∷ []
 acknowledgements (ClockState.no_clock absence) identity message = []
 
 -- the replies that a command adds
@@ -111,7 +110,7 @@ abbrev pub replies_to : BoardState → CommandContent → List Reply
 replies_to board CommandContent.Clock = Reply.Clock ∷ []
 replies_to board (CommandContent.ClockMessage message) =
     acknowledgements board.clock board.identity message
-replies_to board command = map Reply.Of (option_to_list (kind_of_command command))
+replies_to board command = map Reply.Of (option_to_list (requested_kind command))
 
 -- The board after a command. A mode that is set follows the clock if it differs from what was
 -- reported, whatever was owed before.

@@ -4,7 +4,6 @@ ghost use Rattle.std.specs.Prelude.{◌≡◌, ◌<◌, ◌++◌, ◌&&◌, not,
 ghost use Rattle.dgt_values.specs.Board.{pieces_of, square_number};
 ghost use Rattle.dgt_message.specs.Content.{clock_seen};
 ghost use Rattle.dgt_command.specs.Content.{clock_content, command_content, command_event_content};
-ghost use Rattle.dgt_command.specs.Spelling.{clock_id};
 ghost use Rattle.dgt_board.specs.State.{acknowledgements, after_change, after_command, after_hand_clock, after_line_lost, effect, follows_clock, is_told, new_board};
 
 use crate::identities::Identity;

@@ -12,7 +12,7 @@ ghost use Rattle.dgt_board.specs.View.{view_after_line_lost};
 ghost use Rattle.dgt_c.specs.Clocks.{SaysClock, clock_told};
 ghost use Rattle.dgt_c.specs.Boards.{PollsTold, Takes, mode_number};
 
-use crate::clocks::{clock_told, read_clock};
+use crate::clocks::{clock_for_c, read_clock};
 use crate::commands::tell_command;
 use crate::handles::DgtBoard;
 use crate::header::{
@@ -188,5 +188,5 @@ pub extern "C" fn dgt_board_clock(board: &mut DgtBoard, clock: &mut DgtClock)
     ensures same { board.new.inside ≡ board.old.inside }
     ensures clock { clock.new ≡ clock_told board.old.inside.state.clock }
 {
-    *clock = clock_told(board.get().clock());
+    *clock = clock_for_c(board.get().clock());
 }

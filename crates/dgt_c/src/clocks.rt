@@ -10,7 +10,7 @@ use crate::header::{CLOCK_NONE, CLOCK_TIMES, DgtClock, DgtTime, NO_TIME};
 use dgt_message::{Clock, NoClock, Reading, Status, Times};
 use dgt_values::SevenBit;
 
-fn time_told(reading: Reading) -> DgtTime
+fn time_for_c(reading: Reading) -> DgtTime
     ensures { result ≡ time_told (time_seen reading) }
 {
     DgtTime {
@@ -29,8 +29,8 @@ pub(crate) fn times_told(times: Times) -> DgtClock
         kind: CLOCK_TIMES,
         status: times.status().code().get(),
         raw: [0; 6],
-        first: time_told(times.first()),
-        second: time_told(times.second()),
+        first: time_for_c(times.first()),
+        second: time_for_c(times.second()),
     }
 }
 
@@ -49,7 +49,7 @@ pub(crate) fn absence_told(absence: NoClock) -> DgtClock
 }
 
 /// What a clock shows.
-pub(crate) fn clock_told(clock: &Clock) -> DgtClock
+pub(crate) fn clock_for_c(clock: &Clock) -> DgtClock
     ensures { result ≡ clock_told (clock_seen clock.now) }
 {
     match clock {

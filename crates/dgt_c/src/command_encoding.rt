@@ -8,7 +8,7 @@ ghost use Rattle.dgt_c.specs.Commands.{read_told};
 ghost use Rattle.dgt_c.specs.Encoding.{EncodesBytes, EncodesNothing};
 
 use crate::commands::tell_read;
-use crate::encoding::encoded_told;
+use crate::encoding::encoded_for_c;
 use crate::header::{DgtCommand, DgtEncoded, NOTHING_ENCODED};
 use crate::sender::spell_clock;
 use dgt_command::{Command, LedBytes, MAX_PAYLOAD, MAX_WORD, encode, view_command};
@@ -22,7 +22,7 @@ fn encode_word(word: &[u8], out: &mut [u8]) -> DgtEncoded
 {
     dgt_command::laws::spellings_tell_commands();
     match view_command(word) {
-        Some(command) => encoded_told(encode(&command, out)),
+        Some(command) => encoded_for_c(encode(&command, out)),
         None => NOTHING_ENCODED,
     }
 }
@@ -51,7 +51,7 @@ fn encode_leds(leds: &[u8], out: &mut [u8]) -> DgtEncoded
     ensures refused { MAX_LED_BYTES < length leds.now → EncodesNothing out.old out.new result }
 {
     match LedBytes::new(leds) {
-        Ok(leds) => encoded_told(encode(&Command::Leds(leds), out)),
+        Ok(leds) => encoded_for_c(encode(&Command::Leds(leds), out)),
         Err(_) => NOTHING_ENCODED,
     }
 }

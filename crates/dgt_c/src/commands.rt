@@ -13,7 +13,7 @@ use crate::header::{
 };
 use dgt_command::{Command, CommandEvent, MAX_WORD, clock_id, encode};
 
-fn id_of(command: &Command<'_>) -> u8
+fn message_id(command: &Command<'_>) -> u8
     ensures { result ≡ id_of (command_content command.now) }
 {
     match command {
@@ -38,7 +38,7 @@ pub(crate) fn tell_read(command: &Command<'_>, out: &mut [u8]) -> DgtCommand
     DgtCommand {
         kind: COMMAND_READ,
         code: word[0],
-        id: id_of(command),
+        id: message_id(command),
         byte: 0,
         word_len,
     }

@@ -17,7 +17,7 @@ use dgt_decode::Event;
 use dgt_message::{Clock, ClockAck, Message, OtherCode, encode, view};
 use dgt_values::{Body, NoRoom, Piece, SevenBit, Square};
 
-pub(crate) fn encoded_told(outcome: Result<usize, NoRoom>) -> DgtEncoded
+pub(crate) fn encoded_for_c(outcome: Result<usize, NoRoom>) -> DgtEncoded
     ensures { result ≡ encoded_told outcome }
 {
     let (status, bytes) = match outcome {
@@ -79,7 +79,7 @@ pub extern "C" fn dgt_encode_message(said: &DgtEvent, body: &[u8], out: &mut [u8
     ensures encodes { EncodesMessage said.now body.now out.old out.new result }
 {
     match read_message(said, body) {
-        Some(message) => encoded_told(encode(&message, out)),
+        Some(message) => encoded_for_c(encode(&message, out)),
         None => NOTHING_ENCODED,
     }
 }

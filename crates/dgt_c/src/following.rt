@@ -3,13 +3,13 @@
 ghost use Rattle.std.specs.Prelude.{◌≡◌, ◌≤◌, ◌<◌, ◌↔◌, Option, length, take, false, IsTrue, IsSome, MatchOption};
 ghost use Rattle.dgt_decode.specs.Grammar.{Event as EventSaid};
 ghost use Rattle.dgt_decode.specs.Feeding.{FirstEvent};
-ghost use Rattle.dgt_follow.specs.Pace.{due_at};
+ghost use Rattle.dgt_follow.specs.Pace.{next_due};
 ghost use Rattle.dgt_follow.specs.Follower.{follower_after, following, new_follower};
 ghost use Rattle.dgt_c.specs.Following.{AsksTold, asked_told, update_mode_number};
 
 use crate::handles::DgtFollower;
 use crate::header::{DgtSent, MODE_UPDATE, MODE_UPDATE_BOARD, MODE_UPDATE_NICE};
-use crate::sending::sent_told;
+use crate::sending::sent_for_c;
 use dgt_follow::{Follower, UpdateMode};
 use dgt_host::SendFault;
 use dgt_values::NoRoom;
@@ -47,10 +47,10 @@ pub extern "C" fn dgt_follower_hear_all(follower: &mut DgtFollower, now: u64, ch
     follower.get().hear_all(now, chunk);
 }
 
-fn asked_told(outcome: Result<usize, NoRoom>) -> DgtSent
+fn asked_for_c(outcome: Result<usize, NoRoom>) -> DgtSent
     ensures { result ≡ asked_told outcome }
 {
-    sent_told(outcome.map_err(|NoRoom { need }| SendFault::NoRoom { need }))
+    sent_for_c(outcome.map_err(|NoRoom { need }| SendFault::NoRoom { need }))
 }
 
 /// Writes what the board has to be asked at this time at the beginning of the slice, if it is due.
@@ -59,7 +59,7 @@ pub extern "C" fn dgt_follower_ask(follower: &mut DgtFollower, now: u64, out: &m
     ensures place { follower.new.at ≡ follower.old.at }
     ensures asks { AsksTold now follower.old.inside follower.new.inside out.old out.new result }
 {
-    asked_told(follower.get().ask(now, out))
+    asked_for_c(follower.get().ask(now, out))
 }
 
 // Writes a time, if there is one, and returns whether there is.
@@ -82,8 +82,8 @@ fn put_time(said: Option<u64>, time: &mut u64) -> bool
 pub extern "C" fn dgt_follower_due_at(follower: &mut DgtFollower, time: &mut u64) -> bool
     ensures place { follower.new.at ≡ follower.old.at }
     ensures same { follower.new.inside ≡ follower.old.inside }
-    ensures known { IsTrue result ↔ IsSome (due_at follower.old.inside.pace) }
-    ensures time { MatchOption (due_at follower.old.inside.pace) (time.new ≡ time.old)
+    ensures known { IsTrue result ↔ IsSome (next_due follower.old.inside.pace) }
+    ensures time { MatchOption (next_due follower.old.inside.pace) (time.new ≡ time.old)
         (λ due. time.new ≡ due) }
 {
     put_time(follower.get().due_at(), time)

@@ -8,7 +8,7 @@ ghost use Rattle.dgt_c.specs.Clocks.{clock_if_told};
 ghost use Rattle.dgt_c.specs.Kinds.{asking_code};
 ghost use Rattle.dgt_c.specs.Slices.{with_text};
 
-use crate::clocks::clock_told;
+use crate::clocks::clock_for_c;
 use crate::copying::put_placement;
 use crate::handles::{DgtFollower, DgtHost};
 use crate::header::{DgtClock, PLACEMENT_ROOM, UNKNOWN_CLOCK};
@@ -46,11 +46,11 @@ fn put_text(host: &Host, text: &mut [u8; PLACEMENT_ROOM]) -> bool
 }
 
 // What was reported last of the clock.
-fn clock_if_told(host: &Host) -> DgtClock
+fn last_clock_for_c(host: &Host) -> DgtClock
     ensures { result ≡ clock_if_told host.now.clock }
 {
     match host.clock() {
-        Some(told) => clock_told(told),
+        Some(told) => clock_for_c(told),
         None => UNKNOWN_CLOCK,
     }
 }
@@ -86,7 +86,7 @@ pub extern "C" fn dgt_host_clock(host: &mut DgtHost, clock: &mut DgtClock)
     ensures same { host.new.inside ≡ host.old.inside }
     ensures clock { clock.new ≡ clock_if_told host.old.inside.clock }
 {
-    *clock = clock_if_told(host.get());
+    *clock = last_clock_for_c(host.get());
 }
 
 /// The codes of the pieces on the board, if they are known; else the slice stays.
@@ -123,7 +123,7 @@ pub extern "C" fn dgt_follower_clock(follower: &mut DgtFollower, clock: &mut Dgt
     ensures same { follower.new.inside ≡ follower.old.inside }
     ensures clock { clock.new ≡ clock_if_told follower.old.inside.host.clock }
 {
-    *clock = clock_if_told(follower.get().host());
+    *clock = last_clock_for_c(follower.get().host());
 }
 
 /// How many bytes were heard of an unfinished message.
@@ -150,7 +150,7 @@ pub extern "C" fn dgt_follower_unread(follower: &mut DgtFollower) -> usize
 }
 
 // The byte of the command that asks for a reply of this kind.
-fn asking_code(kind: Kind) -> u8
+fn code_asking_for(kind: Kind) -> u8
     ensures { result ≡ asking_code kind }
 {
     match kind {
@@ -169,7 +169,7 @@ fn put_kinds(kinds: &[Kind], codes: &mut [u8; MAX_AWAITED])
     ensures { codes.new ≡ map asking_code kinds.now ++ drop (length kinds.now) codes.old }
 {
     for (index, kind) in kinds.iter().enumerate() {
-        codes[index] = asking_code(*kind);
+        codes[index] = code_asking_for(*kind);
     }
 }
 

@@ -13,7 +13,7 @@ ghost use Rattle.dgt_c.specs.contracts.places.{BoardPlace.the_row as board_place
 
 use crate::handles::{DgtBoard, DgtCommandDecoder, DgtDecoder, DgtFollower, DgtHost};
 use crate::plain_board::board_of_program;
-use crate::plain_follower::plain_follower;
+use crate::plain_follower::default_follower;
 use dgt_board::Board;
 use dgt_command::CommandDecoder;
 use dgt_decode::Decoder;
@@ -75,7 +75,7 @@ pub unsafe extern "C" fn dgt_follower_init(follower: *mut DgtFollower)
     ensures* { sem 𝓛 (lies_at follower_handle full_share follower
         (record { at = follower +ₚ 8; inside = plain_follower })) }
 {
-    make!(follower: DgtFollower in FollowerPlace, plain_follower());
+    make!(follower: DgtFollower in FollowerPlace, default_follower());
 }
 
 /// How many bytes a `dgt_follower` takes.

@@ -6,7 +6,7 @@ ghost use Rattle.dgt_c.specs.PlainFollower.{plain_follower};
 use dgt_follow::Follower;
 
 /// A follower with a period of ten seconds, which may send six heartbeats in a row.
-pub(crate) fn plain_follower() -> Follower
+pub(crate) fn default_follower() -> Follower
     ensures { result ≡ plain_follower }
 {
     Follower::new(10_000, 6)

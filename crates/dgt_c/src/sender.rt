@@ -1,7 +1,7 @@
 //! What sends commands for C: a host, and a follower by its host.
 
 ghost use Rattle.std.specs.Prelude.{◌≡◌, ◌≢◌, ◌≤◌, ◌<◌, ◌+◌, ⊤, None, length, refl};
-ghost use Rattle.dgt_command.specs.Content.{CommandContent, command_content, kind_of_command};
+ghost use Rattle.dgt_command.specs.Content.{CommandContent, command_content, requested_kind};
 ghost use Rattle.dgt_command.specs.Spelling.{command_spelling};
 ghost use Rattle.dgt_command.specs.declared.carried.TheConstants.{MAX_LED_BYTES, MAX_PAYLOAD};
 ghost use Rattle.dgt_host.specs.Host.{HostView, Sends};
@@ -9,7 +9,7 @@ ghost use Rattle.dgt_c.specs.ClockSending.{SendsClock, SendsDisplay, SendsMessag
 ghost use Rattle.dgt_c.specs.Sent.{RefusesCommand, SendsTold};
 
 use crate::header::{DgtSent, NO_SUCH_COMMAND};
-use crate::sending::sent_told;
+use crate::sending::sent_for_c;
 use dgt_command::{ClockCommand, Command, LedBytes, MAX_PAYLOAD, MAX_WORD, display, view_command};
 use dgt_follow::Follower;
 use dgt_host::{Host, SendFault};
@@ -24,7 +24,7 @@ pub(crate) trait Sender {
     /// Sends a command, as [`Host::send`] does.
     fn send_command(&mut self, command: &Command<'_>, out: &mut [u8]) -> Result<usize, SendFault>
         ensures sends { let said = command_content command.now in
-            Sends (record { kind = kind_of_command said; bytes = command_spelling said })
+            Sends (record { kind = requested_kind said; bytes = command_spelling said })
             (host self.old) (host self.new) out.old out.new result }
         ensures keeps { keeps self.old self.new };
 
@@ -58,7 +58,7 @@ impl Sender for Follower {
 /// Sends the command whose bytes these are, if there is one.
 pub(crate) fn send_word<S: Sender>(sender: &mut S, word: &[u8], out: &mut [u8]) -> DgtSent
     ensures sends { (said : CommandContent) → word.now ≡ command_spelling said →
-        SendsTold (record { kind = kind_of_command said; bytes = word.now })
+        SendsTold (record { kind = requested_kind said; bytes = word.now })
         (S.host sender.old) (S.host sender.new) out.old out.new result }
     ensures refused { ((said : CommandContent) → word.now ≢ command_spelling said) →
         RefusesCommand (S.host sender.old) (S.host sender.new) out.old out.new result }
@@ -66,7 +66,7 @@ pub(crate) fn send_word<S: Sender>(sender: &mut S, word: &[u8], out: &mut [u8]) 
 {
     dgt_command::laws::spellings_tell_commands();
     match view_command(word) {
-        Some(command) => sent_told(sender.send_command(&command, out)),
+        Some(command) => sent_for_c(sender.send_command(&command, out)),
         None => NO_SUCH_COMMAND,
     }
 }
@@ -81,7 +81,7 @@ pub(crate) fn send_leds<S: Sender>(sender: &mut S, leds: &[u8], out: &mut [u8]) 
     ensures keeps { S.keeps sender.old sender.new }
 {
     match LedBytes::new(leds) {
-        Ok(leds) => sent_told(sender.send_command(&Command::Leds(leds), out)),
+        Ok(leds) => sent_for_c(sender.send_command(&Command::Leds(leds), out)),
         Err(_) => NO_SUCH_COMMAND,
     }
 }
@@ -133,7 +133,7 @@ pub(crate) fn send_message<S: Sender>(
         (S.host sender.old) (S.host sender.new) out.old out.new result }
     ensures keeps { S.keeps sender.old sender.new }
 {
-    sent_told(sender.send_command(&Command::ClockMessage(message), out))
+    sent_for_c(sender.send_command(&Command::ClockMessage(message), out))
 }
 
 /// Shows these six characters on the clock's display, if each has segments.

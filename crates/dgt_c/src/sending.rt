@@ -1,7 +1,7 @@
 //! What C has a host and a follower send.
 
 ghost use Rattle.std.specs.Prelude.{◌≡◌, ◌≢◌, ◌≤◌, ◌<◌, ◌∷◌, [], Some, None, length};
-ghost use Rattle.dgt_command.specs.Content.{CommandContent, kind_of_command, known_clock};
+ghost use Rattle.dgt_command.specs.Content.{CommandContent, requested_kind, known_clock};
 ghost use Rattle.dgt_command.specs.Spelling.{command_spelling};
 ghost use Rattle.dgt_command.specs.declared.carried.TheConstants.{MAX_LED_BYTES, MAX_PAYLOAD};
 ghost use Rattle.dgt_values.specs.declared.kinds.Kind.TheVariants as kind;
@@ -17,7 +17,7 @@ use crate::sender::{send_clock, send_display, send_leds, send_message, send_word
 use dgt_command::{ClockCommand, KnownId};
 use dgt_host::SendFault;
 
-pub(crate) fn sent_told(outcome: Result<usize, SendFault>) -> DgtSent
+pub(crate) fn sent_for_c(outcome: Result<usize, SendFault>) -> DgtSent
     ensures { result ≡ sent_told outcome }
 {
     let (status, bytes) = match outcome {
@@ -35,7 +35,7 @@ pub extern "C" fn dgt_host_follow(host: &mut DgtHost, out: &mut [u8]) -> DgtSent
     ensures sends { SendsTold (record { kind = Some kind.Dump; bytes = follow_bytes })
         host.old.inside host.new.inside out.old out.new result }
 {
-    sent_told(host.get().follow(out))
+    sent_for_c(host.get().follow(out))
 }
 
 /// The same, after zeros that end whatever command the board is in the middle of.
@@ -45,7 +45,7 @@ pub extern "C" fn dgt_host_restart(host: &mut DgtHost, out: &mut [u8]) -> DgtSen
     ensures sends { SendsTold (record { kind = Some kind.Dump; bytes = restart_bytes })
         host.old.inside host.new.inside out.old out.new result }
 {
-    sent_told(host.get().restart(out))
+    sent_for_c(host.get().restart(out))
 }
 
 /// Sends the command that is this byte alone, if one is.
@@ -53,7 +53,7 @@ pub extern "C" fn dgt_host_restart(host: &mut DgtHost, out: &mut [u8]) -> DgtSen
 pub extern "C" fn dgt_host_send(host: &mut DgtHost, code: u8, out: &mut [u8]) -> DgtSent
     ensures place { host.new.at ≡ host.old.at }
     ensures sends { (said : CommandContent) → code ∷ [] ≡ command_spelling said →
-        SendsTold (record { kind = kind_of_command said; bytes = code ∷ [] })
+        SendsTold (record { kind = requested_kind said; bytes = code ∷ [] })
         host.old.inside host.new.inside out.old out.new result }
     ensures refused { ((said : CommandContent) → code ∷ [] ≢ command_spelling said) →
         RefusesCommand host.old.inside host.new.inside out.old out.new result }
@@ -97,7 +97,7 @@ pub extern "C" fn dgt_host_send_clock(
 pub extern "C" fn dgt_follower_send(follower: &mut DgtFollower, code: u8, out: &mut [u8]) -> DgtSent
     ensures place { follower.new.at ≡ follower.old.at }
     ensures sends { (said : CommandContent) → code ∷ [] ≡ command_spelling said →
-        SendsTold (record { kind = kind_of_command said; bytes = code ∷ [] })
+        SendsTold (record { kind = requested_kind said; bytes = code ∷ [] })
         follower.old.inside.host follower.new.inside.host out.old out.new result }
     ensures refused { ((said : CommandContent) → code ∷ [] ≢ command_spelling said) →
         RefusesCommand follower.old.inside.host follower.new.inside.host out.old out.new result }

@@ -295,8 +295,8 @@ words_once (x ∷ xs) (y ∷ ys) r q h k o p e =
 pub each_has_its_words : EachHasItsWords
 each_has_its_words = (
   (λ bytes are.
-    let found = divide (length bytes) bytes (omega arith) are in
-    let words = divided_words bytes found.0 found.1 found.2 in (words.0, found.1, words.1)),
+      let found = divide (length bytes) bytes (omega arith) are in
+      let words = divided_words bytes found.0 found.1 found.2 in (words.0, found.1, words.1)),
   (λ bytes xs ys r q h k. words_once xs ys r q h.each k.each h.partial k.partial (sym h.whole ∙ k.whole)),
 )
 

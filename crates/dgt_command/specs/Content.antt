@@ -88,11 +88,11 @@ command_event_content event.BadEnd = BadEnd
 command_event_content (event.Stray byte) = Stray byte
 
 -- the kind of the reply that a command asks for, where the host awaits it
-abbrev pub kind_of_command : CommandContent → Option Kind
-kind_of_command Dump = Some Kind.Dump
-kind_of_command Serial = Some Kind.Serial
-kind_of_command Trademark = Some Kind.Trademark
-kind_of_command Version = Some Kind.Version
-kind_of_command Battery = Some Kind.Battery
-kind_of_command LongSerial = Some Kind.LongSerial
-kind_of_command _ = None
+abbrev pub requested_kind : CommandContent → Option Kind
+requested_kind Dump = Some Kind.Dump
+requested_kind Serial = Some Kind.Serial
+requested_kind Trademark = Some Kind.Trademark
+requested_kind Version = Some Kind.Version
+requested_kind Battery = Some Kind.Battery
+requested_kind LongSerial = Some Kind.LongSerial
+requested_kind _ = None

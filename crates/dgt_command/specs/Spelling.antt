@@ -25,9 +25,6 @@ command_code Version = 0x4d
 command_code LongSerial = 0x55
 command_code (Leds leds) = 0x60
 
-abbrev pub clock_id : ClockContent → ℕ
-clock_id message = message.id
-
 abbrev pub behind_code : CommandContent → List ℕ
 behind_code (ClockMessage message) =
     (length message.payload + 3) ∷ 0x03 ∷ message.id ∷ (message.payload ++ 0x00 ∷ [])

@@ -40,7 +40,7 @@ const VERSION: u8 = 0x4d;
 const LONG_SERIAL: u8 = 0x55;
 
 // The byte that the command begins with.
-pub(crate) fn command_code(command: &Command) -> u8
+pub(crate) fn first_byte(command: &Command) -> u8
     ensures { result ≡ command_code (command_content command.now) }
 {
     match command {
@@ -61,7 +61,7 @@ pub(crate) fn command_code(command: &Command) -> u8
 }
 
 // The command that is this byte alone, if one is.
-pub(crate) fn bare_command(byte: u8) -> Option<Command<'static>>
+pub(crate) fn command_of_byte(byte: u8) -> Option<Command<'static>>
     ensures { result ≡ bare_command byte }
 {
     match byte {

@@ -8,7 +8,7 @@ ghost use Rattle.dgt_command.specs.Framing.{word_found_in, rest_after, rest_of};
 ghost use Rattle.dgt_command.specs.Lengths.{Adds};
 ghost use Rattle.dgt_command.specs.Words.{IsPartial, IsWholeWord, IsWord};
 
-use crate::codes::{CLOCK_MESSAGE, END, bare_command};
+use crate::codes::{CLOCK_MESSAGE, END, command_of_byte};
 use crate::command::{Command, CommandEvent};
 use crate::lengths::{is_whole, length_so_far};
 use crate::viewing::view_command;
@@ -109,7 +109,7 @@ fn is_command(word: &[u8]) -> bool
         (command : CommandContent) → SpellsCommand command word.now → ⊥ }
 {
     match word {
-        [byte] => bare_command(*byte).is_some(),
+        [byte] => command_of_byte(*byte).is_some(),
         [CLOCK_MESSAGE, _, _, .., last] => *last == END,
         [CLOCK_MESSAGE, ..] => false,
         _ => true,
@@ -235,7 +235,7 @@ impl WordFramer {
             (found ≡ FoundWord.Command → length self.now.word ≢ 1) }
     {
         match (found, self.word.as_slice()) {
-            (FoundWord::Command, [byte]) => bare_command(*byte),
+            (FoundWord::Command, [byte]) => command_of_byte(*byte),
             _ => None,
         }
     }

@@ -1,14 +1,14 @@
 //! What commands ask for.
 
 ghost use Rattle.std.specs.Prelude.{◌≡◌};
-ghost use Rattle.dgt_command.specs.Content.{command_content, kind_of_command};
+ghost use Rattle.dgt_command.specs.Content.{command_content, requested_kind};
 
 use crate::command::Command;
 use dgt_values::Kind;
 
 /// The kind of the reply that a command requests, if it has one.
 pub fn kind_of_command(command: &Command<'_>) -> Option<Kind>
-    ensures { result ≡ kind_of_command (command_content command.now) }
+    ensures { result ≡ requested_kind (command_content command.now) }
 {
     match command {
         Command::Dump => Some(Kind::Dump),

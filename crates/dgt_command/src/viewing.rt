@@ -6,7 +6,7 @@ ghost use Rattle.dgt_command.specs.Spelling.{SpellsCommand};
 
 use crate::carried::{LedBytes, Payload};
 use crate::clock::{ClockCommand, RawClock};
-use crate::codes::{CLOCK_MESSAGE, END, LEDS, START, bare_command};
+use crate::codes::{CLOCK_MESSAGE, END, LEDS, START, command_of_byte};
 use crate::command::Command;
 use crate::ids::KnownId;
 
@@ -19,7 +19,7 @@ pub fn view_command(bytes: &[u8]) -> Option<Command<'_>>
         ((command : CommandContent) → SpellsCommand command bytes.now → ⊥) }
 {
     match bytes {
-        [byte] => bare_command(*byte),
+        [byte] => command_of_byte(*byte),
         [CLOCK_MESSAGE, size, START, id, carried @ .., END]
             if carried.len() + 3 == *size as usize => {
             let carried = Payload { bytes: carried };

@@ -3,11 +3,11 @@
 ghost use Rattle.std.specs.Prelude.{◌≡◌, ◌+◌, ◌<◌, ◌≤◌, [], ◌∷◌, ◌++◌, length, OnOk};
 ghost use Rattle.dgt_values.specs.Bytes.{WritesFront};
 ghost use Rattle.dgt_command.specs.Content.{clock_content, command_content};
-ghost use Rattle.dgt_command.specs.Spelling.{clock_id, command_spelling, SpellsCommand};
+ghost use Rattle.dgt_command.specs.Spelling.{command_spelling, SpellsCommand};
 
 use crate::carried::MAX_PAYLOAD;
 use crate::clock::ClockCommand;
-use crate::codes::{END, START, command_code};
+use crate::codes::{END, START, first_byte};
 use crate::command::Command;
 use crate::framer::MAX_WORD;
 use crate::ids::KnownId;
@@ -49,7 +49,7 @@ fn write(command: &Command, out: &mut [u8])
     ensures { out.new ≡ command_spelling (command_content command.now) }
 {
     let (head, tail) = out.split_at_mut(1);
-    head.copy_from_slice(&[command_code(command)]);
+    head.copy_from_slice(&[first_byte(command)]);
     match command {
         Command::ClockMessage(message) => write_clock(message, tail),
         Command::Leds(leds) => {
@@ -78,7 +78,7 @@ fn write_clock(message: &ClockCommand, out: &mut [u8])
 
 /// The id of a clock message: the byte that says which case it is.
 pub fn clock_id(message: &ClockCommand) -> u8
-    ensures { result ≡ clock_id (clock_content message.now) }
+    ensures { result ≡ (clock_content message.now).id }
 {
     match message {
         ClockCommand::Display { .. } => KnownId::Display.number(),

@@ -6,7 +6,7 @@ use Rattle.dgt_decode.specs.Grammar.{Placed, events_behind, has_top_bit, cut_of,
 use Rattle.dgt_decode.specs.Laws.{BeginsAnew}
 use Rattle.dgt_decode.proofs.Places.{events_behind-events_behind, events_behind-zero}
 use Rattle.dgt_decode.proofs.Cuts.{lead-append, segments-append}
-use Rattle.dgt_decode.proofs.More.{events-append}
+use Rattle.dgt_decode.proofs.Appending.{events-append}
 use Rattle.dgt_decode.proofs.Open.{IsOpen, nothing, waiting, IsOpen-open, length-open, open-append}
 
 has_top : (b : ℕ) → 128 ≤ b → has_top_bit b ≡ true

@@ -7,7 +7,7 @@ use Rattle.dgt_message.specs.Spelling.{spelling}
 use Rattle.dgt_decode.specs.Grammar.{Event, Message, Placed, at_place, events_behind, cut_of, events, open_message}
 use Rattle.dgt_decode.specs.Feeding.{FirstEvent, at_place_if_any}
 use Rattle.dgt_decode.specs.Laws.{Call, AreCalls, used_bytes, events_in_chunks}
-use Rattle.dgt_decode.proofs.More.{events-append}
+use Rattle.dgt_decode.proofs.Appending.{events-append}
 use Rattle.dgt_decode.proofs.Open.{open-append, length-open}
 use Rattle.dgt_decode.proofs.Loops.{events_behind-at_place_if_any}
 use Rattle.dgt_decode.proofs.Spelled.{AreRead, AreSpelled, spelling_is_read}

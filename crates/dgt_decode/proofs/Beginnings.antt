@@ -10,7 +10,7 @@ use Rattle.dgt_decode.specs.Taking.{Begins, FramesFront, IsKept}
 use Rattle.dgt_decode.proofs.Steps.{Gives, first-begins, next-short, next-waits}
 use Rattle.dgt_decode.proofs.Feeds.{first_of_run}
 use Rattle.dgt_decode.proofs.Framing.{after, tells-after}
-use Rattle.dgt_decode.proofs.Runs.{seven-before, seven-take}
+use Rattle.dgt_decode.proofs.BodyRuns.{seven-before, seven-take}
 use Rattle.dgt_decode.proofs.SevenBit.{SevenByRecursion, are_seven, by_recursion}
 
 -- this many bytes at the front are a header and a run of its body

@@ -4,7 +4,7 @@ use Rattle.std.proofs.lemmas.List.{append-nil, get_or_append_left}
 use Rattle.std.proofs.lemmas.Bool.{leb-true}
 use Rattle.dgt_decode.specs.Grammar.{events, has_top_bit, lead, segments, announced_total, verdict, open_message}
 use Rattle.dgt_decode.proofs.Verdicts.{Stage, short, waits, bad, whole, stage_of, verdict-bad, verdict-whole}
-use Rattle.dgt_decode.proofs.More.{IsAlone, lead-is_seven}
+use Rattle.dgt_decode.proofs.Appending.{IsAlone, lead-is_seven}
 use Rattle.dgt_decode.proofs.Open.{IsOpen-open, events-of_open}
 use Rattle.dgt_decode.proofs.Steps.{IsHeld, IsHeld-open, alone_held}
 use Rattle.dgt_decode.proofs.SevenBit.{SevenByRecursion}

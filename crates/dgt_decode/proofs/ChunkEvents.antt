@@ -9,7 +9,7 @@ use Rattle.dgt_decode.specs.Feeding.{FirstEvent, at_place_if_any, piece_events}
 use Rattle.dgt_decode.specs.Laws.{Call, OpenIsQuiet, PiecesAdd, events_of_chunks}
 use Rattle.dgt_decode.proofs.AnyChunks.{call_told}
 use Rattle.dgt_decode.proofs.Places.{events_behind-append, events_behind-events_behind, events_behind-zero}
-use Rattle.dgt_decode.proofs.More.{events-append}
+use Rattle.dgt_decode.proofs.Appending.{events-append}
 use Rattle.dgt_decode.proofs.Open.{IsOpen, nothing, waiting, IsOpen-open, events-of_open, length-open, open-append}
 use Rattle.dgt_decode.proofs.Steps.{IsHeld, IsHeld-open, next-begins, next-seven, verdict-new}
 

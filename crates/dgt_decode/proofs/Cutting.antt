@@ -13,7 +13,7 @@ use Rattle.dgt_decode.specs.Taking.{placed_content}
 use Rattle.dgt_decode.proofs.Verdicts.{verdict-bad, verdict-waits, verdict-whole}
 use Rattle.dgt_decode.proofs.Places.{events_behind-append, events_behind-events_behind, events_behind-zero, strays-append}
 use Rattle.dgt_decode.proofs.Cuts.{lead-append, segments-append}
-use Rattle.dgt_decode.proofs.More.{lead-is_seven, lead-seven, segments-seven}
+use Rattle.dgt_decode.proofs.Appending.{lead-is_seven, lead-seven, segments-seven}
 use Rattle.dgt_decode.proofs.SevenBit.{SevenByRecursion, are_seven}
 
 -- ---- The lead

@@ -7,7 +7,7 @@ use Rattle.dgt_decode.specs.Grammar.{Placed, events_behind, strays, has_top_bit,
 use Rattle.dgt_decode.specs.Laws.{CutsInto, IsSegment}
 use Rattle.dgt_decode.proofs.Cuts.{lead-append, segments-append}
 use Rattle.dgt_decode.proofs.Feeds.{nil_left}
-use Rattle.dgt_decode.proofs.More.{IsAlone, IsAlone-from, lead-is_seven, lead-seven, segments-seven}
+use Rattle.dgt_decode.proofs.Appending.{IsAlone, IsAlone-from, lead-is_seven, lead-seven, segments-seven}
 use Rattle.dgt_decode.proofs.SevenBit.{SevenByRecursion, are_seven, by_recursion}
 
 -- the parts in a row are the list

@@ -5,7 +5,7 @@ use Rattle.std.proofs.Math.Seq.{take-add, take-length}
 use Rattle.std.proofs.lemmas.Bool.{cases_order}
 use Rattle.dgt_decode.specs.Grammar.{Event, Placed, at_place, events}
 use Rattle.dgt_decode.specs.Feeding.{FirstEvent, at_place_if_any}
-use Rattle.dgt_decode.proofs.More.{events-append}
+use Rattle.dgt_decode.proofs.Appending.{events-append}
 
 -- a list without elements has none at its front
 pub nil_left : (xs ys : List Placed) → xs ++ ys ≡ [] → xs ≡ []

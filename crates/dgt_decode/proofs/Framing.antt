@@ -11,7 +11,7 @@ use Rattle.dgt_decode.specs.Grammar.{BadLength, Cut, Stray, at_place, message_ev
 use Rattle.dgt_decode.specs.Feeding.{IsWholeMessage, at_place_if_any, event_found_in}
 use Rattle.dgt_decode.specs.Taking.{Frames, FramesFront, IsKept}
 use Rattle.dgt_decode.proofs.Verdicts.{announced_total-append}
-use Rattle.dgt_decode.proofs.More.{IsAlone}
+use Rattle.dgt_decode.proofs.Appending.{IsAlone}
 use Rattle.dgt_decode.proofs.Wholes.{whole_open}
 use Rattle.dgt_decode.proofs.Feeds.{first_of_run}
 use Rattle.dgt_decode.proofs.Steps.{IsHeld, IsHeld-open, IsAlone-more, alone_held, first-begins, first-stray, next-begins, next-short, next-bad, next-waits, next-whole}

@@ -2,7 +2,7 @@ pub mod SevenBit
 pub mod Places
 pub mod Cuts
 pub mod Verdicts
-pub mod More
+pub mod Appending
 pub mod Open
 pub mod Anew
 pub mod Wholes
@@ -17,7 +17,7 @@ pub mod AnyChunks
 pub mod ChunkEvents
 pub mod Cutting
 pub mod Chunks
-pub mod Runs
+pub mod BodyRuns
 pub mod Beginnings
 pub mod Equal
 pub mod FieldLemmas

@@ -8,7 +8,7 @@ use Rattle.std.proofs.lemmas.List.{append-nil, length-append, length-drop, lengt
 use Rattle.dgt_decode.specs.Grammar.{Event, at_place, events_behind, events, open_message}
 use Rattle.dgt_decode.specs.Feeding.{FirstEvent, IsWholeMessage, at_place_if_any, event_found_in}
 use Rattle.dgt_decode.specs.Taking.{Frames, FramesFront}
-use Rattle.dgt_decode.proofs.More.{events-append}
+use Rattle.dgt_decode.proofs.Appending.{events-append}
 use Rattle.dgt_decode.proofs.Open.{events-of_open, open-append, length-open}
 use Rattle.dgt_decode.proofs.Steps.{IsHeld, IsOpen-held}
 use Rattle.dgt_decode.proofs.Feeds.{FirstEvent-some, first_of_run}

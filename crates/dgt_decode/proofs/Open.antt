@@ -5,7 +5,7 @@ use Rattle.dgt_decode.specs.Grammar.{Placed, lead, segments, verdict, segment_ev
 use Rattle.dgt_decode.proofs.Places.{events_behind-zero}
 use Rattle.dgt_decode.proofs.Cuts.{segments_with, segments-append}
 use Rattle.dgt_decode.proofs.Verdicts.{verdict-append}
-use Rattle.dgt_decode.proofs.More.{IsAlone, AreAlone, AreAlone-segments, settled-open, length-cut}
+use Rattle.dgt_decode.proofs.Appending.{IsAlone, AreAlone, AreAlone-segments, settled-open, length-cut}
 
 -- ---- One segment
 

@@ -12,7 +12,7 @@ use Rattle.dgt_decode.specs.Feeding.{IsWholeMessage}
 use Rattle.dgt_decode.specs.Laws.{Sent, sent_bytes, arrivals, SpellingIsRead}
 use Rattle.dgt_decode.proofs.Places.{events_behind-append, events_behind-events_behind, events_behind-zero}
 use Rattle.dgt_decode.proofs.Cuts.{lead-append, segments-append}
-use Rattle.dgt_decode.proofs.More.{IsAlone, events-append, cut_before-nothing}
+use Rattle.dgt_decode.proofs.Appending.{IsAlone, events-append, cut_before-nothing}
 use Rattle.dgt_decode.proofs.Open.{IsOpen, nothing, waiting, IsOpen-open, length-open, open-append}
 use Rattle.dgt_decode.proofs.Wholes.{IsAlone-whole, verdict-of_whole, whole_open}
 

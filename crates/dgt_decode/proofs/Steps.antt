@@ -7,7 +7,7 @@ use Rattle.dgt_decode.specs.Grammar.{Cut, BadLength, Stray, Placed, at_place, ev
 use Rattle.dgt_decode.proofs.Places.{events_behind-zero}
 use Rattle.dgt_decode.proofs.Cuts.{lead-append, segments-append}
 use Rattle.dgt_decode.proofs.Verdicts.{verdict-short, verdict-bad, verdict-waits, verdict-whole, verdict-full, Stage, short, waits, bad, whole, stage_of, announced_total-append}
-use Rattle.dgt_decode.proofs.More.{IsAlone, IsAlone-from, lead-seven, segments-seven}
+use Rattle.dgt_decode.proofs.Appending.{IsAlone, IsAlone-from, lead-seven, segments-seven}
 use Rattle.dgt_decode.proofs.Open.{IsOpen, nothing, waiting, IsOpen-open, open-of_open, events-of_open, events-alone, open-alone}
 use Rattle.dgt_decode.proofs.SevenBit.{SevenByRecursion}
 

@@ -4,7 +4,7 @@ use Rattle.std.specs.Prelude.{slice_index}
 use Rattle.dgt_decode.specs.Grammar.{at_place, message_event, verdict, open_message}
 use Rattle.dgt_decode.specs.Feeding.{IsWholeMessage}
 use Rattle.dgt_decode.proofs.Verdicts.{verdict-full}
-use Rattle.dgt_decode.proofs.More.{IsAlone, IsAlone-from}
+use Rattle.dgt_decode.proofs.Appending.{IsAlone, IsAlone-from}
 use Rattle.dgt_decode.proofs.Open.{open-alone}
 use Rattle.dgt_decode.proofs.SevenBit.{SevenByRecursion, by_recursion}
 

@@ -184,7 +184,7 @@ impl Framer {
             if let Some((square, piece)) = field_update(self.kept.as_slice()) {
                 return Event::Message(Message::Field { square, piece });
             }
-            return self.message_event();
+            return self.read_message();
         }
         // In one `match` with messages these would make a field take half as long again.
         match found {
@@ -197,7 +197,7 @@ impl Framer {
     // The event of the message that is kept. Not inlined: a field would then be copied through its
     // room for an event.
     #[inline(never)]
-    fn message_event(&self) -> Event<'_>
+    fn read_message(&self) -> Event<'_>
         requires { IsWholeMessage self.now }
         ensures { event_content result ≡ message_event self.now }
     {

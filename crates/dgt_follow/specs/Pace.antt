@@ -1,7 +1,7 @@
 -- When a follower asks its board, and what: what it counts and what it notes of the messages.
 use Rattle.std.specs.Prelude.{◌≡◌, ℕ, ◌+◌, ◌-◌, ◌/◌, ◌^◌, nat_le, nat_lt, List, [], ◌∷◌, ◌++◌, Option, Some, None, is_some, Bool, false, true, not, ◌&&◌, ◌||◌, if◌then◌else◌}
 use Rattle.dgt_values.specs.declared.kinds.Kind.{Kind}
-use Rattle.dgt_message.specs.Content.{Content, kind_of}
+use Rattle.dgt_message.specs.Content.{Content, answered_kind}
 use Rattle.dgt_command.specs.Content.{CommandContent}
 use Rattle.dgt_command.specs.Spelling.{command_spelling}
 use Rattle.dgt_decode.specs.Grammar.{Event, Message}
@@ -45,7 +45,7 @@ is_unasked (first ∷ more) (Some kind) = not (is_same_kind first kind)
 
 -- a cut, refused, misstated or stray message, or one that is unasked
 abbrev pub disturbs : List Kind → Event → Bool
-disturbs awaited (Message said) = is_unasked awaited (kind_of said)
+disturbs awaited (Message said) = is_unasked awaited (answered_kind said)
 disturbs awaited _ = true
 
 -- a dump that is awaited
@@ -94,8 +94,8 @@ abbrev pub due_time : PaceView → ℕ
 due_time pace = time_after pace.asked (wait pace)
 
 -- this time, if any time in milliseconds is as late
-abbrev pub due_at : PaceView → Option ℕ
-due_at pace = if nat_lt (due_time pace) (2 ^ 64) then Some (due_time pace) else None
+abbrev pub next_due : PaceView → Option ℕ
+next_due pace = if nat_lt (due_time pace) (2 ^ 64) then Some (due_time pace) else None
 
 -- ---- what it asks
 

@@ -5,12 +5,12 @@ ghost use Rattle.std.specs.List.{FoldsTo};
 ghost use Rattle.dgt_values.specs.Board.{pieces_of};
 ghost use Rattle.dgt_values.specs.declared.kinds.Kind.{Kind};
 ghost use Rattle.dgt_message.specs.Content.{clock_seen};
-ghost use Rattle.dgt_command.specs.Content.{command_content, kind_of_command};
+ghost use Rattle.dgt_command.specs.Content.{command_content, requested_kind};
 ghost use Rattle.dgt_command.specs.Spelling.{SpellsCommand, command_spelling};
 ghost use Rattle.dgt_decode.specs.Grammar.{Event as EventSaid};
 ghost use Rattle.dgt_decode.specs.Feeding.{FirstEvent, at_place_if_any, event_content_if_any};
 ghost use Rattle.dgt_host.specs.Host.{Sends, awaits_too_many};
-ghost use Rattle.dgt_follow.specs.Pace.{clock_request, due_at};
+ghost use Rattle.dgt_follow.specs.Pace.{clock_request, next_due};
 ghost use Rattle.dgt_follow.specs.Follower.{Asks, HostAsks, asking_of, follower_after, following, new_follower};
 
 use crate::asking::{Asking, UpdateMode};
@@ -194,7 +194,7 @@ impl Follower {
         ensures { Asks (asking_of self.old now) now self.old self.new out.old out.new result }
     {
         let full = self.host.awaited().len() >= MAX_AWAITED;
-        let asking = self.pace.asking(full, now);
+        let asking = self.pace.next_asking(full, now);
         let mode = self.pace.mode();
         let written = match asking {
             Asking::Nothing => 0,
@@ -208,7 +208,7 @@ impl Follower {
     /// The first time at which [`Follower::ask`] writes, if nothing is heard before: 0 if it has
     /// never asked. `None` if that is past the last time that a `u64` counts.
     pub fn due_at(&self) -> Option<u64>
-        ensures { result ≡ due_at self.now.pace }
+        ensures { result ≡ next_due self.now.pace }
     {
         self.pace.due_at()
     }
@@ -218,7 +218,7 @@ impl Follower {
     /// After `Reset` the board reports no change until the next asking.
     pub fn send(&mut self, command: &Command<'_>, out: &mut [u8]) -> Result<usize, SendFault>
         ensures sends { let said = command_content command.now in
-            Sends (record { kind = kind_of_command said; bytes = command_spelling said })
+            Sends (record { kind = requested_kind said; bytes = command_spelling said })
             self.old.host self.new.host out.old out.new result }
         ensures spells { let said = command_content command.now in
             OnOk result (SpellsCommand said (command_spelling said)) }

@@ -4,7 +4,7 @@ ghost use Rattle.std.specs.Prelude.{◌≡◌, ◌↔◌, ◌≤◌, ◌&&◌, �
 ghost use Rattle.dgt_values.specs.declared.kinds.Kind.{Kind};
 ghost use Rattle.dgt_decode.specs.Feeding.{event_content, event_content_if_any};
 ghost use Rattle.dgt_host.specs.Host.{IsUnasked};
-ghost use Rattle.dgt_follow.specs.Pace.{asking, disturbs, due_at, due_time, heard_at, is_answer, is_unanswered, new_pace, pace_after_asking, pace_after_event, pace_after_event_if_any, trusts, wait};
+ghost use Rattle.dgt_follow.specs.Pace.{asking, disturbs, next_due, due_time, heard_at, is_answer, is_unanswered, new_pace, pace_after_asking, pace_after_event, pace_after_event_if_any, trusts, wait};
 
 use crate::asking::{Asking, UpdateMode};
 use dgt_host::{Event, Message};
@@ -47,7 +47,7 @@ impl Model for Pace {
 }
 
 // Whether an event is one that a sound line and board don't send.
-fn disturbs(event: &Event<'_>, unasked: bool) -> bool
+fn is_disturbance(event: &Event<'_>, unasked: bool) -> bool
     ensures { (awaited : List Kind) →
         (IsTrue unasked ↔ IsUnasked awaited (Some (event_content event.now))) →
         result ≡ disturbs awaited (event_content event.now) }
@@ -59,7 +59,7 @@ fn disturbs(event: &Event<'_>, unasked: bool) -> bool
 }
 
 // Whether an event is a dump that was awaited.
-fn is_answer(event: &Event<'_>, unasked: bool) -> bool
+fn is_awaited_dump(event: &Event<'_>, unasked: bool) -> bool
     ensures { (awaited : List Kind) →
         (IsTrue unasked ↔ IsUnasked awaited (Some (event_content event.now))) →
         result ≡ is_answer awaited (event_content event.now) }
@@ -84,7 +84,7 @@ fn stays_doubtful(doubtful: bool, disturbs: bool, answers: bool) -> bool
 }
 
 // When the last whole message came, after an event, if this was so before it.
-fn heard_at(before: Option<u64>, now: u64, event: &Event<'_>) -> Option<u64>
+fn last_heard(before: Option<u64>, now: u64, event: &Event<'_>) -> Option<u64>
     ensures { result ≡ heard_at before now (event_content event.now) }
 {
     match event {
@@ -113,7 +113,7 @@ impl Pace {
     }
 
     // How long to wait after the last asking.
-    fn wait(&self) -> u64
+    fn waiting_time(&self) -> u64
         ensures { result ≡ wait self.now }
     {
         if self.disturbed {
@@ -125,11 +125,11 @@ impl Pace {
 
     /// The first time at which it asks. `None` if that is past the last time that a `u64` counts.
     pub fn due_at(&self) -> Option<u64>
-        ensures { result ≡ due_at self.now }
+        ensures { result ≡ next_due self.now }
     {
         match self.asked {
             None => Some(0),
-            Some(asked) => asked.checked_add(self.wait()),
+            Some(asked) => asked.checked_add(self.waiting_time()),
         }
     }
 
@@ -144,19 +144,19 @@ impl Pace {
     }
 
     // Whether a heartbeat is enough.
-    fn trusts(&self, full: bool) -> bool
+    fn heartbeat_suffices(&self, full: bool) -> bool
         ensures { result ≡ trusts self.now full }
     {
         self.asked.is_some() && self.answered && !self.disturbed && !full && self.left > 0
     }
 
     /// What it asks at this time. `full` says whether the host awaits as many replies as it can.
-    pub fn asking(&self, full: bool, now: u64) -> Asking
+    pub fn next_asking(&self, full: bool, now: u64) -> Asking
         ensures { result ≡ asking self.now full now }
     {
         if !self.is_due(now) {
             Asking::Nothing
-        } else if self.trusts(full) {
+        } else if self.heartbeat_suffices(full) {
             Asking::Heartbeat
         } else {
             Asking::Anew
@@ -172,7 +172,7 @@ impl Pace {
             Asking::Heartbeat => self.left.saturating_sub(1),
             Asking::Anew => self.patience,
         };
-        self.doubtful = self.doubtful || self.is_unanswered();
+        self.doubtful = self.doubtful || self.awaits_answer();
         self.left = left;
         self.asked = Some(now);
         self.answered = false;
@@ -180,7 +180,7 @@ impl Pace {
     }
 
     // Whether the last asking has no answer yet.
-    fn is_unanswered(&self) -> bool
+    fn awaits_answer(&self) -> bool
         ensures { result ≡ is_unanswered self.now }
     {
         self.asked.is_some() && !self.answered
@@ -192,12 +192,12 @@ impl Pace {
             (IsTrue unasked ↔ IsUnasked awaited (Some (event_content event.now))) →
             self.new ≡ pace_after_event self.old now awaited (event_content event.now) }
     {
-        let disturbs = disturbs(event, unasked);
-        let answers = is_answer(event, unasked);
+        let disturbs = is_disturbance(event, unasked);
+        let answers = is_awaited_dump(event, unasked);
         self.answered = either(answers, self.answered);
         self.disturbed = either(disturbs, self.disturbed);
         self.doubtful = stays_doubtful(self.doubtful, disturbs, answers);
-        self.heard = heard_at(self.heard, now, event);
+        self.heard = last_heard(self.heard, now, event);
     }
 
     /// Notes the event that was heard at this time, if there is one. `unasked` says whether it is a

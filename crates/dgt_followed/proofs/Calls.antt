@@ -1,6 +1,6 @@
 -- What the calls of a follower do is what happens to it and to the world of its host.
 use Rattle.std.proofs.Common.{◌≡◌, ◌<◌, false, Ok, refl, ap, ℕ, List, length, take, rules}
-use Rattle.dgt_command.specs.Content.{CommandContent, kind_of_command}
+use Rattle.dgt_command.specs.Content.{CommandContent, requested_kind}
 use Rattle.dgt_command.specs.Spelling.{SpellsCommand, command_spelling}
 use Rattle.dgt_host.specs.Host.{HostView, Sends, host_after, host_awaiting}
 use Rattle.dgt_follow.specs.Pace.{KeepsCount, asking_bytes}
@@ -61,7 +61,7 @@ hear_happens hosts counts before now count asked some =
 
 pub send_happens : (before : FollowedView) (command : CommandContent) (after : HostView) (written : ℕ)
     (old new : List ℕ)
-    → Sends (record { kind = kind_of_command command; bytes = command_spelling command }) before.world.host after old
+    → Sends (record { kind = requested_kind command; bytes = command_spelling command }) before.world.host after old
     new (Ok written)
     → SpellsCommand command (command_spelling command) → HasRoom before.world.down (command_spelling command)
     → FollowedStep (Happening.Other (sends command)) before (record {
@@ -74,7 +74,7 @@ send_happens before command after written old new sent spells room =
     let free = fits before.world.down (command_spelling command) room in
     let front : take written new ≡ command_spelling command
     = front_of (command_spelling command) old new written sent.1 sent.3 in
-    let host : after ≡ host_awaiting before.world.host (kind_of_command command) = sent.4 in (
+    let host : after ≡ host_awaiting before.world.host (requested_kind command) = sent.4 in (
       Outcome.Done,
       record {
         answers = rw (sent.0, free) refl;

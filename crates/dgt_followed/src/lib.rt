@@ -14,7 +14,7 @@
 #![tactic(auto)]
 
 ghost use Rattle.std.specs.Prelude.{◌≡◌, ◌<◌, ℕ, List, Some, length, take};
-ghost use Rattle.dgt_command.specs.Content.{CommandContent, kind_of_command};
+ghost use Rattle.dgt_command.specs.Content.{CommandContent, requested_kind};
 ghost use Rattle.dgt_command.specs.Spelling.{SpellsCommand, command_spelling};
 ghost use Rattle.dgt_host.specs.Host.{HostView, Sends};
 ghost use Rattle.dgt_follow.specs.Pace.{asking_bytes};
@@ -68,7 +68,7 @@ pub fn calls_are_happenings()
         }) }
     ensures send { (before : FollowedView) (command : CommandContent) (after : HostView)
         (written : ℕ) (old new : List ℕ) →
-        Sends (record { kind = kind_of_command command; bytes = command_spelling command })
+        Sends (record { kind = requested_kind command; bytes = command_spelling command })
         before.world.host after old new (Ok written) →
         SpellsCommand command (command_spelling command) →
         HasRoom before.world.down (command_spelling command) →

@@ -5,7 +5,7 @@ use Rattle.dgt_values.specs.declared.pieces.Piece.{Piece}
 use Rattle.dgt_values.specs.declared.positions.Position.{Position}
 use Rattle.dgt_values.specs.Board.{pieces_of}
 use Rattle.dgt_message.specs.declared.clock.Clock.{Clock}
-use Rattle.dgt_message.specs.Content.{Content, clock_seen, kind_of}
+use Rattle.dgt_message.specs.Content.{Content, clock_seen, answered_kind}
 use Rattle.dgt_message.specs.Content.Content.{dump, field, times, no_clock}
 use Rattle.dgt_message.specs.Clock.{ClockState}
 use Rattle.dgt_command.specs.Content.CommandContent.{Dump, UpdateBoard}
@@ -75,7 +75,7 @@ awaited_after (first ∷ more) (Some kind) = if is_same_kind first kind then mor
 -- a message of a kind that is not the first awaited
 abbrev pub IsUnasked : List Kind → Option Event → Type 0
 IsUnasked awaited (Some (Message said)) =
-    (kind : Kind) × (kind_of said ≡ Some kind) × (slice_get awaited 0 ≢ Some kind)
+    (kind : Kind) × (answered_kind said ≡ Some kind) × (slice_get awaited 0 ≢ Some kind)
 IsUnasked awaited _ = ⊥
 
 abbrev pub host_after_message : HostView → Content → HostView
@@ -83,7 +83,7 @@ host_after_message host said =
     record host {
       picture = picture_after host.picture said;
       clock = clock_after host.clock said;
-      awaited = awaited_after host.awaited (kind_of said);
+      awaited = awaited_after host.awaited (answered_kind said);
     }
 
 -- the host after an event: only a message changes it

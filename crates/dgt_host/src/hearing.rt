@@ -2,7 +2,7 @@
 
 ghost use Rattle.std.specs.Prelude.{◌≡◌, ◌↔◌, ℕ, List, IsTrue, Some, option_map};
 ghost use Rattle.dgt_values.specs.Board.{pieces_of};
-ghost use Rattle.dgt_message.specs.Content.{clock_seen, content, kind_of};
+ghost use Rattle.dgt_message.specs.Content.{clock_seen, content, answered_kind};
 ghost use Rattle.dgt_decode.specs.Feeding.{event_content};
 ghost use Rattle.dgt_host.specs.Host.{IsUnasked, awaited_after, clock_after, host_after_event, host_seen, is_same_kind, picture_after};
 
@@ -65,7 +65,7 @@ fn is_same(first: Kind, second: Kind) -> bool
 // kind that isn't.
 fn take_off(awaited: &mut ArrayVec<Kind, MAX_AWAITED>, message: &Message<'_>) -> bool
     ensures awaited { awaited.new.items
-        ≡ awaited_after awaited.old.items (kind_of (content message.now)) }
+        ≡ awaited_after awaited.old.items (answered_kind (content message.now)) }
     ensures unasked { IsTrue result
         ↔ IsUnasked awaited.old.items (Some (event_content (Event.Message message.now))) }
 {

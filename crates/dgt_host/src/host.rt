@@ -5,7 +5,7 @@ ghost use Rattle.std.specs.Borrow.{sem};
 ghost use Rattle.std.specs.Io.BufRead.{Rests};
 ghost use Rattle.dgt_values.specs.Board.{pieces_of};
 ghost use Rattle.dgt_message.specs.Content.{clock_seen};
-ghost use Rattle.dgt_command.specs.Content.{command_content, kind_of_command};
+ghost use Rattle.dgt_command.specs.Content.{command_content, requested_kind};
 ghost use Rattle.dgt_command.specs.Spelling.{command_spelling, SpellsCommand};
 ghost use Rattle.dgt_decode.specs.Grammar.{open_message};
 ghost use Rattle.dgt_decode.specs.Feeding.{FirstEvent, event_content_if_any};
@@ -75,14 +75,14 @@ impl Host {
     /// slice is shorter than the command.
     pub fn send(&mut self, command: &Command<'_>, out: &mut [u8]) -> Result<usize, SendFault>
         ensures sends { let said = command_content command.now in
-            Sends (record { kind = kind_of_command said; bytes = command_spelling said })
+            Sends (record { kind = requested_kind said; bytes = command_spelling said })
             self.old self.new out.old out.new result }
         ensures spells { let said = command_content command.now in
             OnOk result (SpellsCommand said (command_spelling said)) }
         ensures limit { length (command_spelling (command_content command.now)) ≤ MAX_WORD }
     {
         let kind = kind_of_command(command);
-        if self.awaits_too_many(kind) {
+        if self.lacks_room_for(kind) {
             return Err(SendFault::TooMany);
         }
         let need = length(command);
@@ -171,7 +171,7 @@ impl Host {
         count
     }
 
-    fn awaits_too_many(&self, kind: Option<Kind>) -> bool
+    fn lacks_room_for(&self, kind: Option<Kind>) -> bool
         ensures { result ≡ awaits_too_many self.now kind }
     {
         kind.is_some() && self.awaited.is_full()

@@ -4,40 +4,41 @@ use Rattle.std.proofs.lemmas.List.Elements.{All-head, All-nil, All-tail, filter_
 use Rattle.std.specs.Prelude.{filter_map, slice_get}
 use Rattle.std.specs.List.{cons_option}
 use Rattle.dgt_values.specs.declared.kinds.Kind.{Kind}
-use Rattle.dgt_message.specs.Content.{Content, kind_of}
+use Rattle.dgt_message.specs.Content.{Content, answered_kind}
 use Rattle.dgt_decode.specs.Grammar.{Event}
 use Rattle.dgt_host.specs.Host.{IsUnasked}
 use Rattle.dgt_link.specs.Machine.{MachineState}
 use Rattle.dgt_link.specs.Sound.{IsExact, kind_of_event, kind_of_reply}
 
 -- messages without a kind come for nothing that is awaited
-no_kinds : (messages : List Content) → All (λ other. kind_of other ≡ None) messages → filter_map kind_of messages ≡ []
+no_kinds : (messages : List Content) → All (λ other. answered_kind other ≡ None) messages
+    → filter_map answered_kind messages ≡ []
 no_kinds [] none = refl
 no_kinds (message ∷ messages) none =
-    ap (λ (kind : Option Kind). cons_option kind (filter_map kind_of messages))
-    (All-head (λ other. kind_of other ≡ None) message messages none)
-    ∙ no_kinds messages (All-tail (λ other. kind_of other ≡ None) message messages none)
+    ap (λ (kind : Option Kind). cons_option kind (filter_map answered_kind messages))
+    (All-head (λ other. answered_kind other ≡ None) message messages none)
+    ∙ no_kinds messages (All-tail (λ other. answered_kind other ≡ None) message messages none)
 
 first_kinds : (before later : List Content) (message : Content) (kind : Kind)
-    → All (λ other. kind_of other ≡ None) before → kind_of message ≡ Some kind
-    → filter_map kind_of (before ++ message ∷ later) ≡ kind ∷ filter_map kind_of later
+    → All (λ other. answered_kind other ≡ None) before → answered_kind message ≡ Some kind
+    → filter_map answered_kind (before ++ message ∷ later) ≡ kind ∷ filter_map answered_kind later
 first_kinds before later message kind none is =
-    filter_map-append kind_of before (message ∷ later)
-    ∙ ap (λ (kinds : List Kind). kinds ++ filter_map kind_of (message ∷ later)) (no_kinds before none)
-    ∙ ap (λ (kind : Option Kind). cons_option kind (filter_map kind_of later)) is
+    filter_map-append answered_kind before (message ∷ later)
+    ∙ ap (λ (kinds : List Kind). kinds ++ filter_map answered_kind (message ∷ later)) (no_kinds before none)
+    ∙ ap (λ (kind : Option Kind). cons_option kind (filter_map answered_kind later)) is
 
 pub first_answer : (x : MachineState) (before later : List Content) (message : Content) (kind : Kind) → IsExact x
-    → x.up ≡ before ++ message ∷ later → All (λ other. kind_of other ≡ None) before → kind_of message ≡ Some kind
-    → (others : List Kind) × (x.awaited ≡ kind ∷ others)
+    → x.up ≡ before ++ message ∷ later → All (λ other. answered_kind other ≡ None) before
+    → answered_kind message ≡ Some kind → (others : List Kind) × (x.awaited ≡ kind ∷ others)
 first_answer x before later message kind exact e none is = (
-  filter_map kind_of later ++ (filter_map kind_of_reply x.board.owed ++ filter_map kind_of_event x.down),
+  filter_map answered_kind later ++ (filter_map kind_of_reply x.board.owed ++ filter_map kind_of_event x.down),
   exact.awaited ∙ ap (λ (kinds : List Kind). kinds ++
       (filter_map kind_of_reply x.board.owed ++ filter_map kind_of_event x.down))
-      (ap (filter_map kind_of) e ∙ first_kinds before later message kind none is),
+      (ap (filter_map answered_kind) e ∙ first_kinds before later message kind none is),
 )
 
 pub never_unasked : (x : MachineState) (later : List Content) (message : Content) → IsExact x → x.up ≡ message ∷ later
     → ¬ (IsUnasked x.awaited (Some (Event.Message message)))
 never_unasked x later message exact e (kind, is, other) =
     other (ap (λ (kinds : List Kind). slice_get kinds 0)
-    (first_answer x [] later message kind exact e (All-nil (λ other. kind_of other ≡ None)) is).1)
+    (first_answer x [] later message kind exact e (All-nil (λ other. answered_kind other ≡ None)) is).1)

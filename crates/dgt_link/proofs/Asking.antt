@@ -11,7 +11,7 @@ use Rattle.dgt_link.specs.Machine.{IsHostBreak, IsSending, MachineState, Move, a
 use Rattle.dgt_link.specs.Promise.{IsAskedBy, IsPromised, IsRestarted, PictureIsComing, act_requests, coming_mode, mode_after, requests, run_requests}
 use Rattle.dgt_link.proofs.Lists.{all_append, all_replicate}
 use Rattle.dgt_link.proofs.Promises.{anew_is_promised, dump_asked, picture_keeps_coming}
-use Rattle.dgt_link.proofs.Runs.{moves-mode, moves_promise}
+use Rattle.dgt_link.proofs.AfterMoves.{moves-mode, moves_promise}
 
 -- ---- what moves ask is what their acts ask
 

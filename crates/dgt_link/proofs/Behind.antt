@@ -6,10 +6,10 @@ use Rattle.std.proofs.lemmas.Grind.{flat_map-append}
 use Rattle.std.specs.List.{flat_map}
 use Rattle.dgt_values.specs.declared.pieces.Piece.{Piece}
 use Rattle.dgt_values.specs.declared.kinds.Kind.{Kind}
-use Rattle.dgt_message.specs.Content.{Content, IsMessage, kind_of}
+use Rattle.dgt_message.specs.Content.{Content, IsMessage, answered_kind}
 use Rattle.dgt_message.specs.Clock.{ClockState}
 use Rattle.dgt_message.specs.Spelling.{spelling}
-use Rattle.dgt_command.specs.Content.{CommandContent, kind_of_command}
+use Rattle.dgt_command.specs.Content.{CommandContent, requested_kind}
 use Rattle.dgt_board.specs.State.{BoardState, after_change, after_hand_clock}
 use Rattle.dgt_board.specs.Sending.{after_sending, next_message}
 use Rattle.dgt_decode.specs.Grammar.{Event, Message, Placed, cut_of, events, events_behind, open_message}
@@ -26,7 +26,7 @@ use Rattle.dgt_link.specs.Healing.{AwaitsWhatComes, StandsBehind, StandsBehindAf
 use Rattle.dgt_link.proofs.Dividing.{divides_command}
 use Rattle.dgt_link.proofs.Hearing.{heard_front, host_after_messages}
 use Rattle.dgt_link.proofs.Lists.{IsShorter, Reaches, all_append, fronts, not_empty}
-use Rattle.dgt_link.proofs.Runs.{moves_sound}
+use Rattle.dgt_link.proofs.AfterMoves.{moves_sound}
 use Rattle.dgt_link.proofs.Sending.{next_is_sent}
 use Rattle.dgt_link.proofs.Soundness.{ask-kinds, asked_sound, move_sound}
 use Rattle.dgt_link.proofs.Subsequences.{awaited_after-subsequence, subsequence_append, subsequence_later}
@@ -83,7 +83,7 @@ awaited_after_stays awaited (Some kind) kinds h =
 
 event_awaits : (host : HostView) (event : Event) (kinds : List Kind) → IsSubsequence host.awaited kinds
     → IsSubsequence (host_after_event host event).awaited kinds
-event_awaits host (Message said) kinds h = awaited_after_stays host.awaited (kind_of said) kinds h
+event_awaits host (Message said) kinds h = awaited_after_stays host.awaited (answered_kind said) kinds h
 event_awaits host _ kinds h = h
 
 events_await : (host : HostView) (told : List Placed) (kinds : List Kind) → IsSubsequence host.awaited kinds
@@ -98,7 +98,7 @@ same_awaited : (host other : HostView) (messages : List Content) → host.awaite
 same_awaited host other [] e = e
 same_awaited host other (message ∷ messages) e =
     same_awaited (host_after_message host message) (host_after_message other message) messages
-    (ap (λ (awaited : List Kind). awaited_after awaited (kind_of message)) e)
+    (ap (λ (awaited : List Kind). awaited_after awaited (answered_kind message)) e)
 
 -- the state whose host awaits this
 abbrev pub awaiting : MachineState → List Kind → MachineState
@@ -311,7 +311,7 @@ module _ (laws : Grammars) where
               stands.down spells,
         )),
     rw same (λ a. rw (ask-kinds x command)
-        (subsequence_append world.host.awaited (coming_kinds x) (option_to_list (kind_of_command command)) a)),
+        (subsequence_append world.host.awaited (coming_kinds x) (option_to_list (requested_kind command)) a)),
   )
 
   send_behind : (garbage : List ℕ) (world after : WorldView) (x : MachineState) → StandsBehind garbage world x

@@ -18,7 +18,7 @@ use Rattle.dgt_link.specs.View.{WorldView}
 use Rattle.dgt_link.proofs.Asking.{mode-step}
 use Rattle.dgt_link.proofs.Behind.{ActsBehind}
 use Rattle.dgt_link.proofs.Counting.{forgotten, garbled_stands, plain_step}
-use Rattle.dgt_link.proofs.Running.{run_keeps}
+use Rattle.dgt_link.proofs.ActRuns.{run_keeps}
 use Rattle.dgt_link.proofs.Settling.{by_settling}
 
 -- the mode to come asks for changes

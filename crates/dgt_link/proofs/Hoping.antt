@@ -21,7 +21,7 @@ use Rattle.dgt_link.proofs.Counting.{Follows as Counted, break_follows, follows_
 use Rattle.dgt_link.proofs.Hopes.{Follows, Hope, asked_promises, garbled, kept, led, other_following, other_promised}
 use Rattle.dgt_link.proofs.Settling.{by_settling}
 use Rattle.dgt_link.proofs.Promises.{coming_promise}
-use Rattle.dgt_link.proofs.Running.{run_keeps}
+use Rattle.dgt_link.proofs.ActRuns.{run_keeps}
 
 -- ---- it is a hope
 

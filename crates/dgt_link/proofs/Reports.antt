@@ -27,7 +27,7 @@ use Rattle.dgt_link.proofs.Asking.{step_is_other}
 use Rattle.dgt_link.proofs.Counting.{forgotten, forgotten_stands}
 use Rattle.dgt_link.proofs.Promises.{picture_after_known}
 use Rattle.dgt_link.proofs.Lists.{all_append, left_empty, right_empty}
-use Rattle.dgt_link.proofs.Runs.{moves_sound}
+use Rattle.dgt_link.proofs.AfterMoves.{moves_sound}
 use Rattle.dgt_link.proofs.Standing.{moves-append}
 
 -- ---- lists

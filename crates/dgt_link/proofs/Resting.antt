@@ -2,7 +2,7 @@
 use Rattle.std.specs.Prelude.{slice_get}
 use Rattle.std.proofs.Common.{◌≡◌, refl, ◌∙◌, List, [], ◌∷◌, ◌++◌, Some, None, All, IsTrue}
 use Rattle.dgt_values.specs.declared.kinds.Kind.{Kind}
-use Rattle.dgt_message.specs.Content.{Content, kind_of}
+use Rattle.dgt_message.specs.Content.{Content, answered_kind}
 use Rattle.dgt_command.specs.Laws.{EachDividesOnce}
 use Rattle.dgt_board.specs.State.{follows_clock, updates}
 use Rattle.dgt_board.specs.Sending.{pending_messages}
@@ -24,8 +24,8 @@ world_fold world x stands = rw (stands.picture, stands.board) stands.sound.pictu
 -- the answers come in the order of what is awaited
 pub world_first_answer : (world : WorldView) (x : MachineState) (before later : List Content) (message : Content)
     (kind : Kind)
-    → StandsFor world x → IsExact x → x.up ≡ before ++ message ∷ later → All (λ said. kind_of said ≡ None) before
-    → kind_of message ≡ Some kind → (others : List Kind) × (world.host.awaited ≡ kind ∷ others)
+    → StandsFor world x → IsExact x → x.up ≡ before ++ message ∷ later → All (λ said. answered_kind said ≡ None) before
+    → answered_kind message ≡ Some kind → (others : List Kind) × (world.host.awaited ≡ kind ∷ others)
 world_first_answer world x before later message kind stands exact e none is =
     let answer = first_answer x before later message kind exact e none is in
     (answer.0, stands.awaited ∙ answer.1)

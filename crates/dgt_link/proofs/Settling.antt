@@ -30,13 +30,13 @@ use Rattle.dgt_link.specs.Settling.{AreInOrder, IsNext, IsSettling, SettlesIn, s
 use Rattle.dgt_link.specs.Work.{work_left}
 use Rattle.dgt_link.specs.Sound.{IsUnknownOr}
 use Rattle.dgt_link.proofs.Backlogs.{BacklogFalls, BacklogRises}
-use Rattle.dgt_link.proofs.Halves.{Leads}
+use Rattle.dgt_link.proofs.PromisedActs.{Leads}
 use Rattle.dgt_link.proofs.Lists.{Contains-cons, all_append, nothing_contained, IsShorter, Reaches, fronts}
 use Rattle.dgt_link.specs.Readers.{Reads}
 use Rattle.dgt_link.proofs.Hearing.{held_alone, nothing_open}
 use Rattle.dgt_link.proofs.Resting.{quiet_state, world_awaits_nothing, world_clock_known, world_clock_told, world_picture}
 use Rattle.dgt_link.proofs.Resting.{world_picture_told}
-use Rattle.dgt_link.proofs.Running.{run-push, run_keeps}
+use Rattle.dgt_link.proofs.ActRuns.{run-push, run_keeps}
 use Rattle.dgt_link.proofs.Taking.{HasSameGame, effects_same_game}
 
 -- ---- each event has a byte of its own

@@ -8,9 +8,9 @@ use Rattle.std.specs.Prelude.{filter_map, map, option_to_list}
 use Rattle.std.specs.List.{cons_option}
 use Rattle.dgt_values.specs.declared.pieces.Piece.{Piece}
 use Rattle.dgt_values.specs.declared.kinds.Kind.{Kind}
-use Rattle.dgt_message.specs.Content.{Content, clock_message, kind_of}
+use Rattle.dgt_message.specs.Content.{Content, clock_message, answered_kind}
 use Rattle.dgt_message.specs.Clock.{ClockState}
-use Rattle.dgt_command.specs.Content.{CommandContent, EventContent, kind_of_command}
+use Rattle.dgt_command.specs.Content.{CommandContent, EventContent, requested_kind}
 use Rattle.dgt_board.specs.declared.replies.Reply.{Reply}
 use Rattle.dgt_board.specs.State.{IdentityContent, updates, effect}
 use Rattle.dgt_board.specs.Sending.{differs, field_of, reply_message}
@@ -34,14 +34,15 @@ owing x owed = record x { board = record x.board { owed = owed } }
 module _ (x : MachineState) (owed : List Reply) (message : Content)
     (tells : ToldIsHeard (record x.board { owed = owed }) message)
     (first : filter_map kind_of_reply x.board.owed
-    ≡ cons_option (kind_of message) (filter_map kind_of_reply owed)) where
+    ≡ cons_option (answered_kind message) (filter_map kind_of_reply owed)) where
   send-kinds : coming_kinds (after_told (owing x owed) message) ≡ coming_kinds x
   send-kinds =
       ap (λ (up : List Kind). up ++ (filter_map kind_of_reply owed ++ filter_map kind_of_event x.down))
-      (filter_map-append kind_of x.up (message ∷ []))
-      ∙ moved_over (filter_map kind_of x.up) (kind_of message) (filter_map kind_of_reply owed)
+      (filter_map-append answered_kind x.up (message ∷ []))
+      ∙ moved_over (filter_map answered_kind x.up) (answered_kind message) (filter_map kind_of_reply owed)
       (filter_map kind_of_event x.down)
-      ∙ ap (λ (owed : List Kind). filter_map kind_of x.up ++ (owed ++ filter_map kind_of_event x.down)) (sym first)
+      ∙ ap (λ (owed : List Kind). filter_map answered_kind x.up ++ (owed ++ filter_map kind_of_event x.down))
+      (sym first)
 
   send_sound : IsSound x → IsSound (after_told (owing x owed) message)
   send_sound sound =
@@ -77,24 +78,25 @@ reply_exact x (first ∷ rest) e exact =
     (rw e (rw (reply_message-kind x.board first))) exact
 
 tell_clock_first : (x : MachineState)
-    → filter_map kind_of_reply x.board.owed ≡ cons_option (kind_of (clock_message x.board.clock))
+    → filter_map kind_of_reply x.board.owed ≡ cons_option (answered_kind (clock_message x.board.clock))
     (filter_map kind_of_reply x.board.owed)
 tell_clock_first x = rw (clock_message-kind x.board.clock)
 
 -- what is asked for, or taken, keeps the kinds that come
 pub ask-kinds : (x : MachineState) (command : CommandContent)
-    → coming_kinds (after_move x (Move.Ask command)) ≡ coming_kinds x ++ option_to_list (kind_of_command command)
+    → coming_kinds (after_move x (Move.Ask command)) ≡ coming_kinds x ++ option_to_list (requested_kind command)
 ask-kinds x command =
-    ap (λ (down : List Kind). filter_map kind_of x.up ++ (filter_map kind_of_reply x.board.owed ++ down))
+    ap (λ (down : List Kind). filter_map answered_kind x.up ++ (filter_map kind_of_reply x.board.owed ++ down))
     (filter_map-append kind_of_event x.down (EventContent.Read command ∷ []) ∙ ap
-    (λ (new : List Kind). filter_map kind_of_event x.down ++ new) (one_more (kind_of_command command)))
-    ∙ sym (append_assoc (filter_map kind_of x.up) _ _ ∙ ap (λ (rest : List Kind). filter_map kind_of x.up ++ rest)
+    (λ (new : List Kind). filter_map kind_of_event x.down ++ new) (one_more (requested_kind command)))
+    ∙ sym (append_assoc (filter_map answered_kind x.up) _ _
+    ∙ ap (λ (rest : List Kind). filter_map answered_kind x.up ++ rest)
     (append_assoc (filter_map kind_of_reply x.board.owed) _ _))
 
 take-kinds : (x : MachineState) (event : EventContent) (rest : List EventContent) → x.down ≡ event ∷ rest
     → coming_kinds (after_take x (event ∷ rest)) ≡ coming_kinds x
 take-kinds x event rest e =
-    rw e (ap (λ (kinds : List Kind). filter_map kind_of x.up ++ kinds) (effect-kinds x.board event rest))
+    rw e (ap (λ (kinds : List Kind). filter_map answered_kind x.up ++ kinds) (effect-kinds x.board event rest))
 
 take_sound : (x : MachineState) (down : List EventContent) → x.down ≡ down → IsSound x → IsSound (after_take x down)
 take_sound x [] e sound = sound
@@ -127,8 +129,8 @@ kinds_after_first (Some kind) up rest = refl
 
 -- the kinds that come, where a message is the first under way
 hear-kinds : (x : MachineState) (message : Content) (rest : List Content) → x.up ≡ message ∷ rest
-    → coming_kinds x ≡ cons_option (kind_of message) (coming_kinds (after_hear x (message ∷ rest)))
-hear-kinds x message rest e = rw e (kinds_after_first (kind_of message) (filter_map kind_of rest) _)
+    → coming_kinds x ≡ cons_option (answered_kind message) (coming_kinds (after_hear x (message ∷ rest)))
+hear-kinds x message rest e = rw e (kinds_after_first (answered_kind message) (filter_map answered_kind rest) _)
 
 hear_sound : (x : MachineState) (up : List Content) → x.up ≡ up → IsSound x → IsSound (after_hear x up)
 hear_sound x [] e sound = sound
@@ -140,7 +142,8 @@ hear_sound x (message ∷ rest) e sound =
       followed = sound.followed;
       clock = rw e at sound.clock;
       awaited =
-          awaited_after-subsequence x.awaited (kind_of message) _ (rw (hear-kinds x message rest e) at sound.awaited);
+          awaited_after-subsequence x.awaited (answered_kind message) _
+          (rw (hear-kinds x message rest e) at sound.awaited);
     }
 
 hear_exact : (x : MachineState) (up : List Content) → x.up ≡ up → IsExact x → IsExact (after_hear x up)
@@ -150,8 +153,8 @@ hear_exact x (message ∷ rest) e exact =
       sound = hear_sound x (message ∷ rest) e exact.sound;
       clock = rw e at exact.clock;
       awaited =
-          ap (λ (awaited : List Kind). awaited_after awaited (kind_of message))
-          (exact.awaited ∙ hear-kinds x message rest e) ∙ awaited_exactly (kind_of message) _;
+          ap (λ (awaited : List Kind). awaited_after awaited (answered_kind message))
+          (exact.awaited ∙ hear-kinds x message rest e) ∙ awaited_exactly (answered_kind message) _;
     }
 
 pub new_sound : (position : List Piece) (clock : ClockState) (identity : IdentityContent) → length position ≡ 64
@@ -209,7 +212,7 @@ move_sound x (Move.Change square piece) sound =
     assumption (length-set x.board.squares square piece ∙ sound.squares)
 move_sound x (Move.HandClock clock) sound = assumption (handed_or_told x.board.mode x.board.told_clock clock)
 move_sound x (Move.Ask command) sound =
-    let more : List Kind = option_to_list (kind_of_command command) in
+    let more : List Kind = option_to_list (requested_kind command) in
     asked_sound x (x.down ++ EventContent.Read command ∷ []) (x.awaited ++ more) sound
     (rw (ask-kinds x command) (subsequence_append x.awaited (coming_kinds x) more sound.awaited))
 move_sound x Move.Take sound = take_sound x x.down refl sound
@@ -243,7 +246,7 @@ move_exact x (Move.Ask command) other exact =
       sound = move_sound x (Move.Ask command) exact.sound;
       clock = exact.clock;
       awaited =
-          ap (λ (awaited : List Kind). awaited ++ option_to_list (kind_of_command command)) exact.awaited ∙ sym
+          ap (λ (awaited : List Kind). awaited ++ option_to_list (requested_kind command)) exact.awaited ∙ sym
           (ask-kinds x command);
     }
 move_exact x Move.Take other exact = take_exact x x.down refl exact

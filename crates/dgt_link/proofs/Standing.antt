@@ -10,7 +10,7 @@ use Rattle.dgt_values.specs.declared.kinds.Kind.{Kind}
 use Rattle.dgt_message.specs.Content.{Content, IsMessage}
 use Rattle.dgt_message.specs.Clock.{ClockState}
 use Rattle.dgt_message.specs.Spelling.{Spells, spelling}
-use Rattle.dgt_command.specs.Content.{CommandContent, EventContent, kind_of_command}
+use Rattle.dgt_command.specs.Content.{CommandContent, EventContent, requested_kind}
 use Rattle.dgt_command.specs.Words.{Divides, IsPartial}
 use Rattle.dgt_board.specs.State.{IdentityContent, BoardState, after_change, after_hand_clock, after_line_lost, effect, effects}
 use Rattle.dgt_board.specs.Sending.{after_sending, next_message}
@@ -26,10 +26,10 @@ use Rattle.dgt_link.specs.Step.{Becomes, Runs, Step}
 use Rattle.dgt_link.specs.View.{WorldView, new_world}
 use Rattle.dgt_link.proofs.Asking.{break_moves, run_is_other, step_is_other}
 use Rattle.dgt_link.proofs.Dividing.{anew_divides, divides_command}
-use Rattle.dgt_link.proofs.Halves.{StepsAreMoves}
+use Rattle.dgt_link.proofs.PromisedActs.{StepsAreMoves}
 use Rattle.dgt_link.proofs.Lists.{all_append}
 use Rattle.dgt_link.proofs.Hearing.{heard_front, host_after_messages}
-use Rattle.dgt_link.proofs.Runs.{moves_exact, moves_sound}
+use Rattle.dgt_link.proofs.AfterMoves.{moves_exact, moves_sound}
 use Rattle.dgt_link.proofs.Sending.{next_is_sent}
 use Rattle.dgt_link.proofs.Soundness.{break_exact, move_sound, new_exact, new_sound}
 
@@ -165,7 +165,7 @@ module _ (laws : Grammars) where
       → StandsAfterStep (ActContent.Host command) Outcome.Done x after
   ask_reaches world command after x stands (spells, same) =
       let sound = move_sound x (Move.Ask command) stands.sound in
-      let awaited = ap (λ (kinds : List Kind). kinds ++ option_to_list (kind_of_command command)) stands.awaited in
+      let awaited = ap (λ (kinds : List Kind). kinds ++ option_to_list (requested_kind command)) stands.awaited in
       let down = divides_command laws.nothing laws.divisions_append world.board.partial world.down.bytes x.down command
       stands.down spells in
       (Move.Ask command ∷ [], refl, rw same assumption)

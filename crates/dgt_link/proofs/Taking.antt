@@ -7,7 +7,7 @@ use Rattle.std.specs.Prelude.{IsTrue, filter_map, option_to_list}
 use Rattle.std.specs.List.{cons_option}
 use Rattle.dgt_values.specs.declared.kinds.Kind.{Kind}
 use Rattle.dgt_message.specs.Clock.{ClockState}
-use Rattle.dgt_command.specs.Content.{ClockContent, CommandContent, EventContent, kind_of_command}
+use Rattle.dgt_command.specs.Content.{ClockContent, CommandContent, EventContent, requested_kind}
 use Rattle.dgt_command.specs.Words.{IsNoise, IsNoiseList}
 use Rattle.dgt_board.specs.State.{IdentityContent, BoardState, follows_clock, acknowledgements, after_command, effect, effects, replies_to}
 use Rattle.dgt_link.specs.Sound.{kind_of_event, kind_of_reply}
@@ -20,7 +20,7 @@ acknowledgements-kinds (ClockState.no_clock absence) identity message = refl
 
 -- the replies to a command are of its kind
 replies_to-kinds : (board : BoardState) (command : CommandContent)
-    → filter_map kind_of_reply (replies_to board command) ≡ option_to_list (kind_of_command command)
+    → filter_map kind_of_reply (replies_to board command) ≡ option_to_list (requested_kind command)
 replies_to-kinds board (CommandContent.ClockMessage message) = acknowledgements-kinds board.clock board.identity message
 replies_to-kinds board _ = refl
 
@@ -37,7 +37,7 @@ effect-kinds board (EventContent.Read command) down =
     ap (λ (owed : List Kind). owed ++ filter_map kind_of_event down)
     (filter_map-append kind_of_reply board.owed (replies_to board command) ∙ ap
     (λ (new : List Kind). filter_map kind_of_reply board.owed ++ new) (replies_to-kinds board command))
-    ∙ kinds_moved (filter_map kind_of_reply board.owed) (kind_of_command command) (filter_map kind_of_event down)
+    ∙ kinds_moved (filter_map kind_of_reply board.owed) (requested_kind command) (filter_map kind_of_event down)
 effect-kinds board _ down = refl
 
 abbrev IsFollowed : BoardState → Type 0

@@ -8,7 +8,7 @@ use Rattle.std.proofs.lemmas.List.{length-set}
 use Rattle.dgt_values.specs.declared.kinds.Kind.{Kind}
 use Rattle.dgt_values.specs.declared.pieces.Piece.{Piece}
 use Rattle.dgt_message.specs.Clock.{Time, time_of, ClockState, clock_eq, time_eq}
-use Rattle.dgt_message.specs.Content.{Content, clock_message, kind_of}
+use Rattle.dgt_message.specs.Content.{Content, clock_message, answered_kind}
 use Rattle.dgt_board.specs.declared.modes.Mode.{Mode}
 use Rattle.dgt_board.specs.declared.replies.Reply.{Reply}
 use Rattle.dgt_board.specs.State.{BoardState, is_told, owed_when_handed, follows_clock}
@@ -150,12 +150,12 @@ reply_tells board _ =
     (record { squares = refl; picture = λ seen. refl; told_clock = refl; clock = λ seen. refl; times_owed = refl })
 
 -- the message of an owed reply is of its kind, and so has the clock's message none
-pub clock_message-kind : (clock : ClockState) → kind_of (clock_message clock) ≡ None
+pub clock_message-kind : (clock : ClockState) → answered_kind (clock_message clock) ≡ None
 clock_message-kind (ClockState.times readings) = refl
 clock_message-kind (ClockState.no_clock absence) = refl
 
 pub reply_message-kind : (board : BoardState) (reply : Reply)
-    → kind_of (reply_message board reply) ≡ kind_of_reply reply
+    → answered_kind (reply_message board reply) ≡ kind_of_reply reply
 reply_message-kind board Reply.Clock = clock_message-kind board.clock
 reply_message-kind board (Reply.Of Kind.Dump) = refl
 reply_message-kind board _ = refl

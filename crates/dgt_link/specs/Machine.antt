@@ -4,9 +4,9 @@ use Rattle.std.specs.Prelude.{ℕ, List, [], ◌∷◌, ◌++◌, Option, None, 
 use Rattle.std.specs.Prelude.{map, option_to_list}
 use Rattle.dgt_values.specs.declared.pieces.Piece.{Piece}
 use Rattle.dgt_values.specs.declared.kinds.Kind.{Kind}
-use Rattle.dgt_message.specs.Content.{Content, clock_message, kind_of}
+use Rattle.dgt_message.specs.Content.{Content, clock_message, answered_kind}
 use Rattle.dgt_message.specs.Clock.{ClockState}
-use Rattle.dgt_command.specs.Content.{CommandContent, EventContent, kind_of_command}
+use Rattle.dgt_command.specs.Content.{CommandContent, EventContent, requested_kind}
 use Rattle.dgt_command.specs.Words.{IsNoiseList}
 use Rattle.dgt_board.specs.declared.replies.Reply.{Reply as OwedReply}
 use Rattle.dgt_board.specs.State.{IdentityContent, BoardState, new_board, after_change, after_hand_clock, after_line_lost, updates, effect}
@@ -101,7 +101,7 @@ after_hear x (message ∷ later) =
       up = later;
       picture = picture_after x.picture message;
       host_clock = clock_after x.host_clock message;
-      awaited = awaited_after x.awaited (kind_of message);
+      awaited = awaited_after x.awaited (answered_kind message);
     }
 
 abbrev pub after_move : MachineState → Move → MachineState
@@ -110,7 +110,7 @@ after_move x (Move.HandClock clock) = record x { board = after_hand_clock x.boar
 after_move x (Move.Ask command) =
     record x {
       down = x.down ++ EventContent.Read command ∷ [];
-      awaited = x.awaited ++ option_to_list (kind_of_command command);
+      awaited = x.awaited ++ option_to_list (requested_kind command);
     }
 after_move x Move.Take = after_take x x.down
 after_move x Move.Reply = after_reply x x.board.owed

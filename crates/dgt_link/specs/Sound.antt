@@ -4,8 +4,8 @@ use Rattle.std.specs.Prelude.{filter_map}
 use Rattle.dgt_values.specs.declared.pieces.Piece.{Piece}
 use Rattle.dgt_values.specs.declared.kinds.Kind.{Kind}
 use Rattle.dgt_message.specs.Clock.{ClockState}
-use Rattle.dgt_message.specs.Content.{kind_of}
-use Rattle.dgt_command.specs.Content.{EventContent, kind_of_command}
+use Rattle.dgt_message.specs.Content.{answered_kind}
+use Rattle.dgt_command.specs.Content.{EventContent, requested_kind}
 use Rattle.dgt_board.specs.declared.replies.Reply.{Reply}
 use Rattle.dgt_board.specs.State.{follows_clock}
 use Rattle.dgt_host.specs.Host.{clock_after_all, picture_after_all}
@@ -20,7 +20,7 @@ kind_of_reply _ = None
 
 -- the kind of the reply that a command under way asks for
 abbrev pub kind_of_event : EventContent → Option Kind
-kind_of_event (EventContent.Read command) = kind_of_command command
+kind_of_event (EventContent.Read command) = requested_kind command
 kind_of_event _ = None
 
 -- the picture, and the host's clock, once all messages under way are heard
@@ -33,7 +33,7 @@ coming_clock x = clock_after_all x.host_clock x.up
 -- the kinds of the messages under way, then of the replies owed, then of those asked for
 abbrev pub coming_kinds : MachineState → List Kind
 coming_kinds x =
-    filter_map kind_of x.up
+    filter_map answered_kind x.up
     ++ (filter_map kind_of_reply x.board.owed ++ filter_map kind_of_event x.down)
 
 -- ---- sound and exact

@@ -4,7 +4,7 @@ use Rattle.std.specs.Prelude.{Option, Some, None, Bool, false, ◌||◌, if◌th
 use Rattle.dgt_values.specs.declared.kinds.Kind.{Kind}
 use Rattle.dgt_message.specs.Content.{Content}
 use Rattle.dgt_message.specs.Spelling.{Spells, spelling}
-use Rattle.dgt_command.specs.Content.{kind_of_command}
+use Rattle.dgt_command.specs.Content.{requested_kind}
 use Rattle.dgt_command.specs.Spelling.{SpellsCommand, command_spelling}
 use Rattle.dgt_board.specs.declared.state.TheConstants.{MAX_OWED}
 use Rattle.dgt_board.specs.State.{BoardState, after_change, after_hand_clock}
@@ -33,7 +33,7 @@ sending_outcome (Some message) line =
 
 abbrev pub outcome : ActContent → WorldView → Outcome
 outcome (ActContent.Host command) world =
-    if awaits_too_many world.host (kind_of_command command) then Outcome.TooMany
+    if awaits_too_many world.host (requested_kind command) then Outcome.TooMany
     else if overflows world.down (command_spelling command) then Outcome.NoRoom
     else Outcome.Done
 outcome ActContent.BoardSend world = sending_outcome (next_message world.board.state) world.up
@@ -79,7 +79,7 @@ Becomes (ActContent.ClockRead clock) world after =
 Becomes (ActContent.Host command) world after =
     SpellsCommand command (command_spelling command)
     × (after ≡ record world {
-      host = host_awaiting world.host (kind_of_command command);
+      host = host_awaiting world.host (requested_kind command);
       down = with_bytes world.down (command_spelling command);
     })
 Becomes ActContent.BoardSend world after =

@@ -7,7 +7,7 @@ ghost use Rattle.std.specs.List.{AllByRecursion};
 ghost use Rattle.dgt_values.specs.declared.pieces.Piece.{Piece};
 ghost use Rattle.dgt_values.specs.Equality.{CloneIsSame, EqualIsSame, EqualIsSameReadOf};
 ghost use Rattle.dgt_values.specs.declared.kinds.Kind.{Kind};
-ghost use Rattle.dgt_message.specs.Content.{Content, kind_of};
+ghost use Rattle.dgt_message.specs.Content.{Content, answered_kind};
 ghost use Rattle.dgt_message.specs.Clock.{ClockState};
 ghost use Rattle.dgt_command.specs.Content.{CommandContent, EventContent};
 ghost use Rattle.dgt_command.specs.Words.{IsNoiseList, IsPartial};
@@ -108,7 +108,7 @@ pub fn dump_is_told()
 pub fn answers_in_order()
     ensures first { (x : MachineState) (before later : List Content) (message : Content)
         (kind : Kind) → IsExact x → x.up ≡ before ++ message ∷ later
-        → All (λ other. kind_of other ≡ None) before → kind_of message ≡ Some kind
+        → All (λ other. answered_kind other ≡ None) before → answered_kind message ≡ Some kind
         → (others : List Kind) × (x.awaited ≡ kind ∷ others) }
     ensures asked { (x : MachineState) (later : List Content) (message : Content) →
         IsExact x → x.up ≡ message ∷ later
@@ -282,7 +282,7 @@ pub fn worlds_are_told()
     ensures first { (world : WorldView) (x : MachineState) (before later : List Content)
         (message : Content) (kind : Kind) → StandsFor world x → IsExact x
         → x.up ≡ before ++ message ∷ later
-        → All (λ other. kind_of other ≡ None) before → kind_of message ≡ Some kind
+        → All (λ other. answered_kind other ≡ None) before → answered_kind message ≡ Some kind
         → (others : List Kind) × (world.host.awaited ≡ kind ∷ others) }
     ensures asked { (world : WorldView) (x : MachineState) (later : List Content)
         (message : Content) → StandsFor world x → IsExact x → x.up ≡ message ∷ later

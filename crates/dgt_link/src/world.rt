@@ -5,7 +5,7 @@ ghost use Rattle.std.specs.Prelude.{◌∷◌, ◌++◌, All, Contains, Some, No
 ghost use Rattle.std.specs.Prelude.{IsErrAnd, IsErrOf, map, length};
 ghost use Rattle.dgt_values.specs.Board.{pieces_of};
 ghost use Rattle.dgt_values.specs.declared.kinds.Kind.{Kind};
-ghost use Rattle.dgt_message.specs.Content.{Content, clock_seen, kind_of};
+ghost use Rattle.dgt_message.specs.Content.{Content, clock_seen, answered_kind};
 ghost use Rattle.dgt_command.specs.Content.{CommandContent};
 ghost use Rattle.dgt_board.specs.Sending.{backlog};
 ghost use Rattle.dgt_board.specs.State.{command_mode, follows_clock, updates};
@@ -113,8 +113,8 @@ impl World {
         }
     }
 
-    // A new world whose lines have this memory, if it isn't refused. It comes back, with none taken,
-    // if a line would be too small.
+    // A new world whose lines have this memory, if it isn't refused. It comes back, with none
+    // taken, if a line would be too small.
     fn with_memory(
         memory: LineMemory,
         position: Position,
@@ -377,7 +377,7 @@ impl World {
         ensures first { (x : MachineState) (before later : List Content) (message : Content)
             (kind : Kind) → StandsFor self.now x → IsExact x →
             x.up ≡ before ++ message ∷ later →
-            All (λ other. kind_of other ≡ None) before → kind_of message ≡ Some kind →
+            All (λ other. answered_kind other ≡ None) before → answered_kind message ≡ Some kind →
             (others : List Kind) × (self.now.host.awaited ≡ kind ∷ others) }
         ensures stands { (x : MachineState) × StandsFor self.now x }
     {

@@ -94,8 +94,8 @@ kind_with (Some KnownCode.Battery) = Some Kind.Battery
 kind_with (Some KnownCode.LongSerial) = Some Kind.LongSerial
 kind_with _ = None
 
-abbrev pub kind_of : Content → Option Kind
-kind_of said = kind_with (known_with (code_of said))
+abbrev pub answered_kind : Content → Option Kind
+answered_kind said = kind_with (known_with (code_of said))
 
 -- bytes that a body may have
 abbrev pub IsCarried : List ℕ → Type 0

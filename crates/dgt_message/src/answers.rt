@@ -1,14 +1,14 @@
 //! What messages answer.
 
 ghost use Rattle.std.specs.Prelude.{◌≡◌};
-ghost use Rattle.dgt_message.specs.Content.{content, kind_of};
+ghost use Rattle.dgt_message.specs.Content.{content, answered_kind};
 
 use crate::message::Message;
 use dgt_values::Kind;
 
 /// The kind of a message, if it answers a command that has one.
 pub fn kind_of(message: &Message<'_>) -> Option<Kind>
-    ensures { result ≡ kind_of (content message.now) }
+    ensures { result ≡ answered_kind (content message.now) }
 {
     match message {
         Message::Dump(_) => Some(Kind::Dump),

@@ -38,7 +38,7 @@ pub fn encode(message: &Message<'_>, out: &mut [u8]) -> Result<usize, NoRoom>
     match message {
         Message::Dump(position) => write_known(KnownCode::Dump, &position.codes(), out),
         Message::Field { square, piece } => encode_field(*square, *piece, out),
-        Message::Times(times) => write_known(KnownCode::Clock, &times_bytes(*times), out),
+        Message::Times(times) => write_known(KnownCode::Clock, &encode_times(*times), out),
         Message::NoClock(absence) => write_known(KnownCode::Clock, &absence_bytes(*absence), out),
         Message::Ack(answer) => write_known(KnownCode::Clock, &ack_bytes(*answer), out),
         Message::Serial(number) => write_known(KnownCode::Serial, &serial_bytes(number), out),
@@ -120,12 +120,12 @@ fn serial_bytes(serial: &[SevenBit; 5]) -> [u8; 5]
     [a.get(), b.get(), c.get(), d.get(), e.get()]
 }
 
-fn times_bytes(times: Times) -> [u8; 7]
+fn encode_times(times: Times) -> [u8; 7]
     ensures bytes { result ≡ times_bytes (times_seen times) }
     ensures in_range { AreTimes (times_seen times) }
 {
-    let [first_hours, first_minutes, first_seconds] = time_bytes(times.first());
-    let [second_hours, second_minutes, second_seconds] = time_bytes(times.second());
+    let [first_hours, first_minutes, first_seconds] = encode_time(times.first());
+    let [second_hours, second_minutes, second_seconds] = encode_time(times.second());
     [
         first_hours,
         first_minutes,
@@ -137,7 +137,7 @@ fn times_bytes(times: Times) -> [u8; 7]
     ]
 }
 
-fn time_bytes(reading: Reading) -> [u8; 3]
+fn encode_time(reading: Reading) -> [u8; 3]
     ensures bytes { result ≡ time_bytes (time_seen reading) }
     ensures in_range { IsTime (time_seen reading) }
 {
@@ -178,10 +178,10 @@ fn ack_bytes(answer: ClockAck) -> [u8; 7]
 {
     let [a, b, c, d] = answer.ack;
     [
-        mark_with(c, d),
+        form_mark(c, d),
         a & 0x7f,
         b & 0x7f,
-        mark_with(a, b),
+        form_mark(a, b),
         c & 0x7f,
         d & 0x7f,
         answer.status.get(),
@@ -189,7 +189,7 @@ fn ack_bytes(answer: ClockAck) -> [u8; 7]
 }
 
 // The mark of an acknowledgement, with the top bits of two bytes as D4 and D5.
-fn mark_with(first: u8, second: u8) -> u8
+fn form_mark(first: u8, second: u8) -> u8
     ensures { result ≡ mark_with first second }
 {
     ACK_MARK + (first >> 7) * 0x10 + (second >> 7) * 0x20

@@ -8,5 +8,5 @@ pub loop-index-preserved : goal.loop-index-preserved
 loop-index-preserved c =
     let within : c.loop-index.index < length c.args.kinds.now = omega arith in
     let room : c.loop-index.index < length c.args.codes.now = omega arith in
-    rw (c.asking_code.ensures, c.loop-index.invariant)
+    rw (c.code_asking_for.ensures, c.loop-index.invariant)
     (one_more_in_front asking_code _ _ _ Dump within room)

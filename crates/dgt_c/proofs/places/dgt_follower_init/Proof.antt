@@ -1,7 +1,7 @@
 -- `dgt_follower_init` makes the handle and what it owns.
 use Rattle.dgt_c.specs.PlainFollower.{plain_follower}
-use Rattle.dgt_c.proofs.plain_follower.plain_follower.Symbol.{name as new}
-use Rattle.dgt_c.proofs.plain_follower.plain_follower.Met.{met}
+use Rattle.dgt_c.proofs.plain_follower.default_follower.Symbol.{name as new}
+use Rattle.dgt_c.proofs.plain_follower.default_follower.Met.{met}
 use Rattle.dgt_c.specs.contracts.places.FollowerPlace.{struct}
 use Rattle.dgt_c.specs.contracts.places.dgt_follower_init.Key.{name}
 use Rattle.dgt_c.proofs.EachHandle.{follower}
@@ -12,4 +12,4 @@ use Rattle.dgt_c.proofs.places.dgt_follower_init.Code as code
 pub dgt_follower_init_spec : {M : Type 1} → statement M
 dgt_follower_init_spec 𝓤 𝓛 𝓜 𝓡 wired =
     makes follower struct.name new plain_follower 𝓤 𝓛 𝓜 𝓡 name (code.unfolded 𝓤 𝓛.H 𝓜 𝓡 wired)
-    (met 𝓤 𝓛 𝓜 𝓡 (code.calls-dgt_c::plain_follower::plain_follower 𝓡.env wired))
+    (met 𝓤 𝓛 𝓜 𝓡 (code.calls-dgt_c::plain_follower::default_follower 𝓡.env wired))

@@ -1,4 +1,4 @@
-use Rattle.dgt_link.proofs.Once.{one_faulty_step, one_run, one_step}
+use Rattle.dgt_link.proofs.OneOutcome.{one_faulty_step, one_run, one_step}
 use Rattle.dgt_link.proofs.laws.acts_have_one_outcome.Goals as goal
 
 pub returns : goal.returns

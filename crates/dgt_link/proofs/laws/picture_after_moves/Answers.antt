@@ -1,4 +1,4 @@
-use Rattle.dgt_link.proofs.Runs.{moves_sound, moves_exact, moves_promise, moves_picture}
+use Rattle.dgt_link.proofs.AfterMoves.{moves_sound, moves_exact, moves_promise, moves_picture}
 use Rattle.dgt_link.proofs.laws.picture_after_moves.Goals as goal
 
 pub returns : goal.returns

@@ -1,4 +1,4 @@
-use Rattle.dgt_link.proofs.Halves.{anew_begins, half_begins, half_ends, half_keeps, mode_is}
+use Rattle.dgt_link.proofs.PromisedActs.{anew_begins, half_begins, half_ends, half_keeps, mode_is}
 use Rattle.dgt_link.proofs.laws.promise_by_acts.Goals as goal
 
 pub returns : goal.returns

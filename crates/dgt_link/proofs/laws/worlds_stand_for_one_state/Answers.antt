@@ -1,4 +1,4 @@
-use Rattle.dgt_link.proofs.Once.{one_state}
+use Rattle.dgt_link.proofs.OneOutcome.{one_state}
 use Rattle.dgt_link.proofs.laws.worlds_stand_for_one_state.Goals as goal
 
 pub returns : goal.returns

@@ -1,7 +1,7 @@
 use Rattle.std.proofs.Common.{rules}
 use Rattle.dgt_board.specs.Sending.{next_message}
-use Rattle.dgt_link.proofs.Exactly.{next_step}
-use Rattle.dgt_link.proofs.Moved.{polled_is_sent}
+use Rattle.dgt_link.proofs.BoardSteps.{next_step}
+use Rattle.dgt_link.proofs.LineMoves.{polled_is_sent}
 use Rattle.dgt_link.proofs.moving.send_next.Goals as goal
 
 pub returns-in-Wrote-clause-sends : goal.returns-in-Wrote-clause-sends

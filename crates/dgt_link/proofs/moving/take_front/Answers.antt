@@ -1,5 +1,5 @@
 use Rattle.dgt_command.specs.Content.{command_event_content}
-use Rattle.dgt_link.proofs.Moved.{front_bytes, stays_open}
+use Rattle.dgt_link.proofs.LineMoves.{front_bytes, stays_open}
 use Rattle.dgt_link.proofs.moving.take_front.Goals as goal
 
 pub returns-clause-earlier : goal.returns-clause-earlier

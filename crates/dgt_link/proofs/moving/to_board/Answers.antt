@@ -1,5 +1,5 @@
 use Rattle.std.proofs.Common.{arith, inr, rules}
-use Rattle.dgt_link.proofs.Moved.{taking_more, taking_ends, some_moved, left_length}
+use Rattle.dgt_link.proofs.LineMoves.{taking_more, taking_ends, some_moved, left_length}
 use Rattle.dgt_link.proofs.moving.to_board.Goals as goal
 
 pub loop-moved-preserved : goal.loop-moved-preserved

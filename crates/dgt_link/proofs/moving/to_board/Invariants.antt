@@ -1,5 +1,5 @@
 use Rattle.std.proofs.Common.{◌≤◌, ◌-◌}
-use Rattle.dgt_link.proofs.Moved.{IsTaking}
+use Rattle.dgt_link.proofs.LineMoves.{IsTaking}
 use Rattle.dgt_link.proofs.moving.to_board.Given as goal
 
 abbrev pub invariant-loop-moved : goal.invariant-loop-moved

@@ -1,5 +1,5 @@
 use Rattle.std.proofs.Common.{arith}
-use Rattle.dgt_link.proofs.Moved.{hearing_more}
+use Rattle.dgt_link.proofs.LineMoves.{hearing_more}
 use Rattle.dgt_link.proofs.moving.to_host.Goals as goal
 
 pub loop-moved-preserved : goal.loop-moved-preserved

@@ -1,5 +1,5 @@
 use Rattle.std.proofs.Common.{◌≤◌, ◌-◌}
-use Rattle.dgt_link.proofs.Moved.{IsHearing}
+use Rattle.dgt_link.proofs.LineMoves.{IsHearing}
 use Rattle.dgt_link.proofs.moving.to_host.Given as goal
 
 abbrev pub invariant-loop-moved : goal.invariant-loop-moved

@@ -21,8 +21,8 @@ loop-preserved g c =
     let flushed = c.in_ok-flush.ensures in
     let given = length-take-le c.in-Ok.given c.read_some.new.buffer read.bound in record {
       in_turns = next_read c.loop.invariant.in_turns c.loop-test.true _ _ read.bound read.bytes.0 read.not_refused
-          read.no_end read.counted read.in_time c.if-given-eq0.false chunk.marks.failed chunk.marks.in_time flushed.output
-          flushed.flushed;
+          read.no_end read.counted read.in_time c.if-given-eq0.false chunk.marks.failed chunk.marks.in_time
+          flushed.output flushed.flushed;
       played = plays_flushed g.S.Stage.rules g.W.Sink _ _ _ _ _ _ _ _
           (on_more g.S.Stage.rules g.W.Sink _ _ _ _ _ _ _ _ _ _ _ _ _ q (chunk.played true q.rest q.kept q.cut.last))
           flushed.output.appends;

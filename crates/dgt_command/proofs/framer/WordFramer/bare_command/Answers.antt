@@ -10,4 +10,4 @@ returns-in-Command-len1-clause-command c =
     let command : c.args.found ≡ found.Command = cc in
     let spelled : IsSpelling word = rw c.as_slice.ensures (rw (← c.self.view_is) at c.requires command) in
     rw (command, ← c.self.view_is, ← c.as_slice.ensures)
-    (told_byte c.bare_command.result word spelled (omega arith) (sym c.bare_command.ensures))
+    (told_byte c.command_of_byte.result word spelled (omega arith) (sym c.command_of_byte.ensures))

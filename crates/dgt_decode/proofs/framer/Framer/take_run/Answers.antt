@@ -4,7 +4,7 @@ use Rattle.dgt_decode.specs.declared.framer.FramerState.TheVariants.{Body}
 use Rattle.dgt_decode.specs.Taking.{IsKept}
 use Rattle.dgt_decode.proofs.Bytes.{held_total}
 use Rattle.dgt_decode.proofs.Framing.{closed}
-use Rattle.dgt_decode.proofs.Runs.{IsBodyRun, body_run, frames-body_run}
+use Rattle.dgt_decode.proofs.BodyRuns.{IsBodyRun, body_run, frames-body_run}
 use Rattle.dgt_decode.proofs.Loops.{front_of_front}
 use Rattle.dgt_decode.proofs.framer.Framer.take_run.Goals as goal
 

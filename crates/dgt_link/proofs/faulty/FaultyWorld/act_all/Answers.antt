@@ -1,6 +1,6 @@
 use Rattle.std.proofs.Common.{arith}
 use Rattle.dgt_link.specs.Faults.{FaultyStep, faulty_content}
-use Rattle.dgt_link.proofs.Running.{has_run_more}
+use Rattle.dgt_link.proofs.ActRuns.{has_run_more}
 use Rattle.dgt_link.proofs.faulty.FaultyWorld.act_all.Goals as goal
 
 pub loop-act-preserved : goal.loop-act-preserved

@@ -1,7 +1,7 @@
 use Rattle.std.proofs.Common.{arith}
 use Rattle.dgt_link.specs.Act.{act_content}
 use Rattle.dgt_link.specs.Step.{Step}
-use Rattle.dgt_link.proofs.Running.{has_run_more}
+use Rattle.dgt_link.proofs.ActRuns.{has_run_more}
 use Rattle.dgt_link.proofs.world.World.act_all.Goals as goal
 
 pub loop-act-preserved : goal.loop-act-preserved

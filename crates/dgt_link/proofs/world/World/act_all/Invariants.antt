@@ -1,7 +1,7 @@
 use Rattle.std.proofs.Common.{◌≤◌, take}
 use Rattle.dgt_link.specs.Act.{act_content}
 use Rattle.dgt_link.specs.Step.{Step}
-use Rattle.dgt_link.proofs.Running.{HasRun}
+use Rattle.dgt_link.proofs.ActRuns.{HasRun}
 use Rattle.dgt_link.proofs.world.World.act_all.Given as goal
 
 abbrev pub invariant-loop-act : goal.invariant-loop-act
