@@ -193,7 +193,7 @@ fn stops_at_a_refused_read(rt: HostRuntime) -> Result<(), Fail> {
 }
 
 // Reports a fault, and compares the status and the text.
-fn check_told(
+fn check_reported(
     rt: &(impl Abort + AllocGlobal),
     fault: Fault,
     status: u8,
@@ -206,14 +206,14 @@ fn check_told(
 }
 
 #[test]
-fn tells_what_no_run_here_meets(rt: HostRuntime) -> Result<(), Fail> {
+fn reports_what_no_run_here_meets(rt: HostRuntime) -> Result<(), Fail> {
     let turns = Fault::from(RunFault::TooManyTurns);
-    check_told(&rt, turns, 1, "dgt: too many turns\n")?;
+    check_reported(&rt, turns, 1, "dgt: too many turns\n")?;
     let small = Fault::from(WorldFault::LineTooSmall);
-    check_told(&rt, small, 2, "dgt: a line is too small\n")?;
+    check_reported(&rt, small, 2, "dgt: a line is too small\n")?;
     let refused = Fault::from(WorldFault::OutOfMemory);
-    check_told(&rt, refused, 3, "dgt: out of memory\n")?;
-    check_told(&rt, Fault::OutOfMemory, 3, "dgt: out of memory\n")
+    check_reported(&rt, refused, 3, "dgt: out of memory\n")?;
+    check_reported(&rt, Fault::OutOfMemory, 3, "dgt: out of memory\n")
 }
 
 /// A game's first move, made while the board reports nothing, and reported afterwards.

@@ -3,7 +3,7 @@
 ghost use Rattle.std.specs.Prelude.{◌≡◌, ◌≢◌, ◌++◌, [], ◌∷◌, codes, slice_index as nth};
 ghost use Rattle.std.specs.Prelude.{OnOk, IfOk, IsOkAnd, IsSomeAnd};
 ghost use Rattle.dgt_command.specs.Content.{command_content, ClockMessage};
-ghost use Rattle.dgt_command.specs.Spelling.{command_spelling};
+ghost use Rattle.dgt_command.specs.Encoding.{command_encoding};
 ghost use Rattle.dgt_host.specs.Host.{follow_bytes, restart_bytes};
 ghost use Rattle.hex.specs.Hex.{decode_of, decode_sized};
 
@@ -141,7 +141,7 @@ fn begin<'a>(word: &'a str, bytes: &mut Vec<u8>) -> Result<Awaited<'a>, BadAsk<'
 // Appends the bytes of a command.
 fn push(command: &Command<'_>, bytes: &mut Vec<u8>) -> Result<(), AllocError>
     ensures { OnOk result (bytes.new.items
-        ≡ bytes.old.items ++ command_spelling (command_content command.now)) }
+        ≡ bytes.old.items ++ command_encoding (command_content command.now)) }
 {
     let mut room = [0; MAX_WORD];
     let count = encode(command, &mut room).unwrap();
@@ -188,7 +188,7 @@ fn push_fit<'a>(
     bytes: &mut Vec<u8>,
 ) -> Result<(), BadAsk<'a>>
     ensures { OnOk result (IsSomeAnd command.entry (λ command. bytes.new.items
-        ≡ bytes.old.items ++ command_spelling (command_content command))) }
+        ≡ bytes.old.items ++ command_encoding (command_content command))) }
 {
     match command {
         Some(command) => Ok(push(&command, bytes)?),
@@ -208,11 +208,11 @@ fn push_id_and_bytes<'a>(word: &'a str, bytes: &mut Vec<u8>) -> Result<(), BadAs
 fn push_clock_message<'a>(id: &'a str, word: &'a str, bytes: &mut Vec<u8>) -> Result<(), BadAsk<'a>>
     ensures none { word.now ≡ codes "-" → OnOk result
         (IsOkAnd (decode_sized id.now 1) (λ ids. bytes.new.items ≡ bytes.old.items
-        ++ command_spelling (ClockMessage (record { id = nth ids 0; payload = [] })))) }
+        ++ command_encoding (ClockMessage (record { id = nth ids 0; payload = [] })))) }
     ensures digits { word.now ≢ codes "-" → OnOk result
         (IsOkAnd (decode_sized id.now 1) (λ ids. IfOk (decode_of word.now) (λ payload.
         bytes.new.items ≡ bytes.old.items
-        ++ command_spelling (ClockMessage (record { id = nth ids 0; payload = payload }))))) }
+        ++ command_encoding (ClockMessage (record { id = nth ids 0; payload = payload }))))) }
 {
     let mut room = [0; MAX_PAYLOAD];
     match byte(id) {

@@ -7,7 +7,7 @@ use Rattle.dgt_message.specs.Content.{clock_message, Content}
 use Rattle.dgt_command.specs.Content.{ClockContent, CommandContent, EventContent}
 use Rattle.dgt_board.specs.declared.modes.Mode.{Mode}
 use Rattle.dgt_board.specs.declared.replies.Reply.{Reply}
-use Rattle.dgt_board.specs.State.{BoardState, IdentityContent, acknowledgements, effect, effects, is_told}
+use Rattle.dgt_board.specs.State.{BoardState, IdentityContent, acknowledgements, effect, effects, is_reported}
 use Rattle.dgt_board.specs.Sending.{after_sending, backlog, clock_news, differs, every_square, next_message}
 use Rattle.dgt_board.proofs.SendingLemmas.{few_news, left-at_most, left_by, left_is, next_lowers}
 
@@ -18,7 +18,7 @@ backlog_is board = left_is (record board { mode = Mode.Update })
 pub backlog-at_most : (board : BoardState) → backlog board ≤ length board.owed + 65
 backlog-at_most board = left-at_most (record board { mode = Mode.Update })
 
-pub backlog_lowers : (board : BoardState) (message : Content) → length board.told_squares ≡ 64
+pub backlog_lowers : (board : BoardState) (message : Content) → length board.reported_squares ≡ 64
     → next_message board ≡ Some message → backlog (after_sending board message) < backlog board
 backlog_lowers board message all next =
     rw (backlog_is board, backlog_is (after_sending board message))
@@ -60,9 +60,9 @@ effect_raises board (EventContent.Read command) = go command
 
     go : (command : CommandContent) → left_by true (effect board (EventContent.Read command)) ≤ left_by true board + 1
     go CommandContent.Reset = mode false
-    go CommandContent.Update = mode (not (is_told board.told_clock board.clock))
+    go CommandContent.Update = mode (not (is_reported board.reported_clock board.clock))
     go CommandContent.UpdateBoard = mode false
-    go CommandContent.UpdateNice = mode (not (is_told board.told_clock board.clock))
+    go CommandContent.UpdateNice = mode (not (is_reported board.reported_clock board.clock))
     go CommandContent.Clock = one (Reply.Clock ∷ []) (omega arith)
     go (CommandContent.ClockMessage message) =
         one (acknowledgements board.clock board.identity message)

@@ -7,7 +7,7 @@ use Rattle.dgt_message.specs.declared.clock.Clock.{Clock}
 use Rattle.dgt_message.specs.declared.clock.Clock.TheVariants as clock
 use Rattle.dgt_message.specs.Content.{clock_seen}
 use Rattle.dgt_message.specs.Clock.{clock_eq}
-use Rattle.dgt_board.specs.State.{is_told}
+use Rattle.dgt_board.specs.State.{is_reported}
 use Rattle.std.specs.Option.{option_eq}
 use Rattle.dgt_message.specs.contracts.clock.ClockPartialEq.TheImpl as derived
 
@@ -28,7 +28,8 @@ eq-clock_eq (clock.Times a) (clock.NoClock b) = refl
 eq-clock_eq (clock.NoClock a) (clock.Times b) = refl
 
 -- what `==` answers at a clock that was reported, or none, and at a clock
-pub option_eq-is_told : (told : Option Clock) (shown : Clock)
-    → option_eq (derived.eq-value).it told (Some shown) ≡ is_told (option_map clock_seen told) (clock_seen shown)
-option_eq-is_told None shown = refl
-option_eq-is_told (Some told) shown = eq-clock_eq told shown
+pub option_eq-is_reported : (reported : Option Clock) (shown : Clock)
+    → option_eq (derived.eq-value).it reported (Some shown) ≡ is_reported (option_map clock_seen reported)
+    (clock_seen shown)
+option_eq-is_reported None shown = refl
+option_eq-is_reported (Some reported) shown = eq-clock_eq reported shown

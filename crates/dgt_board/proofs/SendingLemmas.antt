@@ -13,7 +13,7 @@ use Rattle.dgt_message.specs.Clock.{ClockState}
 use Rattle.dgt_message.specs.Content.{clock_message, Content}
 use Rattle.dgt_board.specs.declared.replies.Reply.{Reply}
 use Rattle.dgt_board.specs.State.{BoardState, updates}
-use Rattle.dgt_board.specs.Sending.{after_sending, after_telling, clock_news, differs, every_square, field_of, left_to_send, next_message, piece_on, reply_message, times_owed_after, untold_squares}
+use Rattle.dgt_board.specs.Sending.{after_sending, after_reporting, clock_news, differs, every_square, field_of, left_to_send, next_message, piece_on, reply_message, times_owed_after, unreported_squares}
 
 -- ---- what passes a test
 
@@ -69,7 +69,7 @@ left_by asks board =
 
 pub left_is : (board : BoardState) → left_to_send board ≡ left_by (updates board.mode) board
 left_is board =
-    let squares : List ℕ = untold_squares board in
+    let squares : List ℕ = unreported_squares board in
     let all = length-append (map (reply_message board) board.owed) (map (field_of board) squares ++ clock_news board) in
     let rest = length-append (map (field_of board) squares) (clock_news board) in
     let replies = length-map board.owed (reply_message board) in
@@ -87,7 +87,7 @@ none_owed board none = go board.owed refl none
   where
     go : (owed : List Reply) → board.owed ≡ owed
         → slice_get
-        (map (reply_message board) owed ++ (map (field_of board) (untold_squares board) ++ clock_news board)) 0
+        (map (reply_message board) owed ++ (map (field_of board) (unreported_squares board) ++ clock_news board)) 0
         ≡ None
         → board.owed ≡ []
     go [] e h = e
@@ -111,18 +111,19 @@ same_square a b e = ap not (eq-eqb (piece_code a) (piece_code b) (ap piece_code 
 
 -- sending the clock alters no square
 after_clock : (board : BoardState) (clock : ClockState)
-    → after_telling board (clock_message clock) ≡ record board { told_clock = Some board.clock; times_owed = false }
+    → after_reporting board (clock_message clock)
+    ≡ record board { reported_clock = Some board.clock; times_owed = false }
 after_clock board (ClockState.times readings) = refl
 after_clock board (ClockState.no_clock absence) = refl
 
 -- ---- a reply is sent
 
 -- a reply makes no square differ
-reply_tells : (board : BoardState) (reply : Reply) (k : ℕ) → differs board k ≡ false
-    → differs (after_telling board (reply_message board reply)) k ≡ false
-reply_tells board (Reply.Of Kind.Dump) k h = same_square (piece_on board.squares k) (piece_on board.squares k) refl
-reply_tells board Reply.Clock k h = ap (λ (after : BoardState). differs after k) (after_clock board board.clock) ∙ h
-reply_tells board _ k h = h
+reply_reports : (board : BoardState) (reply : Reply) (k : ℕ) → differs board k ≡ false
+    → differs (after_reporting board (reply_message board reply)) k ≡ false
+reply_reports board (Reply.Of Kind.Dump) k h = same_square (piece_on board.squares k) (piece_on board.squares k) refl
+reply_reports board Reply.Clock k h = ap (λ (after : BoardState). differs after k) (after_clock board board.clock) ∙ h
+reply_reports board _ k h = h
 
 -- a reply makes no times owed
 reply_news : (board : BoardState) (reply : Reply) → board.times_owed ≡ false
@@ -138,7 +139,7 @@ reply_lowers asks board reply rest e =
     let after : BoardState = after_sending board (reply_message board reply) in
     let squares =
     when_fewer asks (filter (differs after) every_square) (filter (differs board) every_square)
-    (fewer_pass (differs after) (differs board) (reply_tells board reply) every_square) in
+    (fewer_pass (differs after) (differs board) (reply_reports board reply) every_square) in
     let news : length (clock_news after) ≤ length (clock_news board)
     = news_fewer after.times_owed board.times_owed (clock_message board.clock) (clock_message board.clock)
     (reply_news board reply) in
@@ -148,25 +149,25 @@ reply_lowers asks board reply rest e =
 -- ---- a field is sent
 
 -- the square is then reported
-field_told : (board : BoardState) (square k : ℕ) → square < length board.told_squares → k ≡ square
-    → differs (after_telling board (field_of board square)) k ≡ false
-field_told board square k within e =
+field_reported : (board : BoardState) (square k : ℕ) → square < length board.reported_squares → k ≡ square
+    → differs (after_reporting board (field_of board square)) k ≡ false
+field_reported board square k within e =
     rw e (same_square _ _
-    (get_or-set_same board.told_squares square (piece_on board.squares square) Piece.Empty within))
+    (get_or-set_same board.reported_squares square (piece_on board.squares square) Piece.Empty within))
 
 -- and each other one is reported where it was
-field_tells : (board : BoardState) (square k : ℕ) → square < length board.told_squares → differs board k ≡ false
-    → differs (after_telling board (field_of board square)) k ≡ false
-field_tells board square k within h = go (k == square) refl
+field_reports : (board : BoardState) (square k : ℕ) → square < length board.reported_squares → differs board k ≡ false
+    → differs (after_reporting board (field_of board square)) k ≡ false
+field_reports board square k within h = go (k == square) refl
   where
     piece : Piece
     piece = piece_on board.squares square
 
-    go : (same : Bool) → (k == square) ≡ same → differs (after_telling board (field_of board square)) k ≡ false
-    go true e = field_told board square k within (eqb-true k square e)
+    go : (same : Bool) → (k == square) ≡ same → differs (after_reporting board (field_of board square)) k ≡ false
+    go true e = field_reported board square k within (eqb-true k square e)
     go false e =
         let other : k ≢ square = λ f. false≢true (sym e ∙ eq-eqb k square f) in
-        rw (get_or-set_other board.told_squares square k piece Piece.Empty other) h
+        rw (get_or-set_other board.reported_squares square k piece Piece.Empty other) h
 
 -- fewer squares are left where one of them is reported
 fewer_squares : (own asks : Bool) (less test : ℕ → Bool) (at : ℕ) (rest : List ℕ) → (own ≡ true → asks ≡ true)
@@ -178,14 +179,14 @@ fewer_squares false asks less test at rest more h fails e = cc
 
 -- a square less
 field_lowers : (asks : Bool) (board : BoardState) (square : ℕ) (rest : List ℕ)
-    → (updates board.mode ≡ true → asks ≡ true) → square < length board.told_squares
-    → board.owed ≡ [] → untold_squares board ≡ square ∷ rest
+    → (updates board.mode ≡ true → asks ≡ true) → square < length board.reported_squares
+    → board.owed ≡ [] → unreported_squares board ≡ square ∷ rest
     → left_by asks (after_sending board (field_of board square)) < left_by asks board
 field_lowers asks board square rest more within none first =
     let after : BoardState = after_sending board (field_of board square) in
     let squares =
     fewer_squares (updates board.mode) asks (differs after) (differs board) square rest more
-    (λ k. field_tells board square k within) (field_told board square square within refl) first in
+    (λ k. field_reports board square k within) (field_reported board square square within refl) first in
     let owed : length (drop 1 board.owed) ≡ length board.owed = rw none refl in
     omega (arith, squares, owed)
 
@@ -224,9 +225,10 @@ square_below false test at rest e = cc
 
 -- each message that is sent leaves less, also by the squares that the mode doesn't ask for
 pub next_lowers : (asks : Bool) (board : BoardState) (message : Content) → (updates board.mode ≡ true → asks ≡ true)
-    → length board.told_squares ≡ 64 → next_message board ≡ Some message
+    → length board.reported_squares ≡ 64 → next_message board ≡ Some message
     → left_by asks (after_sending board message) < left_by asks board
-next_lowers asks board message more all next = go board.owed (untold_squares board) board.times_owed refl refl refl next
+next_lowers asks board message more all next =
+    go board.owed (unreported_squares board) board.times_owed refl refl refl next
   where
     Lowers : Content → Type 0
     Lowers sent = left_by asks (after_sending board sent) < left_by asks board
@@ -237,19 +239,19 @@ next_lowers asks board message more all next = go board.owed (untold_squares boa
         (map (field_of board) squares ++ cond times (clock_message board.clock ∷ []) [])
 
     go : (owed : List Reply) (squares : List ℕ) (times : Bool)
-        → board.owed ≡ owed → untold_squares board ≡ squares → board.times_owed ≡ times
+        → board.owed ≡ owed → unreported_squares board ≡ squares → board.times_owed ≡ times
         → slice_get (pending owed squares times) 0 ≡ Some message → Lowers message
     go (reply ∷ rest) squares times e f g h =
         subst Lowers (same_Some (reply_message board reply) message h) (reply_lowers asks board reply rest e)
     go [] (square ∷ rest) times e f g h =
-        let within : square < length board.told_squares =
+        let within : square < length board.reported_squares =
         rw all (square_below (updates board.mode) (differs board) square rest f) in
         subst Lowers (same_Some (field_of board square) message h) (field_lowers asks board square rest more within e f)
     go [] [] true e f g h = subst Lowers (same_Some (clock_message board.clock) message h) (times_lower asks board e g)
     go [] [] false e f g h = cc
 
 -- so less is left to send
-pub sending_lowers : (board : BoardState) (message : Content) → length board.told_squares ≡ 64
+pub sending_lowers : (board : BoardState) (message : Content) → length board.reported_squares ≡ 64
     → next_message board ≡ Some message → left_to_send (after_sending board message) < left_to_send board
 sending_lowers board message all next =
     rw (left_is board, left_is (after_sending board message))
@@ -269,21 +271,24 @@ no_first (x ∷ xs) h = cc
 
 -- with no reply owed, the first square that is left is next
 pub field_is_next : (board : BoardState) (square : ℕ) → slice_get board.owed 0 ≡ None
-    → slice_get (untold_squares board) 0 ≡ Some square → next_message board ≡ Some (field_of board square)
+    → slice_get (unreported_squares board) 0 ≡ Some square → next_message board ≡ Some (field_of board square)
 field_is_next board square none first =
-    rw (no_first board.owed none) (first_mapped (field_of board) (untold_squares board) (clock_news board) square first)
+    rw (no_first board.owed none) (first_mapped (field_of board) (unreported_squares board)
+        (clock_news board) square first)
 
 -- with no square left either, the clock is, where it is owed
-pub times_are_next : (board : BoardState) → slice_get board.owed 0 ≡ None → slice_get (untold_squares board) 0 ≡ None
+pub times_are_next : (board : BoardState) → slice_get board.owed 0 ≡ None
+    → slice_get (unreported_squares board) 0 ≡ None
     → board.times_owed ≡ true → next_message board ≡ Some (clock_message board.clock)
 times_are_next board none squares owed =
-    rw (no_first board.owed none, no_first (untold_squares board) squares, owed) refl
+    rw (no_first board.owed none, no_first (unreported_squares board) squares, owed) refl
 
 -- and else nothing
-pub nothing_is_next : (board : BoardState) → slice_get board.owed 0 ≡ None → slice_get (untold_squares board) 0 ≡ None
+pub nothing_is_next : (board : BoardState) → slice_get board.owed 0 ≡ None
+    → slice_get (unreported_squares board) 0 ≡ None
     → board.times_owed ≡ false → next_message board ≡ None
 nothing_is_next board none squares owed =
-    rw (no_first board.owed none, no_first (untold_squares board) squares, owed) refl
+    rw (no_first board.owed none, no_first (unreported_squares board) squares, owed) refl
 
 -- ---- how much may be left
 

@@ -59,34 +59,35 @@ same_code a b same = sym (code_piece a) ∙ ap piece_with_code same ∙ code_pie
 
 -- ---- a mask of the squares that differ
 
-module _ (board : BoardState) (mask : ℕ) (told_all : length board.told_squares ≡ 64) (all : length board.squares ≡ 64)
-    (tells : DifferingSquares board.told_squares board.squares mask) where
+module _ (board : BoardState) (mask : ℕ) (reported_all : length board.reported_squares ≡ 64)
+    (all : length board.squares ≡ 64)
+    (reports : DifferingSquares board.reported_squares board.squares mask) where
   -- a square whose bit is set differs
   set_differs : (k : ℕ) → k < 64 → bit_at mask k ≡ 1 → differs board k ≡ true
   set_differs k within set =
-      let told = slice_get-get_or board.told_squares k Piece.Empty (omega arith) in
+      let reported = slice_get-get_or board.reported_squares k Piece.Empty (omega arith) in
       let shown = slice_get-get_or board.squares k Piece.Empty (omega arith) in
-      let apart = (tells k within).0 ((bit_set_by_shift mask k).0 (shr_and_one mask k ∙ set)) in
-      ap not (ne_eqb _ _ (λ codes. apart (told ∙ ap Some (same_code _ _ codes) ∙ sym shown)))
+      let apart = (reports k within).0 ((bit_set_by_shift mask k).0 (shr_and_one mask k ∙ set)) in
+      ap not (ne_eqb _ _ (λ codes. apart (reported ∙ ap Some (same_code _ _ codes) ∙ sym shown)))
 
   -- and one whose bit is clear doesn't
   clear_same : (k : ℕ) → k < 64 → bit_at mask k ≡ 0 → differs board k ≡ false
   clear_same k within clear =
-      let told = slice_get-get_or board.told_squares k Piece.Empty (omega arith) in
+      let reported = slice_get-get_or board.reported_squares k Piece.Empty (omega arith) in
       let shown = slice_get-get_or board.squares k Piece.Empty (omega arith) in
-      go (differs board k) refl told shown
+      go (differs board k) refl reported shown
     where
       go : (differing : Bool) → differs board k ≡ differing
-          → slice_get board.told_squares k ≡ Some (piece_on board.told_squares k)
+          → slice_get board.reported_squares k ≡ Some (piece_on board.reported_squares k)
           → slice_get board.squares k ≡ Some (piece_on board.squares k) → differing ≡ false
-      go false e told shown = refl
-      go true e told shown =
-          let apart : slice_get board.told_squares k ≢ slice_get board.squares k = λ same.
-          let pieces : Some (piece_on board.told_squares k) ≡ Some (piece_on board.squares k) =
-          sym told ∙ same ∙ shown in
-          let piece : piece_on board.told_squares k ≡ piece_on board.squares k = cc in
+      go false e reported shown = refl
+      go true e reported shown =
+          let apart : slice_get board.reported_squares k ≢ slice_get board.squares k = λ same.
+          let pieces : Some (piece_on board.reported_squares k) ≡ Some (piece_on board.squares k) =
+          sym reported ∙ same ∙ shown in
+          let piece : piece_on board.reported_squares k ≡ piece_on board.squares k = cc in
           absurd (false≢true (sym (ap not (eq-eqb _ _ (ap piece_code piece))) ∙ e)) in
-          let one = sym (shr_and_one mask k) ∙ (bit_set_by_shift mask k).1 ((tells k within).1 apart) in
+          let one = sym (shr_and_one mask k) ∙ (bit_set_by_shift mask k).1 ((reports k within).1 apart) in
           absurd (omega (arith, clear, one))
 
   -- with no bit set, no square differs

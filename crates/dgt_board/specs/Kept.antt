@@ -2,9 +2,9 @@
 use Rattle.std.specs.Prelude.{ℕ, ◌≤◌, List, length, option_map, Result}
 use Rattle.dgt_values.specs.declared.refusals.NoRoom.{NoRoom}
 use Rattle.dgt_values.specs.Board.{pieces_of, square_number}
-use Rattle.dgt_values.specs.Bytes.{WritesFront}
+use Rattle.dgt_values.specs.Bytes.{WritesPrefix}
 use Rattle.dgt_message.specs.Content.{clock_message, clock_seen, Content}
-use Rattle.dgt_message.specs.Spelling.{Spells, spelling}
+use Rattle.dgt_message.specs.Encoding.{Encodes, encoding}
 use Rattle.dgt_board.specs.declared.sending.TheConstants.{MAX_SENT}
 use Rattle.dgt_board.specs.declared.sending.Due.{Due}
 use Rattle.dgt_board.specs.declared.state.State.{State}
@@ -17,8 +17,8 @@ state_of kept =
       squares = pieces_of kept.squares;
       clock = clock_seen kept.clock;
       mode = kept.mode;
-      told_squares = pieces_of kept.told_squares;
-      told_clock = option_map clock_seen kept.told_clock;
+      reported_squares = pieces_of kept.reported_squares;
+      reported_clock = option_map clock_seen kept.reported_clock;
       times_owed = kept.times_owed;
       owed = kept.owed.items;
       identity = kept.identity;
@@ -33,6 +33,6 @@ due_message board Due.Times = clock_message board.clock
 -- The message is written at the beginning of the slice, or this is too short. Its bytes encode it,
 -- and are at most as many as a board sends.
 pub record WritesMessage (message : Content) (old new : List ℕ) (r : Result ℕ NoRoom) : Type 0 where
-  pub written : WritesFront (spelling message) old new r
-  pub spells : Spells message (spelling message)
-  pub short : length (spelling message) ≤ MAX_SENT
+  pub written : WritesPrefix (encoding message) old new r
+  pub encodes : Encodes message (encoding message)
+  pub short : length (encoding message) ≤ MAX_SENT

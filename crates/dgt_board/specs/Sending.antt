@@ -32,16 +32,16 @@ piece_on squares square = slice_index_or squares square Piece.Empty
 -- whether a square differs from what was reported
 abbrev pub differs : BoardState → ℕ → Bool
 differs board square =
-    let told = piece_code (piece_on board.told_squares square) in
-    not (told == piece_code (piece_on board.squares square))
+    let reported = piece_code (piece_on board.reported_squares square) in
+    not (reported == piece_code (piece_on board.squares square))
 
 -- the 64 squares by number
 unfoldable pub every_square : List ℕ
 every_square = range_with_len 0 64
 
 -- the squares that an update mode has still to report, by number
-abbrev pub untold_squares : BoardState → List ℕ
-untold_squares board = if updates board.mode then filter (differs board) every_square else []
+abbrev pub unreported_squares : BoardState → List ℕ
+unreported_squares board = if updates board.mode then filter (differs board) every_square else []
 
 abbrev pub field_of : BoardState → ℕ → Content
 field_of board square = Content.field square (piece_on board.squares square)
@@ -53,7 +53,7 @@ clock_news board = if board.times_owed then clock_message board.clock ∷ [] els
 abbrev pub pending_messages : BoardState → List Content
 pending_messages board =
     map (reply_message board) board.owed
-    ++ (map (field_of board) (untold_squares board) ++ clock_news board)
+    ++ (map (field_of board) (unreported_squares board) ++ clock_news board)
 
 -- the next message, if anything is to be sent
 abbrev pub next_message : BoardState → Option Content
@@ -69,16 +69,16 @@ backlog board = left_to_send (record board { mode = Mode.Update })
 
 -- ---- what sending makes of it
 
-abbrev pub told_squares_after : BoardState → Content → List Piece
-told_squares_after board (Content.dump pieces) = board.squares
-told_squares_after board (Content.field square piece) =
-    slice_set board.told_squares square (piece_on board.squares square)
-told_squares_after board _ = board.told_squares
+abbrev pub reported_squares_after : BoardState → Content → List Piece
+reported_squares_after board (Content.dump pieces) = board.squares
+reported_squares_after board (Content.field square piece) =
+    slice_set board.reported_squares square (piece_on board.squares square)
+reported_squares_after board _ = board.reported_squares
 
-abbrev pub told_clock_after : BoardState → Content → Option ClockState
-told_clock_after board (Content.times readings) = Some board.clock
-told_clock_after board (Content.no_clock absence) = Some board.clock
-told_clock_after board _ = board.told_clock
+abbrev pub reported_clock_after : BoardState → Content → Option ClockState
+reported_clock_after board (Content.times readings) = Some board.clock
+reported_clock_after board (Content.no_clock absence) = Some board.clock
+reported_clock_after board _ = board.reported_clock
 
 abbrev pub times_owed_after : BoardState → Content → Bool
 times_owed_after board (Content.times readings) = false
@@ -86,14 +86,14 @@ times_owed_after board (Content.no_clock absence) = false
 times_owed_after board _ = board.times_owed
 
 -- the board after it has sent a message, which leaves what it owes of replies
-abbrev pub after_telling : BoardState → Content → BoardState
-after_telling board message =
+abbrev pub after_reporting : BoardState → Content → BoardState
+after_reporting board message =
     record board {
-      told_squares = told_squares_after board message;
-      told_clock = told_clock_after board message;
+      reported_squares = reported_squares_after board message;
+      reported_clock = reported_clock_after board message;
       times_owed = times_owed_after board message;
     }
 
 -- the board after sending its next message: an owed reply goes before all else
 abbrev pub after_sending : BoardState → Content → BoardState
-after_sending board message = record (after_telling board message) { owed = drop 1 board.owed }
+after_sending board message = record (after_reporting board message) { owed = drop 1 board.owed }

@@ -29,9 +29,9 @@ pub record BoardState : Type 0 where
   pub squares : List Piece  -- from a8 to h1
   pub clock : ClockState
   pub mode : Mode
-  pub told_squares : List Piece  -- the squares as the board has told them
-  pub told_clock : Option ClockState  -- the clock as it has told it
-  pub times_owed : Bool  -- whether the clock is to be told
+  pub reported_squares : List Piece  -- the squares as the board has reported them
+  pub reported_clock : Option ClockState  -- the clock as it has reported it
+  pub times_owed : Bool  -- whether the clock is to be reported
   pub owed : List Reply  -- what was asked for and is not sent, the oldest first
   pub identity : IdentityContent
 
@@ -42,8 +42,8 @@ new_board position clock identity =
       squares = position;
       clock = clock;
       mode = Mode.Idle;
-      told_squares = position;
-      told_clock = None;
+      reported_squares = position;
+      reported_clock = None;
       times_owed = false;
       owed = [];
       identity = identity;
@@ -65,9 +65,9 @@ follows_clock Mode.UpdateNice = true
 follows_clock _ = false
 
 -- whether what was reported of the clock is what it shows
-abbrev pub is_told : Option ClockState → ClockState → Bool
-is_told None clock = false
-is_told (Some told) clock = clock_eq told clock
+abbrev pub is_reported : Option ClockState → ClockState → Bool
+is_reported None clock = false
+is_reported (Some reported) clock = clock_eq reported clock
 
 -- the board after a piece is put on a square
 abbrev pub after_change : BoardState → ℕ → Piece → BoardState
@@ -75,16 +75,16 @@ after_change board square piece = record board { squares = slice_set board.squar
 
 -- whether a clock that is handed in is then owed, by the mode and by whether it was reported
 abbrev pub owed_when_handed : Mode → Bool → Bool
-owed_when_handed Mode.Update told = true
-owed_when_handed Mode.UpdateNice told = not told
-owed_when_handed _ told = false
+owed_when_handed Mode.Update reported = true
+owed_when_handed Mode.UpdateNice reported = not reported
+owed_when_handed _ reported = false
 
 -- the board after its clock is handed in
 abbrev pub after_hand_clock : BoardState → ClockState → BoardState
 after_hand_clock board clock =
     record board {
       clock = clock;
-      times_owed = owed_when_handed board.mode (is_told board.told_clock clock);
+      times_owed = owed_when_handed board.mode (is_reported board.reported_clock clock);
     }
 
 -- ---- what it reads
@@ -119,7 +119,7 @@ after_command board command =
     record board {
       mode = unwrap_or (command_mode command) board.mode;
       times_owed = option_map_or
-          (λ mode. follows_clock mode && not (is_told board.told_clock board.clock))
+          (λ mode. follows_clock mode && not (is_reported board.reported_clock board.clock))
           (command_mode command) board.times_owed;
       owed = board.owed ++ replies_to board command;
     }

@@ -3,7 +3,7 @@ use Rattle.std.specs.Prelude.{◌≡◌, ℕ, ◌<◌, ◌≤◌, List, [], ◌+
 use Rattle.dgt_values.specs.declared.pieces.Piece.{Piece}
 use Rattle.dgt_message.specs.Clock.{ClockState}
 use Rattle.dgt_message.specs.Content.{Content}
-use Rattle.dgt_message.specs.Spelling.{Spells, spelling}
+use Rattle.dgt_message.specs.Encoding.{Encodes, encoding}
 use Rattle.dgt_command.specs.Content.{EventContent}
 use Rattle.dgt_command.specs.Words.{Divides, IsPartial}
 use Rattle.dgt_board.specs.declared.state.TheConstants.{MAX_OWED}
@@ -27,7 +27,7 @@ view_after_line_lost board = record { state = after_line_lost board.state; parti
 -- what holds of each board
 pub record IsBoard (board : BoardView) : Type 0 where
   pub squares : length board.state.squares ≡ 64
-  pub told_squares : length board.state.told_squares ≡ 64
+  pub reported_squares : length board.state.reported_squares ≡ 64
   pub few_owed : length board.state.owed ≤ MAX_OWED
   pub partial : IsPartial board.partial
 
@@ -47,9 +47,9 @@ pub record HasTaken (before : BoardView) (bytes : List ℕ) (after : BoardView) 
 abbrev pub Polls : Polled → Option Content → BoardView → BoardView → List ℕ → List ℕ → Type 0
 Polls Polled.Nothing None before after old new = (after ≡ before) × (new ≡ old)
 Polls (Polled.NeedRoom need) (Some message) before after old new =
-    (need ≡ length (spelling message)) × (length old < need) × (after ≡ before) × (new ≡ old)
+    (need ≡ length (encoding message)) × (length old < need) × (after ≡ before) × (new ≡ old)
 Polls (Polled.Wrote count) (Some message) before after old new =
-    (count ≡ length (spelling message)) × (count ≤ length old)
-    × (new ≡ spelling message ++ drop count old) × Spells message (spelling message)
+    (count ≡ length (encoding message)) × (count ≤ length old)
+    × (new ≡ encoding message ++ drop count old) × Encodes message (encoding message)
     × (after ≡ record before { state = after_sending before.state message })
 Polls _ _ before after old new = ⊥

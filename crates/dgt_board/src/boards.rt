@@ -5,7 +5,7 @@ ghost use Rattle.std.specs.Borrow.{sem};
 ghost use Rattle.std.specs.Io.BufRead.{Rests};
 ghost use Rattle.dgt_values.specs.Board.{pieces_of, square_number};
 ghost use Rattle.dgt_message.specs.Content.{clock_seen};
-ghost use Rattle.dgt_message.specs.Spelling.{spelling};
+ghost use Rattle.dgt_message.specs.Encoding.{encoding};
 ghost use Rattle.dgt_command.specs.Content.{command_event_content};
 ghost use Rattle.dgt_command.specs.Words.{IsPartial, IsWord};
 ghost use Rattle.dgt_board.specs.State.{after_change, after_hand_clock};
@@ -27,7 +27,7 @@ use thiserror::Error;
 #[error("the board owes as many replies as it can")]
 pub struct Busy;
 
-/// How many bytes of a piece were used, and what the last of them completed.
+/// How many bytes of a chunk were used, and what the last of them completed.
 #[derive(Clone, Copy, Debug, PartialEq, Eq)]
 pub struct Taken<'a> {
     pub used: usize,
@@ -112,25 +112,25 @@ impl Board {
     ///
     /// It is `Busy` exactly if `MAX_OWED` replies are owed, whatever the chunk is, and then
     /// nothing changes.
-    pub fn take(&mut self, piece: &[u8]) -> Result<Taken<'_>, Busy>
+    pub fn take(&mut self, chunk: &[u8]) -> Result<Taken<'_>, Busy>
         ensures* after_borrow { sem 𝓛 (Rests the_row self.entry (λ new. MatchResult result
-            (λ taken. let bytes = take taken.used piece.now in
+            (λ taken. let bytes = take taken.used chunk.now in
             (new ≡ after_bytes self.old bytes (option_map command_event_content taken.event))
             × HasTaken self.old bytes new)
             (λ _. new ≡ self.old))) }
         ensures busy { IsErr result ↔ (length self.old.state.owed ≡ MAX_OWED) }
-        ensures within { IfOk result (λ taken. taken.used ≤ length piece.now) }
-        ensures progress { IfOk result (λ taken. 0 < length piece.now → 0 < taken.used) }
+        ensures within { IfOk result (λ taken. taken.used ≤ length chunk.now) }
+        ensures progress { IfOk result (λ taken. 0 < length chunk.now → 0 < taken.used) }
         ensures event { IfOk result (λ taken. IfSome taken.event (λ event.
-            IsWord (command_event_content event) (self.old.partial ++ take taken.used piece.now))) }
+            IsWord (command_event_content event) (self.old.partial ++ take taken.used chunk.now))) }
         ensures none { IfOk result (λ taken. IfNone taken.event (
-            (taken.used ≡ length piece.now) × IsPartial (self.old.partial ++ piece.now))) }
+            (taken.used ≡ length chunk.now) × IsPartial (self.old.partial ++ chunk.now))) }
     {
         dgt_command::laws::parts_of_words();
         if self.state.owed.is_full() {
             return Err(Busy);
         }
-        let advanced = self.framer.advance(piece);
+        let advanced = self.framer.advance(chunk);
         let used = advanced.used;
         let Some(found) = advanced.found else {
             return Ok(Taken { used, event: None });
@@ -155,7 +155,7 @@ impl Board {
         ensures polls { Polls result (next_message self.old.state)
             self.old self.new out.old out.new }
         ensures short { IfSome (next_message self.old.state)
-            (λ message. length (spelling message) ≤ MAX_SENT) }
+            (λ message. length (encoding message) ≤ MAX_SENT) }
         ensures falls { (count : ℕ) → result ≡ Polled.Wrote count
             → left_to_send self.new.state < left_to_send self.old.state }
         ensures nothing { (result ≡ Polled.Nothing) ↔ (left_to_send self.old.state ≡ 0) }

@@ -8,7 +8,7 @@ ghost use Rattle.dgt_command.specs.Content.{EventContent, command_event_content}
 ghost use Rattle.dgt_command.specs.Equality.{EventHasArrays};
 ghost use Rattle.dgt_board.specs.declared.boards.Taken.{Taken};
 ghost use Rattle.dgt_board.specs.State.{BoardState, effects};
-ghost use Rattle.dgt_board.specs.Sending.{after_sending, backlog, clock_news, left_to_send, next_message, untold_squares};
+ghost use Rattle.dgt_board.specs.Sending.{after_sending, backlog, clock_news, left_to_send, next_message, unreported_squares};
 ghost use Rattle.dgt_board.specs.View.{BoardView, HasTaken};
 
 use crate::{Busy, MAX_KEPT_BODY, MAX_OWED, MAX_SENT, Mode, Polled, Taken, TooLong};
@@ -56,9 +56,9 @@ pub fn nothing_to_send()
 /// number falls with each message that is sent.
 pub fn bounded_sending()
     ensures parts { (board : BoardState) → left_to_send board
-        ≡ length board.owed + length (untold_squares board) + length (clock_news board) }
+        ≡ length board.owed + length (unreported_squares board) + length (clock_news board) }
     ensures bound { (board : BoardState) → left_to_send board ≤ length board.owed + 65 }
-    ensures falls { (board : BoardState) (message : Content) → length board.told_squares ≡ 64
+    ensures falls { (board : BoardState) (message : Content) → length board.reported_squares ≡ 64
         → next_message board ≡ Some message
         → left_to_send (after_sending board message) < left_to_send board }
 {}
@@ -84,7 +84,7 @@ pub fn one_taking()
 /// sent, and rises by at most one with each command that is taken.
 pub fn bounded_backlog()
     ensures bound { (board : BoardState) → backlog board ≤ length board.owed + 65 }
-    ensures falls { (board : BoardState) (message : Content) → length board.told_squares ≡ 64
+    ensures falls { (board : BoardState) (message : Content) → length board.reported_squares ≡ 64
         → next_message board ≡ Some message
         → backlog (after_sending board message) < backlog board }
     ensures rises { (board : BoardState) (events : List EventContent) →

@@ -4,8 +4,8 @@ ghost use Rattle.std.specs.Prelude.{◌≡◌, ◌↔◌, ◌≤◌, ◌<◌, �
 ghost use Rattle.dgt_values.specs.Bytes.{number};
 ghost use Rattle.dgt_values.specs.Board.{square_number};
 ghost use Rattle.dgt_message.specs.Content.{clock_message, Content, content};
-ghost use Rattle.dgt_message.specs.Spelling.{spelling};
-ghost use Rattle.dgt_board.specs.Sending.{after_sending, after_telling, differs, every_square, left_to_send, next_message, reply_message, untold_squares};
+ghost use Rattle.dgt_message.specs.Encoding.{encoding};
+ghost use Rattle.dgt_board.specs.Sending.{after_sending, after_reporting, differs, every_square, left_to_send, next_message, reply_message, unreported_squares};
 ghost use Rattle.dgt_board.specs.View.{Polls};
 ghost use Rattle.dgt_board.specs.Kept.{WritesMessage, due_message};
 
@@ -56,7 +56,7 @@ impl State {
         ensures { slice_get (filter (differs (state_of self.now)) every_square) 0
             ≡ option_map square_number result }
     {
-        let differing = self.told_squares.differ(&self.squares);
+        let differing = self.reported_squares.differ(&self.squares);
         if differing == 0 {
             return None;
         }
@@ -64,8 +64,8 @@ impl State {
     }
 
     // The first square that is left to report in this mode.
-    fn untold_square(&self) -> Option<Square>
-        ensures { slice_get (untold_squares (state_of self.now)) 0
+    fn unreported_square(&self) -> Option<Square>
+        ensures { slice_get (unreported_squares (state_of self.now)) 0
             ≡ option_map square_number result }
     {
         if self.mode != Mode::Idle {
@@ -84,7 +84,7 @@ impl State {
         if let Some(reply) = self.owed.as_slice().first() {
             return Some(Due::Reply(*reply));
         }
-        if let Some(square) = self.untold_square() {
+        if let Some(square) = self.unreported_square() {
             return Some(Due::Field(square));
         }
         if self.times_owed {
@@ -143,36 +143,36 @@ impl State {
     // The clock is reported.
     fn note_clock(&mut self)
         ensures { state_of self.new ≡ record (state_of self.old) {
-          told_clock = Some (state_of self.old).clock;
+          reported_clock = Some (state_of self.old).clock;
           times_owed = false;
         } }
     {
-        self.told_clock = Some(self.clock);
+        self.reported_clock = Some(self.clock);
         self.times_owed = false;
     }
 
     // What a reply reports counts as reported.
     fn note_reply(&mut self, reply: Reply)
         ensures { state_of self.new
-            ≡ after_telling (state_of self.old) (reply_message (state_of self.old) reply) }
+            ≡ after_reporting (state_of self.old) (reply_message (state_of self.old) reply) }
     {
         match reply {
-            Reply::Of(Kind::Dump) => self.told_squares = self.squares,
+            Reply::Of(Kind::Dump) => self.reported_squares = self.squares,
             Reply::Clock => self.note_clock(),
             _ => {}
         }
     }
 
     // What was due counts as reported.
-    fn note_told(&mut self, due: Due)
+    fn note_reported(&mut self, due: Due)
         ensures { state_of self.new
-            ≡ after_telling (state_of self.old) (due_message (state_of self.old) due) }
+            ≡ after_reporting (state_of self.old) (due_message (state_of self.old) due) }
     {
         match due {
             Due::Reply(reply) => self.note_reply(reply),
             Due::Field(square) => {
                 let piece = self.squares.get(square);
-                self.told_squares.set(square, piece);
+                self.reported_squares.set(square, piece);
             }
             Due::Times => self.note_clock(),
         }
@@ -192,7 +192,7 @@ impl State {
             (record { state = state_of self.old; partial = partial })
             (record { state = state_of self.new; partial = partial }) out.old out.new }
         ensures short { IfSome (next_message (state_of self.old))
-            (λ message. length (spelling message) ≤ MAX_SENT) }
+            (λ message. length (encoding message) ≤ MAX_SENT) }
         ensures falls { (count : ℕ) → result ≡ Polled.Wrote count
             → left_to_send (state_of self.new) < left_to_send (state_of self.old) }
         ensures room { (need : ℕ) → result ≡ Polled.NeedRoom need → length out.old < MAX_SENT }
@@ -204,7 +204,7 @@ impl State {
         };
         match self.write(due, out) {
             Ok(count) => {
-                self.note_told(due);
+                self.note_reported(due);
                 self.drop_reply();
                 Polled::Wrote(count)
             }

@@ -4,7 +4,7 @@ ghost use Rattle.std.specs.Prelude.{◌≡◌, ◌<◌, ◌++◌, ◌&&◌, not,
 ghost use Rattle.dgt_values.specs.Board.{pieces_of, square_number};
 ghost use Rattle.dgt_message.specs.Content.{clock_seen};
 ghost use Rattle.dgt_command.specs.Content.{clock_content, command_content, command_event_content};
-ghost use Rattle.dgt_board.specs.State.{acknowledgements, after_change, after_command, after_hand_clock, after_line_lost, effect, follows_clock, is_told, new_board};
+ghost use Rattle.dgt_board.specs.State.{acknowledgements, after_change, after_command, after_hand_clock, after_line_lost, effect, follows_clock, is_reported, new_board};
 
 use crate::identities::Identity;
 use crate::modes::Mode;
@@ -24,9 +24,9 @@ pub struct State {
     pub clock: Clock,
     pub mode: Mode,
     /// The squares as the board has reported them.
-    pub told_squares: Position,
+    pub reported_squares: Position,
     /// The clock as the board has reported it.
-    pub told_clock: Option<Clock>,
+    pub reported_clock: Option<Clock>,
     /// Whether the clock is to be sent.
     pub times_owed: bool,
     /// The replies that were asked for and are not sent, the oldest first.
@@ -45,8 +45,8 @@ impl State {
             squares: position,
             clock,
             mode: Mode::Idle,
-            told_squares: position,
-            told_clock: None,
+            reported_squares: position,
+            reported_clock: None,
             times_owed: false,
             owed: ArrayVec::new(),
             identity,
@@ -63,9 +63,9 @@ impl State {
 
     // Whether a clock differs from what was reported.
     fn is_news(&self, clock: Clock) -> bool
-        ensures { result ≡ not (is_told (state_of self.now).told_clock (clock_seen clock)) }
+        ensures { result ≡ not (is_reported (state_of self.now).reported_clock (clock_seen clock)) }
     {
-        self.told_clock != Some(clock)
+        self.reported_clock != Some(clock)
     }
 
     /// The clock shows something.
@@ -85,8 +85,8 @@ impl State {
         ensures { state_of self.new ≡ after_line_lost (state_of self.old) }
     {
         self.mode = Mode::Idle;
-        self.told_squares = self.squares;
-        self.told_clock = None;
+        self.reported_squares = self.squares;
+        self.reported_clock = None;
         self.times_owed = false;
         self.owed.clear();
     }
@@ -128,7 +128,7 @@ impl State {
         ensures { state_of self.new ≡ record (state_of self.old) {
           mode = mode;
           times_owed = let before = state_of self.old in
-              follows_clock mode && not (is_told before.told_clock before.clock);
+              follows_clock mode && not (is_reported before.reported_clock before.clock);
         } }
     {
         self.mode = mode;

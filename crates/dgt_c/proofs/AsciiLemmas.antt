@@ -37,9 +37,9 @@ placement-ascii : (text : List ℕ) (pieces : List Piece) → IsPlacement text p
 placement-ascii text pieces h = rw h.joined (ranks-ascii h.ranks pieces h.each)
 
 -- bytes up to the first that is no ASCII
-pub ascii_front : (text : List ℕ) (end : ℕ) → end ≤ length text
+pub ascii_prefix : (text : List ℕ) (end : ℕ) → end ≤ length text
     → ((k : ℕ) → k < end → slice_index text k < 128) → IsAscii (take end text)
-ascii_front text end h low = λ i. elim (cases_lt i end) [
+ascii_prefix text end h low = λ i. elim (cases_lt i end) [
   | inl within ↦ rw (get_or-take end text i 0 within) (low i within)
   | inr behind ↦
       let past : length (take end text) ≤ i = rw (length-take-le end text h) behind in
@@ -52,9 +52,9 @@ no_longer : (text : List ℕ) (at : ℕ) → at < length text → 128 ≤ slice_
 no_longer text at h top (more, pieces, placed) =
     let low = placement-ascii (take (at + 1) text ++ more) pieces placed at in
     let long : at < length (take (at + 1) text) = omega (arith, length-take (at + 1) text) in
-    let front = get_or_append_left (take (at + 1) text) more 0 at long in
+    let prefix = get_or_append_left (take (at + 1) text) more 0 at long in
     let same = get_or-take (at + 1) text at 0 (omega arith) in
-    let below : slice_index text at < 128 = rw (front, same) at low in
+    let below : slice_index text at < 128 = rw (prefix, same) at low in
     absurd (omega (arith, below, top))
 
 -- a placement and then a byte that is no ASCII
@@ -68,9 +68,9 @@ bad_behind text end pieces h top placed = record {
 }
 
 -- what is bad up to a byte that is no ASCII, or up to the end, is so in the whole
-pub bad_in_front : (text : List ℕ) (end at : ℕ) → end ≤ length text
+pub bad_in_prefix : (text : List ℕ) (end at : ℕ) → end ≤ length text
     → (end < length text → 128 ≤ slice_index text end) → IsFirstBadOffset (take end text) at → IsFirstBadOffset text at
-bad_in_front text end at h top bad =
+bad_in_prefix text end at h top bad =
     let long : length (take end text) ≡ end = length-take-le end text h in
     let within : at ≤ end = omega (arith, bad.within, long) in
     record {

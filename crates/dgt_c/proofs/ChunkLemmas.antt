@@ -4,15 +4,15 @@ use Rattle.std.proofs.Math.Seq.{take-add}
 use Rattle.std.proofs.lemmas.Bool.{cases_lt}
 use Rattle.std.proofs.lemmas.Grind.{flat_map-append}
 use Rattle.std.proofs.lemmas.List.{drop-drop, drop-set-lt, length-append, length-drop, length-set, length-take, map-append, nil_from_length, take-append-drop, take_all, take_more_set}
-use Rattle.dgt_decode.specs.Grammar.{Event, Placed, at_place, events, events_behind, open_message}
+use Rattle.dgt_decode.specs.Grammar.{Event, Placed, at_place, events, events_behind, unfinished_message}
 use Rattle.dgt_decode.specs.Feeding.{FirstEvent, event_content, event_content_if_any}
 use Rattle.dgt_decode.specs.declared.event.Event as code
-use Rattle.dgt_decode.specs.Laws.{EventsAppend, OpenAppend, OpenIsPart, OpenIsQuiet}
+use Rattle.dgt_decode.specs.Laws.{EventsAppend, UnfinishedAppend, UnfinishedIsPart, UnfinishedIsQuiet}
 use Rattle.dgt_host.specs.Host.{HostView, IsUnasked, host_after, host_after_event, host_after_events}
-use Rattle.dgt_c.specs.Chunks.{GoesOn, Tells, TellsEach, UsesUpTo, bodies, each_told, events_up_to}
+use Rattle.dgt_c.specs.Chunks.{GoesOn, Reports, ReportsEach, UsesUpTo, bodies, each_reported, events_up_to}
 use Rattle.dgt_c.specs.Hearing.{flag}
 use Rattle.dgt_c.specs.Slices.{overwritten}
-use Rattle.dgt_c.specs.Told.{body_said, told_at}
+use Rattle.dgt_c.specs.Reported.{body_said, reported_at}
 use Rattle.dgt_c.specs.declared.header.DgtEvent.{DgtEvent}
 
 -- ---- More bytes
@@ -20,7 +20,7 @@ use Rattle.dgt_c.specs.declared.header.DgtEvent.{DgtEvent}
 -- what more bytes make comes after what was made
 events_more : EventsAppend → (held chunk : List ℕ) (i n : ℕ) → let s = held ++ take i chunk in
     events_up_to held chunk (i + n) ≡ events_up_to held chunk i
-    ++ events_behind (length s - length (open_message s)) (events (open_message s ++ take n (drop i chunk)))
+    ++ events_behind (length s - length (unfinished_message s)) (events (unfinished_message s ++ take n (drop i chunk)))
 events_more later held chunk i n =
     ap (λ xs. events (held ++ xs)) (take-add i n chunk)
     ∙ ap events (sym (append_assoc held (take i chunk) (take n (drop i chunk))))
@@ -28,27 +28,27 @@ events_more later held chunk i n =
 
 -- bytes that make no event
 quiet : EventsAppend → (held chunk : List ℕ) (i n : ℕ)
-    → events (open_message (held ++ take i chunk) ++ take n (drop i chunk)) ≡ []
+    → events (unfinished_message (held ++ take i chunk) ++ take n (drop i chunk)) ≡ []
     → events_up_to held chunk (i + n) ≡ events_up_to held chunk i
 quiet later held chunk i n none =
     let s : List ℕ = held ++ take i chunk in
     events_more later held chunk i n
-    ∙ ap (λ xs. events_up_to held chunk i ++ events_behind (length s - length (open_message s)) xs) none
+    ∙ ap (λ xs. events_up_to held chunk i ++ events_behind (length s - length (unfinished_message s)) xs) none
     ∙ append-nil (events_up_to held chunk i)
 
-front_nil : {X : Type 0} (xs ys : List X) → xs ++ ys ≡ [] → xs ≡ []
-front_nil [] ys e = refl
-front_nil (x ∷ xs) ys e = absurd cc
+prefix_nil : {X : Type 0} (xs ys : List X) → xs ++ ys ≡ [] → xs ≡ []
+prefix_nil [] ys e = refl
+prefix_nil (x ∷ xs) ys e = absurd cc
 
--- the front of bytes that make no event makes none
-quiet_front : EventsAppend → (s p : List ℕ) → events (s ++ p) ≡ [] → events s ≡ []
-quiet_front later s p none = front_nil (events s) _ (sym (later s p) ∙ none)
+-- the prefix of bytes that make no event makes none
+quiet_prefix : EventsAppend → (s p : List ℕ) → events (s ++ p) ≡ [] → events s ≡ []
+quiet_prefix later s p none = prefix_nil (events s) _ (sym (later s p) ∙ none)
 
 -- ---- The first event of what is left
 
 -- the first k of some bytes, and the others of them
-front_and_rest : (k n : ℕ) (xs : List ℕ) → k ≤ n → take n xs ≡ take k xs ++ take (n - k) (drop k xs)
-front_and_rest k n xs h =
+prefix_and_rest : (k n : ℕ) (xs : List ℕ) → k ≤ n → take n xs ≡ take k xs ++ take (n - k) (drop k xs)
+prefix_and_rest k n xs h =
     let whole : k + (n - k) ≡ n = omega arith in
     ap (λ (m : ℕ). take m xs) (sym whole) ∙ take-add k (n - k) xs
 
@@ -56,41 +56,41 @@ front_and_rest k n xs h =
 quiet_before : EventsAppend → (held rest : List ℕ) (n k : ℕ) (event : Option Event) → FirstEvent held rest n event
     → k < n → events (held ++ take k rest) ≡ []
 quiet_before later held rest n k None (all, none) h =
-    quiet_front later (held ++ take k rest) (drop k rest)
+    quiet_prefix later (held ++ take k rest) (drop k rest)
     (ap events (append_assoc held (take k rest) (drop k rest))
     ∙ ap (λ (xs : List ℕ). events (held ++ xs)) (take-append-drop k rest) ∙ none)
 quiet_before later held rest n k (Some event) (within, made, least) h = least k h
 
 -- the events of all that is used then
 quiet_used : EventsAppend → (held chunk : List ℕ) (i n : ℕ)
-    → FirstEvent (open_message (held ++ take i chunk)) (drop i chunk) n None
+    → FirstEvent (unfinished_message (held ++ take i chunk)) (drop i chunk) n None
     → events_up_to held chunk (i + n) ≡ events_up_to held chunk i
 quiet_used later held chunk i n (all, none) =
     let rest : take n (drop i chunk) ≡ drop i chunk = take_all n (drop i chunk) (omega (arith, all)) in
     quiet later held chunk i n
-    (ap (λ (xs : List ℕ). events (open_message (held ++ take i chunk) ++ xs)) rest ∙ none)
+    (ap (λ (xs : List ℕ). events (unfinished_message (held ++ take i chunk) ++ xs)) rest ∙ none)
 
 -- the place of the event that is made next
 abbrev next_place : List ℕ → List ℕ → ℕ → ℕ → ℕ
 next_place held chunk i n =
     let s : List ℕ = held ++ take i chunk in
-    (length s - length (open_message s)) + (length (open_message s) + n)
+    (length s - length (unfinished_message s)) + (length (unfinished_message s) + n)
 
 -- in the chunk it is the number of bytes that are used then
-place_in_chunk : OpenIsPart → (held chunk : List ℕ) (i n : ℕ) → i ≤ length chunk
+place_in_chunk : UnfinishedIsPart → (held chunk : List ℕ) (i n : ℕ) → i ≤ length chunk
     → next_place held chunk i n - length held ≡ i + n
 place_in_chunk part held chunk i n h =
     omega (arith, h, part (held ++ take i chunk), length-append held (take i chunk), length-take i chunk)
 
 one_used : EventsAppend → (held chunk : List ℕ) (i n : ℕ) (event : Event)
-    → FirstEvent (open_message (held ++ take i chunk)) (drop i chunk) n (Some event)
+    → FirstEvent (unfinished_message (held ++ take i chunk)) (drop i chunk) n (Some event)
     → events_up_to held chunk (i + n)
     ≡ events_up_to held chunk i ++ at_place (next_place held chunk i n) event ∷ []
 one_used later held chunk i n event (within, made, least) =
     let s : List ℕ = held ++ take i chunk in
     events_more later held chunk i n
     ∙ ap (λ (xs : List Placed).
-    events_up_to held chunk i ++ events_behind (length s - length (open_message s)) xs) made
+    events_up_to held chunk i ++ events_behind (length s - length (unfinished_message s)) xs) made
 
 -- ---- A loop over a chunk
 
@@ -135,13 +135,14 @@ module _ (later : EventsAppend) (held chunk : List ℕ) (old : List DgtEvent) (o
   least_more : (used n : ℕ) (event : Option Event)
       → ((k : ℕ) → k < used → GoesOn (length old) (events_up_to held chunk k))
       → GoesOn (length old) (events_up_to held chunk used)
-      → FirstEvent (open_message (held ++ take used chunk)) (drop used chunk) n event
+      → FirstEvent (unfinished_message (held ++ take used chunk)) (drop used chunk) n event
       → (k : ℕ) → k < used + n → GoesOn (length old) (events_up_to held chunk k)
   least_more used n event least now first k h = elim (cases_lt k used) [
     | inl early ↦ least k early
     | inr late ↦
         let from : used + (k - used) ≡ k = omega (arith, late) in
-        let none = quiet_before later (open_message (held ++ take used chunk)) (drop used chunk) n (k - used) event
+        let none = quiet_before later (unfinished_message (held ++ take used chunk)) (drop used chunk) n
+            (k - used) event
         first (omega (arith, h, late)) in
         let same : events_up_to held chunk k ≡ events_up_to held chunk used =
         ap (events_up_to held chunk) (sym from) ∙ quiet later held chunk used (k - used) none in
@@ -151,7 +152,7 @@ module _ (later : EventsAppend) (held chunk : List ℕ) (old : List DgtEvent) (o
   pub none_read : (used n count body_len : ℕ) (now : List DgtEvent) (body : List ℕ)
       → HasRead held chunk used count old now body_len old_body body → count < length now → body_len ≡ 0
       → used < length chunk
-      → FirstEvent (open_message (held ++ take used chunk)) (drop used chunk) n None
+      → FirstEvent (unfinished_message (held ++ take used chunk)) (drop used chunk) n None
       → HasRead held chunk (used + n) count old now body_len old_body body
   none_read used n count body_len now body before room no_body more first =
       let same = quiet_used later held chunk used n first in
@@ -166,13 +167,14 @@ module _ (later : EventsAppend) (held chunk : List ℕ) (old : List DgtEvent) (o
         least = least_more used n None before.least on first;
       }
 
-  pub one_read : (used n count body_len : ℕ) (now : List DgtEvent) (body : List ℕ) (event : Event) (told : DgtEvent)
+  pub one_read : (used n count body_len : ℕ) (now : List DgtEvent) (body : List ℕ) (event : Event) (reported : DgtEvent)
       → HasRead held chunk used count old now body_len old_body body → count < length now → body_len ≡ 0
       → used < length chunk
-      → FirstEvent (open_message (held ++ take used chunk)) (drop used chunk) n (Some event)
-      → HasRead held chunk (used + n) (count + 1) old (set now count told) (length (body_said (Some event))) old_body
+      → FirstEvent (unfinished_message (held ++ take used chunk)) (drop used chunk) n (Some event)
+      → HasRead held chunk (used + n) (count + 1) old (set now count reported)
+      (length (body_said (Some event))) old_body
       (overwritten body (body_said (Some event)))
-  one_read used n count body_len now body event told before room no_body more first =
+  one_read used n count body_len now body event reported before room no_body more first =
       let x : Placed = at_place (next_place held chunk used n) event in
       let made = one_used later held chunk used n event first in
       let on = goes_on used count body_len now body before room no_body in
@@ -189,8 +191,8 @@ module _ (later : EventsAppend) (held chunk : List ℕ) (old : List DgtEvent) (o
           before.count_is,
           length-append (events_up_to held chunk used) (x ∷ []),
         ));
-        all = length-set now count told ∙ before.all;
-        rest = drop-set-lt (count + 1) now count told (omega arith)
+        all = length-set now count reported ∙ before.all;
+        rest = drop-set-lt (count + 1) now count reported (omega arith)
             ∙ sym (drop-drop 1 count now) ∙ ap (drop 1) before.rest ∙ drop-drop 1 count old;
         body_is = rw (made, all_bodies, body_same) refl;
         body_len_is = rw (made, all_bodies) refl;
@@ -229,44 +231,44 @@ pub record Hearer : Type 1 where
   pub S : Type 0
   pub held : S → List ℕ
   pub after : S → List ℕ → S
-  pub Tells : S → ℕ → Option Event → DgtEvent → Type 0
-  pub TellsAll : S → List Placed → List DgtEvent → Type 0
-  pub held_after : (x : S) (bytes : List ℕ) → held (after x bytes) ≡ open_message (held x ++ bytes)
-  pub none_told : (x : S) → TellsAll x [] []
-  pub one_told : (x : S) (bytes : List ℕ) (told : List DgtEvent) (y : Placed) (one : DgtEvent)
-      → TellsAll x (events (held x ++ bytes)) told
-      → Tells (after x bytes) (y.place - length (held x)) (Some y.event) one
-      → TellsAll x (events (held x ++ bytes) ++ y ∷ []) (told ++ one ∷ [])
+  pub Reports : S → ℕ → Option Event → DgtEvent → Type 0
+  pub ReportsAll : S → List Placed → List DgtEvent → Type 0
+  pub held_after : (x : S) (bytes : List ℕ) → held (after x bytes) ≡ unfinished_message (held x ++ bytes)
+  pub none_reported : (x : S) → ReportsAll x [] []
+  pub one_reported : (x : S) (bytes : List ℕ) (reported : List DgtEvent) (y : Placed) (one : DgtEvent)
+      → ReportsAll x (events (held x ++ bytes)) reported
+      → Reports (after x bytes) (y.place - length (held x)) (Some y.event) one
+      → ReportsAll x (events (held x ++ bytes) ++ y ∷ []) (reported ++ one ∷ [])
 
-pub tells_more : (before : ℕ) (host : HostView) (made : List Placed) (told : List DgtEvent) (x : Placed)
+pub reports_more : (before : ℕ) (host : HostView) (made : List Placed) (reported : List DgtEvent) (x : Placed)
     (one : DgtEvent)
-    → TellsEach before host made told → Tells before (host_after_events host made).awaited x one
-    → TellsEach before host (made ++ x ∷ []) (told ++ one ∷ [])
-tells_more before host [] [] x one are is = (is, tt)
-tells_more before host (y ∷ made) (t ∷ told) x one are is =
-    (are.0, tells_more before (host_after_event host y.event) made told x one are.1 is)
-tells_more before host [] (t ∷ told) x one are is = absurd are
-tells_more before host (y ∷ made) [] x one are is = absurd are
+    → ReportsEach before host made reported → Reports before (host_after_events host made).awaited x one
+    → ReportsEach before host (made ++ x ∷ []) (reported ++ one ∷ [])
+reports_more before host [] [] x one are is = (is, tt)
+reports_more before host (y ∷ made) (t ∷ reported) x one are is =
+    (are.0, reports_more before (host_after_event host y.event) made reported x one are.1 is)
+reports_more before host [] (t ∷ reported) x one are is = absurd are
+reports_more before host (y ∷ made) [] x one are is = absurd are
 
 abbrev pub host : Hearer
 host = record {
   S = HostView;
   held = λ x. x.unread;
   after = host_after;
-  Tells = λ x place event told. (unasked : Bool) × (IsTrue unasked ↔ IsUnasked x.awaited event)
-      × (told ≡ record (told_at place event) { unasked = flag unasked });
-  TellsAll = λ x. TellsEach (length x.unread) x;
+  Reports = λ x place event reported. (unasked : Bool) × (IsTrue unasked ↔ IsUnasked x.awaited event)
+      × (reported ≡ record (reported_at place event) { unasked = flag unasked });
+  ReportsAll = λ x. ReportsEach (length x.unread) x;
   held_after = λ x bytes. refl;
-  none_told = λ x. tt {0};
-  one_told = λ x bytes. tells_more (length x.unread) x (events (x.unread ++ bytes));
+  none_reported = λ x. tt {0};
+  one_reported = λ x bytes. reports_more (length x.unread) x (events (x.unread ++ bytes));
 }
 
-pub fed_more : (held bytes : List ℕ) (told : List DgtEvent) (y : Placed) (one : DgtEvent)
-    → told ≡ each_told (length held) (events (held ++ bytes))
-    → one ≡ told_at (y.place - length held) (Some y.event)
-    → told ++ one ∷ [] ≡ each_told (length held) (events (held ++ bytes) ++ y ∷ [])
-fed_more held bytes told y one are is =
-    let more = map-append (λ (x : Placed). told_at (x.place - length held) (Some x.event)) (events (held ++ bytes))
+pub fed_more : (held bytes : List ℕ) (reported : List DgtEvent) (y : Placed) (one : DgtEvent)
+    → reported ≡ each_reported (length held) (events (held ++ bytes))
+    → one ≡ reported_at (y.place - length held) (Some y.event)
+    → reported ++ one ∷ [] ≡ each_reported (length held) (events (held ++ bytes) ++ y ∷ [])
+fed_more held bytes reported y one are is =
+    let more = map-append (λ (x : Placed). reported_at (x.place - length held) (Some x.event)) (events (held ++ bytes))
     (y ∷ []) in
     rw (more, are, is) refl
 
@@ -274,65 +276,67 @@ abbrev pub decoder : Hearer
 decoder = record {
   S = List ℕ;
   held = λ x. x;
-  after = λ x bytes. open_message (x ++ bytes);
-  Tells = λ x place event told. told ≡ told_at place event;
-  TellsAll = λ x made told. told ≡ each_told (length x) made;
+  after = λ x bytes. unfinished_message (x ++ bytes);
+  Reports = λ x place event reported. reported ≡ reported_at place event;
+  ReportsAll = λ x made reported. reported ≡ each_reported (length x) made;
   held_after = λ x bytes. refl;
-  none_told = λ x. refl;
-  one_told = fed_more;
+  none_reported = λ x. refl;
+  one_reported = fed_more;
 }
 
--- what hears bytes in two pieces is what hears them in one
-abbrev pub InPieces : Hearer → Type 0
-InPieces K = (x : K.S) (bytes more : List ℕ) → K.after (K.after x bytes) more ≡ K.after x (bytes ++ more)
+-- what hears bytes in two chunks is what hears them in one
+abbrev pub InChunks : Hearer → Type 0
+InChunks K = (x : K.S) (bytes more : List ℕ) → K.after (K.after x bytes) more ≡ K.after x (bytes ++ more)
 
-pub fed_in_pieces : OpenAppend → InPieces decoder
-fed_in_pieces still x bytes more = sym (still (x ++ bytes) more) ∙ ap open_message (append_assoc x bytes more)
+pub fed_in_chunks : UnfinishedAppend → InChunks decoder
+fed_in_chunks still x bytes more = sym (still (x ++ bytes) more) ∙ ap unfinished_message (append_assoc x bytes more)
 
 -- It has heard `used` bytes and reported `count` events.
-pub record HasHeard (K : Hearer) (x now : K.S) (chunk : List ℕ) (used count : ℕ) (old told : List DgtEvent)
+pub record HasHeard (K : Hearer) (x now : K.S) (chunk : List ℕ) (used count : ℕ) (old reported : List DgtEvent)
     (body_len : ℕ) (old_body body : List ℕ) : Type 0 where
-  pub read : HasRead (K.held x) chunk used count old told body_len old_body body
+  pub read : HasRead (K.held x) chunk used count old reported body_len old_body body
   pub heard : now ≡ K.after x (take used chunk)
-  pub tells : K.TellsAll x (events_up_to (K.held x) chunk used) (take count told)
+  pub reports : K.ReportsAll x (events_up_to (K.held x) chunk used) (take count reported)
 
 module _ (K : Hearer) (later : EventsAppend) (x : K.S) (chunk : List ℕ) (old : List DgtEvent) (old_body : List ℕ) where
-  -- What is open makes no event.
-  no_event : OpenIsQuiet → open_message (K.held x) ≡ K.held x → events (K.held x ++ []) ≡ []
+  -- What is unfinished makes no event.
+  no_event : UnfinishedIsQuiet → unfinished_message (K.held x) ≡ K.held x → events (K.held x ++ []) ≡ []
   no_event quiet same = ap events (append-nil (K.held x) ∙ sym same) ∙ quiet.no_event (K.held x)
 
-  pub heard_nothing : OpenIsQuiet → open_message (K.held x) ≡ K.held x → K.after x [] ≡ x
+  pub heard_nothing : UnfinishedIsQuiet → unfinished_message (K.held x) ≡ K.held x → K.after x [] ≡ x
       → HasHeard K x x chunk 0 0 old old 0 old_body old_body
   heard_nothing quiet same still =
       let none = no_event quiet same in
       record {
         read = nothing_read later (K.held x) chunk old old_body none;
         heard = sym still;
-        tells = rw none (K.none_told x);
+        reports = rw none (K.none_reported x);
       }
 
-  heard_more : InPieces K → (before after : K.S) (i n : ℕ) → before ≡ K.after x (take i chunk)
+  heard_more : InChunks K → (before after : K.S) (i n : ℕ) → before ≡ K.after x (take i chunk)
       → after ≡ K.after before (take n (drop i chunk)) → after ≡ K.after x (take (i + n) chunk)
-  heard_more in_pieces before after i n e f =
+  heard_more in_chunks before after i n e f =
       f ∙ ap (λ (s : K.S). K.after s (take n (drop i chunk))) e
-      ∙ in_pieces x (take i chunk) (take n (drop i chunk))
+      ∙ in_chunks x (take i chunk) (take n (drop i chunk))
       ∙ ap (K.after x) (sym (take-add i n chunk))
 
-  pub one_heard : OpenIsPart → InPieces K → (before after : K.S) (used n count body_len : ℕ) (now : List DgtEvent)
-      (body said new_body : List ℕ) (event : Option code.Event) (told : DgtEvent)
+  pub one_heard : UnfinishedIsPart → InChunks K → (before after : K.S) (used n count body_len : ℕ) (now : List DgtEvent)
+      (body said new_body : List ℕ) (event : Option code.Event) (reported : DgtEvent)
       → HasHeard K x before chunk used count old now body_len old_body body
       → (used < length chunk) × (count < length now) × (body_len ≡ 0)
       → FirstEvent (K.held before) (drop used chunk) n (event_content_if_any event)
       → after ≡ K.after before (take n (drop used chunk)) → is_some event ≡ true
-      → K.Tells before (used + n) (event_content_if_any event) told
+      → K.Reports before (used + n) (event_content_if_any event) reported
       → said ≡ body_said (event_content_if_any event) → new_body ≡ overwritten body said
-      → HasHeard K x after chunk (used + n) (count + 1) old (set now count told) (length said) old_body new_body
-  one_heard part in_pieces before after used n count body_len now body said new_body None told has on first hears some
-      is_told is_said is_body = absurd cc
-  one_heard part in_pieces before after used n count body_len now body said new_body (Some e) told has on first hears
-      some is_told is_said is_body =
+      → HasHeard K x after chunk (used + n) (count + 1) old (set now count reported) (length said) old_body new_body
+  one_heard part in_chunks before after used n count body_len now body said new_body None reported has on first hears
+      some
+      is_reported is_said is_body = absurd cc
+  one_heard part in_chunks before after used n count body_len now body said new_body
+      (Some e) reported has on first hears
+      some is_reported is_said is_body =
       let event : Event = event_content e in
-      let held : K.held before ≡ open_message (K.held x ++ take used chunk) =
+      let held : K.held before ≡ unfinished_message (K.held x ++ take used chunk) =
       ap K.held has.heard ∙ K.held_after x (take used chunk) in
       let first_here = rw held at first in
       let said_here : said ≡ body_said (Some event) = is_said in
@@ -341,45 +345,47 @@ module _ (K : Hearer) (later : EventsAppend) (x : K.S) (chunk : List ℕ) (old :
       let y : Placed = at_place (next_place (K.held x) chunk used n) event in
       let made = one_used later (K.held x) chunk used n event first_here in
       let place = place_in_chunk part (K.held x) chunk used n has.read.within in
-      let told_then = subst (λ (s : K.S). K.Tells s (used + n) (Some event) told) has.heard is_told in
-      let told_there = subst (λ (k : ℕ). K.Tells (K.after x (take used chunk)) k (Some event) told) (sym place)
-      told_then in
+      let reported_then = subst (λ (s : K.S). K.Reports s (used + n) (Some event) reported) has.heard is_reported in
+      let reported_there = subst (λ (k : ℕ). K.Reports (K.after x (take used chunk)) k (Some event) reported)
+          (sym place)
+      reported_then in
       record {
         read = rw (said_here, body_here)
-            (one_read later (K.held x) chunk old old_body used n count body_len now body event told has.read on.1 on.2
+            (one_read later (K.held x) chunk old old_body used n count body_len now body event reported has.read on.1
+                on.2
             on.0 first_here);
-        heard = heard_more in_pieces before after used n has.heard hears;
-        tells = rw (made, take_more_set now count told on.1)
-            (K.one_told x (take used chunk) (take count now) y told has.tells told_there);
+        heard = heard_more in_chunks before after used n has.heard hears;
+        reports = rw (made, take_more_set now count reported on.1)
+            (K.one_reported x (take used chunk) (take count now) y reported has.reports reported_there);
       }
 
-  pub none_heard : InPieces K → (before after : K.S) (used n count body_len : ℕ) (now : List DgtEvent)
+  pub none_heard : InChunks K → (before after : K.S) (used n count body_len : ℕ) (now : List DgtEvent)
       (body : List ℕ) (event : Option code.Event)
       → HasHeard K x before chunk used count old now body_len old_body body
       → (used < length chunk) × (count < length now) × (body_len ≡ 0)
       → FirstEvent (K.held before) (drop used chunk) n (event_content_if_any event)
       → after ≡ K.after before (take n (drop used chunk)) → is_some event ≡ false
       → HasHeard K x after chunk (used + n) count old now body_len old_body body
-  none_heard in_pieces before after used n count body_len now body (Some e) has on first hears none = absurd cc
-  none_heard in_pieces before after used n count body_len now body None has on first hears none =
-      let held : K.held before ≡ open_message (K.held x ++ take used chunk) =
+  none_heard in_chunks before after used n count body_len now body (Some e) has on first hears none = absurd cc
+  none_heard in_chunks before after used n count body_len now body None has on first hears none =
+      let held : K.held before ≡ unfinished_message (K.held x ++ take used chunk) =
       ap K.held has.heard ∙ K.held_after x (take used chunk) in
       let first_here = rw held at first in
       record {
         read = none_read later (K.held x) chunk old old_body used n count body_len now body has.read on.1 on.2 on.0
             first_here;
-        heard = heard_more in_pieces before after used n has.heard hears;
-        tells = rw (quiet_used later (K.held x) chunk used n first_here) has.tells;
+        heard = heard_more in_chunks before after used n has.heard hears;
+        reports = rw (quiet_used later (K.held x) chunk used n first_here) has.reports;
       }
 
-  pub uses : (now : K.S) (used count body_len : ℕ) (told : List DgtEvent) (body : List ℕ)
-      → HasHeard K x now chunk used count old told body_len old_body body
-      → ((used < length chunk) × (count < length told) × (body_len ≡ 0) → IsTrue false)
+  pub uses : (now : K.S) (used count body_len : ℕ) (reported : List DgtEvent) (body : List ℕ)
+      → HasHeard K x now chunk used count old reported body_len old_body body
+      → ((used < length chunk) × (count < length reported) × (body_len ≡ 0) → IsTrue false)
       → UsesUpTo (K.held x) chunk (length old) used
-  uses now used count body_len told body has ended =
-      uses_up_to later (K.held x) chunk old old_body used count body_len told body has.read
+  uses now used count body_len reported body has ended =
+      uses_up_to later (K.held x) chunk old old_body used count body_len reported body has.read
       (λ on. let no : false ≡ true = ended on in absurd cc)
 
-  pub uses_some : OpenIsQuiet → open_message (K.held x) ≡ K.held x → (used : ℕ)
+  pub uses_some : UnfinishedIsQuiet → unfinished_message (K.held x) ≡ K.held x → (used : ℕ)
       → UsesUpTo (K.held x) chunk (length old) used → 0 < length chunk → 0 < length old → 0 < used
   uses_some quiet same used = progress later (K.held x) chunk old old_body used (no_event quiet same)

@@ -5,12 +5,12 @@ use Rattle.std.proofs.lemmas.Grind.{common_steps}
 use Rattle.std.proofs.Math.Seq.{set-append_seam}
 
 -- one more number has replaced what was there at its place
-pub one_more_in_front : {A : Type 0} (f : A → ℕ) (xs : List A) (old : List ℕ) (i : ℕ) (d : A) → i < length xs
+pub one_more_in_prefix : {A : Type 0} (f : A → ℕ) (xs : List A) (old : List ℕ) (i : ℕ) (d : A) → i < length xs
     → i < length old
     → set (map f (take i xs) ++ drop i old) i (f (get_or xs i d)) ≡ map f (take (i + 1) xs) ++ drop (i + 1) old
-one_more_in_front f xs old i d h k =
-    let front : length (map f (take i xs)) ≡ i = omega (arith, length-map (take i xs) f, length-take i xs) in
+one_more_in_prefix f xs old i d h k =
+    let prefix : length (map f (take i xs)) ≡ i = omega (arith, length-map (take i xs) f, length-take i xs) in
     let a = set-append_seam (map f (take i xs)) (get_or old i 0) (drop (suc i) old) (f (get_or xs i d)) in
     let b = drop-cons old i 0 k in
     let e = take_more xs i d h in
-    grind (arith, common_steps, a, b, e, front)
+    grind (arith, common_steps, a, b, e, prefix)

@@ -12,7 +12,7 @@ use Rattle.dgt_message.proofs.Codes.{piece_code-below}
 use Rattle.dgt_c.specs.Clocks.{SaysClock}
 use Rattle.dgt_c.specs.Encoding.{SaysMessage}
 use Rattle.dgt_c.specs.Starting.{ArePieces}
-use Rattle.dgt_c.specs.Told.{carried_kind}
+use Rattle.dgt_c.specs.Reported.{carried_kind}
 use Rattle.dgt_c.specs.declared.header.DgtEvent.{DgtEvent}
 use Rattle.dgt_c.specs.declared.header.TheConstants.{EVENT_DUMP, EVENT_NO_CLOCK, EVENT_TIMES}
 

@@ -5,7 +5,7 @@ use Rattle.dgt_board.specs.declared.modes.Mode.{Mode}
 use Rattle.dgt_board.specs.declared.sending.Polled.{Polled}
 use Rattle.dgt_board.specs.Sending.{next_message}
 use Rattle.dgt_board.specs.View.{BoardView, HasTaken, Polls, after_bytes}
-use Rattle.dgt_c.specs.Commands.{CommandTelling, TellsCommand}
+use Rattle.dgt_c.specs.Commands.{CommandReporting, ReportsCommand}
 use Rattle.dgt_c.specs.Reading.{ReadsWord}
 use Rattle.dgt_c.specs.declared.header.DgtPolled.{DgtPolled}
 use Rattle.dgt_c.specs.declared.header.DgtTaken.{DgtTaken}
@@ -19,25 +19,25 @@ mode_number Mode.UpdateNice = MODE_UPDATE_NICE
 
 -- The board used the first `used` bytes: up to and including the first that completes a word, or
 -- all of them. The word is reported.
-abbrev pub TakesBytes : BoardView → List ℕ → ℕ → CommandTelling → BoardView → Type 0
-TakesBytes before piece used told after =
-    (event : Option EventContent) × ReadsWord before.partial piece used event
-    × TellsCommand event told × (after ≡ after_bytes before (take used piece) event)
-    × HasTaken before (take used piece) after
+abbrev pub TakesBytes : BoardView → List ℕ → ℕ → CommandReporting → BoardView → Type 0
+TakesBytes before chunk used reported after =
+    (event : Option EventContent) × ReadsWord before.partial chunk used event
+    × ReportsCommand event reported × (after ≡ after_bytes before (take used chunk) event)
+    × HasTaken before (take used chunk) after
 
 -- The board did so; or it was busy, and then no word is reported and nothing changes.
-abbrev pub Takes : BoardView → List ℕ → DgtTaken → CommandTelling → BoardView → Type 0
-Takes before piece taken told after =
-    (taken.busy ≡ false → TakesBytes before piece taken.used told after)
-    × (taken.busy ≡ true → (taken.used ≡ 0) × TellsCommand None told × (after ≡ before))
+abbrev pub Takes : BoardView → List ℕ → DgtTaken → CommandReporting → BoardView → Type 0
+Takes before chunk taken reported after =
+    (taken.busy ≡ false → TakesBytes before chunk taken.used reported after)
+    × (taken.busy ≡ true → (taken.used ≡ 0) × ReportsCommand None reported × (after ≡ before))
 
-abbrev pub polled_told : Polled → DgtPolled
-polled_told Polled.Nothing = record { status = POLLED_NOTHING; bytes = 0 }
-polled_told (Polled.Wrote bytes) = record { status = POLLED_WROTE; bytes = bytes }
-polled_told (Polled.NeedRoom bytes) = record { status = POLLED_NEED_ROOM; bytes = bytes }
+abbrev pub polled_reported : Polled → DgtPolled
+polled_reported Polled.Nothing = record { status = POLLED_NOTHING; bytes = 0 }
+polled_reported (Polled.Wrote bytes) = record { status = POLLED_WROTE; bytes = bytes }
+polled_reported (Polled.NeedRoom bytes) = record { status = POLLED_NEED_ROOM; bytes = bytes }
 
 -- the struct says what polling returns: the board before and after, the slice before and after
-abbrev pub PollsTold : DgtPolled → BoardView → BoardView → List ℕ → List ℕ → Type 0
-PollsTold told before after old new =
+abbrev pub PollsReported : DgtPolled → BoardView → BoardView → List ℕ → List ℕ → Type 0
+PollsReported reported before after old new =
     (polled : Polled) × Polls polled (next_message before.state) before after old new
-    × (told ≡ polled_told polled)
+    × (reported ≡ polled_reported polled)

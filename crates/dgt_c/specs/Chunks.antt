@@ -5,7 +5,7 @@ use Rattle.dgt_values.specs.declared.kinds.Kind.{Kind}
 use Rattle.dgt_decode.specs.Grammar.{Placed, events}
 use Rattle.dgt_host.specs.Host.{HostView, IsUnasked, host_after_event}
 use Rattle.dgt_c.specs.Hearing.{flag}
-use Rattle.dgt_c.specs.Told.{body_said, told_at}
+use Rattle.dgt_c.specs.Reported.{body_said, reported_at}
 use Rattle.dgt_c.specs.declared.header.DgtEvent.{DgtEvent}
 
 -- the events that the first `used` bytes of a chunk make after an unfinished message
@@ -30,18 +30,19 @@ pub record UsesUpTo (held chunk : List ℕ) (capacity used : ℕ) : Type 0 where
 -- The struct holds this event, and whether it is a message that was not asked for. Its place is the
 -- number of bytes of the chunk up to and including the one that makes it. `before` bytes came
 -- before the chunk.
-abbrev pub Tells : ℕ → List Kind → Placed → DgtEvent → Type 0
-Tells before awaited x told =
+abbrev pub Reports : ℕ → List Kind → Placed → DgtEvent → Type 0
+Reports before awaited x reported =
     (unasked : Bool) × (IsTrue unasked ↔ IsUnasked awaited (Some x.event))
-    × (told ≡ record (told_at (x.place - before) (Some x.event)) { unasked = flag unasked })
+    × (reported ≡ record (reported_at (x.place - before) (Some x.event)) { unasked = flag unasked })
 
 -- the structs hold these events, each as it is for the host that has heard those before it
-abbrev pub TellsEach : ℕ → HostView → List Placed → List DgtEvent → Type 0
-TellsEach before host [] [] = Unit {0}
-TellsEach before host (x ∷ made) (told ∷ more) =
-    Tells before host.awaited x told × TellsEach before (host_after_event host x.event) made more
-TellsEach before host _ _ = ⊥
+abbrev pub ReportsEach : ℕ → HostView → List Placed → List DgtEvent → Type 0
+ReportsEach before host [] [] = Unit {0}
+ReportsEach before host (x ∷ made) (reported ∷ more) =
+    Reports before host.awaited x reported
+    × ReportsEach before (host_after_event host x.event) made more
+ReportsEach before host _ _ = ⊥
 
 -- the structs that hold these events for a decoder, with their places in the chunk
-abbrev pub each_told : ℕ → List Placed → List DgtEvent
-each_told before made = map (λ x. told_at (x.place - before) (Some x.event)) made
+abbrev pub each_reported : ℕ → List Placed → List DgtEvent
+each_reported before made = map (λ x. reported_at (x.place - before) (Some x.event)) made

@@ -5,8 +5,8 @@ use Rattle.dgt_c.specs.declared.header.DgtClock.{DgtClock}
 use Rattle.dgt_c.specs.declared.header.DgtTime.{DgtTime}
 use Rattle.dgt_c.specs.declared.header.TheConstants.{CLOCK_NONE, CLOCK_TIMES, UNKNOWN_CLOCK}
 
-abbrev pub time_told : Time → DgtTime
-time_told time = record {
+abbrev pub time_reported : Time → DgtTime
+time_reported time = record {
   hours = time.hours;
   minutes = time.minutes;
   seconds = time.seconds;
@@ -15,18 +15,18 @@ time_told time = record {
 
 -- the value of a time of which nothing is said
 abbrev pub no_time : DgtTime
-no_time = time_told (time_of 0 0 0 0)
+no_time = time_reported (time_of 0 0 0 0)
 
 -- the struct that holds this clock
-abbrev pub clock_told : ClockState → DgtClock
-clock_told (ClockState.times readings) = record {
+abbrev pub clock_reported : ClockState → DgtClock
+clock_reported (ClockState.times readings) = record {
   kind = CLOCK_TIMES;
   status = readings.status;
   raw = replicate 6 0;
-  first = time_told readings.first;
-  second = time_told readings.second;
+  first = time_reported readings.first;
+  second = time_reported readings.second;
 }
-clock_told (ClockState.no_clock absence) = record {
+clock_reported (ClockState.no_clock absence) = record {
   kind = CLOCK_NONE;
   status = absence.status;
   raw = absence.raw;
@@ -35,18 +35,19 @@ clock_told (ClockState.no_clock absence) = record {
 }
 
 -- the same, or that no clock was reported
-abbrev pub clock_if_told : Option ClockState → DgtClock
-clock_if_told None = UNKNOWN_CLOCK
-clock_if_told (Some clock) = clock_told clock
+abbrev pub clock_if_reported : Option ClockState → DgtClock
+clock_if_reported None = UNKNOWN_CLOCK
+clock_if_reported (Some clock) = clock_reported clock
 
 abbrev pub time_said : DgtTime → Time
-time_said told = time_of told.hours told.minutes told.seconds told.flags
+time_said reported = time_of reported.hours reported.minutes reported.seconds reported.flags
 
 abbrev pub times_said : DgtClock → Times
-times_said told = times_of (time_said told.first) (time_said told.second) told.status
+times_said reported =
+    times_of (time_said reported.first) (time_said reported.second) reported.status
 
 abbrev pub absence_said : DgtClock → Absence
-absence_said told = absence_of told.raw told.status
+absence_said reported = absence_of reported.raw reported.status
 
 -- C says this clock, whose values are in their ranges
 abbrev pub SaysClock : DgtClock → ClockState → Type 0

@@ -2,7 +2,7 @@
 -- bytes of a command.
 use Rattle.std.specs.Prelude.{◌≡◌, ℕ, List, [], length, Option, Some, None}
 use Rattle.dgt_command.specs.Content.{CommandContent, EventContent, Read, BadSize, BadStart, BadEnd, Stray}
-use Rattle.dgt_command.specs.Spelling.{command_code, command_spelling}
+use Rattle.dgt_command.specs.Encoding.{command_code, command_encoding}
 use Rattle.dgt_c.specs.Slices.{overwritten}
 use Rattle.dgt_c.specs.declared.header.DgtCommand.{DgtCommand}
 use Rattle.dgt_c.specs.declared.header.TheConstants.{NO_WORD, COMMAND_READ, COMMAND_BAD_SIZE, COMMAND_BAD_START, COMMAND_BAD_END, COMMAND_STRAY}
@@ -12,35 +12,36 @@ abbrev pub id_of : CommandContent → ℕ
 id_of (CommandContent.ClockMessage message) = message.id
 id_of _ = 0
 
-abbrev pub read_told : CommandContent → DgtCommand
-read_told command = record NO_WORD {
+abbrev pub read_reported : CommandContent → DgtCommand
+read_reported command = record NO_WORD {
   kind = COMMAND_READ;
   code = command_code command;
   id = id_of command;
-  word_len = length (command_spelling command);
+  word_len = length (command_encoding command);
 }
 
 -- the struct that holds this command or fault, or says that there is none
-abbrev pub command_told : Option EventContent → DgtCommand
-command_told None = NO_WORD
-command_told (Some (Read command)) = read_told command
-command_told (Some BadSize) = record NO_WORD { kind = COMMAND_BAD_SIZE }
-command_told (Some BadStart) = record NO_WORD { kind = COMMAND_BAD_START }
-command_told (Some BadEnd) = record NO_WORD { kind = COMMAND_BAD_END }
-command_told (Some (Stray byte)) = record NO_WORD { kind = COMMAND_STRAY; byte = byte }
+abbrev pub command_reported : Option EventContent → DgtCommand
+command_reported None = NO_WORD
+command_reported (Some (Read command)) = read_reported command
+command_reported (Some BadSize) = record NO_WORD { kind = COMMAND_BAD_SIZE }
+command_reported (Some BadStart) = record NO_WORD { kind = COMMAND_BAD_START }
+command_reported (Some BadEnd) = record NO_WORD { kind = COMMAND_BAD_END }
+command_reported (Some (Stray byte)) = record NO_WORD { kind = COMMAND_STRAY; byte = byte }
 
 -- the bytes of a command
 abbrev pub word_said : Option EventContent → List ℕ
-word_said (Some (Read command)) = command_spelling command
+word_said (Some (Read command)) = command_encoding command
 word_said _ = []
 
 -- What is reported of a chunk: a struct, and a slice before and after.
-pub record CommandTelling : Type 0 where
+pub record CommandReporting : Type 0 where
   pub command : DgtCommand
   pub old : List ℕ
   pub new : List ℕ
 
 -- This event is reported, and the bytes of a command were copied, as many as there is room for.
-abbrev pub TellsCommand : Option EventContent → CommandTelling → Type 0
-TellsCommand event told =
-    (told.command ≡ command_told event) × (told.new ≡ overwritten told.old (word_said event))
+abbrev pub ReportsCommand : Option EventContent → CommandReporting → Type 0
+ReportsCommand event reported =
+    (reported.command ≡ command_reported event)
+    × (reported.new ≡ overwritten reported.old (word_said event))

@@ -1,34 +1,34 @@
 -- Messages that C has encoded and viewed without a handle, and what it receives about an encoding.
 use Rattle.std.specs.Prelude.{◌≡◌, ◌⊎◌, ◌<◌, ℕ, List, map, Option, Some, Result, Ok, Err, MatchOption}
 use Rattle.dgt_values.specs.Board.{piece_code}
-use Rattle.dgt_values.specs.Bytes.{WritesFront}
+use Rattle.dgt_values.specs.Bytes.{WritesPrefix}
 use Rattle.dgt_values.specs.declared.refusals.NoRoom.{NoRoom}
 use Rattle.dgt_message.specs.Clock.{ClockState}
 use Rattle.dgt_message.specs.Content.{Content, IsCarried, IsMessage, content}
 use Rattle.dgt_message.specs.declared.message.Message.{Message}
 use Rattle.dgt_message.specs.Reading.{reading}
-use Rattle.dgt_message.specs.Spelling.{spelling}
+use Rattle.dgt_message.specs.Encoding.{encoding}
 use Rattle.dgt_decode.specs.Grammar.{reading_event}
 use Rattle.dgt_c.specs.Clocks.{SaysClock}
-use Rattle.dgt_c.specs.Told.{event_told, message_told}
+use Rattle.dgt_c.specs.Reported.{event_reported, message_reported}
 use Rattle.dgt_c.specs.declared.header.DgtEncoded.{DgtEncoded}
 use Rattle.dgt_c.specs.declared.header.TheConstants.{ENCODED, NOTHING_ENCODED, TOO_SHORT}
 use Rattle.dgt_c.specs.declared.header.DgtEvent.{DgtEvent}
 use Rattle.dgt_c.specs.declared.header.TheConstants.{EVENT_OTHER}
 
-abbrev pub encoded_told : Result ℕ NoRoom → DgtEncoded
-encoded_told (Ok bytes) = record { status = ENCODED; bytes = bytes }
-encoded_told (Err fault) = record { status = TOO_SHORT; bytes = fault.need }
+abbrev pub encoded_reported : Result ℕ NoRoom → DgtEncoded
+encoded_reported (Ok bytes) = record { status = ENCODED; bytes = bytes }
+encoded_reported (Err fault) = record { status = TOO_SHORT; bytes = fault.need }
 
 -- These bytes are written to the beginning of the slice; or it is too short for them, and stays.
 abbrev pub EncodesBytes : List ℕ → List ℕ → List ℕ → DgtEncoded → Type 0
-EncodesBytes bytes old new told =
-    (outcome : Result ℕ NoRoom) × WritesFront bytes old new outcome
-    × (told ≡ encoded_told outcome)
+EncodesBytes bytes old new reported =
+    (outcome : Result ℕ NoRoom) × WritesPrefix bytes old new outcome
+    × (reported ≡ encoded_reported outcome)
 
 -- there is nothing to encode, and the slice stays
 abbrev pub EncodesNothing : List ℕ → List ℕ → DgtEncoded → Type 0
-EncodesNothing old new told = (told ≡ NOTHING_ENCODED) × (new ≡ old)
+EncodesNothing old new reported = (reported ≡ NOTHING_ENCODED) × (new ≡ old)
 
 -- ---- Messages
 
@@ -51,7 +51,7 @@ SaysMembers said body (Content.carried code bytes) =
 -- and so does the kind
 abbrev pub SaysContent : DgtEvent → List ℕ → Content → Type 0
 SaysContent said body message =
-    (said.kind ≡ (message_told message).kind) × SaysMembers said body message
+    (said.kind ≡ (message_reported message).kind) × SaysMembers said body message
 
 -- C says this message, whose values are in their ranges
 abbrev pub SaysMessage : DgtEvent → List ℕ → Content → Type 0
@@ -65,15 +65,15 @@ ReadsMessage said body result =
 
 -- The message that C says is encoded; or C says none, and nothing is.
 abbrev pub EncodesMessage : DgtEvent → List ℕ → List ℕ → List ℕ → DgtEncoded → Type 0
-EncodesMessage said body old new told =
+EncodesMessage said body old new reported =
     ((message : Content) × SaysMessage said body message
-    × EncodesBytes (spelling message) old new told)
-    ⊎ (((message : Content) → ¬ (SaysMessage said body message)) × EncodesNothing old new told)
+    × EncodesBytes (encoding message) old new reported)
+    ⊎ (((message : Content) → ¬ (SaysMessage said body message)) × EncodesNothing old new reported)
 
 -- a message may have this code and this body
 abbrev pub IsCodeAndBody : ℕ → List ℕ → Type 0
 IsCodeAndBody code body = (code < 128) × IsCarried body
 
 -- the struct that holds the message with this code and this body, or the fault of the body
-abbrev pub view_told : ℕ → List ℕ → DgtEvent
-view_told code body = event_told (Some (reading_event code (reading code body)))
+abbrev pub view_reported : ℕ → List ℕ → DgtEvent
+view_reported code body = event_reported (Some (reading_event code (reading code body)))

@@ -13,13 +13,13 @@ update_mode_number UpdateMode.Squares = MODE_UPDATE_BOARD
 update_mode_number UpdateMode.Clock = MODE_UPDATE
 update_mode_number UpdateMode.ClockChanges = MODE_UPDATE_NICE
 
-abbrev pub asked_told : Result ℕ NoRoom → DgtSent
-asked_told (Ok bytes) = record { status = SENT; bytes = bytes }
-asked_told (Err fault) = record { status = SENT_NO_ROOM; bytes = fault.need }
+abbrev pub asked_reported : Result ℕ NoRoom → DgtSent
+asked_reported (Ok bytes) = record { status = SENT; bytes = bytes }
+asked_reported (Err fault) = record { status = SENT_NO_ROOM; bytes = fault.need }
 
 -- the struct says what asking returns: the follower before and after, the slice before and after
-abbrev pub AsksTold : ℕ → FollowerView → FollowerView → List ℕ → List ℕ → DgtSent → Type 0
-AsksTold now before after old new told =
+abbrev pub AsksReported : ℕ → FollowerView → FollowerView → List ℕ → List ℕ → DgtSent → Type 0
+AsksReported now before after old new reported =
     (outcome : Result ℕ NoRoom)
     × Asks (asking_of before now) now before after old new outcome
-    × (told ≡ asked_told outcome)
+    × (reported ≡ asked_reported outcome)

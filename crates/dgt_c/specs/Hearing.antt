@@ -4,11 +4,11 @@ use Rattle.dgt_decode.specs.Grammar.{Event}
 use Rattle.dgt_decode.specs.Feeding.{FirstEvent}
 use Rattle.dgt_host.specs.Host.{HostView, IsUnasked}
 use Rattle.dgt_c.specs.Slices.{overwritten}
-use Rattle.dgt_c.specs.Told.{body_said, told_at}
+use Rattle.dgt_c.specs.Reported.{body_said, reported_at}
 use Rattle.dgt_c.specs.declared.header.DgtEvent.{DgtEvent}
 
 -- What is reported of a chunk: a struct, and a slice before and after.
-pub record Telling : Type 0 where
+pub record Reporting : Type 0 where
   pub event : DgtEvent
   pub old : List ℕ
   pub new : List ℕ
@@ -19,19 +19,20 @@ flag false = 0
 
 -- This event is reported with its place, and its body was copied into the slice, as much of it as
 -- there is room for.
-abbrev pub TellsEvent : ℕ → Option Event → Bool → Telling → Type 0
-TellsEvent place event unasked told =
-    (told.event ≡ record (told_at place event) { unasked = flag unasked })
-    × (told.new ≡ overwritten told.old (body_said event))
+abbrev pub ReportsEvent : ℕ → Option Event → Bool → Reporting → Type 0
+ReportsEvent place event unasked reported =
+    (reported.event ≡ record (reported_at place event) { unasked = flag unasked })
+    × (reported.new ≡ overwritten reported.old (body_said event))
 
 -- The first event that the chunk makes is reported, if it makes one. Its place is the number of
 -- bytes of the chunk that were used.
-abbrev pub Feeds : List ℕ → List ℕ → ℕ → Telling → Type 0
-Feeds held piece used told =
-    (event : Option Event) × FirstEvent held piece used event × TellsEvent used event false told
+abbrev pub Feeds : List ℕ → List ℕ → ℕ → Reporting → Type 0
+Feeds held chunk used reported =
+    (event : Option Event) × FirstEvent held chunk used event
+    × ReportsEvent used event false reported
 
 -- the same, with whether the event is a message that was not asked for
-abbrev pub HearsTold : HostView → List ℕ → ℕ → Telling → Type 0
-HearsTold host piece used told =
-    (event : Option Event) × (unasked : Bool) × FirstEvent host.unread piece used event
-    × (IsTrue unasked ↔ IsUnasked host.awaited event) × TellsEvent used event unasked told
+abbrev pub HearsReported : HostView → List ℕ → ℕ → Reporting → Type 0
+HearsReported host chunk used reported =
+    (event : Option Event) × (unasked : Bool) × FirstEvent host.unread chunk used event
+    × (IsTrue unasked ↔ IsUnasked host.awaited event) × ReportsEvent used event unasked reported

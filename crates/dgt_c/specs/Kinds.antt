@@ -2,7 +2,7 @@
 use Rattle.std.specs.Prelude.{ℕ}
 use Rattle.dgt_values.specs.declared.kinds.Kind.{Kind}
 use Rattle.dgt_command.specs.Content.CommandContent.{Battery, Dump, LongSerial, Serial, Trademark, Version}
-use Rattle.dgt_command.specs.Spelling.{command_code}
+use Rattle.dgt_command.specs.Encoding.{command_code}
 
 -- the byte of the command that asks for a reply of this kind
 abbrev pub asking_code : Kind → ℕ

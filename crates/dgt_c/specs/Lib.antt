@@ -1,7 +1,7 @@
 -- What C receives and sends, in the order to read.
 pub mod Slices
 pub mod Clocks
-pub mod Told
+pub mod Reported
 pub mod Hearing
 pub mod Chunks
 pub mod Commands

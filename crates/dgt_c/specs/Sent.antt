@@ -6,18 +6,18 @@ use Rattle.dgt_host.specs.Host.{HostView, Request, Sends}
 use Rattle.dgt_c.specs.declared.header.DgtSent.{DgtSent}
 use Rattle.dgt_c.specs.declared.header.TheConstants.{NO_SUCH_COMMAND, SENT, SENT_NO_ROOM, SENT_TOO_MANY}
 
-abbrev pub sent_told : Result ℕ SendFault → DgtSent
-sent_told (Ok bytes) = record { status = SENT; bytes = bytes }
-sent_told (Err TooMany) = record { status = SENT_TOO_MANY; bytes = 0 }
-sent_told (Err (NoRoom need)) = record { status = SENT_NO_ROOM; bytes = need }
+abbrev pub sent_reported : Result ℕ SendFault → DgtSent
+sent_reported (Ok bytes) = record { status = SENT; bytes = bytes }
+sent_reported (Err TooMany) = record { status = SENT_TOO_MANY; bytes = 0 }
+sent_reported (Err (NoRoom need)) = record { status = SENT_NO_ROOM; bytes = need }
 
 -- the struct says what sending returns: the host before and after, the slice before and after
-abbrev pub SendsTold : Request → HostView → HostView → List ℕ → List ℕ → DgtSent → Type 0
-SendsTold request before after old new told =
+abbrev pub SendsReported : Request → HostView → HostView → List ℕ → List ℕ → DgtSent → Type 0
+SendsReported request before after old new reported =
     (outcome : Result ℕ SendFault) × Sends request before after old new outcome
-    × (told ≡ sent_told outcome)
+    × (reported ≡ sent_reported outcome)
 
 -- there is no such command, and nothing changes
 abbrev pub RefusesCommand : HostView → HostView → List ℕ → List ℕ → DgtSent → Type 0
-RefusesCommand before after old new told =
-    (told ≡ NO_SUCH_COMMAND) × (after ≡ before) × (new ≡ old)
+RefusesCommand before after old new reported =
+    (reported ≡ NO_SUCH_COMMAND) × (after ≡ before) × (new ≡ old)

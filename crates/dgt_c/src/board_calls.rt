@@ -4,16 +4,16 @@ ghost use Rattle.std.specs.Prelude.{◌≡◌, ◌≤◌, ◌<◌, ◌↔◌, �
 ghost use Rattle.dgt_values.specs.Board.{piece_code};
 ghost use Rattle.dgt_values.specs.declared.pieces.Piece.{Piece};
 ghost use Rattle.dgt_message.specs.Clock.{ClockState};
-ghost use Rattle.dgt_message.specs.Spelling.{spelling};
+ghost use Rattle.dgt_message.specs.Encoding.{encoding};
 ghost use Rattle.dgt_command.specs.Words.{IsPartial};
 ghost use Rattle.dgt_board.specs.State.{after_change, after_hand_clock};
 ghost use Rattle.dgt_board.specs.Sending.{left_to_send, next_message};
 ghost use Rattle.dgt_board.specs.View.{view_after_line_lost};
-ghost use Rattle.dgt_c.specs.Clocks.{SaysClock, clock_told};
-ghost use Rattle.dgt_c.specs.Boards.{PollsTold, Takes, mode_number};
+ghost use Rattle.dgt_c.specs.Clocks.{SaysClock, clock_reported};
+ghost use Rattle.dgt_c.specs.Boards.{PollsReported, Takes, mode_number};
 
 use crate::clocks::{clock_for_c, read_clock};
-use crate::commands::tell_command;
+use crate::commands::report_command;
 use crate::handles::DgtBoard;
 use crate::header::{
     DgtClock, DgtCommand, DgtPolled, DgtTaken, MODE_IDLE, MODE_UPDATE, MODE_UPDATE_BOARD,
@@ -89,7 +89,7 @@ pub extern "C" fn dgt_board_take(
 {
     let (busy, used) = match board.get().take(bytes) {
         Ok(taken) => {
-            *command = tell_command(&taken.event, word);
+            *command = report_command(&taken.event, word);
             (false, taken.used)
         }
         Err(_) => {
@@ -104,9 +104,9 @@ pub extern "C" fn dgt_board_take(
 #[unsafe(no_mangle)]
 pub extern "C" fn dgt_board_poll(board: &mut DgtBoard, out: &mut [u8]) -> DgtPolled
     ensures place { board.new.at ≡ board.old.at }
-    ensures polls { PollsTold result board.old.inside board.new.inside out.old out.new }
+    ensures polls { PollsReported result board.old.inside board.new.inside out.old out.new }
     ensures short { IfSome (next_message board.old.inside.state)
-        (λ message. length (spelling message) ≤ MAX_SENT) }
+        (λ message. length (encoding message) ≤ MAX_SENT) }
     ensures falls { result.status ≡ POLLED_WROTE →
         left_to_send board.new.inside.state < left_to_send board.old.inside.state }
     ensures nothing { (result.status ≡ POLLED_NOTHING)
@@ -186,7 +186,7 @@ pub extern "C" fn dgt_board_position(board: &mut DgtBoard, pieces: &mut [u8; 64]
 pub extern "C" fn dgt_board_clock(board: &mut DgtBoard, clock: &mut DgtClock)
     ensures place { board.new.at ≡ board.old.at }
     ensures same { board.new.inside ≡ board.old.inside }
-    ensures clock { clock.new ≡ clock_told board.old.inside.state.clock }
+    ensures clock { clock.new ≡ clock_reported board.old.inside.state.clock }
 {
     *clock = clock_for_c(board.get().clock());
 }

@@ -3,7 +3,7 @@
 ghost use Rattle.std.specs.Prelude.{◌≡◌, ◌≤◌, ◌<◌, MatchOption};
 ghost use Rattle.dgt_message.specs.Clock.{AreTimes, ClockState, IsAbsence, IsTime};
 ghost use Rattle.dgt_message.specs.Content.{absence_seen, clock_seen, status_code, time_seen, times_seen};
-ghost use Rattle.dgt_c.specs.Clocks.{SaysClock, absence_said, clock_told, time_said, time_told, times_said};
+ghost use Rattle.dgt_c.specs.Clocks.{SaysClock, absence_said, clock_reported, time_said, time_reported, times_said};
 
 use crate::checking::read_seven_bits;
 use crate::header::{CLOCK_NONE, CLOCK_TIMES, DgtClock, DgtTime, NO_TIME};
@@ -11,7 +11,7 @@ use dgt_message::{Clock, NoClock, Reading, Status, Times};
 use dgt_values::SevenBit;
 
 fn time_for_c(reading: Reading) -> DgtTime
-    ensures { result ≡ time_told (time_seen reading) }
+    ensures { result ≡ time_reported (time_seen reading) }
 {
     DgtTime {
         hours: reading.hours(),
@@ -22,8 +22,8 @@ fn time_for_c(reading: Reading) -> DgtTime
 }
 
 /// The times of both players.
-pub(crate) fn times_told(times: Times) -> DgtClock
-    ensures { result ≡ clock_told (ClockState.times (times_seen times)) }
+pub(crate) fn times_reported(times: Times) -> DgtClock
+    ensures { result ≡ clock_reported (ClockState.times (times_seen times)) }
 {
     DgtClock {
         kind: CLOCK_TIMES,
@@ -35,8 +35,8 @@ pub(crate) fn times_told(times: Times) -> DgtClock
 }
 
 /// That there is no clock.
-pub(crate) fn absence_told(absence: NoClock) -> DgtClock
-    ensures { result ≡ clock_told (ClockState.no_clock (absence_seen absence)) }
+pub(crate) fn absence_reported(absence: NoClock) -> DgtClock
+    ensures { result ≡ clock_reported (ClockState.no_clock (absence_seen absence)) }
 {
     let [a, b, c, d, e, f] = absence.raw();
     DgtClock {
@@ -50,11 +50,11 @@ pub(crate) fn absence_told(absence: NoClock) -> DgtClock
 
 /// What a clock shows.
 pub(crate) fn clock_for_c(clock: &Clock) -> DgtClock
-    ensures { result ≡ clock_told (clock_seen clock.now) }
+    ensures { result ≡ clock_reported (clock_seen clock.now) }
 {
     match clock {
-        Clock::Times(times) => times_told(*times),
-        Clock::NoClock(absence) => absence_told(*absence),
+        Clock::Times(times) => times_reported(*times),
+        Clock::NoClock(absence) => absence_reported(*absence),
     }
 }
 

@@ -2,8 +2,8 @@
 
 ghost use Rattle.std.specs.Prelude.{◌≡◌, option_map};
 ghost use Rattle.dgt_command.specs.Content.{command_content, command_event_content};
-ghost use Rattle.dgt_command.specs.Spelling.{command_spelling};
-ghost use Rattle.dgt_c.specs.Commands.{command_told, id_of, read_told, word_said};
+ghost use Rattle.dgt_command.specs.Encoding.{command_encoding};
+ghost use Rattle.dgt_c.specs.Commands.{command_reported, id_of, read_reported, word_said};
 ghost use Rattle.dgt_c.specs.Slices.{overwritten};
 
 use crate::copying::overwrite;
@@ -23,10 +23,10 @@ fn message_id(command: &Command<'_>) -> u8
 }
 
 // A command that was read. Its bytes are copied, as many as there is room for.
-pub(crate) fn tell_read(command: &Command<'_>, out: &mut [u8]) -> DgtCommand
-    ensures told { result ≡ read_told (command_content command.now) }
+pub(crate) fn report_read(command: &Command<'_>, out: &mut [u8]) -> DgtCommand
+    ensures reported { result ≡ read_reported (command_content command.now) }
     ensures word { out.new
-        ≡ overwritten out.old (command_spelling (command_content command.now)) }
+        ≡ overwritten out.old (command_encoding (command_content command.now)) }
 {
     let most = dgt_command::length(command);
     let mut word = [0; MAX_WORD];
@@ -46,14 +46,14 @@ pub(crate) fn tell_read(command: &Command<'_>, out: &mut [u8]) -> DgtCommand
 
 /// Reports a command or a fault, or that there is none. If it is a command, its bytes are copied,
 /// as many as there is room for.
-pub(crate) fn tell_command(event: &Option<CommandEvent<'_>>, out: &mut [u8]) -> DgtCommand
-    ensures told { result ≡ command_told (option_map command_event_content event.now) }
+pub(crate) fn report_command(event: &Option<CommandEvent<'_>>, out: &mut [u8]) -> DgtCommand
+    ensures reported { result ≡ command_reported (option_map command_event_content event.now) }
     ensures word { out.new
         ≡ overwritten out.old (word_said (option_map command_event_content event.now)) }
 {
     let (kind, byte) = match event {
         None => (COMMAND_NONE, 0),
-        Some(CommandEvent::Command(command)) => return tell_read(command, out),
+        Some(CommandEvent::Command(command)) => return report_read(command, out),
         Some(CommandEvent::BadSize) => (COMMAND_BAD_SIZE, 0),
         Some(CommandEvent::BadStart) => (COMMAND_BAD_START, 0),
         Some(CommandEvent::BadEnd) => (COMMAND_BAD_END, 0),

@@ -3,11 +3,11 @@
 ghost use Rattle.std.specs.Prelude.{◌≡◌, false, IsTrue, MatchOption};
 ghost use Rattle.dgt_values.specs.Bytes.{body_bytes};
 ghost use Rattle.dgt_message.specs.Content.{IsCarried};
-ghost use Rattle.dgt_c.specs.Encoding.{EncodesMessage, IsCodeAndBody, ReadsMessage, encoded_told, view_told};
+ghost use Rattle.dgt_c.specs.Encoding.{EncodesMessage, IsCodeAndBody, ReadsMessage, encoded_reported, view_reported};
 
 use crate::checking::{read_position, read_seven_bits};
 use crate::clocks::read_clock;
-use crate::events::tell;
+use crate::events::report;
 use crate::header::{
     DgtEncoded, DgtEvent, ENCODED, EVENT_ACK, EVENT_BATTERY, EVENT_DUMP, EVENT_FIELD,
     EVENT_LONG_SERIAL, EVENT_NO_CLOCK, EVENT_OTHER, EVENT_SERIAL, EVENT_TIMES, EVENT_TRADEMARK,
@@ -18,7 +18,7 @@ use dgt_message::{Clock, ClockAck, Message, OtherCode, encode, view};
 use dgt_values::{Body, NoRoom, Piece, SevenBit, Square};
 
 pub(crate) fn encoded_for_c(outcome: Result<usize, NoRoom>) -> DgtEncoded
-    ensures { result ≡ encoded_told outcome }
+    ensures { result ≡ encoded_reported outcome }
 {
     let (status, bytes) = match outcome {
         Ok(bytes) => (ENCODED, bytes),
@@ -90,7 +90,7 @@ pub extern "C" fn dgt_encode_message(said: &DgtEvent, body: &[u8], out: &mut [u8
 #[unsafe(no_mangle)]
 pub extern "C" fn dgt_view_message(code: u8, body: &[u8], event: &mut DgtEvent) -> bool
     ensures views { IsTrue result → IsCodeAndBody code body.now
-        × (event.new ≡ view_told code body.now) }
+        × (event.new ≡ view_reported code body.now) }
     ensures refused { result ≡ false → ¬ (IsCodeAndBody code body.now) × (event.new ≡ event.old) }
 {
     let Ok(code) = SevenBit::try_from(code) else {
@@ -103,6 +103,6 @@ pub extern "C" fn dgt_view_message(code: u8, body: &[u8], event: &mut DgtEvent) 
         Ok(message) => Event::Message(message),
         Err(fault) => Event::Refused { code, fault },
     };
-    tell(&Some(seen), event);
+    report(&Some(seen), event);
     true
 }

@@ -5,9 +5,9 @@ ghost use Rattle.dgt_values.specs.Bytes.{body_bytes, number};
 ghost use Rattle.dgt_message.specs.Code.{known_number};
 ghost use Rattle.dgt_message.specs.Content.{content};
 ghost use Rattle.dgt_decode.specs.Feeding.{event_content_if_any};
-ghost use Rattle.dgt_c.specs.Told.{body_said, event_told, message_told, refused_told, told_at};
+ghost use Rattle.dgt_c.specs.Reported.{body_said, event_reported, message_reported, refused_reported, reported_at};
 
-use crate::clocks::{absence_told, times_told};
+use crate::clocks::{absence_reported, times_reported};
 use crate::header::{
     DgtEvent, EVENT_ACK, EVENT_BAD_LENGTH, EVENT_BATTERY, EVENT_CUT, EVENT_DUMP, EVENT_FIELD,
     EVENT_LONG_SERIAL, EVENT_NO_CLOCK, EVENT_OTHER, EVENT_REFUSED, EVENT_SERIAL, EVENT_STRAY,
@@ -27,7 +27,7 @@ fn serial_numbers(serial: &[SevenBit; 5]) -> [u8; 5]
 
 // Each struct is written where it lies for C: to copy one takes longer than to write it. What
 // reports an event is inlined, so that the event itself is not copied once more.
-fn tell_carried(kind: u8, code: u8, body: Body<'_>, out: &mut DgtEvent)
+fn report_carried(kind: u8, code: u8, body: Body<'_>, out: &mut DgtEvent)
     ensures { out.new ≡ record out.old {
       kind = kind;
       code = code;
@@ -39,20 +39,20 @@ fn tell_carried(kind: u8, code: u8, body: Body<'_>, out: &mut DgtEvent)
     out.body_len = body.bytes().len();
 }
 
-fn tell_known(kind: u8, code: KnownCode, body: Body<'_>, out: &mut DgtEvent)
+fn report_known(kind: u8, code: KnownCode, body: Body<'_>, out: &mut DgtEvent)
     ensures { out.new ≡ record out.old {
       kind = kind;
       code = known_number code;
       body_len = length (body_bytes body.entry);
     } }
 {
-    tell_carried(kind, code.number(), body, out);
+    report_carried(kind, code.number(), body, out);
 }
 
 #[inline(always)]
-fn tell_message(message: &Message<'_>, out: &mut DgtEvent)
+fn report_message(message: &Message<'_>, out: &mut DgtEvent)
     requires { out.old ≡ NOTHING }
-    ensures { out.new ≡ message_told (content message.now) }
+    ensures { out.new ≡ message_reported (content message.now) }
 {
     match message {
         Message::Dump(position) => {
@@ -66,11 +66,11 @@ fn tell_message(message: &Message<'_>, out: &mut DgtEvent)
         }
         Message::Times(times) => {
             out.kind = EVENT_TIMES;
-            out.clock = times_told(*times);
+            out.clock = times_reported(*times);
         }
         Message::NoClock(absence) => {
             out.kind = EVENT_NO_CLOCK;
-            out.clock = absence_told(*absence);
+            out.clock = absence_reported(*absence);
         }
         Message::Ack(answer) => {
             out.kind = EVENT_ACK;
@@ -86,21 +86,21 @@ fn tell_message(message: &Message<'_>, out: &mut DgtEvent)
             out.main_number = main.get();
             out.sub_number = sub.get();
         }
-        Message::Trademark(body) => tell_known(EVENT_TRADEMARK, KnownCode::Trademark, *body, out),
-        Message::Battery(body) => tell_known(EVENT_BATTERY, KnownCode::Battery, *body, out),
-        Message::LongSerial(body) => tell_known(
+        Message::Trademark(body) => report_known(EVENT_TRADEMARK, KnownCode::Trademark, *body, out),
+        Message::Battery(body) => report_known(EVENT_BATTERY, KnownCode::Battery, *body, out),
+        Message::LongSerial(body) => report_known(
             EVENT_LONG_SERIAL,
             KnownCode::LongSerial,
             *body,
             out,
         ),
-        Message::Other { code, body } => tell_carried(EVENT_OTHER, code.get().get(), *body, out),
+        Message::Other { code, body } => report_carried(EVENT_OTHER, code.get().get(), *body, out),
     }
 }
 
-fn tell_refused(code: u8, fault: BodyFault, out: &mut DgtEvent)
+fn report_refused(code: u8, fault: BodyFault, out: &mut DgtEvent)
     requires { out.old ≡ NOTHING }
-    ensures { out.new ≡ refused_told code fault }
+    ensures { out.new ≡ refused_reported code fault }
 {
     out.kind = EVENT_REFUSED;
     out.code = code;
@@ -114,14 +114,14 @@ fn tell_refused(code: u8, fault: BodyFault, out: &mut DgtEvent)
 
 /// Reports an event, or that there is none.
 #[inline(always)]
-pub(crate) fn tell(event: &Option<Event<'_>>, out: &mut DgtEvent)
-    ensures { out.new ≡ event_told (event_content_if_any event.now) }
+pub(crate) fn report(event: &Option<Event<'_>>, out: &mut DgtEvent)
+    ensures { out.new ≡ event_reported (event_content_if_any event.now) }
 {
     *out = NOTHING;
     match event {
         None => {}
-        Some(Event::Message(message)) => tell_message(message, out),
-        Some(Event::Refused { code, fault }) => tell_refused(code.get(), *fault, out),
+        Some(Event::Message(message)) => report_message(message, out),
+        Some(Event::Refused { code, fault }) => report_refused(code.get(), *fault, out),
         Some(Event::Cut { have }) => {
             out.kind = EVENT_CUT;
             out.have = *have;
@@ -136,10 +136,10 @@ pub(crate) fn tell(event: &Option<Event<'_>>, out: &mut DgtEvent)
 
 /// Writes an event and its place to the struct, or that there is none.
 #[inline(always)]
-pub(crate) fn tell_at(event: &Option<Event<'_>>, place: usize, out: &mut DgtEvent)
-    ensures { out.new ≡ told_at place (event_content_if_any event.now) }
+pub(crate) fn report_at(event: &Option<Event<'_>>, place: usize, out: &mut DgtEvent)
+    ensures { out.new ≡ reported_at place (event_content_if_any event.now) }
 {
-    tell(event, out);
+    report(event, out);
     if event.is_some() {
         out.place = place;
     }

@@ -5,7 +5,7 @@ ghost use Rattle.dgt_decode.specs.Grammar.{Event as EventSaid};
 ghost use Rattle.dgt_decode.specs.Feeding.{FirstEvent};
 ghost use Rattle.dgt_follow.specs.Pace.{next_due};
 ghost use Rattle.dgt_follow.specs.Follower.{follower_after, following, new_follower};
-ghost use Rattle.dgt_c.specs.Following.{AsksTold, asked_told, update_mode_number};
+ghost use Rattle.dgt_c.specs.Following.{AsksReported, asked_reported, update_mode_number};
 
 use crate::handles::DgtFollower;
 use crate::header::{DgtSent, MODE_UPDATE, MODE_UPDATE_BOARD, MODE_UPDATE_NICE};
@@ -48,7 +48,7 @@ pub extern "C" fn dgt_follower_hear_all(follower: &mut DgtFollower, now: u64, ch
 }
 
 fn asked_for_c(outcome: Result<usize, NoRoom>) -> DgtSent
-    ensures { result ≡ asked_told outcome }
+    ensures { result ≡ asked_reported outcome }
 {
     sent_for_c(outcome.map_err(|NoRoom { need }| SendFault::NoRoom { need }))
 }
@@ -57,7 +57,7 @@ fn asked_for_c(outcome: Result<usize, NoRoom>) -> DgtSent
 #[unsafe(no_mangle)]
 pub extern "C" fn dgt_follower_ask(follower: &mut DgtFollower, now: u64, out: &mut [u8]) -> DgtSent
     ensures place { follower.new.at ≡ follower.old.at }
-    ensures asks { AsksTold now follower.old.inside follower.new.inside out.old out.new result }
+    ensures asks { AsksReported now follower.old.inside follower.new.inside out.old out.new result }
 {
     asked_for_c(follower.get().ask(now, out))
 }

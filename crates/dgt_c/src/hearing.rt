@@ -2,16 +2,16 @@
 
 ghost use Rattle.std.specs.Prelude.{◌≡◌, ◌≤◌, ◌<◌, length, take, ◌++◌, []};
 ghost use Rattle.dgt_decode.specs.Feeding.{event_content_if_any};
-ghost use Rattle.dgt_decode.specs.Grammar.{open_message};
+ghost use Rattle.dgt_decode.specs.Grammar.{unfinished_message};
 ghost use Rattle.dgt_host.specs.Host.{host_after, new_host, without_awaited};
-ghost use Rattle.dgt_c.specs.Hearing.{HearsTold, flag, Feeds};
-ghost use Rattle.dgt_c.specs.Told.{told_at};
+ghost use Rattle.dgt_c.specs.Hearing.{HearsReported, flag, Feeds};
+ghost use Rattle.dgt_c.specs.Reported.{reported_at};
 ghost use Rattle.dgt_command.specs.Words.{IsPartial};
 ghost use Rattle.dgt_c.specs.Reading.{FeedsWords};
 
-use crate::commands::tell_command;
+use crate::commands::report_command;
 use crate::copying::overwrite;
-use crate::events::{body_of, tell_at};
+use crate::events::{body_of, report_at};
 use crate::handles::{DgtCommandDecoder, DgtDecoder, DgtHost};
 use crate::header::{DgtCommand, DgtEvent};
 use dgt_command::MAX_WORD;
@@ -19,11 +19,16 @@ use dgt_decode::{Event, MAX_TOTAL};
 
 /// Writes an event to the struct, with its place and whether it was not asked for.
 #[inline(always)]
-pub(crate) fn tell_heard(event: &Option<Event<'_>>, unasked: bool, place: usize, out: &mut DgtEvent)
+pub(crate) fn report_heard(
+    event: &Option<Event<'_>>,
+    unasked: bool,
+    place: usize,
+    out: &mut DgtEvent,
+)
     ensures { out.new ≡
-        record (told_at place (event_content_if_any event.now)) { unasked = flag unasked } }
+        record (reported_at place (event_content_if_any event.now)) { unasked = flag unasked } }
 {
-    tell_at(event, place, out);
+    report_at(event, place, out);
     out.unasked = if unasked { 1 } else { 0 };
 }
 
@@ -39,12 +44,12 @@ pub extern "C" fn dgt_host_hear(
     ensures place { host.new.at ≡ host.old.at }
     ensures after { host.new.inside ≡ host_after host.old.inside (take result bytes.now) }
     ensures within { result ≤ length bytes.now }
-    ensures hears { HearsTold host.old.inside bytes.now result
+    ensures hears { HearsReported host.old.inside bytes.now result
         (record { event = event.new; old = body.old; new = body.new }) }
     ensures progress { 0 < length bytes.now → 0 < result }
 {
     let heard = host.get().hear(bytes);
-    tell_heard(&heard.event, heard.unasked, heard.used, event);
+    report_heard(&heard.event, heard.unasked, heard.used, event);
     overwrite(body_of(&heard.event), body);
     heard.used
 }
@@ -79,14 +84,14 @@ pub extern "C" fn dgt_decoder_feed(
 ) -> usize
     ensures place { decoder.new.at ≡ decoder.old.at }
     ensures after { decoder.new.inside
-        ≡ open_message (decoder.old.inside ++ take result bytes.now) }
+        ≡ unfinished_message (decoder.old.inside ++ take result bytes.now) }
     ensures within { result ≤ length bytes.now }
     ensures feeds { Feeds decoder.old.inside bytes.now result
         (record { event = event.new; old = body.old; new = body.new }) }
     ensures progress { 0 < length bytes.now → 0 < result }
 {
     let fed = decoder.get().feed(bytes);
-    tell_at(&fed.event, fed.used, event);
+    report_at(&fed.event, fed.used, event);
     overwrite(body_of(&fed.event), body);
     fed.used
 }
@@ -97,7 +102,7 @@ pub extern "C" fn dgt_decoder_rest(decoder: &mut DgtDecoder) -> usize
     ensures place { decoder.new.at ≡ decoder.old.at }
     ensures same { decoder.new.inside ≡ decoder.old.inside }
     ensures length { result ≡ length decoder.old.inside }
-    ensures unfinished { open_message decoder.old.inside ≡ decoder.old.inside }
+    ensures unfinished { unfinished_message decoder.old.inside ≡ decoder.old.inside }
     ensures limit { result < MAX_TOTAL }
 {
     decoder.get().rest()
@@ -143,7 +148,7 @@ pub extern "C" fn dgt_command_decoder_feed(
     ensures progress { 0 < length bytes.now → 0 < result }
 {
     let fed = command_decoder.get().feed(bytes);
-    *command = tell_command(&fed.event, word);
+    *command = report_command(&fed.event, word);
     fed.used
 }
 

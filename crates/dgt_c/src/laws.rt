@@ -5,7 +5,7 @@ ghost use Rattle.std.specs.Prelude.{◌≡◌, ◌∷◌, [], ℕ, List};
 ghost use Rattle.dgt_values.specs.Equality.{CloneIsSame};
 ghost use Rattle.dgt_command.specs.Content.{ClockContent, CommandContent};
 ghost use Rattle.dgt_command.specs.Ids.{id_number};
-ghost use Rattle.dgt_command.specs.Spelling.{command_code};
+ghost use Rattle.dgt_command.specs.Encoding.{command_code};
 ghost use Rattle.dgt_command.specs.declared.ids.KnownId.{KnownId};
 ghost use Rattle.dgt_c.specs.Layouts.{◌⊗◌, Ascend, LiesAs, bit_alone};
 ghost use Rattle.dgt_c.specs.Rooms.{board_room, command_decoder_room, decoder_room, follower_room, host_room};

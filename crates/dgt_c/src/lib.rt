@@ -28,7 +28,7 @@
 //!
 //! | In Rust | In C |
 //! |---|---|
-//! | an event, which lends its body | a struct, whose kind says which fields count (`event_told`) |
+//! | an event, which lends its body | a struct, with the fields of its kind (`event_reported`) |
 //! | its body | bytes in a slice of the caller's, as many as there is room for (`overwritten`) |
 //! | a result | a status and a number |
 //! | a clock, an identity, pieces | taken exactly if they are ones (`SaysClock`, `IsIdentity`) |

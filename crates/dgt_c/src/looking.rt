@@ -3,8 +3,8 @@
 ghost use Rattle.std.specs.Prelude.{◌≡◌, ◌↔◌, ◌≤◌, ◌++◌, length, drop, map, IsTrue, IsSome, MatchOption};
 ghost use Rattle.dgt_values.specs.Board.{piece_code};
 ghost use Rattle.dgt_values.specs.Placement.{placement_text};
-ghost use Rattle.dgt_decode.specs.Grammar.{open_message};
-ghost use Rattle.dgt_c.specs.Clocks.{clock_if_told};
+ghost use Rattle.dgt_decode.specs.Grammar.{unfinished_message};
+ghost use Rattle.dgt_c.specs.Clocks.{clock_if_reported};
 ghost use Rattle.dgt_c.specs.Kinds.{asking_code};
 ghost use Rattle.dgt_c.specs.Slices.{with_text};
 
@@ -47,10 +47,10 @@ fn put_text(host: &Host, text: &mut [u8; PLACEMENT_ROOM]) -> bool
 
 // What was reported last of the clock.
 fn last_clock_for_c(host: &Host) -> DgtClock
-    ensures { result ≡ clock_if_told host.now.clock }
+    ensures { result ≡ clock_if_reported host.now.clock }
 {
     match host.clock() {
-        Some(told) => clock_for_c(told),
+        Some(reported) => clock_for_c(reported),
         None => UNKNOWN_CLOCK,
     }
 }
@@ -84,7 +84,7 @@ pub extern "C" fn dgt_host_placement(host: &mut DgtHost, text: &mut [u8; PLACEME
 pub extern "C" fn dgt_host_clock(host: &mut DgtHost, clock: &mut DgtClock)
     ensures place { host.new.at ≡ host.old.at }
     ensures same { host.new.inside ≡ host.old.inside }
-    ensures clock { clock.new ≡ clock_if_told host.old.inside.clock }
+    ensures clock { clock.new ≡ clock_if_reported host.old.inside.clock }
 {
     *clock = last_clock_for_c(host.get());
 }
@@ -121,7 +121,7 @@ pub extern "C" fn dgt_follower_placement(
 pub extern "C" fn dgt_follower_clock(follower: &mut DgtFollower, clock: &mut DgtClock)
     ensures place { follower.new.at ≡ follower.old.at }
     ensures same { follower.new.inside ≡ follower.old.inside }
-    ensures clock { clock.new ≡ clock_if_told follower.old.inside.host.clock }
+    ensures clock { clock.new ≡ clock_if_reported follower.old.inside.host.clock }
 {
     *clock = last_clock_for_c(follower.get().host());
 }
@@ -132,7 +132,7 @@ pub extern "C" fn dgt_host_unread(host: &mut DgtHost) -> usize
     ensures place { host.new.at ≡ host.old.at }
     ensures same { host.new.inside ≡ host.old.inside }
     ensures length { result ≡ length host.old.inside.unread }
-    ensures all_open { open_message host.old.inside.unread ≡ host.old.inside.unread }
+    ensures all_unfinished { unfinished_message host.old.inside.unread ≡ host.old.inside.unread }
 {
     host.get().unread()
 }
@@ -143,7 +143,7 @@ pub extern "C" fn dgt_follower_unread(follower: &mut DgtFollower) -> usize
     ensures place { follower.new.at ≡ follower.old.at }
     ensures same { follower.new.inside ≡ follower.old.inside }
     ensures length { result ≡ length follower.old.inside.host.unread }
-    ensures all_open { open_message follower.old.inside.host.unread
+    ensures all_unfinished { unfinished_message follower.old.inside.host.unread
         ≡ follower.old.inside.host.unread }
 {
     follower.get().host().unread()

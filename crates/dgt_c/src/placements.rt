@@ -65,11 +65,11 @@ fn parse_text(text: &[u8]) -> Result<Position, BadPlacement>
     ensures { ParsesPlacement text.now result }
 {
     let end = ascii_len(text);
-    let front = match std::str::from_utf8(&text[..end]) {
-        Ok(front) => front,
+    let prefix = match std::str::from_utf8(&text[..end]) {
+        Ok(prefix) => prefix,
         Err(_) => unreachable!(),
     };
-    match Position::parse_placement(front) {
+    match Position::parse_placement(prefix) {
         Err(bad) => Err(bad),
         Ok(_) if end < text.len() => Err(BadPlacement { at: end }),
         Ok(position) => Ok(position),

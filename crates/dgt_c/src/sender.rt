@@ -2,11 +2,11 @@
 
 ghost use Rattle.std.specs.Prelude.{◌≡◌, ◌≢◌, ◌≤◌, ◌<◌, ◌+◌, ⊤, None, length, refl};
 ghost use Rattle.dgt_command.specs.Content.{CommandContent, command_content, requested_kind};
-ghost use Rattle.dgt_command.specs.Spelling.{command_spelling};
+ghost use Rattle.dgt_command.specs.Encoding.{command_encoding};
 ghost use Rattle.dgt_command.specs.declared.carried.TheConstants.{MAX_LED_BYTES, MAX_PAYLOAD};
 ghost use Rattle.dgt_host.specs.Host.{HostView, Sends};
 ghost use Rattle.dgt_c.specs.ClockSending.{SendsClock, SendsDisplay, SendsMessage};
-ghost use Rattle.dgt_c.specs.Sent.{RefusesCommand, SendsTold};
+ghost use Rattle.dgt_c.specs.Sent.{RefusesCommand, SendsReported};
 
 use crate::header::{DgtSent, NO_SUCH_COMMAND};
 use crate::sending::sent_for_c;
@@ -24,7 +24,7 @@ pub(crate) trait Sender {
     /// Sends a command, as [`Host::send`] does.
     fn send_command(&mut self, command: &Command<'_>, out: &mut [u8]) -> Result<usize, SendFault>
         ensures sends { let said = command_content command.now in
-            Sends (record { kind = requested_kind said; bytes = command_spelling said })
+            Sends (record { kind = requested_kind said; bytes = command_encoding said })
             (host self.old) (host self.new) out.old out.new result }
         ensures keeps { keeps self.old self.new };
 
@@ -57,14 +57,14 @@ impl Sender for Follower {
 
 /// Sends the command whose bytes these are, if there is one.
 pub(crate) fn send_word<S: Sender>(sender: &mut S, word: &[u8], out: &mut [u8]) -> DgtSent
-    ensures sends { (said : CommandContent) → word.now ≡ command_spelling said →
-        SendsTold (record { kind = requested_kind said; bytes = word.now })
+    ensures sends { (said : CommandContent) → word.now ≡ command_encoding said →
+        SendsReported (record { kind = requested_kind said; bytes = word.now })
         (S.host sender.old) (S.host sender.new) out.old out.new result }
-    ensures refused { ((said : CommandContent) → word.now ≢ command_spelling said) →
+    ensures refused { ((said : CommandContent) → word.now ≢ command_encoding said) →
         RefusesCommand (S.host sender.old) (S.host sender.new) out.old out.new result }
     ensures keeps { S.keeps sender.old sender.new }
 {
-    dgt_command::laws::spellings_tell_commands();
+    dgt_command::laws::encodings_give_commands();
     match view_command(word) {
         Some(command) => sent_for_c(sender.send_command(&command, out)),
         None => NO_SUCH_COMMAND,
@@ -74,7 +74,8 @@ pub(crate) fn send_word<S: Sender>(sender: &mut S, word: &[u8], out: &mut [u8]) 
 /// Lights these LEDs.
 pub(crate) fn send_leds<S: Sender>(sender: &mut S, leds: &[u8], out: &mut [u8]) -> DgtSent
     ensures sends { length leds.now ≤ MAX_LED_BYTES →
-        SendsTold (record { kind = None; bytes = command_spelling (CommandContent.Leds leds.now) })
+        SendsReported
+            (record { kind = None; bytes = command_encoding (CommandContent.Leds leds.now) })
         (S.host sender.old) (S.host sender.new) out.old out.new result }
     ensures refused { MAX_LED_BYTES < length leds.now →
         RefusesCommand (S.host sender.old) (S.host sender.new) out.old out.new result }
@@ -87,10 +88,10 @@ pub(crate) fn send_leds<S: Sender>(sender: &mut S, leds: &[u8], out: &mut [u8]) 
 }
 
 /// Fills the slice with the clock message of this id that carries these bytes.
-pub(crate) fn spell_clock(id: u8, payload: &[u8], out: &mut [u8])
+pub(crate) fn put_clock(id: u8, payload: &[u8], out: &mut [u8])
     requires short { length payload.now ≤ MAX_PAYLOAD }
     requires fits { length out.old ≡ length payload.now + 5 }
-    ensures { out.new ≡ command_spelling
+    ensures { out.new ≡ command_encoding
         (CommandContent.ClockMessage (record { id = id; payload = payload.now })) }
 {
     let (head, tail) = out.split_at_mut(4);
@@ -119,7 +120,7 @@ pub(crate) fn send_clock<S: Sender>(
     }
     let mut room = [0; MAX_WORD];
     let word = &mut room[..payload.len() + 5];
-    spell_clock(id, payload, word);
+    put_clock(id, payload, word);
     send_word(sender, word, out)
 }
 

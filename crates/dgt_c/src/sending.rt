@@ -2,11 +2,11 @@
 
 ghost use Rattle.std.specs.Prelude.{◌≡◌, ◌≢◌, ◌≤◌, ◌<◌, ◌∷◌, [], Some, None, length};
 ghost use Rattle.dgt_command.specs.Content.{CommandContent, requested_kind, known_clock};
-ghost use Rattle.dgt_command.specs.Spelling.{command_spelling};
+ghost use Rattle.dgt_command.specs.Encoding.{command_encoding};
 ghost use Rattle.dgt_command.specs.declared.carried.TheConstants.{MAX_LED_BYTES, MAX_PAYLOAD};
 ghost use Rattle.dgt_values.specs.declared.kinds.Kind.TheVariants as kind;
 ghost use Rattle.dgt_host.specs.Host.{follow_bytes, restart_bytes};
-ghost use Rattle.dgt_c.specs.Sent.{RefusesCommand, SendsTold, sent_told};
+ghost use Rattle.dgt_c.specs.Sent.{RefusesCommand, SendsReported, sent_reported};
 ghost use Rattle.dgt_command.specs.declared.clock.ClockCommand.TheVariants as clock;
 ghost use Rattle.dgt_command.specs.declared.ids.KnownId.{KnownId};
 ghost use Rattle.dgt_c.specs.ClockSending.{SendsClock, SendsDisplay, SendsMessage};
@@ -18,7 +18,7 @@ use dgt_command::{ClockCommand, KnownId};
 use dgt_host::SendFault;
 
 pub(crate) fn sent_for_c(outcome: Result<usize, SendFault>) -> DgtSent
-    ensures { result ≡ sent_told outcome }
+    ensures { result ≡ sent_reported outcome }
 {
     let (status, bytes) = match outcome {
         Ok(bytes) => (SENT, bytes),
@@ -32,7 +32,7 @@ pub(crate) fn sent_for_c(outcome: Result<usize, SendFault>) -> DgtSent
 #[unsafe(no_mangle)]
 pub extern "C" fn dgt_host_follow(host: &mut DgtHost, out: &mut [u8]) -> DgtSent
     ensures place { host.new.at ≡ host.old.at }
-    ensures sends { SendsTold (record { kind = Some kind.Dump; bytes = follow_bytes })
+    ensures sends { SendsReported (record { kind = Some kind.Dump; bytes = follow_bytes })
         host.old.inside host.new.inside out.old out.new result }
 {
     sent_for_c(host.get().follow(out))
@@ -42,7 +42,7 @@ pub extern "C" fn dgt_host_follow(host: &mut DgtHost, out: &mut [u8]) -> DgtSent
 #[unsafe(no_mangle)]
 pub extern "C" fn dgt_host_restart(host: &mut DgtHost, out: &mut [u8]) -> DgtSent
     ensures place { host.new.at ≡ host.old.at }
-    ensures sends { SendsTold (record { kind = Some kind.Dump; bytes = restart_bytes })
+    ensures sends { SendsReported (record { kind = Some kind.Dump; bytes = restart_bytes })
         host.old.inside host.new.inside out.old out.new result }
 {
     sent_for_c(host.get().restart(out))
@@ -52,10 +52,10 @@ pub extern "C" fn dgt_host_restart(host: &mut DgtHost, out: &mut [u8]) -> DgtSen
 #[unsafe(no_mangle)]
 pub extern "C" fn dgt_host_send(host: &mut DgtHost, code: u8, out: &mut [u8]) -> DgtSent
     ensures place { host.new.at ≡ host.old.at }
-    ensures sends { (said : CommandContent) → code ∷ [] ≡ command_spelling said →
-        SendsTold (record { kind = requested_kind said; bytes = code ∷ [] })
+    ensures sends { (said : CommandContent) → code ∷ [] ≡ command_encoding said →
+        SendsReported (record { kind = requested_kind said; bytes = code ∷ [] })
         host.old.inside host.new.inside out.old out.new result }
-    ensures refused { ((said : CommandContent) → code ∷ [] ≢ command_spelling said) →
+    ensures refused { ((said : CommandContent) → code ∷ [] ≢ command_encoding said) →
         RefusesCommand host.old.inside host.new.inside out.old out.new result }
 {
     send_word(host.get(), &[code], out)
@@ -66,7 +66,8 @@ pub extern "C" fn dgt_host_send(host: &mut DgtHost, code: u8, out: &mut [u8]) ->
 pub extern "C" fn dgt_host_send_leds(host: &mut DgtHost, leds: &[u8], out: &mut [u8]) -> DgtSent
     ensures place { host.new.at ≡ host.old.at }
     ensures sends { length leds.now ≤ MAX_LED_BYTES →
-        SendsTold (record { kind = None; bytes = command_spelling (CommandContent.Leds leds.now) })
+        SendsReported
+            (record { kind = None; bytes = command_encoding (CommandContent.Leds leds.now) })
         host.old.inside host.new.inside out.old out.new result }
     ensures refused { MAX_LED_BYTES < length leds.now →
         RefusesCommand host.old.inside host.new.inside out.old out.new result }
@@ -96,10 +97,10 @@ pub extern "C" fn dgt_host_send_clock(
 #[unsafe(no_mangle)]
 pub extern "C" fn dgt_follower_send(follower: &mut DgtFollower, code: u8, out: &mut [u8]) -> DgtSent
     ensures place { follower.new.at ≡ follower.old.at }
-    ensures sends { (said : CommandContent) → code ∷ [] ≡ command_spelling said →
-        SendsTold (record { kind = requested_kind said; bytes = code ∷ [] })
+    ensures sends { (said : CommandContent) → code ∷ [] ≡ command_encoding said →
+        SendsReported (record { kind = requested_kind said; bytes = code ∷ [] })
         follower.old.inside.host follower.new.inside.host out.old out.new result }
-    ensures refused { ((said : CommandContent) → code ∷ [] ≢ command_spelling said) →
+    ensures refused { ((said : CommandContent) → code ∷ [] ≢ command_encoding said) →
         RefusesCommand follower.old.inside.host follower.new.inside.host out.old out.new result }
     ensures pace { follower.new.inside.pace ≡ follower.old.inside.pace }
 {
@@ -115,7 +116,8 @@ pub extern "C" fn dgt_follower_send_leds(
 ) -> DgtSent
     ensures place { follower.new.at ≡ follower.old.at }
     ensures sends { length leds.now ≤ MAX_LED_BYTES →
-        SendsTold (record { kind = None; bytes = command_spelling (CommandContent.Leds leds.now) })
+        SendsReported
+            (record { kind = None; bytes = command_encoding (CommandContent.Leds leds.now) })
         follower.old.inside.host follower.new.inside.host out.old out.new result }
     ensures refused { MAX_LED_BYTES < length leds.now →
         RefusesCommand follower.old.inside.host follower.new.inside.host out.old out.new result }

@@ -8,7 +8,7 @@ use Rattle.dgt_command.specs.declared.command.Command.{Command}
 use Rattle.dgt_command.specs.declared.command.Command.TheVariants as command
 use Rattle.dgt_command.specs.declared.ids.KnownId.{KnownId}
 use Rattle.dgt_command.specs.declared.ids.KnownId.TheVariants.{Display}
-use Rattle.dgt_command.specs.Spelling.{bare_command, bare_commands, command_code}
+use Rattle.dgt_command.specs.Encoding.{bare_command, bare_commands, command_code}
 use Rattle.dgt_command.specs.Content.{command_content, ClockMessage, Leds, Read}
 use Rattle.dgt_command.specs.Ids.{id_number, id_with, known_ids}
 use Rattle.dgt_command.specs.Words.{BeginsNoCommand, HasForm}
@@ -47,11 +47,11 @@ is_bare (command.Leds leds) = false
 is_bare _ = true
 
 -- such a command is encoded by its code
-spelled_by_code : (each : Command) → is_bare each ≡ true
+encoded_by_code : (each : Command) → is_bare each ≡ true
     → HasForm (Read (command_content each)) (command_code (command_content each) ∷ [])
-spelled_by_code (command.ClockMessage message) h = cc
-spelled_by_code (command.Leds leds) h = cc
-spelled_by_code _ h = refl
+encoded_by_code (command.ClockMessage message) h = cc
+encoded_by_code (command.Leds leds) h = cc
+encoded_by_code _ h = refl
 
 -- the command that is found is encoded by the byte
 pub bare_form : (byte : ℕ) (each : Command) → bare_command byte ≡ Some each
@@ -59,7 +59,7 @@ pub bare_form : (byte : ℕ) (each : Command) → bare_command byte ≡ Some eac
 bare_form byte each e =
     let found = found_passes is_bare (λ other. command_code (command_content other) == byte) bare_commands each refl e
     in
-    rw (← eqb-true _ _ found.0) (spelled_by_code each found.1)
+    rw (← eqb-true _ _ found.0) (encoded_by_code each found.1)
 
 -- the first byte, or 0
 abbrev pub first_byte : List ℕ → ℕ

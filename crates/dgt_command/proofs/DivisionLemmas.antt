@@ -7,10 +7,10 @@ use Rattle.std.proofs.lemmas.List.{get_or-replicate, get_or_past}
 use Rattle.std.specs.List.{flat_map, AllByRecursion}
 use Rattle.std.specs.Prelude.{Bool, true, false, slice_index, if◌then◌else◌}
 use Rattle.dgt_command.specs.Content.{CommandContent, ClockMessage, Leds, EventContent, Read, BadSize, BadStart, Stray}
-use Rattle.dgt_command.specs.Spelling.{AreBytes, command_spelling, SpellsCommand}
+use Rattle.dgt_command.specs.Encoding.{AreBytes, command_encoding, EncodesCommand}
 use Rattle.dgt_command.specs.Lengths.{word_length}
 use Rattle.dgt_command.specs.Words.{BeginsNoCommand, HasForm, IsWord, IsPartial, Divides, Word, AreWords, word_bytes, IsNoise, IsNoiseList}
-use Rattle.dgt_command.specs.Laws.{EachDividesOnce, EachHasItsWords, NoWordBeginsAPart, NoWordBeginsAnother, CommandsAreReadBack, ZerosSettleTheReader, DivisionsAppend, FrontsDivideFirst}
+use Rattle.dgt_command.specs.Laws.{EachDividesOnce, EachHasItsWords, NoWordBeginsAPart, NoWordBeginsAnother, CommandsAreReadBack, ZerosSettleTheReader, DivisionsAppend, PrefixesDivideFirst}
 use Rattle.dgt_command.proofs.WordLemmas.{body_length, form_length, same_word, begins, clock_word}
 use Rattle.dgt_command.proofs.CodeLemmas.{no_command}
 
@@ -172,10 +172,10 @@ IsPartial-from_short r bytes h =
 pub not_both : (r : List ℕ) (e : EventContent) (w x : List ℕ) → IsPartial r → HasForm e w → r ≡ w ++ x → ⊥
 not_both r e w x partial form is =
     let whole : List ℕ = r ++ partial.next ∷ partial.more in
-    let front : w ++ (x ++ partial.next ∷ partial.more) ≡ whole ++ [] =
+    let prefix : w ++ (x ++ partial.next ∷ partial.more) ≡ whole ++ [] =
     sym (append_assoc w x (partial.next ∷ partial.more)) ∙
     (ap (λ (zs : List ℕ). zs ++ partial.next ∷ partial.more) (sym is) ∙ sym (append-nil whole)) in
-    let same = same_word e partial.event w whole (x ++ partial.next ∷ partial.more) [] form partial.word.form front in
+    let same = same_word e partial.event w whole (x ++ partial.next ∷ partial.more) [] form partial.word.form prefix in
     omega (arith, ap length same.word, ap length is, length-append w x, length-append r (partial.next ∷ partial.more))
 
 -- a proper prefix of a word is shorter than its word
@@ -320,12 +320,12 @@ no_word_begins_another e f w v more h k is =
     (same.event, same.after)
 
 -- encodings in a row divide into their commands
-read_back : (cs : List CommandContent) → AllByRecursion (λ c. SpellsCommand c (command_spelling c)) cs
-    → Divides (flat_map command_spelling cs) (map Read cs) []
+read_back : (cs : List CommandContent) → AllByRecursion (λ c. EncodesCommand c (command_encoding c)) cs
+    → Divides (flat_map command_encoding cs) (map Read cs) []
 read_back [] h = (refl, nothing_is_partial)
 read_back (c ∷ cs) h = (
-  command_spelling c,
-  flat_map command_spelling cs,
+  command_encoding c,
+  flat_map command_encoding cs,
   record { form = refl; are_bytes = h.0.are_bytes },
   refl,
   read_back cs h.1,
@@ -337,16 +337,16 @@ Divides-append s t [] fs r q h k = subst (λ (z : List ℕ). Divides (z ++ t) fs
 Divides-append s t (e ∷ es) fs r q h k =
     (h.0, h.1 ++ t, h.2, ap (λ (z : List ℕ). z ++ t) h.3 ∙ append_assoc h.0 h.1 t, Divides-append h.1 t es fs r q h.4 k)
 
--- the events of a front of bytes come first among theirs, and its rest goes on
-pub divides_front : FrontsDivideFirst
-divides_front s t [] fs r q h k = (fs, refl, subst (λ (z : List ℕ). Divides (z ++ t) fs q) h.0 k)
-divides_front s t (e ∷ es) [] r q h k =
+-- the events of a prefix of bytes come first among theirs, and its rest goes on
+pub divides_prefix : PrefixesDivideFirst
+divides_prefix s t [] fs r q h k = (fs, refl, subst (λ (z : List ℕ). Divides (z ++ t) fs q) h.0 k)
+divides_prefix s t (e ∷ es) [] r q h k =
     absurd (not_both q e h.0 (h.1 ++ t) k.1 h.2.form
     (sym k.0 ∙ ap (λ (z : List ℕ). z ++ t) h.3 ∙ append_assoc h.0 h.1 t))
-divides_front s t (e ∷ es) (f ∷ fs) r q h k =
-    let front : s ++ t ≡ h.0 ++ (h.1 ++ t) = ap (λ (z : List ℕ). z ++ t) h.3 ∙ append_assoc h.0 h.1 t in
-    let same = same_word e f h.0 k.0 (h.1 ++ t) k.1 h.2.form k.2.form (sym front ∙ k.3) in
-    let on = divides_front h.1 t es fs r q h.4 (subst (λ (z : List ℕ). Divides z fs q) (sym same.after) k.4) in (
+divides_prefix s t (e ∷ es) (f ∷ fs) r q h k =
+    let prefix : s ++ t ≡ h.0 ++ (h.1 ++ t) = ap (λ (z : List ℕ). z ++ t) h.3 ∙ append_assoc h.0 h.1 t in
+    let same = same_word e f h.0 k.0 (h.1 ++ t) k.1 h.2.form k.2.form (sym prefix ∙ k.3) in
+    let on = divides_prefix h.1 t es fs r q h.4 (subst (λ (z : List ℕ). Divides z fs q) (sym same.after) k.4) in (
       on.0,
       ap (λ (x : EventContent). x ∷ fs) (sym same.event) ∙ ap (λ (xs : List EventContent). e ∷ xs) on.1,
       on.2,
@@ -354,7 +354,7 @@ divides_front s t (e ∷ es) (f ∷ fs) r q h k =
 
 -- so they do after words
 pub commands_are_read_back : CommandsAreReadBack
-commands_are_read_back bytes es cs h all = Divides-append bytes (flat_map command_spelling cs) es (map Read cs) [] [] h
+commands_are_read_back bytes es cs h all = Divides-append bytes (flat_map command_encoding cs) es (map Read cs) [] [] h
     (read_back cs all)
 
 -- zeros are stray bytes

@@ -7,7 +7,7 @@ use Rattle.std.specs.Option.{option_eq, option_map}
 use Rattle.dgt_command.specs.declared.command.Command.TheVariants as command
 use Rattle.dgt_command.specs.declared.command.CommandEvent.{CommandEvent}
 use Rattle.dgt_command.specs.declared.command.CommandEvent.TheVariants as event
-use Rattle.dgt_command.specs.Spelling.{command_code}
+use Rattle.dgt_command.specs.Encoding.{command_code}
 use Rattle.dgt_command.specs.Content as content
 use Rattle.dgt_command.specs.Content.{ClockContent, CommandContent, EventContent, command_content, command_event_content}
 use Rattle.dgt_command.specs.Equality.{CommandHasArrays, EventHasArrays, FedHasArrays, fed_seen}
@@ -79,12 +79,12 @@ equal_events a b h k = differ event_case_of (command_event_content a) (command_e
 
 -- the event that is there
 abbrev there : Option EventContent → EventContent
-there (Some told) = told
+there (Some reported) = reported
 there None = content.BadSize
 
 -- whether an event is there, as a number
 abbrev how_many : Option EventContent → ℕ
-how_many (Some told) = 1
+how_many (Some reported) = 1
 how_many None = 0
 
 -- two events, or none, are equal exactly where they report the same
@@ -93,7 +93,7 @@ equal_found : (a b : Option CommandEvent) → IfSome a EventHasArrays → IfSome
     (option_map command_event_content a ≡ option_map command_event_content b)
 equal_found (Some a) (Some b) h k =
     let same = equal_events a b h k in
-    (λ t. ap (λ (told : EventContent). Some told) (same.0 t), λ e. same.1 (ap there e))
+    (λ t. ap (λ (reported : EventContent). Some reported) (same.0 t), λ e. same.1 (ap there e))
 equal_found None None h k = (λ _. refl, λ _. refl)
 equal_found (Some a) None h k = differ how_many (Some (command_event_content a)) None refl
 equal_found None (Some b) h k = differ how_many None (Some (command_event_content b)) refl

@@ -1,7 +1,7 @@
 pub mod CodeLemmas
 pub mod ListLemmas
 pub mod ClockLemmas
-pub mod TellingLemmas
+pub mod ReadWords
 pub mod WordLemmas
 pub mod ViewLemmas
 pub mod DivisionLemmas

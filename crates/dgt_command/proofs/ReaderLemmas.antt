@@ -7,25 +7,25 @@ use Rattle.std.proofs.lemmas.Bool.Decides.{nat_tests}
 use Rattle.std.specs.Prelude.{Bool, true, false}
 use Rattle.dgt_command.specs.Lengths.{word_length}
 use Rattle.dgt_command.specs.Laws.{WordsAreShort}
-use Rattle.dgt_command.specs.Spelling.{AreBytes}
+use Rattle.dgt_command.specs.Encoding.{AreBytes}
 use Rattle.dgt_command.specs.Words.{IsWholeWord, IsPartial}
 use Rattle.dgt_command.proofs.WordLemmas.{form_length, begins}
 use Rattle.dgt_command.proofs.DivisionLemmas.{some_word, not_both, short_from_IsPartial, IsPartial-from_short}
 use Rattle.dgt_command.proofs.DivisionLemmas.{bytes_left}
 
 -- bytes as long as their word begin with it
-pub whole_front : (s : List ℕ) (n : ℕ) → AreBytes s → n ≡ word_length s → n ≤ length s → IsWholeWord (take n s)
-whole_front s n bytes is long =
+pub whole_prefix : (s : List ℕ) (n : ℕ) → AreBytes s → n ≡ word_length s → n ≤ length s → IsWholeWord (take n s)
+whole_prefix s n bytes is long =
     let found = begins s (omega (arith, is)) in
     let size : length found.word ≡ n = sym (form_length found.event found.word found.after found.form) ∙
     (ap word_length (sym found.is) ∙ sym is) in
-    let front : take n s ≡ found.word = ap (take n) found.is ∙ take_at found.word found.after n size in
+    let prefix : take n s ≡ found.word = ap (take n) found.is ∙ take_at found.word found.after n size in
     let both : AreBytes (found.word ++ found.after) = subst AreBytes found.is bytes in
-    (found.event, rw front (record { form = found.form; are_bytes = bytes_left found.word found.after both }))
+    (found.event, rw prefix (record { form = found.form; are_bytes = bytes_left found.word found.after both }))
 
 -- bytes shorter than their word are a part of one
-pub partial_front : (s : List ℕ) (n : ℕ) → AreBytes s → n ≡ word_length s → length s < n → IsPartial s
-partial_front s n bytes is short = IsPartial-from_short s bytes (omega (arith, is))
+pub partial_prefix : (s : List ℕ) (n : ℕ) → AreBytes s → n ≡ word_length s → length s < n → IsPartial s
+partial_prefix s n bytes is short = IsPartial-from_short s bytes (omega (arith, is))
 
 -- a word that begins bytes which are partial without the last is all of them
 pub whole_last : (s : List ℕ) (n : ℕ) → IsPartial (take (length s - 1) s) → n ≤ length s → IsWholeWord (take n s)
@@ -33,9 +33,9 @@ pub whole_last : (s : List ℕ) (n : ℕ) → IsPartial (take (length s - 1) s) 
 whole_last s n partial long whole = elim (cases_lt (length s - 1) n) [
   | inl h ↦ subst IsWholeWord (take_all n s (omega arith)) whole
   | inr h ↦
-      let front : List ℕ = take (length s - 1) s in
-      absurd (not_both front whole.0 (take n s) (drop n front) partial whole.1.form
-      (sym (take-append-drop n front) ∙ ap (λ (z : List ℕ). z ++ drop n front) (take-take n (length s - 1) s h)))
+      let prefix : List ℕ = take (length s - 1) s in
+      absurd (not_both prefix whole.0 (take n s) (drop n prefix) partial whole.1.form
+      (sym (take-append-drop n prefix) ∙ ap (λ (z : List ℕ). z ++ drop n prefix) (take-take n (length s - 1) s h)))
 ]
 
 -- no word has more than 257 bytes

@@ -2,8 +2,8 @@
 use Rattle.std.proofs.Common.{◌≡◌, ℕ, suc, ◌+◌, ◌-◌, ◌<◌, ◌≤◌, List, [], ◌∷◌, ◌++◌, length, get_or, take, drop, refl}
 use Rattle.std.proofs.Common.{sym, ap, subst, ◌∙◌, ◌⊎◌, inl, inr, arith, length-append}
 use Rattle.dgt_command.specs.Content.{ClockContent, CommandContent, ClockMessage, Leds}
-use Rattle.dgt_command.specs.Spelling.{command_spelling}
-use Rattle.dgt_command.proofs.WordLemmas.{final_of, front, last_of}
+use Rattle.dgt_command.specs.Encoding.{command_encoding}
+use Rattle.dgt_command.proofs.WordLemmas.{final_of, prefix, last_of}
 
 -- a list of at least one, by its last
 by_last : (xs : List ℕ) → 0 < length xs → xs ≡ take (length xs - 1) xs ++ get_or xs (length xs - 1) 0 ∷ []
@@ -11,14 +11,14 @@ by_last [] h = absurd (omega arith)
 by_last (x ∷ xs) h =
     let found = final_of x xs in
     subst (λ (ys : List ℕ). ys ≡ take (length ys - 1) ys ++ get_or ys (length ys - 1) 0 ∷ []) (sym found.2)
-    (rw (front found.0 found.1, last_of found.0 found.1) refl)
+    (rw (prefix found.0 found.1, last_of found.0 found.1) refl)
 
 -- bytes that are framed as a clock message encode it
 pub clock_view : (bytes : List ℕ) (message : ClockContent)
     → 5 ≤ length bytes → get_or bytes 0 0 ≡ 0x2b → get_or bytes 2 0 ≡ 0x03 → get_or bytes (length bytes - 1) 0 ≡ 0x00
     → message.id ≡ get_or bytes 3 0 → message.payload ≡ take (length bytes - 1 - 4) (drop 4 bytes)
     → length (take (length bytes - 1 - 4) (drop 4 bytes)) + 3 ≡ get_or bytes 1 0
-    → bytes ≡ command_spelling (ClockMessage message)
+    → bytes ≡ command_encoding (ClockMessage message)
 clock_view (b ∷ s ∷ t ∷ i ∷ rest) message long first third last id carried size =
     let m : length (b ∷ s ∷ t ∷ i ∷ rest) - 1 - 4 ≡ length rest - 1 = omega arith in
     let n : length (b ∷ s ∷ t ∷ i ∷ rest) - 1 ≡ suc (suc (suc (suc (length rest - 1)))) = omega (arith, long) in
@@ -49,7 +49,7 @@ pub record IsLedForm (bytes : List ℕ) : Type 0 where
   pub size : length (drop 2 bytes) ≡ get_or bytes 1 0
 
 -- a command is one byte, a clock message or an LED frame
-pub forms : (command : CommandContent) (bytes : List ℕ) → bytes ≡ command_spelling command
+pub forms : (command : CommandContent) (bytes : List ℕ) → bytes ≡ command_encoding command
     → (length bytes ≡ 1) ⊎ IsClockForm bytes ⊎ IsLedForm bytes
 forms (ClockMessage message) bytes is = inr (inl (subst IsClockForm (sym is) (clock_form message.id message.payload)))
   where
@@ -64,7 +64,7 @@ forms (ClockMessage message) bytes is = inr (inl (subst IsClockForm (sym is) (cl
           first = refl;
           third = refl;
           last = rw n (last_of p 0x00);
-          size = rw (m, front p 0x00) refl;
+          size = rw (m, prefix p 0x00) refl;
         }
 forms (Leds leds) bytes is =
     inr (inr (subst IsLedForm (sym is) (record { long = omega arith; first = refl; size = refl })))

@@ -6,7 +6,7 @@ use Rattle.std.proofs.lemmas.List.{append_cancel_left, take_at, get_or_push, len
 use Rattle.std.specs.Prelude.{◌==◌, slice_index, if◌then◌else◌}
 use Rattle.dgt_command.specs.declared.command.Command.{Command}
 use Rattle.dgt_command.specs.Content.{command_content, ClockContent, CommandContent, ClockMessage, Leds, EventContent, Read, BadSize, BadStart, BadEnd, Stray}
-use Rattle.dgt_command.specs.Spelling.{bare_command, behind_code, command_spelling}
+use Rattle.dgt_command.specs.Encoding.{bare_command, behind_code, command_encoding}
 use Rattle.dgt_command.specs.Lengths.{word_length}
 use Rattle.dgt_command.specs.Words.{BeginsNoCommand, HasForm}
 use Rattle.dgt_command.proofs.CodeLemmas.{bare_form, no_command}
@@ -32,16 +32,16 @@ not_leds b h =
     ne_eqb b 0x60 (λ e. h (Leds []) (behind_code (Leds [])) (ap (λ (x : ℕ). x ∷ behind_code (Leds [])) (sym e)))
 
 -- the word that a list begins with has this length
-spelling_length : (c : CommandContent) (x : List ℕ) → word_length (command_spelling c ++ x) ≡ length
-    (command_spelling c)
-spelling_length (ClockMessage message) x = rw (le-ltb (length message.payload + 3) 3 (omega arith))
+encoding_length : (c : CommandContent) (x : List ℕ) → word_length (command_encoding c ++ x) ≡ length
+    (command_encoding c)
+encoding_length (ClockMessage message) x = rw (le-ltb (length message.payload + 3) 3 (omega arith))
     (omega (arith, length-append message.payload (0 ∷ [])))
-spelling_length (Leds leds) x = omega arith
-spelling_length _ x = refl
+encoding_length (Leds leds) x = omega arith
+encoding_length _ x = refl
 
 -- a word with anything after it reports its own length
 pub form_length : (e : EventContent) (w x : List ℕ) → HasForm e w → word_length (w ++ x) ≡ length w
-form_length (Read c) w x h = subst (λ (v : List ℕ). word_length (v ++ x) ≡ length v) (sym h) (spelling_length c x)
+form_length (Read c) w x h = subst (λ (v : List ℕ). word_length (v ++ x) ≡ length v) (sym h) (encoding_length c x)
 form_length BadSize w x (size, small, is) = subst (λ (v : List ℕ). word_length (v ++ x) ≡ length v) (sym is)
     (rw (lt-ltb size 3 small) refl)
 form_length BadStart w x (size, third, large, other, is) = subst (λ (v : List ℕ). word_length (v ++ x) ≡ length v)
@@ -84,8 +84,8 @@ event_of (b ∷ rest) =
     (bare_command b) b
 
 -- all but the last byte
-pub front : (p : List ℕ) (x : ℕ) → take (length (p ++ x ∷ []) - 1) (p ++ x ∷ []) ≡ p
-front p x = take_at p (x ∷ []) (length (p ++ x ∷ []) - 1) (omega (arith, length-append p (x ∷ [])))
+pub prefix : (p : List ℕ) (x : ℕ) → take (length (p ++ x ∷ []) - 1) (p ++ x ∷ []) ≡ p
+prefix p x = take_at p (x ∷ []) (length (p ++ x ∷ []) - 1) (omega (arith, length-append p (x ∷ [])))
 
 -- the last byte
 pub last_of : (p : List ℕ) (x : ℕ) → get_or (p ++ x ∷ []) (length (p ++ x ∷ []) - 1) 0 ≡ x
@@ -93,16 +93,16 @@ last_of p x = get_or_push p x 0 (length (p ++ x ∷ []) - 1) (omega (arith, leng
 
 -- a clock message that ends with zero is read
 end_read : (id : ℕ) (p : List ℕ) → end_event id (p ++ 0 ∷ []) ≡ Read (ClockMessage (record { id = id; payload = p }))
-end_read id p = rw (last_of p 0, front p 0) refl
+end_read id p = rw (last_of p 0, prefix p 0) refl
 
 -- one that ends with another byte is a fault
 end_bad : (id : ℕ) (p : List ℕ) (x : ℕ) → x ≢ 0 → end_event id (p ++ x ∷ []) ≡ BadEnd
 end_bad id p x h = rw (last_of p x, ne_eqb x 0 h) refl
 
 -- the event of an encoding is its command
-event_of_spelling : (c : CommandContent) → event_of (command_spelling c) ≡ Read c
-event_of_spelling (ClockMessage message) = end_read message.id message.payload
-event_of_spelling _ = refl
+event_of_encoding : (c : CommandContent) → event_of (command_encoding c) ≡ Read c
+event_of_encoding (ClockMessage message) = end_read message.id message.payload
+event_of_encoding _ = refl
 
 -- a clock message with a wrong last byte is a fault
 end_bad_long : (inner : List ℕ) (x : ℕ) (size : ℕ) → 0 < length inner → x ≢ 0
@@ -112,7 +112,7 @@ end_bad_long (id ∷ p) x size some h = end_bad id p x h
 
 -- a word reports its event
 pub form_event : (e : EventContent) (w : List ℕ) → HasForm e w → event_of w ≡ e
-form_event (Read c) w h = ap event_of h ∙ event_of_spelling c
+form_event (Read c) w h = ap event_of h ∙ event_of_encoding c
 form_event BadSize w (size, small, is) = ap event_of is
 form_event BadStart w (size, third, large, other, is) = ap event_of is
 form_event BadEnd w (size, inner, final, long, other, some, is) =
@@ -127,15 +127,16 @@ pub record SameWord (e f : EventContent) (w v x y : List ℕ) : Type 0 where
   pub after : x ≡ y
 
 -- words of one length that begin the same bytes are the same
-same_front : (w v x y : List ℕ) → length w ≡ length v → w ++ x ≡ v ++ y → w ≡ v
-same_front w v x y h is = sym (take_at w x (length w) refl) ∙ (ap (take (length w)) is ∙ take_at v y (length w) (sym h))
+same_prefix : (w v x y : List ℕ) → length w ≡ length v → w ++ x ≡ v ++ y → w ≡ v
+same_prefix w v x y h is = sym (take_at w x (length w) refl)
+    ∙ (ap (take (length w)) is ∙ take_at v y (length w) (sym h))
 
 -- words that begin the same bytes are the same
 pub same_word : (e f : EventContent) (w v x y : List ℕ) → HasForm e w → HasForm f v → w ++ x ≡ v ++ y
     → SameWord e f w v x y
 same_word e f w v x y h k is =
     let long : length w ≡ length v = sym (form_length e w x h) ∙ (ap word_length is ∙ form_length f v y k) in
-    let word : w ≡ v = same_front w v x y long is in
+    let word : w ≡ v = same_prefix w v x y long is in
     record {
       event = sym (form_event e w h) ∙ (ap event_of word ∙ form_event f v k);
       word = word;
@@ -178,7 +179,7 @@ pub record Ends (ys : List ℕ) : Type 0 where
   pub is : ys ≡ id ∷ (between ++ final ∷ [])
 
 -- a list of at least one, by its last
-pub final_of : (x : ℕ) (ys : List ℕ) → (front : List ℕ) × (final : ℕ) × (x ∷ ys ≡ front ++ final ∷ [])
+pub final_of : (x : ℕ) (ys : List ℕ) → (prefix : List ℕ) × (final : ℕ) × (x ∷ ys ≡ prefix ++ final ∷ [])
 final_of x [] = ([], x, refl)
 final_of x (y ∷ ys) = let more = final_of y ys in (x ∷ more.0, more.1, ap (λ zs. x ∷ zs) more.2)
 

@@ -3,7 +3,7 @@ use Rattle.std.specs.Prelude.{ℕ, List, [], Bool, Option, Some, None, if◌then
 use Rattle.dgt_command.specs.declared.framer.FoundWord.{FoundWord}
 use Rattle.dgt_command.specs.declared.framer.FoundWord.TheVariants as found
 use Rattle.dgt_command.specs.Content.{EventContent, Read, BadSize, BadStart, BadEnd, Stray}
-use Rattle.dgt_command.specs.Spelling.{command_in}
+use Rattle.dgt_command.specs.Encoding.{command_in}
 
 -- The bytes kept, and whether they are a whole word. A whole word is kept for its event alone.
 pub record KeptWord : Type 0 where

@@ -2,7 +2,7 @@
 use Rattle.std.specs.Prelude.{◌≡◌, ℕ, ◌<◌, ◌≤◌, List, [], ◌++◌, length, map, replicate}
 use Rattle.std.specs.List.{flat_map, AllByRecursion}
 use Rattle.dgt_command.specs.Content.{CommandContent, EventContent, Read}
-use Rattle.dgt_command.specs.Spelling.{AreBytes, command_spelling, SpellsCommand, command_in}
+use Rattle.dgt_command.specs.Encoding.{AreBytes, command_encoding, EncodesCommand, command_in}
 use Rattle.dgt_command.specs.Words.{IsWord, IsPartial, Divides, Word, AreWords, IsNoiseList}
 
 -- each list of bytes divides into words and a rest, and any two divisions of it are the same
@@ -40,8 +40,8 @@ abbrev pub CommandsAreReadBack : Type 0
 CommandsAreReadBack =
     (bytes : List ℕ) (events : List EventContent) (commands : List CommandContent) →
     Divides bytes events [] →
-    AllByRecursion (λ command. SpellsCommand command (command_spelling command)) commands →
-    Divides (bytes ++ flat_map command_spelling commands) (events ++ map Read commands) []
+    AllByRecursion (λ command. EncodesCommand command (command_encoding command)) commands →
+    Divides (bytes ++ flat_map command_encoding commands) (events ++ map Read commands) []
 
 -- after a part of a frame, 255 zeros are noise and leave no rest
 abbrev pub ZerosSettleTheReader : Type 0
@@ -56,11 +56,11 @@ DivisionsAppend =
     Divides bytes events rest → Divides (rest ++ more) others remainder →
     Divides (bytes ++ more) (events ++ others) remainder
 
--- the events of a front of bytes come first among theirs, and the rest of the front goes on
-abbrev pub FrontsDivideFirst : Type 0
-FrontsDivideFirst =
-    (front more : List ℕ) (events all : List EventContent) (rest last : List ℕ) →
-    Divides front events rest → Divides (front ++ more) all last →
+-- the events of a prefix of bytes come first among theirs, and the rest of the prefix goes on
+abbrev pub PrefixesDivideFirst : Type 0
+PrefixesDivideFirst =
+    (prefix more : List ℕ) (events all : List EventContent) (rest last : List ℕ) →
+    Divides prefix events rest → Divides (prefix ++ more) all last →
     (others : List EventContent) × (all ≡ events ++ others) × Divides (rest ++ more) others last
 
 -- a word has at least one byte, and at most 257
@@ -70,7 +70,7 @@ WordsAreShort =
     IsWord event word → (0 < length word) × (length word ≤ 257)
 
 -- encoded bytes determine their command
-abbrev pub SpellingsTellCommands : Type 0
-SpellingsTellCommands =
+abbrev pub EncodingsGiveCommands : Type 0
+EncodingsGiveCommands =
     (command : CommandContent) (bytes : List ℕ) →
-    SpellsCommand command bytes → command_in bytes ≡ command
+    EncodesCommand command bytes → command_in bytes ≡ command

@@ -1,7 +1,7 @@
 -- What public contracts cite
 pub mod Ids
 pub mod Content
-pub mod Spelling
+pub mod Encoding
 pub mod Words
 pub mod Framing
 pub mod Display

@@ -2,16 +2,16 @@
 use Rattle.std.specs.Prelude.{◌≡◌, ◌≢◌, ℕ, ◌+◌, ◌<◌, ◌≤◌, List, [], ◌∷◌, ◌++◌, length, flat_map}
 use Rattle.std.specs.List.{AllByRecursion}
 use Rattle.dgt_command.specs.Content.{CommandContent, ClockMessage, Leds, EventContent, Read, BadSize, BadStart, BadEnd, Stray}
-use Rattle.dgt_command.specs.Spelling.{AreBytes, command_spelling}
+use Rattle.dgt_command.specs.Encoding.{AreBytes, command_encoding}
 
 abbrev pub BeginsNoCommand : ℕ → Type 0
 BeginsNoCommand byte =
-    (command : CommandContent) (rest : List ℕ) → command_spelling command ≢ byte ∷ rest
+    (command : CommandContent) (rest : List ℕ) → command_encoding command ≢ byte ∷ rest
 
 -- Each event has its frames: a command its encoding, a fault what is read until it shows, and a
 -- stray byte itself.
 abbrev pub HasForm : EventContent → List ℕ → Type 0
-HasForm (Read command) word = word ≡ command_spelling command
+HasForm (Read command) word = word ≡ command_encoding command
 HasForm BadSize word = (size : ℕ) × (size < 3) × (word ≡ 0x2b ∷ size ∷ [])
 HasForm BadStart word =
     (size : ℕ) × (start : ℕ) × (3 ≤ size) × (start ≢ 0x03) × (word ≡ 0x2b ∷ size ∷ start ∷ [])

@@ -1,7 +1,7 @@
 //! The code of each command: the byte that it begins with.
 
 ghost use Rattle.std.specs.Prelude.{◌≡◌};
-ghost use Rattle.dgt_command.specs.Spelling.{bare_command, command_code};
+ghost use Rattle.dgt_command.specs.Encoding.{bare_command, command_code};
 ghost use Rattle.dgt_command.specs.Content.{command_content};
 
 use crate::command::Command;

@@ -3,7 +3,7 @@
 ghost use Rattle.std.specs.Prelude.{◌≡◌, ◌≢◌, ◌+◌, ◌<◌, ◌≤◌, [], ◌++◌, length, take, true, false, Some};
 ghost use Rattle.std.specs.Prelude.{IsTrue, IfSome, IfNone, OnSome, is_some};
 ghost use Rattle.dgt_command.specs.Content.{CommandContent, Read, command_content, command_event_content};
-ghost use Rattle.dgt_command.specs.Spelling.{IsSpelling, SpellsCommand, command_in};
+ghost use Rattle.dgt_command.specs.Encoding.{IsEncoding, EncodesCommand, command_in};
 ghost use Rattle.dgt_command.specs.Framing.{word_found_in, rest_after, rest_of};
 ghost use Rattle.dgt_command.specs.Lengths.{Adds};
 ghost use Rattle.dgt_command.specs.Words.{IsPartial, IsWholeWord, IsWord};
@@ -97,16 +97,16 @@ fn add_bytes(word: &mut Kept<MAX_WORD>, chunk: &[u8]) -> (usize, bool)
     if word.len() > 0 || length > chunk.len() {
         return add_each(word, chunk);
     }
-    word.set_front(chunk, length);
+    word.set_prefix(chunk, length);
     (length, true)
 }
 
 // Whether a whole word is a command, and no fault.
 fn is_command(word: &[u8]) -> bool
     requires { IsWholeWord word.now }
-    ensures command { IsTrue result → IsSpelling word.now }
+    ensures command { IsTrue result → IsEncoding word.now }
     ensures fault { result ≡ false →
-        (command : CommandContent) → SpellsCommand command word.now → ⊥ }
+        (command : CommandContent) → EncodesCommand command word.now → ⊥ }
 {
     match word {
         [byte] => command_of_byte(*byte).is_some(),
@@ -120,7 +120,7 @@ fn is_command(word: &[u8]) -> bool
 fn found_word(word: &[u8]) -> FoundWord
     requires { IsWholeWord word.now }
     ensures event { IsWord (word_found_in word.now result) word.now }
-    ensures whole { result ≡ FoundWord.Command → IsSpelling word.now }
+    ensures whole { result ≡ FoundWord.Command → IsEncoding word.now }
 {
     if is_command(word) {
         return FoundWord::Command;
@@ -135,7 +135,7 @@ fn found_word(word: &[u8]) -> FoundWord
 
 // The event of a command's bytes.
 fn whole_command(word: &[u8]) -> CommandEvent<'_>
-    requires { IsSpelling word.now }
+    requires { IsEncoding word.now }
     ensures { command_event_content result ≡ word_found_in word.now FoundWord.Command }
 {
     let Some(command) = view_command(word) else {
@@ -180,7 +180,7 @@ impl WordFramer {
         ensures first { IfSome result.found (λ found.
             IsWord (word_found_in self.new.word found)
             (rest_of self.old ++ take result.used chunk.now)) }
-        ensures whole { result.found ≡ Some FoundWord.Command → IsSpelling self.new.word }
+        ensures whole { result.found ≡ Some FoundWord.Command → IsEncoding self.new.word }
         ensures none { IfNone result.found
             ((result.used ≡ length chunk.now) × IsPartial (rest_of self.old ++ chunk.now)) }
         ensures held { rest_of self.new
@@ -209,7 +209,7 @@ impl WordFramer {
     /// The event of what `advance` found last. A command is that of the word kept.
     #[inline(never)]
     pub fn event(&self, found: FoundWord) -> CommandEvent<'_>
-        requires { found ≡ FoundWord.Command → IsSpelling self.now.word }
+        requires { found ≡ FoundWord.Command → IsEncoding self.now.word }
         ensures { command_event_content result ≡ word_found_in self.now.word found }
     {
         match found {
@@ -227,7 +227,7 @@ impl WordFramer {
     /// copying an event takes longer than reading one byte.
     #[inline(always)]
     pub fn bare_command(&self, found: FoundWord) -> Option<Command<'static>>
-        requires { found ≡ FoundWord.Command → IsSpelling self.now.word }
+        requires { found ≡ FoundWord.Command → IsEncoding self.now.word }
         ensures command { IfSome result (λ command.
             Read (command_content command) ≡ word_found_in self.now.word found) }
         ensures byte { OnSome result (length self.now.word ≡ 1) }

@@ -7,8 +7,8 @@ ghost use Rattle.dgt_command.specs.declared.ids.KnownId.{KnownId};
 ghost use Rattle.dgt_command.specs.Content.{led_bytes, payload_bytes, raw_id, raw_payload, EventContent, clock_content, command_content, command_event_content};
 ghost use Rattle.dgt_command.specs.Equality.{CommandHasArrays, EventHasArrays, FedHasArrays, HasArrays, fed_seen};
 ghost use Rattle.dgt_command.specs.Ids.{id_number, id_with};
-ghost use Rattle.dgt_command.specs.Laws.{CommandsAreReadBack, DivisionsAppend, EachDividesOnce, EachHasItsWords, FrontsDivideFirst, NoWordBeginsAPart, NoWordBeginsAnother, SpellingsTellCommands, WordsAreShort, ZerosSettleTheReader};
-ghost use Rattle.dgt_command.specs.Spelling.{AreBytes};
+ghost use Rattle.dgt_command.specs.Laws.{CommandsAreReadBack, DivisionsAppend, EachDividesOnce, EachHasItsWords, PrefixesDivideFirst, NoWordBeginsAPart, NoWordBeginsAnother, EncodingsGiveCommands, WordsAreShort, ZerosSettleTheReader};
+ghost use Rattle.dgt_command.specs.Encoding.{AreBytes};
 ghost use Rattle.dgt_command.specs.Words.{Divides, IsPartial};
 
 use crate::carried::{LedBytes, MAX_LED_BYTES, MAX_PAYLOAD, Payload};
@@ -99,8 +99,8 @@ pub fn divisions_append()
 
 /// If bytes and a prefix of them divide, the events of the prefix come first, and its rest is
 /// continued.
-pub fn fronts_divide_first()
-    ensures { FrontsDivideFirst }
+pub fn prefixes_divide_first()
+    ensures { PrefixesDivideFirst }
 {}
 
 /// Parts of frames. No byte at all is one. None begins with a whole frame, and with bytes after it
@@ -120,6 +120,6 @@ pub fn words_are_short()
 {}
 
 /// The bytes of a command are those of no other command: they determine it.
-pub fn spellings_tell_commands()
-    ensures { SpellingsTellCommands }
+pub fn encodings_give_commands()
+    ensures { EncodingsGiveCommands }
 {}

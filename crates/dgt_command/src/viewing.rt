@@ -2,7 +2,7 @@
 
 ghost use Rattle.std.specs.Prelude.{◌≡◌, ◌+◌, ◌<◌, ◌≤◌, ◌∷◌, ◌++◌, [], length, IfNone, IfSome};
 ghost use Rattle.dgt_command.specs.Content.{CommandContent, clock_content, command_content, payload_bytes};
-ghost use Rattle.dgt_command.specs.Spelling.{SpellsCommand};
+ghost use Rattle.dgt_command.specs.Encoding.{EncodesCommand};
 
 use crate::carried::{LedBytes, Payload};
 use crate::clock::{ClockCommand, RawClock};
@@ -14,9 +14,9 @@ use crate::ids::KnownId;
 ///
 /// The command lends what it carries from the slice.
 pub fn view_command(bytes: &[u8]) -> Option<Command<'_>>
-    ensures some { IfSome result (λ command. SpellsCommand (command_content command) bytes.now) }
+    ensures some { IfSome result (λ command. EncodesCommand (command_content command) bytes.now) }
     ensures none { IfNone result
-        ((command : CommandContent) → SpellsCommand command bytes.now → ⊥) }
+        ((command : CommandContent) → EncodesCommand command bytes.now → ⊥) }
 {
     match bytes {
         [byte] => command_of_byte(*byte),

@@ -1,9 +1,9 @@
 //! Commands written as bytes.
 
 ghost use Rattle.std.specs.Prelude.{◌≡◌, ◌+◌, ◌<◌, ◌≤◌, [], ◌∷◌, ◌++◌, length, OnOk};
-ghost use Rattle.dgt_values.specs.Bytes.{WritesFront};
+ghost use Rattle.dgt_values.specs.Bytes.{WritesPrefix};
 ghost use Rattle.dgt_command.specs.Content.{clock_content, command_content};
-ghost use Rattle.dgt_command.specs.Spelling.{command_spelling, SpellsCommand};
+ghost use Rattle.dgt_command.specs.Encoding.{command_encoding, EncodesCommand};
 
 use crate::carried::MAX_PAYLOAD;
 use crate::clock::ClockCommand;
@@ -15,7 +15,7 @@ use dgt_values::NoRoom;
 
 /// How many bytes the command has: 1 to 257.
 pub fn length(command: &Command) -> usize
-    ensures length { result ≡ length (command_spelling (command_content command.now)) }
+    ensures length { result ≡ length (command_encoding (command_content command.now)) }
     ensures limit { result ≤ MAX_WORD }
 {
     match command {
@@ -29,11 +29,11 @@ pub fn length(command: &Command) -> usize
 /// after it stay as they were. It returns `NoRoom` if the slice is shorter than the command; then
 /// nothing is written.
 pub fn encode(command: &Command, out: &mut [u8]) -> Result<usize, NoRoom>
-    ensures written { WritesFront (command_spelling (command_content command.now))
+    ensures written { WritesPrefix (command_encoding (command_content command.now))
         out.old out.new result }
-    ensures spells { OnOk result
-        (SpellsCommand (command_content command.now)
-        (command_spelling (command_content command.now))) }
+    ensures encodes { OnOk result
+        (EncodesCommand (command_content command.now)
+        (command_encoding (command_content command.now))) }
 {
     let need = length(command);
     if out.len() < need {
@@ -45,8 +45,8 @@ pub fn encode(command: &Command, out: &mut [u8]) -> Result<usize, NoRoom>
 
 // Fills the slice with the command.
 fn write(command: &Command, out: &mut [u8])
-    requires { length out.old ≡ length (command_spelling (command_content command.now)) }
-    ensures { out.new ≡ command_spelling (command_content command.now) }
+    requires { length out.old ≡ length (command_encoding (command_content command.now)) }
+    ensures { out.new ≡ command_encoding (command_content command.now) }
 {
     let (head, tail) = out.split_at_mut(1);
     head.copy_from_slice(&[first_byte(command)]);

@@ -2,22 +2,22 @@
 use Rattle.std.proofs.Common.{◌≡◌, ℕ, ◌+◌, ◌-◌, ◌≤◌, List, ◌∷◌, ◌++◌, length, true, refl, sym, ap, ◌∙◌, arith}
 use Rattle.std.proofs.lemmas.List.{append-nil}
 use Rattle.std.proofs.lemmas.Bool.{le-leb}
-use Rattle.dgt_decode.specs.Grammar.{Placed, events_behind, has_top_bit, cut_of, events, open_message}
+use Rattle.dgt_decode.specs.Grammar.{Placed, events_behind, has_top_bit, cut_of, events, unfinished_message}
 use Rattle.dgt_decode.specs.Laws.{BeginsAnew}
 use Rattle.dgt_decode.proofs.Places.{events_behind-events_behind, events_behind-zero}
 use Rattle.dgt_decode.proofs.Cuts.{lead-append, segments-append}
 use Rattle.dgt_decode.proofs.Appending.{events-append}
-use Rattle.dgt_decode.proofs.Open.{IsOpen, nothing, waiting, IsOpen-open, length-open, open-append}
+use Rattle.dgt_decode.proofs.UnfinishedLemmas.{IsUnfinished, nothing, waiting, IsUnfinished-unfinished, length-unfinished, unfinished-append}
 
 has_top : (b : ℕ) → 128 ≤ b → has_top_bit b ≡ true
 has_top b top = le-leb 128 b top
 
 -- after one segment with no verdict
-events_behind_open : (o : List ℕ) → IsOpen o → (b : ℕ) (p : List ℕ) → 128 ≤ b
+events_behind_unfinished : (o : List ℕ) → IsUnfinished o → (b : ℕ) (p : List ℕ) → 128 ≤ b
     → events (o ++ b ∷ p) ≡ events_behind (length o) (cut_of o ++ events (b ∷ p))
 unfolding events
-events_behind_open o nothing b p top = sym (events_behind-zero (events (b ∷ p)))
-events_behind_open o (waiting g alone e) b p top =
+events_behind_unfinished o nothing b p top = sym (events_behind-zero (events (b ∷ p)))
+events_behind_unfinished o (waiting g alone e) b p top =
     rw (
       lead-append g (b ∷ p),
       segments-append g (b ∷ p),
@@ -30,23 +30,23 @@ events_behind_open o (waiting g alone e) b p top =
     )
     (rw e refl)
 
-open_behind_open : (o : List ℕ) → IsOpen o → (b : ℕ) (p : List ℕ) → 128 ≤ b
-    → open_message (o ++ b ∷ p) ≡ open_message (b ∷ p)
-unfolding open_message
-open_behind_open o nothing b p top = refl
-open_behind_open o (waiting g alone e) b p top =
+unfinished_behind_unfinished : (o : List ℕ) → IsUnfinished o → (b : ℕ) (p : List ℕ) → 128 ≤ b
+    → unfinished_message (o ++ b ∷ p) ≡ unfinished_message (b ∷ p)
+unfolding unfinished_message
+unfinished_behind_unfinished o nothing b p top = refl
+unfinished_behind_unfinished o (waiting g alone e) b p top =
     rw (segments-append g (b ∷ p), alone.one, has_top b top) refl
 
 pub begins_anew : BeginsAnew
 begins_anew s p b top =
-    let o = open_message s in
-    let here : length s - length o + length o ≡ length s = omega (arith, length-open s) in
-    let told : List Placed = cut_of (open_message s) ++ events (b ∷ p) in (
+    let o = unfinished_message s in
+    let here : length s - length o + length o ≡ length s = omega (arith, length-unfinished s) in
+    let reported : List Placed = cut_of (unfinished_message s) ++ events (b ∷ p) in (
       events-append s (b ∷ p)
           ∙ ap (λ (zs : List Placed). events s ++ events_behind (length s - length o) zs)
-          (events_behind_open o (IsOpen-open s) b p top)
+          (events_behind_unfinished o (IsUnfinished-unfinished s) b p top)
           ∙ ap (λ (zs : List Placed). events s ++ zs)
-          (events_behind-events_behind (length s - length o) (length o) told
-          ∙ ap (λ (n : ℕ). events_behind n told) here),
-      open-append s (b ∷ p) ∙ open_behind_open o (IsOpen-open s) b p top,
+          (events_behind-events_behind (length s - length o) (length o) reported
+          ∙ ap (λ (n : ℕ). events_behind n reported) here),
+      unfinished-append s (b ∷ p) ∙ unfinished_behind_unfinished o (IsUnfinished-unfinished s) b p top,
     )

@@ -3,14 +3,14 @@ use Rattle.std.proofs.Common.{◌≡◌, ℕ, ◌+◌, ◌-◌, ◌≤◌, List,
 use Rattle.std.proofs.lemmas.List.{append-nil, append_cancel_left, length-append, length-take}
 use Rattle.std.proofs.Math.Seq.{take-length}
 use Rattle.dgt_message.specs.Content.{Content, IsMessage}
-use Rattle.dgt_message.specs.Spelling.{spelling}
-use Rattle.dgt_decode.specs.Grammar.{Event, Message, Placed, at_place, events_behind, cut_of, events, open_message}
+use Rattle.dgt_message.specs.Encoding.{encoding}
+use Rattle.dgt_decode.specs.Grammar.{Event, Message, Placed, at_place, events_behind, cut_of, events, unfinished_message}
 use Rattle.dgt_decode.specs.Feeding.{FirstEvent, at_place_if_any}
 use Rattle.dgt_decode.specs.Laws.{Call, AreCalls, used_bytes, events_in_chunks}
 use Rattle.dgt_decode.proofs.Appending.{events-append}
-use Rattle.dgt_decode.proofs.Open.{open-append, length-open}
+use Rattle.dgt_decode.proofs.UnfinishedLemmas.{unfinished-append, length-unfinished}
 use Rattle.dgt_decode.proofs.Loops.{events_behind-at_place_if_any}
-use Rattle.dgt_decode.proofs.Spelled.{AreRead, AreSpelled, spelling_is_read}
+use Rattle.dgt_decode.proofs.Encoded.{AreRead, AreEncoded, encoding_is_read}
 
 -- no more bytes are used than the chunk has
 first_within : (held chunk : List ℕ) (used : ℕ) (x : Option Event) → FirstEvent held chunk used x → used ≤ length chunk
@@ -18,52 +18,53 @@ first_within held chunk used None h = omega (arith, h.0)
 first_within held chunk used (Some event) h = h.0
 
 -- what the used bytes of a chunk come to
-first_told : (held chunk : List ℕ) (used : ℕ) (x : Option Event) → FirstEvent held chunk used x
+first_reported : (held chunk : List ℕ) (used : ℕ) (x : Option Event) → FirstEvent held chunk used x
     → events (held ++ take used chunk) ≡ at_place_if_any (length held + used) x
-first_told held chunk used None h = rw (h.0, take-length chunk) h.1
-first_told held chunk used (Some event) h = h.1
+first_reported held chunk used None h = rw (h.0, take-length chunk) h.1
+first_reported held chunk used (Some event) h = h.1
 
 -- and after bytes of which these are held
-pub call_told : (s : List ℕ) (call : Call) → FirstEvent (open_message s) call.chunk call.used call.event
+pub call_reported : (s : List ℕ) (call : Call) → FirstEvent (unfinished_message s) call.chunk call.used call.event
     → events (s ++ take call.used call.chunk) ≡ events s ++ at_place_if_any (length s + call.used) call.event
-call_told s call first =
-    let o = open_message s in
-    let place : length s - length o + (length o + call.used) ≡ length s + call.used = omega (arith, length-open s) in
+call_reported s call first =
+    let o = unfinished_message s in
+    let place : length s - length o + (length o + call.used) ≡ length s + call.used =
+        omega (arith, length-unfinished s) in
     events-append s (take call.used call.chunk)
     ∙ ap (λ (xs : List Placed). events s ++ events_behind (length s - length o) xs)
-    (first_told o call.chunk call.used call.event first)
+    (first_reported o call.chunk call.used call.event first)
     ∙ ap (λ (xs : List Placed). events s ++ xs)
     (events_behind-at_place_if_any (length s - length o) (length o + call.used)
     (length s + call.used) call.event place)
 
 -- by induction: each call goes on where the one before it stopped
-pub in_any_pieces : (s : List ℕ) (calls : List Call) → AreCalls (open_message s) calls
+pub in_any_chunks : (s : List ℕ) (calls : List Call) → AreCalls (unfinished_message s) calls
     → events (s ++ used_bytes calls) ≡ events s ++ events_in_chunks (length s) calls
-in_any_pieces s [] are = rw (append-nil s) (sym (append-nil (events s)))
-in_any_pieces s (call ∷ calls) are =
-    let within = first_within (open_message s) call.chunk call.used call.event are.0 in
+in_any_chunks s [] are = rw (append-nil s) (sym (append-nil (events s)))
+in_any_chunks s (call ∷ calls) are =
+    let within = first_within (unfinished_message s) call.chunk call.used call.event are.0 in
     let count : length (s ++ take call.used call.chunk) ≡ length s + call.used =
     omega (arith, length-append s (take call.used call.chunk), length-take call.used call.chunk) in
-    let held = open-append s (take call.used call.chunk) in
-    let later : AreCalls (open_message (s ++ take call.used call.chunk)) calls =
+    let held = unfinished-append s (take call.used call.chunk) in
+    let later : AreCalls (unfinished_message (s ++ take call.used call.chunk)) calls =
     subst (λ (x : List ℕ). AreCalls x calls) (sym held) are.1 in
     ap (λ (x : List ℕ). events x) (sym (append_assoc s (take call.used call.chunk) (used_bytes calls)))
-    ∙ in_any_pieces (s ++ take call.used call.chunk) calls later
-    ∙ rw (count, call_told s call are.0)
+    ∙ in_any_chunks (s ++ take call.used call.chunk) calls later
+    ∙ rw (count, call_reported s call are.0)
     (append_assoc (events s) (at_place_if_any (length s + call.used) call.event)
     (events_in_chunks (length s + call.used) calls))
 
 -- what is reported in chunks is reported of the whole
-pub spelling_in_pieces : AreRead → AreSpelled → (s : List ℕ) (said : Content) (calls : List Call)
-    → IsMessage said → AreCalls (open_message s) calls → used_bytes calls ≡ spelling said
-    → events_in_chunks (length s) calls ≡ events_behind (length s) (cut_of (open_message s)) ++ at_place
-    (length s + length (spelling said)) (Message said) ∷ []
-spelling_in_pieces reads spelled s said calls is are same =
-    let cut = events_behind (length s) (cut_of (open_message s)) in
-    let told = cut ++ at_place (length s + length (spelling said)) (Message said) ∷ [] in
-    append_cancel_left (events s) (events_in_chunks (length s) calls) told (
-    sym (in_any_pieces s calls are)
+pub encoding_in_chunks : AreRead → AreEncoded → (s : List ℕ) (said : Content) (calls : List Call)
+    → IsMessage said → AreCalls (unfinished_message s) calls → used_bytes calls ≡ encoding said
+    → events_in_chunks (length s) calls ≡ events_behind (length s) (cut_of (unfinished_message s)) ++ at_place
+    (length s + length (encoding said)) (Message said) ∷ []
+encoding_in_chunks reads encoded s said calls is are same =
+    let cut = events_behind (length s) (cut_of (unfinished_message s)) in
+    let reported = cut ++ at_place (length s + length (encoding said)) (Message said) ∷ [] in
+    append_cancel_left (events s) (events_in_chunks (length s) calls) reported (
+    sym (in_any_chunks s calls are)
     ∙ ap (λ (x : List ℕ). events (s ++ x)) same
-    ∙ (spelling_is_read reads spelled s said is).0
-    ∙ append_assoc (events s) cut (at_place (length s + length (spelling said)) (Message said) ∷ [])
+    ∙ (encoding_is_read reads encoded s said is).0
+    ∙ append_assoc (events s) cut (at_place (length s + length (encoding said)) (Message said) ∷ [])
     )

@@ -2,7 +2,7 @@
 use Rattle.std.proofs.Common.{◌≡◌, ℕ, suc, ◌+◌, ◌-◌, ◌≤◌, Bool, true, false, cond, List, [], ◌∷◌, ◌++◌, length, drop, Option, Some, None, refl, sym, ap, ◌∙◌, append_assoc, arith}
 use Rattle.std.proofs.lemmas.List.{append-nil, length-append, drop-append-le, length-drop}
 use Rattle.std.proofs.lemmas.Bool.{le-leb, lt-leb, leb-true, leb-false}
-use Rattle.dgt_decode.specs.Grammar.{Placed, events_behind, strays, has_top_bit, lead, segments, verdict, unfinished_part, cut_of, cut_before, segments_events, open_segment, events, open_message}
+use Rattle.dgt_decode.specs.Grammar.{Placed, events_behind, strays, has_top_bit, lead, segments, verdict, unfinished_part, cut_of, cut_before, segments_events, unfinished_segment, events, unfinished_message}
 use Rattle.dgt_decode.proofs.Places.{events_behind-append, events_behind-events_behind, events_behind-zero, strays-append}
 use Rattle.dgt_decode.proofs.Cuts.{lead_with, segments_with, lead-append, segments-append}
 use Rattle.dgt_decode.proofs.Verdicts.{verdict-append}
@@ -55,7 +55,7 @@ AreAlone-segments (b ∷ bytes) = go (has_top_bit b) refl (AreAlone-segments byt
     go true e h = (IsAlone-from b (lead bytes) (leb-true 128 b e) (lead-is_seven bytes), h)
     go false e h = h
 
--- ---- how many bytes of segments stand before what they leave open
+-- ---- how many bytes of segments stand before what they leave unfinished
 
 -- by the verdict of the last segment: all of it, or none
 abbrev pub settled_by : Option Placed → List ℕ → ℕ
@@ -73,16 +73,16 @@ abbrev pub lengths : List (List ℕ) → ℕ
 lengths [] = 0
 lengths (g ∷ gs) = length g + lengths gs
 
--- a last segment is settled, or it is open
-settled_by-open : (v : Option Placed) (g : List ℕ) → settled_by v g + length (unfinished_part v g) ≡ length g
-settled_by-open None g = omega arith
-settled_by-open (Some x) g = omega arith
+-- a last segment is settled, or it is unfinished
+settled_by-unfinished : (v : Option Placed) (g : List ℕ) → settled_by v g + length (unfinished_part v g) ≡ length g
+settled_by-unfinished None g = omega arith
+settled_by-unfinished (Some x) g = omega arith
 
--- segments are what is settled and what is open
-pub settled-open : (gs : List (List ℕ)) → settled_of gs + length (open_segment gs) ≡ lengths gs
-settled-open [] = refl
-settled-open (g ∷ []) = settled_by-open (verdict g) g ∙ (omega arith)
-settled-open (g ∷ h ∷ gs) = omega (arith, settled-open (h ∷ gs))
+-- segments are what is settled and what is unfinished
+pub settled-unfinished : (gs : List (List ℕ)) → settled_of gs + length (unfinished_segment gs) ≡ lengths gs
+settled-unfinished [] = refl
+settled-unfinished (g ∷ []) = settled_by-unfinished (verdict g) g ∙ (omega arith)
+settled-unfinished (g ∷ h ∷ gs) = omega (arith, settled-unfinished (h ∷ gs))
 
 -- a list is its lead and its segments
 pub length-cut : (s : List ℕ) → length s ≡ length (lead s) + lengths (segments s)
@@ -144,23 +144,23 @@ last-finished g p x e =
     (regroup x.place (length (drop x.place g)) (length g) (length (lead p)) (strays (drop x.place g))
     (strays (lead p)) (segments_events (segments p)) behind))
 
--- more bytes after a last segment that is open
-last-open : (g p : List ℕ) → IsAlone g → verdict g ≡ None
+-- more bytes after a last segment that is unfinished
+last-unfinished : (g p : List ℕ) → IsAlone g → verdict g ≡ None
     → segments_events ((g ++ lead p) ∷ segments p) ≡ segments_events (g ∷ []) ++ events_behind 0 (events (g ++ p))
 unfolding events
-last-open g p alone e =
+last-unfinished g p alone e =
     rw (lead-append g p, segments-append g p, alone.no_lead, alone.one, e) (simp events_behind-zero)
 
 -- more bytes after segments
 pub segments_events-with : (p g : List ℕ) (gs : List (List ℕ)) → AreAlone (g ∷ gs)
     → segments_events (segments_with p (g ∷ gs)) ≡ segments_events (g ∷ gs) ++ events_behind (settled_of (g ∷ gs))
-    (events (open_segment (g ∷ gs) ++ p))
+    (events (unfinished_segment (g ∷ gs) ++ p))
 segments_events-with p g [] alone = go (verdict g) refl
   where
     go : (v : Option Placed) → verdict g ≡ v
         → segments_events ((g ++ lead p) ∷ segments p) ≡ segments_events (g ∷ []) ++ events_behind (settled_by v g)
         (events (unfinished_part v g ++ p))
-    go None e = last-open g p alone.0 e
+    go None e = last-unfinished g p alone.0 e
     go (Some x) e = last-finished g p x e
 segments_events-with p g (h ∷ gs) alone =
     rw (cut_before-with p h gs (unfinished_part (verdict g) g), segments_events-with p h gs alone.1)
@@ -168,51 +168,52 @@ segments_events-with p g (h ∷ gs) alone =
 
 -- the events of a list by its cut
 abbrev events_by_cut : List ℕ → List (List ℕ) → List Placed
-events_by_cut front gs = strays front ++ events_behind (length front) (segments_events gs)
+events_by_cut prefix gs = strays prefix ++ events_behind (length prefix) (segments_events gs)
 
 -- more bytes after a lead and segments
-events_by_cut-with : (p front : List ℕ) (gs : List (List ℕ)) → AreAlone gs
-    → events_by_cut (lead_with p front gs) (segments_with p gs)
-    ≡ events_by_cut front gs ++ events_behind (length front + settled_of gs) (events (open_segment gs ++ p))
+events_by_cut-with : (p prefix : List ℕ) (gs : List (List ℕ)) → AreAlone gs
+    → events_by_cut (lead_with p prefix gs) (segments_with p gs)
+    ≡ events_by_cut prefix gs ++ events_behind (length prefix + settled_of gs) (events (unfinished_segment gs ++ p))
 unfolding events
-events_by_cut-with p front [] alone =
-    let same : length front + 0 ≡ length front = omega arith in
+events_by_cut-with p prefix [] alone =
+    let same : length prefix + 0 ≡ length prefix = omega arith in
     rw (
-      strays-append front (lead p),
-      length-append front (lead p),
+      strays-append prefix (lead p),
+      length-append prefix (lead p),
       same,
-      events_behind-append (length front)
+      events_behind-append (length prefix)
           (strays (lead p)) (events_behind (length (lead p)) (segments_events (segments p))),
       events_behind-events_behind
-          (length front) (length (lead p)) (segments_events (segments p)),
-      append-nil (strays front),
+          (length prefix) (length (lead p)) (segments_events (segments p)),
+      append-nil (strays prefix),
     )
-    (append_assoc (strays front) (events_behind (length front) (strays (lead p)))
-    (events_behind (length front + length (lead p)) (segments_events (segments p))))
-events_by_cut-with p front (g ∷ gs) alone =
+    (append_assoc (strays prefix) (events_behind (length prefix) (strays (lead p)))
+    (events_behind (length prefix + length (lead p)) (segments_events (segments p))))
+events_by_cut-with p prefix (g ∷ gs) alone =
     rw (
       segments_events-with p g gs alone,
-      events_behind-append (length front) (segments_events (g ∷ gs))
-          (events_behind (settled_of (g ∷ gs)) (events (open_segment (g ∷ gs) ++ p))),
+      events_behind-append (length prefix) (segments_events (g ∷ gs))
+          (events_behind (settled_of (g ∷ gs)) (events (unfinished_segment (g ∷ gs) ++ p))),
       events_behind-events_behind
-          (length front) (settled_of (g ∷ gs)) (events (open_segment (g ∷ gs) ++ p)),
+          (length prefix) (settled_of (g ∷ gs)) (events (unfinished_segment (g ∷ gs) ++ p)),
     )
-    (sym (append_assoc (strays front) (events_behind (length front) (segments_events (g ∷ gs)))
-    (events_behind (length front + settled_of (g ∷ gs)) (events (open_segment (g ∷ gs) ++ p)))))
+    (sym (append_assoc (strays prefix) (events_behind (length prefix) (segments_events (g ∷ gs)))
+    (events_behind (length prefix + settled_of (g ∷ gs)) (events (unfinished_segment (g ∷ gs) ++ p)))))
 
--- how many bytes stand before the open message
-pub settled : (s : List ℕ) → length s - length (open_message s) ≡ length (lead s) + settled_of (segments s)
-unfolding open_message
-settled s = omega (arith, settled-open (segments s), length-cut s)
+-- how many bytes stand before the unfinished message
+pub settled : (s : List ℕ) → length s - length (unfinished_message s) ≡ length (lead s) + settled_of (segments s)
+unfolding unfinished_message
+settled s = omega (arith, settled-unfinished (segments s), length-cut s)
 
 -- more bytes after a list, with the place by its cut
 events-append_by_cut : (s p : List ℕ) → events (s ++ p) ≡ events s ++ events_behind
-    (length (lead s) + settled_of (segments s)) (events (open_message s ++ p))
-unfolding events open_message
+    (length (lead s) + settled_of (segments s)) (events (unfinished_message s ++ p))
+unfolding events unfinished_message
 events-append_by_cut s p =
     rw (lead-append s p, segments-append s p) (events_by_cut-with p (lead s) (segments s) (AreAlone-segments s))
 
--- Later bytes change no event, and need only what is open.
-pub events-append : (s p : List ℕ) → events (s ++ p) ≡ events s ++ events_behind (length s - length (open_message s))
-    (events (open_message s ++ p))
+-- Later bytes change no event, and need only what is unfinished.
+pub events-append : (s p : List ℕ) → events (s ++ p) ≡ events s
+    ++ events_behind (length s - length (unfinished_message s))
+    (events (unfinished_message s ++ p))
 events-append s p = rw (settled s) (events-append_by_cut s p)

@@ -4,12 +4,12 @@ use Rattle.std.specs.List.{position_or_len}
 use Rattle.dgt_decode.specs.declared.event.Found.TheVariants as found
 use Rattle.std.proofs.lemmas.List.{length-take, take-take}
 use Rattle.std.proofs.lemmas.List.Sums.{prefix_len-le-length}
-use Rattle.dgt_decode.specs.Grammar.{has_top_bit, events, open_message, announced_total}
+use Rattle.dgt_decode.specs.Grammar.{has_top_bit, events, unfinished_message, announced_total}
 use Rattle.dgt_decode.specs.Feeding.{IsWholeMessage, at_place_if_any, event_found_in}
-use Rattle.dgt_decode.specs.Taking.{Begins, FramesFront, IsKept}
+use Rattle.dgt_decode.specs.Taking.{Begins, FramesPrefix, IsKept}
 use Rattle.dgt_decode.proofs.Steps.{Gives, first-begins, next-short, next-waits}
 use Rattle.dgt_decode.proofs.Feeds.{first_of_run}
-use Rattle.dgt_decode.proofs.Framing.{after, tells-after}
+use Rattle.dgt_decode.proofs.Framing.{after, reports-after}
 use Rattle.dgt_decode.proofs.BodyRuns.{seven-before, seven-take}
 use Rattle.dgt_decode.proofs.SevenBit.{SevenByRecursion, are_seven, by_recursion}
 
@@ -33,25 +33,25 @@ beginning total end run (b ∷ h ∷ l ∷ more) begins least is =
     let wanted = take missing more in
     let up_to : run ≤ length wanted = omega (arith, is, prefix_len-le-length (λ x. not (has_top_bit x)) wanted) in
     let long = length-take missing more in
-    let front : take run wanted ≡ take run more = take-take run missing more (omega (arith, up_to, long)) in
+    let prefix : take run wanted ≡ take run more = take-take run missing more (omega (arith, up_to, long)) in
     let less : 3 + run - 3 ≡ run = omega arith in
     record {
       header = omega arith;
       within = omega (arith, up_to, long, begins.large);
       fits = omega (arith, up_to, long, begins.large);
       short = omega (arith, begins.is, header.0, header.1.0);
-      seven = rw less (rw (← front, is) (seven-before wanted));
+      seven = rw less (rw (← prefix, is) (seven-before wanted));
     }
 
 -- before the last of them there is no event
 early : (b h l n total : ℕ) (more : List ℕ) → Gives (b ∷ h ∷ []) [] (b ∷ h ∷ []) → l < 128
     → SevenByRecursion (take n more) → n ≤ length more → 3 + n ≤ total
     → total ≡ announced_total (b ∷ h ∷ l ∷ more) → events (take (suc (suc n)) (b ∷ h ∷ l ∷ more)) ≡ []
-early b h l zero total more two low seven within fits is = two.told
+early b h l zero total more two low seven within fits is = two.reported
 early b h l (suc n) total [] two low seven within fits is = absurd (omega (arith, within))
 early b h l (suc n) total (x ∷ more) two low seven within fits is =
     (next-waits (b ∷ h ∷ []) (l ∷ take n (x ∷ more)) two.leaves (omega arith) (low, shorter)
-    (omega (arith, is, fits, length-take n (x ∷ more)))).told
+    (omega (arith, is, fits, length-take n (x ∷ more)))).reported
   where
     fewer : take n (take (suc n) (x ∷ more)) ≡ take n (x ∷ more)
     fewer = take-take n (suc n) (x ∷ more) (omega arith)
@@ -60,9 +60,9 @@ early b h l (suc n) total (x ∷ more) two low seven within fits is =
     shorter = rw (← fewer) (seven-take n (take (suc n) (x ∷ more)) seven)
 
 -- A message that begins is whole where none of it is missing then, and reports nothing otherwise.
-pub frames-beginning : (kept rest : List ℕ) (total used : ℕ) → open_message kept ≡ [] → Begins total rest
+pub frames-beginning : (kept rest : List ℕ) (total used : ℕ) → unfinished_message kept ≡ [] → Begins total rest
     → IsBeginning total rest used
-    → FramesFront kept rest used (take used rest) (after (total - used)).1
+    → FramesPrefix kept rest used (take used rest) (after (total - used)).1
     × IsKept (after (total - used)).0 (take used rest)
 frames-beginning kept [] total used none begins run = absurd (omega (arith, begins.enough))
 frames-beginning kept (b ∷ []) total used none begins run = absurd (omega (arith, begins.enough))
@@ -82,21 +82,21 @@ frames-beginning kept (b ∷ h ∷ l ∷ more) total (suc (suc (suc n))) none be
     let left = total - used in
     let all : announced_total (b ∷ h ∷ l ∷ body) ≡ length (b ∷ h ∷ l ∷ body) + left =
     omega (arith, begins.is, count, run.fits) in
-    let t = tells-after (b ∷ h ∷ []) (l ∷ body) left two.leaves (omega arith) (omega arith)
+    let t = reports-after (b ∷ h ∷ []) (l ∷ body) left two.leaves (omega arith) (omega arith)
     (header.1.0, seven) all in
     let long : 2 + length (l ∷ body) ≡ 0 + length (b ∷ h ∷ l ∷ body) = omega arith in
     let less : length (b ∷ h ∷ l ∷ body) - 1 ≡ suc (suc n) = omega (arith, count) in
-    let front : take (length (b ∷ h ∷ l ∷ body) - 1) (b ∷ h ∷ l ∷ body) ≡ take (suc (suc n)) (b ∷ h ∷ l ∷ more) =
+    let prefix : take (length (b ∷ h ∷ l ∷ body) - 1) (b ∷ h ∷ l ∷ body) ≡ take (suc (suc n)) (b ∷ h ∷ l ∷ more) =
     ap (λ m. take m (b ∷ h ∷ l ∷ body)) less ∙ take-take (suc (suc n)) used (b ∷ h ∷ l ∷ more) (omega arith) in
     let quiet : events (take (length (b ∷ h ∷ l ∷ body) - 1) (b ∷ h ∷ l ∷ body)) ≡ [] =
-    ap (λ x. events x) front ∙ early b h l n total more two header.1.0 seven (omega (arith, run.within))
+    ap (λ x. events x) prefix ∙ early b h l n total more two header.1.0 seven (omega (arith, run.within))
     (omega (arith, run.fits)) begins.is in (
       record {
         some = omega arith;
         within = run.within;
         frames = record {
           first = rw none (first_of_run [] (b ∷ h ∷ l ∷ body) _ (omega arith) quiet
-              (t.0.told ∙
+              (t.0.reported ∙
               ap (λ (n : ℕ). at_place_if_any n (option_map (event_found_in (b ∷ h ∷ l ∷ body)) (after left).1))
               long));
           held = rw none refl;
@@ -109,9 +109,9 @@ frames-beginning kept (b ∷ h ∷ l ∷ more) total (suc (suc (suc n))) none be
     )
 
 -- A message that has come whole is reported at once.
-pub frames-whole : (kept rest : List ℕ) (total : ℕ) → open_message kept ≡ [] → total ≤ length rest
+pub frames-whole : (kept rest : List ℕ) (total : ℕ) → unfinished_message kept ≡ [] → total ≤ length rest
     → IsWholeMessage (take total rest)
-    → FramesFront kept rest total (take total rest) (Some found.Message)
+    → FramesPrefix kept rest total (take total rest) (Some found.Message)
 frames-whole kept rest zero none within whole = absurd (omega (arith, whole.long))
 frames-whole kept rest (suc zero) none within whole = absurd (omega (arith, whole.long, length-take 1 rest))
 frames-whole kept rest (suc (suc zero)) none within whole = absurd (omega (arith, whole.long, length-take 2 rest))

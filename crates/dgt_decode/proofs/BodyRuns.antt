@@ -7,11 +7,11 @@ use Rattle.std.proofs.lemmas.List.Sums.{prefix_len-le-length}
 use Rattle.dgt_decode.specs.declared.framer.FramerState.{FramerState}
 use Rattle.dgt_decode.specs.declared.framer.FramerState.TheVariants.{Body}
 use Rattle.dgt_decode.specs.Grammar.{has_top_bit, announced_total}
-use Rattle.dgt_decode.specs.Taking.{FramesFront, IsKept}
+use Rattle.dgt_decode.specs.Taking.{FramesPrefix, IsKept}
 use Rattle.dgt_decode.proofs.Verdicts.{announced_total-append}
 use Rattle.dgt_decode.proofs.Steps.{next-waits}
 use Rattle.dgt_decode.proofs.Feeds.{first_of_run}
-use Rattle.dgt_decode.proofs.Framing.{after, tells-after}
+use Rattle.dgt_decode.proofs.Framing.{after, reports-after}
 use Rattle.dgt_decode.proofs.SevenBit.{SevenByRecursion}
 
 -- ---- In a body
@@ -48,13 +48,13 @@ body_run (suc more) used (b ∷ rest) room some seven is =
     let wanted = take (suc more) (b ∷ rest) in
     let up_to : used ≤ length wanted = omega (arith, is, prefix_len-le-length (λ x. not (has_top_bit x)) wanted) in
     let long = length-take (suc more) (b ∷ rest) in
-    let front : take used wanted ≡ take used (b ∷ rest) =
+    let prefix : take used wanted ≡ take used (b ∷ rest) =
     take-take used (suc more) (b ∷ rest) (omega (arith, up_to, long)) in
     record {
       some = omega (arith, is, some-before wanted (omega arith) seven);
       within = omega (arith, up_to, long);
       fits = omega (arith, up_to, long);
-      seven = rw (← front, is) (seven-before wanted);
+      seven = rw (← prefix, is) (seven-before wanted);
     }
 
 -- the beginning of seven-bit bytes is so
@@ -66,7 +66,7 @@ seven-take (suc n) (b ∷ bytes) seven = (seven.0, seven-take n bytes seven.1)
 -- A run of the body ends the message where none of it is missing then, and reports nothing otherwise.
 pub frames-body_run : (state : FramerState) (kept rest : List ℕ) (left used : ℕ) → IsKept state kept
     → state ≡ Body left → IsBodyRun left rest used
-    → FramesFront kept rest used (kept ++ take used rest) (after (left - used)).1
+    → FramesPrefix kept rest used (kept ++ take used rest) (after (left - used)).1
     × IsKept (after (left - used)).0 (kept ++ take used rest)
 frames-body_run state kept rest left used was body run =
     let is : IsKept (Body left) kept = subst (λ s. IsKept s kept) body was in
@@ -75,10 +75,10 @@ frames-body_run state kept rest left used was body run =
     let sum : length (kept ++ bytes) ≡ length kept + length bytes = length-append kept bytes in
     let all : announced_total (kept ++ bytes) ≡ length (kept ++ bytes) + (left - used) =
     omega (arith, announced_total-append kept bytes is.1, is.2, is.3, run.fits) in
-    let t = tells-after kept bytes (left - used) is.0 (omega (arith, is.1)) (omega (arith, run.some)) run.seven all in
+    let t = reports-after kept bytes (left - used) is.0 (omega (arith, is.1)) (omega (arith, run.some)) run.seven all in
     let early = take (used - 1) rest in
-    let front : take (used - 1) bytes ≡ early = take-take (used - 1) used rest (omega arith) in
-    let early_seven : SevenByRecursion early = rw (← front) (seven-take (used - 1) bytes run.seven) in
+    let prefix : take (used - 1) bytes ≡ early = take-take (used - 1) used rest (omega arith) in
+    let early_seven : SevenByRecursion early = rw (← prefix) (seven-take (used - 1) bytes run.seven) in
     let early_sum : length (kept ++ early) ≡ length kept + length early = length-append kept early in
     let waiting : length (kept ++ early) < announced_total
     (kept ++ early)
@@ -96,7 +96,8 @@ frames-body_run state kept rest left used was body run =
         within = run.within;
         frames = record {
           first = rw is.0 (first_of_run kept bytes _ (omega (arith, count, run.some))
-              (rw (count, front) (next-waits kept early is.0 (omega (arith, is.1)) early_seven waiting).told) t.0.told);
+              (rw (count, prefix) (next-waits kept early is.0 (omega (arith, is.1)) early_seven waiting).reported)
+                  t.0.reported);
           held = rw is.0 refl;
           whole = t.0.message;
           came = λ e. rw is.0 refl;

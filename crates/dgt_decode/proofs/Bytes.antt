@@ -2,25 +2,26 @@
 use Rattle.std.proofs.Common.{◌≡◌, ℕ, zero, suc, ◌<◌, ◌≤◌, Bool, true, false, cond, List, [], ◌∷◌, ◌++◌, length, get_or, None, refl, subst, arith}
 use Rattle.std.proofs.lemmas.List.{append-nil, get_or_append_left}
 use Rattle.std.proofs.lemmas.Bool.{leb-true}
-use Rattle.dgt_decode.specs.Grammar.{events, has_top_bit, lead, segments, announced_total, verdict, open_message}
+use Rattle.dgt_decode.specs.Grammar.{events, has_top_bit, lead, segments, announced_total, verdict, unfinished_message}
 use Rattle.dgt_decode.proofs.Verdicts.{Stage, short, waits, bad, whole, stage_of, verdict-bad, verdict-whole}
 use Rattle.dgt_decode.proofs.Appending.{IsAlone, lead-is_seven}
-use Rattle.dgt_decode.proofs.Open.{IsOpen-open, events-of_open}
-use Rattle.dgt_decode.proofs.Steps.{IsHeld, IsHeld-open, alone_held}
+use Rattle.dgt_decode.proofs.UnfinishedLemmas.{IsUnfinished-unfinished, events-of_unfinished}
+use Rattle.dgt_decode.proofs.Steps.{IsHeld, IsHeld-unfinished, alone_held}
 use Rattle.dgt_decode.proofs.SevenBit.{SevenByRecursion}
 
 -- no bytes are held as they are
 pub nothing_held : IsHeld []
-unfolding open_message
+unfolding unfinished_message
 nothing_held = refl
 
--- no bytes leave nothing open
-pub open-nothing : (kept : List ℕ) → kept ≡ [] → open_message kept ≡ []
-open-nothing kept none = rw none nothing_held
+-- no bytes leave nothing unfinished
+pub unfinished-nothing : (kept : List ℕ) → kept ≡ [] → unfinished_message kept ≡ []
+unfinished-nothing kept none = rw none nothing_held
 
--- with what is open no event has come
-pub quiet_open : (s : List ℕ) → events (open_message s ++ []) ≡ []
-quiet_open s = rw (append-nil (open_message s)) (events-of_open (open_message s) (IsOpen-open s))
+-- with what is unfinished no event has come
+pub quiet_unfinished : (s : List ℕ) → events (unfinished_message s ++ []) ≡ []
+quiet_unfinished s = rw (append-nil (unfinished_message s)) (events-of_unfinished (unfinished_message s)
+    (IsUnfinished-unfinished s))
 
 -- ---- what is held begins a message, and has room for one more byte
 
@@ -75,8 +76,8 @@ held_room (b ∷ held) h = go (stage_of (b ∷ held))
     go (whole large enough) = let none = alone.1 in let no = verdict-whole (b ∷ held) large enough in absurd cc
 
 -- An unfinished message is shorter than the longest total.
-pub open_is_short : (s : List ℕ) → length (open_message s) < 16383
-open_is_short s = held_room (open_message s) (IsHeld-open s)
+pub unfinished_is_short : (s : List ℕ) → length (unfinished_message s) < 16383
+unfinished_is_short s = held_room (unfinished_message s) (IsHeld-unfinished s)
 
--- what a reader without bytes leaves open, and how much any reader does
-pub ruleset openings = (open-nothing, open_is_short)
+-- what a reader without bytes leaves unfinished, and how much any reader does
+pub ruleset unfinished_facts = (unfinished-nothing, unfinished_is_short)

@@ -4,19 +4,19 @@ use Rattle.std.proofs.lemmas.List.{append-nil, length-append, length-drop, lengt
 use Rattle.std.proofs.lemmas.Bool.{cases_lt}
 use Rattle.std.proofs.Math.Seq.{drop-length, take-add}
 use Rattle.std.specs.List.{FoldsTo, concat}
-use Rattle.dgt_decode.specs.Grammar.{Event, Placed, at_place, events, events_behind, open_message, segment_events, verdict}
-use Rattle.dgt_decode.specs.Feeding.{FirstEvent, at_place_if_any, piece_events}
-use Rattle.dgt_decode.specs.Laws.{Call, OpenIsQuiet, PiecesAdd, events_of_chunks}
-use Rattle.dgt_decode.proofs.AnyChunks.{call_told}
+use Rattle.dgt_decode.specs.Grammar.{Event, Placed, at_place, events, events_behind, unfinished_message, segment_events, verdict}
+use Rattle.dgt_decode.specs.Feeding.{FirstEvent, at_place_if_any, chunk_events}
+use Rattle.dgt_decode.specs.Laws.{Call, UnfinishedIsQuiet, ChunksAdd, events_of_chunks}
+use Rattle.dgt_decode.proofs.AnyChunks.{call_reported}
 use Rattle.dgt_decode.proofs.Places.{events_behind-append, events_behind-events_behind, events_behind-zero}
 use Rattle.dgt_decode.proofs.Appending.{events-append}
-use Rattle.dgt_decode.proofs.Open.{IsOpen, nothing, waiting, IsOpen-open, events-of_open, length-open, open-append}
-use Rattle.dgt_decode.proofs.Steps.{IsHeld, IsHeld-open, next-begins, next-seven, verdict-new}
+use Rattle.dgt_decode.proofs.UnfinishedLemmas.{IsUnfinished, nothing, waiting, IsUnfinished-unfinished, events-of_unfinished, length-unfinished, unfinished-append}
+use Rattle.dgt_decode.proofs.Steps.{IsHeld, IsHeld-unfinished, next-begins, next-seven, verdict-new}
 
 -- These are events after n bytes.
-record IsBehind (n : ℕ) (told : List Placed) : Type 0 where
+record IsBehind (n : ℕ) (reported : List Placed) : Type 0 where
   early : List Placed
-  is : told ≡ events_behind n early
+  is : reported ≡ events_behind n early
 
 -- an event at the byte that follows
 behind_one : (n m : ℕ) (event : Event) → m ≡ n + 1 → IsBehind n (at_place m event ∷ [])
@@ -26,7 +26,7 @@ behind_one n m event e =
 behind_none : (n : ℕ) → IsBehind n []
 behind_none n = record { early = []; is = refl }
 
--- what a byte makes after an open message
+-- what a byte makes after an unfinished message
 behind_verdict : (h : List ℕ) (b : ℕ) → verdict h ≡ None → (v : Option Placed) → verdict (h ++ b ∷ []) ≡ v
     → IsBehind (length h) (segment_events v (h ++ b ∷ []))
 behind_verdict h b e None f = behind_none (length h)
@@ -35,7 +35,7 @@ behind_verdict h b e (Some x) f =
     rw (place, drop-length (h ++ b ∷ []))
     (behind_one (length h) (length (h ++ b ∷ [])) x.event (length-append h (b ∷ [])))
 
-behind_byte_held : (held : List ℕ) (b : ℕ) → IsHeld held → IsOpen held
+behind_byte_held : (held : List ℕ) (b : ℕ) → IsHeld held → IsUnfinished held
     → IsBehind (length held) (events (held ++ b ∷ []))
 behind_byte_held held b h nothing =
     record { early = events (b ∷ []); is = sym (events_behind-zero (events (b ∷ []))) }
@@ -43,9 +43,9 @@ behind_byte_held held b h (waiting [] alone e) = absurd (let no = alone.one in c
 behind_byte_held held b h (waiting (x ∷ g) alone e) =
     let some : 0 < length (x ∷ g) = omega arith in
     elim (cases_lt b 128) [
-      | inl seven ↦ rw (next-seven (x ∷ g) (b ∷ []) h some (seven, tt)).told
+      | inl seven ↦ rw (next-seven (x ∷ g) (b ∷ []) h some (seven, tt)).reported
           (behind_verdict (x ∷ g) b e (verdict ((x ∷ g) ++ b ∷ [])) refl)
-      | inr top ↦ rw (next-begins (x ∷ g) b h some top).told
+      | inr top ↦ rw (next-begins (x ∷ g) b h some top).reported
           (behind_one (length (x ∷ g)) (length (x ∷ g) + 1) _ refl)
     ]
 
@@ -57,9 +57,9 @@ record AreBehind (s p : List ℕ) : Type 0 where
 -- one byte
 one_behind : (s : List ℕ) (b : ℕ) → AreBehind s (b ∷ [])
 one_behind s b =
-    let o = open_message s in
-    let byte = behind_byte_held o b (IsHeld-open s) (IsOpen-open s) in
-    let place : length s - length o + length o ≡ length s = omega (arith, length-open s) in
+    let o = unfinished_message s in
+    let byte = behind_byte_held o b (IsHeld-unfinished s) (IsUnfinished-unfinished s) in
+    let place : length s - length o + length o ≡ length s = omega (arith, length-unfinished s) in
     record {
       early = byte.early;
       is = events-append s (b ∷ [])
@@ -93,86 +93,89 @@ all_behind s (b ∷ p) =
 
 -- each event at its place in the chunk
 abbrev nearer : ℕ → List Placed → List Placed
-nearer n told = map (λ x. at_place (x.place - n) x.event) told
+nearer n reported = map (λ x. at_place (x.place - n) x.event) reported
 
-nearer-behind : (n : ℕ) (told : List Placed) → nearer n (events_behind n told) ≡ told
+nearer-behind : (n : ℕ) (reported : List Placed) → nearer n (events_behind n reported) ≡ reported
 nearer-behind n [] = refl
-nearer-behind n (x ∷ told) =
+nearer-behind n (x ∷ reported) =
     let same : n + x.place - n ≡ x.place = omega arith in
-    rw (same, nearer-behind n told) refl
+    rw (same, nearer-behind n reported) refl
 
 nearer-append : (n : ℕ) (xs ys : List Placed) → nearer n (xs ++ ys) ≡ nearer n xs ++ nearer n ys
 nearer-append n [] ys = refl
 nearer-append n (x ∷ xs) ys = ap (λ (zs : List Placed). at_place (x.place - n) x.event ∷ zs) (nearer-append n xs ys)
 
 -- they make the events after what is held
-held_behind : (s p : List ℕ) → events (open_message s ++ p)
-    ≡ events_behind (length (open_message s)) (piece_events (open_message s) p)
+held_behind : (s p : List ℕ) → events (unfinished_message s ++ p)
+    ≡ events_behind (length (unfinished_message s)) (chunk_events (unfinished_message s) p)
 held_behind s p =
-    let o = open_message s in
+    let o = unfinished_message s in
     let all = all_behind o p in
-    let quiet = events-of_open o (IsOpen-open s) in
+    let quiet = events-of_unfinished o (IsUnfinished-unfinished s) in
     let is : events (o ++ p) ≡ events_behind (length o) all.early =
     all.is ∙ ap (λ (xs : List Placed). xs ++ events_behind (length o) all.early) quiet in
     is ∙ ap (events_behind (length o)) (sym (ap (nearer (length o)) is ∙ nearer-behind (length o) all.early))
 
 -- and after all that came
-pub behind : (s p : List ℕ) → events (s ++ p) ≡ events s ++ events_behind (length s) (piece_events (open_message s) p)
+pub behind : (s p : List ℕ) → events (s ++ p) ≡ events s ++ events_behind (length s)
+    (chunk_events (unfinished_message s) p)
 behind s p =
-    let o = open_message s in
-    let place : length s - length o + length o ≡ length s = omega (arith, length-open s) in
+    let o = unfinished_message s in
+    let place : length s - length o + length o ≡ length s = omega (arith, length-unfinished s) in
     events-append s p
     ∙ ap (λ (xs : List Placed). events s ++ events_behind (length s - length o) xs) (held_behind s p)
     ∙ ap (λ (xs : List Placed). events s ++ xs)
-    (events_behind-events_behind (length s - length o) (length o) (piece_events o p)
-    ∙ ap (λ (n : ℕ). events_behind n (piece_events o p)) place)
+    (events_behind-events_behind (length s - length o) (length o) (chunk_events o p)
+    ∙ ap (λ (n : ℕ). events_behind n (chunk_events o p)) place)
 
 -- in two parts, after what is held
-held_in_two : (o p q : List ℕ) → piece_events o (p ++ q)
-    ≡ piece_events o p ++ events_behind (length p) (piece_events (open_message (o ++ p)) q)
+held_in_two : (o p q : List ℕ) → chunk_events o (p ++ q)
+    ≡ chunk_events o p ++ events_behind (length p) (chunk_events (unfinished_message (o ++ p)) q)
 held_in_two o p q =
-    let more = piece_events (open_message (o ++ p)) q in
+    let more = chunk_events (unfinished_message (o ++ p)) q in
     ap (λ (xs : List ℕ). nearer (length o) (events xs)) (sym (append_assoc o p q))
     ∙ ap (nearer (length o)) (behind (o ++ p) q)
     ∙ nearer-append (length o) (events (o ++ p)) (events_behind (length (o ++ p)) more)
-    ∙ ap (λ (xs : List Placed). piece_events o p ++ xs)
+    ∙ ap (λ (xs : List Placed). chunk_events o p ++ xs)
     (ap (λ (n : ℕ). nearer (length o) (events_behind n more)) (length-append o p)
     ∙ ap (nearer (length o)) (sym (events_behind-events_behind (length o) (length p) more))
     ∙ nearer-behind (length o) (events_behind (length p) more))
 
-pub pieces_add : PiecesAdd
+pub pieces_add : ChunksAdd
 pieces_add = record {
   behind = behind;
-  in_two = λ s front rest. held_in_two (open_message s) front rest
-      ∙ ap (λ (o : List ℕ). piece_events (open_message s) front ++ events_behind (length front) (piece_events o rest))
-      (sym (open-append s front));
+  in_two = λ s prefix rest. held_in_two (unfinished_message s) prefix rest
+      ∙ ap (λ (o : List ℕ). chunk_events (unfinished_message s) prefix
+      ++ events_behind (length prefix) (chunk_events o rest))
+      (sym (unfinished-append s prefix));
 }
 
 -- any chunks
 pub in_a_row : (s : List ℕ) (chunks : List (List ℕ))
-    → events (s ++ concat chunks) ≡ events s ++ events_of_chunks (length s) (open_message s) chunks
+    → events (s ++ concat chunks) ≡ events s ++ events_of_chunks (length s) (unfinished_message s) chunks
 in_a_row s [] = rw (append-nil s) (sym (append-nil (events s)))
 in_a_row s (chunk ∷ more) =
     ap events (sym (append_assoc s chunk (concat more)))
     ∙ in_a_row (s ++ chunk) more
-    ∙ rw (length-append s chunk, behind s chunk, open-append s chunk)
-    (append_assoc (events s) (events_behind (length s) (piece_events (open_message s) chunk))
-    (events_of_chunks (length s + length chunk) (open_message (open_message s ++ chunk)) more))
+    ∙ rw (length-append s chunk, behind s chunk, unfinished-append s chunk)
+    (append_assoc (events s) (events_behind (length s) (chunk_events (unfinished_message s) chunk))
+    (events_of_chunks (length s + length chunk) (unfinished_message (unfinished_message s ++ chunk)) more))
 
 -- ---- nothing
 
 -- no byte after what is held
-pub held_none : (o : List ℕ) → IsHeld o → piece_events o [] ≡ []
-held_none o h = ap (nearer (length o)) (ap events (append-nil o) ∙ events-of_open o (subst (λ (x : List ℕ). IsOpen x) h
-    (IsOpen-open o)))
+pub held_none : (o : List ℕ) → IsHeld o → chunk_events o [] ≡ []
+held_none o h =
+    ap (nearer (length o)) (ap events (append-nil o) ∙ events-of_unfinished o (subst (λ (x : List ℕ). IsUnfinished x) h
+    (IsUnfinished-unfinished o)))
 
-pub open_is_quiet : OpenIsQuiet
-open_is_quiet = record {
-  no_event = λ s. events-of_open (open_message s) (IsOpen-open s);
-  stays = IsHeld-open;
+pub unfinished_is_quiet : UnfinishedIsQuiet
+unfinished_is_quiet = record {
+  no_event = λ s. events-of_unfinished (unfinished_message s) (IsUnfinished-unfinished s);
+  stays = IsHeld-unfinished;
   no_bytes = λ s. (
-    held_none (open_message s) (IsHeld-open s),
-    ap open_message (append-nil (open_message s)) ∙ IsHeld-open s,
+    held_none (unfinished_message s) (IsHeld-unfinished s),
+    ap unfinished_message (append-nil (unfinished_message s)) ∙ IsHeld-unfinished s,
   );
 }
 
@@ -182,38 +185,38 @@ open_is_quiet = record {
 pub record HasHeard {L : Type 0} (hears : L → Placed → L → Type 0) (held chunk : List ℕ) (i : ℕ) (old new : L)
     (now : List ℕ) : Type 0 where
   pub within : i ≤ length chunk
-  pub holds : now ≡ open_message (held ++ take i chunk)
-  pub told : FoldsTo hears old (piece_events held (take i chunk)) new
+  pub holds : now ≡ unfinished_message (held ++ take i chunk)
+  pub reported : FoldsTo hears old (chunk_events held (take i chunk)) new
 
-FoldsTo-one : {L : Type 0} (hears : L → Placed → L → Type 0) (a b c : L) (told : List Placed) (x : Placed)
-    → FoldsTo hears a told b → hears b x c → FoldsTo hears a (told ++ x ∷ []) c
+FoldsTo-one : {L : Type 0} (hears : L → Placed → L → Type 0) (a b c : L) (reported : List Placed) (x : Placed)
+    → FoldsTo hears a reported b → hears b x c → FoldsTo hears a (reported ++ x ∷ []) c
 FoldsTo-one hears a b c [] x p q = (c, subst (λ (v : _). hears v x c) (sym p) q, refl)
-FoldsTo-one hears a b c (y ∷ told) x p q = (p.0, p.1, FoldsTo-one hears p.0 b c told x p.2 q)
+FoldsTo-one hears a b c (y ∷ reported) x p q = (p.0, p.1, FoldsTo-one hears p.0 b c reported x p.2 q)
 
 module _ {L : Type 0} (hears : L → Placed → L → Type 0) where
   -- nothing yet
   pub heard_none : (held chunk : List ℕ) (old : L) → IsHeld held → HasHeard hears held chunk 0 old old held
   heard_none held chunk old h = record {
     within = omega arith;
-    holds = sym (ap open_message (append-nil held) ∙ h);
-    told = rw (held_none held h) refl;
+    holds = sym (ap unfinished_message (append-nil held) ∙ h);
+    reported = rw (held_none held h) refl;
   }
 
   -- what a call uses makes one event more
-  next_told : (held chunk : List ℕ) (i used : ℕ) (now : List ℕ) (event : Option Event) → i ≤ length chunk
-      → now ≡ open_message (held ++ take i chunk) → FirstEvent now (drop i chunk) used event
-      → piece_events held (take (i + used) chunk)
-      ≡ piece_events held (take i chunk) ++ at_place_if_any (i + used) event
-  next_told held chunk i used now event h e first =
+  next_reported : (held chunk : List ℕ) (i used : ℕ) (now : List ℕ) (event : Option Event) → i ≤ length chunk
+      → now ≡ unfinished_message (held ++ take i chunk) → FirstEvent now (drop i chunk) used event
+      → chunk_events held (take (i + used) chunk)
+      ≡ chunk_events held (take i chunk) ++ at_place_if_any (i + used) event
+  next_reported held chunk i used now event h e first =
       let s = held ++ take i chunk in
       let call : Call = record { chunk = drop i chunk; used = used; event = event } in
       let place : length s + used ≡ length held + (i + used) =
       omega (arith, length-append held (take i chunk), length-take-le i chunk h) in
       ap (λ (xs : List ℕ). nearer (length held) (events xs))
       (ap (λ (xs : List ℕ). held ++ xs) (take-add i used chunk) ∙ sym (append_assoc held (take i chunk) _))
-      ∙ ap (nearer (length held)) (call_told s call (rw e at first))
+      ∙ ap (nearer (length held)) (call_reported s call (rw e at first))
       ∙ nearer-append (length held) (events s) (at_place_if_any (length s + used) event)
-      ∙ ap (λ (xs : List Placed). piece_events held (take i chunk) ++ xs)
+      ∙ ap (λ (xs : List Placed). chunk_events held (take i chunk) ++ xs)
       (ap (λ (n : ℕ). nearer (length held) (at_place_if_any n event)) place ∙ near event)
     where
       near : (x : Option Event) → nearer (length held) (at_place_if_any (length held + (i + used)) x) ≡ at_place_if_any
@@ -221,33 +224,36 @@ module _ {L : Type 0} (hears : L → Placed → L → Type 0) where
       near None = refl
       near (Some x) = ap (λ (n : ℕ). at_place n x ∷ []) (omega arith)
 
-  next_holds : (held chunk : List ℕ) (i used : ℕ) (now new : List ℕ) → now ≡ open_message (held ++ take i chunk)
-      → new ≡ open_message (now ++ take used (drop i chunk)) → new ≡ open_message (held ++ take (i + used) chunk)
+  next_holds : (held chunk : List ℕ) (i used : ℕ) (now new : List ℕ) → now ≡ unfinished_message (held ++ take i chunk)
+      → new ≡ unfinished_message (now ++ take used (drop i chunk))
+      → new ≡ unfinished_message (held ++ take (i + used) chunk)
   next_holds held chunk i used now new e f =
-      f ∙ ap (λ (o : List ℕ). open_message (o ++ take used (drop i chunk))) e
-      ∙ sym (ap (λ (xs : List ℕ). open_message (held ++ xs)) (take-add i used chunk)
-      ∙ ap open_message (sym (append_assoc held (take i chunk) _)) ∙ open-append (held ++ take i chunk) _)
+      f ∙ ap (λ (o : List ℕ). unfinished_message (o ++ take used (drop i chunk))) e
+      ∙ sym (ap (λ (xs : List ℕ). unfinished_message (held ++ xs)) (take-add i used chunk)
+      ∙ ap unfinished_message (sym (append_assoc held (take i chunk) _)) ∙ unfinished-append (held ++ take i chunk) _)
 
   -- a call with no event
   pub heard_quiet : (held chunk : List ℕ) (i used : ℕ) (old now : L) (before new : List ℕ)
       → HasHeard hears held chunk i old now before → used ≤ length (drop i chunk)
-      → FirstEvent before (drop i chunk) used None → new ≡ open_message (before ++ take used (drop i chunk))
+      → FirstEvent before (drop i chunk) used None → new ≡ unfinished_message (before ++ take used (drop i chunk))
       → HasHeard hears held chunk (i + used) old now new
   heard_quiet held chunk i used old now before new heard fits first e = record {
     within = omega (arith, fits, length-drop i chunk, heard.within);
     holds = next_holds held chunk i used before new heard.holds e;
-    told = rw (next_told held chunk i used before None heard.within heard.holds first, append-nil) heard.told;
+    reported = rw (next_reported held chunk i used before None heard.within heard.holds first, append-nil)
+        heard.reported;
   }
 
   -- a call with an event, which is heard
   pub heard_one : (held chunk : List ℕ) (i used : ℕ) (old now later : L) (before new : List ℕ) (event : Event)
       → HasHeard hears held chunk i old now before → used ≤ length (drop i chunk)
-      → FirstEvent before (drop i chunk) used (Some event) → new ≡ open_message (before ++ take used (drop i chunk))
+      → FirstEvent before (drop i chunk) used (Some event)
+      → new ≡ unfinished_message (before ++ take used (drop i chunk))
       → hears now (at_place (i + used) event) later
       → HasHeard hears held chunk (i + used) old later new
   heard_one held chunk i used old now later before new event heard fits first e one = record {
     within = omega (arith, fits, length-drop i chunk, heard.within);
     holds = next_holds held chunk i used before new heard.holds e;
-    told = rw (next_told held chunk i used before (Some event) heard.within heard.holds first)
-        (FoldsTo-one hears old now later _ _ heard.told one);
+    reported = rw (next_reported held chunk i used before (Some event) heard.within heard.holds first)
+        (FoldsTo-one hears old now later _ _ heard.reported one);
   }

@@ -4,8 +4,8 @@ use Rattle.dgt_decode.specs.Grammar.{has_top_bit, lead, segments}
 
 -- the lead with p after bytes of this lead and these segments
 abbrev pub lead_with : List ℕ → List ℕ → List (List ℕ) → List ℕ
-lead_with p front [] = front ++ lead p
-lead_with p front (segment ∷ others) = front
+lead_with p prefix [] = prefix ++ lead p
+lead_with p prefix (segment ∷ others) = prefix
 
 -- the segments with p after these
 abbrev pub segments_with : List ℕ → List (List ℕ) → List (List ℕ)
@@ -14,10 +14,10 @@ segments_with p (segment ∷ []) = (segment ++ lead p) ∷ segments p
 segments_with p (segment ∷ next ∷ others) = segment ∷ segments_with p (next ∷ others)
 
 -- a byte of the lead stays in front
-lead_with-cons : (p : List ℕ) (b : ℕ) (front : List ℕ) (gs : List (List ℕ))
-    → lead_with p (b ∷ front) gs ≡ b ∷ lead_with p front gs
-lead_with-cons p b front [] = refl
-lead_with-cons p b front (g ∷ gs) = refl
+lead_with-cons : (p : List ℕ) (b : ℕ) (prefix : List ℕ) (gs : List (List ℕ))
+    → lead_with p (b ∷ prefix) gs ≡ b ∷ lead_with p prefix gs
+lead_with-cons p b prefix [] = refl
+lead_with-cons p b prefix (g ∷ gs) = refl
 
 -- the lead with more bytes after
 pub lead-append : (s p : List ℕ) → lead (s ++ p) ≡ lead_with p (lead s) (segments s)
@@ -30,10 +30,10 @@ lead-append (b ∷ s) p = go (has_top_bit b) (lead-append s p)
     go false before = ap (λ (x : List ℕ). b ∷ x) before ∙ sym (lead_with-cons p b (lead s) (segments s))
 
 -- the first segment may be the one that goes on
-segments_with-first : (p : List ℕ) (b : ℕ) (front : List ℕ) (gs : List (List ℕ))
-    → (b ∷ lead_with p front gs) ∷ segments_with p gs ≡ segments_with p ((b ∷ front) ∷ gs)
-segments_with-first p b front [] = refl
-segments_with-first p b front (g ∷ gs) = refl
+segments_with-first : (p : List ℕ) (b : ℕ) (prefix : List ℕ) (gs : List (List ℕ))
+    → (b ∷ lead_with p prefix gs) ∷ segments_with p gs ≡ segments_with p ((b ∷ prefix) ∷ gs)
+segments_with-first p b prefix [] = refl
+segments_with-first p b prefix (g ∷ gs) = refl
 
 -- the segments with more bytes after
 pub segments-append : (s p : List ℕ) → segments (s ++ p) ≡ segments_with p (segments s)

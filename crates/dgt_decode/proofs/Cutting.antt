@@ -18,7 +18,7 @@ use Rattle.dgt_decode.proofs.SevenBit.{SevenByRecursion, are_seven}
 
 -- ---- The lead
 
--- the lead is a seven-bit front, and the lead of the rest
+-- the lead is a seven-bit prefix, and the lead of the rest
 lead_split : (bytes : List ℕ) (i : ℕ) → SevenByRecursion (take i bytes)
     → lead bytes ≡ take i bytes ++ lead (drop i bytes)
 lead_split bytes i seven =
@@ -72,8 +72,8 @@ waits_here g t is less = sym (verdict-waits g (omega (arith, is)))
 -- a whole message is reported at its total
 pub whole_here : (g : List ℕ) (t : ℕ) (event : Event) → t ≡ announced_total g → 3 ≤ t → t ≤ length g
     → event ≡ message_event (take t g) → Some (at_place t event) ≡ verdict g
-whole_here g t event is large enough tells =
-    rw (tells, is) (sym (verdict-whole g (omega (arith, is)) (omega (arith, is))))
+whole_here g t event is large enough reports =
+    rw (reports, is) (sym (verdict-whole g (omega (arith, is)) (omega (arith, is))))
 
 -- ---- Strays
 
@@ -95,13 +95,13 @@ strays_more before i bytes within =
     ) refl)
 
 -- one more Stray is reported
-pub told_stray : (old told new : List (ℕ × CodeEvent)) (before i : ℕ) (bytes : List ℕ) → i < length bytes
-    → map placed_content told ≡ map placed_content old ++ events_behind before (strays (take i bytes))
-    → new ≡ told ++ (before + i + 1, code_events.Stray (get_or bytes i 0)) ∷ []
+pub reported_stray : (old reported new : List (ℕ × CodeEvent)) (before i : ℕ) (bytes : List ℕ) → i < length bytes
+    → map placed_content reported ≡ map placed_content old ++ events_behind before (strays (take i bytes))
+    → new ≡ reported ++ (before + i + 1, code_events.Stray (get_or bytes i 0)) ∷ []
     → map placed_content new ≡ map placed_content old ++ events_behind before (strays (take (i + 1) bytes))
-told_stray old told new before i bytes within so_far pushed =
+reported_stray old reported new before i bytes within so_far pushed =
     let one : List (ℕ × CodeEvent) = (before + i + 1, code_events.Stray (get_or bytes i 0)) ∷ [] in
-    rw (pushed, map-append placed_content told one, so_far, ← strays_more before i bytes within)
+    rw (pushed, map-append placed_content reported one, so_far, ← strays_more before i bytes within)
     (append_assoc (map placed_content old) (events_behind before (strays (take i bytes))) (map placed_content one))
 
 -- ---- A segment
@@ -116,7 +116,7 @@ cut_after-nothing true = refl
 cut_after-nothing false = refl
 
 -- the verdict and the strays after it are reported
-pub told_verdict : (old mid new : List (ℕ × CodeEvent)) (before place : ℕ) (event : CodeEvent) (g rest : List ℕ)
+pub reported_verdict : (old mid new : List (ℕ × CodeEvent)) (before place : ℕ) (event : CodeEvent) (g rest : List ℕ)
     (is_last : Bool)
     → Some (at_place place (event_content event)) ≡ verdict g
     → mid ≡ old ++ (before + place, event) ∷ []
@@ -124,10 +124,10 @@ pub told_verdict : (old mid new : List (ℕ × CodeEvent)) (before place : ℕ) 
     → map placed_content new ≡ map placed_content mid ++ events_behind (before + place) (strays rest)
     → map placed_content new ≡ map placed_content old ++ events_behind before
     (segment_events (verdict g) g ++ events_behind (length g) (cut_after is_last (unfinished_part (verdict g) g)))
-told_verdict old mid new before place event g rest is_last is pushed same told =
+reported_verdict old mid new before place event g rest is_last is pushed same reported =
     let one : List (ℕ × CodeEvent) = (before + place, event) ∷ [] in
     rw (
-      told,
+      reported,
       pushed,
       map-append placed_content old one,
       same,
@@ -143,16 +143,17 @@ told_verdict old mid new before place event g rest is_last is pushed same told =
 -- ---- The whole list
 
 -- what is reported of the bytes before a place where a segment begins, or the end
-pub record HasTold (bytes : List ℕ) (start : ℕ) (told : List Placed) : Type 0 where
+pub record HasReported (bytes : List ℕ) (start : ℕ) (reported : List Placed) : Type 0 where
   pub within : start ≤ length bytes
   pub no_lead : lead (drop start bytes) ≡ []
-  pub so_far : told ++ events_behind start (segments_events (segments (drop start bytes))) ≡ events bytes
+  pub so_far : reported ++ events_behind start (segments_events (segments (drop start bytes))) ≡ events bytes
 
 -- the Strays of the lead are reported
-pub told_lead : (bytes : List ℕ) (start : ℕ) (told : List Placed) → start ≤ length bytes → take start bytes ≡ lead bytes
-    → told ≡ events_behind 0 (strays (take start bytes)) → HasTold bytes start told
+pub reported_lead : (bytes : List ℕ) (start : ℕ) (reported : List Placed) → start ≤ length bytes
+    → take start bytes ≡ lead bytes
+    → reported ≡ events_behind 0 (strays (take start bytes)) → HasReported bytes start reported
 unfolding events
-told_lead bytes start told within is so_far =
+reported_lead bytes start reported within is so_far =
     let count : length (lead bytes) ≡ start = ap length (sym is) ∙ omega (arith, length-take start bytes) in
     record {
       within = within;
@@ -198,12 +199,12 @@ pub record IsNext (bytes : List ℕ) (start count : ℕ) (segment : List ℕ) : 
   pub stops : take count (drop (start + 1) bytes) ≡ lead (drop (start + 1) bytes)
 
 -- the next segment ends where the lead of what stands after its first byte does
-pub next_segment : (bytes : List ℕ) (start count : ℕ) (told : List Placed) → HasTold bytes start told
+pub next_segment : (bytes : List ℕ) (start count : ℕ) (reported : List Placed) → HasReported bytes start reported
     → start < length bytes
     → take count (drop (start + 1) bytes) ≡ lead (drop (start + 1) bytes)
     → count ≤ length (drop (start + 1) bytes)
     → IsNext bytes start count (take (start + 1 + count - start) (drop start bytes))
-next_segment bytes start count told h more is within =
+next_segment bytes start count reported h more is within =
     let b = get_or bytes start 0 in
     let rest = drop (start + 1) bytes in
     let at = from_here bytes start more in
@@ -223,21 +224,22 @@ pub IsSegment-next : (bytes : List ℕ) (start count : ℕ) (segment : List ℕ)
 IsSegment-next bytes start count segment n = rw n.is (n.top, are_seven _ (lead-is_seven (drop (start + 1) bytes)))
 
 -- places of the next events are counted from the start of the whole
-regrouped : (told a c e : List Placed) (start n end : ℕ) → start + n ≡ end
-    → (told ++ events_behind start (a ++ events_behind n c)) ++ events_behind end e ≡ told ++ events_behind start
+regrouped : (reported a c e : List Placed) (start n end : ℕ) → start + n ≡ end
+    → (reported ++ events_behind start (a ++ events_behind n c)) ++ events_behind end e ≡ reported
+    ++ events_behind start
     (a ++ events_behind n (c ++ e))
-regrouped told a c e start n end same =
+regrouped reported a c e start n end same =
     rw (← same) (simp (events_behind-append, events_behind-events_behind, append_assoc))
 
 -- the events of the next segment are reported
-pub told_segment : (bytes : List ℕ) (start count end : ℕ) (told new : List Placed) (segment : List ℕ)
-    → HasTold bytes start told → start < length bytes
+pub reported_segment : (bytes : List ℕ) (start count end : ℕ) (reported new : List Placed) (segment : List ℕ)
+    → HasReported bytes start reported → start < length bytes
     → IsNext bytes start count segment → end ≡ start + 1 + count → end ≤ length bytes
-    → new ≡ told ++ events_behind start
+    → new ≡ reported ++ events_behind start
     (segment_events (verdict segment) segment ++ events_behind (length segment)
     (cut_after (nat_eq end (length bytes)) (unfinished_part (verdict segment) segment)))
-    → HasTold bytes end new
-told_segment bytes start count end told new segment h more n e within pushed =
+    → HasReported bytes end new
+reported_segment bytes start count end reported new segment h more n e within pushed =
     let b = get_or bytes start 0 in
     let rest = drop (start + 1) bytes in
     let g = b ∷ lead rest in
@@ -255,7 +257,7 @@ told_segment bytes start count end told new segment h more n e within pushed =
       no_lead = none;
       so_far =
           rw (pushed, n.is, ← cut_here bytes end u within none)
-          (regrouped told (segment_events (verdict g) g) (cut_before (segments (drop end bytes)) u)
+          (regrouped reported (segment_events (verdict g) g) (cut_before (segments (drop end bytes)) u)
           (segments_events (segments (drop end bytes))) start (length g) end place
-          ∙ sym (ap (λ (gs : List (List ℕ)). told ++ events_behind start (segments_events gs)) here) ∙ h.so_far);
+          ∙ sym (ap (λ (gs : List (List ℕ)). reported ++ events_behind start (segments_events gs)) here) ∙ h.so_far);
     }

@@ -3,7 +3,7 @@ use Rattle.std.proofs.Common.{◌≡◌, ℕ, Bool, true, false, cond, List, [],
 use Rattle.std.specs.List.{AllByRecursion, concat}
 use Rattle.std.proofs.lemmas.List.{append-nil}
 use Rattle.std.proofs.lemmas.Bool.{leb-true}
-use Rattle.dgt_decode.specs.Grammar.{Placed, events_behind, strays, has_top_bit, lead, segments, verdict, segment_events, unfinished_part, cut_of, segments_events, open_segment, events, open_message}
+use Rattle.dgt_decode.specs.Grammar.{Placed, events_behind, strays, has_top_bit, lead, segments, verdict, segment_events, unfinished_part, cut_of, segments_events, unfinished_segment, events, unfinished_message}
 use Rattle.dgt_decode.specs.Laws.{CutsInto, IsSegment}
 use Rattle.dgt_decode.proofs.Cuts.{lead-append, segments-append}
 use Rattle.dgt_decode.proofs.Feeds.{nil_left}
@@ -49,34 +49,35 @@ segments-parts (g ∷ parts) h =
     let alone = IsAlone-segment g h.0 in
     rw (segments-append g (concat parts), alone.one, lead-parts parts h.1, append-nil g, segments-parts parts h.1) refl
 
--- a seven-bit front is the lead
-lead-divided : (front : List ℕ) (parts : List (List ℕ)) → SevenByRecursion front → AllByRecursion IsSegment parts
-    → lead (front ++ concat parts) ≡ front
-lead-divided front parts seven h =
-    rw (lead-append front (concat parts), lead-seven front seven, segments-seven front seven, lead-parts parts h)
-    (append-nil front)
+-- a seven-bit prefix is the lead
+lead-divided : (prefix : List ℕ) (parts : List (List ℕ)) → SevenByRecursion prefix → AllByRecursion IsSegment parts
+    → lead (prefix ++ concat parts) ≡ prefix
+lead-divided prefix parts seven h =
+    rw (lead-append prefix (concat parts), lead-seven prefix seven, segments-seven prefix seven, lead-parts parts h)
+    (append-nil prefix)
 
 -- and the segments after it are the segments
-segments-divided : (front : List ℕ) (parts : List (List ℕ)) → SevenByRecursion front → AllByRecursion IsSegment parts
-    → segments (front ++ concat parts) ≡ parts
-segments-divided front parts seven h =
-    rw (segments-append front (concat parts), segments-seven front seven) (segments-parts parts h)
+segments-divided : (prefix : List ℕ) (parts : List (List ℕ)) → SevenByRecursion prefix → AllByRecursion IsSegment parts
+    → segments (prefix ++ concat parts) ≡ parts
+segments-divided prefix parts seven h =
+    rw (segments-append prefix (concat parts), segments-seven prefix seven) (segments-parts parts h)
 
 -- the cut is a division
 pub cut_divides : (s : List ℕ) → CutsInto (lead s) (segments s) s
 cut_divides s =
     record {
-      front_is = are_seven (lead s) (lead-is_seven s);
+      prefix_is = are_seven (lead s) (lead-is_seven s);
       parts_are = are_segments s;
       in_a_row = sym (whole s);
     }
 
 -- and the only one
-pub one_cut : (s front : List ℕ) (parts : List (List ℕ)) → CutsInto front parts s → (front ≡ lead s)
+pub one_cut : (s prefix : List ℕ) (parts : List (List ℕ)) → CutsInto prefix parts s → (prefix ≡ lead s)
     × (parts ≡ segments s)
-one_cut s front parts d = (
-  sym (lead-divided front parts (by_recursion front d.front_is) d.parts_are) ∙ ap (λ (x : List ℕ). lead x) d.in_a_row,
-  sym (segments-divided front parts (by_recursion front d.front_is) d.parts_are)
+one_cut s prefix parts d = (
+  sym (lead-divided prefix parts (by_recursion prefix d.prefix_is) d.parts_are)
+      ∙ ap (λ (x : List ℕ). lead x) d.in_a_row,
+  sym (segments-divided prefix parts (by_recursion prefix d.prefix_is) d.parts_are)
       ∙ ap (λ (x : List ℕ). segments x) d.in_a_row,
 )
 
@@ -104,7 +105,7 @@ nil_by (Some x) g e = absurd cc
 
 -- segments without an event are one unfinished segment at most
 quiet_parts : (parts : List (List ℕ)) → AllByRecursion IsSegment parts → segments_events parts ≡ []
-    → open_segment parts ≡ concat parts
+    → unfinished_segment parts ≡ concat parts
 quiet_parts [] h e = refl
 quiet_parts (g ∷ []) h e =
     let none : verdict g ≡ None = nil_by (verdict g) g (nil_left (segment_events (verdict g) g) _ e) in
@@ -118,8 +119,8 @@ quiet_parts ((b ∷ g) ∷ k ∷ parts) h e =
     absurd (let some = rw none at cut in cc)
 
 -- where bytes make no event, they are all held
-pub quiet_held : (s : List ℕ) → events s ≡ [] → open_message s ≡ s
-unfolding events open_message
+pub quiet_held : (s : List ℕ) → events s ≡ [] → unfinished_message s ≡ s
+unfolding events unfinished_message
 quiet_held s e =
     let no_lead : lead s ≡ [] = nil_strays (lead s) (nil_left (strays (lead s)) _ e) in
     let no_events : segments_events (segments s) ≡ [] = nil_raised (length (lead s)) (segments_events (segments s))

@@ -8,7 +8,7 @@ use Rattle.dgt_values.specs.declared.pieces.Piece.{Piece}
 use Rattle.dgt_values.specs.declared.pieces.Piece.TheVariants.{Empty}
 use Rattle.dgt_message.specs.Content.{IsCarried}
 use Rattle.dgt_message.specs.Content.Content.{dump}
-use Rattle.dgt_message.specs.Spelling.{Fits}
+use Rattle.dgt_message.specs.Encoding.{Fits}
 use Rattle.dgt_message.specs.Reading.{reading}
 use Rattle.dgt_message.proofs.Codes.{piece_code-below}
 use Rattle.dgt_decode.specs.Grammar.{Message, message_event, reading_event}
@@ -22,18 +22,18 @@ dump_read exact body pieces seven long are =
     (exact 6 body (dump pieces) (omega arith) (omega (arith, long), seven)).1 record {
       is_message = omega (arith, long, ap length are, length-map pieces piece_code);
       code_is = refl;
-      spelled = are;
+      encoded = are;
     }
 
-pub dump_told : IsRead → (bytes : List ℕ) (pieces : List Piece) → IsWholeMessage bytes → length bytes ≡ 67
+pub dump_reported : IsRead → (bytes : List ℕ) (pieces : List Piece) → IsWholeMessage bytes → length bytes ≡ 67
     → slice_index bytes 0 ≡ 134 → drop 3 bytes ≡ map piece_code pieces
     → message_event bytes ≡ Message (dump pieces)
-dump_told exact (a ∷ b ∷ c ∷ body) pieces w long code are =
+dump_reported exact (a ∷ b ∷ c ∷ body) pieces w long code are =
     let seven : AreSevenBit body = All-drop (λ byte. byte < 128) 2 (b ∷ c ∷ body) w.later in
     rw code (ap (reading_event 6) (dump_read exact body pieces seven (omega (arith, long)) are))
-dump_told exact [] pieces w long code are = absurd (omega (arith, long))
-dump_told exact (a ∷ []) pieces w long code are = absurd (omega (arith, long))
-dump_told exact (a ∷ b ∷ []) pieces w long code are = absurd (omega (arith, long))
+dump_reported exact [] pieces w long code are = absurd (omega (arith, long))
+dump_reported exact (a ∷ []) pieces w long code are = absurd (omega (arith, long))
+dump_reported exact (a ∷ b ∷ []) pieces w long code are = absurd (omega (arith, long))
 
 -- A message that says the pieces of all squares has 67 bytes, the first of which is 134. Each of its codes is below
 -- 16.
@@ -49,8 +49,8 @@ only_dump exact (a ∷ b ∷ c ∷ body) pieces byte w e =
     (exact (a - 128) body (dump pieces) (omega arith) carried).0 (read_of _ _ _ e) in
     let long = length-map pieces piece_code in (
       omega (arith, fits.code_is, w.first),
-      omega (arith, ap length fits.spelled, long, fits.is_message),
-      λ k h. rw (fits.spelled, get_or-map piece_code pieces k Empty 0 (omega (arith, fits.is_message, h)))
+      omega (arith, ap length fits.encoded, long, fits.is_message),
+      λ k h. rw (fits.encoded, get_or-map piece_code pieces k Empty 0 (omega (arith, fits.is_message, h)))
           (piece_code-below (get_or pieces k Empty)),
     )
 only_dump exact [] pieces byte w e = absurd (omega (arith, w.long))

@@ -13,8 +13,8 @@ nil_left [] ys e = refl
 nil_left (x ∷ xs) ys e = absurd cc
 
 -- bytes without an event have none at their front
-pub quiet-front : (s p : List ℕ) → events (s ++ p) ≡ [] → events s ≡ []
-quiet-front s p e = nil_left (events s) _ (sym (events-append s p) ∙ e)
+pub quiet-prefix : (s p : List ℕ) → events (s ++ p) ≡ [] → events s ≡ []
+quiet-prefix s p e = nil_left (events s) _ (sym (events-append s p) ∙ e)
 
 -- the first n: the first k, then what is left of them
 take-take-drop : (k n : ℕ) (chunk : List ℕ) → k ≤ n → take n chunk ≡ take k chunk ++ take (n - k) (drop k chunk)
@@ -22,17 +22,17 @@ take-take-drop k n chunk h =
     let whole : k + (n - k) ≡ n = omega arith in
     ap (λ (m : ℕ). take m chunk) (sym whole) ∙ take-add k (n - k) chunk
 
--- and at each shorter front
+-- and at each shorter prefix
 pub quiet-shorter : (held chunk : List ℕ) (k n : ℕ) → k ≤ n → events (held ++ take n chunk) ≡ []
     → events (held ++ take k chunk) ≡ []
 quiet-shorter held chunk k n h e =
-    quiet-front (held ++ take k chunk) (take (n - k) (drop k chunk))
+    quiet-prefix (held ++ take k chunk) (take (n - k) (drop k chunk))
     (rw (append_assoc held (take k chunk) (take (n - k) (drop k chunk)), ← take-take-drop k n chunk h) e)
 
 -- a chunk without an event has none at its front
 pub quiet-chunk : (held chunk : List ℕ) (k : ℕ) → events (held ++ chunk) ≡ [] → events (held ++ take k chunk) ≡ []
 quiet-chunk held chunk k e =
-    quiet-front (held ++ take k chunk) (drop k chunk)
+    quiet-prefix (held ++ take k chunk) (drop k chunk)
     (rw (append_assoc held (take k chunk) (drop k chunk), take-append-drop k chunk) e)
 
 -- The byte after bytes without an event makes one.
@@ -47,10 +47,10 @@ FirstEvent-some held chunk before used event next within quiet now =
 pub first_of_run : (held run : List ℕ) (event : Option Event) → 0 < length run
     → events (held ++ take (length run - 1) run) ≡ []
     → events (held ++ run) ≡ at_place_if_any (length held + length run) event → FirstEvent held run (length run) event
-first_of_run held run None some quiet told = (refl, told)
-first_of_run held run (Some event) some quiet told =
+first_of_run held run None some quiet reported = (refl, reported)
+first_of_run held run (Some event) some quiet reported =
     FirstEvent-some held run (length run - 1) (length run) event (omega (arith, some)) (omega arith) quiet
-    (rw (take-length run) told)
+    (rw (take-length run) reported)
 
 -- one event at one place is one event
 same_event : (es : List Placed) (x y : Event) (m n : ℕ) → es ≡ at_place m x ∷ [] → es ≡ at_place n y ∷ []

@@ -8,7 +8,7 @@ use Rattle.dgt_values.specs.declared.pieces.Piece.{Piece}
 use Rattle.dgt_values.specs.declared.squares.Square.{Square}
 use Rattle.dgt_message.specs.Content.{Content, IsCarried}
 use Rattle.dgt_message.specs.Content.Content.{field}
-use Rattle.dgt_message.specs.Spelling.{Fits}
+use Rattle.dgt_message.specs.Encoding.{Fits}
 use Rattle.dgt_message.specs.Reading.{reading}
 use Rattle.dgt_message.specs.declared.viewing.BodyFault.{BodyFault}
 use Rattle.dgt_message.proofs.Codes.{piece_code-below}
@@ -47,21 +47,21 @@ field_read exact square piece s p small small' e f =
     (omega arith, All-from_recursion (λ byte. byte < 128) (s ∷ p ∷ []) (omega (arith, small), (small', tt)))).1 record {
       is_message = rw e small;
       code_is = refl;
-      spelled = rw (e, f) refl;
+      encoded = rw (e, f) refl;
     }
 
-pub field_told : IsRead → (bytes : List ℕ) (square : Square) (piece : Piece) → AreSevenBit (drop 1 bytes)
+pub field_reported : IsRead → (bytes : List ℕ) (square : Square) (piece : Piece) → AreSevenBit (drop 1 bytes)
     → length bytes ≡ 5 → slice_index bytes 0 ≡ 142
     → slice_index bytes 3 < 64 → square_number square ≡ slice_index bytes 3 → piece_code piece ≡ slice_index bytes 4
     → message_event bytes ≡ Message (field (square_number square) piece)
-field_told exact (a ∷ b ∷ c ∷ s ∷ p ∷ []) square piece seven five code small e f =
+field_reported exact (a ∷ b ∷ c ∷ s ∷ p ∷ []) square piece seven five code small e f =
     rw code (ap (reading_event 14) (field_read exact square piece s p small (seven 3 0 (omega arith)) e f))
-field_told exact [] square piece seven five code small e f = absurd (omega arith)
-field_told exact (a ∷ []) square piece seven five code small e f = absurd (omega arith)
-field_told exact (a ∷ b ∷ []) square piece seven five code small e f = absurd (omega arith)
-field_told exact (a ∷ b ∷ c ∷ []) square piece seven five code small e f = absurd (omega arith)
-field_told exact (a ∷ b ∷ c ∷ s ∷ []) square piece seven five code small e f = absurd (omega arith)
-field_told exact (a ∷ b ∷ c ∷ s ∷ p ∷ d ∷ rest) square piece seven five code small e f = absurd (omega arith)
+field_reported exact [] square piece seven five code small e f = absurd (omega arith)
+field_reported exact (a ∷ []) square piece seven five code small e f = absurd (omega arith)
+field_reported exact (a ∷ b ∷ []) square piece seven five code small e f = absurd (omega arith)
+field_reported exact (a ∷ b ∷ c ∷ []) square piece seven five code small e f = absurd (omega arith)
+field_reported exact (a ∷ b ∷ c ∷ s ∷ []) square piece seven five code small e f = absurd (omega arith)
+field_reported exact (a ∷ b ∷ c ∷ s ∷ p ∷ d ∷ rest) square piece seven five code small e f = absurd (omega arith)
 
 -- the reading whose event is a message is this message's
 pub read_of : (code : ℕ) (read : Result Content BodyFault) (said : Content) → reading_event code read ≡ Message said
@@ -80,9 +80,9 @@ only_field exact (a ∷ b ∷ c ∷ body) square piece byte w e =
     let fits : Fits (field square piece) (a - 128) body =
     (exact (a - 128) body (field square piece) (omega arith) carried).0 (read_of _ _ _ e) in (
       omega (arith, fits.code_is, w.first),
-      omega (arith, ap length fits.spelled),
-      rw fits.spelled fits.is_message,
-      rw fits.spelled (piece_code-below piece),
+      omega (arith, ap length fits.encoded),
+      rw fits.encoded fits.is_message,
+      rw fits.encoded (piece_code-below piece),
     )
 only_field exact [] square piece byte w e = absurd (omega (arith, w.long))
 only_field exact (a ∷ []) square piece byte w e = absurd (omega (arith, w.long))

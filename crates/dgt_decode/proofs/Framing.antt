@@ -7,31 +7,31 @@ use Rattle.dgt_decode.specs.declared.event.Found.{Found}
 use Rattle.dgt_decode.specs.declared.event.Found.TheVariants as found
 use Rattle.dgt_decode.specs.declared.framer.FramerState.{FramerState}
 use Rattle.dgt_decode.specs.declared.framer.FramerState.TheVariants.{Hunting, Head, Body, Whole}
-use Rattle.dgt_decode.specs.Grammar.{BadLength, Cut, Stray, at_place, message_event, announced_total, events, open_message}
+use Rattle.dgt_decode.specs.Grammar.{BadLength, Cut, Stray, at_place, message_event, announced_total, events, unfinished_message}
 use Rattle.dgt_decode.specs.Feeding.{IsWholeMessage, at_place_if_any, event_found_in}
-use Rattle.dgt_decode.specs.Taking.{Frames, FramesFront, IsKept}
+use Rattle.dgt_decode.specs.Taking.{Frames, FramesPrefix, IsKept}
 use Rattle.dgt_decode.proofs.Verdicts.{announced_total-append}
 use Rattle.dgt_decode.proofs.Appending.{IsAlone}
-use Rattle.dgt_decode.proofs.Wholes.{whole_open}
+use Rattle.dgt_decode.proofs.Wholes.{whole_unfinished}
 use Rattle.dgt_decode.proofs.Feeds.{first_of_run}
-use Rattle.dgt_decode.proofs.Steps.{IsHeld, IsHeld-open, IsAlone-more, alone_held, first-begins, first-stray, next-begins, next-short, next-bad, next-waits, next-whole}
-use Rattle.dgt_decode.proofs.Bytes.{IsAlone-parts, nothing_held, quiet_open, held_begins_more, held_room}
+use Rattle.dgt_decode.proofs.Steps.{IsHeld, IsHeld-unfinished, IsAlone-more, alone_held, first-begins, first-stray, next-begins, next-short, next-bad, next-waits, next-whole}
+use Rattle.dgt_decode.proofs.Bytes.{IsAlone-parts, nothing_held, quiet_unfinished, held_begins_more, held_room}
 use Rattle.dgt_decode.proofs.SevenBit.{SevenByRecursion, are_seven}
 
--- ---- What is open
+-- ---- What is unfinished
 
--- between messages nothing is open
+-- between messages nothing is unfinished
 pub closed : (state : FramerState) (kept : List ℕ) → IsKept state kept → (state ≡ Hunting) ⊎ (state ≡ Whole)
-    → open_message kept ≡ []
+    → unfinished_message kept ≡ []
 closed state kept is here = elim here [
   | inl e ↦ (let none : IsKept Hunting kept = subst (λ s. IsKept s kept) e is in rw none nothing_held)
-  | inr e ↦ whole_open kept (subst (λ s. IsKept s kept) e is)
+  | inr e ↦ whole_unfinished kept (subst (λ s. IsKept s kept) e is)
 ]
 
--- within a message all that is kept is open
-pub opened : (state : FramerState) (kept : List ℕ) → IsKept state kept → (state ≡ Head)
-    ⊎ ((left : ℕ) × (state ≡ Body left)) → open_message kept ≡ kept
-opened state kept is here = elim here [
+-- within a message all that is kept is unfinished
+pub kept_unfinished : (state : FramerState) (kept : List ℕ) → IsKept state kept → (state ≡ Head)
+    ⊎ ((left : ℕ) × (state ≡ Body left)) → unfinished_message kept ≡ kept
+kept_unfinished state kept is here = elim here [
   | inl e ↦ (let head : IsKept Head kept = subst (λ s. IsKept s kept) e is in head.0)
   | inr (left, e) ↦ (let body : IsKept (Body left) kept = subst (λ s. IsKept s kept) e is in body.0)
 ]
@@ -42,28 +42,29 @@ opened state kept is here = elim here [
 pub kept-first : (b : ℕ) → 128 ≤ b → IsKept Head (b ∷ [])
 kept-first b top = ((first-begins b top).leaves, omega arith, omega arith)
 
--- it reports nothing if nothing was open
-pub frames-first : (kept : List ℕ) (b : ℕ) → length (open_message kept) ≡ 0 → 128 ≤ b
+-- it reports nothing if nothing was unfinished
+pub frames-first : (kept : List ℕ) (b : ℕ) → length (unfinished_message kept) ≡ 0 → 128 ≤ b
     → Frames kept (b ∷ []) (b ∷ []) None
 frames-first kept b none top =
-    let nothing : open_message kept ≡ [] = nil_from_length (open_message kept) none in
+    let nothing : unfinished_message kept ≡ [] = nil_from_length (unfinished_message kept) none in
     record {
-      first = first_of_run (open_message kept) (b ∷ []) None (omega arith) (quiet_open kept)
-          (rw nothing (first-begins b top).told);
+      first = first_of_run (unfinished_message kept) (b ∷ []) None (omega arith) (quiet_unfinished kept)
+          (rw nothing (first-begins b top).reported);
       held = rw nothing refl;
       whole = λ e. absurd cc;
       came = λ e. absurd cc;
       unfinished = λ e. (first-begins b top).leaves;
     }
 
--- it reports a Cut where a message was open
-pub frames-cut : (kept : List ℕ) (b : ℕ) → 0 < length (open_message kept) → 128 ≤ b
-    → Frames kept (b ∷ []) (b ∷ []) (Some (found.Cut (length (open_message kept))))
+-- it reports a Cut where a message was unfinished
+pub frames-cut : (kept : List ℕ) (b : ℕ) → 0 < length (unfinished_message kept) → 128 ≤ b
+    → Frames kept (b ∷ []) (b ∷ []) (Some (found.Cut (length (unfinished_message kept))))
 frames-cut kept b some top =
-    let g = next-begins (open_message kept) b (IsHeld-open kept) some top in
+    let g = next-begins (unfinished_message kept) b (IsHeld-unfinished kept) some top in
     record {
-      first = first_of_run (open_message kept) (b ∷ []) (Some (Cut (length (open_message kept)))) (omega arith)
-          (quiet_open kept) g.told;
+      first = first_of_run (unfinished_message kept) (b ∷ []) (Some (Cut (length (unfinished_message kept))))
+          (omega arith)
+          (quiet_unfinished kept) g.reported;
       held = (first-begins b top).leaves ∙ sym g.leaves;
       whole = λ e. absurd cc;
       came = λ e. absurd cc;
@@ -72,14 +73,14 @@ frames-cut kept b some top =
 
 -- ---- A byte outside a message
 
--- a seven-bit byte is stray if nothing was open
-pub frames-stray : (kept : List ℕ) (b : ℕ) → open_message kept ≡ [] → b < 128
+-- a seven-bit byte is stray if nothing was unfinished
+pub frames-stray : (kept : List ℕ) (b : ℕ) → unfinished_message kept ≡ [] → b < 128
     → Frames kept (b ∷ []) [] (Some (found.Stray b))
 frames-stray kept b none seven =
     let g = first-stray b seven in
     record {
-      first = first_of_run (open_message kept) (b ∷ []) (Some (Stray b)) (omega arith) (quiet_open kept)
-          (rw none g.told);
+      first = first_of_run (unfinished_message kept) (b ∷ []) (Some (Stray b)) (omega arith) (quiet_unfinished kept)
+          (rw none g.reported);
       held = rw none (nothing_held ∙ sym g.leaves);
       whole = λ e. absurd cc;
       came = λ e. absurd cc;
@@ -87,10 +88,10 @@ frames-stray kept b none seven =
     }
 
 -- and it is taken by itself
-pub front-stray : (kept rest : List ℕ) → open_message kept ≡ [] → 0 < length rest → slice_index rest 0 < 128
-    → FramesFront kept rest 1 [] (Some (found.Stray (slice_index rest 0)))
-front-stray kept [] none some seven = absurd (omega (arith, some))
-front-stray kept (b ∷ rest) none some seven =
+pub prefix-stray : (kept rest : List ℕ) → unfinished_message kept ≡ [] → 0 < length rest → slice_index rest 0 < 128
+    → FramesPrefix kept rest 1 [] (Some (found.Stray (slice_index rest 0)))
+prefix-stray kept [] none some seven = absurd (omega (arith, some))
+prefix-stray kept (b ∷ rest) none some seven =
     record {
       some = omega arith;
       within = omega arith;
@@ -103,11 +104,12 @@ front-stray kept (b ∷ rest) none some seven =
 pub frames-short : (state : FramerState) (kept : List ℕ) (b : ℕ) → IsKept state kept → state ≡ Head → length kept ≡ 1
     → b < 128 → Frames kept (b ∷ []) (kept ++ b ∷ []) None × IsKept Head (kept ++ b ∷ [])
 frames-short state kept b is head one seven =
-    let h = opened state kept is (inl head) in
+    let h = kept_unfinished state kept is (inl head) in
     let long : length (kept ++ b ∷ []) ≡ 2 = omega (arith, length-append kept (b ∷ [])) in
     let g = next-short kept (b ∷ []) h (omega arith) (seven, tt) (omega arith) in (
       record {
-        first = first_of_run (open_message kept) (b ∷ []) None (omega arith) (quiet_open kept) (rw h g.told);
+        first = first_of_run (unfinished_message kept) (b ∷ []) None (omega arith) (quiet_unfinished kept)
+            (rw h g.reported);
         held = rw h refl;
         whole = λ e. absurd cc;
         came = λ e. absurd cc;
@@ -139,8 +141,8 @@ frames-bad state kept b is head more seven small =
     let g = next-bad kept (b ∷ []) h (omega arith) (seven, tt) long (omega (arith, head_total kept b two)) in
     let place : 3 ≡ length kept + 1 = omega arith in
     record {
-      first = first_of_run (open_message kept) (b ∷ []) (Some BadLength) (omega arith) (quiet_open kept)
-          (rw h (g.told ∙ ap (λ (n : ℕ). at_place n BadLength ∷ []) place));
+      first = first_of_run (unfinished_message kept) (b ∷ []) (Some BadLength) (omega arith) (quiet_unfinished kept)
+          (rw h (g.reported ∙ ap (λ (n : ℕ). at_place n BadLength ∷ []) place));
       held = rw h (nothing_held ∙ sym g.leaves);
       whole = λ e. absurd cc;
       came = λ e. absurd cc;
@@ -159,17 +161,18 @@ later_seven [] alone = tt
 later_seven (b ∷ bytes) alone = (IsAlone-parts b bytes alone).1
 
 -- what seven-bit bytes of a message make known
-pub record TellsRun (kept run : List ℕ) (what : Option Found) : Type 0 where
-  pub told : events (kept ++ run) ≡ at_place_if_any (length kept + length run)
+pub record ReportsRun (kept run : List ℕ) (what : Option Found) : Type 0 where
+  pub reported : events (kept ++ run) ≡ at_place_if_any (length kept + length run)
       (option_map (event_found_in (kept ++ run)) what)
   pub message : what ≡ Some found.Message → IsWholeMessage (kept ++ run)
   pub unfinished : what ≢ Some found.Message → IsHeld (kept ++ run)
 
 -- they end it where none is left, and report nothing otherwise
-pub tells-after : (kept run : List ℕ) (left : ℕ) → IsHeld kept → 2 ≤ length kept → 0 < length run → SevenByRecursion run
+pub reports-after : (kept run : List ℕ) (left : ℕ) → IsHeld kept → 2 ≤ length kept → 0 < length run
+    → SevenByRecursion run
     → announced_total (kept ++ run) ≡ length (kept ++ run) + left
-    → TellsRun kept run (after left).1 × IsKept (after left).0 (kept ++ run)
-tells-after kept run zero h two more seven all =
+    → ReportsRun kept run (after left).1 × IsKept (after left).0 (kept ++ run)
+reports-after kept run zero h two more seven all =
     let some : 0 < length kept = omega arith in
     let count : length (kept ++ run) ≡ length kept + length run = length-append kept run in
     let long : 3 ≤ length (kept ++ run) = omega arith in
@@ -185,19 +188,19 @@ tells-after kept run zero h two more seven all =
       whole = same;
     } in (
       record {
-        told = g.told ∙ ap (λ (n : ℕ). at_place n (message_event (kept ++ run)) ∷ []) count;
+        reported = g.reported ∙ ap (λ (n : ℕ). at_place n (message_event (kept ++ run)) ∷ []) count;
         message = λ e. whole;
         unfinished = λ other. absurd (other refl);
       },
       whole,
     )
-tells-after kept run (suc left) h two more seven all =
+reports-after kept run (suc left) h two more seven all =
     let count : length (kept ++ run) ≡ length kept + length run = length-append kept run in
     let g = next-waits kept run h (omega arith) seven (omega (arith, all)) in
     let waits : nat_eq (suc left) 0 ≡ false = ne_eqb (suc left) 0 (λ (z : suc left ≡ 0). absurd (omega (arith, z))) in
     rw waits (
       record {
-        told = g.told;
+        reported = g.reported;
         message = λ e. absurd cc;
         unfinished = λ other. g.leaves;
       },
@@ -209,9 +212,10 @@ pub frames-after : (kept : List ℕ) (b left : ℕ) → IsHeld kept → 2 ≤ le
     → announced_total (kept ++ b ∷ []) ≡ length (kept ++ b ∷ []) + left
     → Frames kept (b ∷ []) (kept ++ b ∷ []) (after left).1 × IsKept (after left).0 (kept ++ b ∷ [])
 frames-after kept b left h two seven all =
-    let t = tells-after kept (b ∷ []) left h two (omega arith) (seven, tt) all in (
+    let t = reports-after kept (b ∷ []) left h two (omega arith) (seven, tt) all in (
       record {
-        first = first_of_run (open_message kept) (b ∷ []) _ (omega arith) (quiet_open kept) (rw h t.0.told);
+        first = first_of_run (unfinished_message kept) (b ∷ []) _ (omega arith) (quiet_unfinished kept)
+            (rw h t.0.reported);
         held = rw h refl;
         whole = t.0.message;
         came = λ e. rw h refl;
@@ -243,4 +247,4 @@ frames-head state kept b high low is head more seven second third large =
 -- a message that isn't whole leaves room
 pub kept_room : (state : FramerState) (kept : List ℕ) → IsKept state kept → (state ≡ Head)
     ⊎ ((left : ℕ) × (state ≡ Body left)) → length kept < 16383
-kept_room state kept is here = held_room kept (opened state kept is here)
+kept_room state kept is here = held_room kept (kept_unfinished state kept is here)

@@ -3,10 +3,10 @@ pub mod Places
 pub mod Cuts
 pub mod Verdicts
 pub mod Appending
-pub mod Open
+pub mod UnfinishedLemmas
 pub mod Anew
 pub mod Wholes
-pub mod Spelled
+pub mod Encoded
 pub mod Steps
 pub mod Feeds
 pub mod Bytes

@@ -5,12 +5,12 @@ use Rattle.std.proofs.Math.Seq.{drop-cons, take-add, take-length}
 use Rattle.dgt_decode.specs.declared.event.Found.{Found}
 use Rattle.dgt_decode.specs.declared.event.Found.TheVariants as found
 use Rattle.std.proofs.lemmas.List.{append-nil, length-append, length-drop, length-take, length-take-le, take-take}
-use Rattle.dgt_decode.specs.Grammar.{Event, at_place, events_behind, events, open_message}
+use Rattle.dgt_decode.specs.Grammar.{Event, at_place, events_behind, events, unfinished_message}
 use Rattle.dgt_decode.specs.Feeding.{FirstEvent, IsWholeMessage, at_place_if_any, event_found_in}
-use Rattle.dgt_decode.specs.Taking.{Frames, FramesFront}
+use Rattle.dgt_decode.specs.Taking.{Frames, FramesPrefix}
 use Rattle.dgt_decode.proofs.Appending.{events-append}
-use Rattle.dgt_decode.proofs.Open.{events-of_open, open-append, length-open}
-use Rattle.dgt_decode.proofs.Steps.{IsHeld, IsOpen-held}
+use Rattle.dgt_decode.proofs.UnfinishedLemmas.{events-of_unfinished, unfinished-append, length-unfinished}
+use Rattle.dgt_decode.proofs.Steps.{IsHeld, IsUnfinished-held}
 use Rattle.dgt_decode.proofs.Feeds.{FirstEvent-some, first_of_run}
 use Rattle.dgt_decode.proofs.Division.{quiet_held}
 
@@ -20,21 +20,21 @@ pub events_behind-at_place_if_any : (n m k : ℕ) (event : Option Event) → n +
 events_behind-at_place_if_any n m k None e = refl
 events_behind-at_place_if_any n m k (Some event) e = ap (λ (p : ℕ). at_place p event ∷ []) e
 
--- The event of p after s, which has none, is that of p after what s leaves open.
+-- The event of p after s, which has none, is that of p after what s leaves unfinished.
 pub events-more : (s p : List ℕ) (n : ℕ) (event : Option Event) → events s ≡ []
-    → events (open_message s ++ p) ≡ at_place_if_any (length (open_message s) + n) event
+    → events (unfinished_message s ++ p) ≡ at_place_if_any (length (unfinished_message s) + n) event
     → events (s ++ p) ≡ at_place_if_any (length s + n) event
 events-more s p n event quiet now =
-    let place : length s - length (open_message s) + (length (open_message s) + n) ≡ length s + n =
-    omega (arith, length-open s) in
+    let place : length s - length (unfinished_message s) + (length (unfinished_message s) + n) ≡ length s + n =
+    omega (arith, length-unfinished s) in
     events-append s p
     ∙ rw (quiet, now)
-    (events_behind-at_place_if_any (length s - length (open_message s)) (length (open_message s) + n)
+    (events_behind-at_place_if_any (length s - length (unfinished_message s)) (length (unfinished_message s) + n)
     (length s + n) event place)
 
 -- Such a reader has taken i bytes of the chunk without an event, and holds this.
 pub record HasTaken (held chunk : List ℕ) (i : ℕ) (now : List ℕ) : Type 0 where
-  pub holds : now ≡ open_message (held ++ take i chunk)
+  pub holds : now ≡ unfinished_message (held ++ take i chunk)
   pub quiet : events (held ++ take i chunk) ≡ []
 
 -- at first no byte of the chunk is taken
@@ -42,7 +42,7 @@ pub taken_none : (held chunk : List ℕ) → IsHeld held → HasTaken held chunk
 taken_none held chunk h =
     record {
       holds = rw (append-nil held) (sym h);
-      quiet = rw (append-nil held) (events-of_open held (IsOpen-held held h));
+      quiet = rw (append-nil held) (events-of_unfinished held (IsUnfinished-held held h));
     }
 
 -- ---- a run of bytes: from i to j
@@ -51,28 +51,28 @@ taken_none held chunk h =
 abbrev pub IsRun : List ℕ → ℕ → List ℕ → ℕ → Type 0
 IsRun chunk i run j = take j chunk ≡ take i chunk ++ run
 
--- a run leaves open what the bytes to its end leave open
+-- a run leaves unfinished what the bytes to its end leave unfinished
 pub run_holds : (held chunk : List ℕ) (i j : ℕ) (now run : List ℕ) → IsRun chunk i run j → HasTaken held chunk i now
-    → open_message (now ++ run) ≡ open_message (held ++ take j chunk)
+    → unfinished_message (now ++ run) ≡ unfinished_message (held ++ take j chunk)
 run_holds held chunk i j now run r t =
-    rw (t.holds, r, ← append_assoc held (take i chunk) run) (sym (open-append (held ++ take i chunk) run))
+    rw (t.holds, r, ← append_assoc held (take i chunk) run) (sym (unfinished-append (held ++ take i chunk) run))
 
 -- a run reports what the bytes to its end report
-pub run_told : (held chunk : List ℕ) (i j n : ℕ) (now run : List ℕ) (event : Option Event) → IsRun chunk i run j
+pub run_reported : (held chunk : List ℕ) (i j n : ℕ) (now run : List ℕ) (event : Option Event) → IsRun chunk i run j
     → HasTaken held chunk i now
     → events (now ++ run) ≡ at_place_if_any (length now + n) event → events (held ++ take j chunk) ≡ at_place_if_any
     (length (held ++ take i chunk) + n) event
-run_told held chunk i j n now run event r t told =
+run_reported held chunk i j n now run event r t reported =
     rw (r, ← append_assoc held (take i chunk) run)
-    (events-more (held ++ take i chunk) run n event t.quiet (rw (← t.holds) told))
+    (events-more (held ++ take i chunk) run n event t.quiet (rw (← t.holds) reported))
 
 -- a run without an event goes on
 pub run_quiet : (held chunk : List ℕ) (i j : ℕ) (now run : List ℕ) → IsRun chunk i run j → HasTaken held chunk i now
-    → events (now ++ run) ≡ [] → HasTaken held chunk j (open_message (now ++ run))
-run_quiet held chunk i j now run r t told =
+    → events (now ++ run) ≡ [] → HasTaken held chunk j (unfinished_message (now ++ run))
+run_quiet held chunk i j now run r t reported =
     record {
       holds = run_holds held chunk i j now run r t;
-      quiet = run_told held chunk i j 0 now run None r t told;
+      quiet = run_reported held chunk i j 0 now run None r t reported;
     }
 
 -- what is held and a run are what was held and the bytes to its end
@@ -86,19 +86,19 @@ run_came held chunk i j now run r t =
 -- one byte is a step
 pub one_byte : (kept chunk : List ℕ) (i : ℕ) (new : List ℕ) (what : Option Found) → i < length chunk
     → Frames kept (get_or chunk i 0 ∷ []) new what
-    → FramesFront kept (drop i chunk) 1 new what
+    → FramesPrefix kept (drop i chunk) 1 new what
 one_byte kept chunk i new what within byte =
-    let front : take 1 (drop i chunk) ≡ get_or chunk i 0 ∷ [] = rw (drop-cons chunk i 0 within) refl in
+    let prefix : take 1 (drop i chunk) ≡ get_or chunk i 0 ∷ [] = rw (drop-cons chunk i 0 within) refl in
     record {
       some = omega arith;
       within = omega (arith, length-drop i chunk);
-      frames = rw front byte;
+      frames = rw prefix byte;
     }
 
--- the first bytes of a front are those of the whole
-pub front_of_front : (kept rest : List ℕ) (n used : ℕ) (new : List ℕ) (what : Option Found)
-    → FramesFront kept (take n rest) used new what → FramesFront kept rest used new what
-front_of_front kept rest n used new what f =
+-- the first bytes of a prefix are those of the whole
+pub prefix_of_prefix : (kept rest : List ℕ) (n used : ℕ) (new : List ℕ) (what : Option Found)
+    → FramesPrefix kept (take n rest) used new what → FramesPrefix kept rest used new what
+prefix_of_prefix kept rest n used new what f =
     let up_to = length-take n rest in
     let same : take used (take n rest) ≡ take used rest = take-take used n rest (omega (arith, f.within, up_to)) in
     record {
@@ -109,8 +109,8 @@ front_of_front kept rest n used new what f =
 
 -- A framer that kept these bytes has taken the first ones of a chunk without an event, and takes some more.
 module _ (kept chunk : List ℕ) (at used : ℕ) (now new : List ℕ) (what : Option Found)
-    (taken : HasTaken (open_message kept) chunk at (open_message now))
-    (step : FramesFront now (drop at chunk) used new what) where
+    (taken : HasTaken (unfinished_message kept) chunk at (unfinished_message now))
+    (step : FramesPrefix now (drop at chunk) used new what) where
   next : (n : ℕ) → IsRun chunk at (take n (drop at chunk)) (at + n)
   next n = take-add at n chunk
 
@@ -119,43 +119,45 @@ module _ (kept chunk : List ℕ) (at used : ℕ) (now new : List ℕ) (what : Op
   step_within within = omega (arith, step.within, length-drop at chunk, within)
 
   -- what it holds then
-  pub step_held : open_message new ≡ open_message (open_message kept ++ take (at + used) chunk)
-  step_held = step.frames.held ∙ run_holds (open_message kept) chunk at (at + used) (open_message now)
+  pub step_held : unfinished_message new ≡ unfinished_message (unfinished_message kept ++ take (at + used) chunk)
+  step_held = step.frames.held ∙ run_holds (unfinished_message kept) chunk at (at + used) (unfinished_message now)
       (take used (drop at chunk)) (next used) taken
 
   -- which bytes came
-  pub step_came : what ≡ Some found.Message → new ≡ open_message kept ++ take (at + used) chunk
-  step_came e = step.frames.came e ∙ run_came (open_message kept) chunk at (at + used) (open_message now)
+  pub step_came : what ≡ Some found.Message → new ≡ unfinished_message kept ++ take (at + used) chunk
+  step_came e = step.frames.came e ∙ run_came (unfinished_message kept) chunk at (at + used) (unfinished_message now)
       (take used (drop at chunk)) (next used) taken
 
   -- the step that makes the first event ends the call
-  event_first : (event : Event) → at ≤ length chunk → FirstEvent (open_message now) (take used (drop at chunk))
+  event_first : (event : Event) → at ≤ length chunk → FirstEvent (unfinished_message now) (take used (drop at chunk))
       (length (take used (drop at chunk))) (Some event)
-      → FirstEvent (open_message kept) chunk (at + used) (Some event)
+      → FirstEvent (unfinished_message kept) chunk (at + used) (Some event)
   event_first event within first =
       let run = take used (drop at chunk) in
-      let held = open_message kept in
+      let held = unfinished_message kept in
       let count : length run ≡ used = length-take-le used (drop at chunk) step.within in
       let place : length (held ++ take at chunk) + used ≡ length held + (at + used) =
       omega (arith, length-append held (take at chunk), length-take at chunk, within) in
       let last : at + used ≡ at + (used - 1) + 1 = omega (arith, step.some) in
       let early : take (used - 1) run ≡ take (used - 1) (drop at chunk) =
       take-take (used - 1) used (drop at chunk) (omega arith) in
-      let quiet : events (open_message now ++ take (used - 1) (drop at chunk)) ≡ [] =
+      let quiet : events (unfinished_message now ++ take (used - 1) (drop at chunk)) ≡ [] =
       rw early at (first.2 (used - 1) (omega (arith, count, step.some))) in
-      let told : events (open_message now ++ run) ≡ at_place (length (open_message now) + used) event ∷ [] =
-      ap (λ x. events (open_message now ++ x))
-      (sym (take-length run)) ∙ first.1 ∙ ap (λ n. at_place (length (open_message now) + n) event ∷ []) count in
+      let reported : events (unfinished_message now ++ run)
+      ≡ at_place (length (unfinished_message now) + used) event ∷ [] =
+      ap (λ x. events (unfinished_message now ++ x))
+      (sym (take-length run)) ∙ first.1 ∙ ap (λ n. at_place (length (unfinished_message now) + n) event ∷ []) count in
       FirstEvent-some held chunk (at + (used - 1)) (at + used) event last (step_within within)
-      (run_told held chunk at (at + (used - 1)) 0 (open_message now) (take (used - 1) (drop at chunk)) None
+      (run_reported held chunk at (at + (used - 1)) 0 (unfinished_message now) (take (used - 1) (drop at chunk)) None
       (next (used - 1)) taken quiet)
-      (run_told held chunk at (at + used) used (open_message now) run (Some event)
-      (next used) taken told ∙ ap (λ (n : ℕ). at_place n event ∷ []) place)
+      (run_reported held chunk at (at + used) used (unfinished_message now) run (Some event)
+      (next used) taken reported ∙ ap (λ (n : ℕ). at_place n event ∷ []) place)
 
 -- with something found
 pub found_first : (kept chunk : List ℕ) (at used : ℕ) (now new : List ℕ) (what : Option Found)
-    → HasTaken (open_message kept) chunk at (open_message now) → FramesFront now (drop at chunk) used new what
-    → at ≤ length chunk → is_some what ≡ true → FirstEvent (open_message kept) chunk (at + used)
+    → HasTaken (unfinished_message kept) chunk at (unfinished_message now)
+    → FramesPrefix now (drop at chunk) used new what
+    → at ≤ length chunk → is_some what ≡ true → FirstEvent (unfinished_message kept) chunk (at + used)
     (option_map (event_found_in new) what)
 found_first kept chunk at used now new None taken step within some = absurd cc
 found_first kept chunk at used now new (Some it) taken step within some =
@@ -163,11 +165,12 @@ found_first kept chunk at used now new (Some it) taken step within some =
 
 -- with nothing found
 pub found_none : (kept chunk : List ℕ) (at used : ℕ) (now new : List ℕ) (what : Option Found)
-    → HasTaken (open_message kept) chunk at (open_message now) → FramesFront now (drop at chunk) used new what
-    → is_some what ≡ false → HasTaken (open_message kept) chunk (at + used) (open_message new)
+    → HasTaken (unfinished_message kept) chunk at (unfinished_message now)
+    → FramesPrefix now (drop at chunk) used new what
+    → is_some what ≡ false → HasTaken (unfinished_message kept) chunk (at + used) (unfinished_message new)
 found_none kept chunk at used now new None taken step none =
     rw step.frames.held
-    (run_quiet (open_message kept) chunk at (at + used) (open_message now) (take used (drop at chunk))
+    (run_quiet (unfinished_message kept) chunk at (at + used) (unfinished_message now) (take used (drop at chunk))
     (take-add at used chunk) taken step.frames.first.1)
 found_none kept chunk at used now new (Some it) taken step none = absurd cc
 
@@ -180,7 +183,8 @@ not_found (Some it) none e = absurd cc
 
 -- nothing so far
 pub frames_none : (kept bytes now : List ℕ) (n : ℕ) → 0 < n → n ≤ length bytes
-    → HasTaken (open_message kept) bytes n (open_message now) → IsHeld now → FramesFront kept bytes n now None
+    → HasTaken (unfinished_message kept) bytes n (unfinished_message now) → IsHeld now
+    → FramesPrefix kept bytes n now None
 frames_none kept bytes now n some within taken unfinished =
     record {
       some = some;
@@ -195,11 +199,13 @@ frames_none kept bytes now n some within taken unfinished =
     }
 
 -- something at its last byte
-pub frames_found : (kept bytes : List ℕ) (n : ℕ) (new : List ℕ) (it : Found) → FirstEvent (open_message kept) bytes n
+pub frames_found : (kept bytes : List ℕ) (n : ℕ) (new : List ℕ) (it : Found)
+    → FirstEvent (unfinished_message kept) bytes n
     (Some (event_found_in new it)) → 0 < n
-    → open_message new ≡ open_message (open_message kept ++ take n bytes) → (it ≡ found.Message → IsWholeMessage new)
-    → (it ≡ found.Message → new ≡ open_message kept ++ take n bytes) → (it ≢ found.Message → IsHeld new)
-    → FramesFront kept bytes n new (Some it)
+    → unfinished_message new ≡ unfinished_message (unfinished_message kept ++ take n bytes)
+    → (it ≡ found.Message → IsWholeMessage new)
+    → (it ≡ found.Message → new ≡ unfinished_message kept ++ take n bytes) → (it ≢ found.Message → IsHeld new)
+    → FramesPrefix kept bytes n new (Some it)
 frames_found kept bytes n new it first some held whole came unfinished =
     let run = take n bytes in
     let count : length run ≡ n = length-take-le n bytes first.0 in
@@ -208,7 +214,7 @@ frames_found kept bytes n new it first some held whole came unfinished =
       some = some;
       within = first.0;
       frames = record {
-        first = first_of_run (open_message kept) run (Some (event_found_in new it)) (omega (arith, count, some))
+        first = first_of_run (unfinished_message kept) run (Some (event_found_in new it)) (omega (arith, count, some))
             (rw (count, early) (first.2 (n - 1) (omega (arith, some)))) (rw count first.1);
         held = held;
         whole = λ e. whole cc;

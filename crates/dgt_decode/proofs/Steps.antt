@@ -1,45 +1,48 @@
--- What one more byte, or a run of seven-bit bytes, does to what is open.
+-- What one more byte, or a run of seven-bit bytes, does to what is unfinished.
 use Rattle.std.proofs.Common.{◌≡◌, ℕ, ◌+◌, ◌<◌, ◌≤◌, List, [], ◌∷◌, ◌++◌, length, drop, Option, Some, None, refl, sym, ap, subst, ◌∙◌, arith, inl, inr}
 use Rattle.std.proofs.lemmas.List.{append-nil, length-append}
 use Rattle.std.proofs.lemmas.Bool.{le-leb, lt-leb, cases_lt}
 use Rattle.std.proofs.Math.Seq.{drop-length}
-use Rattle.dgt_decode.specs.Grammar.{Cut, BadLength, Stray, Placed, at_place, events_behind, lead, segments, announced_total, message_event, verdict, segment_events, unfinished_part, cut_of, events, open_message}
+use Rattle.dgt_decode.specs.Grammar.{Cut, BadLength, Stray, Placed, at_place, events_behind, lead, segments, announced_total, message_event, verdict, segment_events, unfinished_part, cut_of, events, unfinished_message}
 use Rattle.dgt_decode.proofs.Places.{events_behind-zero}
 use Rattle.dgt_decode.proofs.Cuts.{lead-append, segments-append}
 use Rattle.dgt_decode.proofs.Verdicts.{verdict-short, verdict-bad, verdict-waits, verdict-whole, verdict-full, Stage, short, waits, bad, whole, stage_of, announced_total-append}
 use Rattle.dgt_decode.proofs.Appending.{IsAlone, IsAlone-from, lead-seven, segments-seven}
-use Rattle.dgt_decode.proofs.Open.{IsOpen, nothing, waiting, IsOpen-open, open-of_open, events-of_open, events-alone, open-alone}
+use Rattle.dgt_decode.proofs.UnfinishedLemmas.{IsUnfinished, nothing, waiting, IsUnfinished-unfinished, unfinished-of_unfinished, events-of_unfinished, events-alone, unfinished-alone}
 use Rattle.dgt_decode.proofs.SevenBit.{SevenByRecursion}
 
 -- a list that is held between two chunks
 abbrev pub IsHeld : List ℕ → Type 0
-IsHeld held = open_message held ≡ held
+IsHeld held = unfinished_message held ≡ held
 
 -- what is held is nothing, or one unfinished segment
-pub IsOpen-held : (held : List ℕ) → IsHeld held → IsOpen held
-IsOpen-held held h = subst (λ (x : List ℕ). IsOpen x) h (IsOpen-open held)
+pub IsUnfinished-held : (held : List ℕ) → IsHeld held → IsUnfinished held
+IsUnfinished-held held h = subst (λ (x : List ℕ). IsUnfinished x) h (IsUnfinished-unfinished held)
 
--- what a list leaves open can be held
-pub IsHeld-open : (s : List ℕ) → IsHeld (open_message s)
-IsHeld-open s = open-of_open (open_message s) (IsOpen-open s)
+-- what a list leaves unfinished can be held
+pub IsHeld-unfinished : (s : List ℕ) → IsHeld (unfinished_message s)
+IsHeld-unfinished s = unfinished-of_unfinished (unfinished_message s) (IsUnfinished-unfinished s)
 
--- what bytes come to: their events, and what they leave open
+-- what bytes come to: their events, and what they leave unfinished
 pub record Gives (bytes : List ℕ) (es : List Placed) (left : List ℕ) : Type 0 where
-  pub told : events bytes ≡ es
-  pub leaves : open_message bytes ≡ left
+  pub reported : events bytes ≡ es
+  pub leaves : unfinished_message bytes ≡ left
 
 -- ---- nothing is held
 
 -- a byte with a set top bit is held
 pub first-begins : (b : ℕ) → 128 ≤ b → Gives (b ∷ []) [] (b ∷ [])
 first-begins b top =
-    let open_one = waiting (b ∷ []) (IsAlone-from b [] top tt) (verdict-short (b ∷ []) (omega arith)) in
-    record { told = events-of_open (b ∷ []) open_one; leaves = open-of_open (b ∷ []) open_one }
+    let unfinished_one = waiting (b ∷ []) (IsAlone-from b [] top tt) (verdict-short (b ∷ []) (omega arith)) in
+    record {
+      reported = events-of_unfinished (b ∷ []) unfinished_one;
+      leaves = unfinished-of_unfinished (b ∷ []) unfinished_one
+    }
 
 -- a seven-bit byte is stray
 pub first-stray : (b : ℕ) → b < 128 → Gives (b ∷ []) (at_place 1 (Stray b) ∷ []) []
-unfolding events open_message
-first-stray b seven = record { told = rw (lt-leb 128 b seven) refl; leaves = rw (lt-leb 128 b seven) refl }
+unfolding events unfinished_message
+first-stray b seven = record { reported = rw (lt-leb 128 b seven) refl; leaves = rw (lt-leb 128 b seven) refl }
 
 -- ---- a message is held
 
@@ -53,16 +56,16 @@ IsAlone-more g run alone seven =
 
 -- a message that is held is one unfinished segment
 pub alone_held : (held : List ℕ) → IsHeld held → 0 < length held → IsAlone held × (verdict held ≡ None)
-alone_held held h some = go held (IsOpen-held held h) some
+alone_held held h some = go held (IsUnfinished-held held h) some
   where
-    go : (held : List ℕ) → IsOpen held → 0 < length held → IsAlone held × (verdict held ≡ None)
+    go : (held : List ℕ) → IsUnfinished held → 0 < length held → IsAlone held × (verdict held ≡ None)
     go held nothing some = absurd (omega arith)
     go held (waiting g alone e) some = (alone, e)
 
 -- a top-bit byte cuts it
 pub next-begins : (held : List ℕ) (b : ℕ) → IsHeld held → 0 < length held → 128 ≤ b
     → Gives (held ++ b ∷ []) (at_place (length held + 1) (Cut (length held)) ∷ []) (b ∷ [])
-unfolding events open_message
+unfolding events unfinished_message
 next-begins held b h some top =
     let a = alone_held held h some in
     let alone = a.0 in
@@ -71,7 +74,7 @@ next-begins held b h some top =
     rw (segments-append held (b ∷ []), alone.one, le-leb 128 b top) (rw (append-nil held) refl) in
     let new-is : verdict (b ∷ []) ≡ None = verdict-short (b ∷ []) (omega arith) in
     record {
-      told = rw (lead-is, segments-is, events_behind-zero, a.1, new-is) (cut held some);
+      reported = rw (lead-is, segments-is, events_behind-zero, a.1, new-is) (cut held some);
       leaves = rw (segments-is, new-is) refl;
     }
   where
@@ -86,7 +89,7 @@ pub next-seven : (held run : List ℕ) → IsHeld held → 0 < length held → S
     (unfinished_part (verdict (held ++ run)) (held ++ run))
 next-seven held run h some seven =
     let alone = IsAlone-more held run (alone_held held h some).0 seven in
-    record { told = events-alone (held ++ run) alone; leaves = open-alone (held ++ run) alone }
+    record { reported = events-alone (held ++ run) alone; leaves = unfinished-alone (held ++ run) alone }
 
 -- so long as it is shorter than the header
 pub next-short : (held run : List ℕ) → IsHeld held → 0 < length held → SevenByRecursion run → length (held ++ run) < 3
@@ -94,7 +97,7 @@ pub next-short : (held run : List ℕ) → IsHeld held → 0 < length held → S
 next-short held run h some seven few =
     let gives = next-seven held run h some seven in
     let e = verdict-short (held ++ run) few in
-    record { told = gives.told ∙ rw e refl; leaves = gives.leaves ∙ rw e refl }
+    record { reported = gives.reported ∙ rw e refl; leaves = gives.leaves ∙ rw e refl }
 
 -- so long as it is shorter than its total
 pub next-waits : (held run : List ℕ) → IsHeld held → 0 < length held → SevenByRecursion run
@@ -103,7 +106,7 @@ pub next-waits : (held run : List ℕ) → IsHeld held → 0 < length held → S
 next-waits held run h some seven less =
     let gives = next-seven held run h some seven in
     let e = verdict-waits (held ++ run) less in
-    record { told = gives.told ∙ rw e refl; leaves = gives.leaves ∙ rw e refl }
+    record { reported = gives.reported ∙ rw e refl; leaves = gives.leaves ∙ rw e refl }
 
 -- where the header says too little
 pub next-bad : (held run : List ℕ) → IsHeld held → 0 < length held → SevenByRecursion run → length (held ++ run) ≡ 3
@@ -114,7 +117,7 @@ next-bad held run h some seven three small =
     let long : 3 ≤ length (held ++ run) = omega arith in
     let e = verdict-bad (held ++ run) long small in
     let none : drop 3 (held ++ run) ≡ [] = rw (← three) (drop-length (held ++ run)) in
-    record { told = gives.told ∙ rw (e, none) refl; leaves = gives.leaves ∙ rw e refl }
+    record { reported = gives.reported ∙ rw (e, none) refl; leaves = gives.leaves ∙ rw e refl }
 
 -- where the total is reached
 pub next-whole : (held run : List ℕ) → IsHeld held → 0 < length held → SevenByRecursion run → 3 ≤ length (held ++ run)
@@ -124,7 +127,7 @@ next-whole held run h some seven long same =
     let gives = next-seven held run h some seven in
     let g = held ++ run in
     let e = verdict-full g long same in
-    record { told = gives.told ∙ rw (e, drop-length g) refl; leaves = gives.leaves ∙ rw e refl }
+    record { reported = gives.reported ∙ rw (e, drop-length g) refl; leaves = gives.leaves ∙ rw e refl }
 
 -- ---- No byte makes two events
 
@@ -175,21 +178,21 @@ segment_events-new h b e None f = omega arith
 segment_events-new h b e (Some x) f = rw (verdict-new h b x e f, drop-length (h ++ b ∷ [])) (omega arith)
 
 -- one more byte after what is held makes one event at most
-one_event_held : (held : List ℕ) (b : ℕ) → IsHeld held → IsOpen held → length (events (held ++ b ∷ [])) ≤ 1
+one_event_held : (held : List ℕ) (b : ℕ) → IsHeld held → IsUnfinished held → length (events (held ++ b ∷ [])) ≤ 1
 one_event_held held b h nothing =
     elim (cases_lt b 128) [
-      | inl seven ↦ rw (first-stray b seven).told (omega arith)
-      | inr top ↦ rw (first-begins b top).told (omega arith)
+      | inl seven ↦ rw (first-stray b seven).reported (omega arith)
+      | inr top ↦ rw (first-begins b top).reported (omega arith)
     ]
 one_event_held held b h (waiting [] alone e) = absurd (let no = alone.one in cc)
 one_event_held held b h (waiting (x ∷ g) alone e) =
     let some : 0 < length (x ∷ g) = omega arith in
     elim (cases_lt b 128) [
-      | inl seven ↦ rw (next-seven (x ∷ g) (b ∷ []) h some (seven, tt)).told
+      | inl seven ↦ rw (next-seven (x ∷ g) (b ∷ []) h some (seven, tt)).reported
           (segment_events-new (x ∷ g) b e (verdict ((x ∷ g) ++ b ∷ [])) refl)
-      | inr top ↦ rw (next-begins (x ∷ g) b h some top).told (omega arith)
+      | inr top ↦ rw (next-begins (x ∷ g) b h some top).reported (omega arith)
     ]
 
 -- No byte makes two events.
-pub one_event : (s : List ℕ) (b : ℕ) → length (events (open_message s ++ b ∷ [])) ≤ 1
-one_event s b = one_event_held (open_message s) b (IsHeld-open s) (IsOpen-open s)
+pub one_event : (s : List ℕ) (b : ℕ) → length (events (unfinished_message s ++ b ∷ [])) ≤ 1
+one_event s b = one_event_held (unfinished_message s) b (IsHeld-unfinished s) (IsUnfinished-unfinished s)

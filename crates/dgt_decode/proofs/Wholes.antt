@@ -1,11 +1,11 @@
 -- The bytes of one message, and no more.
 use Rattle.std.proofs.Common.{◌≡◌, ◌≤◌, ℕ, List, [], ◌∷◌, length, drop, Some, refl, ◌∙◌, arith}
 use Rattle.std.specs.Prelude.{slice_index}
-use Rattle.dgt_decode.specs.Grammar.{at_place, message_event, verdict, open_message}
+use Rattle.dgt_decode.specs.Grammar.{at_place, message_event, verdict, unfinished_message}
 use Rattle.dgt_decode.specs.Feeding.{IsWholeMessage}
 use Rattle.dgt_decode.proofs.Verdicts.{verdict-full}
 use Rattle.dgt_decode.proofs.Appending.{IsAlone, IsAlone-from}
-use Rattle.dgt_decode.proofs.Open.{open-alone}
+use Rattle.dgt_decode.proofs.UnfinishedLemmas.{unfinished-alone}
 use Rattle.dgt_decode.proofs.SevenBit.{SevenByRecursion, by_recursion}
 
 -- a first byte with its top bit set, and later ones without
@@ -22,6 +22,6 @@ IsAlone-whole g w = IsAlone-begin g w.long w.first (by_recursion (drop 1 g) w.la
 pub verdict-of_whole : (g : List ℕ) → IsWholeMessage g → verdict g ≡ Some (at_place (length g) (message_event g))
 verdict-of_whole g w = verdict-full g w.long w.whole
 
--- and it leaves nothing open
-pub whole_open : (g : List ℕ) → IsWholeMessage g → open_message g ≡ []
-whole_open g w = open-alone g (IsAlone-whole g w) ∙ rw (verdict-of_whole g w) refl
+-- and it leaves nothing unfinished
+pub whole_unfinished : (g : List ℕ) → IsWholeMessage g → unfinished_message g ≡ []
+whole_unfinished g w = unfinished-alone g (IsAlone-whole g w) ∙ rw (verdict-of_whole g w) refl

@@ -21,8 +21,8 @@ FirstEvent held chunk used (Some event) =
 
 -- The events of a chunk after an unfinished message. The place of each is how many bytes of the
 -- chunk come up to and including the one that makes it.
-abbrev pub piece_events : List ℕ → List ℕ → List Placed
-piece_events held chunk =
+abbrev pub chunk_events : List ℕ → List ℕ → List Placed
+chunk_events held chunk =
     map (λ x. at_place (x.place - length held) x.event) (events (held ++ chunk))
 
 -- an event that the code reports

@@ -6,7 +6,7 @@ use Rattle.std.specs.Prelude.{ℕ, ◌+◌, ◌-◌, Bool, List, [], ◌∷◌, 
 use Rattle.dgt_message.specs.declared.viewing.BodyFault.{BodyFault}
 use Rattle.dgt_message.specs.Content.{Content}
 use Rattle.dgt_message.specs.Reading.{reading}
-use Rattle.dgt_message.specs.Spelling.{total}
+use Rattle.dgt_message.specs.Encoding.{total}
 
 -- what a byte makes known
 pub data Event : Type 0 where
@@ -104,10 +104,10 @@ segments_events (segment ∷ others) =
     ++ events_behind (length segment)
     (cut_before others (unfinished_part (verdict segment) segment) ++ segments_events others)
 
-abbrev pub open_segment : List (List ℕ) → List ℕ
-open_segment [] = []
-open_segment (segment ∷ []) = unfinished_part (verdict segment) segment
-open_segment (segment ∷ next ∷ others) = open_segment (next ∷ others)
+abbrev pub unfinished_segment : List (List ℕ) → List ℕ
+unfinished_segment [] = []
+unfinished_segment (segment ∷ []) = unfinished_part (verdict segment) segment
+unfinished_segment (segment ∷ next ∷ others) = unfinished_segment (next ∷ others)
 
 -- the events of a list of bytes, in order
 unfoldable pub events : List ℕ → List Placed
@@ -115,5 +115,5 @@ events bytes =
     strays (lead bytes) ++ events_behind (length (lead bytes)) (segments_events (segments bytes))
 
 -- the bytes of the unfinished message at the end, if there is one
-unfoldable pub open_message : List ℕ → List ℕ
-open_message bytes = open_segment (segments bytes)
+unfoldable pub unfinished_message : List ℕ → List ℕ
+unfinished_message bytes = unfinished_segment (segments bytes)

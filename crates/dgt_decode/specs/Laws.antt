@@ -3,75 +3,77 @@ use Rattle.std.specs.Prelude.{◌≡◌, ℕ, ◌+◌, ◌-◌, ◌≤◌, List,
 use Rattle.std.specs.List.{AllByRecursion, flat_map, concat}
 use Rattle.dgt_values.specs.Bytes.{AreSevenBit}
 use Rattle.dgt_message.specs.Content.{Content, IsMessage}
-use Rattle.dgt_message.specs.Spelling.{spelling}
-use Rattle.dgt_decode.specs.Grammar.{Message, Event, Placed, at_place, events_behind, cut_of, events, open_message}
-use Rattle.dgt_decode.specs.Feeding.{FirstEvent, at_place_if_any, piece_events}
+use Rattle.dgt_message.specs.Encoding.{encoding}
+use Rattle.dgt_decode.specs.Grammar.{Message, Event, Placed, at_place, events_behind, cut_of, events, unfinished_message}
+use Rattle.dgt_decode.specs.Feeding.{FirstEvent, at_place_if_any, chunk_events}
 
 -- a byte with a set top bit, and seven-bit bytes after it
 abbrev pub IsSegment : List ℕ → Type 0
 IsSegment [] = ⊥
 IsSegment (b ∷ bytes) = (128 ≤ b) × AreSevenBit bytes
 
--- these are a seven-bit front and segments, and in a row they are the list
-pub record CutsInto (front : List ℕ) (parts : List (List ℕ)) (s : List ℕ) : Type 0 where
-  pub front_is : AreSevenBit front
+-- these are a seven-bit prefix and segments, and in a row they are the list
+pub record CutsInto (prefix : List ℕ) (parts : List (List ℕ)) (s : List ℕ) : Type 0 where
+  pub prefix_is : AreSevenBit prefix
   pub parts_are : AllByRecursion IsSegment parts
-  pub in_a_row : front ++ concat parts ≡ s
+  pub in_a_row : prefix ++ concat parts ≡ s
 
 -- ---- More bytes
 
 -- Bytes that come later change no event, and need only the unfinished message of what came before.
 abbrev pub EventsAppend : Type 0
 EventsAppend = (s p : List ℕ) → events (s ++ p)
-    ≡ events s ++ events_behind (length s - length (open_message s)) (events (open_message s ++ p))
+    ≡ events s ++ events_behind (length s - length (unfinished_message s))
+    (events (unfinished_message s ++ p))
 
 -- and so it is with what is unfinished at the end
-abbrev pub OpenAppend : Type 0
-OpenAppend = (s p : List ℕ) → open_message (s ++ p) ≡ open_message (open_message s ++ p)
+abbrev pub UnfinishedAppend : Type 0
+UnfinishedAppend = (s p : List ℕ) →
+    unfinished_message (s ++ p) ≡ unfinished_message (unfinished_message s ++ p)
 
 -- An unfinished message is a part of what came.
-abbrev pub OpenIsPart : Type 0
-OpenIsPart = (s : List ℕ) → length (open_message s) ≤ length s
+abbrev pub UnfinishedIsPart : Type 0
+UnfinishedIsPart = (s : List ℕ) → length (unfinished_message s) ≤ length s
 
 -- If bytes make no event, they are all held.
 abbrev pub QuietHeld : Type 0
-QuietHeld = (s : List ℕ) → events s ≡ [] → open_message s ≡ s
+QuietHeld = (s : List ℕ) → events s ≡ [] → unfinished_message s ≡ s
 
 -- After no bytes, events keep their places. After two lists of bytes their places are those after
 -- both lists in a row. Each event is placed by itself.
 pub record PlacesAdd : Type 0 where
-  pub none : (told : List Placed) → events_behind 0 told ≡ told
-  pub twice : (m n : ℕ) (told : List Placed) →
-      events_behind m (events_behind n told) ≡ events_behind (m + n) told
-  pub in_a_row : (n : ℕ) (told more : List Placed) →
-      events_behind n (told ++ more) ≡ events_behind n told ++ events_behind n more
+  pub none : (reported : List Placed) → events_behind 0 reported ≡ reported
+  pub twice : (m n : ℕ) (reported : List Placed) →
+      events_behind m (events_behind n reported) ≡ events_behind (m + n) reported
+  pub in_a_row : (n : ℕ) (reported more : List Placed) →
+      events_behind n (reported ++ more) ≡ events_behind n reported ++ events_behind n more
 
 -- An unfinished message makes no event, and is what it leaves unfinished. If no byte comes after
 -- it, there is no event, and it stays as it is.
-pub record OpenIsQuiet : Type 0 where
-  pub no_event : (s : List ℕ) → events (open_message s) ≡ []
-  pub stays : (s : List ℕ) → open_message (open_message s) ≡ open_message s
+pub record UnfinishedIsQuiet : Type 0 where
+  pub no_event : (s : List ℕ) → events (unfinished_message s) ≡ []
+  pub stays : (s : List ℕ) → unfinished_message (unfinished_message s) ≡ unfinished_message s
   pub no_bytes : (s : List ℕ) →
-      (piece_events (open_message s) [] ≡ [])
-      × (open_message (open_message s ++ []) ≡ open_message s)
+      (chunk_events (unfinished_message s) [] ≡ [])
+      × (unfinished_message (unfinished_message s ++ []) ≡ unfinished_message s)
 
 -- After any bytes, those of a chunk make the events of the chunk. A chunk's events are those of its
 -- prefix, and then those of the rest.
-pub record PiecesAdd : Type 0 where
+pub record ChunksAdd : Type 0 where
   pub behind : (s chunk : List ℕ) → events (s ++ chunk)
-      ≡ events s ++ events_behind (length s) (piece_events (open_message s) chunk)
-  pub in_two : (s front rest : List ℕ) →
-      piece_events (open_message s) (front ++ rest)
-      ≡ piece_events (open_message s) front
-      ++ events_behind (length front) (piece_events (open_message (s ++ front)) rest)
+      ≡ events s ++ events_behind (length s) (chunk_events (unfinished_message s) chunk)
+  pub in_two : (s prefix rest : List ℕ) →
+      chunk_events (unfinished_message s) (prefix ++ rest)
+      ≡ chunk_events (unfinished_message s) prefix
+      ++ events_behind (length prefix) (chunk_events (unfinished_message (s ++ prefix)) rest)
 
 -- A byte with a set top bit begins anew, whatever came before: all that it does to it is to cut an
 -- unfinished message off.
 abbrev pub BeginsAnew : Type 0
 BeginsAnew = (s p : List ℕ) (b : ℕ) → 128 ≤ b →
     (events (s ++ b ∷ p)
-    ≡ events s ++ events_behind (length s) (cut_of (open_message s) ++ events (b ∷ p)))
-    × (open_message (s ++ b ∷ p) ≡ open_message (b ∷ p))
+    ≡ events s ++ events_behind (length s) (cut_of (unfinished_message s) ++ events (b ∷ p)))
+    × (unfinished_message (s ++ b ∷ p) ≡ unfinished_message (b ∷ p))
 
 -- ---- Messages in a row
 
@@ -90,13 +92,13 @@ arrivals (m ∷ more) =
     at_place (length m.bytes) (Message m.said) ∷ events_behind (length m.bytes) (arrivals more)
 
 -- What is written of a message, after any bytes, makes this message known at its last byte, and
--- leaves nothing open.
-abbrev pub SpellingIsRead : Type 0
-SpellingIsRead = (s : List ℕ) (said : Content) → IsMessage said →
-    (events (s ++ spelling said)
-    ≡ events s ++ events_behind (length s) (cut_of (open_message s))
-    ++ at_place (length s + length (spelling said)) (Message said) ∷ [])
-    × (open_message (s ++ spelling said) ≡ [])
+-- leaves nothing unfinished.
+abbrev pub EncodingIsRead : Type 0
+EncodingIsRead = (s : List ℕ) (said : Content) → IsMessage said →
+    (events (s ++ encoding said)
+    ≡ events s ++ events_behind (length s) (cut_of (unfinished_message s))
+    ++ at_place (length s + length (encoding said)) (Message said) ∷ [])
+    × (unfinished_message (s ++ encoding said) ≡ [])
 
 -- ---- In chunks
 
@@ -115,7 +117,7 @@ abbrev pub AreCalls : List ℕ → List Call → Type 0
 AreCalls held [] = Unit {0}
 AreCalls held (call ∷ calls) =
     FirstEvent held call.chunk call.used call.event
-    × AreCalls (open_message (held ++ take call.used call.chunk)) calls
+    × AreCalls (unfinished_message (held ++ take call.used call.chunk)) calls
 
 -- the events that these calls report of a reader that has read n bytes before
 abbrev pub events_in_chunks : ℕ → List Call → List Placed
@@ -127,5 +129,5 @@ events_in_chunks n (call ∷ calls) =
 abbrev pub events_of_chunks : ℕ → List ℕ → List (List ℕ) → List Placed
 events_of_chunks n held [] = []
 events_of_chunks n held (chunk ∷ more) =
-    events_behind n (piece_events held chunk)
-    ++ events_of_chunks (n + length chunk) (open_message (held ++ chunk)) more
+    events_behind n (chunk_events held chunk)
+    ++ events_of_chunks (n + length chunk) (unfinished_message (held ++ chunk)) more

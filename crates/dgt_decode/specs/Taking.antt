@@ -6,30 +6,31 @@ use Rattle.dgt_decode.specs.declared.event.Found.{Found}
 use Rattle.dgt_decode.specs.declared.event.Found.TheVariants as found
 use Rattle.dgt_decode.specs.declared.framer.FramerState.{FramerState}
 use Rattle.dgt_decode.specs.declared.framer.FramerState.TheVariants.{Hunting, Head, Body, Whole}
-use Rattle.dgt_decode.specs.Grammar.{Placed, announced_total, at_place, open_message}
+use Rattle.dgt_decode.specs.Grammar.{Placed, announced_total, at_place, unfinished_message}
 use Rattle.dgt_decode.specs.Feeding.{FirstEvent, IsWholeMessage, event_content, event_found_in}
 
 -- how far the bytes that are kept have come, by the framer's state
 abbrev pub IsKept : FramerState → List ℕ → Type 0
 IsKept Hunting kept = kept ≡ []
-IsKept Head kept = (open_message kept ≡ kept) × (0 < length kept) × (length kept < 3)
+IsKept Head kept = (unfinished_message kept ≡ kept) × (0 < length kept) × (length kept < 3)
 IsKept (Body left) kept =
-    (open_message kept ≡ kept) × (3 ≤ length kept) × (0 < left)
+    (unfinished_message kept ≡ kept) × (3 ≤ length kept) × (0 < left)
     × (announced_total kept ≡ length kept + left)
 IsKept Whole kept = IsWholeMessage kept
 
 -- A framer that kept these bytes has taken a run of bytes, of which only the last may make an
--- event. It holds what is open then. It keeps a message that the run made known, or else no more
--- than what is open.
+-- event. It holds what is unfinished then. It keeps a message that the run made known, or else no
+-- more than what is unfinished.
 pub record Frames (kept run new : List ℕ) (what : Option Found) : Type 0 where
-  pub first : FirstEvent (open_message kept) run (length run) (option_map (event_found_in new) what)
-  pub held : open_message new ≡ open_message (open_message kept ++ run)
+  pub first : FirstEvent (unfinished_message kept) run (length run)
+      (option_map (event_found_in new) what)
+  pub held : unfinished_message new ≡ unfinished_message (unfinished_message kept ++ run)
   pub whole : what ≡ Some found.Message → IsWholeMessage new
-  pub came : what ≡ Some found.Message → new ≡ open_message kept ++ run
-  pub unfinished : what ≢ Some found.Message → open_message new ≡ new
+  pub came : what ≡ Some found.Message → new ≡ unfinished_message kept ++ run
+  pub unfinished : what ≢ Some found.Message → unfinished_message new ≡ new
 
 -- The first of the bytes that are left of a chunk, at least one, are such a run.
-pub record FramesFront (kept rest : List ℕ) (used : ℕ) (new : List ℕ) (what : Option Found)
+pub record FramesPrefix (kept rest : List ℕ) (used : ℕ) (new : List ℕ) (what : Option Found)
     : Type 0 where
   pub some : 0 < used
   pub within : used ≤ length rest
@@ -45,4 +46,4 @@ pub record Begins (total : ℕ) (bytes : List ℕ) : Type 0 where
 
 -- an event that a program reports which cuts a whole list of bytes, at its place
 abbrev pub placed_content : ℕ × CodeEvent → Placed
-placed_content told = at_place told.0 (event_content told.1)
+placed_content reported = at_place reported.0 (event_content reported.1)

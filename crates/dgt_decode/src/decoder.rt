@@ -4,8 +4,8 @@ ghost use Rattle.std.specs.Prelude.{◌≡◌, ◌<◌, ◌≤◌, ℕ, List, []
 ghost use Rattle.std.specs.Borrow.{sem};
 ghost use Rattle.std.specs.Io.BufRead.{Rests};
 ghost use Rattle.std.specs.List.{FoldsTo};
-ghost use Rattle.dgt_decode.specs.Grammar.{open_message};
-ghost use Rattle.dgt_decode.specs.Feeding.{FirstEvent, event_content_if_any, piece_events};
+ghost use Rattle.dgt_decode.specs.Grammar.{unfinished_message};
+ghost use Rattle.dgt_decode.specs.Feeding.{FirstEvent, event_content_if_any, chunk_events};
 
 use crate::event::Event;
 use crate::framer::{Advanced, Framer, MAX_TOTAL};
@@ -39,18 +39,18 @@ pub struct Decoder {
 
 impl Model for Decoder {
     ghost use Rattle.std.specs.Prelude.{ℕ, List};
-    ghost use Rattle.dgt_decode.specs.Grammar.{open_message};
+    ghost use Rattle.dgt_decode.specs.Grammar.{unfinished_message};
 
     ghost Value = { List ℕ };
 
-    ghost view = { λ decoder. open_message decoder.framer };
+    ghost view = { λ decoder. unfinished_message decoder.framer };
 }
 
 impl Decoder {
     ghost use Rattle.dgt_decode.specs.contracts.decoder.Decoder.{the_row};
 
     /// A decoder that has read nothing.
-    #[tactic(auto, using(crate::proofs::Bytes::openings))]
+    #[tactic(auto, using(crate::proofs::Bytes::unfinished_facts))]
     pub fn new() -> Self
         ensures { result ≡ [] }
     {
@@ -64,7 +64,7 @@ impl Decoder {
     /// The event lends its body from the decoder until the next call.
     pub fn feed(&mut self, chunk: &[u8]) -> Fed<'_>
         ensures* after_borrow { sem 𝓛 (Rests the_row self.entry
-            (λ new. new ≡ open_message (self.old ++ take result.used chunk.now))) }
+            (λ new. new ≡ unfinished_message (self.old ++ take result.used chunk.now))) }
         ensures within { result.used ≤ length chunk.now }
         ensures first { FirstEvent self.old chunk.now result.used
             (event_content_if_any result.event) }
@@ -84,10 +84,11 @@ impl Decoder {
     /// bytes of the chunk come up to and including the one that makes it.
     ///
     /// However the bytes are cut, the events are those of the bytes in a row
-    /// (`laws::pieces_in_a_row`).
+    /// (`laws::chunks_in_a_row`).
     pub fn feed_all<L: Listener>(&mut self, chunk: &[u8], listener: &mut L)
-        ensures told { FoldsTo L.hears listener.old (piece_events self.old chunk.now) listener.new }
-        ensures held { self.new ≡ open_message (self.old ++ chunk.now) }
+        ensures reported {
+            FoldsTo L.hears listener.old (chunk_events self.old chunk.now) listener.new }
+        ensures held { self.new ≡ unfinished_message (self.old ++ chunk.now) }
     {
         let mut at = 0;
         while at < chunk.len() {
@@ -100,18 +101,18 @@ impl Decoder {
     }
 
     /// How many bytes have come of an unfinished message, which are fewer than [`MAX_TOTAL`].
-    #[tactic(auto, using(crate::proofs::Bytes::openings))]
+    #[tactic(auto, using(crate::proofs::Bytes::unfinished_facts))]
     pub fn rest(&self) -> usize
         ensures length { result ≡ length self.now }
-        ensures unfinished { open_message self.now ≡ self.now }
+        ensures unfinished { unfinished_message self.now ≡ self.now }
         ensures limit { length self.now < MAX_TOTAL }
     {
-        self.framer.open_len()
+        self.framer.unfinished_len()
     }
 
     /// Reports an unfinished message, if there is one, and makes the decoder as new.
     pub fn finish(&mut self) -> Option<Unfinished>
-        ensures told { MatchOption result (self.old ≡ [])
+        ensures reported { MatchOption result (self.old ≡ [])
             (λ unfinished. (0 < length self.old) × (unfinished.have ≡ length self.old)) }
         ensures new { self.new ≡ [] }
     {
@@ -125,7 +126,7 @@ impl Decoder {
     }
 
     /// Makes the decoder as new.
-    #[tactic(auto, using(crate::proofs::Bytes::openings))]
+    #[tactic(auto, using(crate::proofs::Bytes::unfinished_facts))]
     pub fn reset(&mut self)
         ensures { self.new ≡ [] }
     {

@@ -26,8 +26,8 @@ pub fn field_update(bytes: &[u8]) -> Option<(Square, Piece)>
     ensures { MatchOption result
         ((square : ℕ) (piece : Piece) → IsWholeMessage bytes.now →
         message_event bytes.now ≢ Message (field square piece))
-        (λ told. IsWholeMessage bytes.now
-        × (message_event bytes.now ≡ Message (field (square_number told.0) told.1))) }
+        (λ reported. IsWholeMessage bytes.now
+        × (message_event bytes.now ≡ Message (field (square_number reported.0) reported.1))) }
 {
     dgt_message::laws::reading_is_exact();
     if bytes.len() != FIELD || bytes[0] != FIELD_BYTE || bytes[1] != 0 || bytes[2] != FIELD_LOW {

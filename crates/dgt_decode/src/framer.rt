@@ -2,14 +2,14 @@
 
 ghost use Rattle.std.specs.Prelude.{◌≡◌, ◌≢◌, ◌≤◌, ◌<◌, ◌+◌, List, ℕ, [], ◌∷◌, ◌++◌, true, length, take, option_map, ◌==◌, if◌then◌else◌, Some, None};
 ghost use Rattle.std.specs.List.{position_or_len};
-ghost use Rattle.dgt_decode.specs.Grammar.{has_top_bit, message_event, open_message};
+ghost use Rattle.dgt_decode.specs.Grammar.{has_top_bit, message_event, unfinished_message};
 ghost use Rattle.dgt_decode.specs.Feeding.{FirstEvent, IsWholeMessage, event_content, event_found_in};
-ghost use Rattle.dgt_decode.specs.Taking.{Begins, Frames, FramesFront};
+ghost use Rattle.dgt_decode.specs.Taking.{Begins, Frames, FramesPrefix};
 
 use crate::dumps::dump_position;
 use crate::event::{Event, Found};
 use crate::fields::field_update;
-use crate::header::{FIELD, HEADER, TOP_BIT, is_field_at_front, total_at_front};
+use crate::header::{FIELD, HEADER, TOP_BIT, begins_with_field, first_total};
 use crate::lanes::first_top;
 use dgt_message::{Message, view};
 use dgt_values::{Body, Kept, SevenBit};
@@ -118,8 +118,8 @@ impl Framer {
     }
 
     /// How many bytes have come of an unfinished message, which are fewer than [`MAX_TOTAL`].
-    pub fn open_len(&self) -> usize
-        ensures { result ≡ length (open_message self.now) }
+    pub fn unfinished_len(&self) -> usize
+        ensures { result ≡ length (unfinished_message self.now) }
     {
         match self.state {
             FramerState::Hunting | FramerState::Whole => 0,
@@ -147,26 +147,26 @@ impl Framer {
     /// it.
     pub fn advance(&mut self, chunk: &[u8]) -> Advanced
         ensures within { result.used ≤ length chunk.now }
-        ensures first { FirstEvent (open_message self.old) chunk.now result.used
+        ensures first { FirstEvent (unfinished_message self.old) chunk.now result.used
             (option_map (event_found_in self.new) result.found) }
-        ensures held { open_message self.new
-            ≡ open_message (open_message self.old ++ take result.used chunk.now) }
+        ensures held { unfinished_message self.new
+            ≡ unfinished_message (unfinished_message self.old ++ take result.used chunk.now) }
         ensures whole { result.found ≡ Some Found.Message → IsWholeMessage self.new }
         ensures kept { result.found ≡ Some Found.Message →
-            self.new ≡ open_message self.old ++ take result.used chunk.now }
+            self.new ≡ unfinished_message self.old ++ take result.used chunk.now }
         ensures unfinished { 0 < result.used → result.found ≢ Some Found.Message →
-            open_message self.new ≡ self.new }
+            unfinished_message self.new ≡ self.new }
         ensures untouched { result.used ≡ 0 → self.new ≡ self.old }
         ensures progress { 0 < length chunk.now → 0 < result.used }
     {
         let mut used = 0;
         while used < chunk.len() {
-            let front = self.take_front(&chunk[used..]);
-            used += front.used;
-            if front.found.is_some() {
+            let prefix = self.take_prefix(&chunk[used..]);
+            used += prefix.used;
+            if prefix.found.is_some() {
                 return Advanced {
                     used,
-                    found: front.found,
+                    found: prefix.found,
                 };
             }
         }
@@ -210,9 +210,9 @@ impl Framer {
     // Takes the front: at once between messages a stray byte or a whole message as long as a field,
     // and within a message the byte that cuts it off; and else a run.
     #[inline(always)]
-    fn take_front(&mut self, rest: &[u8]) -> Advanced
+    fn take_prefix(&mut self, rest: &[u8]) -> Advanced
         requires { 0 < length rest.now }
-        ensures { FramesFront self.old rest.now result.used self.new result.found }
+        ensures { FramesPrefix self.old rest.now result.used self.new result.found }
     {
         if !self.is_between() {
             if rest[0] >= TOP_BIT {
@@ -228,10 +228,10 @@ impl Framer {
                 found: Some(Found::Stray(rest[0])),
             };
         }
-        if !is_field_at_front(rest) {
+        if !begins_with_field(rest) {
             return self.take_run(rest);
         }
-        self.kept.set_front(rest, FIELD);
+        self.kept.set_prefix(rest, FIELD);
         self.state = FramerState::Whole;
         Advanced {
             used: FIELD,
@@ -242,7 +242,7 @@ impl Framer {
     // Whether no message is unfinished.
     #[inline(always)]
     fn is_between(&self) -> bool
-        ensures { result ≡ true → open_message self.now ≡ [] }
+        ensures { result ≡ true → unfinished_message self.now ≡ [] }
     {
         matches!(self.state, FramerState::Hunting | FramerState::Whole)
     }
@@ -251,7 +251,7 @@ impl Framer {
     // and else a few bytes one by one.
     fn take_run(&mut self, rest: &[u8]) -> Advanced
         requires { 0 < length rest.now }
-        ensures { FramesFront self.old rest.now result.used self.new result.found }
+        ensures { FramesPrefix self.old rest.now result.used self.new result.found }
     {
         match self.state {
             FramerState::Body { left } if left >= MANY && rest[0] < TOP_BIT => {
@@ -261,7 +261,7 @@ impl Framer {
                 return Advanced { used, found };
             }
             FramerState::Hunting | FramerState::Whole => {
-                if let Some(total) = total_at_front(rest) {
+                if let Some(total) = first_total(rest) {
                     return self.take_beginning(total, rest);
                 }
             }
@@ -272,12 +272,12 @@ impl Framer {
 
     // Takes a message's header, and the run of its body after it.
     fn take_beginning(&mut self, total: usize, rest: &[u8]) -> Advanced
-        requires closed { open_message self.old ≡ [] }
+        requires closed { unfinished_message self.old ≡ [] }
         requires begins { Begins total rest.now }
-        ensures { FramesFront self.old rest.now result.used self.new result.found }
+        ensures { FramesPrefix self.old rest.now result.used self.new result.found }
     {
         let used = HEADER + first_top(&rest[HEADER..rest.len().min(total)]);
-        self.kept.set_front(rest, used);
+        self.kept.set_prefix(rest, used);
         let (state, found) = after_byte(total - used);
         self.state = state;
         Advanced { used, found }
@@ -287,7 +287,7 @@ impl Framer {
     // them.
     fn take_bytes(&mut self, bytes: &[u8]) -> Advanced
         requires { 0 < length bytes.now }
-        ensures { FramesFront self.old bytes.now result.used self.new result.found }
+        ensures { FramesPrefix self.old bytes.now result.used self.new result.found }
     {
         for (index, byte) in bytes.iter().enumerate() {
             if let Some(found) = self.take_byte(*byte) {
@@ -308,7 +308,7 @@ impl Framer {
         requires { TOP_BIT ≤ byte }
         ensures { Frames self.old (byte ∷ []) self.new result }
     {
-        let have = self.open_len();
+        let have = self.unfinished_len();
         self.kept.clear();
         self.kept.push(byte);
         self.state = FramerState::Head;

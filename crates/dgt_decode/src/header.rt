@@ -15,7 +15,7 @@ pub const FIELD: usize = 5;
 
 /// Whether a whole message as long as a field stands at the front of these bytes.
 #[inline(always)]
-pub fn is_field_at_front(bytes: &[u8]) -> bool
+pub fn begins_with_field(bytes: &[u8]) -> bool
     ensures { result ≡ true → (FIELD ≤ length bytes.now) × IsWholeMessage (take FIELD bytes.now) }
 {
     let [first, 0, 5, square, piece, ..] = bytes else {
@@ -26,7 +26,7 @@ pub fn is_field_at_front(bytes: &[u8]) -> bool
 
 /// The total that a message's header says, if one stands whole at the front of these bytes.
 #[inline]
-pub fn total_at_front(bytes: &[u8]) -> Option<usize>
+pub fn first_total(bytes: &[u8]) -> Option<usize>
     ensures { IfSome result (λ total. Begins total bytes.now) }
 {
     let [first, high, low, ..] = bytes else {

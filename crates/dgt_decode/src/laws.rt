@@ -5,10 +5,10 @@ ghost use Rattle.std.specs.Prelude.{◌≡◌, ◌<◌, ◌≤◌, ◌+◌, ℕ,
 ghost use Rattle.std.specs.List.{AllByRecursion, concat};
 ghost use Rattle.dgt_values.specs.Equality.{CloneIsSame, EqualIsSame, EqualIsSameRead};
 ghost use Rattle.dgt_message.specs.Content.{Content, IsMessage};
-ghost use Rattle.dgt_message.specs.Spelling.{Spells, spelling};
+ghost use Rattle.dgt_message.specs.Encoding.{Encodes, encoding};
 ghost use Rattle.dgt_decode.specs.Feeding.{FirstEvent, event_content, fed_content};
-ghost use Rattle.dgt_decode.specs.Grammar.{Event as EventSaid, Message, at_place, cut_of, events, events_behind, lead, open_message, segments};
-ghost use Rattle.dgt_decode.specs.Laws.{AreCalls, BeginsAnew, Call, CutsInto, EventsAppend, OpenAppend, OpenIsPart, OpenIsQuiet, PiecesAdd, PlacesAdd, QuietHeld, Sent, SpellingIsRead, arrivals, events_in_chunks, events_of_chunks, sent_bytes, used_bytes};
+ghost use Rattle.dgt_decode.specs.Grammar.{Event as EventSaid, Message, at_place, cut_of, events, events_behind, lead, unfinished_message, segments};
+ghost use Rattle.dgt_decode.specs.Laws.{AreCalls, BeginsAnew, Call, CutsInto, EventsAppend, UnfinishedAppend, UnfinishedIsPart, UnfinishedIsQuiet, ChunksAdd, PlacesAdd, QuietHeld, Sent, EncodingIsRead, arrivals, events_in_chunks, events_of_chunks, sent_bytes, used_bytes};
 
 use crate::decoder::{Fed, Unfinished};
 use crate::event::{Event, Found};
@@ -45,24 +45,24 @@ pub fn clone_is_same()
 /// way of dividing it makes such parts.
 pub fn one_cut()
     ensures cuts { (s : List ℕ) → CutsInto (lead s) (segments s) s }
-    ensures once { (s front : List ℕ) (parts : List (List ℕ)) →
-        CutsInto front parts s → (front ≡ lead s) × (parts ≡ segments s) }
+    ensures once { (s prefix : List ℕ) (parts : List (List ℕ)) →
+        CutsInto prefix parts s → (prefix ≡ lead s) × (parts ≡ segments s) }
 {}
 
-/// The events of a whole are those of its front, and then those of what the front leaves open and
-/// the rest. So later bytes change no event.
+/// The events of a whole are those of its prefix, and then those of what the prefix leaves
+/// unfinished and the rest. So later bytes change no event.
 pub fn events_append()
     ensures { EventsAppend }
 {}
 
 /// Of what came before, only the unfinished message bears on what is unfinished later.
-pub fn open_append()
-    ensures { OpenAppend }
+pub fn unfinished_append()
+    ensures { UnfinishedAppend }
 {}
 
 /// An unfinished message is a part of what came.
-pub fn open_is_part()
-    ensures { OpenIsPart }
+pub fn unfinished_is_part()
+    ensures { UnfinishedIsPart }
 {}
 
 /// Places add up. After no bytes, events keep their places. After two lists of bytes their places
@@ -73,7 +73,7 @@ pub fn places_add()
 
 /// No byte makes two events.
 pub fn one_event()
-    ensures { (s : List ℕ) (b : ℕ) → length (events (open_message s ++ b ∷ [])) ≤ 1 }
+    ensures { (s : List ℕ) (b : ℕ) → length (events (unfinished_message s ++ b ∷ [])) ≤ 1 }
 {}
 
 /// If no event has come, every byte is held.
@@ -82,13 +82,13 @@ pub fn quiet_held()
 {}
 
 /// What is unfinished makes no event, and if nothing comes after it, nothing changes.
-pub fn open_is_quiet()
-    ensures { OpenIsQuiet }
+pub fn unfinished_is_quiet()
+    ensures { UnfinishedIsQuiet }
 {}
 
 /// An unfinished message is shorter than the longest message.
-pub fn open_is_short()
-    ensures { (s : List ℕ) → length (open_message s) < MAX_TOTAL }
+pub fn unfinished_is_short()
+    ensures { (s : List ℕ) → length (unfinished_message s) < MAX_TOTAL }
 {}
 
 /// A byte with a set top bit begins anew, whatever came before: all that it does to it is to cut an
@@ -98,24 +98,24 @@ pub fn begins_anew()
 {}
 
 /// Whatever bytes came before, encoded messages in a row are read whole, each at its last byte, and
-/// nothing stays open. The first of them may cut off what came before, and that is all.
+/// nothing stays unfinished. The first of them may cut off what came before, and that is all.
 pub fn recovery()
     ensures { (s : List ℕ) (m : Sent) (more : List Sent) →
-        AllByRecursion (λ m. Spells m.said m.bytes) (m ∷ more) →
+        AllByRecursion (λ m. Encodes m.said m.bytes) (m ∷ more) →
         (events (s ++ sent_bytes (m ∷ more))
-        ≡ events s ++ events_behind (length s) (cut_of (open_message s))
+        ≡ events s ++ events_behind (length s) (cut_of (unfinished_message s))
         ++ events_behind (length s) (arrivals (m ∷ more)))
-        × (open_message (s ++ sent_bytes (m ∷ more)) ≡ []) }
+        × (unfinished_message (s ++ sent_bytes (m ∷ more)) ≡ []) }
 {
-    messages::spelled_is_read();
+    messages::encoded_is_read();
 }
 
 /// What is written of a message is read as this message, whatever came before it.
-pub fn spelling_is_read()
-    ensures { SpellingIsRead }
+pub fn encoding_is_read()
+    ensures { EncodingIsRead }
 {
-    messages::spelled_is_read();
-    messages::spelling_spells();
+    messages::encoded_is_read();
+    messages::encoding_encodes();
 }
 
 /// A reader that holds some bytes has one answer to a chunk.
@@ -126,27 +126,27 @@ pub fn one_first_event()
 
 /// However bytes are cut into chunks, of one byte or of none, the events reported are those of the
 /// bytes in a row.
-pub fn in_any_pieces()
-    ensures { (s : List ℕ) (calls : List Call) → AreCalls (open_message s) calls →
+pub fn in_any_chunks()
+    ensures { (s : List ℕ) (calls : List Call) → AreCalls (unfinished_message s) calls →
         events (s ++ used_bytes calls) ≡ events s ++ events_in_chunks (length s) calls }
 {}
 
 /// What is written of a message is read as this message, at its last byte, however it is cut and
 /// whatever came before it.
-pub fn spelling_in_pieces()
+pub fn encoding_in_chunks()
     ensures { (s : List ℕ) (said : Content) (calls : List Call) →
-        IsMessage said → AreCalls (open_message s) calls → used_bytes calls ≡ spelling said →
+        IsMessage said → AreCalls (unfinished_message s) calls → used_bytes calls ≡ encoding said →
         events_in_chunks (length s) calls
-        ≡ events_behind (length s) (cut_of (open_message s))
-        ++ at_place (length s + length (spelling said)) (Message said) ∷ [] }
+        ≡ events_behind (length s) (cut_of (unfinished_message s))
+        ++ at_place (length s + length (encoding said)) (Message said) ∷ [] }
 {
-    messages::spelled_is_read();
-    messages::spelling_spells();
+    messages::encoded_is_read();
+    messages::encoding_encodes();
 }
 
 /// The events of chunks, one after another, are those of the bytes in a row.
-pub fn pieces_in_a_row()
-    ensures add { PiecesAdd }
+pub fn chunks_in_a_row()
+    ensures add { ChunksAdd }
     ensures any { (s : List ℕ) (chunks : List (List ℕ)) → events (s ++ concat chunks)
-        ≡ events s ++ events_of_chunks (length s) (open_message s) chunks }
+        ≡ events s ++ events_of_chunks (length s) (unfinished_message s) chunks }
 {}

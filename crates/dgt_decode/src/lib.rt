@@ -22,7 +22,7 @@
 //! whole chunk, and hands each event to a [`Listener`].
 //!
 //! However the bytes are cut into chunks, the events are those of the bytes in a row
-//! (`laws::in_any_pieces`). After any bytes, messages are read whole again (`laws::recovery`).
+//! (`laws::in_any_chunks`). After any bytes, messages are read whole again (`laws::recovery`).
 //!
 //! [`plain`] computes all events of a list of bytes at once, by the grammar itself. It is slow: use
 //! it to compare a reader with.
@@ -30,9 +30,9 @@
 //! | Contracts cite | It says |
 //! |---|---|
 //! | `events` (`specs/Grammar.antt`) | the events of a list of bytes, each with its place |
-//! | `open_message` | what the list leaves unfinished; a decoder is seen as these bytes |
+//! | `unfinished_message` | what the list leaves unfinished; a decoder is seen as these bytes |
 //! | `FirstEvent` (`specs/Feeding.antt`) | what one call does with a chunk |
-//! | `piece_events` | the events of a whole chunk |
+//! | `chunk_events` | the events of a whole chunk |
 //!
 //! [`laws`] says how the events of chunks make up those of the whole, and that what is unfinished
 //! makes none.

@@ -13,7 +13,7 @@ use crate::header::{HEADER, TOP_BIT};
 use std::alloc::{AllocError, Global};
 
 /// An event, and the number of bytes up to and including the one that makes it.
-pub type Told<'a> = (usize, Event<'a>);
+pub type Reported<'a> = (usize, Event<'a>);
 
 // How many bytes stand before the first with a set top bit.
 fn lead_length(bytes: &[u8]) -> usize
@@ -29,10 +29,10 @@ fn lead_length(bytes: &[u8]) -> usize
 }
 
 // What the message of a segment comes to, with its place in the segment.
-fn segment_verdict(segment: &[u8]) -> Option<Told<'_>>
+fn segment_verdict(segment: &[u8]) -> Option<Reported<'_>>
     requires { IsSegment segment.now }
     ensures value { option_map placed_content result ≡ verdict segment.now }
-    ensures within { IfSome result (λ told. told.0 ≤ length segment.now) }
+    ensures within { IfSome result (λ reported. reported.0 ≤ length segment.now) }
 {
     if segment.len() < HEADER {
         return None;
@@ -48,13 +48,17 @@ fn segment_verdict(segment: &[u8]) -> Option<Told<'_>>
 }
 
 // A Stray for each of the bytes, with how many bytes come before the first of them.
-fn push_strays(told: &mut Vec<Told<'_>>, before: usize, bytes: &[u8]) -> Result<(), AllocError>
+fn push_strays(
+    reported: &mut Vec<Reported<'_>>,
+    before: usize,
+    bytes: &[u8],
+) -> Result<(), AllocError>
     requires { before + length bytes.now < 2 ^ 64 }
-    ensures { OnOk result (map placed_content told.new.items
-        ≡ map placed_content told.old.items ++ events_behind before (strays bytes.now)) }
+    ensures { OnOk result (map placed_content reported.new.items
+        ≡ map placed_content reported.old.items ++ events_behind before (strays bytes.now)) }
 {
     for (index, byte) in bytes.iter().enumerate() {
-        told.push((before + index + 1, Event::Stray(*byte)))?;
+        reported.push((before + index + 1, Event::Stray(*byte)))?;
     }
     Ok(())
 }
@@ -62,27 +66,28 @@ fn push_strays(told: &mut Vec<Told<'_>>, before: usize, bytes: &[u8]) -> Result<
 // The events of a segment, with how many bytes come before it, and the Cut if another segment
 // follows.
 fn push_segment<'a>(
-    told: &mut Vec<Told<'a>>,
+    reported: &mut Vec<Reported<'a>>,
     before: usize,
     segment: &'a [u8],
     is_last: bool,
 ) -> Result<(), AllocError>
     requires is_segment { IsSegment segment.now }
     requires fits { before + length segment.now + 1 < 2 ^ 64 }
-    ensures { OnOk result (map placed_content told.new.items ≡ map placed_content told.old.items
+    ensures { OnOk result (map placed_content reported.new.items
+        ≡ map placed_content reported.old.items
         ++ events_behind before (segment_events (verdict segment.now) segment.now
         ++ events_behind (length segment.now) (if is_last then []
         else cut_of (unfinished_part (verdict segment.now) segment.now)))) }
 {
     match segment_verdict(segment) {
         Some((place, event)) => {
-            told.push((before + place, event))?;
-            push_strays(told, before + place, &segment[place..])?;
+            reported.push((before + place, event))?;
+            push_strays(reported, before + place, &segment[place..])?;
         }
         None if is_last => {}
         None => {
             let have = segment.len();
-            told.push((before + have + 1, Event::Cut { have }))?;
+            reported.push((before + have + 1, Event::Cut { have }))?;
         }
     }
     Ok(())
@@ -90,16 +95,16 @@ fn push_segment<'a>(
 
 /// All events of the bytes, in order, each with the number of bytes up to and including the one
 /// that makes it. Refused memory is `AllocError`.
-pub fn events_of(alloc: Global, bytes: &[u8]) -> Result<Vec<Told<'_>>, AllocError>
-    ensures { IfOk result (λ told. map placed_content told.items ≡ events bytes.now) }
+pub fn events_of(alloc: Global, bytes: &[u8]) -> Result<Vec<Reported<'_>>, AllocError>
+    ensures { IfOk result (λ reported. map placed_content reported.items ≡ events bytes.now) }
 {
-    let mut told = Vec::new(alloc);
+    let mut reported = Vec::new(alloc);
     let mut start = lead_length(bytes);
-    push_strays(&mut told, 0, &bytes[..start])?;
+    push_strays(&mut reported, 0, &bytes[..start])?;
     while start < bytes.len() {
         let end = start + 1 + lead_length(&bytes[start + 1..]);
-        push_segment(&mut told, start, &bytes[start..end], end == bytes.len())?;
+        push_segment(&mut reported, start, &bytes[start..end], end == bytes.len())?;
         start = end;
     }
-    Ok(told)
+    Ok(reported)
 }

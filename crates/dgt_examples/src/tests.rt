@@ -106,7 +106,7 @@ fn asks_when_due(rt: HostRuntime) -> Result<(), Fail> {
 }
 
 #[test]
-fn tells_the_squares_of_a_move(rt: HostRuntime) -> Result<(), Fail> {
+fn reports_the_squares_of_a_move(rt: HostRuntime) -> Result<(), Fail> {
     let before = Position::parse_placement(START)?;
     let after = Position::parse_placement("rnbqkbnr/pppppppp/8/8/4P3/8/PPPP1PPP/RNBQKBNR")?;
     let mut output = Vec::with_capacity(rt.alloc(), 64)?;

@@ -2,9 +2,9 @@
 use Rattle.std.proofs.Common.{◌≡◌, ◌+◌, Option, Some, None, refl, sym, ap, ◌∙◌, ℕ, List, [], ◌∷◌, ◌++◌, append_assoc, length, ◌-◌, take, drop, rules}
 use Rattle.std.proofs.Math.Seq.{take-add}
 use Rattle.std.proofs.lemmas.List.{take_all}
-use Rattle.dgt_decode.specs.Grammar.{Event, Message, Refused, Cut, BadLength, Stray, Placed, events, events_behind, open_message}
+use Rattle.dgt_decode.specs.Grammar.{Event, Message, Refused, Cut, BadLength, Stray, Placed, events, events_behind, unfinished_message}
 use Rattle.dgt_decode.specs.Feeding.{FirstEvent, at_place_if_any}
-use Rattle.dgt_decode.specs.Laws.{EventsAppend, OpenAppend}
+use Rattle.dgt_decode.specs.Laws.{EventsAppend, UnfinishedAppend}
 use Rattle.dgt_host.specs.Host.{HostView, host_after, host_after_events}
 use Rattle.dgt_follow.specs.Pace.{KeepsCount, PaceView, pace_after_event_if_any}
 use Rattle.dgt_follow.specs.Follower.{FollowedInChunks, FollowerView, follower_after, follower_after_event, follower_after_events, following, with_unread}
@@ -43,28 +43,30 @@ follower_after_events-unread f now before after (x ∷ xs) =
 
 -- the events of two chunks, one after the other
 both : EventsAppend → (f : FollowerView) (now : ℕ) (s more : List ℕ)
-    → follower_after_events (follower_after_events f now (events s)) now (events (open_message s ++ more))
+    → follower_after_events (follower_after_events f now (events s)) now (events (unfinished_message s ++ more))
     ≡ follower_after_events f now (events (s ++ more))
 both later f now s more =
     sym (follower_after_events-behind (follower_after_events f now (events s)) now
-    (length s - length (open_message s)) (events (open_message s ++ more)))
+    (length s - length (unfinished_message s)) (events (unfinished_message s ++ more)))
     ∙ sym (follower_after_events-append f now (events s)
-    (events_behind (length s - length (open_message s)) (events (open_message s ++ more))))
+    (events_behind (length s - length (unfinished_message s)) (events (unfinished_message s ++ more))))
     ∙ ap (follower_after_events f now) (sym (later s more))
 
-in_two : EventsAppend → OpenAppend → (f : FollowerView) (now : ℕ) (s more whole : List ℕ) → s ++ more ≡ whole
-    → with_unread (follower_after_events (with_unread (follower_after_events f now (events s)) (open_message s)) now
-    (events (open_message s ++ more))) (open_message (open_message s ++ more))
-    ≡ with_unread (follower_after_events f now (events whole)) (open_message whole)
+in_two : EventsAppend → UnfinishedAppend → (f : FollowerView) (now : ℕ) (s more whole : List ℕ) → s ++ more ≡ whole
+    → with_unread (follower_after_events (with_unread (follower_after_events f now (events s)) (unfinished_message s))
+    now
+    (events (unfinished_message s ++ more))) (unfinished_message (unfinished_message s ++ more))
+    ≡ with_unread (follower_after_events f now (events whole)) (unfinished_message whole)
 in_two later still f now s more whole e =
-    follower_after_events-unread (follower_after_events f now (events s)) now (open_message s)
-    (open_message (open_message s ++ more)) (events (open_message s ++ more))
-    ∙ ap (λ (g : FollowerView). with_unread g (open_message (open_message s ++ more))) (both later f now s more)
+    follower_after_events-unread (follower_after_events f now (events s)) now (unfinished_message s)
+    (unfinished_message (unfinished_message s ++ more)) (events (unfinished_message s ++ more))
+    ∙ ap (λ (g : FollowerView). with_unread g (unfinished_message (unfinished_message s ++ more)))
+    (both later f now s more)
     ∙ ap (λ (unread : List ℕ). with_unread (follower_after_events f now (events (s ++ more))) unread)
     (sym (still s more))
-    ∙ ap (λ (bytes : List ℕ). with_unread (follower_after_events f now (events bytes)) (open_message bytes)) e
+    ∙ ap (λ (bytes : List ℕ). with_unread (follower_after_events f now (events bytes)) (unfinished_message bytes)) e
 
-pub followed_in_chunks : EventsAppend → OpenAppend → FollowedInChunks
+pub followed_in_chunks : EventsAppend → UnfinishedAppend → FollowedInChunks
 followed_in_chunks later still f now bytes more = in_two later still f now (f.host.unread ++ bytes) more
     (f.host.unread ++ (bytes ++ more)) (append_assoc f.host.unread bytes more)
 
@@ -91,11 +93,11 @@ one_event : (f : FollowerView) (now place : ℕ) (bytes : List ℕ) (event : Opt
     → follower_after f now bytes
     ≡ following (host_after f.host bytes) (pace_after_event_if_any f.pace now f.host.awaited event)
 one_event f now place bytes None e =
-    let rest : List ℕ = open_message (f.host.unread ++ bytes) in
+    let rest : List ℕ = unfinished_message (f.host.unread ++ bytes) in
     ap (λ (xs : List Placed). with_unread (follower_after_events f now xs) rest) e
     ∙ sym (ap (λ (xs : List Placed). following (record (host_after_events f.host xs) { unread = rest }) f.pace) e)
 one_event f now place bytes (Some event) e =
-    let rest : List ℕ = open_message (f.host.unread ++ bytes) in
+    let rest : List ℕ = unfinished_message (f.host.unread ++ bytes) in
     let pace : PaceView = pace_after_event_if_any f.pace now f.host.awaited (Some event) in
     ap (λ (xs : List Placed). with_unread (follower_after_events f now xs) rest) e
     ∙ sym (ap (λ (xs : List Placed). following (record (host_after_events f.host xs) { unread = rest }) pace) e)
@@ -119,7 +121,7 @@ host_of_events f now (x ∷ xs) = host_of_events (follower_after_event f now x.e
 pub host_of_heard : (f : FollowerView) (now : ℕ) (bytes : List ℕ)
     → (follower_after f now bytes).host ≡ host_after f.host bytes
 host_of_heard f now bytes =
-    ap (λ (h : HostView). record h { unread = open_message (f.host.unread ++ bytes) })
+    ap (λ (h : HostView). record h { unread = unfinished_message (f.host.unread ++ bytes) })
     (host_of_events f now (events (f.host.unread ++ bytes)))
 
 counts_of_events : (f : FollowerView) (now : ℕ) (xs : List Placed)

@@ -4,7 +4,7 @@ use Rattle.std.proofs.lemmas.List.{drop-drop, length-append, length-drop}
 use Rattle.std.proofs.Math.Seq.{set-append_seam}
 use Rattle.dgt_values.specs.declared.kinds.Kind.{Kind}
 use Rattle.dgt_command.specs.Content.{CommandContent}
-use Rattle.dgt_command.specs.Spelling.{command_spelling}
+use Rattle.dgt_command.specs.Encoding.{command_encoding}
 use Rattle.dgt_host.specs.Host.{HostView, follow_bytes, host_awaiting, restart_bytes, without_awaited}
 use Rattle.dgt_follow.specs.declared.asking.Asking.{Asking}
 use Rattle.dgt_follow.specs.declared.asking.UpdateMode.{UpdateMode}
@@ -35,37 +35,37 @@ RequestFollows mode count written slice new =
 
 pub heartbeat_asks : (mode : UpdateMode) (code sent written : ℕ) (before after : HostView)
     (old followed new : List ℕ)
-    → command_spelling (mode_command mode) ≡ code ∷ [] → sent ≡ 2 → followed ≡ follow_bytes ++ drop sent old
+    → command_encoding (mode_command mode) ≡ code ∷ [] → sent ≡ 2 → followed ≡ follow_bytes ++ drop sent old
     → after ≡ host_awaiting before (Some Kind.Dump) → written ≡ 2 + length (clock_request mode)
     → written ≤ length old → RequestFollows mode 2 written (slice_set followed 0 code) new
     → HostAsks Asking.Heartbeat mode before after old new (Ok written)
-heartbeat_asks mode code sent written before after old followed new spelled all e host count room follows =
-    let dump : List ℕ = command_spelling CommandContent.Dump in
-    let bytes : List ℕ = command_spelling (mode_command mode) ++ dump in
-    let two : length bytes ≡ 2 = ap (λ (bs : List ℕ). length (bs ++ dump)) spelled in
-    let front : followed ≡ follow_bytes ++ drop 2 old = e ∙ ap (λ (n : ℕ). follow_bytes ++ drop n old) all in
+heartbeat_asks mode code sent written before after old followed new encoded all e host count room follows =
+    let dump : List ℕ = command_encoding CommandContent.Dump in
+    let bytes : List ℕ = command_encoding (mode_command mode) ++ dump in
+    let two : length bytes ≡ 2 = ap (λ (bs : List ℕ). length (bs ++ dump)) encoded in
+    let prefix : followed ≡ follow_bytes ++ drop 2 old = e ∙ ap (λ (n : ℕ). follow_bytes ++ drop n old) all in
     let set : slice_set followed 0 code ≡ bytes ++ drop 2 old
-    = ap (λ (bs : List ℕ). slice_set bs 0 code) front
-    ∙ ap (λ (bs : List ℕ). (bs ++ dump) ++ drop 2 old) (sym spelled) in
+    = ap (λ (bs : List ℕ). slice_set bs 0 code) prefix
+    ∙ ap (λ (bs : List ℕ). (bs ++ dump) ++ drop 2 old) (sym encoded) in
     let long : written ≡ length (bytes ++ clock_request mode)
     = omega (arith, count, two, length-append bytes (clock_request mode)) in
     ((long, room, follows bytes old two set), host)
 
 pub anew_asks : (mode : UpdateMode) (code sent written : ℕ) (before after : HostView) (old begun new : List ℕ)
-    → command_spelling (mode_command mode) ≡ code ∷ [] → sent ≡ 257 → begun ≡ restart_bytes ++ drop sent old
+    → command_encoding (mode_command mode) ≡ code ∷ [] → sent ≡ 257 → begun ≡ restart_bytes ++ drop sent old
     → after ≡ host_awaiting (without_awaited before) (Some Kind.Dump)
     → written ≡ 258 + length (clock_request mode) → written ≤ length old
     → RequestFollows mode 258 written (slice_set begun sent code) new
     → HostAsks Asking.Anew mode before after old new (Ok written)
-anew_asks mode code sent written before after old begun new spelled all e host count room follows =
-    let told : List ℕ = command_spelling (mode_command mode) in
-    let whole : length (restart_bytes ++ told) ≡ 258
-    = length-append restart_bytes told ∙ ap (λ (bs : List ℕ). length restart_bytes + length bs) spelled in
-    let front : begun ≡ restart_bytes ++ drop 257 old = e ∙ ap (λ (n : ℕ). restart_bytes ++ drop n old) all in
-    let set : slice_set begun sent code ≡ (restart_bytes ++ told) ++ drop 258 old
-    = ap (λ (n : ℕ). slice_set begun n code) all ∙ ap (λ (bs : List ℕ). slice_set bs 257 code) front
+anew_asks mode code sent written before after old begun new encoded all e host count room follows =
+    let mode_bytes : List ℕ = command_encoding (mode_command mode) in
+    let whole : length (restart_bytes ++ mode_bytes) ≡ 258
+    = length-append restart_bytes mode_bytes ∙ ap (λ (bs : List ℕ). length restart_bytes + length bs) encoded in
+    let prefix : begun ≡ restart_bytes ++ drop 257 old = e ∙ ap (λ (n : ℕ). restart_bytes ++ drop n old) all in
+    let set : slice_set begun sent code ≡ (restart_bytes ++ mode_bytes) ++ drop 258 old
+    = ap (λ (n : ℕ). slice_set begun n code) all ∙ ap (λ (bs : List ℕ). slice_set bs 257 code) prefix
     ∙ set_in_slice restart_bytes old 257 code refl (omega (arith, count, room))
-    ∙ ap (λ (bs : List ℕ). (restart_bytes ++ bs) ++ drop 258 old) (sym spelled) in
-    let long : written ≡ length ((restart_bytes ++ told) ++ clock_request mode)
-    = omega (arith, count, whole, length-append (restart_bytes ++ told) (clock_request mode)) in
-    ((long, room, follows (restart_bytes ++ told) old whole set), host)
+    ∙ ap (λ (bs : List ℕ). (restart_bytes ++ bs) ++ drop 258 old) (sym encoded) in
+    let long : written ≡ length ((restart_bytes ++ mode_bytes) ++ clock_request mode)
+    = omega (arith, count, whole, length-append (restart_bytes ++ mode_bytes) (clock_request mode)) in
+    ((long, room, follows (restart_bytes ++ mode_bytes) old whole set), host)

@@ -1,9 +1,9 @@
 -- What contracts see of a follower, what it makes of the bytes that it hears, and what it asks.
 use Rattle.std.specs.Prelude.{◌≡◌, ℕ, List, [], ◌∷◌, ◌++◌, Some, Result, Ok, Err}
-use Rattle.dgt_values.specs.Bytes.{WritesFront}
+use Rattle.dgt_values.specs.Bytes.{WritesPrefix}
 use Rattle.dgt_values.specs.declared.kinds.Kind.{Kind}
 use Rattle.dgt_values.specs.declared.refusals.NoRoom.{NoRoom}
-use Rattle.dgt_decode.specs.Grammar.{Event, Placed, events, open_message}
+use Rattle.dgt_decode.specs.Grammar.{Event, Placed, events, unfinished_message}
 use Rattle.dgt_host.specs.Host.{HostView, awaits_too_many, host_after_event, host_awaiting, new_host, without_awaited}
 use Rattle.dgt_follow.specs.declared.asking.Asking.{Asking}
 use Rattle.dgt_follow.specs.declared.asking.UpdateMode.{UpdateMode}
@@ -39,7 +39,7 @@ with_unread follower unread =
 abbrev pub follower_after : FollowerView → ℕ → List ℕ → FollowerView
 follower_after follower now bytes =
     with_unread (follower_after_events follower now (events (follower.host.unread ++ bytes)))
-    (open_message (follower.host.unread ++ bytes))
+    (unfinished_message (follower.host.unread ++ bytes))
 
 -- a follower that hears bytes at a time in two chunks is the one that hears them in one
 abbrev pub FollowedInChunks : Type 0
@@ -67,10 +67,10 @@ host_after_asking Asking.Anew host = host_awaiting (without_awaited host) (Some 
 abbrev pub HostAsks : Asking → UpdateMode → HostView → HostView → List ℕ → List ℕ
     → Result ℕ NoRoom → Type 0
 HostAsks what mode before after old new (Ok written) =
-    WritesFront (asking_bytes mode what) old new (Ok written)
+    WritesPrefix (asking_bytes mode what) old new (Ok written)
     × (after ≡ host_after_asking what before)
 HostAsks what mode before after old new (Err fault) =
-    WritesFront (asking_bytes mode what) old new (Err fault) × (after ≡ before)
+    WritesPrefix (asking_bytes mode what) old new (Err fault) × (after ≡ before)
 
 -- The same of a follower.
 abbrev pub Asks : Asking → ℕ → FollowerView → FollowerView → List ℕ → List ℕ → Result ℕ NoRoom

@@ -3,7 +3,7 @@ use Rattle.std.specs.Prelude.{◌≡◌, ℕ, ◌+◌, ◌-◌, ◌/◌, ◌^◌
 use Rattle.dgt_values.specs.declared.kinds.Kind.{Kind}
 use Rattle.dgt_message.specs.Content.{Content, answered_kind}
 use Rattle.dgt_command.specs.Content.{CommandContent}
-use Rattle.dgt_command.specs.Spelling.{command_spelling}
+use Rattle.dgt_command.specs.Encoding.{command_encoding}
 use Rattle.dgt_decode.specs.Grammar.{Event, Message}
 use Rattle.dgt_host.specs.Host.{is_same_kind, restart_bytes}
 use Rattle.dgt_follow.specs.declared.asking.Asking.{Asking}
@@ -122,8 +122,8 @@ mode_command UpdateMode.ClockChanges = CommandContent.UpdateNice
 -- the request of a reading of the clock, in the modes that report it
 abbrev pub clock_request : UpdateMode → List ℕ
 clock_request UpdateMode.Squares = []
-clock_request UpdateMode.Clock = command_spelling CommandContent.Clock
-clock_request UpdateMode.ClockChanges = command_spelling CommandContent.Clock
+clock_request UpdateMode.Clock = command_encoding CommandContent.Clock
+clock_request UpdateMode.ClockChanges = command_encoding CommandContent.Clock
 
 -- The bytes of an asking: of a heartbeat the mode's command and a dump request, of a new beginning
 -- those of a host's restart and the mode's command. If the mode reports the clock, a reading of it
@@ -131,10 +131,10 @@ clock_request UpdateMode.ClockChanges = command_spelling CommandContent.Clock
 abbrev pub asking_bytes : UpdateMode → Asking → List ℕ
 asking_bytes mode Asking.Nothing = []
 asking_bytes mode Asking.Heartbeat =
-    command_spelling (mode_command mode) ++ command_spelling CommandContent.Dump
+    command_encoding (mode_command mode) ++ command_encoding CommandContent.Dump
     ++ clock_request mode
 asking_bytes mode Asking.Anew =
-    restart_bytes ++ command_spelling (mode_command mode) ++ clock_request mode
+    restart_bytes ++ command_encoding (mode_command mode) ++ clock_request mode
 
 -- the last asking has no answer yet
 abbrev pub is_unanswered : PaceView → Bool

@@ -1,7 +1,7 @@
 //! What a follower asks of its board.
 
 ghost use Rattle.std.specs.Prelude.{◌≡◌, ◌≤◌, ◌∷◌, [], if◌then◌else◌, length};
-ghost use Rattle.dgt_command.specs.Spelling.{command_spelling};
+ghost use Rattle.dgt_command.specs.Encoding.{command_encoding};
 ghost use Rattle.dgt_follow.specs.Pace.{clock_request, mode_command};
 
 /// What a follower asks. If its mode reports the clock, the last byte requests a reading of it.
@@ -32,7 +32,7 @@ pub enum UpdateMode {
 impl UpdateMode {
     /// The one byte of the mode's command.
     pub(crate) fn code(self) -> u8
-        ensures { command_spelling (mode_command self) ≡ result ∷ [] }
+        ensures { command_encoding (mode_command self) ≡ result ∷ [] }
     {
         match self {
             UpdateMode::Squares => 0x44,

@@ -6,7 +6,7 @@ ghost use Rattle.dgt_values.specs.Board.{pieces_of};
 ghost use Rattle.dgt_values.specs.declared.kinds.Kind.{Kind};
 ghost use Rattle.dgt_message.specs.Content.{clock_seen};
 ghost use Rattle.dgt_command.specs.Content.{command_content, requested_kind};
-ghost use Rattle.dgt_command.specs.Spelling.{SpellsCommand, command_spelling};
+ghost use Rattle.dgt_command.specs.Encoding.{EncodesCommand, command_encoding};
 ghost use Rattle.dgt_decode.specs.Grammar.{Event as EventSaid};
 ghost use Rattle.dgt_decode.specs.Feeding.{FirstEvent, at_place_if_any, event_content_if_any};
 ghost use Rattle.dgt_host.specs.Host.{Sends, awaits_too_many};
@@ -97,7 +97,7 @@ fn begin_anew(host: &mut Host, mode: UpdateMode, out: &mut [u8]) -> Result<usize
 }
 
 // Has the listener hear the event at this place, if there is one.
-fn tell<L: Listener>(listener: &mut L, place: usize, event: &Option<Event<'_>>)
+fn report<L: Listener>(listener: &mut L, place: usize, event: &Option<Event<'_>>)
     ensures { FoldsTo L.hears listener.old
         (at_place_if_any place (event_content_if_any event.now)) listener.new }
 {
@@ -146,7 +146,7 @@ impl Follower {
     /// its place: how many bytes of the chunk come up to and including the one that makes it.
     pub fn hear_with<L: Listener>(&mut self, now: u64, chunk: &[u8], listener: &mut L) -> usize
         ensures heard { self.new ≡ follower_after self.old now (take result chunk.now) }
-        ensures told { (event : Option EventSaid)
+        ensures reported { (event : Option EventSaid)
             × FirstEvent self.old.host.unread chunk.now result event
             × FoldsTo L.hears listener.old (at_place_if_any result event) listener.new }
         ensures within { result ≤ length chunk.now }
@@ -154,7 +154,7 @@ impl Follower {
     {
         let heard = self.host.hear(chunk);
         let used = heard.used;
-        tell(listener, used, &heard.event);
+        report(listener, used, &heard.event);
         self.pace.note(&heard.event, heard.unasked, now);
         used
     }
@@ -218,11 +218,11 @@ impl Follower {
     /// After `Reset` the board reports no change until the next asking.
     pub fn send(&mut self, command: &Command<'_>, out: &mut [u8]) -> Result<usize, SendFault>
         ensures sends { let said = command_content command.now in
-            Sends (record { kind = requested_kind said; bytes = command_spelling said })
+            Sends (record { kind = requested_kind said; bytes = command_encoding said })
             self.old.host self.new.host out.old out.new result }
-        ensures spells { let said = command_content command.now in
-            OnOk result (SpellsCommand said (command_spelling said)) }
-        ensures limit { length (command_spelling (command_content command.now)) ≤ MAX_WORD }
+        ensures encodes { let said = command_content command.now in
+            OnOk result (EncodesCommand said (command_encoding said)) }
+        ensures limit { length (command_encoding (command_content command.now)) ≤ MAX_WORD }
         ensures pace { self.new.pace ≡ self.old.pace }
     {
         self.host.send(command, out)

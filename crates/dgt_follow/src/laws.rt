@@ -35,7 +35,7 @@ pub fn followed_in_chunks()
     ensures { FollowedInChunks }
 {
     dgt_decode::laws::events_append();
-    dgt_decode::laws::open_append();
+    dgt_decode::laws::unfinished_append();
 }
 
 /// What a follower hears makes of its host what it makes of any host, and changes nothing of when

@@ -3,7 +3,7 @@ use Rattle.std.proofs.Common.{◌≡◌, ◌<◌, Bool, true, false, not, ◌&&�
 use Rattle.std.proofs.lemmas.List.{length-append, take_at}
 use Rattle.dgt_values.specs.declared.kinds.Kind.{Kind}
 use Rattle.dgt_command.specs.Content.{CommandContent}
-use Rattle.dgt_command.specs.Spelling.{AreBytes, SpellsCommand, command_spelling}
+use Rattle.dgt_command.specs.Encoding.{AreBytes, EncodesCommand, command_encoding}
 use Rattle.dgt_follow.specs.declared.asking.Asking.{Asking}
 use Rattle.dgt_follow.specs.declared.asking.UpdateMode.{UpdateMode}
 use Rattle.dgt_follow.specs.Pace.{PaceView, asking, asking_bytes, clock_request, due_time, mode_command, trusts}
@@ -54,10 +54,10 @@ one_byte : (b : ℕ) → b < 256 → AreBytes (b ∷ [])
 one_byte b small zero = small
 one_byte b small (suc i) = search rules
 
-mode_spells : (mode : UpdateMode) → SpellsCommand (mode_command mode) (command_spelling (mode_command mode))
-mode_spells UpdateMode.Squares = record { are_bytes = one_byte 0x44 (search rules); spelled = refl }
-mode_spells UpdateMode.Clock = record { are_bytes = one_byte 0x43 (search rules); spelled = refl }
-mode_spells UpdateMode.ClockChanges = record { are_bytes = one_byte 0x4b (search rules); spelled = refl }
+mode_encodes : (mode : UpdateMode) → EncodesCommand (mode_command mode) (command_encoding (mode_command mode))
+mode_encodes UpdateMode.Squares = record { are_bytes = one_byte 0x44 (search rules); encoded = refl }
+mode_encodes UpdateMode.Clock = record { are_bytes = one_byte 0x43 (search rules); encoded = refl }
+mode_encodes UpdateMode.ClockChanges = record { are_bytes = one_byte 0x4b (search rules); encoded = refl }
 
 same_host : (world : WorldView) (bytes : List ℕ) → record world { down = with_bytes world.down bytes }
     ≡ after_writing world (host_awaiting world.host None) bytes
@@ -65,49 +65,49 @@ same_host world bytes =
     ap (λ (kinds : List Kind). after_writing world (record world.host { awaited = kinds }) bytes)
     (sym (append-nil world.host.awaited))
 
-mode_done : (mode : UpdateMode) (world : WorldView) → HasRoom world.down (command_spelling (mode_command mode))
+mode_done : (mode : UpdateMode) (world : WorldView) → HasRoom world.down (command_encoding (mode_command mode))
     → FaultyStep (sends (mode_command mode)) world Outcome.Done
-    (record world { down = with_bytes world.down (command_spelling (mode_command mode)) })
+    (record world { down = with_bytes world.down (command_encoding (mode_command mode)) })
 mode_done UpdateMode.Squares world room =
-    let free = fits world.down (command_spelling CommandContent.UpdateBoard) room in
+    let free = fits world.down (command_encoding CommandContent.UpdateBoard) room in
     record {
       answers = rw free refl;
-      leaves = (mode_spells UpdateMode.Squares, same_host world (command_spelling CommandContent.UpdateBoard));
+      leaves = (mode_encodes UpdateMode.Squares, same_host world (command_encoding CommandContent.UpdateBoard));
     }
 mode_done UpdateMode.Clock world room =
-    let free = fits world.down (command_spelling CommandContent.Update) room in
+    let free = fits world.down (command_encoding CommandContent.Update) room in
     record {
       answers = rw free refl;
-      leaves = (mode_spells UpdateMode.Clock, same_host world (command_spelling CommandContent.Update));
+      leaves = (mode_encodes UpdateMode.Clock, same_host world (command_encoding CommandContent.Update));
     }
 mode_done UpdateMode.ClockChanges world room =
-    let free = fits world.down (command_spelling CommandContent.UpdateNice) room in
+    let free = fits world.down (command_encoding CommandContent.UpdateNice) room in
     record {
       answers = rw free refl;
-      leaves = (mode_spells UpdateMode.ClockChanges, same_host world (command_spelling CommandContent.UpdateNice));
+      leaves = (mode_encodes UpdateMode.ClockChanges, same_host world (command_encoding CommandContent.UpdateNice));
     }
 
 dump_done : (world : WorldView) → awaits_too_many world.host (Some Kind.Dump) ≡ false
-    → HasRoom world.down (command_spelling CommandContent.Dump)
+    → HasRoom world.down (command_encoding CommandContent.Dump)
     → FaultyStep (sends CommandContent.Dump) world Outcome.Done
-    (after_writing world (host_awaiting world.host (Some Kind.Dump)) (command_spelling CommandContent.Dump))
+    (after_writing world (host_awaiting world.host (Some Kind.Dump)) (command_encoding CommandContent.Dump))
 dump_done world few room =
-    let free = fits world.down (command_spelling CommandContent.Dump) room in
+    let free = fits world.down (command_encoding CommandContent.Dump) room in
     record {
       answers = rw (few, free) refl;
-      leaves = (record { are_bytes = one_byte 0x42 (search rules); spelled = refl }, refl);
+      leaves = (record { are_bytes = one_byte 0x42 (search rules); encoded = refl }, refl);
     }
 
-clock_done : (world : WorldView) → HasRoom world.down (command_spelling CommandContent.Clock)
+clock_done : (world : WorldView) → HasRoom world.down (command_encoding CommandContent.Clock)
     → FaultyStep (sends CommandContent.Clock) world Outcome.Done
-    (record world { down = with_bytes world.down (command_spelling CommandContent.Clock) })
+    (record world { down = with_bytes world.down (command_encoding CommandContent.Clock) })
 clock_done world room =
-    let free = fits world.down (command_spelling CommandContent.Clock) room in
+    let free = fits world.down (command_encoding CommandContent.Clock) room in
     record {
       answers = rw free refl;
       leaves = (
-        record { are_bytes = one_byte 0x41 (search rules); spelled = refl },
-        same_host world (command_spelling CommandContent.Clock),
+        record { are_bytes = one_byte 0x41 (search rules); encoded = refl },
+        same_host world (command_encoding CommandContent.Clock),
       );
     }
 
@@ -177,8 +177,8 @@ acts_done : (mode : UpdateMode) (what : Asking) (world : WorldView)
 acts_done mode Asking.Nothing world few room =
     ap (λ (bytes : List ℕ). record world { down = record world.down { bytes = bytes } }) (append-nil world.down.bytes)
 acts_done mode Asking.Heartbeat world few room =
-    let first = command_spelling (mode_command mode) in
-    let next = command_spelling CommandContent.Dump in
+    let first = command_encoding (mode_command mode) in
+    let next = command_encoding CommandContent.Dump in
     let last = clock_request mode in
     let between : WorldView = record world { down = with_bytes world.down first } in
     acts_and_reading mode (sends (mode_command mode)) (sends CommandContent.Dump) first next world between _
@@ -186,7 +186,7 @@ acts_done mode Asking.Heartbeat world few room =
     (mode_done mode world (room_first world.down first next last room))
     (dump_done between (few refl) (room_next world.down first next last room)) refl room
 acts_done mode Asking.Anew world few room =
-    let next = command_spelling (mode_command mode) in
+    let next = command_encoding (mode_command mode) in
     let last = clock_request mode in
     let host : HostView = host_awaiting (without_awaited world.host) (Some Kind.Dump) in
     let between : WorldView = after_writing world host restart_bytes in
@@ -195,9 +195,9 @@ acts_done mode Asking.Anew world few room =
     (mode_done mode between (room_next world.down restart_bytes next last room)) refl room
 
 -- the bytes that stand at the beginning of a slice
-pub front_of : (bytes old new : List ℕ) (written : ℕ) → written ≡ length bytes → new ≡ bytes ++ drop written old
+pub prefix_of : (bytes old new : List ℕ) (written : ℕ) → written ≡ length bytes → new ≡ bytes ++ drop written old
     → take written new ≡ bytes
-front_of bytes old new written e f = rw f (take_at bytes (drop written old) written (sym e))
+prefix_of bytes old new written e f = rw f (take_at bytes (drop written old) written (sym e))
 
 pub asking_is_acts : (follower after : FollowerView) (now written : ℕ) (old new : List ℕ) (world : WorldView)
     → Asks (asking_of follower now) now follower after old new (Ok written) → world.host ≡ follower.host
@@ -212,7 +212,7 @@ asking_is_acts follower after now written old new world asked same room =
     (λ is. rw same (heartbeat_is_free follower.pace (awaits_too_many follower.host (Some Kind.Dump)) now is)) room in
     let host : host_after_asking what world.host ≡ after.host
     = ap (host_after_asking what) same ∙ sym asked.0.1 in
-    let front : bytes ≡ take written new = sym (front_of bytes old new written asked.0.0.0 asked.0.0.2) in
+    let prefix : bytes ≡ take written new = sym (prefix_of bytes old new written asked.0.0.0 asked.0.0.2) in
     let P : HostView → Type 0 = λ h. RunsDone (asking_acts mode what) world (after_writing world h bytes) in
     let Q : List ℕ → Type 0 = λ bs. RunsDone (asking_acts mode what) world (after_writing world after.host bs) in
-    subst Q front (subst P host done)
+    subst Q prefix (subst P host done)

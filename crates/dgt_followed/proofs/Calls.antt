@@ -1,7 +1,7 @@
 -- What the calls of a follower do is what happens to it and to the world of its host.
 use Rattle.std.proofs.Common.{◌≡◌, ◌<◌, false, Ok, refl, ap, ℕ, List, length, take, rules}
 use Rattle.dgt_command.specs.Content.{CommandContent, requested_kind}
-use Rattle.dgt_command.specs.Spelling.{SpellsCommand, command_spelling}
+use Rattle.dgt_command.specs.Encoding.{EncodesCommand, command_encoding}
 use Rattle.dgt_host.specs.Host.{HostView, Sends, host_after, host_awaiting}
 use Rattle.dgt_follow.specs.Pace.{KeepsCount, asking_bytes}
 use Rattle.dgt_follow.specs.Follower.{Asks, FollowerView, asking_of, follower_after}
@@ -11,7 +11,7 @@ use Rattle.dgt_link.specs.Faults.{FaultyContent, sends}
 use Rattle.dgt_link.specs.Step.{moves_nothing}
 use Rattle.dgt_link.specs.View.{LineContents, without_first}
 use Rattle.dgt_followed.specs.Followed.{FollowedStep, FollowedView, Happening, HasRoom, after_writing, clock_count_after, clock_count_after_asking, count_after, count_after_asking, follower_of}
-use Rattle.dgt_followed.proofs.Acts.{asking_is_acts, fits, front_of}
+use Rattle.dgt_followed.proofs.Acts.{asking_is_acts, fits, prefix_of}
 
 pub ask_happens : (before : FollowedView) (after : FollowerView) (now written : ℕ) (old new : List ℕ)
     → Asks (asking_of (follower_of before) now) now (follower_of before) after old new (Ok written)
@@ -61,24 +61,24 @@ hear_happens hosts counts before now count asked some =
 
 pub send_happens : (before : FollowedView) (command : CommandContent) (after : HostView) (written : ℕ)
     (old new : List ℕ)
-    → Sends (record { kind = requested_kind command; bytes = command_spelling command }) before.world.host after old
+    → Sends (record { kind = requested_kind command; bytes = command_encoding command }) before.world.host after old
     new (Ok written)
-    → SpellsCommand command (command_spelling command) → HasRoom before.world.down (command_spelling command)
+    → EncodesCommand command (command_encoding command) → HasRoom before.world.down (command_encoding command)
     → FollowedStep (Happening.Other (sends command)) before (record {
       world = after_writing before.world after (take written new);
       pace = before.pace;
       since = count_after (sends command) before.since;
       clock_since = clock_count_after (sends command) before.clock_since;
     })
-send_happens before command after written old new sent spells room =
-    let free = fits before.world.down (command_spelling command) room in
-    let front : take written new ≡ command_spelling command
-    = front_of (command_spelling command) old new written sent.1 sent.3 in
+send_happens before command after written old new sent encodes room =
+    let free = fits before.world.down (command_encoding command) room in
+    let prefix : take written new ≡ command_encoding command
+    = prefix_of (command_encoding command) old new written sent.1 sent.3 in
     let host : after ≡ host_awaiting before.world.host (requested_kind command) = sent.4 in (
       Outcome.Done,
       record {
         answers = rw (sent.0, free) refl;
-        leaves = (spells, rw (front, host) refl);
+        leaves = (encodes, rw (prefix, host) refl);
       },
       record { patience = refl; left = refl },
       refl,

@@ -66,9 +66,9 @@ module _
   anew_promises : (command : CommandContent) (mode : Mode) → command_mode command ≡ Some mode
       → IsTrue (follows_clock mode) → (world after : WorldView) → IsSane world
       → RunsDone (anew_acts command) world after → IsClockPromisedWorld after
-  anew_promises command mode is follows world after sane (first, step, (second, told, (third, read, same))) =
+  anew_promises command mode is follows world after sane (first, step, (second, reported, (third, read, same))) =
       let stepped = in_step (FaultyContent.Restart ∷ []) world first (Outcome.Done ∷ []) sane (first, step, refl) refl
-      in rw same (reading second third (asked command mode first second is follows stepped told) read)
+      in rw same (reading second third (asked command mode first second is follows stepped reported) read)
 
   ask_hope : (mode : UpdateMode) (what : Asking) (now : ℕ) (before after : FollowedView)
       → asking_of (follower_of before) now ≡ what → RunsDone (asking_acts mode what) before.world after.world

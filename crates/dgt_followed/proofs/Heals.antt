@@ -15,13 +15,13 @@ abbrev count : FollowedView → ℕ
 count followed = followed.since
 
 -- after the mode's command and the clock's request the board goes on reporting its changes
-told_is_calm : (mode : UpdateMode) → AreCalm (sends (mode_command mode) ∷ reading_acts mode)
-told_is_calm UpdateMode.Squares = ((refl, refl), tt)
-told_is_calm UpdateMode.Clock = ((refl, refl), ((refl, refl), tt))
-told_is_calm UpdateMode.ClockChanges = ((refl, refl), ((refl, refl), tt))
+mode_is_calm : (mode : UpdateMode) → AreCalm (sends (mode_command mode) ∷ reading_acts mode)
+mode_is_calm UpdateMode.Squares = ((refl, refl), tt)
+mode_is_calm UpdateMode.Clock = ((refl, refl), ((refl, refl), tt))
+mode_is_calm UpdateMode.ClockChanges = ((refl, refl), ((refl, refl), tt))
 
 heartbeat_is_calm : (mode : UpdateMode) → AreCalm (asking_acts mode Asking.Heartbeat)
-heartbeat_is_calm mode = let told = told_is_calm mode in (told.0, ((refl, refl), told.1))
+heartbeat_is_calm mode = let reported = mode_is_calm mode in (reported.0, ((refl, refl), reported.1))
 
 module _
     (stay_sane : (acts : List FaultyContent) (world after : WorldView) (answers : List Outcome)
@@ -56,7 +56,7 @@ module _
       (heartbeat_is_calm mode) hopes.sane promised runs) hopes
   ask_hope Asking.Anew now before after e (first, step, later) pace since hopes =
       let mode = before.pace.mode in
-      inl (kept_by_all (sends (mode_command mode) ∷ reading_acts mode) first after.world (told_is_calm mode)
+      inl (kept_by_all (sends (mode_command mode) ∷ reading_acts mode) first after.world (mode_is_calm mode)
       (sane_after FaultyContent.Restart before.world first Outcome.Done hopes.sane step)
       (anew FaultyContent.Restart before.world first refl hopes.sane step) later)
 

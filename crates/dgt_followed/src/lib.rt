@@ -15,7 +15,7 @@
 
 ghost use Rattle.std.specs.Prelude.{◌≡◌, ◌<◌, ℕ, List, Some, length, take};
 ghost use Rattle.dgt_command.specs.Content.{CommandContent, requested_kind};
-ghost use Rattle.dgt_command.specs.Spelling.{SpellsCommand, command_spelling};
+ghost use Rattle.dgt_command.specs.Encoding.{EncodesCommand, command_encoding};
 ghost use Rattle.dgt_host.specs.Host.{HostView, Sends};
 ghost use Rattle.dgt_follow.specs.Pace.{asking_bytes};
 ghost use Rattle.dgt_follow.specs.Follower.{Asks, FollowerView, asking_of, follower_after};
@@ -68,10 +68,10 @@ pub fn calls_are_happenings()
         }) }
     ensures send { (before : FollowedView) (command : CommandContent) (after : HostView)
         (written : ℕ) (old new : List ℕ) →
-        Sends (record { kind = requested_kind command; bytes = command_spelling command })
+        Sends (record { kind = requested_kind command; bytes = command_encoding command })
         before.world.host after old new (Ok written) →
-        SpellsCommand command (command_spelling command) →
-        HasRoom before.world.down (command_spelling command) →
+        EncodesCommand command (command_encoding command) →
+        HasRoom before.world.down (command_encoding command) →
         FollowedStep (Happening.Other (sends command)) before (record {
           world = after_writing before.world after (take written new);
           pace = before.pace;

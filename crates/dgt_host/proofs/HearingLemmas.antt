@@ -4,10 +4,10 @@ use Rattle.std.proofs.Math.Seq.{take-add}
 use Rattle.std.specs.List.{AllByRecursion, flat_map}
 use Rattle.dgt_values.specs.declared.pieces.Piece.{Piece}
 use Rattle.dgt_message.specs.Content.{Content, IsMessage}
-use Rattle.dgt_message.specs.Spelling.{spelling}
-use Rattle.dgt_decode.specs.Grammar.{Event, Message, Refused, Cut, BadLength, Stray, Placed, at_place, cut_of, events, events_behind, open_message}
-use Rattle.dgt_decode.specs.Laws.{EventsAppend, OpenAppend, OpenIsQuiet, SpellingIsRead}
-use Rattle.dgt_host.specs.Host.{HeardInPieces, HostView, clock_after_all, host_after, host_after_event, host_after_events, host_after_message, picture_after_all}
+use Rattle.dgt_message.specs.Encoding.{encoding}
+use Rattle.dgt_decode.specs.Grammar.{Event, Message, Refused, Cut, BadLength, Stray, Placed, at_place, cut_of, events, events_behind, unfinished_message}
+use Rattle.dgt_decode.specs.Laws.{EventsAppend, UnfinishedAppend, UnfinishedIsQuiet, EncodingIsRead}
+use Rattle.dgt_host.specs.Host.{HeardInChunks, HostView, clock_after_all, host_after, host_after_event, host_after_events, host_after_message, picture_after_all}
 
 host_after_events-append : (host : HostView) (xs ys : List Placed)
     → host_after_events host (xs ++ ys) ≡ host_after_events (host_after_events host xs) ys
@@ -39,48 +39,51 @@ host_after_events-unread host before after (x ∷ xs) =
     (host_after_event-unread host before x.event)
     ∙ host_after_events-unread (host_after_event host x.event) before after xs
 
--- the events of two pieces, one after the other
+-- the events of two chunks, one after the other
 both : EventsAppend → (host : HostView) (s more : List ℕ) → host_after_events (host_after_events host (events s))
-    (events (open_message s ++ more)) ≡ host_after_events host (events (s ++ more))
+    (events (unfinished_message s ++ more)) ≡ host_after_events host (events (s ++ more))
 both later host s more =
-    sym (host_after_events-behind (host_after_events host (events s)) (length s - length (open_message s))
-    (events (open_message s ++ more)))
+    sym (host_after_events-behind (host_after_events host (events s)) (length s - length (unfinished_message s))
+    (events (unfinished_message s ++ more)))
     ∙ sym (host_after_events-append host (events s)
-    (events_behind (length s - length (open_message s)) (events (open_message s ++ more))))
+    (events_behind (length s - length (unfinished_message s)) (events (unfinished_message s ++ more))))
     ∙ ap (host_after_events host) (sym (later s more))
 
-in_two : EventsAppend → OpenAppend → (host : HostView) (s more whole : List ℕ) → s ++ more ≡ whole
-    → record (host_after_events (record (host_after_events host (events s)) { unread = open_message s })
-    (events (open_message s ++ more))) { unread = open_message (open_message s ++ more) }
-    ≡ record (host_after_events host (events whole)) { unread = open_message whole }
+in_two : EventsAppend → UnfinishedAppend → (host : HostView) (s more whole : List ℕ) → s ++ more ≡ whole
+    → record (host_after_events (record (host_after_events host (events s)) { unread = unfinished_message s })
+    (events (unfinished_message s ++ more))) { unread = unfinished_message (unfinished_message s ++ more) }
+    ≡ record (host_after_events host (events whole)) { unread = unfinished_message whole }
 in_two later still host s more whole e =
-    host_after_events-unread (host_after_events host (events s)) (open_message s)
-    (open_message (open_message s ++ more)) (events (open_message s ++ more))
-    ∙ ap (λ (h : HostView). record h { unread = open_message (open_message s ++ more) }) (both later host s more)
+    host_after_events-unread (host_after_events host (events s)) (unfinished_message s)
+    (unfinished_message (unfinished_message s ++ more)) (events (unfinished_message s ++ more))
+    ∙ ap (λ (h : HostView). record h { unread = unfinished_message (unfinished_message s ++ more) })
+    (both later host s more)
     ∙ ap (λ (unread : List ℕ). record (host_after_events host (events (s ++ more))) { unread = unread })
     (sym (still s more))
-    ∙ ap (λ (bytes : List ℕ). record (host_after_events host (events bytes)) { unread = open_message bytes }) e
+    ∙ ap (λ (bytes : List ℕ). record (host_after_events host (events bytes)) { unread = unfinished_message bytes }) e
 
-pub heard_in_pieces : EventsAppend → OpenAppend → HeardInPieces
-heard_in_pieces later still host bytes more = in_two later still host (host.unread ++ bytes) more
+pub heard_in_chunks : EventsAppend → UnfinishedAppend → HeardInChunks
+heard_in_chunks later still host bytes more = in_two later still host (host.unread ++ bytes) more
     (host.unread ++ (bytes ++ more)) (append_assoc host.unread bytes more)
 
 -- a host that hears no bytes
-pub nothing_heard : OpenIsQuiet → (host : HostView) → open_message host.unread ≡ host.unread → host_after host [] ≡ host
+pub nothing_heard : UnfinishedIsQuiet → (host : HostView) → unfinished_message host.unread ≡ host.unread
+    → host_after host [] ≡ host
 nothing_heard quiet host held =
     let no_event : events (host.unread ++ []) ≡ [] =
     ap events (append-nil host.unread ∙ sym held) ∙ quiet.no_event host.unread in
-    let stays : open_message (host.unread ++ []) ≡ host.unread = ap open_message (append-nil host.unread) ∙ held in
+    let stays : unfinished_message (host.unread ++ []) ≡ host.unread = ap unfinished_message (append-nil host.unread)
+        ∙ held in
     rw (no_event, stays) refl
 
--- some more bytes of a piece
-pub heard_more : HeardInPieces → (host before now : HostView) (piece : List ℕ) (i n : ℕ)
-    → before ≡ host_after host (take i piece) → now ≡ host_after before (take n (drop i piece))
-    → now ≡ host_after host (take (i + n) piece)
-heard_more in_pieces host before now piece i n e f =
-    f ∙ ap (λ (h : HostView). host_after h (take n (drop i piece))) e
-    ∙ in_pieces host (take i piece) (take n (drop i piece))
-    ∙ ap (host_after host) (sym (take-add i n piece))
+-- some more bytes of a chunk
+pub heard_more : HeardInChunks → (host before now : HostView) (chunk : List ℕ) (i n : ℕ)
+    → before ≡ host_after host (take i chunk) → now ≡ host_after before (take n (drop i chunk))
+    → now ≡ host_after host (take (i + n) chunk)
+heard_more in_chunks host before now chunk i n e f =
+    f ∙ ap (λ (h : HostView). host_after h (take n (drop i chunk))) e
+    ∙ in_chunks host (take i chunk) (take n (drop i chunk))
+    ∙ ap (host_after host) (sym (take-add i n chunk))
 
 -- ---- Whole messages
 
@@ -90,56 +93,56 @@ cut_changes_nothing : (host : HostView) (n : ℕ) (unread : List ℕ)
 cut_changes_nothing host n [] = refl
 cut_changes_nothing host n (b ∷ bytes) = refl
 
-module _ (read : SpellingIsRead) where
+module _ (read : EncodingIsRead) where
   -- what is written of a message is heard as this message, whatever came before
   pub message_heard : (host : HostView) (bytes : List ℕ) (said : Content) → IsMessage said
-      → host_after host (bytes ++ spelling said)
+      → host_after host (bytes ++ encoding said)
       ≡ record (host_after_message (host_after host bytes) said) { unread = [] }
   message_heard host bytes said is =
       let before : List ℕ = host.unread ++ bytes in
-      let whole : host.unread ++ (bytes ++ spelling said) ≡ before ++ spelling said
-      = sym (append_assoc host.unread bytes (spelling said)) in
-      let cut : List Placed = events_behind (length before) (cut_of (open_message before)) in
-      let last : List Placed = at_place (length before + length (spelling said)) (Message said) ∷ [] in
-      let told : events (host.unread ++ (bytes ++ spelling said)) ≡ (events before ++ cut) ++ last
+      let whole : host.unread ++ (bytes ++ encoding said) ≡ before ++ encoding said
+      = sym (append_assoc host.unread bytes (encoding said)) in
+      let cut : List Placed = events_behind (length before) (cut_of (unfinished_message before)) in
+      let last : List Placed = at_place (length before + length (encoding said)) (Message said) ∷ [] in
+      let parted : events (host.unread ++ (bytes ++ encoding said)) ≡ (events before ++ cut) ++ last
       = ap events whole ∙ (read before said is).0 in
-      let left : open_message (host.unread ++ (bytes ++ spelling said)) ≡ []
-      = ap open_message whole ∙ (read before said is).1 in
+      let left : unfinished_message (host.unread ++ (bytes ++ encoding said)) ≡ []
+      = ap unfinished_message whole ∙ (read before said is).1 in
       let now : HostView = host_after_events host (events before) in
       let folded : host_after_events host ((events before ++ cut) ++ last) ≡ host_after_message now said
       = host_after_events-append host (events before ++ cut) last
       ∙ ap (λ (h : HostView). host_after_message h said)
       (host_after_events-append host (events before) cut
-      ∙ cut_changes_nothing now (length before) (open_message before)) in
+      ∙ cut_changes_nothing now (length before) (unfinished_message before)) in
       ap (λ (xs : List Placed). record (host_after_events host xs) {
-        unread = open_message (host.unread ++ (bytes ++ spelling said));
-      }) told
-      ∙ ap (λ (h : HostView). record h { unread = open_message (host.unread ++ (bytes ++ spelling said)) }) folded
+        unread = unfinished_message (host.unread ++ (bytes ++ encoding said));
+      }) parted
+      ∙ ap (λ (h : HostView). record h { unread = unfinished_message (host.unread ++ (bytes ++ encoding said)) }) folded
       ∙ ap (λ (u : List ℕ). record (host_after_message now said) { unread = u }) left
 
   -- so messages in a row are heard one after another
   pub pictures_heard : (host : HostView) (bytes : List ℕ) (said : List Content) → AllByRecursion IsMessage said
-      → (host_after host (bytes ++ flat_map spelling said)).picture
+      → (host_after host (bytes ++ flat_map encoding said)).picture
       ≡ picture_after_all (host_after host bytes).picture said
   pictures_heard host bytes [] are = ap (λ (bs : List ℕ). (host_after host bs).picture) (append-nil bytes)
   pictures_heard host bytes (m ∷ said) are =
       ap (λ (bs : List ℕ). (host_after host bs).picture)
-      (sym (append_assoc bytes (spelling m) (flat_map spelling said)))
-      ∙ pictures_heard host (bytes ++ spelling m) said are.1
+      (sym (append_assoc bytes (encoding m) (flat_map encoding said)))
+      ∙ pictures_heard host (bytes ++ encoding m) said are.1
       ∙ ap (λ (h : HostView). picture_after_all h.picture said) (message_heard host bytes m are.0)
 
   pub clocks_heard : (host : HostView) (bytes : List ℕ) (said : List Content) → AllByRecursion IsMessage said
-      → (host_after host (bytes ++ flat_map spelling said)).clock
+      → (host_after host (bytes ++ flat_map encoding said)).clock
       ≡ clock_after_all (host_after host bytes).clock said
   clocks_heard host bytes [] are = ap (λ (bs : List ℕ). (host_after host bs).clock) (append-nil bytes)
   clocks_heard host bytes (m ∷ said) are =
-      ap (λ (bs : List ℕ). (host_after host bs).clock) (sym (append_assoc bytes (spelling m) (flat_map spelling said)))
-      ∙ clocks_heard host (bytes ++ spelling m) said are.1
+      ap (λ (bs : List ℕ). (host_after host bs).clock) (sym (append_assoc bytes (encoding m) (flat_map encoding said)))
+      ∙ clocks_heard host (bytes ++ encoding m) said are.1
       ∙ ap (λ (h : HostView). clock_after_all h.clock said) (message_heard host bytes m are.0)
 
   -- a dump that is heard whole sets the picture
   pub dump_repairs : (host : HostView) (bytes : List ℕ) (pieces : List Piece) (said : List Content)
       → length pieces ≡ 64 → AllByRecursion IsMessage said
-      → (host_after host (bytes ++ flat_map spelling (Content.dump pieces ∷ said))).picture
+      → (host_after host (bytes ++ flat_map encoding (Content.dump pieces ∷ said))).picture
       ≡ picture_after_all (Some pieces) said
   dump_repairs host bytes pieces said all are = pictures_heard host bytes (Content.dump pieces ∷ said) (all, are)

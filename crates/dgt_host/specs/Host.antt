@@ -9,15 +9,15 @@ use Rattle.dgt_message.specs.Content.{Content, clock_seen, answered_kind}
 use Rattle.dgt_message.specs.Content.Content.{dump, field, times, no_clock}
 use Rattle.dgt_message.specs.Clock.{ClockState}
 use Rattle.dgt_command.specs.Content.CommandContent.{Dump, UpdateBoard}
-use Rattle.dgt_command.specs.Spelling.{command_spelling}
-use Rattle.dgt_decode.specs.Grammar.{Event, Message, Placed, events, open_message}
+use Rattle.dgt_command.specs.Encoding.{command_encoding}
+use Rattle.dgt_decode.specs.Grammar.{Event, Message, Placed, events, unfinished_message}
 use Rattle.dgt_host.specs.declared.host.TheConstants.{MAX_AWAITED}
 use Rattle.dgt_host.specs.declared.sending.SendFault.{SendFault}
 use Rattle.dgt_host.specs.declared.sending.SendFault.TheVariants.{TooMany, NoRoom}
 
 pub record HostView : Type 0 where
   pub picture : Option (List Piece)  -- the pieces of the board, once they are known
-  pub clock : Option ClockState  -- what the board's clock told last
+  pub clock : Option ClockState  -- what the board's clock reported last
   pub awaited : List Kind  -- the kinds of the replies that are awaited, the next one first
   pub unread : List ℕ  -- the bytes of a message that isn't finished
 
@@ -99,12 +99,12 @@ host_after_events host (x ∷ more) = host_after_events (host_after_event host x
 abbrev pub host_after : HostView → List ℕ → HostView
 host_after host bytes =
     record (host_after_events host (events (host.unread ++ bytes))) {
-      unread = open_message (host.unread ++ bytes);
+      unread = unfinished_message (host.unread ++ bytes);
     }
 
--- a host that hears bytes in two pieces is the one that hears them in one
-abbrev pub HeardInPieces : Type 0
-HeardInPieces =
+-- a host that hears bytes in two chunks is the one that hears them in one
+abbrev pub HeardInChunks : Type 0
+HeardInChunks =
     (host : HostView) (bytes more : List ℕ) →
     host_after (host_after host bytes) more ≡ host_after host (bytes ++ more)
 
@@ -124,7 +124,7 @@ without_awaited host = record host { awaited = [] }
 
 -- what a host sends to follow the board: its changes are to be sent, and first the whole of it
 abbrev pub follow_bytes : List ℕ
-follow_bytes = command_spelling UpdateBoard ++ command_spelling Dump
+follow_bytes = command_encoding UpdateBoard ++ command_encoding Dump
 
 -- what a host sends to begin anew: zeros, with which any part of a command ends, and then the same
 abbrev pub restart_bytes : List ℕ

@@ -6,8 +6,8 @@ ghost use Rattle.std.specs.Io.BufRead.{Rests};
 ghost use Rattle.dgt_values.specs.Board.{pieces_of};
 ghost use Rattle.dgt_message.specs.Content.{clock_seen};
 ghost use Rattle.dgt_command.specs.Content.{command_content, requested_kind};
-ghost use Rattle.dgt_command.specs.Spelling.{command_spelling, SpellsCommand};
-ghost use Rattle.dgt_decode.specs.Grammar.{open_message};
+ghost use Rattle.dgt_command.specs.Encoding.{command_encoding, EncodesCommand};
+ghost use Rattle.dgt_decode.specs.Grammar.{unfinished_message};
 ghost use Rattle.dgt_decode.specs.Feeding.{FirstEvent, event_content_if_any};
 ghost use Rattle.dgt_host.specs.Host.{IsUnasked, Sends, awaits_too_many, follow_bytes, host_after, new_host, restart_bytes, without_awaited};
 
@@ -43,13 +43,13 @@ pub struct Host {
 }
 
 impl Model for Host {
-    ghost use Rattle.dgt_decode.specs.Grammar.{open_message};
+    ghost use Rattle.dgt_decode.specs.Grammar.{unfinished_message};
     ghost use Rattle.dgt_host.specs.Host.{HostView, host_seen};
 
     ghost Value = { HostView };
 
     ghost view = { λ host.
-        host_seen host.picture host.clock host.awaited.items (open_message host.framer) };
+        host_seen host.picture host.clock host.awaited.items (unfinished_message host.framer) };
 }
 
 impl Host {
@@ -75,11 +75,11 @@ impl Host {
     /// slice is shorter than the command.
     pub fn send(&mut self, command: &Command<'_>, out: &mut [u8]) -> Result<usize, SendFault>
         ensures sends { let said = command_content command.now in
-            Sends (record { kind = requested_kind said; bytes = command_spelling said })
+            Sends (record { kind = requested_kind said; bytes = command_encoding said })
             self.old self.new out.old out.new result }
-        ensures spells { let said = command_content command.now in
-            OnOk result (SpellsCommand said (command_spelling said)) }
-        ensures limit { length (command_spelling (command_content command.now)) ≤ MAX_WORD }
+        ensures encodes { let said = command_content command.now in
+            OnOk result (EncodesCommand said (command_encoding said)) }
+        ensures limit { length (command_encoding (command_content command.now)) ≤ MAX_WORD }
     {
         let kind = kind_of_command(command);
         if self.lacks_room_for(kind) {
@@ -204,12 +204,12 @@ impl Host {
     /// [`MAX_TOTAL`], else 0.
     pub fn unread(&self) -> usize
         ensures len { result ≡ length self.now.unread }
-        ensures all_open { open_message self.now.unread ≡ self.now.unread }
+        ensures all_unfinished { unfinished_message self.now.unread ≡ self.now.unread }
         ensures limit { length self.now.unread < MAX_TOTAL }
     {
-        laws::open_append();
-        laws::open_is_short();
-        self.framer.open_len()
+        laws::unfinished_append();
+        laws::unfinished_is_short();
+        self.framer.unfinished_len()
     }
 
     /// Uses bytes of the chunk up to and including the first that makes an event, or all of it, and
@@ -217,17 +217,17 @@ impl Host {
     ///
     /// The event lends its body from the host until the next call. Call again with the bytes that
     /// are left: a chunk that isn't empty has at least one byte used.
-    pub fn hear(&mut self, piece: &[u8]) -> Heard<'_>
+    pub fn hear(&mut self, chunk: &[u8]) -> Heard<'_>
         ensures* after_borrow { sem 𝓛 (Rests the_row self.entry
-            (λ new. new ≡ host_after self.old (take result.used piece.now))) }
-        ensures within { result.used ≤ length piece.now }
-        ensures first { FirstEvent self.old.unread piece.now result.used
+            (λ new. new ≡ host_after self.old (take result.used chunk.now))) }
+        ensures within { result.used ≤ length chunk.now }
+        ensures first { FirstEvent self.old.unread chunk.now result.used
             (event_content_if_any result.event) }
         ensures unasked { IsTrue result.unasked
             ↔ IsUnasked self.old.awaited (event_content_if_any result.event) }
-        ensures progress { 0 < length piece.now → 0 < result.used }
+        ensures progress { 0 < length chunk.now → 0 < result.used }
     {
-        let advanced = self.framer.advance(piece);
+        let advanced = self.framer.advance(chunk);
         let Some(found) = advanced.found else {
             return Heard {
                 used: advanced.used,
@@ -252,14 +252,14 @@ impl Host {
     /// `picture`, `clock` and `awaited` return what has become of the host.
     ///
     /// However the bytes are cut, the host afterwards is the one that hears them in a row
-    /// (`laws::heard_in_pieces`).
-    pub fn hear_all(&mut self, piece: &[u8])
-        ensures { self.new ≡ host_after self.old piece.now }
+    /// (`laws::heard_in_chunks`).
+    pub fn hear_all(&mut self, chunk: &[u8])
+        ensures { self.new ≡ host_after self.old chunk.now }
     {
-        crate::laws::heard_in_pieces();
-        let mut at = self.hear(piece).used;
-        while at < piece.len() {
-            at += self.hear(&piece[at..]).used;
+        crate::laws::heard_in_chunks();
+        let mut at = self.hear(chunk).used;
+        while at < chunk.len() {
+            at += self.hear(&chunk[at..]).used;
         }
     }
 }

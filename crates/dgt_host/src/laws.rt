@@ -6,10 +6,10 @@ ghost use Rattle.std.specs.List.{AllByRecursion};
 ghost use Rattle.dgt_values.specs.declared.pieces.Piece.{Piece};
 ghost use Rattle.dgt_values.specs.Equality.{CloneIsSame, EqualIsSame, EqualIsSameRead};
 ghost use Rattle.dgt_message.specs.Content.{Content, IsMessage};
-ghost use Rattle.dgt_message.specs.Spelling.{spelling};
+ghost use Rattle.dgt_message.specs.Encoding.{encoding};
 ghost use Rattle.dgt_decode.specs.Feeding.{event_content_if_any};
-ghost use Rattle.dgt_decode.specs.Grammar.{Event, Placed, events_behind, open_message};
-ghost use Rattle.dgt_host.specs.Host.{HeardInPieces, HostView, clock_after_all, host_after, host_after_events, host_after_message, picture_after_all};
+ghost use Rattle.dgt_decode.specs.Grammar.{Event, Placed, events_behind, unfinished_message};
+ghost use Rattle.dgt_host.specs.Host.{HeardInChunks, HostView, clock_after_all, host_after, host_after_events, host_after_message, picture_after_all};
 
 use crate::{Heard, Kind, MAX_AWAITED, RESTART_LENGTH, SendFault};
 
@@ -39,20 +39,20 @@ pub fn clone_is_same()
 {}
 
 /// A host that hears bytes in two chunks is the one that hears them in one.
-pub fn heard_in_pieces()
-    ensures { HeardInPieces }
+pub fn heard_in_chunks()
+    ensures { HeardInChunks }
 {
     dgt_decode::laws::events_append();
-    dgt_decode::laws::open_append();
+    dgt_decode::laws::unfinished_append();
 }
 
-/// A host that hears nothing stays as it is. What is unread of a host is open: `Host::unread` says
-/// so.
+/// A host that hears nothing stays as it is. What is unread of a host is unfinished, as
+/// `Host::unread` says.
 pub fn nothing_heard()
-    ensures { (host : HostView) → open_message host.unread ≡ host.unread →
+    ensures { (host : HostView) → unfinished_message host.unread ≡ host.unread →
         host_after host [] ≡ host }
 {
-    dgt_decode::laws::open_is_quiet();
+    dgt_decode::laws::unfinished_is_quiet();
 }
 
 /// What a host becomes doesn't depend on where the events stand.
@@ -66,18 +66,18 @@ pub fn places_do_not_matter()
 /// another. A dump sets the picture, and the messages after it change it.
 pub fn messages_are_heard()
     ensures whole { (host : HostView) (bytes : List ℕ) (said : Content) → IsMessage said →
-        host_after host (bytes ++ spelling said)
+        host_after host (bytes ++ encoding said)
         ≡ record (host_after_message (host_after host bytes) said) { unread = [] } }
     ensures picture { (host : HostView) (bytes : List ℕ) (said : List Content) →
-        AllByRecursion IsMessage said → (host_after host (bytes ++ flat_map spelling said)).picture
+        AllByRecursion IsMessage said → (host_after host (bytes ++ flat_map encoding said)).picture
         ≡ picture_after_all (host_after host bytes).picture said }
     ensures clock { (host : HostView) (bytes : List ℕ) (said : List Content) →
-        AllByRecursion IsMessage said → (host_after host (bytes ++ flat_map spelling said)).clock
+        AllByRecursion IsMessage said → (host_after host (bytes ++ flat_map encoding said)).clock
         ≡ clock_after_all (host_after host bytes).clock said }
     ensures dump { (host : HostView) (bytes : List ℕ) (pieces : List Piece) (said : List Content) →
         length pieces ≡ 64 → AllByRecursion IsMessage said →
-        (host_after host (bytes ++ flat_map spelling (Content.dump pieces ∷ said))).picture
+        (host_after host (bytes ++ flat_map encoding (Content.dump pieces ∷ said))).picture
         ≡ picture_after_all (Some pieces) said }
 {
-    dgt_decode::laws::spelling_is_read();
+    dgt_decode::laws::encoding_is_read();
 }

@@ -62,9 +62,9 @@
 //! | `Sends` | what sending returns and leaves |
 //! | `pieces_of`, `placement_text` (dgt_values) | the 64 pieces of a position, and its text |
 //! | `clock_seen` (dgt_message) | what a clock shows |
-//! | `events`, `open_message` (dgt_decode) | the events of bytes, and what they leave unfinished |
+//! | `events`, `unfinished_message` (dgt_decode) | the events of bytes, and the unfinished rest |
 //!
-//! [`laws`] says that chunks don't matter (`heard_in_pieces`), and that a host that hears nothing
+//! [`laws`] says that chunks don't matter (`heard_in_chunks`), and that a host that hears nothing
 //! stays as it is (`nothing_heard`).
 //!
 //! dgt_message has what messages are made of, and dgt_values how a position is written. [`Event`],

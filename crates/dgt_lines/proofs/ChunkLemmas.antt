@@ -2,12 +2,12 @@
 use Rattle.std.proofs.Common.{◌≡◌, ℕ, ◌+◌, ◌-◌, ◌≤◌, List, [], ◌∷◌, ◌++◌, Bool, false, Result, Ok, Err, IsErrAnd, OnOk, refl, ◌∙◌, ap, sym, subst, suc, arith, length, take, drop, append_assoc, append-nil, length-append}
 use Rattle.std.proofs.lemmas.List.{length-take-le, take-append-drop, take_rest}
 use Rattle.std.proofs.Math.Seq.{take-add}
-use Rattle.dgt_command.specs.Spelling.{AreBytes}
+use Rattle.dgt_command.specs.Encoding.{AreBytes}
 use Rattle.dgt_lines.specs.declared.faults.RunFault.{RunFault}
 use Rattle.dgt_lines.specs.declared.faults.RunFault.TheVariants.{WriteFailed}
 use Rattle.dgt_lines.specs.declared.streams.Sink.{Ghosts as Sink}
 use Rattle.dgt_lines.specs.Marks.{Waits}
-use Rattle.dgt_lines.specs.Printing.{GathersFront, GathersMore, PrintsMore}
+use Rattle.dgt_lines.specs.Printing.{GathersPrefix, GathersMore, PrintsMore}
 use Rattle.dgt_lines.specs.Writing.{Gathered, Stopped, Writes}
 use Rattle.dgt_lines.proofs.GatherLemmas.{gathered_none, gathered_out, gathers_then, stopped_longer}
 use Rattle.dgt_lines.proofs.Printed.{on_ok}
@@ -52,7 +52,7 @@ waits_then (x ∷ o) o' s t before now after p q w = q (λ e. absurd (omega (ari
 module _ {S : Type 0} {W : Sink S} {P : List ℕ → List ℕ → Type 0} (bytes rest text : List ℕ) (used : ℕ) where
   -- they end no event
   pub gathers_none : {a : S} {held : List ℕ} → P (bytes ++ take used rest) (text ++ [])
-      → GathersFront W (held, held) a a (Ok used) P bytes rest text
+      → GathersPrefix W (held, held) a a (Ok used) P bytes rest text
   gathers_none {a = a} {held = held} has =
       (used, refl, record { more = []; gathers = gathered_none W held a; has = has; waits = rw append-nil (λ w. w) })
 
@@ -60,12 +60,12 @@ module _ {S : Type 0} {W : Sink S} {P : List ℕ → List ℕ → Type 0} (bytes
     -- they end one, and this is its line
     pub gathers_some : Gathered W held held' a b more
         → (Waits (held ++ more) (W.flushed a) → Waits held' (W.flushed b))
-        → GathersFront W (held, held') a b (Ok used) P bytes rest text
+        → GathersPrefix W (held, held') a b (Ok used) P bytes rest text
     gathers_some q waits = (used, refl, record { more = more; gathers = q; has = has; waits = waits })
 
     -- and the line was refused
     pub gathers_refused : (r : Result ℕ RunFault) (e : RunFault) → IsErrAnd r (λ y. y ≡ e)
-        → (e ≡ WriteFailed) × Stopped W a b (held ++ more) → GathersFront W (held, held') a b r P bytes rest text
+        → (e ≡ WriteFailed) × Stopped W a b (held ++ more) → GathersPrefix W (held, held') a b r P bytes rest text
     gathers_refused (Ok x) e k q = absurd k
     gathers_refused (Err y) e k q =
         (used, tt, record { more = more; gathers = (k ∙ q.0, q.1); has = has; waits = tt })
@@ -98,10 +98,10 @@ module _ {S : Type 0} {W : Sink S} {P : List ℕ → List ℕ → Type 0} where
     -- a call that was refused: these are lines of all bytes of the chunk
     pub prints_refused : {A : Type 0} {HasLines : List ℕ → List ℕ → List ℕ → Type 0} (e : RunFault)
         (q : GathersMore {A = A} W (i, j) b c (Err e) Q read (text ++ p.more)) (r : Result (Unit {0}) RunFault)
-        → IsErrAnd r (λ y. y ≡ e) → (front all others last : List ℕ) → front ≡ all
-        → HasLines front (((text ++ p.more) ++ q.more) ++ others) last → PrintsMore W a c r HasLines Q all text
-    prints_refused e q (Ok x) k front all others last same has = absurd k
-    prints_refused {A = A} {HasLines = HasLines} e q (Err y) k front all others last same has =
+        → IsErrAnd r (λ y. y ≡ e) → (prefix all others last : List ℕ) → prefix ≡ all
+        → HasLines prefix (((text ++ p.more) ++ q.more) ++ others) last → PrintsMore W a c r HasLines Q all text
+    prints_refused e q (Ok x) k prefix all others last same has = absurd k
+    prints_refused {A = A} {HasLines = HasLines} e q (Err y) k prefix all others last same has =
         let stop = gathers_then W {A = A} [] i j a b c p.more q.more (Err y) p.gathers
         (k ∙ q.gathers.0, q.gathers.1) in
         let whole : ((text ++ p.more) ++ q.more) ++ others ≡ text ++ ((p.more ++ q.more) ++ others) =
@@ -111,7 +111,7 @@ module _ {S : Type 0} {W : Sink S} {P : List ℕ → List ℕ → Type 0} where
           last = last;
           writes = (stop.0, stopped_longer W a c (p.more ++ q.more) others stop.1);
           has = subst (λ l. HasLines l (text ++ ((p.more ++ q.more) ++ others)) last) same
-              (subst (λ l. HasLines front l last) whole has);
+              (subst (λ l. HasLines prefix l last) whole has);
           keeps = tt;
           waits = tt;
         }

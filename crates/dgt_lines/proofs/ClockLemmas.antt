@@ -170,10 +170,10 @@ now_shown : (doubt : Doubt) (earlier : List Placed)
     → (now doubt earlier).clock ≡ shown_of (host_after_events new_host earlier).clock
 now_shown doubt earlier = all_shown earlier (new_state_with_clock doubt) new_host refl
 
-one_more : (doubt : Doubt) (earlier : List Placed) (x : Placed) (told : List Report)
-    → reports_at x.place x.event (now doubt earlier) ≡ told
-    → clocking doubt (earlier ++ x ∷ []) ≡ clocking doubt earlier ++ told
-one_more doubt earlier x told e =
+one_more : (doubt : Doubt) (earlier : List Placed) (x : Placed) (reported : List Report)
+    → reports_at x.place x.event (now doubt earlier) ≡ reported
+    → clocking doubt (earlier ++ x ∷ []) ≡ clocking doubt earlier ++ reported
+one_more doubt earlier x reported e =
     reports-append (new_state_with_clock doubt) earlier (x ∷ [])
     ∙ ap (λ l. clocking doubt earlier ++ l) (append-nil _ ∙ e)
 

@@ -8,13 +8,13 @@ use Rattle.std.specs.Prelude.{decimal}
 use Rattle.dgt_lines.specs.Lines.{padded_decimal}
 
 -- the digits of a number, of which 0 has none, with leading zeros to at least this many
-abbrev pub front : ℕ → ℕ → List ℕ
-front width zero = replicate width 48
-front width (suc n) = padded_decimal width (suc n)
+abbrev pub prefix : ℕ → ℕ → List ℕ
+prefix width zero = replicate width 48
+prefix width (suc n) = padded_decimal width (suc n)
 
-front_some : (width n : ℕ) → 0 < n → front width n ≡ padded_decimal width n
-front_some width zero h = absurd (omega arith)
-front_some width (suc n) h = refl
+prefix_some : (width n : ℕ) → 0 < n → prefix width n ≡ padded_decimal width n
+prefix_some width zero h = absurd (omega arith)
+prefix_some width (suc n) h = refl
 
 -- the last digit of a number below 10
 digit_last : (width n : ℕ) → 0 < n → n < 10 → padded_decimal width n ≡ replicate (width - 1) 48 ++ (48 + n % 10) ∷ []
@@ -34,29 +34,29 @@ more_last width n h k =
     ∙ sym (append_assoc (replicate (width - 1 - length (decimal (n / 10))) 48) (decimal (n / 10)) _)
 
 -- one digit less
-pub front-last : (width n : ℕ) → n < 2 ^ 64 → (0 < n) ⊎ (0 < width) → front width n ≡ front (width - 1) (n / 10) ++
+pub prefix-last : (width n : ℕ) → n < 2 ^ 64 → (0 < n) ⊎ (0 < width) → prefix width n ≡ prefix (width - 1) (n / 10) ++
     (48 + n % 10) ∷ []
-front-last width zero h k =
+prefix-last width zero h k =
     let some : 0 < width = elim k [ inl a ↦ absurd (omega arith) | inr b ↦ b ] in
     let w : width ≡ width - 1 + 1 = omega arith in
     ap (λ j. replicate j 48) w ∙ sym (replicate_more (width - 1) 48)
-front-last width (suc n) h k = elim (cases_lt (suc n) 10) [
+prefix-last width (suc n) h k = elim (cases_lt (suc n) 10) [
   | inl low ↦
       let q : suc n / 10 ≡ 0 = omega arith in
-      digit_last width (suc n) (omega arith) low ∙ ap (λ j. front (width - 1) j ++ (48 + suc n % 10) ∷ []) (sym q)
+      digit_last width (suc n) (omega arith) low ∙ ap (λ j. prefix (width - 1) j ++ (48 + suc n % 10) ∷ []) (sym q)
   | inr high ↦
       more_last width (suc n) high h ∙ ap (λ l. l ++ (48 + suc n % 10) ∷ [])
-      (sym (front_some (width - 1) (suc n / 10) (omega arith)))
+      (sym (prefix_some (width - 1) (suc n / 10) (omega arith)))
 ]
 
 -- all digits, if there is at least one
-pub front-all : (width n : ℕ) → 0 < width → front width n ≡ padded_decimal width n
-front-all width zero h =
+pub prefix-all : (width n : ℕ) → 0 < width → prefix width n ≡ padded_decimal width n
+prefix-all width zero h =
     let e : decimal 0 ≡ 48 ∷ [] = decimal_digit 0 (omega arith) in
     let w : width ≡ width - 1 + 1 = omega arith in
     ap (λ j. replicate j 48) w ∙ sym (replicate_more (width - 1) 48) ∙
     sym (ap (λ l. replicate (width - length l) 48 ++ l) e)
-front-all width (suc n) h = refl
+prefix-all width (suc n) h = refl
 
 -- without its last digit a number is below a smaller power of ten
 tenth : (n k : ℕ) → n < 10 ^ suc k → n / 10 < 10 ^ k
@@ -67,18 +67,18 @@ abbrev pub last_digits : ℕ → ℕ → List ℕ
 last_digits zero n = []
 last_digits (suc k) n = last_digits k (n / 10) ++ (48 + n % 10) ∷ []
 
-front-last_digits : (k n : ℕ) → n < 10 ^ k → n < 2 ^ 64 → front k n ≡ last_digits k n
-front-last_digits zero n h b = let none : n ≡ 0 = omega arith in rw none refl
-front-last_digits (suc k) n h b =
-    front-last (suc k) n b (inr (omega arith))
-    ∙ ap (λ w. front w (n / 10) ++ (48 + n % 10) ∷ []) (omega arith)
-    ∙ ap (λ l. l ++ (48 + n % 10) ∷ []) (front-last_digits k (n / 10) (tenth n k h) (omega arith))
+prefix-last_digits : (k n : ℕ) → n < 10 ^ k → n < 2 ^ 64 → prefix k n ≡ last_digits k n
+prefix-last_digits zero n h b = let none : n ≡ 0 = omega arith in rw none refl
+prefix-last_digits (suc k) n h b =
+    prefix-last (suc k) n b (inr (omega arith))
+    ∙ ap (λ w. prefix w (n / 10) ++ (48 + n % 10) ∷ []) (omega arith)
+    ∙ ap (λ l. l ++ (48 + n % 10) ∷ []) (prefix-last_digits k (n / 10) (tenth n k h) (omega arith))
 
 -- eight digits
 padded_eight : (n : ℕ) → n < 100000000
     → padded_decimal 8 n ≡ (48 + n / 10000000 % 10) ∷ (48 + n / 1000000 % 10) ∷ (48 + n / 100000 % 10) ∷
     (48 + n / 10000 % 10) ∷ (48 + n / 1000 % 10) ∷ (48 + n / 100 % 10) ∷ (48 + n / 10 % 10) ∷ (48 + n % 10) ∷ []
-padded_eight n h = sym (front-all 8 n (omega arith)) ∙ front-last_digits 8 n h
+padded_eight n h = sym (prefix-all 8 n (omega arith)) ∙ prefix-last_digits 8 n h
     (omega arith) ∙ simp div-div-eq-div-mul refl
 
 -- eight digits, from four pairs

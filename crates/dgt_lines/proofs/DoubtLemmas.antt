@@ -292,10 +292,10 @@ message_at : (place : ℕ) (event : Event) (before : PictureState) → (IsFault 
 message_at place (Message said) before m h = hidden_message place said before h
 message_at place _ before m h = absurd (m tt)
 
-one_more : (earlier : List Placed) (x : Placed) (told : List Report)
-    → reports_at x.place x.event (state_after_events start earlier) ≡ told
-    → doubting (earlier ++ x ∷ []) ≡ doubting earlier ++ told
-one_more earlier x told e =
+one_more : (earlier : List Placed) (x : Placed) (reported : List Report)
+    → reports_at x.place x.event (state_after_events start earlier) ≡ reported
+    → doubting (earlier ++ x ∷ []) ≡ doubting earlier ++ reported
+one_more earlier x reported e =
     reports-append start earlier (x ∷ []) ∙ ap (λ l. doubting earlier ++ l) (append-nil _ ∙ e)
 
 pub first_faults_are_reported : FirstFaultsAreReported

@@ -22,10 +22,10 @@ module _ {S : Type 0} (W : Sink S) where
   writes_then a b c s t (Err e) p q = (
     q.0,
     record {
-      front = s ++ q.1.front;
+      prefix = s ++ q.1.prefix;
       rest = q.1.rest;
-      whole = ap (λ l. s ++ l) q.1.whole ∙ sym (append_assoc s q.1.front q.1.rest);
-      appends = Appends-trans _ _ _ s q.1.front p.appends q.1.appends;
+      whole = ap (λ l. s ++ l) q.1.whole ∙ sym (append_assoc s q.1.prefix q.1.rest);
+      appends = Appends-trans _ _ _ s q.1.prefix p.appends q.1.appends;
       refused = q.1.refused;
       in_time = λ h. q.1.in_time (p.kept ∙ h) ∙ p.in_time h;
     },
@@ -34,9 +34,9 @@ module _ {S : Type 0} (W : Sink S) where
   -- what stops at a text stops at a longer one
   pub stopped_longer : (a b : S) (s t : List ℕ) → Stopped W a b s → Stopped W a b (s ++ t)
   stopped_longer a b s t p = record {
-    front = p.front;
+    prefix = p.prefix;
     rest = p.rest ++ t;
-    whole = ap (λ l. l ++ t) p.whole ∙ append_assoc p.front p.rest t;
+    whole = ap (λ l. l ++ t) p.whole ∙ append_assoc p.prefix p.rest t;
     appends = p.appends;
     refused = p.refused;
     in_time = p.in_time;
@@ -106,7 +106,7 @@ module _ {S : Type 0} (W : Sink S) where
     waits = tt;
   }
 
-  -- a text of which the front is held already
+  -- a text of which a prefix is held already
   pub gathers_via : {A : Type 0} (h i j k : List ℕ) (a b c : S) (s t : List ℕ) (r : Result A RunFault)
       → Gathered W h i a b [] → j ++ t ≡ i ++ s → Gathers W (j, k) b c r t
       → Gathers W (h, k) a c r s

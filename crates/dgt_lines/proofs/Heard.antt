@@ -2,8 +2,8 @@
 use Rattle.std.proofs.Common.{◌≡◌, ◌+◌, List, ℕ, [], ◌++◌, Option, Some, Result, length, refl, sym, ◌∙◌, ap, append-nil, take}
 use Rattle.std.specs.List.{flat_map}
 use Rattle.dgt_decode.specs.Feeding.{FirstEvent, at_place_if_any}
-use Rattle.dgt_decode.specs.Grammar.{Event, events, open_message}
-use Rattle.dgt_decode.specs.Laws.{OpenAppend, PiecesAdd}
+use Rattle.dgt_decode.specs.Grammar.{Event, events, unfinished_message}
+use Rattle.dgt_decode.specs.Laws.{UnfinishedAppend, ChunksAdd}
 use Rattle.dgt_lines.specs.declared.faults.RunFault.{RunFault}
 use Rattle.dgt_lines.specs.Lines.{event_line, lines, lines_after, placed_line}
 use Rattle.dgt_lines.specs.Monitoring.{IsMonitored}
@@ -16,31 +16,31 @@ unfolding events
 lines-none = refl
 
 pub heard_none : (kept : List ℕ) → kept ≡ [] → HasPrintedEvents kept [] []
-heard_none kept e = record { said = sym lines-none; held = ap open_message e }
+heard_none kept e = record { said = sym lines-none; held = ap unfinished_message e }
 
-module _ {kept bytes text : List ℕ} (h : HasPrintedEvents kept bytes text) (pieces : PiecesAdd) where
-  module _ (opens : OpenAppend) (piece : List ℕ) (n offset : ℕ) (counted : offset ≡ length bytes) (kept' : List ℕ)
-      (held : open_message kept' ≡ open_message (open_message kept ++ take n piece)) where
+module _ {kept bytes text : List ℕ} (h : HasPrintedEvents kept bytes text) (chunks : ChunksAdd) where
+  module _ (still : UnfinishedAppend) (chunk : List ℕ) (n offset : ℕ) (counted : offset ≡ length bytes) (kept' : List ℕ)
+      (held : unfinished_message kept' ≡ unfinished_message (unfinished_message kept ++ take n chunk)) where
     -- after a call of `advance`
-    pub heard_more : (event : Option Event) → FirstEvent (open_message kept) piece n event
-        → HasPrintedEvents kept' (bytes ++ take n piece)
+    pub heard_more : (event : Option Event) → FirstEvent (unfinished_message kept) chunk n event
+        → HasPrintedEvents kept' (bytes ++ take n chunk)
         (text ++ flat_map placed_line (at_place_if_any (offset + n) event))
     heard_more event found =
-        let same = events_found kept bytes piece n h.held offset event found counted in
-        rw (h.said, ← same, ← lines-append pieces bytes (take n piece))
-        (record { said = refl; held = held_then kept bytes piece n h.held opens kept' held })
+        let same = events_found kept bytes chunk n h.held offset event found counted in
+        rw (h.said, ← same, ← lines-append chunks bytes (take n chunk))
+        (record { said = refl; held = held_then kept bytes chunk n h.held still kept' held })
 
     -- one that found an event
-    pub heard_event : (event : Event) → FirstEvent (open_message kept) piece n (Some event)
-        → HasPrintedEvents kept' (bytes ++ take n piece) (text ++ event_line (offset + n) event)
+    pub heard_event : (event : Event) → FirstEvent (unfinished_message kept) chunk n (Some event)
+        → HasPrintedEvents kept' (bytes ++ take n chunk) (text ++ event_line (offset + n) event)
     heard_event event found = rw append-nil at (heard_more (Some event) found)
 
   -- whatever comes after
   pub heard_on : (more : List ℕ)
       → (others : List ℕ) × (last : List ℕ) × HasEventLines (bytes ++ more) (text ++ others) last
   heard_on more =
-      let others = lines_after (open_message bytes) (length bytes) more in
-      (others, _, (ap (λ l. l ++ others) h.said ∙ sym (lines-append pieces bytes more), refl))
+      let others = lines_after (unfinished_message bytes) (length bytes) more in
+      (others, _, (ap (λ l. l ++ others) h.said ∙ sym (lines-append chunks bytes more), refl))
 
 pub monitored : {A : Type 0} (r : Result A RunFault) (bytes out : List ℕ) → IsPrinted HasEventLines r bytes out
     → IsMonitored r bytes out

@@ -13,7 +13,7 @@ pub mod Heard
 pub mod Pictured
 pub mod Listed
 pub mod ClosingLemmas
-pub mod TellingLemmas
+pub mod PrintedWords
 mod ClockLemmas
 mod DoubtLemmas
 mod ReportLemmas

@@ -2,53 +2,54 @@
 use Rattle.std.proofs.Common.{◌≡◌, ◌≤◌, ◌+◌, ◌-◌, ℕ, List, [], ◌++◌, Result, length, refl, ap, arith, length-append, take}
 use Rattle.std.proofs.lemmas.List.{length-take-le}
 use Rattle.dgt_command.specs.Content.{EventContent}
-use Rattle.dgt_command.specs.Spelling.{AreBytes}
+use Rattle.dgt_command.specs.Encoding.{AreBytes}
 use Rattle.dgt_command.specs.Words.{IsPartial, IsWord, word_bytes}
 use Rattle.dgt_lines.specs.declared.faults.RunFault.{RunFault}
-use Rattle.dgt_lines.specs.CommandLines.{Tells, command_line}
-use Rattle.dgt_lines.specs.CommandLaws.{EachIsTold}
+use Rattle.dgt_lines.specs.CommandLines.{Prints, command_line}
+use Rattle.dgt_lines.specs.CommandLaws.{EachIsPrinted}
 use Rattle.dgt_lines.specs.Commanding.{IsListed}
 use Rattle.dgt_lines.specs.Printing.{HasCommandLines, IsPrinted}
 use Rattle.dgt_lines.proofs.Printed.{stands_by}
-use Rattle.dgt_lines.proofs.TellingLemmas.{texts_append, told_part, told_word}
+use Rattle.dgt_lines.proofs.PrintedWords.{texts_append, part_is_printed, word_is_printed}
 
-pub listed_none : IsPartial [] → (held : List ℕ) → held ≡ [] → Tells 0 [] held []
-listed_none none held h = rw h (told_part 0 [] none)
+pub listed_none : IsPartial [] → (held : List ℕ) → held ≡ [] → Prints 0 [] held []
+listed_none none held h = rw h (part_is_printed 0 [] none)
 
 -- what is left of a word is a part of the bytes
-rest_short : (bytes rest text : List ℕ) → Tells 0 bytes rest text → length rest ≤ length bytes
+rest_short : (bytes rest text : List ℕ) → Prints 0 bytes rest text → length rest ≤ length bytes
 rest_short bytes rest text h =
     omega (arith, ap length h.are_words.whole, length-append (word_bytes h.words) rest)
 
--- ---- after a call of `advance`, with a piece of which it used n bytes
+-- ---- after a call of `advance`, with a chunk of which it used n bytes
 
-module _ {held bytes text : List ℕ} (h : Tells 0 bytes held text) where
+module _ {held bytes text : List ℕ} (h : Prints 0 bytes held text) where
   -- they complete a word
-  pub listed_event : (piece : List ℕ) (n offset : ℕ) (event : EventContent) → n ≤ length piece → offset ≡ length bytes
-      → IsPartial [] → IsWord event (held ++ take n piece) → (held' : List ℕ) → held' ≡ []
-      → Tells 0 (bytes ++ take n piece) held' (text ++ command_line (offset + n) event)
-  listed_event piece n offset event within counted none word held' e =
+  pub listed_event : (chunk : List ℕ) (n offset : ℕ) (event : EventContent) → n ≤ length chunk → offset ≡ length bytes
+      → IsPartial [] → IsWord event (held ++ take n chunk) → (held' : List ℕ) → held' ≡ []
+      → Prints 0 (bytes ++ take n chunk) held' (text ++ command_line (offset + n) event)
+  listed_event chunk n offset event within counted none word held' e =
       let place = 0 + (length bytes - length held) in
-      let same : place + length (held ++ take n piece) ≡ offset + n =
+      let same : place + length (held ++ take n chunk) ≡ offset + n =
       omega (
         arith,
         counted,
         rest_short bytes held text h,
-        length-append held (take n piece),
-        length-take-le n piece within,
+        length-append held (take n chunk),
+        length-take-le n chunk within,
       ) in
       rw (e, ← same)
-      (texts_append 0 bytes (take n piece) held [] text _ h (told_word none place (held ++ take n piece) event word))
+      (texts_append 0 bytes (take n chunk) held [] text _ h (word_is_printed none place
+          (held ++ take n chunk) event word))
 
   -- they complete none
   pub listed_part : (more held' : List ℕ) → held' ≡ held ++ more → IsPartial held'
-      → Tells 0 (bytes ++ more) held' (text ++ [])
+      → Prints 0 (bytes ++ more) held' (text ++ [])
   listed_part more held' e part =
       let place = 0 + (length bytes - length held) in
-      texts_append 0 bytes more held held' text [] h (rw (← e) (told_part place held' part))
+      texts_append 0 bytes more held held' text [] h (rw (← e) (part_is_printed place held' part))
 
   -- whatever comes after
-  pub listed_on : EachIsTold → (more : List ℕ) → AreBytes (held ++ more)
+  pub listed_on : EachIsPrinted → (more : List ℕ) → AreBytes (held ++ more)
       → (others : List ℕ) × (last : List ℕ) × HasCommandLines (bytes ++ more) (text ++ others) last
   listed_on each more are =
       let on = each (0 + (length bytes - length held)) (held ++ more) are in
@@ -59,6 +60,6 @@ pub listed : {A : Type 0} (r : Result A RunFault) (bytes out : List ℕ) → IsP
 listed r bytes out p = record {
   text = p.text;
   rest = p.has.0;
-  tells = p.has.1;
+  prints = p.has.1;
   stands = stands_by r p.text p.text p.last _ out refl p.has.2 p.stands;
 }

@@ -6,11 +6,11 @@ use Rattle.std.specs.List.{flat_map, last_or}
 use Rattle.std.specs.Prelude.{fold}
 use Rattle.dgt_values.specs.declared.pieces.Piece.{Piece}
 use Rattle.dgt_message.specs.Content.Content.{dump, field}
-use Rattle.dgt_decode.specs.Grammar.{Event, Message, Placed, events, open_message}
-use Rattle.dgt_decode.specs.Laws.{PiecesAdd}
+use Rattle.dgt_decode.specs.Grammar.{Event, Message, Placed, events, unfinished_message}
+use Rattle.dgt_decode.specs.Laws.{ChunksAdd}
 use Rattle.dgt_host.specs.Host.{HostView, host_after_event, host_after_events, new_host}
 use Rattle.dgt_lines.specs.Lines.{events_after}
-use Rattle.dgt_lines.specs.Pictures.{LastLineIsPicture, PictureIsTheHosts, PlacedPicture, made_by, picture_after_event, picture_after_events, picture_line, picture_lines, picture_set, picture_told, pictures, pictures_text}
+use Rattle.dgt_lines.specs.Pictures.{LastLineIsPicture, PictureIsTheHosts, PlacedPicture, made_by, picture_after_event, picture_after_events, picture_line, picture_lines, picture_set, picture_reported, pictures, pictures_text}
 
 -- what more events make
 pub made_by-append : {S A : Type 0} (after : S → Event → S) (made : ℕ → Event → S → List A) (before : S)
@@ -30,19 +30,19 @@ picture_lines-append before xs ys =
 
 -- ---- bytes, and a chunk after them
 
-pub pictures_text-append : PiecesAdd → (bytes chunk : List ℕ)
-    → pictures_text (bytes ++ chunk) ≡ pictures_text bytes ++ picture_lines (picture_told bytes)
-    (events_after (open_message bytes) (length bytes) chunk)
-pictures_text-append pieces bytes chunk =
-    ap (picture_lines None) (pieces.behind bytes chunk)
-    ∙ picture_lines-append None (events bytes) (events_after (open_message bytes) (length bytes) chunk)
+pub pictures_text-append : ChunksAdd → (bytes chunk : List ℕ)
+    → pictures_text (bytes ++ chunk) ≡ pictures_text bytes ++ picture_lines (picture_reported bytes)
+    (events_after (unfinished_message bytes) (length bytes) chunk)
+pictures_text-append chunks bytes chunk =
+    ap (picture_lines None) (chunks.behind bytes chunk)
+    ∙ picture_lines-append None (events bytes) (events_after (unfinished_message bytes) (length bytes) chunk)
 
-pub picture_told-append : PiecesAdd → (bytes chunk : List ℕ)
-    → picture_told (bytes ++ chunk) ≡ picture_after_events (picture_told bytes)
-    (events_after (open_message bytes) (length bytes) chunk)
-picture_told-append pieces bytes chunk =
-    ap (picture_after_events None) (pieces.behind bytes chunk)
-    ∙ fold-append _ None (events bytes) (events_after (open_message bytes) (length bytes) chunk)
+pub picture_reported-append : ChunksAdd → (bytes chunk : List ℕ)
+    → picture_reported (bytes ++ chunk) ≡ picture_after_events (picture_reported bytes)
+    (events_after (unfinished_message bytes) (length bytes) chunk)
+picture_reported-append chunks bytes chunk =
+    ap (picture_after_events None) (chunks.behind bytes chunk)
+    ∙ fold-append _ None (events bytes) (events_after (unfinished_message bytes) (length bytes) chunk)
 
 -- ---- the last line
 

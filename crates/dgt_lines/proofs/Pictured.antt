@@ -3,8 +3,8 @@
 use Rattle.std.proofs.Common.{◌≡◌, ◌+◌, List, ℕ, [], ◌++◌, Option, Some, Result, refl, sym, ◌∙◌, ap, subst, append-nil, length, take}
 use Rattle.std.specs.List.{flat_map}
 use Rattle.dgt_decode.specs.Feeding.{FirstEvent, at_place_if_any}
-use Rattle.dgt_decode.specs.Grammar.{Event, events, open_message}
-use Rattle.dgt_decode.specs.Laws.{OpenAppend, PiecesAdd}
+use Rattle.dgt_decode.specs.Grammar.{Event, events, unfinished_message}
+use Rattle.dgt_decode.specs.Laws.{UnfinishedAppend, ChunksAdd}
 use Rattle.dgt_lines.specs.declared.doubts.PictureState.{PictureState}
 use Rattle.dgt_lines.specs.declared.faults.RunFault.{RunFault}
 use Rattle.dgt_lines.specs.Lines.{events_after}
@@ -28,23 +28,23 @@ pub pictured_none : (first : PictureState) → HasPrintedReports first [] first 
 pictured_none first = record { said = sym (text_none first); after = sym (state_none first); held = refl }
 
 module _ {first state : PictureState} {kept bytes text : List ℕ} (h : HasPrintedReports first kept state bytes text)
-    (pieces : PiecesAdd) where
-  module _ (opens : OpenAppend) (piece : List ℕ) (n offset : ℕ) (counted : offset ≡ length bytes) (kept' : List ℕ)
-      (held : open_message kept' ≡ open_message (open_message kept ++ take n piece)) where
+    (chunks : ChunksAdd) where
+  module _ (still : UnfinishedAppend) (chunk : List ℕ) (n offset : ℕ) (counted : offset ≡ length bytes) (kept' : List ℕ)
+      (held : unfinished_message kept' ≡ unfinished_message (unfinished_message kept ++ take n chunk)) where
     -- after a call of `advance`
-    pub pictured_more : (event : Option Event) → FirstEvent (open_message kept) piece n event
+    pub pictured_more : (event : Option Event) → FirstEvent (unfinished_message kept) chunk n event
         → HasPrintedReports first kept' (state_after_events state (at_place_if_any (offset + n) event))
-        (bytes ++ take n piece) (text ++ report_lines state (at_place_if_any (offset + n) event))
+        (bytes ++ take n chunk) (text ++ report_lines state (at_place_if_any (offset + n) event))
     pictured_more event found =
-        let same = events_found kept bytes piece n h.held offset event found counted in
-        let lines = text_from-append pieces first bytes (take n piece) in
-        rw (h.said, h.after, ← same, ← lines, ← state_from-append pieces first bytes (take n piece))
-        (record { said = refl; after = refl; held = held_then kept bytes piece n h.held opens kept' held })
+        let same = events_found kept bytes chunk n h.held offset event found counted in
+        let lines = text_from-append chunks first bytes (take n chunk) in
+        rw (h.said, h.after, ← same, ← lines, ← state_from-append chunks first bytes (take n chunk))
+        (record { said = refl; after = refl; held = held_then kept bytes chunk n h.held still kept' held })
 
     -- one that found an event
-    pub pictured_event : (event : Event) → FirstEvent (open_message kept) piece n (Some event)
+    pub pictured_event : (event : Event) → FirstEvent (unfinished_message kept) chunk n (Some event)
         → (after : PictureState) → after ≡ state_after_event state event
-        → HasPrintedReports first kept' after (bytes ++ take n piece)
+        → HasPrintedReports first kept' after (bytes ++ take n chunk)
         (text ++ flat_map report_line (reports_at (offset + n) event state))
     pictured_event event found after heard =
         rw (heard, ← append-nil (reports_at (offset + n) event state)) (pictured_more (Some event) found)
@@ -53,8 +53,9 @@ module _ {first state : PictureState} {kept bytes text : List ℕ} (h : HasPrint
   pub pictured_on : (more : List ℕ)
       → (others : List ℕ) × (last : List ℕ) × HasReportLines first (bytes ++ more) (text ++ others) last
   pictured_on more =
-      let others = report_lines (state_from first bytes) (events_after (open_message bytes) (length bytes) more) in
-      (others, [], (ap (λ l. l ++ others) h.said ∙ sym (text_from-append pieces first bytes more), refl))
+      let others =
+      report_lines (state_from first bytes) (events_after (unfinished_message bytes) (length bytes) more) in
+      (others, [], (ap (λ l. l ++ others) h.said ∙ sym (text_from-append chunks first bytes more), refl))
 
 pub reported : {A : Type 0} (r : Result A RunFault) (first : PictureState) (bytes out : List ℕ)
     → IsPrinted (HasReportLines first) r bytes out → HasText (text_from first) r bytes out

@@ -58,7 +58,7 @@ module _ {S T : Type 0} {R : Source S} {W : Sink T} (row : InARow W) {HasLines :
       subst (λ f. let r : Result (Unit {0}) RunFault = Err f in Ran R W (change a b') (change c d')
       (InTurns limit r (IsPrinted HasLines r))) (sym w.0) (
         t.bytes,
-        stop.front,
+        stop.prefix,
         subst (Consumes (R.left a) (R.left b')) (append-nil t.bytes) (Consumes-trans _ _ _ t.bytes [] t.given p),
         stop.appends,
         (tt, record { text = h.text; last = last; has = has; stands = (stop.rest, stop.whole) }),
@@ -76,7 +76,7 @@ module _ {S T : Type 0} {R : Source S} {W : Sink T} (row : InARow W) {HasLines :
       subst (λ f. let r : Result (Unit {0}) RunFault = Err f in Ran R W (change a b') (change c d')
       (InTurns limit r (IsPrinted HasLines r))) (sym (k ∙ q.0)) (
         t.bytes ++ chunk,
-        stop.front,
+        stop.prefix,
         Consumes-trans _ _ _ t.bytes chunk t.given p,
         stop.appends,
         (tt, record { text = h.text ++ more; last = last; has = has; stands = (stop.rest, stop.whole) }),

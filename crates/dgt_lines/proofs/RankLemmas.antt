@@ -31,21 +31,21 @@ text_after_piece Empty empty pieces h = absurd (h refl)
 text_after_piece _ empty pieces h = refl
 
 -- a run of empty squares and a piece after it are written
-pub one_more_piece : (rank : List Piece) (i empty : ℕ) (text front : List ℕ) → i < length rank
-    → get_or rank i Empty ≢ Empty → front ≡ text ++ run_text empty
-    → (front ++ piece_letter (get_or rank i Empty) ∷ []) ++ rank_text_after 0
+pub one_more_piece : (rank : List Piece) (i empty : ℕ) (text prefix : List ℕ) → i < length rank
+    → get_or rank i Empty ≢ Empty → prefix ≡ text ++ run_text empty
+    → (prefix ++ piece_letter (get_or rank i Empty) ∷ []) ++ rank_text_after 0
     (drop (i + 1) rank) ≡ text ++ rank_text_after empty (drop i rank)
-one_more_piece rank i empty text front h ne e =
+one_more_piece rank i empty text prefix h ne e =
     rw (e, add-one i, drop-cons rank i Empty h, text_after_piece (get_or rank i Empty) empty (drop (suc i) rank) ne)
     (simp append_assoc)
 
--- what is written of a rank: a front, and the digit of the run of empty squares after it, if there is one
+-- what is written of a rank: a prefix, and the digit of the run of empty squares after it, if there is one
 pub record RankSoFar (written : List ℕ) (was_empty : Bool) (last seen : ℕ) (later : List Piece) (whole : List ℕ) :
     Type 0 where
-  pub front : List ℕ
+  pub prefix : List ℕ
   pub empty : ℕ
-  pub ends : written ≡ front ++ run_text empty
-  pub goes_on : front ++ rank_text_after empty later ≡ whole
+  pub ends : written ≡ prefix ++ run_text empty
+  pub goes_on : prefix ++ rank_text_after empty later ≡ whole
   pub digit : was_empty ≡ true → (0 < empty) × (last ≡ ascii "0" + empty)
   pub no_digit : was_empty ≡ false → empty ≡ 0
   pub few : empty ≤ seen
@@ -64,30 +64,30 @@ module _ (rank : List Piece) (i len last : ℕ) (bytes whole : List ℕ) (inside
       → RankSoFar (take len (slice_set bytes (len - 1) (last + 1))) true (last + 1) (i + 1) (drop (i + 1) rank) whole
   counted before room e =
       let some = before.digit refl in
-      let long : len ≡ length before.front + 1 =
+      let long : len ≡ length before.prefix + 1 =
       omega (
         arith,
         ap length before.ends,
-        length-append before.front (run_text before.empty),
+        length-append before.prefix (run_text before.empty),
         run_short before.empty some.0,
         length-take-le len bytes room,
       ) in
       let next : len - 1 + 1 ≡ len = omega arith in
-      let front : take (len - 1) bytes ≡ before.front =
+      let prefix : take (len - 1) bytes ≡ before.prefix =
       sym (take-take (len - 1) len bytes (omega arith)) ∙ ap (take (len - 1)) before.ends
-      ∙ ap (λ n. take n (before.front ++ run_text before.empty)) (omega arith) ∙ take-append_seam before.front
+      ∙ ap (λ n. take n (before.prefix ++ run_text before.empty)) (omega arith) ∙ take-append_seam before.prefix
       (run_text before.empty) in
       let digit : last + 1 ≡ ascii "0" + (before.empty + 1) = omega (arith, some.1) in
       record {
-        front = before.front;
+        prefix = before.prefix;
         empty = before.empty + 1;
         ends =
             ap (λ n. take n (slice_set bytes (len - 1) (last + 1))) (sym next)
-            ∙ take_more_set bytes (len - 1) (last + 1) (omega arith) ∙ ap (λ l. l ++ (last + 1) ∷ []) front
-            ∙ ap (λ n. before.front ++ n ∷ []) digit
-            ∙ ap (λ l. before.front ++ l) (sym (run_digit (before.empty + 1) (omega arith)));
+            ∙ take_more_set bytes (len - 1) (last + 1) (omega arith) ∙ ap (λ l. l ++ (last + 1) ∷ []) prefix
+            ∙ ap (λ n. before.prefix ++ n ∷ []) digit
+            ∙ ap (λ l. before.prefix ++ l) (sym (run_digit (before.empty + 1) (omega arith)));
         goes_on =
-            ap (λ l. before.front ++ l) (sym (one_more_empty rank i before.empty inside e)) ∙ before.goes_on;
+            ap (λ l. before.prefix ++ l) (sym (one_more_empty rank i before.empty inside e)) ∙ before.goes_on;
         digit = λ _. (omega arith, digit);
         no_digit = λ h. absurd (true≢false h);
         few = omega (arith, before.few);
@@ -99,14 +99,14 @@ module _ (rank : List Piece) (i len last : ℕ) (bytes whole : List ℕ) (inside
       → RankSoFar (take (len + 1) (slice_set bytes len (ascii "1"))) true (ascii "1") (i + 1) (drop (i + 1) rank) whole
   begun before room e =
       let none = before.no_digit refl in
-      let front : take len bytes ≡ before.front =
-      before.ends ∙ ap (λ n. before.front ++ run_text n) none ∙ append-nil before.front in
+      let prefix : take len bytes ≡ before.prefix =
+      before.ends ∙ ap (λ n. before.prefix ++ run_text n) none ∙ append-nil before.prefix in
       record {
-        front = before.front;
+        prefix = before.prefix;
         empty = 1;
-        ends = take_more_set bytes len (ascii "1") room ∙ ap (λ l. l ++ ascii "1" ∷ []) front;
+        ends = take_more_set bytes len (ascii "1") room ∙ ap (λ l. l ++ ascii "1" ∷ []) prefix;
         goes_on =
-            ap (λ l. before.front ++ l)
+            ap (λ l. before.prefix ++ l)
             (sym (one_more_empty rank i 0 inside e) ∙ ap (λ n. rank_text_after n (drop i rank)) (sym none))
             ∙ before.goes_on;
         digit = λ _. (omega arith, refl);
@@ -120,12 +120,12 @@ module _ (rank : List Piece) (i len last : ℕ) (bytes whole : List ℕ) (inside
       → RankSoFar (take (len + 1) (slice_set bytes len letter)) false letter (i + 1) (drop (i + 1) rank) whole
   lettered was_empty letter before room ne e =
       record {
-        front = take len bytes ++ letter ∷ [];
+        prefix = take len bytes ++ letter ∷ [];
         empty = 0;
         ends = take_more_set bytes len letter room ∙ sym (append-nil (take len bytes ++ letter ∷ []));
         goes_on =
             ap (λ n. (take len bytes ++ n ∷ []) ++ rank_text_after 0 (drop (i + 1) rank)) e
-            ∙ one_more_piece rank i before.empty before.front (take len bytes) inside ne before.ends
+            ∙ one_more_piece rank i before.empty before.prefix (take len bytes) inside ne before.ends
             ∙ before.goes_on;
         digit = λ h. absurd (true≢false (sym h));
         no_digit = λ _. refl;
@@ -179,7 +179,7 @@ module _ (rank : List Piece) (i len last : ℕ) (bytes whole : List ℕ) (inside
 -- nothing is written of a rank
 pub so_far_none : (rank : List Piece) → RankSoFar [] false 0 0 rank (rank_text_after 0 rank)
 so_far_none rank = record {
-  front = [];
+  prefix = [];
   empty = 0;
   ends = refl;
   goes_on = refl;
@@ -192,7 +192,7 @@ so_far_none rank = record {
 pub so_far_all : (written : List ℕ) (was_empty : Bool) (last seen : ℕ) (later : List Piece) (whole : List ℕ)
     → later ≡ [] → RankSoFar written was_empty last seen later whole → written ≡ whole
 so_far_all written was_empty last seen later whole e all =
-    all.ends ∙ ap (λ l. all.front ++ rank_text_after all.empty l) (sym e) ∙ all.goes_on
+    all.ends ∙ ap (λ l. all.prefix ++ rank_text_after all.empty l) (sym e) ∙ all.goes_on
 
 -- ---- a square is set
 

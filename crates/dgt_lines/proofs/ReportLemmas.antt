@@ -4,9 +4,9 @@ use Rattle.std.proofs.lemmas.Grind.{flat_map-append, fold-append}
 use Rattle.std.specs.List.{flat_map}
 use Rattle.std.specs.Prelude.{bytes_eq, if◌then◌else◌, true, false}
 use Rattle.dgt_values.specs.declared.pieces.Piece.{Piece}
-use Rattle.dgt_decode.specs.Grammar.{Event, Placed, events, open_message}
+use Rattle.dgt_decode.specs.Grammar.{Event, Placed, events, unfinished_message}
 use Rattle.dgt_decode.specs.Feeding.{event_content}
-use Rattle.dgt_decode.specs.Laws.{PiecesAdd}
+use Rattle.dgt_decode.specs.Laws.{ChunksAdd}
 use Rattle.dgt_decode.specs.declared.event.Event as code
 use Rattle.dgt_decode.specs.declared.event.Event.TheVariants as code_events
 use Rattle.dgt_message.specs.declared.message.Message as code_message
@@ -47,19 +47,19 @@ report_lines-append before xs ys =
 
 -- ---- bytes, and a chunk after them
 
-pub text_from-append : PiecesAdd → (before : PictureState) (bytes chunk : List ℕ)
+pub text_from-append : ChunksAdd → (before : PictureState) (bytes chunk : List ℕ)
     → text_from before (bytes ++ chunk) ≡ text_from before bytes ++ report_lines (state_from before bytes)
-    (events_after (open_message bytes) (length bytes) chunk)
-text_from-append pieces before bytes chunk =
-    ap (report_lines before) (pieces.behind bytes chunk)
-    ∙ report_lines-append before (events bytes) (events_after (open_message bytes) (length bytes) chunk)
+    (events_after (unfinished_message bytes) (length bytes) chunk)
+text_from-append chunks before bytes chunk =
+    ap (report_lines before) (chunks.behind bytes chunk)
+    ∙ report_lines-append before (events bytes) (events_after (unfinished_message bytes) (length bytes) chunk)
 
-pub state_from-append : PiecesAdd → (before : PictureState) (bytes chunk : List ℕ)
+pub state_from-append : ChunksAdd → (before : PictureState) (bytes chunk : List ℕ)
     → state_from before (bytes ++ chunk) ≡ state_after_events (state_from before bytes)
-    (events_after (open_message bytes) (length bytes) chunk)
-state_from-append pieces before bytes chunk =
-    ap (state_after_events before) (pieces.behind bytes chunk)
-    ∙ fold-append _ before (events bytes) (events_after (open_message bytes) (length bytes) chunk)
+    (events_after (unfinished_message bytes) (length bytes) chunk)
+state_from-append chunks before bytes chunk =
+    ap (state_after_events before) (chunks.behind bytes chunk)
+    ∙ fold-append _ before (events bytes) (events_after (unfinished_message bytes) (length bytes) chunk)
 
 -- an event that is no message is a fault
 pub no_message : (e : code.Event) (event : Event)

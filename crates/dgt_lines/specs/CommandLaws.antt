@@ -2,29 +2,29 @@
 use Prim.Native.Char.{code as ascii}
 use Rattle.std.specs.Prelude.{◌≡◌, ℕ, ◌+◌, ◌-◌, List, ◌++◌, length}
 use Rattle.dgt_values.specs.Segment.{IsShownBy}
-use Rattle.dgt_command.specs.Spelling.{AreBytes}
-use Rattle.dgt_lines.specs.CommandLines.{Tells}
+use Rattle.dgt_command.specs.Encoding.{AreBytes}
+use Rattle.dgt_lines.specs.CommandLines.{Prints}
 use Rattle.dgt_lines.specs.CommandWords.{shown_character}
 
 -- bytes that come after this number of others have some text
-abbrev pub EachIsTold : Type 0
-EachIsTold =
+abbrev pub EachIsPrinted : Type 0
+EachIsPrinted =
     (offset : ℕ) (bytes : List ℕ) → AreBytes bytes →
-    (rest : List ℕ) × (text : List ℕ) × Tells offset bytes rest text
+    (rest : List ℕ) × (text : List ℕ) × Prints offset bytes rest text
 
 -- and only one
-abbrev pub EachIsToldOnce : Type 0
-EachIsToldOnce =
+abbrev pub EachIsPrintedOnce : Type 0
+EachIsPrintedOnce =
     (offset : ℕ) (bytes rest other text also : List ℕ) →
-    Tells offset bytes rest text → Tells offset bytes other also → (rest ≡ other) × (text ≡ also)
+    Prints offset bytes rest text → Prints offset bytes other also → (rest ≡ other) × (text ≡ also)
 
 -- bytes that follow others are read from the rest on that those left
 abbrev pub TextsAppend : Type 0
 TextsAppend =
     (offset : ℕ) (bytes more rest last text others : List ℕ) →
-    Tells offset bytes rest text →
-    Tells (offset + (length bytes - length rest)) (rest ++ more) last others →
-    Tells offset (bytes ++ more) last (text ++ others)
+    Prints offset bytes rest text →
+    Prints (offset + (length bytes - length rest)) (rest ++ more) last others →
+    Prints offset (bytes ++ more) last (text ++ others)
 
 -- the segments that show a character are shown as that character
 abbrev pub EachCharacterIsShown : Type 0

@@ -17,7 +17,7 @@ word_lines offset (word ∷ words) =
     ++ word_lines (offset + length word.bytes) words
 
 -- bytes that come after this number of others have this text, and leave this rest of a word
-pub record Tells (offset : ℕ) (bytes rest text : List ℕ) : Type 0 where
+pub record Prints (offset : ℕ) (bytes rest text : List ℕ) : Type 0 where
   pub words : List Word
   pub are_words : AreWords bytes words rest
   pub said : text ≡ word_lines offset words

@@ -2,7 +2,7 @@
 use Rattle.std.specs.Prelude.{ℕ, List, ◌++◌, length, Result}
 use Rattle.dgt_lines.specs.declared.faults.RunFault.{RunFault}
 use Rattle.dgt_lines.specs.Lines.{unfinished_line}
-use Rattle.dgt_lines.specs.CommandLines.{Tells}
+use Rattle.dgt_lines.specs.CommandLines.{Prints}
 use Rattle.dgt_lines.specs.Monitoring.{IsInSink}
 
 -- what stands in the sink for the bytes that were read, if `commands` gave this answer: they
@@ -10,5 +10,5 @@ use Rattle.dgt_lines.specs.Monitoring.{IsInSink}
 pub record IsListed {A : Type 0} (r : Result A RunFault) (bytes out : List ℕ) : Type 0 where
   pub text : List ℕ
   pub rest : List ℕ
-  pub tells : Tells 0 bytes rest text
+  pub prints : Prints 0 bytes rest text
   pub stands : IsInSink r text (text ++ unfinished_line (length bytes) rest) out

@@ -11,8 +11,8 @@ use Rattle.dgt_message.specs.Code.{known_with}
 use Rattle.dgt_message.specs.Content.{Content}
 use Rattle.dgt_message.specs.Content.Content.{dump, field, times, no_clock, ack, serial, version, carried}
 use Rattle.dgt_message.specs.Clock.{Time}
-use Rattle.dgt_decode.specs.Grammar.{Event, Message, Refused, Cut, BadLength, Stray, Placed, events, events_behind, open_message}
-use Rattle.dgt_decode.specs.Feeding.{piece_events}
+use Rattle.dgt_decode.specs.Grammar.{Event, Message, Refused, Cut, BadLength, Stray, Placed, events, events_behind, unfinished_message}
+use Rattle.dgt_decode.specs.Feeding.{chunk_events}
 
 -- ---- Numbers and bytes
 
@@ -108,7 +108,7 @@ lines bytes = flat_map placed_line (events bytes)
 
 -- the events of a chunk that comes after this many bytes, of which these are an unfinished message
 abbrev pub events_after : List ℕ → ℕ → List ℕ → List Placed
-events_after held offset chunk = events_behind offset (piece_events held chunk)
+events_after held offset chunk = events_behind offset (chunk_events held chunk)
 
 -- and their lines
 abbrev pub lines_after : List ℕ → ℕ → List ℕ → List ℕ
@@ -121,4 +121,4 @@ unfinished_line offset (byte ∷ bytes) = line offset (unfinished_text (length (
 
 -- a line for each event, and a last one for a message that is unfinished at the end
 abbrev pub monitor_text : List ℕ → List ℕ
-monitor_text bytes = lines bytes ++ unfinished_line (length bytes) (open_message bytes)
+monitor_text bytes = lines bytes ++ unfinished_line (length bytes) (unfinished_message bytes)

@@ -4,9 +4,9 @@ use Rattle.dgt_lines.specs.declared.faults.RunFault.{RunFault}
 use Rattle.dgt_lines.specs.declared.faults.RunFault.TheVariants.{ReadFailed, WriteFailed, TooManyTurns, BadLine}
 use Rattle.dgt_lines.specs.Lines.{lines, monitor_text}
 
--- the first list is a front of the second
-abbrev pub IsFront : List ℕ → List ℕ → Type 0
-IsFront front whole = (rest : List ℕ) × (whole ≡ front ++ rest)
+-- the first list is a prefix of the second
+abbrev pub IsPrefix : List ℕ → List ℕ → Type 0
+IsPrefix prefix whole = (rest : List ℕ) × (whole ≡ prefix ++ rest)
 
 -- what stands in the sink, if an engine gave this answer: the bytes that were read have this
 -- text, and it is the whole one if they end there
@@ -14,7 +14,7 @@ abbrev pub IsInSink : {A : Type 0} → Result A RunFault → List ℕ → List �
 IsInSink (Ok _) text whole out = out ≡ whole
 IsInSink (Err ReadFailed) text whole out = out ≡ text
 IsInSink (Err TooManyTurns) text whole out = out ≡ text
-IsInSink (Err WriteFailed) text whole out = IsFront out whole
+IsInSink (Err WriteFailed) text whole out = IsPrefix out whole
 IsInSink (Err (BadLine _ _)) text whole out = ⊥
 
 -- and for the bytes that were read, if `monitor` gave it

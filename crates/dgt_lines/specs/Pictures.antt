@@ -21,8 +21,8 @@ picture_after_events picture placed =
     fold (λ before x. picture_after_event before x.event) picture placed
 
 -- the picture after all events of these bytes, if nothing was known before
-abbrev pub picture_told : List ℕ → Option (List Piece)
-picture_told bytes = picture_after_events None (events bytes)
+abbrev pub picture_reported : List ℕ → Option (List Piece)
+picture_reported bytes = picture_after_events None (events bytes)
 
 -- ---- What sets it
 
@@ -77,8 +77,8 @@ pictures_text bytes = picture_lines None (events bytes)
 abbrev pub LastLineIsPicture : Type 0
 LastLineIsPicture =
     (bytes : List ℕ) → last_or None (map (λ x. x.pieces) (pictures None (events bytes)))
-    ≡ picture_told bytes
+    ≡ picture_reported bytes
 
 -- the picture is that of a host that hears the same bytes
 abbrev pub PictureIsTheHosts : Type 0
-PictureIsTheHosts = (bytes : List ℕ) → (host_after new_host bytes).picture ≡ picture_told bytes
+PictureIsTheHosts = (bytes : List ℕ) → (host_after new_host bytes).picture ≡ picture_reported bytes

@@ -1,6 +1,6 @@
 -- What an engine prints of the bytes that it reads.
 use Rattle.std.specs.Prelude.{◌≡◌, ℕ, false, List, [], ◌++◌, length, take, Result, IfOk, OnErr, OnOk}
-use Rattle.dgt_decode.specs.Grammar.{open_message}
+use Rattle.dgt_decode.specs.Grammar.{unfinished_message}
 use Rattle.dgt_lines.specs.declared.doubts.PictureState.{PictureState}
 use Rattle.dgt_lines.specs.declared.streams.Sink.{Ghosts as Sink}
 use Rattle.dgt_lines.specs.declared.faults.RunFault.{RunFault}
@@ -8,7 +8,7 @@ use Rattle.dgt_lines.specs.Lines.{lines, unfinished_line}
 use Rattle.dgt_lines.specs.Reports.{state_from, text_from}
 use Rattle.dgt_lines.specs.Marks.{Waits}
 use Rattle.dgt_lines.specs.Writing.{Gathers, Writes}
-use Rattle.dgt_lines.specs.CommandLines.{Tells}
+use Rattle.dgt_lines.specs.CommandLines.{Prints}
 use Rattle.dgt_lines.specs.Monitoring.{IsInSink}
 
 -- what stands in the sink, if the bytes that were read have these lines, and a last one for what
@@ -38,10 +38,10 @@ pub record GathersMore {S A : Type 0} (W : Sink S) (held : List ℕ × List ℕ)
   pub has : HasPrinted bytes (text ++ more)
   pub waits : OnOk r (Waits (held.0 ++ more) (W.flushed old) → Waits held.1 (W.flushed new))
 
--- the same of a front of `rest` after these bytes: the call answers how long it is
-abbrev pub GathersFront : {S : Type 0} → Sink S → List ℕ × List ℕ → S → S → Result ℕ RunFault
+-- the same of a prefix of `rest` after these bytes: the call answers how long it is
+abbrev pub GathersPrefix : {S : Type 0} → Sink S → List ℕ × List ℕ → S → S → Result ℕ RunFault
     → (List ℕ → List ℕ → Type 0) → List ℕ → List ℕ → List ℕ → Type 0
-GathersFront W held old new r HasPrinted bytes rest text =
+GathersPrefix W held old new r HasPrinted bytes rest text =
     (used : ℕ) × IfOk r (λ n. n ≡ used)
     × GathersMore W held old new r HasPrinted (bytes ++ take used rest) text
 
@@ -60,12 +60,12 @@ pub record PrintsMore {S A : Type 0} (W : Sink S) (old new : S) (r : Result A Ru
 
 abbrev pub HasEventLines : List ℕ → List ℕ → List ℕ → Type 0
 HasEventLines bytes text last =
-    (text ≡ lines bytes) × (last ≡ unfinished_line (length bytes) (open_message bytes))
+    (text ≡ lines bytes) × (last ≡ unfinished_line (length bytes) (unfinished_message bytes))
 
 -- and a framer that keeps `kept` holds what is unfinished
 pub record HasPrintedEvents (kept bytes text : List ℕ) : Type 0 where
   pub said : text ≡ lines bytes
-  pub held : open_message kept ≡ open_message bytes
+  pub held : unfinished_message kept ≡ unfinished_message bytes
 
 -- ---- The lines that show the board, from this state on
 
@@ -77,10 +77,10 @@ pub record HasPrintedReports (first : PictureState) (kept : List ℕ) (state : P
     (bytes text : List ℕ) : Type 0 where
   pub said : text ≡ text_from first bytes
   pub after : state ≡ state_from first bytes
-  pub held : open_message kept ≡ open_message bytes
+  pub held : unfinished_message kept ≡ unfinished_message bytes
 
 -- ---- The lines of what a host sends
 
 abbrev pub HasCommandLines : List ℕ → List ℕ → List ℕ → Type 0
 HasCommandLines bytes text last =
-    (rest : List ℕ) × Tells 0 bytes rest text × (last ≡ unfinished_line (length bytes) rest)
+    (rest : List ℕ) × Prints 0 bytes rest text × (last ≡ unfinished_line (length bytes) rest)

@@ -13,10 +13,10 @@ pub record Wrote {S : Type 0} (W : Sink S) (old new : S) (text : List ℕ) : Typ
 
 -- the sink took a prefix of the text, and then refused; no call came after that
 pub record Stopped {S : Type 0} (W : Sink S) (old new : S) (text : List ℕ) : Type 0 where
-  pub front : List ℕ
+  pub prefix : List ℕ
   pub rest : List ℕ
-  pub whole : text ≡ front ++ rest
-  pub appends : Appends (W.written old) (W.written new) front
+  pub whole : text ≡ prefix ++ rest
+  pub appends : Appends (W.written old) (W.written new) prefix
   pub refused : W.failed new ≡ true
   pub in_time : W.failed old ≡ false → W.late new ≡ W.late old
 

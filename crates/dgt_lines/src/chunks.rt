@@ -1,7 +1,7 @@
 //! The lines of what a board sends, chunk after chunk.
 
 ghost use Rattle.std.specs.Prelude.{length, refl};
-ghost use Rattle.dgt_decode.specs.Grammar.{open_message};
+ghost use Rattle.dgt_decode.specs.Grammar.{unfinished_message};
 ghost use Rattle.dgt_lines.specs.Lines.{unfinished_line};
 ghost use Rattle.dgt_lines.specs.Printing.{HasEventLines, HasPrintedEvents};
 
@@ -22,7 +22,7 @@ impl Printer<LINES_ROOM> for Framer {
     ghost has_printed = { λ first kept bytes text. HasPrintedEvents kept bytes text };
 
     ghost are_lines = { λ first kept bytes text printed.
-        (unfinished_line (length bytes) (open_message bytes), (printed.said, refl)) };
+        (unfinished_line (length bytes) (unfinished_message bytes), (printed.said, refl)) };
 
     fn gather<W: Sink>(
         &mut self,
@@ -31,8 +31,8 @@ impl Printer<LINES_ROOM> for Framer {
         rest: &[u8],
         writer: &mut W,
     ) -> Result<usize, RunFault> {
-        laws::pieces_in_a_row();
-        laws::open_append();
+        laws::chunks_in_a_row();
+        laws::unfinished_append();
         let advanced = self.advance(rest);
         if let Some(found) = &advanced.found {
             let end = offset + advanced.used as u64;
@@ -42,10 +42,10 @@ impl Printer<LINES_ROOM> for Framer {
     }
 
     fn print_end<W: Sink>(&self, offset: u64, writer: &mut W) -> Result<(), RunFault> {
-        write_end(writer, offset, self.open_len())
+        write_end(writer, offset, self.unfinished_len())
     }
 
     fn lines_go_on() {
-        laws::pieces_in_a_row();
+        laws::chunks_in_a_row();
     }
 }

@@ -2,7 +2,7 @@
 
 ghost use Rattle.std.specs.Prelude.{length, refl};
 ghost use Rattle.dgt_command.specs.Framing.{rest_of};
-ghost use Rattle.dgt_lines.specs.CommandLines.{Tells};
+ghost use Rattle.dgt_lines.specs.CommandLines.{Prints};
 ghost use Rattle.dgt_lines.specs.Lines.{unfinished_line};
 ghost use Rattle.dgt_lines.specs.Printing.{HasCommandLines};
 
@@ -22,7 +22,7 @@ pub const COMMANDS_ROOM: usize = 32768;
 impl Printer<COMMANDS_ROOM> for WordFramer {
     ghost has_lines = { λ first. HasCommandLines };
 
-    ghost has_printed = { λ first kept bytes text. Tells 0 bytes (rest_of kept) text };
+    ghost has_printed = { λ first kept bytes text. Prints 0 bytes (rest_of kept) text };
 
     ghost are_lines = { λ first kept bytes text printed.
         (unfinished_line (length bytes) (rest_of kept), (rest_of kept, printed, refl)) };

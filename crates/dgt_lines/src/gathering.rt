@@ -44,7 +44,7 @@ pub(crate) const LINE_ROOM: usize = 128;
 /// Bytes on their way to a sink, at most `ROOM` of them. Contracts see those that were not written
 /// yet.
 ///
-/// An array of its own, since [`push_front`](Outgoing::push_front) writes after what is kept.
+/// An array of its own, since [`push_prefix`](Outgoing::push_front) writes after what is kept.
 #[derive(Drop)]
 pub struct Outgoing<const ROOM: usize> {
     bytes: [u8; ROOM],
@@ -161,7 +161,7 @@ impl<const ROOM: usize> Outgoing<ROOM> {
 
     /// Adds the first `len` of sixteen bytes. All of them are copied, and passed by value, which is
     /// faster than fewer.
-    pub(crate) fn push_front(&mut self, bytes: [u8; 16], len: usize)
+    pub(crate) fn push_prefix(&mut self, bytes: [u8; 16], len: usize)
         requires room { length self.old + 16 ≤ ROOM }
         requires within { len ≤ 16 }
         ensures bytes { self.new ≡ self.old ++ take len bytes }

@@ -3,10 +3,10 @@
 
 ghost use Rattle.std.specs.Prelude.{◌≡◌, ◌++◌, ℕ, List, length};
 ghost use Rattle.dgt_values.specs.Equality.{CloneIsSame, EqualIsSame};
-ghost use Rattle.dgt_decode.specs.Grammar.{open_message};
-ghost use Rattle.dgt_lines.specs.CommandLaws.{EachCharacterIsShown, EachIsTold, EachIsToldOnce, OthersAreQuestionMarks, TextsAppend};
+ghost use Rattle.dgt_decode.specs.Grammar.{unfinished_message};
+ghost use Rattle.dgt_lines.specs.CommandLaws.{EachCharacterIsShown, EachIsPrinted, EachIsPrintedOnce, OthersAreQuestionMarks, TextsAppend};
 ghost use Rattle.dgt_lines.specs.Lines.{events_after, lines, lines_after};
-ghost use Rattle.dgt_lines.specs.Pictures.{LastLineIsPicture, PictureIsTheHosts, picture_after_events, picture_lines, picture_told, pictures_text};
+ghost use Rattle.dgt_lines.specs.Pictures.{LastLineIsPicture, PictureIsTheHosts, picture_after_events, picture_lines, picture_reported, pictures_text};
 ghost use Rattle.dgt_lines.specs.Reports.{ClockLeavesReports, DoubtsKeepThePicture, DoubtsLeavePictures, FirstFaultsAreReported, HiddenClockIsSilent, IgnoredFaultsAreSilent, LastClockIsTheHosts, OtherClocksAreReported, report_lines, state_after_events, state_from, text_from};
 ghost use Rattle.dgt_lines.specs.Writing.{InARow};
 ghost use Rattle.dgt_lines.specs.declared.doubts.PictureState.{PictureState};
@@ -46,15 +46,15 @@ pub fn writes_in_a_row<W: Sink>()
 /// The lines of bytes in a row are those of the first ones, and then those of the chunk after them.
 pub fn lines_append()
     ensures { (bytes chunk : List ℕ) → lines (bytes ++ chunk)
-        ≡ lines bytes ++ lines_after (open_message bytes) (length bytes) chunk }
+        ≡ lines bytes ++ lines_after (unfinished_message bytes) (length bytes) chunk }
 {
-    laws::pieces_in_a_row();
+    laws::chunks_in_a_row();
 }
 
 /// Bytes that come after others have one text of commands and one rest of a command, and no second.
 pub fn one_text()
-    ensures told { EachIsTold }
-    ensures once { EachIsToldOnce }
+    ensures printed { EachIsPrinted }
+    ensures once { EachIsPrintedOnce }
 {
     dgt_command::laws::words_of_bytes();
 }
@@ -76,13 +76,13 @@ pub fn segments_are_read_back()
 /// the chunk after them, and so it is with the picture.
 pub fn pictures_append()
     ensures lines { (bytes chunk : List ℕ) → pictures_text (bytes ++ chunk)
-        ≡ pictures_text bytes ++ picture_lines (picture_told bytes)
-        (events_after (open_message bytes) (length bytes) chunk) }
-    ensures picture { (bytes chunk : List ℕ) → picture_told (bytes ++ chunk)
-        ≡ picture_after_events (picture_told bytes)
-        (events_after (open_message bytes) (length bytes) chunk) }
+        ≡ pictures_text bytes ++ picture_lines (picture_reported bytes)
+        (events_after (unfinished_message bytes) (length bytes) chunk) }
+    ensures picture { (bytes chunk : List ℕ) → picture_reported (bytes ++ chunk)
+        ≡ picture_after_events (picture_reported bytes)
+        (events_after (unfinished_message bytes) (length bytes) chunk) }
 {
-    laws::pieces_in_a_row();
+    laws::chunks_in_a_row();
 }
 
 /// The last line that shows the board has the placement of the picture after all messages. Where
@@ -97,13 +97,13 @@ pub fn reports_append()
     ensures lines { (before : PictureState) (bytes chunk : List ℕ) →
         text_from before (bytes ++ chunk)
         ≡ text_from before bytes ++ report_lines (state_from before bytes)
-        (events_after (open_message bytes) (length bytes) chunk) }
+        (events_after (unfinished_message bytes) (length bytes) chunk) }
     ensures state { (before : PictureState) (bytes chunk : List ℕ) →
         state_from before (bytes ++ chunk)
         ≡ state_after_events (state_from before bytes)
-        (events_after (open_message bytes) (length bytes) chunk) }
+        (events_after (unfinished_message bytes) (length bytes) chunk) }
 {
-    laws::pieces_in_a_row();
+    laws::chunks_in_a_row();
 }
 
 /// The lines that show the board are the same, whether doubts are reported or not, and so is the

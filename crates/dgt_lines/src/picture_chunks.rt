@@ -186,8 +186,8 @@ impl Printer<PICTURES_ROOM> for Pictures {
         rest: &[u8],
         writer: &mut W,
     ) -> Result<usize, RunFault> {
-        laws::pieces_in_a_row();
-        laws::open_append();
+        laws::chunks_in_a_row();
+        laws::unfinished_append();
         let (framer, state) = (&mut self.framer, &mut self.state);
         let advanced = framer.advance(rest);
         if let Some(found) = &advanced.found {
@@ -203,6 +203,6 @@ impl Printer<PICTURES_ROOM> for Pictures {
     }
 
     fn lines_go_on() {
-        laws::pieces_in_a_row();
+        laws::chunks_in_a_row();
     }
 }

@@ -136,10 +136,10 @@ impl Picture {
         ensures { text.new ≡ text.old ++ (placement_text self.now ++ codes "\n") }
     {
         for rank in &self.ranks[..7] {
-            text.push_front(rank.bytes, rank.len + 1);
+            text.push_prefix(rank.bytes, rank.len + 1);
         }
         let last = &self.ranks[7];
-        text.push_front(last.bytes, last.len);
+        text.push_prefix(last.bytes, last.len);
         text.push(b"\n");
     }
 }

@@ -2,9 +2,9 @@
 //! chunks.
 
 ghost use Rattle.std.specs.Prelude.{◌≡◌, ◌+◌, ◌^◌, ◌<◌, ◌≤◌, ◌++◌, [], ℕ, List, false, length, IsTrue, IfOk, OnErr, OnOk};
-ghost use Rattle.dgt_command.specs.Spelling.{AreBytes};
+ghost use Rattle.dgt_command.specs.Encoding.{AreBytes};
 ghost use Rattle.dgt_lines.specs.Writing.{Writes};
-ghost use Rattle.dgt_lines.specs.Printing.{GathersFront, IsPrinted, PrintsMore};
+ghost use Rattle.dgt_lines.specs.Printing.{GathersPrefix, IsPrinted, PrintsMore};
 ghost use Rattle.dgt_lines.specs.Turns.{change, InTurns, Ran, RunsInTurns};
 
 use crate::faults::RunFault;
@@ -40,7 +40,7 @@ pub(crate) trait Printer<const ROOM: usize> {
         ensures progress { IfOk result (λ used. 0 < length rest.now → 0 < used) }
         ensures output { (first : Self) (bytes text : List ℕ) →
             has_printed first self.old bytes text → offset ≡ length bytes →
-            GathersFront W.Sink (outgoing.old, outgoing.new) writer.old writer.new result
+            GathersPrefix W.Sink (outgoing.old, outgoing.new) writer.old writer.new result
             (has_printed first self.new) bytes rest.now text }
         ensures dropped { OnErr result (outgoing.new ≡ []) }
         ensures no_flush { W.flushed writer.old ≡ false → W.flushed writer.new ≡ false };

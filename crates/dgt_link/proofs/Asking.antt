@@ -25,8 +25,8 @@ requests-hears (suc count) = requests-hears count
 
 requests-sending : (move : Move) → IsSending move → flat_map requests (move ∷ []) ≡ []
 requests-sending Move.Reply sending = refl
-requests-sending (Move.Tell square) sending = refl
-requests-sending Move.TellClock sending = refl
+requests-sending (Move.Report square) sending = refl
+requests-sending Move.ReportClock sending = refl
 requests-sending _ none = absurd none
 
 requests-act : (act : ActContent) (moves : List Move) → AreMovesOfAct act moves
@@ -95,12 +95,12 @@ host_break_moves x _ moves e are = cc
 
 -- ---- an act but a break comes to other moves than that, and so does one but a host break
 
-sending_is_none : (P : Move → Type 0) → P Move.Reply → ((square : ℕ) → P (Move.Tell square)) → P Move.TellClock
+sending_is_none : (P : Move → Type 0) → P Move.Reply → ((square : ℕ) → P (Move.Report square)) → P Move.ReportClock
     → (move : Move) → IsSending move → P move
-sending_is_none P reply tell clock Move.Reply sending = reply
-sending_is_none P reply tell clock (Move.Tell square) sending = tell square
-sending_is_none P reply tell clock Move.TellClock sending = clock
-sending_is_none P reply tell clock _ none = absurd none
+sending_is_none P reply report clock Move.Reply sending = reply
+sending_is_none P reply report clock (Move.Report square) sending = report square
+sending_is_none P reply report clock Move.ReportClock sending = clock
+sending_is_none P reply report clock _ none = absurd none
 
 pub act_is_no_break : (act : ActContent) (moves : List Move) → act ≢ ActContent.Break → AreMovesOfAct act moves
     → AllByRecursion (λ move. move ≢ Move.Break) moves

@@ -7,7 +7,7 @@ use Rattle.dgt_board.specs.State.{BoardState, effects}
 
 -- it falls by each message
 abbrev pub BacklogFalls : Type 0
-BacklogFalls = (board : BoardState) (message : Content) → length board.told_squares ≡ 64
+BacklogFalls = (board : BoardState) (message : Content) → length board.reported_squares ≡ 64
     → next_message board ≡ Some message → backlog (after_sending board message) < backlog board
 
 -- and rises by one for each event at most

@@ -8,11 +8,11 @@ use Rattle.dgt_values.specs.declared.pieces.Piece.{Piece}
 use Rattle.dgt_values.specs.declared.kinds.Kind.{Kind}
 use Rattle.dgt_message.specs.Content.{Content, IsMessage, answered_kind}
 use Rattle.dgt_message.specs.Clock.{ClockState}
-use Rattle.dgt_message.specs.Spelling.{spelling}
+use Rattle.dgt_message.specs.Encoding.{encoding}
 use Rattle.dgt_command.specs.Content.{CommandContent, requested_kind}
 use Rattle.dgt_board.specs.State.{BoardState, after_change, after_hand_clock}
 use Rattle.dgt_board.specs.Sending.{after_sending, next_message}
-use Rattle.dgt_decode.specs.Grammar.{Event, Message, Placed, cut_of, events, events_behind, open_message}
+use Rattle.dgt_decode.specs.Grammar.{Event, Message, Placed, cut_of, events, events_behind, unfinished_message}
 use Rattle.dgt_decode.specs.Laws.{BeginsAnew}
 use Rattle.dgt_host.specs.Host.{HostView, awaited_after, clock_after, host_after, host_after_event, host_after_events, host_after_message, picture_after}
 use Rattle.dgt_link.specs.Faults.{is_break}
@@ -24,14 +24,14 @@ use Rattle.dgt_link.specs.Step.{Becomes, Step}
 use Rattle.dgt_link.specs.View.{WorldView, without_first}
 use Rattle.dgt_link.specs.Healing.{AwaitsWhatComes, StandsBehind, StandsBehindAfter}
 use Rattle.dgt_link.proofs.Dividing.{divides_command}
-use Rattle.dgt_link.proofs.Hearing.{heard_front, host_after_messages}
-use Rattle.dgt_link.proofs.Lists.{IsShorter, Reaches, all_append, fronts, not_empty}
+use Rattle.dgt_link.proofs.Hearing.{heard_prefix, host_after_messages}
+use Rattle.dgt_link.proofs.Lists.{IsShorter, Reaches, all_append, prefixes, not_empty}
 use Rattle.dgt_link.proofs.AfterMoves.{moves_sound}
 use Rattle.dgt_link.proofs.Sending.{next_is_sent}
 use Rattle.dgt_link.proofs.Soundness.{ask-kinds, asked_sound, move_sound}
 use Rattle.dgt_link.proofs.Subsequences.{awaited_after-subsequence, subsequence_append, subsequence_later}
 use Rattle.dgt_link.specs.Readers.{Grammars}
-use Rattle.dgt_link.proofs.Standing.{front_of, hears, taken_state, takes, with_host, taken_as}
+use Rattle.dgt_link.proofs.Standing.{prefix_of, hears, taken_state, takes, with_host, taken_as}
 
 -- ---- what a host knows that began with less
 
@@ -86,11 +86,11 @@ event_awaits : (host : HostView) (event : Event) (kinds : List Kind) → IsSubse
 event_awaits host (Message said) kinds h = awaited_after_stays host.awaited (answered_kind said) kinds h
 event_awaits host _ kinds h = h
 
-events_await : (host : HostView) (told : List Placed) (kinds : List Kind) → IsSubsequence host.awaited kinds
-    → IsSubsequence (host_after_events host told).awaited kinds
+events_await : (host : HostView) (reported : List Placed) (kinds : List Kind) → IsSubsequence host.awaited kinds
+    → IsSubsequence (host_after_events host reported).awaited kinds
 events_await host [] kinds h = h
-events_await host (x ∷ told) kinds h =
-    events_await (host_after_event host x.event) told kinds (event_awaits host x.event kinds h)
+events_await host (x ∷ reported) kinds h =
+    events_await (host_after_event host x.event) reported kinds (event_awaits host x.event kinds h)
 
 -- what is awaited after messages doesn't depend on what else is known
 same_awaited : (host other : HostView) (messages : List Content) → host.awaited ≡ other.awaited
@@ -106,22 +106,22 @@ awaiting x awaited = record x { awaited = awaited }
 
 -- ---- garbage, and what begins after it
 
-events_in_a_row : (host : HostView) (told more : List Placed)
-    → host_after_events host (told ++ more) ≡ host_after_events (host_after_events host told) more
+events_in_a_row : (host : HostView) (reported more : List Placed)
+    → host_after_events host (reported ++ more) ≡ host_after_events (host_after_events host reported) more
 events_in_a_row host [] more = refl
-events_in_a_row host (x ∷ told) more = events_in_a_row (host_after_event host x.event) told more
+events_in_a_row host (x ∷ reported) more = events_in_a_row (host_after_event host x.event) reported more
 
 -- that a message is cut off reports nothing
-cut_tells_nothing : (host : HostView) (held : List ℕ) → host_after_events host (cut_of held) ≡ host
-cut_tells_nothing host [] = refl
-cut_tells_nothing host (b ∷ held) = refl
+cut_reports_nothing : (host : HostView) (held : List ℕ) → host_after_events host (cut_of held) ≡ host
+cut_reports_nothing host [] = refl
+cut_reports_nothing host (b ∷ held) = refl
 
-same_behind : (front xs ys : List ℕ) → front ++ xs ≡ front ++ ys → xs ≡ ys
+same_behind : (prefix xs ys : List ℕ) → prefix ++ xs ≡ prefix ++ ys → xs ≡ ys
 same_behind [] xs ys e = e
-same_behind (b ∷ front) xs ys e = same_behind front xs ys cc
+same_behind (b ∷ prefix) xs ys e = same_behind prefix xs ys cc
 
 -- what is written of messages begins with a byte with a set top bit
-first_has_top_bit : (messages : List Content) (b : ℕ) (rest : List ℕ) → flat_map spelling messages ≡ b ∷ rest → 128 ≤ b
+first_has_top_bit : (messages : List Content) (b : ℕ) (rest : List ℕ) → flat_map encoding messages ≡ b ∷ rest → 128 ≤ b
 first_has_top_bit [] b rest e = cc
 first_has_top_bit (message ∷ messages) b rest e = omega (arith, first_same e)
   where
@@ -130,19 +130,20 @@ first_has_top_bit (message ∷ messages) b rest e = omega (arith, first_same e)
 
 -- whatever the host made of garbage, after it it hears what begins there
 behind_garbage : BeginsAnew
-    → ((host : HostView) (n : ℕ) (told : List Placed)
-    → host_after_events host (events_behind n told) ≡ host_after_events host told)
+    → ((host : HostView) (n : ℕ) (reported : List Placed)
+    → host_after_events host (events_behind n reported) ≡ host_after_events host reported)
     → (host : HostView) (garbage more : List ℕ) (b : ℕ) → 128 ≤ b
     → host_after_events host (events (garbage ++ b ∷ more))
     ≡ host_after_events (host_after_events host (events garbage)) (events (b ∷ more))
 behind_garbage anew places host garbage more b top =
     let then : HostView = host_after_events host (events garbage) in
-    let cut : List Placed = cut_of (open_message garbage) in
+    let cut : List Placed = cut_of (unfinished_message garbage) in
     ap (host_after_events host) (anew garbage more b top).0
     ∙ events_in_a_row host (events garbage) (events_behind (length garbage) (cut ++ events (b ∷ more)))
     ∙ places then (length garbage) (cut ++ events (b ∷ more))
     ∙ events_in_a_row then cut (events (b ∷ more))
-    ∙ ap (λ (h : HostView). host_after_events h (events (b ∷ more))) (cut_tells_nothing then (open_message garbage))
+    ∙ ap (λ (h : HostView). host_after_events h (events (b ∷ more)))
+    (cut_reports_nothing then (unfinished_message garbage))
 
 -- the host of a state
 abbrev host_of : MachineState → HostView
@@ -173,22 +174,23 @@ module _ (laws : Grammars) where
       → StandsBehind garbage world x → KnowsNoMore (host_of x) host
       → (AwaitsWhatComes world x → IsSubsequence host.awaited (coming_kinds x))
       → host_after_events world.host (events (all_heard world count)) ≡ host_after_events host (events more)
-      → open_message (all_heard world count) ≡ open_message more
-      → flat_map spelling x.up ≡ more ++ drop count world.up.bytes
+      → unfinished_message (all_heard world count) ≡ unfinished_message more
+      → flat_map encoding x.up ≡ more ++ drop count world.up.bytes
       → StandsBehindAfter (ActContent.ToHost count) Outcome.Done world x (heard_world world count)
-  hear_true garbage more world count x host stands less awaits told opened f =
-      let front = heard_front laws.reads more (drop count world.up.bytes) x.up
+  hear_true garbage more world count x host stands less awaits reported unfinished f =
+      let prefix = heard_prefix laws.reads more (drop count world.up.bytes) x.up
       (record { are_messages = stands.are_messages; in_a_row = sym f }) in
-      let moves : List Move = replicate (length front.heard) Move.Hear in
-      let led : after_moves x moves ≡ with_host x (host_after_messages (host_of x) front.heard) front.left =
-      hears front.heard front.left x (host_of x) front.all (record { picture = refl; clock = refl; awaited = refl }) in
-      let known = knows_no_more (host_of x) host front.heard less in
+      let moves : List Move = replicate (length prefix.heard) Move.Hear in
+      let led : after_moves x moves ≡ with_host x (host_after_messages (host_of x) prefix.heard) prefix.left =
+      hears prefix.heard prefix.left x (host_of x) prefix.all
+          (record { picture = refl; clock = refl; awaited = refl }) in
+      let known = knows_no_more (host_of x) host prefix.heard less in
       let same : host_after_events world.host (events (all_heard world count))
-      ≡ host_after_messages host front.heard
-      = told ∙ front.host host in (
+      ≡ host_after_messages host prefix.heard
+      = reported ∙ prefix.host host in (
         [],
         moves,
-        (length front.heard, refl),
+        (length prefix.heard, refl),
         rw led
             (record {
               sound = rw led at (moves_sound x moves stands.sound);
@@ -196,31 +198,31 @@ module _ (laws : Grammars) where
               picture = rw same known.picture;
               clock = rw same known.clock;
               unheard = inl refl;
-              are_messages = front.spelled.are_messages;
-              up = rw opened front.spelled.in_a_row;
+              are_messages = prefix.encoded.are_messages;
+              up = rw unfinished prefix.encoded.in_a_row;
               down = stands.down;
               partial = stands.partial;
             }),
         rw (led, same) (λ a.
             let state_host : HostView = host_of (awaiting x host.awaited) in
             let ran : after_moves (awaiting x host.awaited) moves
-            ≡ with_host (awaiting x host.awaited) (host_after_messages state_host front.heard) front.left =
-            hears front.heard front.left (awaiting x host.awaited) state_host front.all
+            ≡ with_host (awaiting x host.awaited) (host_after_messages state_host prefix.heard) prefix.left =
+            hears prefix.heard prefix.left (awaiting x host.awaited) state_host prefix.all
             (record { picture = refl; clock = refl; awaited = refl }) in
-            let sound : IsSound (with_host (awaiting x host.awaited) (host_after_messages state_host front.heard)
-            front.left)
+            let sound : IsSound (with_host (awaiting x host.awaited) (host_after_messages state_host prefix.heard)
+            prefix.left)
             = rw ran at (moves_sound (awaiting x host.awaited) moves
             (asked_sound x x.down host.awaited stands.sound (awaits a))) in
-            rw (same_awaited host state_host front.heard refl) sound.awaited),
+            rw (same_awaited host state_host prefix.heard refl) sound.awaited),
       )
 
   -- the host hears garbage alone
   hear_garbage : (garbage left : List ℕ) (world : WorldView) (count : ℕ) (x : MachineState)
       → StandsBehind garbage world x → (x.picture ≡ None) × (x.host_clock ≡ None)
-      → drop count world.up.bytes ≡ left ++ flat_map spelling x.up
+      → drop count world.up.bytes ≡ left ++ flat_map encoding x.up
       → StandsBehindAfter (ActContent.ToHost count) Outcome.Done world x (heard_world world count)
   hear_garbage garbage left world count x stands unknown e = (
-    open_message (all_heard world count) ++ left,
+    unfinished_message (all_heard world count) ++ left,
     [],
     (0, refl),
     record {
@@ -231,8 +233,8 @@ module _ (laws : Grammars) where
       unheard = inr unknown;
       are_messages = stands.are_messages;
       up =
-          ap (λ (rest : List ℕ). open_message (all_heard world count) ++ rest) e
-          ∙ sym (append_assoc (open_message (all_heard world count)) left (flat_map spelling x.up));
+          ap (λ (rest : List ℕ). unfinished_message (all_heard world count) ++ rest) e
+          ∙ sym (append_assoc (unfinished_message (all_heard world count)) left (flat_map encoding x.up));
       down = stands.down;
       partial = stands.partial;
     },
@@ -243,33 +245,33 @@ module _ (laws : Grammars) where
       → StandsBehind garbage world x → Becomes (ActContent.ToHost count) world after
       → StandsBehindAfter (ActContent.ToHost count) Outcome.Done world x after
   hear_behind garbage world count after x stands same =
-      rw same (go (fronts (all_heard world count) rest garbage said whole) stands.unheard)
+      rw same (go (prefixes (all_heard world count) rest garbage said whole) stands.unheard)
     where
       rest : List ℕ
       rest = drop count world.up.bytes
 
       said : List ℕ
-      said = flat_map spelling x.up
+      said = flat_map encoding x.up
 
-      whole : all_heard world count ++ drop count world.up.bytes ≡ garbage ++ flat_map spelling x.up
-      whole = sym (front_of world.host.unread world.up.bytes count) ∙ stands.up
+      whole : all_heard world count ++ drop count world.up.bytes ≡ garbage ++ flat_map encoding x.up
+      whole = sym (prefix_of world.host.unread world.up.bytes count) ∙ stands.up
 
       go : IsShorter (all_heard world count) garbage
-          ⊎ Reaches (all_heard world count) (drop count world.up.bytes) garbage (flat_map spelling x.up)
+          ⊎ Reaches (all_heard world count) (drop count world.up.bytes) garbage (flat_map encoding x.up)
           → (garbage ≡ []) ⊎ ((x.picture ≡ None) × (x.host_clock ≡ None))
           → StandsBehindAfter (ActContent.ToHost count) Outcome.Done world x (heard_world world count)
       go (inl (next, more, e)) (inl none) = absurd (not_empty (all_heard world count) next more (sym e ∙ none))
       go (inl (next, more, e)) (inr unknown) =
           hear_garbage garbage (next ∷ more) world count x stands unknown
-          (same_behind (all_heard world count) (drop count world.up.bytes) (next ∷ more ++ flat_map spelling x.up)
-          (whole ∙ ap (λ (g : List ℕ). g ++ flat_map spelling x.up) e
-          ∙ append_assoc (all_heard world count) (next ∷ more) (flat_map spelling x.up)))
+          (same_behind (all_heard world count) (drop count world.up.bytes) (next ∷ more ++ flat_map encoding x.up)
+          (whole ∙ ap (λ (g : List ℕ). g ++ flat_map encoding x.up) e
+          ∙ append_assoc (all_heard world count) (next ∷ more) (flat_map encoding x.up)))
       go (inr (more, e, f)) (inl none) =
           let is : all_heard world count ≡ more = e ∙ ap (λ (g : List ℕ). g ++ more) none in
           hear_true garbage more world count x world.host stands
           (record { picture = stands.picture; clock = stands.clock }) (λ a. a)
           (ap (λ (bytes : List ℕ). host_after_events world.host (events bytes)) is)
-          (ap open_message is) f
+          (ap unfinished_message is) f
       go (inr ([], e, f)) (inr unknown) = hear_garbage garbage [] world count x stands unknown (sym f)
       go (inr (b ∷ more, e, f)) (inr unknown) =
           let top = first_has_top_bit x.up b (more ++ drop count world.up.bytes) f in
@@ -278,7 +280,7 @@ module _ (laws : Grammars) where
           (λ a. events_await world.host (events garbage) (coming_kinds x) a)
           (ap (λ (bytes : List ℕ). host_after_events world.host (events bytes)) e
           ∙ behind_garbage laws.begins_anew laws.reads.places world.host garbage more b top)
-          (ap open_message e ∙ (laws.begins_anew garbage more b top).1) f
+          (ap unfinished_message e ∙ (laws.begins_anew garbage more b top).1) f
 
   change_behind : (garbage : List ℕ) (world : WorldView) (square : ℕ) (piece : Piece) (after : WorldView)
       (x : MachineState)
@@ -300,7 +302,7 @@ module _ (laws : Grammars) where
   ask_behind : (garbage : List ℕ) (world : WorldView) (command : CommandContent) (after : WorldView) (x : MachineState)
       → StandsBehind garbage world x → Becomes (ActContent.Host command) world after
       → StandsBehindAfter (ActContent.Host command) Outcome.Done world x after
-  ask_behind garbage world command after x stands (spells, same) = (
+  ask_behind garbage world command after x stands (encodes, same) = (
     garbage,
     Move.Ask command ∷ [],
     refl,
@@ -308,7 +310,7 @@ module _ (laws : Grammars) where
         (assumption (
           move_sound x (Move.Ask command) stands.sound,
           divides_command laws.nothing laws.divisions_append world.board.partial world.down.bytes x.down command
-              stands.down spells,
+              stands.down encodes,
         )),
     rw same (λ a. rw (ask-kinds x command)
         (subsequence_append world.host.awaited (coming_kinds x) (option_to_list (requested_kind command)) a)),
@@ -316,7 +318,7 @@ module _ (laws : Grammars) where
 
   send_behind : (garbage : List ℕ) (world after : WorldView) (x : MachineState) → StandsBehind garbage world x
       → Becomes ActContent.BoardSend world after → StandsBehindAfter ActContent.BoardSend Outcome.Done world x after
-  send_behind garbage world after x stands (message, is_next, spells, same) =
+  send_behind garbage world after x stands (message, is_next, encodes, same) =
       let by = next_is_sent x message (ap next_message (sym stands.board) ∙ is_next) in (
         garbage,
         by.0 ∷ [],
@@ -325,13 +327,13 @@ module _ (laws : Grammars) where
             (assumption (
               rw by.2 at (move_sound x by.0 stands.sound),
               ap (λ (board : BoardState). after_sending board message) stands.board,
-              all_append IsMessage x.up (message ∷ []) stands.are_messages (spells.is_message, tt),
-              sym (append_assoc world.host.unread world.up.bytes (spelling message))
-                  ∙ ap (λ (front : List ℕ). front ++ spelling message) stands.up
-                  ∙ append_assoc garbage (flat_map spelling x.up) (spelling message)
+              all_append IsMessage x.up (message ∷ []) stands.are_messages (encodes.is_message, tt),
+              sym (append_assoc world.host.unread world.up.bytes (encoding message))
+                  ∙ ap (λ (prefix : List ℕ). prefix ++ encoding message) stands.up
+                  ∙ append_assoc garbage (flat_map encoding x.up) (encoding message)
                   ∙ ap (λ (behind : List ℕ). garbage ++ behind)
-                  (sym (flat_map-append spelling x.up (message ∷ [])
-                  ∙ ap (λ (last : List ℕ). flat_map spelling x.up ++ last) (append-nil (spelling message)))),
+                  (sym (flat_map-append encoding x.up (message ∷ [])
+                  ∙ ap (λ (last : List ℕ). flat_map encoding x.up ++ last) (append-nil (encoding message)))),
             )),
         rw (same, by.2) (λ a.
             let also = next_is_sent (awaiting x world.host.awaited) message

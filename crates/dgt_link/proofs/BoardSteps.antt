@@ -1,7 +1,7 @@
 -- What the board sends is the step of its act, of whatever world.
 use Rattle.std.proofs.Common.{◌≡◌, refl, Some}
 use Rattle.dgt_message.specs.Content.{Content}
-use Rattle.dgt_message.specs.Spelling.{Spells, spelling}
+use Rattle.dgt_message.specs.Encoding.{Encodes, encoding}
 use Rattle.dgt_board.specs.Sending.{after_sending, next_message}
 use Rattle.dgt_board.specs.View.{BoardView}
 use Rattle.dgt_link.specs.Act.{ActContent}
@@ -11,8 +11,8 @@ use Rattle.dgt_link.specs.View.{LineContents, WorldView, with_bytes}
 
 pub next_step : (line left : LineContents) (world : WorldView) (board after : BoardView)
     → Outcome.Done ≡ sending_outcome (next_message board.state) line
-    → (message : Content) × (next_message board.state ≡ Some message) × Spells message (spelling message)
-    × (after ≡ record board { state = after_sending board.state message }) × (left ≡ with_bytes line (spelling message))
+    → (message : Content) × (next_message board.state ≡ Some message) × Encodes message (encoding message)
+    × (after ≡ record board { state = after_sending board.state message }) × (left ≡ with_bytes line (encoding message))
     → Step ActContent.BoardSend (record world { board = board; up = line }) Outcome.Done
     (record world { board = after; up = left })
 next_step line left world board after answers done =

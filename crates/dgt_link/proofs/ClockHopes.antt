@@ -45,16 +45,17 @@ anew_ends _ is going = cc
 
 module _ (behind : ActsBehind) where
   pub clock_owed_promises : (command : CommandContent) (mode : Mode) (world after : WorldView)
-      → command_mode command ≡ Some mode → IsTrue (follows_clock mode) → world.board.state.told_clock ≡ None
+      → command_mode command ≡ Some mode → IsTrue (follows_clock mode) → world.board.state.reported_clock ≡ None
       → IsInStep world → FaultyStep (sends command) world Outcome.Done after → IsClockPromisedWorld after
   clock_owed_promises command mode world after sets asks none is step =
-      set_promises behind follows_clock stops_clock ClockIsComing clock_hope (λ x. x.board.told_clock ≡ None) command
-      mode world after (λ x moves e told. rw e (inr (inr (inr told)))) sets asks
+      set_promises behind follows_clock stops_clock ClockIsComing clock_hope
+          (λ x. x.board.reported_clock ≡ None) command
+      mode world after (λ x moves e reported. rw e (inr (inr (inr reported)))) sets asks
       (record {
         garbage = is.garbage;
         state = is.state;
         stands = is.stands;
-        holds = ap (λ (board : BoardState). board.told_clock) (sym is.stands.board) ∙ none;
+        holds = ap (λ (board : BoardState). board.reported_clock) (sym is.stands.board) ∙ none;
       })
       step
 

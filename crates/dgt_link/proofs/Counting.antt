@@ -8,10 +8,10 @@ use Rattle.std.specs.List.{cons_option, flat_map}
 use Rattle.std.specs.Prelude.{IsTrue, Contains, filter, filter_map}
 use Rattle.dgt_values.specs.declared.kinds.Kind.{Kind}
 use Rattle.dgt_message.specs.Content.{Content}
-use Rattle.dgt_message.specs.Spelling.{spelling}
+use Rattle.dgt_message.specs.Encoding.{encoding}
 use Rattle.dgt_command.specs.Content.{CommandContent, EventContent}
 use Rattle.dgt_command.specs.Laws.{EachDividesOnce}
-use Rattle.dgt_command.specs.Spelling.{AreBytes, command_spelling}
+use Rattle.dgt_command.specs.Encoding.{AreBytes, command_encoding}
 use Rattle.dgt_command.specs.Words.{Divides, IsNoiseList}
 use Rattle.dgt_board.specs.declared.modes.Mode.{Mode}
 use Rattle.dgt_board.specs.State.{BoardState, after_line_lost, command_mode, effects}
@@ -98,9 +98,9 @@ module _ (laws : Grammars) where
       rw same (assumption (move_sound (state_of_board world.board.state) (Move.Change square piece) sane.board))
   becomes_sane (ActContent.ClockRead clock) world after sane same =
       rw same (assumption (move_sound (state_of_board world.board.state) (Move.HandClock clock) sane.board))
-  becomes_sane (ActContent.Host command) world after sane (spells, same) =
-      rw same (assumption (bytes_append world.down.bytes (command_spelling command) sane.down spells.are_bytes))
-  becomes_sane ActContent.BoardSend world after sane (message, is_next, spells, same) =
+  becomes_sane (ActContent.Host command) world after sane (encodes, same) =
+      rw same (assumption (bytes_append world.down.bytes (command_encoding command) sane.down encodes.are_bytes))
+  becomes_sane ActContent.BoardSend world after sane (message, is_next, encodes, same) =
       let x = state_of_board world.board.state in
       let by = next_is_sent x message is_next in
       let y = after_move x by.0 in
@@ -549,7 +549,7 @@ module _ (laws : Grammars) (acts : List FaultyContent) (world after : WorldView)
 
 -- ---- at quiet
 
-pub nothing_said : (messages : List Content) → flat_map spelling messages ≡ [] → messages ≡ []
+pub nothing_said : (messages : List Content) → flat_map encoding messages ≡ [] → messages ≡ []
 nothing_said [] e = refl
 nothing_said (message ∷ messages) e = cc
 
@@ -557,7 +557,7 @@ pub quiet_behind : EachDividesOnce → (garbage : List ℕ) (world : WorldView) 
     → StandsBehind garbage world x → IsQuietWorld world → IsQuiet x
 quiet_behind once garbage world x stands (up, down, unread, partial, none) =
     record {
-      up = nothing_said x.up (right_empty garbage (flat_map spelling x.up) (sym (rw (unread, up) at stands.up)));
+      up = nothing_said x.up (right_empty garbage (flat_map encoding x.up) (sym (rw (unread, up) at stands.up)));
       down = (once.1 [] x.down [] [] [] (rw (partial, down) at stands.down) (refl, rw partial at stands.partial)).0;
       pending = nothing_first (pending_messages x.board) (rw stands.board at none);
     }

@@ -3,7 +3,7 @@ use Rattle.std.proofs.Common.{rules, refl, sym, ℕ, List, [], ◌∷◌, ◌++�
 use Rattle.std.proofs.lemmas.List.{append-nil}
 use Rattle.dgt_command.specs.Content.{CommandContent, EventContent}
 use Rattle.dgt_command.specs.Words.{Divides, IsPartial}
-use Rattle.dgt_command.specs.Spelling.{SpellsCommand, command_spelling}
+use Rattle.dgt_command.specs.Encoding.{EncodesCommand, command_encoding}
 use Rattle.dgt_command.specs.Laws.{DivisionsAppend}
 use Rattle.dgt_host.specs.Host.{follow_bytes}
 use Rattle.dgt_link.specs.Machine.{commands_anew}
@@ -11,15 +11,15 @@ use Rattle.dgt_link.specs.Machine.{commands_anew}
 module _ (nothing : IsPartial []) where
   -- one more command in a line after bytes with no rest
   pub divides_command : DivisionsAppend → (held bytes : List ℕ) (events : List EventContent) (command : CommandContent)
-      → Divides (held ++ bytes) events [] → SpellsCommand command (command_spelling command)
-      → Divides (held ++ (bytes ++ command_spelling command)) (events ++ EventContent.Read command ∷ []) []
-  divides_command append held bytes events command divides spells =
-      rw (append_assoc held bytes (command_spelling command)) at
-      (append (held ++ bytes) (command_spelling command) events (EventContent.Read command ∷ []) [] [] divides (
-        command_spelling command,
+      → Divides (held ++ bytes) events [] → EncodesCommand command (command_encoding command)
+      → Divides (held ++ (bytes ++ command_encoding command)) (events ++ EventContent.Read command ∷ []) []
+  divides_command append held bytes events command divides encodes =
+      rw (append_assoc held bytes (command_encoding command)) at
+      (append (held ++ bytes) (command_encoding command) events (EventContent.Read command ∷ []) [] [] divides (
+        command_encoding command,
         [],
-        record { form = refl; are_bytes = spells.are_bytes },
-        sym (append-nil (command_spelling command)),
+        record { form = refl; are_bytes = encodes.are_bytes },
+        sym (append-nil (command_encoding command)),
         (refl, nothing),
       ))
 

@@ -1,7 +1,7 @@
 pub mod Lists
 pub mod Backlogs
 pub mod Subsequences
-pub mod Telling
+pub mod Reporting
 pub mod Taking
 pub mod Soundness
 pub mod Promises

@@ -9,16 +9,16 @@ use Rattle.std.proofs.lemmas.Bool.Decides.{leb_tells}
 use Rattle.std.proofs.lemmas.List.{drop-drop, length-drop, length-take, length-take-le, take-take, take-append-drop}
 use Rattle.std.proofs.lemmas.List.{take_all}
 use Rattle.dgt_message.specs.Content.{Content}
-use Rattle.dgt_message.specs.Spelling.{Spells, spelling}
+use Rattle.dgt_message.specs.Encoding.{Encodes, encoding}
 use Rattle.dgt_command.specs.Content.{EventContent}
 use Rattle.dgt_command.specs.Words.{IsPartial, IsWord}
 use Rattle.dgt_board.specs.declared.sending.Polled.{Polled}
 use Rattle.dgt_board.specs.View.{Polls, BoardView, HasTaken, after_bytes}
 use Rattle.dgt_board.specs.Sending.{after_sending}
-use Rattle.dgt_host.specs.Host.{HostView, host_after, HeardInPieces}
+use Rattle.dgt_host.specs.Host.{HostView, host_after, HeardInChunks}
 use Rattle.dgt_link.specs.declared.acts.Outcome.{Outcome}
 use Rattle.dgt_link.specs.View.{LineContents, WorldView, line_holding, overflows, with_bytes, without_first}
-use Rattle.dgt_link.specs.Step.{Delivers, StaysOpen, is_full, sending_outcome}
+use Rattle.dgt_link.specs.Step.{Delivers, StaysUnfinished, is_full, sending_outcome}
 
 left_on : (line now left : LineContents) (i n : ℕ) → now ≡ without_first line i → left ≡ without_first now n
     → left ≡ without_first line (i + n)
@@ -26,21 +26,23 @@ left_on line now left i n e f =
     f ∙ ap (λ (before : LineContents). without_first before n) e ∙ ap
     (λ (bytes : List ℕ). line_holding bytes line.capacity) (drop-drop n i line.bytes)
 
--- bytes of a piece of the front are bytes of the line
-pub front_bytes : (bytes front : List ℕ) (k used : ℕ) → front ≡ take (length front) bytes → used ≤ length (take k front)
-    → take used (take k front) ≡ take used bytes
-front_bytes bytes front k used is within =
-    let short = length-take k front in
-    let in_piece : used ≤ k = omega (arith, short, within) in
-    let in_front : used ≤ length front = omega (arith, short, within) in
-    take-take used k front in_piece ∙ ap (λ (l : List ℕ). take used l) is ∙ take-take used (length front) bytes in_front
+-- bytes of a chunk of the front are bytes of the line
+pub prefix_bytes : (bytes prefix : List ℕ) (k used : ℕ) → prefix ≡ take (length prefix) bytes
+    → used ≤ length (take k prefix)
+    → take used (take k prefix) ≡ take used bytes
+prefix_bytes bytes prefix k used is within =
+    let short = length-take k prefix in
+    let in_chunk : used ≤ k = omega (arith, short, within) in
+    let in_front : used ≤ length prefix = omega (arith, short, within) in
+    take-take used k prefix in_chunk ∙ ap (λ (l : List ℕ). take used l) is
+    ∙ take-take used (length prefix) bytes in_front
 
 -- ---- the board sends
 
 -- what was written at the front
-front_taken : (count : ℕ) (written new old more : List ℕ) → new ≡ written ++ drop count old → count ≡ length written
+prefix_taken : (count : ℕ) (written new old more : List ℕ) → new ≡ written ++ drop count old → count ≡ length written
     → take count (new ++ more) ≡ written
-front_taken count written new old more e is =
+prefix_taken count written new old more e is =
     ap (λ (l : List ℕ). take count (l ++ more)) e ∙ ap (take count) (append_assoc written (drop count old) more)
     ∙ ap (λ (n : ℕ). take n (written ++ (drop count old ++ more))) is ∙ take-append_seam written
     (drop count old ++ more)
@@ -52,17 +54,17 @@ pub polled_is_sent : (count room : ℕ) (next : Option Content) (before after : 
     → room + length line.bytes ≡ line.capacity
     → left ≡ with_bytes line (take count (new ++ more))
     → (Outcome.Done ≡ sending_outcome next line)
-    × ((message : Content) × (next ≡ Some message) × Spells message (spelling message) ×
+    × ((message : Content) × (next ≡ Some message) × Encodes message (encoding message) ×
     (after ≡ record before { state = after_sending before.state message }) ×
-    (left ≡ with_bytes line (spelling message)))
+    (left ≡ with_bytes line (encoding message)))
 polled_is_sent count room None before after line left old new more none short rest e = absurd none
 polled_is_sent count room (Some message) before after line left old new more
-    (is, within, written, spells, state) short holds e =
-    let fits : overflows line (spelling message) ≡ false
-    = le-ltb line.capacity (length line.bytes + length (spelling message)) (omega (arith, is, within, short, holds)) in
-    let same : take count (new ++ more) ≡ spelling message
-    = front_taken count (spelling message) new old more written is in
-    (rw fits refl, (message, refl, spells, state, rw same at e))
+    (is, within, written, encodes, state) short holds e =
+    let fits : overflows line (encoding message) ≡ false
+    = le-ltb line.capacity (length line.bytes + length (encoding message)) (omega (arith, is, within, short, holds)) in
+    let same : take count (new ++ more) ≡ encoding message
+    = prefix_taken count (encoding message) new old more written is in
+    (rw fits refl, (message, refl, encodes, state, rw same at e))
 
 -- ---- the board takes
 
@@ -85,9 +87,9 @@ cut_bytes before bytes n within =
     ∙ sym (append_assoc before (take n bytes) (get_or bytes n 0 ∷ drop (suc n) bytes))
 
 -- a proper prefix of a word
-word_front : (event : EventContent) (before bytes : List ℕ) (n : ℕ) → n < length bytes → IsWord event (before ++ bytes)
+word_prefix : (event : EventContent) (before bytes : List ℕ) (n : ℕ) → n < length bytes → IsWord event (before ++ bytes)
     → IsPartial (before ++ take n bytes)
-word_front event before bytes n within word =
+word_prefix event before bytes n within word =
     record {
       event = event;
       next = get_or bytes n 0;
@@ -96,9 +98,9 @@ word_front event before bytes n within word =
     }
 
 -- a prefix of a proper prefix
-partial_front : (before bytes : List ℕ) (n : ℕ) → n < length bytes → IsPartial (before ++ bytes)
+partial_prefix : (before bytes : List ℕ) (n : ℕ) → n < length bytes → IsPartial (before ++ bytes)
     → IsPartial (before ++ take n bytes)
-partial_front before bytes n within part =
+partial_prefix before bytes n within part =
     record {
       event = part.event;
       next = get_or bytes n 0;
@@ -120,28 +122,28 @@ stays board bytes room part = (
 )
 
 -- bytes of which only the last may end a word
-front_of_word : {E : Type 0} (content : E → EventContent) (before bytes piece : List ℕ) (used : ℕ) (event : Option E)
-    → take used piece ≡ take used bytes
-    → IfSome event (λ e. IsWord (content e) (before ++ take used piece)) → IfNone event
-    ((used ≡ length piece) × IsPartial (before ++ piece))
+prefix_of_word : {E : Type 0} (content : E → EventContent) (before bytes chunk : List ℕ) (used : ℕ) (event : Option E)
+    → take used chunk ≡ take used bytes
+    → IfSome event (λ e. IsWord (content e) (before ++ take used chunk)) → IfNone event
+    ((used ≡ length chunk) × IsPartial (before ++ chunk))
     → (fewer : ℕ) → fewer < length (take used bytes) → IsPartial (before ++ take fewer (take used bytes))
-front_of_word content before bytes piece used (Some e) same word part fewer less =
-    word_front (content e) before (take used bytes) fewer less
+prefix_of_word content before bytes chunk used (Some e) same word part fewer less =
+    word_prefix (content e) before (take used bytes) fewer less
     (subst (λ (l : List ℕ). IsWord (content e) (before ++ l)) same word)
-front_of_word content before bytes piece used None same word part fewer less =
-    let whole : piece ≡ take used bytes = sym (take_all used piece (omega (arith, part.0))) ∙ same in
-    partial_front before (take used bytes) fewer less (subst (λ (l : List ℕ). IsPartial (before ++ l)) whole part.1)
+prefix_of_word content before bytes chunk used None same word part fewer less =
+    let whole : chunk ≡ take used bytes = sym (take_all used chunk (omega (arith, part.0))) ∙ same in
+    partial_prefix before (take used bytes) fewer less (subst (λ (l : List ℕ). IsPartial (before ++ l)) whole part.1)
 
-pub stays_open : {E : Type 0} (content : E → EventContent) (board : BoardView) (bytes piece : List ℕ) (used : ℕ)
+pub stays_unfinished : {E : Type 0} (content : E → EventContent) (board : BoardView) (bytes chunk : List ℕ) (used : ℕ)
     (event : Option E)
-    → take used piece ≡ take used bytes → used ≤ length piece → length board.state.owed < 8
-    → IfSome event (λ e. IsWord (content e) (board.partial ++ take used piece)) → IfNone event
-    ((used ≡ length piece) × IsPartial (board.partial ++ piece)) → StaysOpen board bytes used
-stays_open content board bytes piece used event same within room word part =
-    let long : length (take used bytes) ≡ used = ap length (sym same) ∙ length-take-le used piece within in
+    → take used chunk ≡ take used bytes → used ≤ length chunk → length board.state.owed < 8
+    → IfSome event (λ e. IsWord (content e) (board.partial ++ take used chunk)) → IfNone event
+    ((used ≡ length chunk) × IsPartial (board.partial ++ chunk)) → StaysUnfinished board bytes used
+stays_unfinished content board bytes chunk used event same within room word part =
+    let long : length (take used bytes) ≡ used = ap length (sym same) ∙ length-take-le used chunk within in
     λ fewer some less. stays board (take fewer bytes) room
     (subst (λ (l : List ℕ). IsPartial (board.partial ++ l)) (take-take fewer used bytes (omega (arith, less)))
-    (front_of_word content board.partial bytes piece used event same word part fewer (omega (arith, less, long))))
+    (prefix_of_word content board.partial bytes chunk used event same word part fewer (omega (arith, less, long))))
 
 -- the board as it was, or as these bytes left it
 abbrev HasTakenAny : BoardView → List ℕ → ℕ → BoardView → Type 0
@@ -154,7 +156,7 @@ pub record IsTaking (before : BoardView) (line : LineContents) (moved : ℕ) (no
   pub within : moved ≤ length line.bytes
   pub taken : HasTakenAny before line.bytes moved now
   pub left_is : left ≡ without_first line moved
-  pub earlier : StaysOpen before line.bytes moved
+  pub earlier : StaysUnfinished before line.bytes moved
 
 pub taking_begins : (before : BoardView) (line : LineContents) → IsTaking before line 0 before line
 taking_begins before line =
@@ -195,13 +197,14 @@ fewer_than fewer moved n h = elim (leb_tells moved fewer) [
 
 pub taking_more : TakingsAppend → (board now new : BoardView) (line left after : LineContents) (moved n : ℕ)
     → IsTaking board line moved now left → 0 < n → moved + n ≤ length line.bytes → length now.state.owed < 8
-    → HasTaken now (take n left.bytes) new → StaysOpen now left.bytes n → after ≡ without_first left n
+    → HasTaken now (take n left.bytes) new → StaysUnfinished now left.bytes n → after ≡ without_first left n
     → IsTaking board line (moved + n) new after
 taking_more append board now new line left after moved n taking more within room next calm e =
     let rest : left.bytes ≡ drop moved line.bytes = ap (λ (l : LineContents). l.bytes) taking.left_is in
     let next' : HasTaken now (take n (drop moved line.bytes)) new
     = subst (λ (l : List ℕ). HasTaken now (take n l) new) rest next in
-    let calm' : StaysOpen now (drop moved line.bytes) n = subst (λ (l : List ℕ). StaysOpen now l n) rest calm in
+    let calm' : StaysUnfinished now (drop moved line.bytes) n =
+        subst (λ (l : List ℕ). StaysUnfinished now l n) rest calm in
     record {
       within = within;
       taken = inr (omega (arith, more), taken_more append board now new line.bytes moved n taking.taken next');
@@ -209,7 +212,7 @@ taking_more append board now new line left after moved n taking more within room
       earlier = λ fewer some less. earlier_than fewer some (fewer_than fewer moved n less) calm';
     }
   where
-    earlier_than : (fewer : ℕ) → 0 < fewer → Fewer fewer moved n → StaysOpen now (drop moved line.bytes) n
+    earlier_than : (fewer : ℕ) → 0 < fewer → Fewer fewer moved n → StaysUnfinished now (drop moved line.bytes) n
         → (between : BoardView) × HasTaken board (take fewer line.bytes) between × (is_full between.state ≡ false)
     earlier_than fewer some (sooner less) calm = taking.earlier fewer some less
     earlier_than fewer some (just same) calm = (
@@ -269,21 +272,21 @@ pub record IsHearing (before : HostView) (line : LineContents) (moved : ℕ) (no
   pub heard : HasHeardAny before line.bytes moved now
   pub left_is : left ≡ without_first line moved
 
-heard_more : HeardInPieces → (before now new : HostView) (bytes : List ℕ) (moved n : ℕ)
+heard_more : HeardInChunks → (before now new : HostView) (bytes : List ℕ) (moved n : ℕ)
     → HasHeardAny before bytes moved now → new ≡ host_after now (take n (drop moved bytes))
     → new ≡ host_after before (take (moved + n) bytes)
-heard_more pieces before now new bytes moved n (inl (none, same)) next =
+heard_more chunks before now new bytes moved n (inl (none, same)) next =
     rw (take-add moved n bytes, none) (rw (none, same) at next)
-heard_more pieces before now new bytes moved n (inr heard) next =
+heard_more chunks before now new bytes moved n (inr heard) next =
     next ∙ ap (λ (host : HostView). host_after host (take n (drop moved bytes))) heard
-    ∙ pieces before (take moved bytes) (take n (drop moved bytes)) ∙ ap (host_after before)
+    ∙ chunks before (take moved bytes) (take n (drop moved bytes)) ∙ ap (host_after before)
     (sym (take-add moved n bytes))
 
-pub hearing_more : HeardInPieces → (before now new : HostView) (line left after : LineContents) (moved n : ℕ)
+pub hearing_more : HeardInChunks → (before now new : HostView) (line left after : LineContents) (moved n : ℕ)
     → IsHearing before line moved now left → new ≡ host_after now (take n left.bytes) → after ≡ without_first left n
     → IsHearing before line (moved + n) new after
-hearing_more pieces before now new line left after moved n hearing next e =
+hearing_more chunks before now new line left after moved n hearing next e =
     record {
-      heard = inr (heard_more pieces before now new line.bytes moved n hearing.heard (rw hearing.left_is at next));
+      heard = inr (heard_more chunks before now new line.bytes moved n hearing.heard (rw hearing.left_is at next));
       left_is = left_on line left after moved n hearing.left_is e;
     }

@@ -1,4 +1,4 @@
--- Lists in two parts, what holds of each element, and fronts of one list.
+-- Lists in two parts, what holds of each element, and prefixes of one list.
 use Rattle.std.proofs.Common.{◌≡◌, refl, sym, ◌⊎◌, inl, inr, ℕ, zero, suc, List, [], ◌∷◌, ◌++◌, replicate, arith}
 use Rattle.std.specs.Prelude.{Contains}
 use Rattle.std.specs.List.{AllByRecursion}
@@ -33,7 +33,7 @@ pub all_replicate : {X : Type 0} (P : X → Type 0) (count : ℕ) (x : X) → P 
 all_replicate P zero x is = tt
 all_replicate P (suc count) x is = (is, all_replicate P count x is)
 
--- ---- fronts
+-- ---- prefixes
 
 -- some of the word is after the bytes
 abbrev pub IsShorter : List ℕ → List ℕ → Type 0
@@ -43,12 +43,12 @@ IsShorter bytes word = (next : ℕ) × (more : List ℕ) × (word ≡ bytes ++ n
 abbrev pub Reaches : List ℕ → List ℕ → List ℕ → List ℕ → Type 0
 Reaches bytes after word rest = (more : List ℕ) × (bytes ≡ word ++ more) × (rest ≡ more ++ after)
 
--- of two fronts of one list, one is a front of the other
-pub fronts : (bytes after word rest : List ℕ) → bytes ++ after ≡ word ++ rest
+-- of two prefixes of one list, one is a prefix of the other
+pub prefixes : (bytes after word rest : List ℕ) → bytes ++ after ≡ word ++ rest
     → IsShorter bytes word ⊎ Reaches bytes after word rest
-fronts bytes after [] rest h = inr (bytes, refl, sym h)
-fronts [] after (byte ∷ word) rest h = inl (byte, word, refl)
-fronts (first ∷ bytes) after (byte ∷ word) rest h = go (fronts bytes after word rest cc)
+prefixes bytes after [] rest h = inr (bytes, refl, sym h)
+prefixes [] after (byte ∷ word) rest h = inl (byte, word, refl)
+prefixes (first ∷ bytes) after (byte ∷ word) rest h = go (prefixes bytes after word rest cc)
   where
     same : first ≡ byte
     same = cc

@@ -7,7 +7,7 @@ use Rattle.std.proofs.lemmas.Bool.{false≢true}
 use Rattle.std.proofs.lemmas.Bool.Decides.{leb_tells}
 use Rattle.std.proofs.lemmas.Option.{same_Some}
 use Rattle.dgt_message.specs.Content.{Content, IsMessage}
-use Rattle.dgt_message.specs.Spelling.{Spells, spelling}
+use Rattle.dgt_message.specs.Encoding.{Encodes, encoding}
 use Rattle.dgt_command.specs.Laws.{EachDividesOnce}
 use Rattle.dgt_board.specs.View.{BoardView, HasTaken}
 use Rattle.dgt_link.specs.Act.{ActContent}
@@ -17,7 +17,7 @@ use Rattle.dgt_link.specs.View.{WorldView}
 use Rattle.dgt_link.specs.Machine.{MachineState}
 use Rattle.dgt_link.specs.Stands.{StandsFor}
 use Rattle.dgt_link.specs.Step.{Delivers, IfDone, is_full, Becomes, Runs, Step}
-use Rattle.dgt_link.proofs.Lists.{IsShorter, Reaches, fronts, not_empty}
+use Rattle.dgt_link.proofs.Lists.{IsShorter, Reaches, prefixes, not_empty}
 
 order : (a b : ℕ) → (a < b) ⊎ ((b < a) ⊎ (a ≡ b))
 order a b =
@@ -80,7 +80,7 @@ module _ (one_taking : (before after other : BoardView) (bytes : List ℕ) → H
   becomes_once (ActContent.Change square piece) world one other e f = e ∙ sym f
   becomes_once (ActContent.ClockRead clock) world one other e f = e ∙ sym f
   becomes_once (ActContent.Host command) world one other e f = e.1 ∙ sym f.1
-  becomes_once ActContent.BoardSend world one other (message, is_next, spells, e) (said, is_also, holds, f) =
+  becomes_once ActContent.BoardSend world one other (message, is_next, encodes, e) (said, is_also, holds, f) =
       let same : message ≡ said = same_Some message said (sym is_next ∙ is_also) in
       rw (e, f, same) refl
   becomes_once (ActContent.ToBoard count) world one other first second = one_delivery count world one other first second
@@ -131,53 +131,54 @@ module _ (one_taking : (before after other : BoardView) (bytes : List ℕ) → H
 -- ---- one state
 
 -- the laws of the encodings of messages
-pub record SpelledOnce : Type 0 where
-  pub spells : (said : Content) → IsMessage said → Spells said (spelling said)
-  pub one_message : (bytes : List ℕ) (first second : Content) → Spells first bytes → Spells second bytes
+pub record EncodedOnce : Type 0 where
+  pub encodes : (said : Content) → IsMessage said → Encodes said (encoding said)
+  pub one_message : (bytes : List ℕ) (first second : Content) → Encodes first bytes → Encodes second bytes
       → first ≡ second
-  pub none_longer : (bytes more : List ℕ) (first second : Content) → Spells first bytes → Spells second (bytes ++ more)
+  pub none_longer : (bytes more : List ℕ) (first second : Content) → Encodes first bytes
+      → Encodes second (bytes ++ more)
       → more ≡ []
 
-module _ (law : SpelledOnce) where
+module _ (law : EncodedOnce) where
   -- the encoding of a message that begins another's is all of it
   first_same : (first second : Content) (more : List ℕ) → IsMessage first → IsMessage second
-      → spelling first ≡ spelling second ++ more → (first ≡ second) × (more ≡ [])
+      → encoding first ≡ encoding second ++ more → (first ≡ second) × (more ≡ [])
   first_same first second more is also e =
-      let none = law.none_longer (spelling second) more second first (law.spells second also)
-      (rw e at (law.spells first is)) in
-      let same : spelling first ≡ spelling second
-      = e ∙ ap (λ (rest : List ℕ). spelling second ++ rest) none ∙ append-nil (spelling second) in
-      (law.one_message (spelling first) first second (law.spells first is) (rw same (law.spells second also)), none)
+      let none = law.none_longer (encoding second) more second first (law.encodes second also)
+      (rw e at (law.encodes first is)) in
+      let same : encoding first ≡ encoding second
+      = e ∙ ap (λ (rest : List ℕ). encoding second ++ rest) none ∙ append-nil (encoding second) in
+      (law.one_message (encoding first) first second (law.encodes first is) (rw same (law.encodes second also)), none)
 
   -- messages in a row are encoded in one way
   messages_once : (xs ys : List Content) → AllByRecursion IsMessage xs → AllByRecursion IsMessage ys
-      → flat_map spelling xs ≡ flat_map spelling ys → xs ≡ ys
+      → flat_map encoding xs ≡ flat_map encoding ys → xs ≡ ys
   messages_once [] [] all also h = refl
   messages_once [] (second ∷ ys) all also h = cc
   messages_once (first ∷ xs) [] all also h = cc
   messages_once (first ∷ xs) (second ∷ ys) all also h =
-      go (fronts (spelling first) (flat_map spelling xs) (spelling second) (flat_map spelling ys) h)
+      go (prefixes (encoding first) (flat_map encoding xs) (encoding second) (flat_map encoding ys) h)
       (messages_once xs ys all.1 also.1)
     where
-      go : IsShorter (spelling first) (spelling second) ⊎ Reaches (spelling first) (flat_map spelling xs)
-          (spelling second) (flat_map spelling ys)
-          → (flat_map spelling xs ≡ flat_map spelling ys → xs ≡ ys) → first ∷ xs ≡ second ∷ ys
+      go : IsShorter (encoding first) (encoding second) ⊎ Reaches (encoding first) (flat_map encoding xs)
+          (encoding second) (flat_map encoding ys)
+          → (flat_map encoding xs ≡ flat_map encoding ys → xs ≡ ys) → first ∷ xs ≡ second ∷ ys
       go (inl (next, more, e)) on =
           absurd (not_empty [] next more (first_same second first (next ∷ more) also.0 all.0 e).1)
       go (inr (more, e, f)) on =
           let same = first_same first second more all.0 also.0 e in
-          let rest : xs ≡ ys = on (sym (f ∙ ap (λ (front : List ℕ). front ++ flat_map spelling xs) same.1)) in
+          let rest : xs ≡ ys = on (sym (f ∙ ap (λ (prefix : List ℕ). prefix ++ flat_map encoding xs) same.1)) in
           rw (same.0, rest) refl
 
 rebuilt : (x y : MachineState) → x.board ≡ y.board → x.up ≡ y.up → x.down ≡ y.down → x.picture ≡ y.picture
     → x.host_clock ≡ y.host_clock → x.awaited ≡ y.awaited → x ≡ y
 rebuilt x y board up down picture clock awaited = rw (board, up, down, picture, clock, awaited) refl
 
-pub one_state : SpelledOnce → EachDividesOnce → (world : WorldView) (x y : MachineState) → StandsFor world x
+pub one_state : EncodedOnce → EachDividesOnce → (world : WorldView) (x y : MachineState) → StandsFor world x
     → StandsFor world y → x ≡ y
-one_state spelled divided world x y one two =
+one_state encoded divided world x y one two =
     rebuilt x y (sym one.board ∙ two.board)
-    (messages_once spelled x.up y.up one.up.are_messages two.up.are_messages (sym one.up.in_a_row ∙ two.up.in_a_row))
+    (messages_once encoded x.up y.up one.up.are_messages two.up.are_messages (sym one.up.in_a_row ∙ two.up.in_a_row))
     (divided.1 (world.board.partial ++ world.down.bytes) x.down y.down [] [] one.down two.down).0
     (sym one.picture ∙ two.picture)
     (sym one.clock ∙ two.clock)

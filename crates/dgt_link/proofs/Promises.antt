@@ -16,12 +16,12 @@ use Rattle.dgt_board.specs.State.{BoardState, updates, command_mode, effect, rep
 use Rattle.dgt_board.specs.Sending.{differs, field_of, reply_message}
 use Rattle.dgt_host.specs.Host.{picture_after, picture_after_all}
 use Rattle.dgt_command.specs.Words.{IsNoiseList}
-use Rattle.dgt_link.specs.Machine.{IsHostBreak, Move, MachineState, commands_anew, after_move, after_told, after_take, after_reply, after_hear}
+use Rattle.dgt_link.specs.Machine.{IsHostBreak, Move, MachineState, commands_anew, after_move, after_reported, after_take, after_reply, after_hear}
 use Rattle.dgt_link.specs.Sound.{coming_picture}
 use Rattle.dgt_link.specs.Promise.{IsAsked, IsPromised, PictureIsComing, coming_mode, commands_after, event_mode, last_mode, mode_after, requests}
 use Rattle.dgt_link.proofs.Lists.{Contains-cons, nothing_contained}
 use Rattle.dgt_link.proofs.Taking.{nothing_of_noise}
-use Rattle.dgt_link.proofs.Telling.{picture_after_all-append}
+use Rattle.dgt_link.proofs.Reporting.{picture_after_all-append}
 
 -- ---- the mode that is coming
 
@@ -152,12 +152,12 @@ picture_keeps_coming x (Move.Ask command) other coming =
     ask_comes (coming_picture x) x.board.owed x.down (EventContent.Read command ∷ []) coming
 picture_keeps_coming x Move.Take other coming = take_keeps_picture x x.down refl coming
 picture_keeps_coming x Move.Reply other coming = reply_keeps_picture x x.board.owed refl coming
-picture_keeps_coming x (Move.Tell square) other coming =
+picture_keeps_coming x (Move.Report square) other coming =
     cond_both (updates x.board.mode && differs x.board square)
-    (after_told x (field_of x.board square)) x PictureIsComing
+    (after_reported x (field_of x.board square)) x PictureIsComing
     (λ h. sent_comes x.picture x.up (field_of x.board square) x.board.owed x.down coming) (λ h. coming)
-picture_keeps_coming x Move.TellClock other coming =
-    cond_both x.board.times_owed (after_told x (clock_message x.board.clock)) x PictureIsComing
+picture_keeps_coming x Move.ReportClock other coming =
+    cond_both x.board.times_owed (after_reported x (clock_message x.board.clock)) x PictureIsComing
     (λ h. sent_comes x.picture x.up (clock_message x.board.clock) x.board.owed x.down coming) (λ h. coming)
 picture_keeps_coming x Move.Hear other coming = hear_keeps_picture x x.up refl coming
 picture_keeps_coming x Move.Break other coming = absurd (other refl)
@@ -192,7 +192,7 @@ ask-mode x command =
     ∙ sym (last_mode-cons (coming_mode x) (command_mode command) [])
 
 sent-mode : (x : MachineState) (message : Content) (test : Bool)
-    → coming_mode (cond test (after_told x message) x) ≡ coming_mode x
+    → coming_mode (cond test (after_reported x message) x) ≡ coming_mode x
 sent-mode x message true = refl
 sent-mode x message false = refl
 
@@ -215,8 +215,9 @@ move-mode x (Move.HandClock clock) = refl
 move-mode x (Move.Ask command) = ask-mode x command
 move-mode x Move.Take = take-mode x x.down refl
 move-mode x Move.Reply = reply-mode x x.board.owed
-move-mode x (Move.Tell square) = sent-mode x (field_of x.board square) (updates x.board.mode && differs x.board square)
-move-mode x Move.TellClock = sent-mode x (clock_message x.board.clock) x.board.times_owed
+move-mode x (Move.Report square) = sent-mode x (field_of x.board square)
+    (updates x.board.mode && differs x.board square)
+move-mode x Move.ReportClock = sent-mode x (clock_message x.board.clock) x.board.times_owed
 move-mode x Move.Hear = hear-mode x x.up
 move-mode x Move.Break = refl
 move-mode x (Move.HostBreak noise is_noise) = anew-mode x noise is_noise
@@ -287,8 +288,8 @@ move_comes commands x (Move.HandClock clock) coming =
     still_comes commands x (Move.HandClock clock) (λ e. cc) refl coming
 move_comes commands x Move.Take coming = still_comes commands x Move.Take (λ e. cc) refl coming
 move_comes commands x Move.Reply coming = still_comes commands x Move.Reply (λ e. cc) refl coming
-move_comes commands x (Move.Tell square) coming = still_comes commands x (Move.Tell square) (λ e. cc) refl coming
-move_comes commands x Move.TellClock coming = still_comes commands x Move.TellClock (λ e. cc) refl coming
+move_comes commands x (Move.Report square) coming = still_comes commands x (Move.Report square) (λ e. cc) refl coming
+move_comes commands x Move.ReportClock coming = still_comes commands x Move.ReportClock (λ e. cc) refl coming
 move_comes commands x Move.Hear coming = still_comes commands x Move.Hear (λ e. cc) refl coming
 move_comes commands x Move.Break coming = nothing_asked (after_move x Move.Break)
 move_comes commands x (Move.HostBreak noise is_noise) coming =
@@ -320,11 +321,11 @@ anew_is_promised x noise is_noise =
 -- ---- the picture that the host comes to have
 
 dump_seen : (x : MachineState) (owed rest : List Reply) → owed ≡ Reply.Of Kind.Dump ∷ rest
-    → coming_picture (after_reply x owed) ≡ Some (after_reply x owed).board.told_squares
+    → coming_picture (after_reply x owed) ≡ Some (after_reply x owed).board.reported_squares
 dump_seen x owed rest e = rw e (picture_after_all-append x.picture x.up (Content.dump x.board.squares))
 
 pub dump_is_seen : (x : MachineState) (rest : List Reply) → x.board.owed ≡ Reply.Of Kind.Dump ∷ rest
-    → coming_picture (after_move x Move.Reply) ≡ Some (after_move x Move.Reply).board.told_squares
+    → coming_picture (after_move x Move.Reply) ≡ Some (after_move x Move.Reply).board.reported_squares
 dump_is_seen x rest e = dump_seen x x.board.owed rest e
 
 sent_known : (x : MachineState) (message : Content) → IsSome (coming_picture x)
@@ -354,12 +355,12 @@ picture_stays_known x (Move.HandClock clock) other also known = known
 picture_stays_known x (Move.Ask command) other also known = known
 picture_stays_known x Move.Take other also known = take_known x x.down known
 picture_stays_known x Move.Reply other also known = reply_known x x.board.owed known
-picture_stays_known x (Move.Tell square) other also known =
-    cond_both (updates x.board.mode && differs x.board square) (after_told x (field_of x.board square)) x
+picture_stays_known x (Move.Report square) other also known =
+    cond_both (updates x.board.mode && differs x.board square) (after_reported x (field_of x.board square)) x
     (λ (y : MachineState). IsSome (coming_picture y))
     (λ h. sent_known x (field_of x.board square) known) (λ h. known)
-picture_stays_known x Move.TellClock other also known =
-    cond_both x.board.times_owed (after_told x (clock_message x.board.clock)) x
+picture_stays_known x Move.ReportClock other also known =
+    cond_both x.board.times_owed (after_reported x (clock_message x.board.clock)) x
     (λ (y : MachineState). IsSome (coming_picture y))
     (λ h. sent_known x (clock_message x.board.clock) known) (λ h. known)
 picture_stays_known x Move.Hear other also known = hear_known x x.up refl known

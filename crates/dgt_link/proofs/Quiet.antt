@@ -14,7 +14,7 @@ use Rattle.dgt_message.specs.Reading.{piece_with_code}
 use Rattle.dgt_command.specs.Content.{CommandContent, EventContent}
 use Rattle.dgt_board.specs.declared.replies.Reply.{Reply}
 use Rattle.dgt_board.specs.State.{BoardState, follows_clock, updates}
-use Rattle.dgt_board.specs.Sending.{clock_news, differs, every_square, field_of, pending_messages, piece_on, reply_message, untold_squares}
+use Rattle.dgt_board.specs.Sending.{clock_news, differs, every_square, field_of, pending_messages, piece_on, reply_message, unreported_squares}
 use Rattle.dgt_link.specs.Machine.{MachineState}
 use Rattle.dgt_link.specs.Sound.{IsSound, IsExact, IsUnknownOr, coming_kinds}
 use Rattle.dgt_link.specs.Promise.{IsPromised, IsQuiet, PictureIsComing, coming_mode}
@@ -57,77 +57,79 @@ code-piece : (piece : Piece) → piece_with_code (piece_code piece) ≡ piece
 code-piece Piece.Empty = refl
 code-piece _ = refl
 
-same_unless_differs : (told piece : Piece) → not (piece_code told == piece_code piece) ≡ false → told ≡ piece
-same_unless_differs told piece h =
-    sym (code-piece told) ∙ ap piece_with_code
-    (eqb-true (piece_code told) (piece_code piece) (not-false (piece_code told == piece_code piece) h))
+same_unless_differs : (reported piece : Piece) → not (piece_code reported == piece_code piece) ≡ false
+    → reported ≡ piece
+same_unless_differs reported piece h =
+    sym (code-piece reported) ∙ ap piece_with_code
+    (eqb-true (piece_code reported) (piece_code piece) (not-false (piece_code reported == piece_code piece) h))
     ∙ code-piece piece
 
 -- if no square differs, the board has reported its squares
-none_differs : (board : BoardState) → length board.squares ≡ 64 → length board.told_squares ≡ 64
-    → filter (differs board) every_square ≡ [] → board.told_squares ≡ board.squares
-none_differs board squares told none = same_lists board.told_squares board.squares (told ∙ sym squares) same_at
+none_differs : (board : BoardState) → length board.squares ≡ 64 → length board.reported_squares ≡ 64
+    → filter (differs board) every_square ≡ [] → board.reported_squares ≡ board.squares
+none_differs board squares reported none = same_lists board.reported_squares board.squares
+    (reported ∙ sym squares) same_at
   where
-    same_at : (k : ℕ) (d : Piece) → k < length board.told_squares
-        → get_or board.told_squares k d ≡ get_or board.squares k d
+    same_at : (k : ℕ) (d : Piece) → k < length board.reported_squares
+        → get_or board.reported_squares k d ≡ get_or board.squares k d
     same_at k d h =
-        let below : k < 64 = rw told at h in
+        let below : k < 64 = rw reported at h in
         let within : k < length board.squares = rw squares below in
         let at = every_square-at k below in
-        get_or_default board.told_squares k d Piece.Empty h
-        ∙ same_unless_differs (piece_on board.told_squares k) (piece_on board.squares k)
+        get_or_default board.reported_squares k d Piece.Empty h
+        ∙ same_unless_differs (piece_on board.reported_squares k) (piece_on board.squares k)
         (rw at.1 at (filter_empty (differs board) every_square k 0 at.0 none))
         ∙ get_or_default board.squares k Piece.Empty d within
 
 -- what a board with nothing to send has reported
 pub record IsUpToDate (board : BoardState) : Type 0 where
   pub owed : board.owed ≡ []
-  pub squares : IsTrue (updates board.mode) → board.told_squares ≡ board.squares
+  pub squares : IsTrue (updates board.mode) → board.reported_squares ≡ board.squares
   pub times_owed : board.times_owed ≡ false
 
-up_to_date : (board : BoardState) → length board.squares ≡ 64 → length board.told_squares ≡ 64
+up_to_date : (board : BoardState) → length board.squares ≡ 64 → length board.reported_squares ≡ 64
     → pending_messages board ≡ [] → IsUpToDate board
-up_to_date board squares told nothing =
+up_to_date board squares reported nothing =
     record {
       owed = no_reply board board.owed (left_empty (map (reply_message board) board.owed) _ nothing);
       squares =
-          λ h. none_differs board squares told
+          λ h. none_differs board squares reported
           (sym (cond-true (updates board.mode) (filter (differs board) every_square) [] h) ∙ none);
       times_owed =
           no_clock board.times_owed (clock_message board.clock)
-          (right_empty (map (field_of board) (untold_squares board)) (clock_news board) rest);
+          (right_empty (map (field_of board) (unreported_squares board)) (clock_news board) rest);
     }
   where
-    rest : map (field_of board) (untold_squares board) ++ clock_news board ≡ []
+    rest : map (field_of board) (unreported_squares board) ++ clock_news board ≡ []
     rest =
         right_empty (map (reply_message board) board.owed)
-        (map (field_of board) (untold_squares board) ++ clock_news board) nothing
+        (map (field_of board) (unreported_squares board) ++ clock_news board) nothing
 
-    none : untold_squares board ≡ []
+    none : unreported_squares board ≡ []
     none =
-        map_empty (field_of board) (untold_squares board)
-        (left_empty (map (field_of board) (untold_squares board)) (clock_news board) rest)
+        map_empty (field_of board) (unreported_squares board)
+        (left_empty (map (field_of board) (unreported_squares board)) (clock_news board) rest)
 
 pub quiet_up_to_date : (x : MachineState) → IsSound x → IsQuiet x → IsUpToDate x.board
-quiet_up_to_date x sound quiet = up_to_date x.board sound.squares sound.told_squares quiet.pending
+quiet_up_to_date x sound quiet = up_to_date x.board sound.squares sound.reported_squares quiet.pending
 
 -- the host's picture, where the mode asks for updates
-picture_at_quiet : (x : MachineState) → IsSound x → IsQuiet x → IsUnknownOr x.picture (Some x.board.told_squares)
+picture_at_quiet : (x : MachineState) → IsSound x → IsQuiet x → IsUnknownOr x.picture (Some x.board.reported_squares)
 picture_at_quiet x sound quiet = rw quiet.up at sound.picture
 
-told_squares : (picture : Option (List Piece)) (told squares : List Piece) → told ≡ squares
-    → IsUnknownOr picture (Some told) → IsUnknownOr picture (Some squares)
-told_squares picture told squares e h = rw e at h
+reported_squares : (picture : Option (List Piece)) (reported squares : List Piece) → reported ≡ squares
+    → IsUnknownOr picture (Some reported) → IsUnknownOr picture (Some squares)
+reported_squares picture reported squares e h = rw e at h
 
 pub quiet_picture : (x : MachineState) → IsSound x → IsQuiet x → IsTrue (updates x.board.mode)
     → IsUnknownOr x.picture (Some x.board.squares)
 quiet_picture x sound quiet asks =
-    told_squares x.picture x.board.told_squares x.board.squares ((quiet_up_to_date x sound quiet).squares asks)
+    reported_squares x.picture x.board.reported_squares x.board.squares ((quiet_up_to_date x sound quiet).squares asks)
     (picture_at_quiet x sound quiet)
 
-known : (picture told : Option (List Piece)) → IsSome picture → IsUnknownOr picture told → picture ≡ told
-known picture told some (inl none) = absurd (false≢true (ap is_some (sym none) ∙ some))
-known picture told some (inr same) = same
+known : (picture reported : Option (List Piece)) → IsSome picture → IsUnknownOr picture reported → picture ≡ reported
+known picture reported some (inl none) = absurd (false≢true (ap is_some (sym none) ∙ some))
+known picture reported some (inr same) = same
 
 -- at quiet a picture that was coming has come
 pub picture_has_come : (x : MachineState) → IsSound x → IsQuiet x → PictureIsComing x → IsSome x.picture
@@ -147,27 +149,29 @@ promised_picture x sound promised quiet =
     (quiet_picture x sound quiet (rw (quiet_mode x quiet) at promised.mode))
 
 -- the clock, in an exact state whose mode follows it
-pub told_clock : (owed : Bool) (told clock : Option ClockState) → owed ≡ false → IsTrue owed ⊎ (told ≡ clock)
-    → told ≡ clock
-told_clock owed told clock none (inl owes) = absurd (false≢true (sym none ∙ owes))
-told_clock owed told clock none (inr same) = same
+pub reported_clock : (owed : Bool) (reported clock : Option ClockState) → owed ≡ false
+    → IsTrue owed ⊎ (reported ≡ clock)
+    → reported ≡ clock
+reported_clock owed reported clock none (inl owes) = absurd (false≢true (sym none ∙ owes))
+reported_clock owed reported clock none (inr same) = same
 
 pub quiet_clock : (x : MachineState) → IsExact x → IsQuiet x → IsTrue (follows_clock x.board.mode)
     → x.host_clock ≡ Some x.board.clock
 quiet_clock x exact quiet follows =
     (rw quiet.up at exact.clock)
-    ∙ told_clock x.board.times_owed x.board.told_clock (Some x.board.clock)
+    ∙ reported_clock x.board.times_owed x.board.reported_clock (Some x.board.clock)
     (quiet_up_to_date x exact.sound quiet).times_owed (exact.sound.followed follows)
 
 -- in any sound state it is unknown or the board's
-unknown_or_told : (seen told clock : Option ClockState) → told ≡ clock → IsUnknownOr seen told → IsUnknownOr seen clock
-unknown_or_told seen told clock e h = rw e at h
+unknown_or_reported : (seen reported clock : Option ClockState) → reported ≡ clock → IsUnknownOr seen reported
+    → IsUnknownOr seen clock
+unknown_or_reported seen reported clock e h = rw e at h
 
-pub quiet_clock_told : (x : MachineState) → IsSound x → IsQuiet x → IsTrue (follows_clock x.board.mode)
+pub quiet_clock_reported : (x : MachineState) → IsSound x → IsQuiet x → IsTrue (follows_clock x.board.mode)
     → IsUnknownOr x.host_clock (Some x.board.clock)
-quiet_clock_told x sound quiet follows =
-    unknown_or_told x.host_clock x.board.told_clock (Some x.board.clock)
-    (told_clock x.board.times_owed x.board.told_clock (Some x.board.clock)
+quiet_clock_reported x sound quiet follows =
+    unknown_or_reported x.host_clock x.board.reported_clock (Some x.board.clock)
+    (reported_clock x.board.times_owed x.board.reported_clock (Some x.board.clock)
     (quiet_up_to_date x sound quiet).times_owed (sound.followed follows))
     (rw quiet.up at sound.clock)
 

@@ -15,7 +15,7 @@ use Rattle.dgt_link.specs.Act.{ActContent}
 use Rattle.dgt_link.specs.declared.acts.Outcome.{Outcome}
 use Rattle.dgt_link.specs.Faults.{is_break}
 use Rattle.dgt_link.specs.Healing.{IsInStep, StandsBehind}
-use Rattle.dgt_link.specs.Machine.{IsHostBreak, MachineState, Move, after_hear, after_move, after_moves, after_reply, after_take, after_told}
+use Rattle.dgt_link.specs.Machine.{IsHostBreak, MachineState, Move, after_hear, after_move, after_moves, after_reply, after_take, after_reported}
 use Rattle.dgt_link.specs.Reported.{IsReportedBy, ReportedBefore, WasReported, first_reply, sent_by, sent_by_all}
 use Rattle.dgt_link.specs.Sound.{IsSound, IsUnknownOr, coming_picture}
 use Rattle.dgt_link.specs.Stands.{AreMovesOfRun, AreMovesOfStep}
@@ -33,16 +33,16 @@ use Rattle.dgt_link.proofs.Standing.{moves-append}
 -- ---- lists
 
 -- of two lists in a row that end with this element, the second is empty or ends with it
-last_of : {X : Type 0} (front back xs : List X) (x : X) → xs ++ x ∷ [] ≡ front ++ back
-    → (back ≡ []) ⊎ ((rest : List X) × (back ≡ rest ++ x ∷ []) × (xs ≡ front ++ rest))
+last_of : {X : Type 0} (prefix back xs : List X) (x : X) → xs ++ x ∷ [] ≡ prefix ++ back
+    → (back ≡ []) ⊎ ((rest : List X) × (back ≡ rest ++ x ∷ []) × (xs ≡ prefix ++ rest))
 last_of [] back xs x e = inr (xs, sym e, refl)
-last_of (first ∷ front) back [] x e =
-    let none : front ++ back ≡ [] = cc in
-    inl (right_empty front back none)
-last_of (first ∷ front) back (y ∷ xs) x e =
+last_of (first ∷ prefix) back [] x e =
+    let none : prefix ++ back ≡ [] = cc in
+    inl (right_empty prefix back none)
+last_of (first ∷ prefix) back (y ∷ xs) x e =
     let same : y ≡ first = cc in
-    let more : xs ++ x ∷ [] ≡ front ++ back = cc in
-    elim (last_of front back xs x more) [
+    let more : xs ++ x ∷ [] ≡ prefix ++ back = cc in
+    elim (last_of prefix back xs x more) [
       | inl none ↦ inl none
       | inr (rest, is, both) ↦ inr (rest, is, rw (same, both) refl)
     ]
@@ -60,11 +60,11 @@ record Sends (x : MachineState) (move : Move) : Type 0 where
 sends_nothing : (x y : MachineState) → y.up ≡ x.up → y.up ≡ x.up ++ []
 sends_nothing x y same = same ∙ sym (append-nil x.up)
 
-told_if : (x : MachineState) (asked : Bool) (message : Content)
-    → ((if asked then after_told x message else x).up ≡ x.up ++ (if asked then message ∷ [] else []))
-    × ((if asked then after_told x message else x).picture ≡ x.picture)
-told_if x true message = (refl, refl)
-told_if x false message = (sym (append-nil x.up), refl)
+reported_if : (x : MachineState) (asked : Bool) (message : Content)
+    → ((if asked then after_reported x message else x).up ≡ x.up ++ (if asked then message ∷ [] else []))
+    × ((if asked then after_reported x message else x).picture ≡ x.picture)
+reported_if x true message = (refl, refl)
+reported_if x false message = (sym (append-nil x.up), refl)
 
 reply_sends : (x : MachineState) (owed : List Reply)
     → ((after_reply x owed).up ≡ x.up ++ first_reply x.board owed) × ((after_reply x owed).picture ≡ x.picture)
@@ -87,12 +87,12 @@ move_sends x Move.Take plain other =
     record { up = (take_sends x).0 ∙ sym (append-nil x.up); picture = (take_sends x).1 }
 move_sends x Move.Reply plain other =
     record { up = (reply_sends x x.board.owed).0; picture = (reply_sends x x.board.owed).1 }
-move_sends x (Move.Tell square) plain other =
-    let told = told_if x (updates x.board.mode && differs x.board square) (field_of x.board square) in
-    record { up = told.0; picture = told.1 }
-move_sends x Move.TellClock plain other =
-    let told = told_if x x.board.times_owed (clock_message x.board.clock) in
-    record { up = told.0; picture = told.1 }
+move_sends x (Move.Report square) plain other =
+    let reported = reported_if x (updates x.board.mode && differs x.board square) (field_of x.board square) in
+    record { up = reported.0; picture = reported.1 }
+move_sends x Move.ReportClock plain other =
+    let reported = reported_if x x.board.times_owed (clock_message x.board.clock) in
+    record { up = reported.0; picture = reported.1 }
 move_sends x Move.Hear plain other = absurd (other refl)
 move_sends x Move.Break plain other = absurd (plain.0 refl)
 move_sends x (Move.HostBreak noise is_noise) plain other = absurd (plain.1 tt)
@@ -111,21 +111,21 @@ one_reply x (first ∷ later) = inr (reply_message x.board first, refl)
 
 one_at_most : (x : MachineState) (move : Move) → IsOneAtMost (sent_by x move)
 one_at_most x Move.Reply = one_reply x x.board.owed
-one_at_most x (Move.Tell square) =
+one_at_most x (Move.Report square) =
     one_if (updates x.board.mode && differs x.board square) (field_of x.board square)
-one_at_most x Move.TellClock = one_if x.board.times_owed (clock_message x.board.clock)
+one_at_most x Move.ReportClock = one_if x.board.times_owed (clock_message x.board.clock)
 one_at_most x _ = inl refl
 
--- ---- each front of what is under way
+-- ---- each prefix of what is under way
 
--- once the messages of this front are heard too, the picture is unknown or what was reported when
+-- once the messages of this prefix are heard too, the picture is unknown or what was reported when
 -- the last of them was sent
 abbrev Since : MachineState → List Move → List Content → List Content → Type 0
-Since x moves front back = ReportedBefore x moves (picture_after_all (after_moves x moves).picture front) back
+Since x moves prefix back = ReportedBefore x moves (picture_after_all (after_moves x moves).picture prefix) back
 
 abbrev SinceEach : MachineState → List Move → Type 0
 SinceEach x moves =
-    (front back : List Content) → (after_moves x moves).up ≡ front ++ back → Since x moves front back
+    (prefix back : List Content) → (after_moves x moves).up ≡ prefix ++ back → Since x moves prefix back
 
 sent-append : (x : MachineState) (moves : List Move) (move : Move)
     → sent_by_all x (moves ++ move ∷ []) ≡ sent_by_all x moves ++ sent_by (after_moves x moves) move
@@ -136,9 +136,9 @@ sent-append x (first ∷ moves) move =
     (sent_by (after_moves (after_move x first) moves) move))
 
 -- all that is under way is heard
-since_now : (x : MachineState) (moves : List Move) (front : List Content) → IsSound x
-    → (after_moves x moves).up ≡ front → Since x moves front []
-since_now x moves front sound all =
+since_now : (x : MachineState) (moves : List Move) (prefix : List Content) → IsSound x
+    → (after_moves x moves).up ≡ prefix → Since x moves prefix []
+since_now x moves prefix sound all =
     record {
       earlier = moves;
       later = [];
@@ -148,13 +148,13 @@ since_now x moves front sound all =
     }
 
 -- one more move, after the same moment
-since_later : (x : MachineState) (moves : List Move) (move : Move) (front back before sent : List Content)
+since_later : (x : MachineState) (moves : List Move) (move : Move) (prefix back before sent : List Content)
     → (since : Since x moves before back)
     → sent_by (after_moves x moves) move ≡ sent
-    → picture_after_all (after_moves x (moves ++ move ∷ [])).picture front
+    → picture_after_all (after_moves x (moves ++ move ∷ [])).picture prefix
     ≡ picture_after_all (after_moves x moves).picture before
-    → Since x (moves ++ move ∷ []) front (back ++ sent)
-since_later x moves move front back before sent since sends same =
+    → Since x (moves ++ move ∷ []) prefix (back ++ sent)
+since_later x moves move prefix back before sent since sends same =
     record {
       earlier = since.earlier;
       later = since.later ++ move ∷ [];
@@ -175,7 +175,7 @@ since_later x moves move front back before sent since sends same =
 module _ (x : MachineState) (sound : IsSound x) (moves : List Move) (each : SinceEach x moves) where
   -- a move that hears nothing
   other_since : (move : Move) → IsPlain move → move ≢ Move.Hear → SinceEach x (moves ++ move ∷ [])
-  other_since move plain other front back up = go (one_at_most (after_moves x moves) move)
+  other_since move plain other prefix back up = go (one_at_most (after_moves x moves) move)
     where
       y : MachineState
       y = after_moves x moves
@@ -186,55 +186,55 @@ module _ (x : MachineState) (sound : IsSound x) (moves : List Move) (each : Sinc
       sends : Sends (after_moves x moves) move
       sends = move_sends (after_moves x moves) move plain other
 
-      under_way : (after_moves x moves).up ++ sent_by (after_moves x moves) move ≡ front ++ back
+      under_way : (after_moves x moves).up ++ sent_by (after_moves x moves) move ≡ prefix ++ back
       under_way = sym sends.up ∙ ap (λ (z : MachineState). z.up) (sym led) ∙ up
 
       same : (after_moves x (moves ++ move ∷ [])).picture ≡ (after_moves x moves).picture
       same = ap (λ (z : MachineState). z.picture) led ∙ sends.picture
 
-      go : IsOneAtMost (sent_by (after_moves x moves) move) → Since x (moves ++ move ∷ []) front back
+      go : IsOneAtMost (sent_by (after_moves x moves) move) → Since x (moves ++ move ∷ []) prefix back
       go (inl none) =
-          subst (λ (rest : List Content). Since x (moves ++ move ∷ []) front rest) (append-nil back)
-          (since_later x moves move front back front []
-          (each front back (sym (append-nil (after_moves x moves).up)
+          subst (λ (rest : List Content). Since x (moves ++ move ∷ []) prefix rest) (append-nil back)
+          (since_later x moves move prefix back prefix []
+          (each prefix back (sym (append-nil (after_moves x moves).up)
           ∙ ap (λ (sent : List Content). (after_moves x moves).up ++ sent) (sym none) ∙ under_way))
-          none (ap (λ (picture : Option (List Piece)). picture_after_all picture front) same))
+          none (ap (λ (picture : Option (List Piece)). picture_after_all picture prefix) same))
       go (inr (message, is)) =
-          elim (last_of front back (after_moves x moves).up message
+          elim (last_of prefix back (after_moves x moves).up message
           (ap (λ (sent : List Content). (after_moves x moves).up ++ sent) (sym is) ∙ under_way)) [
             | inl none ↦
                 rw none
-                (since_now x (moves ++ move ∷ []) front sound
-                (up ∙ ap (λ (rest : List Content). front ++ rest) none ∙ append-nil front))
+                (since_now x (moves ++ move ∷ []) prefix sound
+                (up ∙ ap (λ (rest : List Content). prefix ++ rest) none ∙ append-nil prefix))
             | inr (rest, ends, before) ↦
                 rw ends
-                (since_later x moves move front rest front (message ∷ []) (each front rest before) is
-                (ap (λ (picture : Option (List Piece)). picture_after_all picture front) same))
+                (since_later x moves move prefix rest prefix (message ∷ []) (each prefix rest before) is
+                (ap (λ (picture : Option (List Piece)). picture_after_all picture prefix) same))
           ]
 
   -- the host hears a message, if there is one
   hear_since : SinceEach x (moves ++ Move.Hear ∷ [])
-  hear_since front back up = go (after_moves x moves).up refl
+  hear_since prefix back up = go (after_moves x moves).up refl
     where
       led : after_moves x (moves ++ Move.Hear ∷ []) ≡ after_hear (after_moves x moves) (after_moves x moves).up
       led = moves-append x moves (Move.Hear ∷ [])
 
-      go : (said : List Content) → (after_moves x moves).up ≡ said → Since x (moves ++ Move.Hear ∷ []) front back
+      go : (said : List Content) → (after_moves x moves).up ≡ said → Since x (moves ++ Move.Hear ∷ []) prefix back
       go [] none =
           let still : after_moves x (moves ++ Move.Hear ∷ []) ≡ after_moves x moves
           = led ∙ ap (λ (said : List Content). after_hear (after_moves x moves) said) none in
-          subst (λ (rest : List Content). Since x (moves ++ Move.Hear ∷ []) front rest) (append-nil back)
-          (since_later x moves Move.Hear front back front []
-          (each front back (ap (λ (z : MachineState). z.up) (sym still) ∙ up)) refl
-          (ap (λ (z : MachineState). picture_after_all z.picture front) still))
+          subst (λ (rest : List Content). Since x (moves ++ Move.Hear ∷ []) prefix rest) (append-nil back)
+          (since_later x moves Move.Hear prefix back prefix []
+          (each prefix back (ap (λ (z : MachineState). z.up) (sym still) ∙ up)) refl
+          (ap (λ (z : MachineState). picture_after_all z.picture prefix) still))
       go (message ∷ rest) is =
           let heard : after_moves x (moves ++ Move.Hear ∷ []) ≡ after_hear (after_moves x moves) (message ∷ rest)
           = led ∙ ap (λ (said : List Content). after_hear (after_moves x moves) said) is in
-          let left : rest ≡ front ++ back = ap (λ (z : MachineState). z.up) (sym heard) ∙ up in
-          subst (λ (rest : List Content). Since x (moves ++ Move.Hear ∷ []) front rest) (append-nil back)
-          (since_later x moves Move.Hear front back (message ∷ front) []
-          (each (message ∷ front) back (is ∙ ap (λ (more : List Content). message ∷ more) left)) refl
-          (ap (λ (z : MachineState). picture_after_all z.picture front) heard))
+          let left : rest ≡ prefix ++ back = ap (λ (z : MachineState). z.up) (sym heard) ∙ up in
+          subst (λ (rest : List Content). Since x (moves ++ Move.Hear ∷ []) prefix rest) (append-nil back)
+          (since_later x moves Move.Hear prefix back (message ∷ prefix) []
+          (each (message ∷ prefix) back (is ∙ ap (λ (more : List Content). message ∷ more) left)) refl
+          (ap (λ (z : MachineState). picture_after_all z.picture prefix) heard))
 
   move_since : (move : Move) → IsPlain move → SinceEach x (moves ++ move ∷ [])
   move_since Move.Hear plain = hear_since
@@ -243,8 +243,8 @@ module _ (x : MachineState) (sound : IsSound x) (moves : List Move) (each : Sinc
   move_since (Move.Ask command) plain = other_since (Move.Ask command) plain (λ e. cc)
   move_since Move.Take plain = other_since Move.Take plain (λ e. cc)
   move_since Move.Reply plain = other_since Move.Reply plain (λ e. cc)
-  move_since (Move.Tell square) plain = other_since (Move.Tell square) plain (λ e. cc)
-  move_since Move.TellClock plain = other_since Move.TellClock plain (λ e. cc)
+  move_since (Move.Report square) plain = other_since (Move.Report square) plain (λ e. cc)
+  move_since Move.ReportClock plain = other_since Move.ReportClock plain (λ e. cc)
   move_since Move.Break plain = absurd (plain.0 refl)
   move_since (Move.HostBreak noise is_noise) plain = absurd (plain.1 tt)
 
@@ -257,11 +257,11 @@ moves_since x past (move ∷ more) sound all each =
 
 -- nothing is under way at first
 nothing_since : (x : MachineState) → IsSound x → x.up ≡ [] → SinceEach x []
-nothing_since x sound none front back up =
-    let all : front ++ back ≡ [] = sym up ∙ none in
-    let first : front ≡ [] = left_empty front back all in
-    let last : back ≡ [] = right_empty front back all in
-    rw last (since_now x [] front sound (none ∙ sym first))
+nothing_since x sound none prefix back up =
+    let all : prefix ++ back ≡ [] = sym up ∙ none in
+    let first : prefix ≡ [] = left_empty prefix back all in
+    let last : back ≡ [] = right_empty prefix back all in
+    rw last (since_now x [] prefix sound (none ∙ sym first))
 
 pub was_reported : (x : MachineState) (moves : List Move) → IsSound x → x.up ≡ []
     → AllByRecursion IsPlain moves → WasReported x moves
@@ -342,12 +342,12 @@ still_known picture (message ∷ up) some =
 pub known_behind : (garbage : List ℕ) (world : WorldView) (x : MachineState) → StandsBehind garbage world x
     → IsSome x.picture
     → (world.host.picture ≡ x.picture)
-    × (picture_after_all world.host.picture x.up ≡ Some world.board.state.told_squares)
+    × (picture_after_all world.host.picture x.up ≡ Some world.board.state.reported_squares)
 known_behind garbage world x stands some =
     let same : world.host.picture ≡ x.picture
     = both_known x.picture world.host.picture some stands.picture in (
       same,
       rw (same, stands.board)
-          (sym (both_known (coming_picture x) (Some x.board.told_squares)
+          (sym (both_known (coming_picture x) (Some x.board.reported_squares)
           (still_known x.picture x.up some) stands.sound.picture)),
     )

@@ -7,10 +7,10 @@ use Rattle.std.specs.Prelude.{IsSome}
 use Rattle.dgt_values.specs.declared.pieces.Piece.{Piece}
 use Rattle.dgt_message.specs.Clock.{ClockState}
 use Rattle.dgt_message.specs.Content.{Content, IsMessage}
-use Rattle.dgt_message.specs.Spelling.{spelling}
+use Rattle.dgt_message.specs.Encoding.{encoding}
 use Rattle.dgt_command.specs.Laws.{EachDividesOnce}
 use Rattle.dgt_board.specs.Sending.{pending_messages}
-use Rattle.dgt_decode.specs.Grammar.{open_message}
+use Rattle.dgt_decode.specs.Grammar.{unfinished_message}
 use Rattle.dgt_link.specs.Healing.{Counted, IsHealing, IsPromisedWorld, IsRestedWorld, StandsBehind}
 use Rattle.dgt_link.specs.Machine.{MachineState}
 use Rattle.dgt_link.specs.Promise.{IsPromised, IsQuiet}
@@ -22,7 +22,7 @@ use Rattle.dgt_link.proofs.Lists.{right_empty}
 use Rattle.dgt_link.proofs.Promises.{coming_promise}
 use Rattle.dgt_link.proofs.Quiet.{picture_has_come, promised_picture}
 use Rattle.dgt_link.proofs.Resting.{nothing_first}
-use Rattle.dgt_link.proofs.Settling.{nothing_left_open, nothing_partial, settled_kept}
+use Rattle.dgt_link.proofs.Settling.{nothing_left_unfinished, nothing_partial, settled_kept}
 
 -- ---- what counts is promised
 
@@ -41,29 +41,29 @@ promised_at_quiet once world is quiet =
 -- ---- at rest
 
 module _ (reads : Reads) where
-  -- nothing is left open of messages, whatever came before them
-  nothing_open_behind : (garbage : List ℕ) (message : Content) (messages : List Content)
+  -- nothing is left unfinished of messages, whatever came before them
+  nothing_unfinished_behind : (garbage : List ℕ) (message : Content) (messages : List Content)
       → AllByRecursion IsMessage (message ∷ messages)
-      → open_message (garbage ++ flat_map spelling (message ∷ messages)) ≡ []
-  nothing_open_behind garbage message messages are =
-      ap open_message (sym (append_assoc garbage (spelling message) (flat_map spelling messages)))
-      ∙ reads.open_append (garbage ++ spelling message) (flat_map spelling messages)
-      ∙ ap (λ (held : List ℕ). open_message (held ++ flat_map spelling messages))
-      (reads.spelling garbage message are.0).1
-      ∙ nothing_left_open reads messages (flat_map spelling messages) (record {
+      → unfinished_message (garbage ++ flat_map encoding (message ∷ messages)) ≡ []
+  nothing_unfinished_behind garbage message messages are =
+      ap unfinished_message (sym (append_assoc garbage (encoding message) (flat_map encoding messages)))
+      ∙ reads.unfinished_append (garbage ++ encoding message) (flat_map encoding messages)
+      ∙ ap (λ (held : List ℕ). unfinished_message (held ++ flat_map encoding messages))
+      (reads.encoding garbage message are.0).1
+      ∙ nothing_left_unfinished reads messages (flat_map encoding messages) (record {
         are_messages = are.1;
         in_a_row = refl;
       })
 
   -- what a host has unread has no whole message
   none_unread : (unread garbage : List ℕ) (messages : List Content) → AllByRecursion IsMessage messages
-      → unread ≡ garbage ++ flat_map spelling messages → open_message unread ≡ unread → messages ≡ []
+      → unread ≡ garbage ++ flat_map encoding messages → unfinished_message unread ≡ unread → messages ≡ []
   none_unread unread garbage [] are e held = refl
   none_unread unread garbage (message ∷ messages) are e held =
       let none : unread ≡ []
-      = sym held ∙ ap open_message e ∙ nothing_open_behind garbage message messages are in
+      = sym held ∙ ap unfinished_message e ∙ nothing_unfinished_behind garbage message messages are in
       nothing_said (message ∷ messages)
-      (right_empty garbage (flat_map spelling (message ∷ messages)) (sym e ∙ none))
+      (right_empty garbage (flat_map encoding (message ∷ messages)) (sym e ∙ none))
 
   known_has_no_garbage : {X : Type 0} (picture : Option X) (garbage : List ℕ) (other : Type 0)
       → (garbage ≡ []) ⊎ ((picture ≡ None) × other) → IsSome picture → garbage ≡ []
@@ -73,9 +73,9 @@ module _ (reads : Reads) where
 
   rests_behind : EachDividesOnce → (garbage : List ℕ) (world : WorldView) (x : MachineState)
       → StandsBehind garbage world x → IsPromised x → IsRestedWorld world
-      → open_message world.host.unread ≡ world.host.unread → IsQuietWorld world
+      → unfinished_message world.host.unread ≡ world.host.unread → IsQuietWorld world
   rests_behind once garbage world x stands promised (up, down, none) held =
-      let all : world.host.unread ≡ garbage ++ flat_map spelling x.up
+      let all : world.host.unread ≡ garbage ++ flat_map encoding x.up
       = sym (append-nil world.host.unread)
       ∙ ap (λ (bytes : List ℕ). world.host.unread ++ bytes) (sym up) ∙ stands.up in
       let silent : x.up ≡ [] = none_unread world.host.unread garbage x.up stands.are_messages all held in
@@ -97,7 +97,7 @@ module _ (reads : Reads) where
       )
 
   pub promised_rests : EachDividesOnce → (world : WorldView) → IsPromisedWorld world → IsRestedWorld world
-      → open_message world.host.unread ≡ world.host.unread → IsQuietWorld world
+      → unfinished_message world.host.unread ≡ world.host.unread → IsQuietWorld world
   promised_rests once world is rested held =
       rests_behind once is.garbage world is.state is.stands is.holds rested held
 

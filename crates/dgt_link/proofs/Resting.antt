@@ -11,14 +11,14 @@ use Rattle.dgt_host.specs.Host.{IsUnasked, picture_after_all}
 use Rattle.dgt_link.specs.Machine.{MachineState}
 use Rattle.dgt_link.specs.Promise.{IsPromised, IsQuiet}
 use Rattle.dgt_link.specs.Sound.{IsExact, IsUnknownOr}
-use Rattle.dgt_link.specs.Stands.{AreSpelled, StandsFor}
+use Rattle.dgt_link.specs.Stands.{AreEncoded, StandsFor}
 use Rattle.dgt_link.specs.View.{IsQuietWorld, WorldView}
 use Rattle.dgt_link.proofs.Answering.{first_answer, never_unasked}
-use Rattle.dgt_link.proofs.Quiet.{promised_picture, quiet_awaited, quiet_clock, quiet_clock_told, quiet_picture}
+use Rattle.dgt_link.proofs.Quiet.{promised_picture, quiet_awaited, quiet_clock, quiet_clock_reported, quiet_picture}
 
 -- the picture to come, by the messages under way
 pub world_fold : (world : WorldView) (x : MachineState) → StandsFor world x
-    → IsUnknownOr (picture_after_all world.host.picture x.up) (Some world.board.state.told_squares)
+    → IsUnknownOr (picture_after_all world.host.picture x.up) (Some world.board.state.reported_squares)
 world_fold world x stands = rw (stands.picture, stands.board) stands.sound.picture
 
 -- the answers come in the order of what is awaited
@@ -35,9 +35,9 @@ pub world_never_unasked : (world : WorldView) (x : MachineState) (later : List C
     → ¬ (IsUnasked world.host.awaited (Some (Event.Message message)))
 world_never_unasked world x later message stands exact e = rw stands.awaited (never_unasked x later message exact e)
 
-nothing_spelled : (messages : List Content) → AreSpelled messages [] → messages ≡ []
-nothing_spelled [] h = refl
-nothing_spelled (message ∷ messages) h = let same = h.in_a_row in cc
+nothing_encoded : (messages : List Content) → AreEncoded messages [] → messages ≡ []
+nothing_encoded [] h = refl
+nothing_encoded (message ∷ messages) h = let same = h.in_a_row in cc
 
 pub nothing_first : (messages : List Content) → slice_get messages 0 ≡ None → messages ≡ []
 nothing_first [] h = refl
@@ -48,7 +48,7 @@ pub quiet_state : EachDividesOnce → (world : WorldView) (x : MachineState) →
     → IsQuiet x
 quiet_state law world x stands (up, down, unread, partial, none) =
     record {
-      up = nothing_spelled x.up (rw (unread, up) at stands.up);
+      up = nothing_encoded x.up (rw (unread, up) at stands.up);
       down = (law.1 [] x.down [] [] [] (rw (partial, down) at stands.down) (refl, rw partial at stands.partial)).0;
       pending = nothing_first (pending_messages x.board) (rw stands.board at none);
     }
@@ -58,15 +58,15 @@ module _ (law : EachDividesOnce) (world : WorldView) (x : MachineState) (stands 
   pub world_awaits_nothing : world.host.awaited ≡ []
   world_awaits_nothing = stands.awaited ∙ quiet_awaited x stands.sound (quiet_state law world x stands quiet)
 
-  pub world_picture_told : IsTrue (updates world.board.state.mode)
+  pub world_picture_reported : IsTrue (updates world.board.state.mode)
       → IsUnknownOr world.host.picture (Some world.board.state.squares)
-  world_picture_told asks =
+  world_picture_reported asks =
       rw (stands.picture, stands.board)
       (quiet_picture x stands.sound (quiet_state law world x stands quiet) (rw stands.board at asks))
 
-  pub world_clock_told : IsExact x → IsTrue (follows_clock world.board.state.mode)
+  pub world_clock_reported : IsExact x → IsTrue (follows_clock world.board.state.mode)
       → world.host.clock ≡ Some world.board.state.clock
-  world_clock_told exact follows =
+  world_clock_reported exact follows =
       rw (stands.clock, stands.board)
       (quiet_clock x exact (quiet_state law world x stands quiet) (rw stands.board at follows))
 
@@ -74,7 +74,7 @@ module _ (law : EachDividesOnce) (world : WorldView) (x : MachineState) (stands 
       → IsUnknownOr world.host.clock (Some world.board.state.clock)
   world_clock_known follows =
       rw (stands.clock, stands.board)
-      (quiet_clock_told x stands.sound (quiet_state law world x stands quiet) (rw stands.board at follows))
+      (quiet_clock_reported x stands.sound (quiet_state law world x stands quiet) (rw stands.board at follows))
 
   pub world_picture : IsPromised x → world.host.picture ≡ Some world.board.state.squares
   world_picture promised =

@@ -8,14 +8,14 @@ use Rattle.std.specs.Prelude.{filter}
 use Rattle.dgt_message.specs.Content.{Content, clock_message}
 use Rattle.dgt_board.specs.declared.replies.Reply.{Reply}
 use Rattle.dgt_board.specs.State.{BoardState, updates}
-use Rattle.dgt_board.specs.Sending.{after_sending, after_telling, clock_news, differs, every_square, field_of, next_message, reply_message, untold_squares}
-use Rattle.dgt_link.specs.Machine.{IsSending, Move, MachineState, after_move, after_reply, after_told}
+use Rattle.dgt_board.specs.Sending.{after_sending, after_reporting, clock_news, differs, every_square, field_of, next_message, reply_message, unreported_squares}
+use Rattle.dgt_link.specs.Machine.{IsSending, Move, MachineState, after_move, after_reply, after_reported}
 
 -- what a message reports does not depend on the replies owed
-told_squares_after-owed : (board : BoardState) (owed : List Reply) (message : Content)
-    → after_telling (record board { owed = owed }) message ≡ record (after_telling board message) { owed = owed }
-told_squares_after-owed board owed (Content.dump pieces) = refl
-told_squares_after-owed board owed _ = refl
+reported_squares_after-owed : (board : BoardState) (owed : List Reply) (message : Content)
+    → after_reporting (record board { owed = owed }) message ≡ record (after_reporting board message) { owed = owed }
+reported_squares_after-owed board owed (Content.dump pieces) = refl
+reported_squares_after-owed board owed _ = refl
 
 abbrev sent_state : MachineState → Content → MachineState
 sent_state x message = record x { board = after_sending x.board message; up = x.up ++ message ∷ [] }
@@ -27,19 +27,20 @@ SendsIt x message = (move : Move) × IsSending move × (after_move x move ≡ se
 reply_is_sent : (x : MachineState) (first : Reply) (rest owed : List Reply) → owed ≡ first ∷ rest
     → after_reply x owed ≡ record x {
       board = record
-          (after_telling x.board (reply_message x.board first)) { owed = drop 1 owed };
+          (after_reporting x.board (reply_message x.board first)) { owed = drop 1 owed };
       up = x.up ++ reply_message x.board first ∷ [];
     }
 reply_is_sent x first rest owed e =
     rw e (ap (λ (board : BoardState). record x { board = board; up = x.up ++ reply_message x.board first ∷ [] })
-    (told_squares_after-owed x.board rest (reply_message x.board first)))
+    (reported_squares_after-owed x.board rest (reply_message x.board first)))
 
 -- with no reply owed
-without_reply : (x : MachineState) (message : Content) → x.board.owed ≡ [] → after_told x message ≡ sent_state x message
+without_reply : (x : MachineState) (message : Content) → x.board.owed ≡ []
+    → after_reported x message ≡ sent_state x message
 without_reply x message e =
     ap (λ (owed : List Reply). record x {
       board = record
-          (after_telling x.board message) { owed = owed };
+          (after_reporting x.board message) { owed = owed };
       up = x.up ++ message ∷ [];
     })
     (e ∙ sym (ap (drop 1) e))
@@ -70,12 +71,12 @@ first_news : (owed : Bool) (news message : Content) → slice_get (cond owed (ne
 first_news true news message h = (refl, same_Some news message h)
 first_news false news message h = cc
 
-tell_is_sent : (x : MachineState) (message : Content) → x.board.owed ≡ []
+report_is_sent : (x : MachineState) (message : Content) → x.board.owed ≡ []
     → FirstField (updates x.board.mode) (field_of x.board) (differs x.board) message → SendsIt x message
-tell_is_sent x message none (square, asks, differing, same) = (
-  Move.Tell square,
+report_is_sent x message none (square, asks, differing, same) = (
+  Move.Report square,
   tt,
-  cond-true (updates x.board.mode && differs x.board square) (after_told x (field_of x.board square)) x
+  cond-true (updates x.board.mode && differs x.board square) (after_reported x (field_of x.board square)) x
       (and_from (updates x.board.mode) (differs x.board square) asks differing)
       ∙ without_reply x (field_of x.board square) none ∙ ap (sent_state x) same,
 )
@@ -83,15 +84,15 @@ tell_is_sent x message none (square, asks, differing, same) = (
 clock_is_sent : (x : MachineState) (message : Content) → x.board.owed ≡ []
     → (x.board.times_owed ≡ true) × (clock_message x.board.clock ≡ message) → SendsIt x message
 clock_is_sent x message none (owed, same) = (
-  Move.TellClock,
+  Move.ReportClock,
   tt,
-  cond-true x.board.times_owed (after_told x (clock_message x.board.clock)) x owed
+  cond-true x.board.times_owed (after_reported x (clock_message x.board.clock)) x owed
       ∙ without_reply x (clock_message x.board.clock) none ∙ ap (sent_state x) same,
 )
 
 next_of : (x : MachineState) (owed : List Reply) (message : Content) → x.board.owed ≡ owed
     → slice_get (map (reply_message x.board) owed ++
-    (map (field_of x.board) (untold_squares x.board) ++ clock_news x.board)) 0 ≡ Some message
+    (map (field_of x.board) (unreported_squares x.board) ++ clock_news x.board)) 0 ≡ Some message
     → SendsIt x message
 next_of x (first ∷ rest) message e h = (
   Move.Reply,
@@ -102,7 +103,7 @@ next_of x (first ∷ rest) message e h = (
 next_of x [] message e h =
     elim (first_field (updates x.board.mode) (field_of x.board) (differs x.board) every_square
     (clock_news x.board) message h) [
-      | inl found ↦ tell_is_sent x message e found
+      | inl found ↦ report_is_sent x message e found
       | inr later ↦ clock_is_sent x message e
           (first_news x.board.times_owed (clock_message x.board.clock) message later)
     ]

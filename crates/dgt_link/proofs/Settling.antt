@@ -10,16 +10,16 @@ use Rattle.std.specs.List.{AllByRecursion, flat_map}
 use Rattle.dgt_values.specs.declared.pieces.Piece.{Piece}
 use Rattle.dgt_message.specs.Clock.{ClockState}
 use Rattle.dgt_message.specs.Content.{Content}
-use Rattle.dgt_message.specs.Spelling.{spelling}
+use Rattle.dgt_message.specs.Encoding.{encoding}
 use Rattle.dgt_command.specs.Content.{EventContent}
 use Rattle.dgt_command.specs.Words.{Divides, IsPartial}
 use Rattle.dgt_command.specs.Laws.{EachDividesOnce, NoWordBeginsAPart, WordsAreShort}
-use Rattle.dgt_decode.specs.Grammar.{open_message}
+use Rattle.dgt_decode.specs.Grammar.{unfinished_message}
 use Rattle.dgt_board.specs.declared.modes.Mode.{Mode}
 use Rattle.dgt_board.specs.Sending.{backlog, next_message}
 use Rattle.dgt_board.specs.State.{effects, BoardState, follows_clock, updates}
 use Rattle.dgt_link.specs.Act.{ActContent}
-use Rattle.dgt_link.specs.Stands.{AreSpelled, IsExactWorld, IsWorld, StandsFor}
+use Rattle.dgt_link.specs.Stands.{AreEncoded, IsExactWorld, IsWorld, StandsFor}
 use Rattle.dgt_link.specs.Promise.{mode_after, act_requests, IsPromised, PictureIsComing, coming_mode}
 use Rattle.dgt_link.specs.declared.acts.Outcome.{Outcome}
 use Rattle.dgt_link.specs.View.{overflows, IsQuietWorld, WorldView}
@@ -31,11 +31,11 @@ use Rattle.dgt_link.specs.Work.{work_left}
 use Rattle.dgt_link.specs.Sound.{IsUnknownOr}
 use Rattle.dgt_link.proofs.Backlogs.{BacklogFalls, BacklogRises}
 use Rattle.dgt_link.proofs.PromisedActs.{Leads}
-use Rattle.dgt_link.proofs.Lists.{Contains-cons, all_append, nothing_contained, IsShorter, Reaches, fronts}
+use Rattle.dgt_link.proofs.Lists.{Contains-cons, all_append, nothing_contained, IsShorter, Reaches, prefixes}
 use Rattle.dgt_link.specs.Readers.{Reads}
-use Rattle.dgt_link.proofs.Hearing.{held_alone, nothing_open}
-use Rattle.dgt_link.proofs.Resting.{quiet_state, world_awaits_nothing, world_clock_known, world_clock_told, world_picture}
-use Rattle.dgt_link.proofs.Resting.{world_picture_told}
+use Rattle.dgt_link.proofs.Hearing.{held_alone, nothing_unfinished}
+use Rattle.dgt_link.proofs.Resting.{quiet_state, world_awaits_nothing, world_clock_known, world_clock_reported, world_picture}
+use Rattle.dgt_link.proofs.Resting.{world_picture_reported}
 use Rattle.dgt_link.proofs.ActRuns.{run-push, run_keeps}
 use Rattle.dgt_link.proofs.Taking.{HasSameGame, effects_same_game}
 
@@ -55,7 +55,7 @@ module _ (short : WordsAreShort) (within : NoWordBeginsAPart) where
       → Divides (partial ++ bytes) events rest → length events ≤ length bytes
   few_taken partial bytes rest [] is divides = omega arith
   few_taken partial bytes rest (event ∷ events) is (word, after, is_word, e, divides) =
-      go (fronts partial bytes word after e)
+      go (prefixes partial bytes word after e)
     where
       more : length events ≤ length after
       more = few_events events after rest divides
@@ -73,7 +73,7 @@ module _ (short : WordsAreShort) (within : NoWordBeginsAPart) where
 
 becomes_same : (act : ActContent) (world after : WorldView) → IsSettling act → Becomes act world after
     → HasSameGame world.board.state after.board.state
-becomes_same ActContent.BoardSend world after is (message, is_next, spells, same) =
+becomes_same ActContent.BoardSend world after is (message, is_next, encodes, same) =
     rw same (record { squares = refl; clock = refl })
 becomes_same (ActContent.ToBoard count) world after is delivers =
     rw (delivers.leaves, delivers.taken.state) (effects_same_game world.board.state delivers.taken.events)
@@ -171,11 +171,11 @@ at_most_one n = go (n == 0)
     go false = omega arith
 
 module _ (falls : BacklogFalls) where
-  pub send_works : (world after : WorldView) → length world.board.state.told_squares ≡ 64
+  pub send_works : (world after : WorldView) → length world.board.state.reported_squares ≡ 64
       → Becomes ActContent.BoardSend world after → work_left after < work_left world
-  send_works world after squares (message, is_next, spells, same) =
+  send_works world after squares (message, is_next, encodes, same) =
       let less = falls world.board.state message squares is_next in
-      let flag = at_most_one (length (world.up.bytes ++ spelling message)) in
+      let flag = at_most_one (length (world.up.bytes ++ encoding message)) in
       rw same (omega (arith, less, flag))
 
 -- a delivery takes as many bytes as it moves out of the down line
@@ -219,28 +219,28 @@ hear_works world after some same =
 
 -- ---- at rest
 
--- nothing stays open of messages in a row
+-- nothing stays unfinished of messages in a row
 module _ (reads : Reads) where
-  pub nothing_left_open : (messages : List Content) (bytes : List ℕ) → AreSpelled messages bytes
-      → open_message bytes ≡ []
-  nothing_left_open [] bytes spelled = rw spelled.in_a_row nothing_open
-  nothing_left_open (message ∷ messages) bytes spelled =
-      let rest : open_message (flat_map spelling messages) ≡ []
-      = nothing_left_open messages (flat_map spelling messages) (record {
-        are_messages = spelled.are_messages.1;
+  pub nothing_left_unfinished : (messages : List Content) (bytes : List ℕ) → AreEncoded messages bytes
+      → unfinished_message bytes ≡ []
+  nothing_left_unfinished [] bytes encoded = rw encoded.in_a_row nothing_unfinished
+  nothing_left_unfinished (message ∷ messages) bytes encoded =
+      let rest : unfinished_message (flat_map encoding messages) ≡ []
+      = nothing_left_unfinished messages (flat_map encoding messages) (record {
+        are_messages = encoded.are_messages.1;
         in_a_row = refl;
       }) in
       rw (
-        spelled.in_a_row,
-        reads.open_append (spelling message)
-            (flat_map spelling messages),
-        held_alone reads message spelled.are_messages.0,
+        encoded.in_a_row,
+        reads.unfinished_append (encoding message)
+            (flat_map encoding messages),
+        held_alone reads message encoded.are_messages.0,
       ) rest
 
-  pub nothing_unread : (messages : List Content) (unread : List ℕ) → AreSpelled messages (unread ++ [])
-      → open_message unread ≡ unread → unread ≡ []
-  nothing_unread messages unread spelled held =
-      sym held ∙ nothing_left_open messages unread (rw (append-nil unread) at spelled)
+  pub nothing_unread : (messages : List Content) (unread : List ℕ) → AreEncoded messages (unread ++ [])
+      → unfinished_message unread ≡ unread → unread ≡ []
+  nothing_unread messages unread encoded held =
+      sym held ∙ nothing_left_unfinished messages unread (rw (append-nil unread) at encoded)
 
 pub nothing_partial : EachDividesOnce → (events : List EventContent) (partial : List ℕ) → IsPartial partial
     → Divides (partial ++ []) events [] → partial ≡ []
@@ -278,19 +278,19 @@ no_bytes (byte ∷ bytes) h = absurd (let e = eqb-true (length (byte ∷ bytes))
 
 some_or_none : (result : Bool) (message : Option Content) → (IsTrue result ↔ IsSome message) → result ≡ false
     → message ≡ None
-some_or_none result None tells e = refl
-some_or_none result (Some message) tells e = absurd (false≢true (sym e ∙ tells.1 refl))
+some_or_none result None reports e = refl
+some_or_none result (Some message) reports e = absurd (false≢true (sym e ∙ reports.1 refl))
 
 -- what a world has of the state that it stands for
-told_all : (world : WorldView) → IsWorld world → length world.board.state.told_squares ≡ 64
-told_all world is = rw is.stands.board is.stands.sound.told_squares
+reported_all : (world : WorldView) → IsWorld world → length world.board.state.reported_squares ≡ 64
+reported_all world is = rw is.stands.board is.stands.sound.reported_squares
 
 pub sends : BacklogFalls
-    → (world after : WorldView) (answer : Outcome) → length world.board.state.told_squares ≡ 64
+    → (world after : WorldView) (answer : Outcome) → length world.board.state.reported_squares ≡ 64
     → (length world.up.bytes == 0) ≡ true
     → IsSome (next_message world.board.state) → (world.up.bytes ≡ [] → answer ≢ Outcome.NoRoom)
     → Step ActContent.BoardSend world answer after → Moves world after
-sends falls world after answer told up some fits step = go (next_message world.board.state) refl some
+sends falls world after answer reported up some fits step = go (next_message world.board.state) refl some
   where
     sent : answer ≡ Outcome.Done → Moves world after
     sent e =
@@ -298,17 +298,17 @@ sends falls world after answer told up some fits step = go (next_message world.b
           ActContent.BoardSend,
           (no_bytes world.up.bytes up, some),
           step',
-          send_works falls world after told step'.leaves,
+          send_works falls world after reported step'.leaves,
         )
 
     room : (message : Content) → next_message world.board.state ≡ Some message → (full : Bool)
-        → overflows world.up (spelling message) ≡ full → answer ≡ Outcome.Done
+        → overflows world.up (encoding message) ≡ full → answer ≡ Outcome.Done
     room message e true f = absurd (fits (no_bytes world.up.bytes up) (step.answers ∙ rw (e, f) refl))
     room message e false f = step.answers ∙ rw (e, f) refl
 
     go : (next : Option Content) → next_message world.board.state ≡ next → IsSome next → Moves world after
     go None e h = absurd (false≢true h)
-    go (Some message) e h = sent (room message e (overflows world.up (spelling message)) refl)
+    go (Some message) e h = sent (room message e (overflows world.up (encoding message)) refl)
 
 module _ (short : WordsAreShort) (within : NoWordBeginsAPart) (rises : BacklogRises) where
   pub takes : (world after : WorldView) (answer : Outcome) → IsPartial world.board.partial
@@ -326,18 +326,18 @@ module _ (short : WordsAreShort) (within : NoWordBeginsAPart) (rises : BacklogRi
       )
 
 pub rests : Reads → EachDividesOnce → (world : WorldView) → IsWorld world → IsRestedWorld world
-    → open_message world.host.unread ≡ world.host.unread → IsQuietWorld world
-rests reads law world is (up, down, none) open_is = (
+    → unfinished_message world.host.unread ≡ world.host.unread → IsQuietWorld world
+rests reads law world is (up, down, none) unfinished_is = (
   up,
   down,
-  nothing_unread reads is.state.up world.host.unread (rw up at is.stands.up) open_is,
+  nothing_unread reads is.state.up world.host.unread (rw up at is.stands.up) unfinished_is,
   nothing_partial law is.state.down world.board.partial is.stands.partial (rw down at is.stands.down),
   none,
 )
 
 pub not_owing : (result : Bool) (board : BoardState) → (IsTrue result ↔ IsSome (next_message board)) → result ≡ false
     → next_message board ≡ None
-not_owing result board tells e = some_or_none result (next_message board) tells e
+not_owing result board reports e = some_or_none result (next_message board) reports e
 
 -- ---- the loop
 
@@ -402,11 +402,12 @@ module _ (leads : Leads)
       })
       ∙ ap (λ (squares : List Piece). Some squares) same
 
-  pub settled_told : IsTrue (updates new.board.state.mode) → IsUnknownOr new.host.picture (Some old.board.state.squares)
-  settled_told asks =
+  pub settled_reported : IsTrue (updates new.board.state.mode)
+      → IsUnknownOr new.host.picture (Some old.board.state.squares)
+  settled_reported asks =
       let same = (settled_kept count old new settled).squares in
       subst (λ (squares : List Piece). IsUnknownOr new.host.picture (Some squares)) same
-      (world_picture_told law new promise.state promise.stands quiet asks)
+      (world_picture_reported law new promise.state promise.stands quiet asks)
 
   pub settled_known : IsTrue (follows_clock new.board.state.mode)
       → IsUnknownOr new.host.clock (Some old.board.state.clock)
@@ -422,7 +423,7 @@ pub settled_clock : EachDividesOnce → (count : ℕ) (old new : WorldView) → 
     → IsQuietWorld new → IsTrue (follows_clock new.board.state.mode) → new.host.clock ≡ Some old.board.state.clock
 settled_clock law count old new settled exact quiet follows =
     let same = (settled_kept count old new settled).clock in
-    world_clock_told law new exact.state exact.stands quiet exact.exact follows ∙ ap
+    world_clock_reported law new exact.state exact.stands quiet exact.exact follows ∙ ap
     (λ (clock : ClockState). Some clock) same
 
 pub work_fits : (world : WorldView) → ((board : BoardState) → backlog board ≤ length board.owed + 65)
@@ -455,14 +456,14 @@ hear_steps world after count some same =
     rw same (omega (arith, less))
 
 module _ (falls : BacklogFalls) where
-  send_steps : (world after : WorldView) → length world.board.state.told_squares ≡ 64
-      → ((message : Content) → next_message world.board.state ≡ Some message → overflows world.up (spelling message)
+  send_steps : (world after : WorldView) → length world.board.state.reported_squares ≡ 64
+      → ((message : Content) → next_message world.board.state ≡ Some message → overflows world.up (encoding message)
       ≡ false)
       → Becomes ActContent.BoardSend world after → steps_left after < steps_left world
-  send_steps world after squares room (message, is_next, spells, same) =
+  send_steps world after squares room (message, is_next, encodes, same) =
       let less = falls world.board.state message squares is_next in
-      let few = fits world.up.capacity (length world.up.bytes + length (spelling message)) (room message is_next) in
-      let size = length-append world.up.bytes (spelling message) in
+      let few = fits world.up.capacity (length world.up.bytes + length (encoding message)) (room message is_next) in
+      let size = length-append world.up.bytes (encoding message) in
       let weighed = mul-le-mul_left (world.up.capacity + 1) less in
       rw same (omega (arith, few, size, weighed))
 
@@ -492,8 +493,8 @@ module _ (keeps : (act : ActContent) (world after : WorldView) (answer : Outcome
   done_steps : (act : ActContent) (world after : WorldView) → IsWorld world → IsSettling act
       → Step act world Outcome.Done after → steps_left after < steps_left world
   done_steps ActContent.BoardSend world after is settling step =
-      send_steps falls world after (told_all world is)
-      (λ message e. some_sent (overflows world.up (spelling message)) (rw e at step.answers)) step.leaves
+      send_steps falls world after (reported_all world is)
+      (λ message e. some_sent (overflows world.up (encoding message)) (rw e at step.answers)) step.leaves
   done_steps (ActContent.ToBoard count) world after is settling step =
       take_steps short within rises world after count is.stands.partial step.leaves
   done_steps (ActContent.ToHost count) world after is settling step =

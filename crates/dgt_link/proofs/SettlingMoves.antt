@@ -11,7 +11,7 @@ use Rattle.dgt_board.specs.declared.modes.Mode.{Mode}
 use Rattle.dgt_board.specs.declared.replies.Reply.{Reply}
 use Rattle.dgt_board.specs.Sending.{differs, field_of, next_message, pending_messages}
 use Rattle.dgt_board.specs.State.{updates}
-use Rattle.dgt_link.specs.Machine.{MachineState, after_hear, after_move, after_moves, after_reply, after_take, after_told, IsSending, Move}
+use Rattle.dgt_link.specs.Machine.{MachineState, after_hear, after_move, after_moves, after_reply, after_take, after_reported, IsSending, Move}
 use Rattle.dgt_link.specs.Promise.{IsPromised, IsQuiet, PictureIsComing, coming_mode, mode_after, requests}
 use Rattle.dgt_link.specs.Settling.{IsSettlingMove, SettlesBy, moves_left}
 use Rattle.dgt_link.specs.Sound.{IsSound}
@@ -26,8 +26,8 @@ use Rattle.dgt_link.proofs.Taking.{HasSameGame, effect_leaves, same_game}
 
 sending_settles : (move : Move) → IsSending move → IsSettlingMove move
 sending_settles Move.Reply is = tt
-sending_settles (Move.Tell square) is = tt
-sending_settles Move.TellClock is = tt
+sending_settles (Move.Report square) is = tt
+sending_settles Move.ReportClock is = tt
 sending_settles _ none = absurd none
 
 -- ---- a move nearer
@@ -45,7 +45,7 @@ module _ (falls : BacklogFalls) (rises : BacklogRises) where
       → (move : Move) × NearerBy x move
   sends_nearer x message sound e =
       let sent = next_is_sent x message e in
-      let less = falls x.board message sound.told_squares e in
+      let less = falls x.board message sound.reported_squares e in
       let size = length-append x.up (message ∷ []) in
       (sent.0, (sending_settles sent.0 sent.1, rw sent.2 (omega (arith, less, size))))
 
@@ -117,33 +117,33 @@ hear_same_game : (x : MachineState) (messages : List Content) → HasSameGame x.
 hear_same_game x [] = same_game x.board
 hear_same_game x (message ∷ later) = record { squares = refl; clock = refl }
 
-told_same_game : (x : MachineState) (asks : Bool) (message : Content)
-    → HasSameGame x.board (cond asks (after_told x message) x).board
-told_same_game x true message = record { squares = refl; clock = refl }
-told_same_game x false message = same_game x.board
+reported_same_game : (x : MachineState) (asks : Bool) (message : Content)
+    → HasSameGame x.board (cond asks (after_reported x message) x).board
+reported_same_game x true message = record { squares = refl; clock = refl }
+reported_same_game x false message = same_game x.board
 
 move_same_game : (x : MachineState) (move : Move) → IsSettlingMove move → HasSameGame x.board (after_move x move).board
 move_same_game x Move.Take is = take_same_game x x.down
 move_same_game x Move.Reply is = reply_same_game x x.board.owed
-move_same_game x (Move.Tell square) is =
-    told_same_game x (updates x.board.mode && differs x.board square) (field_of x.board square)
-move_same_game x Move.TellClock is = told_same_game x x.board.times_owed (clock_message x.board.clock)
+move_same_game x (Move.Report square) is =
+    reported_same_game x (updates x.board.mode && differs x.board square) (field_of x.board square)
+move_same_game x Move.ReportClock is = reported_same_game x x.board.times_owed (clock_message x.board.clock)
 move_same_game x Move.Hear is = hear_same_game x x.up
 move_same_game x _ none = absurd none
 
 settling_keeps_mode : (before : Mode) (move : Move) → IsSettlingMove move → mode_after before (requests move) ≡ before
 settling_keeps_mode before Move.Take is = refl
 settling_keeps_mode before Move.Reply is = refl
-settling_keeps_mode before (Move.Tell square) is = refl
-settling_keeps_mode before Move.TellClock is = refl
+settling_keeps_mode before (Move.Report square) is = refl
+settling_keeps_mode before Move.ReportClock is = refl
 settling_keeps_mode before Move.Hear is = refl
 settling_keeps_mode before _ none = absurd none
 
 settling_breaks_nothing : (move : Move) → IsSettlingMove move → move ≢ Move.Break
 settling_breaks_nothing Move.Take is e = cc
 settling_breaks_nothing Move.Reply is e = cc
-settling_breaks_nothing (Move.Tell square) is e = cc
-settling_breaks_nothing Move.TellClock is e = cc
+settling_breaks_nothing (Move.Report square) is e = cc
+settling_breaks_nothing Move.ReportClock is e = cc
 settling_breaks_nothing Move.Hear is e = cc
 settling_breaks_nothing _ none e = none
 

@@ -15,13 +15,13 @@ use Rattle.dgt_board.specs.declared.replies.Reply.{Reply}
 use Rattle.dgt_board.specs.State.{IdentityContent, updates, effect}
 use Rattle.dgt_board.specs.Sending.{differs, field_of, reply_message}
 use Rattle.dgt_host.specs.Host.{awaited_after}
-use Rattle.dgt_link.specs.Machine.{IsHostBreak, Move, MachineState, commands_anew, new_state, state_of_board, after_move, after_told, after_take, after_reply, after_hear}
+use Rattle.dgt_link.specs.Machine.{IsHostBreak, Move, MachineState, commands_anew, new_state, state_of_board, after_move, after_reported, after_take, after_reply, after_hear}
 use Rattle.dgt_link.specs.Sound.{IsSound, IsExact, IsSubsequence, coming_kinds, kind_of_event, kind_of_reply}
 use Rattle.dgt_link.proofs.Subsequences.{subsequence_at_end, subsequence_append, awaited_after-subsequence}
 use Rattle.dgt_link.proofs.Subsequences.{awaited_exactly, one_more, moved_over}
-use Rattle.dgt_link.proofs.Telling.{ToldIsHeard, field_tells, clock_tells, reply_tells, reply_message-kind}
-use Rattle.dgt_link.proofs.Telling.{clock_message-kind, picture_told, clock_told_of, clock_after_all-append}
-use Rattle.dgt_link.proofs.Telling.{followed_after, handed_or_told}
+use Rattle.dgt_link.proofs.Reporting.{ReportedIsHeard, field_reports, clock_reports, reply_reports, reply_message-kind}
+use Rattle.dgt_link.proofs.Reporting.{clock_message-kind, picture_reported, clock_reported_of, clock_after_all-append}
+use Rattle.dgt_link.proofs.Reporting.{followed_after, handed_or_reported}
 use Rattle.dgt_command.specs.Words.{IsNoiseList}
 use Rattle.dgt_link.proofs.Taking.{Leaves, effect-kinds, effect_followed, effect_leaves, nothing_of_noise}
 
@@ -32,10 +32,10 @@ owing x owed = record x { board = record x.board { owed = owed } }
 -- ---- a message is sent, whose kind was the first owed
 
 module _ (x : MachineState) (owed : List Reply) (message : Content)
-    (tells : ToldIsHeard (record x.board { owed = owed }) message)
+    (reports : ReportedIsHeard (record x.board { owed = owed }) message)
     (first : filter_map kind_of_reply x.board.owed
     ≡ cons_option (answered_kind message) (filter_map kind_of_reply owed)) where
-  send-kinds : coming_kinds (after_told (owing x owed) message) ≡ coming_kinds x
+  send-kinds : coming_kinds (after_reported (owing x owed) message) ≡ coming_kinds x
   send-kinds =
       ap (λ (up : List Kind). up ++ (filter_map kind_of_reply owed ++ filter_map kind_of_event x.down))
       (filter_map-append answered_kind x.up (message ∷ []))
@@ -44,22 +44,22 @@ module _ (x : MachineState) (owed : List Reply) (message : Content)
       ∙ ap (λ (owed : List Kind). filter_map answered_kind x.up ++ (owed ++ filter_map kind_of_event x.down))
       (sym first)
 
-  send_sound : IsSound x → IsSound (after_told (owing x owed) message)
+  send_sound : IsSound x → IsSound (after_reported (owing x owed) message)
   send_sound sound =
       record {
         squares = sound.squares;
-        told_squares = tells.squares sound.squares sound.told_squares;
-        picture = picture_told (record x.board { owed = owed }) message tells x.picture x.up sound.picture;
-        followed = λ h. followed_after (record x.board { owed = owed }) message tells (sound.followed h);
-        clock = clock_told_of (record x.board { owed = owed }) message tells x.host_clock x.up sound.clock;
+        reported_squares = reports.squares sound.squares sound.reported_squares;
+        picture = picture_reported (record x.board { owed = owed }) message reports x.picture x.up sound.picture;
+        followed = λ h. followed_after (record x.board { owed = owed }) message reports (sound.followed h);
+        clock = clock_reported_of (record x.board { owed = owed }) message reports x.host_clock x.up sound.clock;
         awaited = rw send-kinds sound.awaited;
       }
 
-  send_exact : IsExact x → IsExact (after_told (owing x owed) message)
+  send_exact : IsExact x → IsExact (after_reported (owing x owed) message)
   send_exact exact =
       record {
         sound = send_sound exact.sound;
-        clock = clock_after_all-append x.host_clock x.up message ∙ rw exact.clock tells.clock;
+        clock = clock_after_all-append x.host_clock x.up message ∙ rw exact.clock reports.clock;
         awaited = exact.awaited ∙ sym send-kinds;
       }
 
@@ -68,19 +68,19 @@ module _ (x : MachineState) (owed : List Reply) (message : Content)
 reply_sound : (x : MachineState) (owed : List Reply) → x.board.owed ≡ owed → IsSound x → IsSound (after_reply x owed)
 reply_sound x [] e sound = sound
 reply_sound x (first ∷ rest) e sound =
-    send_sound x rest (reply_message x.board first) (reply_tells (record x.board { owed = rest }) first)
+    send_sound x rest (reply_message x.board first) (reply_reports (record x.board { owed = rest }) first)
     (rw e (rw (reply_message-kind x.board first))) sound
 
 reply_exact : (x : MachineState) (owed : List Reply) → x.board.owed ≡ owed → IsExact x → IsExact (after_reply x owed)
 reply_exact x [] e exact = exact
 reply_exact x (first ∷ rest) e exact =
-    send_exact x rest (reply_message x.board first) (reply_tells (record x.board { owed = rest }) first)
+    send_exact x rest (reply_message x.board first) (reply_reports (record x.board { owed = rest }) first)
     (rw e (rw (reply_message-kind x.board first))) exact
 
-tell_clock_first : (x : MachineState)
+report_clock_first : (x : MachineState)
     → filter_map kind_of_reply x.board.owed ≡ cons_option (answered_kind (clock_message x.board.clock))
     (filter_map kind_of_reply x.board.owed)
-tell_clock_first x = rw (clock_message-kind x.board.clock)
+report_clock_first x = rw (clock_message-kind x.board.clock)
 
 -- what is asked for, or taken, keeps the kinds that come
 pub ask-kinds : (x : MachineState) (command : CommandContent)
@@ -103,10 +103,10 @@ take_sound x [] e sound = sound
 take_sound x (event ∷ rest) e sound =
     record {
       squares = ap length leaves.squares ∙ sound.squares;
-      told_squares = ap length leaves.told_squares ∙ sound.told_squares;
-      picture = rw leaves.told_squares sound.picture;
+      reported_squares = ap length leaves.reported_squares ∙ sound.reported_squares;
+      picture = rw leaves.reported_squares sound.picture;
       followed = effect_followed x.board event sound.followed;
-      clock = rw leaves.told_clock sound.clock;
+      clock = rw leaves.reported_clock sound.clock;
       awaited = rw (take-kinds x event rest e) sound.awaited;
     }
   where
@@ -118,7 +118,7 @@ take_exact x [] e exact = exact
 take_exact x (event ∷ rest) e exact =
     record {
       sound = take_sound x (event ∷ rest) e exact.sound;
-      clock = exact.clock ∙ sym (effect_leaves x.board event).told_clock;
+      clock = exact.clock ∙ sym (effect_leaves x.board event).reported_clock;
       awaited = exact.awaited ∙ sym (take-kinds x event rest e);
     }
 
@@ -137,7 +137,7 @@ hear_sound x [] e sound = sound
 hear_sound x (message ∷ rest) e sound =
     record {
       squares = sound.squares;
-      told_squares = sound.told_squares;
+      reported_squares = sound.reported_squares;
       picture = rw e at sound.picture;
       followed = sound.followed;
       clock = rw e at sound.clock;
@@ -162,7 +162,7 @@ pub new_sound : (position : List Piece) (clock : ClockState) (identity : Identit
 new_sound position clock identity h =
     record {
       squares = h;
-      told_squares = h;
+      reported_squares = h;
       picture = inl refl;
       followed = λ f. absurd (false≢true f);
       clock = inl refl;
@@ -200,7 +200,7 @@ pub board_sound : (x : MachineState) → IsSound x → IsSound (state_of_board x
 board_sound x sound =
     record {
       squares = sound.squares;
-      told_squares = sound.told_squares;
+      reported_squares = sound.reported_squares;
       picture = inl refl;
       followed = sound.followed;
       clock = inl refl;
@@ -210,19 +210,19 @@ board_sound x sound =
 pub move_sound : (x : MachineState) (move : Move) → IsSound x → IsSound (after_move x move)
 move_sound x (Move.Change square piece) sound =
     assumption (length-set x.board.squares square piece ∙ sound.squares)
-move_sound x (Move.HandClock clock) sound = assumption (handed_or_told x.board.mode x.board.told_clock clock)
+move_sound x (Move.HandClock clock) sound = assumption (handed_or_reported x.board.mode x.board.reported_clock clock)
 move_sound x (Move.Ask command) sound =
     let more : List Kind = option_to_list (requested_kind command) in
     asked_sound x (x.down ++ EventContent.Read command ∷ []) (x.awaited ++ more) sound
     (rw (ask-kinds x command) (subsequence_append x.awaited (coming_kinds x) more sound.awaited))
 move_sound x Move.Take sound = take_sound x x.down refl sound
 move_sound x Move.Reply sound = reply_sound x x.board.owed refl sound
-move_sound x (Move.Tell square) sound =
-    cond_both (updates x.board.mode && differs x.board square) (after_told x (field_of x.board square)) x IsSound
-    (λ h. send_sound x x.board.owed (field_of x.board square) (field_tells x.board square) refl sound) (λ h. sound)
-move_sound x Move.TellClock sound =
-    cond_both x.board.times_owed (after_told x (clock_message x.board.clock)) x IsSound
-    (λ h. send_sound x x.board.owed (clock_message x.board.clock) (clock_tells x.board) (tell_clock_first x) sound)
+move_sound x (Move.Report square) sound =
+    cond_both (updates x.board.mode && differs x.board square) (after_reported x (field_of x.board square)) x IsSound
+    (λ h. send_sound x x.board.owed (field_of x.board square) (field_reports x.board square) refl sound) (λ h. sound)
+move_sound x Move.ReportClock sound =
+    cond_both x.board.times_owed (after_reported x (clock_message x.board.clock)) x IsSound
+    (λ h. send_sound x x.board.owed (clock_message x.board.clock) (clock_reports x.board) (report_clock_first x) sound)
     (λ h. sound)
 move_sound x Move.Hear sound = hear_sound x x.up refl sound
 move_sound x Move.Break sound = new_sound x.board.squares x.board.clock x.board.identity sound.squares
@@ -251,12 +251,12 @@ move_exact x (Move.Ask command) other exact =
     }
 move_exact x Move.Take other exact = take_exact x x.down refl exact
 move_exact x Move.Reply other exact = reply_exact x x.board.owed refl exact
-move_exact x (Move.Tell square) other exact =
-    cond_both (updates x.board.mode && differs x.board square) (after_told x (field_of x.board square)) x IsExact
-    (λ h. send_exact x x.board.owed (field_of x.board square) (field_tells x.board square) refl exact) (λ h. exact)
-move_exact x Move.TellClock other exact =
-    cond_both x.board.times_owed (after_told x (clock_message x.board.clock)) x IsExact
-    (λ h. send_exact x x.board.owed (clock_message x.board.clock) (clock_tells x.board) (tell_clock_first x) exact)
+move_exact x (Move.Report square) other exact =
+    cond_both (updates x.board.mode && differs x.board square) (after_reported x (field_of x.board square)) x IsExact
+    (λ h. send_exact x x.board.owed (field_of x.board square) (field_reports x.board square) refl exact) (λ h. exact)
+move_exact x Move.ReportClock other exact =
+    cond_both x.board.times_owed (after_reported x (clock_message x.board.clock)) x IsExact
+    (λ h. send_exact x x.board.owed (clock_message x.board.clock) (clock_reports x.board) (report_clock_first x) exact)
     (λ h. exact)
 move_exact x Move.Hear other exact = hear_exact x x.up refl exact
 move_exact x Move.Break other exact = break_exact x exact.sound

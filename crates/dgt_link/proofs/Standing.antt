@@ -9,7 +9,7 @@ use Rattle.dgt_values.specs.declared.pieces.Piece.{Piece}
 use Rattle.dgt_values.specs.declared.kinds.Kind.{Kind}
 use Rattle.dgt_message.specs.Content.{Content, IsMessage}
 use Rattle.dgt_message.specs.Clock.{ClockState}
-use Rattle.dgt_message.specs.Spelling.{Spells, spelling}
+use Rattle.dgt_message.specs.Encoding.{Encodes, encoding}
 use Rattle.dgt_command.specs.Content.{CommandContent, EventContent, requested_kind}
 use Rattle.dgt_command.specs.Words.{Divides, IsPartial}
 use Rattle.dgt_board.specs.State.{IdentityContent, BoardState, after_change, after_hand_clock, after_line_lost, effect, effects}
@@ -21,14 +21,14 @@ use Rattle.dgt_link.specs.declared.acts.Outcome.{Outcome}
 use Rattle.dgt_link.specs.declared.world.TheConstants.{MIN_DOWN, MIN_UP}
 use Rattle.dgt_link.specs.Machine.{Move, MachineState, commands_anew, after_hear, after_move, after_moves, after_take, new_state}
 use Rattle.dgt_link.specs.Readers.{Grammars}
-use Rattle.dgt_link.specs.Stands.{AreSpelled, IsExactWorld, IsWorld, StandsFor, StandsAfterRun, StandsAfterStep}
+use Rattle.dgt_link.specs.Stands.{AreEncoded, IsExactWorld, IsWorld, StandsFor, StandsAfterRun, StandsAfterStep}
 use Rattle.dgt_link.specs.Step.{Becomes, Runs, Step}
 use Rattle.dgt_link.specs.View.{WorldView, new_world}
 use Rattle.dgt_link.proofs.Asking.{break_moves, run_is_other, step_is_other}
 use Rattle.dgt_link.proofs.Dividing.{anew_divides, divides_command}
 use Rattle.dgt_link.proofs.PromisedActs.{StepsAreMoves}
 use Rattle.dgt_link.proofs.Lists.{all_append}
-use Rattle.dgt_link.proofs.Hearing.{heard_front, host_after_messages}
+use Rattle.dgt_link.proofs.Hearing.{heard_prefix, host_after_messages}
 use Rattle.dgt_link.proofs.AfterMoves.{moves_exact, moves_sound}
 use Rattle.dgt_link.proofs.Sending.{next_is_sent}
 use Rattle.dgt_link.proofs.Soundness.{break_exact, move_sound, new_exact, new_sound}
@@ -77,9 +77,9 @@ hears (message ∷ messages) left x host e of =
       awaited = refl;
     })
 
--- a front of a line, and what is left of it
-pub front_of : (held bytes : List ℕ) (count : ℕ) → held ++ bytes ≡ (held ++ take count bytes) ++ drop count bytes
-front_of held bytes count =
+-- a prefix of a line, and what is left of it
+pub prefix_of : (held bytes : List ℕ) (count : ℕ) → held ++ bytes ≡ (held ++ take count bytes) ++ drop count bytes
+prefix_of held bytes count =
     ap (λ (line : List ℕ). held ++ line) (sym (take-append-drop count bytes)) ∙ sym
     (append_assoc held (take count bytes) (drop count bytes))
 
@@ -132,15 +132,15 @@ new_is_exact nothing position clock identity up down squares =
 
 -- ---- an act that is done
 
-spelled_more : (bytes : List ℕ) (messages : List Content) (message : Content) → Spells message (spelling message)
-    → AreSpelled messages bytes → AreSpelled (messages ++ message ∷ []) (bytes ++ spelling message)
-spelled_more bytes messages message spells spelled =
+encoded_more : (bytes : List ℕ) (messages : List Content) (message : Content) → Encodes message (encoding message)
+    → AreEncoded messages bytes → AreEncoded (messages ++ message ∷ []) (bytes ++ encoding message)
+encoded_more bytes messages message encodes encoded =
     record {
-      are_messages = all_append IsMessage messages (message ∷ []) spelled.are_messages (spells.is_message, tt);
+      are_messages = all_append IsMessage messages (message ∷ []) encoded.are_messages (encodes.is_message, tt);
       in_a_row =
-          ap (λ (front : List ℕ). front ++ spelling message) spelled.in_a_row
-          ∙ sym (flat_map-append spelling messages (message ∷ []) ∙ ap
-          (λ (last : List ℕ). flat_map spelling messages ++ last) (append-nil (spelling message)));
+          ap (λ (prefix : List ℕ). prefix ++ encoding message) encoded.in_a_row
+          ∙ sym (flat_map-append encoding messages (message ∷ []) ∙ ap
+          (λ (last : List ℕ). flat_map encoding messages ++ last) (append-nil (encoding message)));
     }
 
 change_reaches : (world : WorldView) (square : ℕ) (piece : Piece) (after : WorldView) (x : MachineState)
@@ -163,38 +163,38 @@ module _ (laws : Grammars) where
   ask_reaches : (world : WorldView) (command : CommandContent) (after : WorldView) (x : MachineState)
       → StandsFor world x → Becomes (ActContent.Host command) world after
       → StandsAfterStep (ActContent.Host command) Outcome.Done x after
-  ask_reaches world command after x stands (spells, same) =
+  ask_reaches world command after x stands (encodes, same) =
       let sound = move_sound x (Move.Ask command) stands.sound in
       let awaited = ap (λ (kinds : List Kind). kinds ++ option_to_list (requested_kind command)) stands.awaited in
       let down = divides_command laws.nothing laws.divisions_append world.board.partial world.down.bytes x.down command
-      stands.down spells in
+      stands.down encodes in
       (Move.Ask command ∷ [], refl, rw same assumption)
 
   send_reaches : (world after : WorldView) (x : MachineState) → StandsFor world x
       → Becomes ActContent.BoardSend world after → StandsAfterStep ActContent.BoardSend Outcome.Done x after
-  send_reaches world after x stands (message, is_next, spells, same) =
+  send_reaches world after x stands (message, is_next, encodes, same) =
       let by = next_is_sent x message (ap next_message (sym stands.board) ∙ is_next) in
       let sound = rw by.2 at (move_sound x by.0 stands.sound) in
       let board = ap (λ (state : BoardState). after_sending state message) stands.board in
-      let up = rw (append_assoc world.host.unread world.up.bytes (spelling message)) at
-      (spelled_more (world.host.unread ++ world.up.bytes) x.up message spells stands.up) in
+      let up = rw (append_assoc world.host.unread world.up.bytes (encoding message)) at
+      (encoded_more (world.host.unread ++ world.up.bytes) x.up message encodes stands.up) in
       (by.0 ∷ [], (by.0, by.1, refl), rw (same, by.2) assumption)
 
   pub taken_as : (world : WorldView) (moved : ℕ) (board : BoardView) (x : MachineState)
       → HasTaken world.board (take moved world.down.bytes) board → world.board.state ≡ x.board
       → Divides (world.board.partial ++ world.down.bytes) x.down [] → IsTakenAs world moved board x
   taken_as world moved board x taken same divides =
-      let front = laws.fronts_divide_first
+      let prefix = laws.prefixes_divide_first
       (world.board.partial ++ take moved world.down.bytes)
       (drop moved world.down.bytes) taken.events x.down board.partial [] taken.divided
-      (rw (front_of world.board.partial world.down.bytes moved) at divides) in
+      (rw (prefix_of world.board.partial world.down.bytes moved) at divides) in
       record {
         events = taken.events;
-        left = front.0;
-        all = front.1;
-        led = takes taken.events front.0 x front.1;
+        left = prefix.0;
+        all = prefix.1;
+        led = takes taken.events prefix.0 x prefix.1;
         board = taken.state ∙ ap (λ (state : BoardState). effects state taken.events) same;
-        down = front.2;
+        down = prefix.2;
         partial =
             laws.left (world.board.partial ++ take moved world.down.bytes) board.partial taken.events taken.divided;
       }
@@ -211,15 +211,15 @@ module _ (laws : Grammars) where
       → Becomes (ActContent.ToHost count) world after → StandsAfterStep (ActContent.ToHost count) Outcome.Done x after
   hear_reaches world count after x stands same =
       let bytes = world.host.unread ++ take count world.up.bytes in
-      let front = heard_front laws.reads bytes (drop count world.up.bytes) x.up
-      (rw (front_of world.host.unread world.up.bytes count) at stands.up) in
-      let moves : List Move = replicate (length front.heard) Move.Hear in
-      let led : after_moves x moves ≡ with_host x (host_after_messages world.host front.heard) front.left =
-      hears front.heard front.left x world.host front.all
+      let prefix = heard_prefix laws.reads bytes (drop count world.up.bytes) x.up
+      (rw (prefix_of world.host.unread world.up.bytes count) at stands.up) in
+      let moves : List Move = replicate (length prefix.heard) Move.Hear in
+      let led : after_moves x moves ≡ with_host x (host_after_messages world.host prefix.heard) prefix.left =
+      hears prefix.heard prefix.left x world.host prefix.all
       (record { picture = stands.picture; clock = stands.clock; awaited = stands.awaited }) in (
         moves,
-        (length front.heard, refl),
-        rw (same, led, front.host world.host) (assumption (rw led at (moves_sound x moves stands.sound))),
+        (length prefix.heard, refl),
+        rw (same, led, prefix.host world.host) (assumption (rw led at (moves_sound x moves stands.sound))),
       )
 
   break_reaches : (world after : WorldView) (x : MachineState) → StandsFor world x
@@ -300,8 +300,8 @@ same_rooms world after same =
     record { up = ap (λ (w : WorldView). w.up.capacity) same; down = ap (λ (w : WorldView). w.down.capacity) same }
 
 pub becomes_rooms : (act : ActContent) (world after : WorldView) → Becomes act world after → HasRooms world after
-becomes_rooms (ActContent.Host command) world after (spells, same) = rw same (record { up = refl; down = refl })
-becomes_rooms ActContent.BoardSend world after (message, is_next, spells, same) =
+becomes_rooms (ActContent.Host command) world after (encodes, same) = rw same (record { up = refl; down = refl })
+becomes_rooms ActContent.BoardSend world after (message, is_next, encodes, same) =
     rw same (record { up = refl; down = refl })
 becomes_rooms (ActContent.ToBoard count) world after delivers = rw delivers.leaves (record { up = refl; down = refl })
 becomes_rooms _ world after same = rw same (record { up = refl; down = refl })

@@ -11,7 +11,7 @@ use Rattle.dgt_command.specs.Content.{ClockContent, CommandContent, EventContent
 use Rattle.dgt_command.specs.Words.{IsNoise, IsNoiseList}
 use Rattle.dgt_board.specs.State.{IdentityContent, BoardState, follows_clock, acknowledgements, after_command, effect, effects, replies_to}
 use Rattle.dgt_link.specs.Sound.{kind_of_event, kind_of_reply}
-use Rattle.dgt_link.proofs.Telling.{owed_or_told}
+use Rattle.dgt_link.proofs.Reporting.{owed_or_reported}
 
 acknowledgements-kinds : (clock : ClockState) (identity : IdentityContent) (message : ClockContent)
     → filter_map kind_of_reply (acknowledgements clock identity message) ≡ []
@@ -41,14 +41,15 @@ effect-kinds board (EventContent.Read command) down =
 effect-kinds board _ down = refl
 
 abbrev IsFollowed : BoardState → Type 0
-IsFollowed board = IsTrue (follows_clock board.mode) → IsTrue board.times_owed ⊎ (board.told_clock ≡ Some board.clock)
+IsFollowed board = IsTrue (follows_clock board.mode) → IsTrue board.times_owed
+    ⊎ (board.reported_clock ≡ Some board.clock)
 
 command_followed : (board : BoardState) (command : CommandContent) → IsFollowed board
     → IsFollowed (after_command board command)
 command_followed board CommandContent.Reset before = λ h. absurd (false≢true h)
-command_followed board CommandContent.Update before = λ h. owed_or_told board.told_clock board.clock
+command_followed board CommandContent.Update before = λ h. owed_or_reported board.reported_clock board.clock
 command_followed board CommandContent.UpdateBoard before = λ h. absurd (false≢true h)
-command_followed board CommandContent.UpdateNice before = λ h. owed_or_told board.told_clock board.clock
+command_followed board CommandContent.UpdateNice before = λ h. owed_or_reported board.reported_clock board.clock
 command_followed board _ before = before
 
 pub effect_followed : (board : BoardState) (event : EventContent) → IsFollowed board → IsFollowed (effect board event)
@@ -59,13 +60,13 @@ effect_followed board _ before = before
 pub record Leaves (before after : BoardState) : Type 0 where
   pub squares : after.squares ≡ before.squares
   pub clock : after.clock ≡ before.clock
-  pub told_squares : after.told_squares ≡ before.told_squares
-  pub told_clock : after.told_clock ≡ before.told_clock
+  pub reported_squares : after.reported_squares ≡ before.reported_squares
+  pub reported_clock : after.reported_clock ≡ before.reported_clock
 
 pub effect_leaves : (board : BoardState) (event : EventContent) → Leaves board (effect board event)
 effect_leaves board (EventContent.Read command) =
-    record { squares = refl; clock = refl; told_squares = refl; told_clock = refl }
-effect_leaves board _ = record { squares = refl; clock = refl; told_squares = refl; told_clock = refl }
+    record { squares = refl; clock = refl; reported_squares = refl; reported_clock = refl }
+effect_leaves board _ = record { squares = refl; clock = refl; reported_squares = refl; reported_clock = refl }
 
 -- the same squares, and the same clock
 pub record HasSameGame (before after : BoardState) : Type 0 where

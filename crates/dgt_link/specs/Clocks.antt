@@ -17,7 +17,7 @@ use Rattle.dgt_link.specs.View.{WorldView}
 abbrev pub ClockIsComing : MachineState → Type 0
 ClockIsComing x =
     IsSome (coming_clock x) ⊎ (Contains x.board.owed Reply.Clock
-    ⊎ (Contains x.down (EventContent.Read CommandContent.Clock) ⊎ (x.board.told_clock ≡ None)))
+    ⊎ (Contains x.down (EventContent.Read CommandContent.Clock) ⊎ (x.board.reported_clock ≡ None)))
 
 abbrev pub IsClockPromised : MachineState → Type 0
 IsClockPromised = IsPromisedBy ClockIsComing follows_clock

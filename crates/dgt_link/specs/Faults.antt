@@ -3,7 +3,7 @@ use Rattle.std.specs.Prelude.{◌≡◌, ℕ, List, length, Some, Bool, false, t
 use Rattle.std.specs.List.{AllByRecursion}
 use Rattle.dgt_values.specs.declared.kinds.Kind.{Kind}
 use Rattle.dgt_command.specs.Content.{CommandContent}
-use Rattle.dgt_command.specs.Spelling.{AreBytes}
+use Rattle.dgt_command.specs.Encoding.{AreBytes}
 use Rattle.dgt_board.specs.View.{view_after_line_lost}
 use Rattle.dgt_host.specs.Host.{host_awaiting, restart_bytes, without_awaited}
 use Rattle.dgt_link.specs.declared.acts.Outcome.{Outcome}

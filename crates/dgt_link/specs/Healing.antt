@@ -3,9 +3,9 @@ use Rattle.std.specs.Prelude.{◌≡◌, ◌⊎◌, ℕ, ◌≤◌, List, [], �
 use Rattle.std.specs.Prelude.{false, true, ◌||◌, IsTrue, Contains, filter, filter_map, is_some}
 use Rattle.std.specs.List.{AllByRecursion, flat_map}
 use Rattle.dgt_message.specs.Content.{IsMessage}
-use Rattle.dgt_message.specs.Spelling.{spelling}
+use Rattle.dgt_message.specs.Encoding.{encoding}
 use Rattle.dgt_command.specs.Content.{CommandContent}
-use Rattle.dgt_command.specs.Spelling.{AreBytes}
+use Rattle.dgt_command.specs.Encoding.{AreBytes}
 use Rattle.dgt_command.specs.Words.{Divides, IsPartial}
 use Rattle.dgt_board.specs.Sending.{next_message}
 use Rattle.dgt_board.specs.declared.modes.Mode.{Mode}
@@ -116,7 +116,7 @@ pub record StandsBehind (garbage : List ℕ) (world : WorldView) (x : MachineSta
   pub clock : IsUnknownOr x.host_clock world.host.clock
   pub unheard : (garbage ≡ []) ⊎ ((x.picture ≡ None) × (x.host_clock ≡ None))
   pub are_messages : AllByRecursion IsMessage x.up
-  pub up : world.host.unread ++ world.up.bytes ≡ garbage ++ flat_map spelling x.up
+  pub up : world.host.unread ++ world.up.bytes ≡ garbage ++ flat_map encoding x.up
   pub down : Divides (world.board.partial ++ world.down.bytes) x.down []
   pub partial : IsPartial world.board.partial
 

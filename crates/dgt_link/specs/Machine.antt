@@ -10,7 +10,7 @@ use Rattle.dgt_command.specs.Content.{CommandContent, EventContent, requested_ki
 use Rattle.dgt_command.specs.Words.{IsNoiseList}
 use Rattle.dgt_board.specs.declared.replies.Reply.{Reply as OwedReply}
 use Rattle.dgt_board.specs.State.{IdentityContent, BoardState, new_board, after_change, after_hand_clock, after_line_lost, updates, effect}
-use Rattle.dgt_board.specs.Sending.{after_telling, differs, field_of, reply_message}
+use Rattle.dgt_board.specs.Sending.{after_reporting, differs, field_of, reply_message}
 use Rattle.dgt_host.specs.Host.{awaited_after, clock_after, picture_after}
 
 pub record MachineState : Type 0 where
@@ -33,9 +33,9 @@ pub data Move : Type 0 where
   -- the board sends the oldest reply that it owes
   Reply : Move
   -- the board sends one square that differs from what it reported
-  Tell : (square : ℕ) → Move
+  Report : (square : ℕ) → Move
   -- the board sends its clock
-  TellClock : Move
+  ReportClock : Move
   -- the host hears the oldest message under way
   Hear : Move
   -- both ends lose the line, and all that is under way on it
@@ -51,8 +51,8 @@ IsHostBreak _ = ⊥
 -- a move by which the board sends something
 abbrev pub IsSending : Move → Type 0
 IsSending Move.Reply = Unit {0}
-IsSending (Move.Tell square) = Unit {0}
-IsSending Move.TellClock = Unit {0}
+IsSending (Move.Report square) = Unit {0}
+IsSending Move.ReportClock = Unit {0}
 IsSending _ = ⊥
 
 -- a board, a host just made, and nothing under way
@@ -78,9 +78,9 @@ commands_anew = CommandContent.UpdateBoard ∷ CommandContent.Dump ∷ []
 -- ---- what a move makes of a state: one that can't happen changes nothing
 
 -- the board sends a message
-abbrev pub after_told : MachineState → Content → MachineState
-after_told x message =
-    record x { board = after_telling x.board message; up = x.up ++ message ∷ [] }
+abbrev pub after_reported : MachineState → Content → MachineState
+after_reported x message =
+    record x { board = after_reporting x.board message; up = x.up ++ message ∷ [] }
 
 -- the first of these commands is taken
 abbrev pub after_take : MachineState → List EventContent → MachineState
@@ -91,7 +91,8 @@ after_take x (event ∷ later) = record x { board = effect x.board event; down =
 abbrev pub after_reply : MachineState → List OwedReply → MachineState
 after_reply x [] = x
 after_reply x (reply ∷ later) =
-    after_told (record x { board = record x.board { owed = later } }) (reply_message x.board reply)
+    after_reported (record x { board = record x.board { owed = later } })
+        (reply_message x.board reply)
 
 -- the first of these messages is heard
 abbrev pub after_hear : MachineState → List Content → MachineState
@@ -114,11 +115,11 @@ after_move x (Move.Ask command) =
     }
 after_move x Move.Take = after_take x x.down
 after_move x Move.Reply = after_reply x x.board.owed
-after_move x (Move.Tell square) =
+after_move x (Move.Report square) =
     if updates x.board.mode && differs x.board square
-    then after_told x (field_of x.board square) else x
-after_move x Move.TellClock =
-    if x.board.times_owed then after_told x (clock_message x.board.clock) else x
+    then after_reported x (field_of x.board square) else x
+after_move x Move.ReportClock =
+    if x.board.times_owed then after_reported x (clock_message x.board.clock) else x
 after_move x Move.Hear = after_hear x x.up
 after_move x Move.Break = state_of_board (after_line_lost x.board)
 after_move x (Move.HostBreak noise is_noise) =

@@ -21,9 +21,9 @@ first_reply board (reply ∷ later) = reply_message board reply ∷ []
 -- the message that the board sends by a move, if it sends one
 abbrev pub sent_by : MachineState → Move → List Content
 sent_by x Move.Reply = first_reply x.board x.board.owed
-sent_by x (Move.Tell square) =
+sent_by x (Move.Report square) =
     if updates x.board.mode && differs x.board square then field_of x.board square ∷ [] else []
-sent_by x Move.TellClock = if x.board.times_owed then clock_message x.board.clock ∷ [] else []
+sent_by x Move.ReportClock = if x.board.times_owed then clock_message x.board.clock ∷ [] else []
 sent_by x _ = []
 
 abbrev pub sent_by_all : MachineState → List Move → List Content
@@ -38,7 +38,7 @@ pub record ReportedBefore (x : MachineState) (moves : List Move) (seen : Option 
   pub later : List Move
   pub split : moves ≡ earlier ++ later
   pub sent : sent_by_all (after_moves x earlier) later ≡ left
-  pub picture : IsUnknownOr seen (Some (after_moves x earlier).board.told_squares)
+  pub picture : IsUnknownOr seen (Some (after_moves x earlier).board.reported_squares)
 
 -- After these moves the picture is unknown, or what the board had reported by the moment when it
 -- sent the last message that was heard. Since then it has sent just the messages still under way.

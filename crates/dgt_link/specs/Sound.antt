@@ -45,24 +45,24 @@ IsSubsequence (x ∷ xs) [] = ⊥
 IsSubsequence (x ∷ xs) (y ∷ ys) = ((x ≡ y) × IsSubsequence xs ys) ⊎ IsSubsequence (x ∷ xs) ys
 
 abbrev pub IsUnknownOr : {X : Type 0} → Option X → Option X → Type 0
-IsUnknownOr known told = (known ≡ None) ⊎ (known ≡ told)
+IsUnknownOr known reported = (known ≡ None) ⊎ (known ≡ reported)
 
 pub record IsSound (x : MachineState) : Type 0 where
   -- both positions have 64 squares
   pub squares : length x.board.squares ≡ 64
-  pub told_squares : length x.board.told_squares ≡ 64
+  pub reported_squares : length x.board.reported_squares ≡ 64
   -- the picture to come is unknown, or the squares as the board has reported them
-  pub picture : IsUnknownOr (coming_picture x) (Some x.board.told_squares)
+  pub picture : IsUnknownOr (coming_picture x) (Some x.board.reported_squares)
   -- if the mode follows the clock, it is reported or owed
   pub followed : IsTrue (follows_clock x.board.mode) →
-      IsTrue x.board.times_owed ⊎ (x.board.told_clock ≡ Some x.board.clock)
+      IsTrue x.board.times_owed ⊎ (x.board.reported_clock ≡ Some x.board.clock)
   -- the host's clock to come is unknown, or the clock as the board has reported it
-  pub clock : IsUnknownOr (coming_clock x) x.board.told_clock
+  pub clock : IsUnknownOr (coming_clock x) x.board.reported_clock
   -- what is awaited is among the kinds to come, in their order
   pub awaited : IsSubsequence x.awaited (coming_kinds x)
 
 -- and nothing more comes than the host knows of
 pub record IsExact (x : MachineState) : Type 0 where
   pub sound : IsSound x
-  pub clock : coming_clock x ≡ x.board.told_clock
+  pub clock : coming_clock x ≡ x.board.reported_clock
   pub awaited : x.awaited ≡ coming_kinds x

@@ -2,7 +2,7 @@
 use Rattle.std.specs.Prelude.{◌≡◌, ℕ, ◌≤◌, List, [], ◌∷◌, ◌++◌, replicate}
 use Rattle.std.specs.List.{AllByRecursion, flat_map}
 use Rattle.dgt_message.specs.Content.{Content, IsMessage}
-use Rattle.dgt_message.specs.Spelling.{spelling}
+use Rattle.dgt_message.specs.Encoding.{encoding}
 use Rattle.dgt_command.specs.Content.{EventContent}
 use Rattle.dgt_command.specs.Words.{Divides, IsNoiseList, IsPartial}
 use Rattle.dgt_link.specs.declared.acts.Outcome.{Outcome}
@@ -14,9 +14,9 @@ use Rattle.dgt_link.specs.Step.{IfDone}
 use Rattle.dgt_link.specs.View.{WorldView}
 
 -- these are messages, and the bytes are what is written of them in a row
-pub record AreSpelled (said : List Content) (bytes : List ℕ) : Type 0 where
+pub record AreEncoded (said : List Content) (bytes : List ℕ) : Type 0 where
   pub are_messages : AllByRecursion IsMessage said
-  pub in_a_row : bytes ≡ flat_map spelling said
+  pub in_a_row : bytes ≡ flat_map encoding said
 
 -- The bytes of the lines, and those that the ends hold of an unfinished message and an unfinished
 -- command, are the messages and the commands under way. All else is the same, and the state is
@@ -27,7 +27,7 @@ pub record StandsFor (world : WorldView) (x : MachineState) : Type 0 where
   pub picture : world.host.picture ≡ x.picture
   pub clock : world.host.clock ≡ x.host_clock
   pub awaited : world.host.awaited ≡ x.awaited
-  pub up : AreSpelled x.up (world.host.unread ++ world.up.bytes)
+  pub up : AreEncoded x.up (world.host.unread ++ world.up.bytes)
   pub down : Divides (world.board.partial ++ world.down.bytes) x.down []
   -- what the board holds is a part of some command
   pub partial : IsPartial world.board.partial

@@ -3,9 +3,9 @@ use Rattle.std.specs.Prelude.{◌≡◌, ◌⊎◌, ℕ, ◌+◌, ◌<◌, ◌�
 use Rattle.std.specs.Prelude.{Option, Some, None, Bool, false, ◌||◌, if◌then◌else◌, IsTrue, nat_le}
 use Rattle.dgt_values.specs.declared.kinds.Kind.{Kind}
 use Rattle.dgt_message.specs.Content.{Content}
-use Rattle.dgt_message.specs.Spelling.{Spells, spelling}
+use Rattle.dgt_message.specs.Encoding.{Encodes, encoding}
 use Rattle.dgt_command.specs.Content.{requested_kind}
-use Rattle.dgt_command.specs.Spelling.{SpellsCommand, command_spelling}
+use Rattle.dgt_command.specs.Encoding.{EncodesCommand, command_encoding}
 use Rattle.dgt_board.specs.declared.state.TheConstants.{MAX_OWED}
 use Rattle.dgt_board.specs.State.{BoardState, after_change, after_hand_clock}
 use Rattle.dgt_board.specs.Sending.{after_sending, next_message}
@@ -29,12 +29,12 @@ moves_nothing count line = (count == 0) || (length line.bytes == 0)
 abbrev pub sending_outcome : Option Content → LineContents → Outcome
 sending_outcome None line = Outcome.Nothing
 sending_outcome (Some message) line =
-    if overflows line (spelling message) then Outcome.NoRoom else Outcome.Done
+    if overflows line (encoding message) then Outcome.NoRoom else Outcome.Done
 
 abbrev pub outcome : ActContent → WorldView → Outcome
 outcome (ActContent.Host command) world =
     if awaits_too_many world.host (requested_kind command) then Outcome.TooMany
-    else if overflows world.down (command_spelling command) then Outcome.NoRoom
+    else if overflows world.down (command_encoding command) then Outcome.NoRoom
     else Outcome.Done
 outcome ActContent.BoardSend world = sending_outcome (next_message world.board.state) world.up
 outcome (ActContent.ToBoard count) world =
@@ -48,8 +48,8 @@ outcome _ world = Outcome.Done
 -- ---- what an act leaves
 
 -- fewer than this number of these bytes leave the board with room for a reply
-abbrev pub StaysOpen : BoardView → List ℕ → ℕ → Type 0
-StaysOpen board bytes moved =
+abbrev pub StaysUnfinished : BoardView → List ℕ → ℕ → Type 0
+StaysUnfinished board bytes moved =
     (fewer : ℕ) → 0 < fewer → fewer < moved
     → (between : BoardView) × HasTaken board (take fewer bytes) between
     × (is_full between.state ≡ false)
@@ -62,7 +62,7 @@ pub record Delivers (count : ℕ) (world after : WorldView) : Type 0 where
   pub within : (moved ≤ count) × (moved ≤ length world.down.bytes)
   pub board : BoardView
   pub taken : HasTaken world.board (take moved world.down.bytes) board
-  pub earlier : StaysOpen world.board world.down.bytes moved
+  pub earlier : StaysUnfinished world.board world.down.bytes moved
   pub ended : (moved ≡ count) ⊎ ((moved ≡ length world.down.bytes) ⊎ IsTrue (is_full board.state))
   pub leaves : after ≡ record world { board = board; down = without_first world.down moved }
 
@@ -77,16 +77,16 @@ Becomes (ActContent.Change square piece) world after =
 Becomes (ActContent.ClockRead clock) world after =
     after ≡ with_state world (after_hand_clock world.board.state clock)
 Becomes (ActContent.Host command) world after =
-    SpellsCommand command (command_spelling command)
+    EncodesCommand command (command_encoding command)
     × (after ≡ record world {
       host = host_awaiting world.host (requested_kind command);
-      down = with_bytes world.down (command_spelling command);
+      down = with_bytes world.down (command_encoding command);
     })
 Becomes ActContent.BoardSend world after =
     (message : Content) × (next_message world.board.state ≡ Some message)
-    × Spells message (spelling message)
+    × Encodes message (encoding message)
     × (after ≡ record (with_state world (after_sending world.board.state message)) {
-      up = with_bytes world.up (spelling message);
+      up = with_bytes world.up (encoding message);
     })
 Becomes (ActContent.ToBoard count) world after = Delivers count world after
 Becomes (ActContent.ToHost count) world after =

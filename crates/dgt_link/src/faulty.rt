@@ -6,7 +6,7 @@ ghost use Rattle.dgt_board.specs.Sending.{backlog, next_message};
 ghost use Rattle.dgt_board.specs.State.{command_mode, follows_clock, updates};
 ghost use Rattle.dgt_board.specs.declared.modes.Mode.{Mode};
 ghost use Rattle.dgt_command.specs.Content.{CommandContent};
-ghost use Rattle.dgt_decode.specs.Grammar.{open_message};
+ghost use Rattle.dgt_decode.specs.Grammar.{unfinished_message};
 ghost use Rattle.dgt_link.specs.Act.{ActContent};
 ghost use Rattle.dgt_link.specs.Settling.{IsNext, SettlesIn};
 ghost use Rattle.dgt_link.specs.Work.{work_left};
@@ -123,7 +123,7 @@ impl FaultyWorld {
             IsClockFollowing self.new }
         ensures clock_owed { (command : CommandContent) (mode : Mode) →
             faulty_content act.entry ≡ sends command → command_mode command ≡ Some mode →
-            IsTrue (follows_clock mode) → self.old.board.state.told_clock ≡ None →
+            IsTrue (follows_clock mode) → self.old.board.state.reported_clock ≡ None →
             result ≡ Outcome.Done → IsInStep self.old → IsClockPromisedWorld self.new }
         ensures clock_following { loses_step (faulty_content act.entry) ≡ false →
             stops_clock (faulty_content act.entry) ≡ false → IsClockFollowing self.old →
@@ -266,8 +266,8 @@ impl FaultyWorld {
     }
 
     // What the host has unread is an unfinished message.
-    pub(crate) fn holds_open(&self)
-        ensures { open_message self.now.host.unread ≡ self.now.host.unread }
+    pub(crate) fn holds_unfinished(&self)
+        ensures { unfinished_message self.now.host.unread ≡ self.now.host.unread }
     {
         self.host.unread();
     }
@@ -302,7 +302,7 @@ impl FaultyWorld {
         while self.settle_once() {
             done += 1;
         }
-        self.holds_open();
+        self.holds_unfinished();
         done
     }
 
@@ -361,7 +361,7 @@ impl FaultyWorld {
         ensures reported { (garbage : List ℕ) (x : MachineState) → StandsBehind garbage self.now x →
             IsSome x.picture → (self.now.host.picture ≡ x.picture)
             × (picture_after_all self.now.host.picture x.up
-            ≡ Some self.now.board.state.told_squares) }
+            ≡ Some self.now.board.state.reported_squares) }
     {
         healing::pictures_were_reported();
         &self.host

@@ -4,7 +4,7 @@
 ghost use Rattle.std.specs.Prelude.{◌≡◌, ◌≢◌, ℕ, List, [], Some, None, IsSome, IsTrue, false, true};
 ghost use Rattle.std.specs.List.{AllByRecursion};
 ghost use Rattle.dgt_command.specs.Content.{CommandContent};
-ghost use Rattle.dgt_decode.specs.Grammar.{open_message};
+ghost use Rattle.dgt_decode.specs.Grammar.{unfinished_message};
 ghost use Rattle.dgt_board.specs.State.{command_mode, follows_clock, updates};
 ghost use Rattle.dgt_board.specs.declared.modes.Mode.{Mode};
 ghost use Rattle.dgt_link.specs.Machine.{IsHostBreak, MachineState, Move};
@@ -86,7 +86,7 @@ pub fn promised_worlds_heal()
     ensures kept { (count : ℕ) (world after : WorldView) → SettlesIn count world after
         → IsPromisedWorld world → IsPromisedWorld after }
     ensures quiet { (world : WorldView) → IsPromisedWorld world → IsRestedWorld world
-        → open_message world.host.unread ≡ world.host.unread → IsQuietWorld world }
+        → unfinished_message world.host.unread ≡ world.host.unread → IsQuietWorld world }
     ensures picture { (world : WorldView) → IsPromisedWorld world → IsQuietWorld world
         → world.host.picture ≡ Some world.board.state.squares }
 {
@@ -155,7 +155,7 @@ pub fn clocks_heal()
         → FaultyStep (sends command) world Outcome.Done after → IsClockFollowing after }
     ensures owed { (command : CommandContent) (mode : Mode) (world after : WorldView) →
         command_mode command ≡ Some mode → IsTrue (follows_clock mode)
-        → world.board.state.told_clock ≡ None → IsInStep world
+        → world.board.state.reported_clock ≡ None → IsInStep world
         → FaultyStep (sends command) world Outcome.Done after → IsClockPromisedWorld after }
     ensures following { (act : FaultyContent) (world after : WorldView) (answer : Outcome) →
         loses_step act ≡ false → stops_clock act ≡ false → IsClockFollowing world
@@ -189,7 +189,7 @@ pub fn pictures_were_reported()
         → Runs acts world answers after → IsReportedBy acts answers after }
     ensures known { (garbage : List ℕ) (world : WorldView) (x : MachineState) →
         StandsBehind garbage world x → IsSome x.picture → (world.host.picture ≡ x.picture)
-        × (picture_after_all world.host.picture x.up ≡ Some world.board.state.told_squares) }
+        × (picture_after_all world.host.picture x.up ≡ Some world.board.state.reported_squares) }
 {
     acts_behind_garbage();
 }

@@ -38,12 +38,12 @@ pub(crate) fn grammars()
 {
     dgt_decode::laws::begins_anew();
     dgt_decode::laws::events_append();
-    dgt_decode::laws::open_append();
+    dgt_decode::laws::unfinished_append();
     dgt_decode::laws::quiet_held();
-    dgt_decode::laws::spelling_is_read();
+    dgt_decode::laws::encoding_is_read();
     dgt_host::laws::places_do_not_matter();
     dgt_command::laws::divisions_append();
-    dgt_command::laws::fronts_divide_first();
+    dgt_command::laws::prefixes_divide_first();
     dgt_command::laws::one_division();
     dgt_command::laws::parts_of_words();
     dgt_command::laws::zeros_settle_the_reader();
@@ -95,10 +95,10 @@ pub fn moves_keep()
 
 /// A dump that is sent makes the picture to come the squares as the board has reported them, and
 /// only a break or a host break makes it unknown.
-pub fn dump_is_told()
-    ensures told { (x : MachineState) (later : List Reply) →
+pub fn dump_is_reported()
+    ensures reported { (x : MachineState) (later : List Reply) →
         x.board.owed ≡ Reply.Of Kind.Dump ∷ later → coming_picture (after_move x Move.Reply)
-        ≡ Some (after_move x Move.Reply).board.told_squares }
+        ≡ Some (after_move x Move.Reply).board.reported_squares }
     ensures known { (x : MachineState) (move : Move) → move ≢ Move.Break → ¬ (IsHostBreak move) →
         IsSome (coming_picture x) → IsSome (coming_picture (after_move x move)) }
 {}
@@ -139,7 +139,7 @@ pub fn at_quiet()
         → IsUnknownOr x.picture (Some x.board.squares) }
     ensures clock { (x : MachineState) → IsExact x → IsQuiet x → IsTrue (follows_clock x.board.mode)
         → x.host_clock ≡ Some x.board.clock }
-    ensures clock_told { (x : MachineState) → IsSound x → IsQuiet x
+    ensures clock_reported { (x : MachineState) → IsSound x → IsQuiet x
         → IsTrue (follows_clock x.board.mode) → IsUnknownOr x.host_clock (Some x.board.clock) }
     ensures promised { (x : MachineState) → IsSound x → IsPromised x → IsQuiet x
         → x.picture ≡ Some x.board.squares }
@@ -192,8 +192,8 @@ pub fn worlds_stand_for_one_state()
     ensures { (world : WorldView) (x y : MachineState) →
         StandsFor world x → StandsFor world y → x ≡ y }
 {
-    dgt_message::laws::spelling_spells();
-    dgt_message::laws::spelled_once();
+    dgt_message::laws::encoding_encodes();
+    dgt_message::laws::encoded_once();
     dgt_command::laws::one_division();
 }
 
@@ -275,10 +275,10 @@ pub fn promise_by_acts()
 ///
 /// In a world that stands for an exact state the next message to be heard that has a kind has the
 /// one that is awaited first, and is not unasked.
-pub fn worlds_are_told()
+pub fn worlds_are_reported()
     ensures fold { (world : WorldView) (x : MachineState) → StandsFor world x →
         IsUnknownOr (picture_after_all world.host.picture x.up)
-        (Some world.board.state.told_squares) }
+        (Some world.board.state.reported_squares) }
     ensures first { (world : WorldView) (x : MachineState) (before later : List Content)
         (message : Content) (kind : Kind) → StandsFor world x → IsExact x
         → x.up ≡ before ++ message ∷ later
@@ -296,13 +296,13 @@ pub fn worlds_are_told()
 pub fn at_quiet_world()
     ensures awaited { (world : WorldView) (x : MachineState) →
         StandsFor world x → IsQuietWorld world → world.host.awaited ≡ [] }
-    ensures told { (world : WorldView) (x : MachineState) → StandsFor world x → IsQuietWorld world
-        → IsTrue (updates world.board.state.mode)
+    ensures reported { (world : WorldView) (x : MachineState) → StandsFor world x
+        → IsQuietWorld world → IsTrue (updates world.board.state.mode)
         → IsUnknownOr world.host.picture (Some world.board.state.squares) }
     ensures clock { (world : WorldView) (x : MachineState) → StandsFor world x → IsQuietWorld world
         → IsExact x → IsTrue (follows_clock world.board.state.mode)
         → world.host.clock ≡ Some world.board.state.clock }
-    ensures clock_told { (world : WorldView) (x : MachineState) →
+    ensures clock_reported { (world : WorldView) (x : MachineState) →
         StandsFor world x → IsQuietWorld world → IsTrue (follows_clock world.board.state.mode)
         → IsUnknownOr world.host.clock (Some world.board.state.clock) }
     ensures picture { (world : WorldView) (x : MachineState) →

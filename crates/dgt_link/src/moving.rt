@@ -4,12 +4,12 @@
 ghost use Rattle.std.specs.Prelude.{◌≡◌, ◌+◌, ◌<◌, ◌≤◌, [], Some, length, take};
 ghost use Rattle.dgt_values.specs.declared.kinds.Kind.{Kind};
 ghost use Rattle.dgt_command.specs.Content.{command_content};
-ghost use Rattle.dgt_command.specs.Spelling.{AreBytes};
+ghost use Rattle.dgt_command.specs.Encoding.{AreBytes};
 ghost use Rattle.dgt_board.specs.View.{HasTaken};
 ghost use Rattle.dgt_host.specs.Host.{host_after, new_host, host_awaiting, restart_bytes};
 ghost use Rattle.dgt_link.specs.Act.{ActContent, act_content};
 ghost use Rattle.dgt_link.specs.Faults.{FaultyContent, FaultyStep, holding_outcome};
-ghost use Rattle.dgt_link.specs.Step.{IfDone, StaysOpen, Step};
+ghost use Rattle.dgt_link.specs.Step.{IfDone, StaysUnfinished, Step};
 ghost use Rattle.dgt_link.specs.View.{WorldView, line_holding, with_bytes, without_first, world_of};
 
 use crate::acts::{Act, Outcome};
@@ -160,7 +160,7 @@ fn take_front(board: &mut Board, line: &mut Line, most: usize) -> usize
     ensures most { result ≤ most }
     ensures within { result ≤ length line.old.bytes }
     ensures taken { HasTaken board.old (take result line.old.bytes) board.new }
-    ensures earlier { StaysOpen board.old line.old.bytes result }
+    ensures earlier { StaysUnfinished board.old line.old.bytes result }
     ensures left { line.new ≡ without_first line.old result }
 {
     let front = line.front();
@@ -214,7 +214,7 @@ pub fn to_host(host: &mut Host, line: &mut Line, count: usize) -> Outcome
         (record world { host = host.old; up = line.old }) result
         (record world { host = host.new; up = line.new }) }
 {
-    dgt_host::laws::heard_in_pieces();
+    dgt_host::laws::heard_in_chunks();
     if count == 0 || line.is_empty() {
         return Outcome::Nothing;
     }

@@ -293,11 +293,11 @@ impl World {
             self.new.board.state.mode ≡ coming_mode x }
         ensures picture { (x : MachineState) → StandsFor self.old x → IsPromised x →
             self.new.host.picture ≡ Some self.old.board.state.squares }
-        ensures told { IsTrue (updates self.new.board.state.mode) →
+        ensures reported { IsTrue (updates self.new.board.state.mode) →
             IsUnknownOr self.new.host.picture (Some self.old.board.state.squares) }
         ensures clock { IsExactWorld self.old → IsTrue (follows_clock self.new.board.state.mode) →
             self.new.host.clock ≡ Some self.old.board.state.clock }
-        ensures clock_told { IsTrue (follows_clock self.new.board.state.mode) →
+        ensures clock_reported { IsTrue (follows_clock self.new.board.state.mode) →
             IsUnknownOr self.new.host.clock (Some self.old.board.state.clock) }
         ensures clock_promised { IsClockPromisedWorld self.old →
             self.new.host.clock ≡ Some self.old.board.state.clock }
@@ -311,7 +311,7 @@ impl World {
         laws::grammars();
         self.stands();
         let done = self.inner.settle();
-        self.inner.holds_open();
+        self.inner.holds_unfinished();
         done
     }
 
@@ -340,12 +340,12 @@ impl World {
     /// clock is unknown or the board's. If a reading was asked for as well it is known.
     pub fn quiet(&self) -> bool
         ensures quiet { IsTrue result ↔ IsQuietWorld self.now }
-        ensures told { IsTrue result → IsTrue (updates self.now.board.state.mode) →
+        ensures reported { IsTrue result → IsTrue (updates self.now.board.state.mode) →
             IsUnknownOr self.now.host.picture (Some self.now.board.state.squares) }
         ensures clock { IsTrue result → IsExactWorld self.now →
             IsTrue (follows_clock self.now.board.state.mode) →
             self.now.host.clock ≡ Some self.now.board.state.clock }
-        ensures clock_told { IsTrue result → IsTrue (follows_clock self.now.board.state.mode) →
+        ensures clock_reported { IsTrue result → IsTrue (follows_clock self.now.board.state.mode) →
             IsUnknownOr self.now.host.clock (Some self.now.board.state.clock) }
         ensures clock_promised { IsTrue result → IsClockPromisedWorld self.now →
             self.now.host.clock ≡ Some self.now.board.state.clock }
@@ -373,7 +373,7 @@ impl World {
         ensures host { result.now ≡ self.now.host }
         ensures fold { (x : MachineState) → StandsFor self.now x →
             IsUnknownOr (picture_after_all self.now.host.picture x.up)
-            (Some self.now.board.state.told_squares) }
+            (Some self.now.board.state.reported_squares) }
         ensures first { (x : MachineState) (before later : List Content) (message : Content)
             (kind : Kind) → StandsFor self.now x → IsExact x →
             x.up ≡ before ++ message ∷ later →
@@ -381,7 +381,7 @@ impl World {
             (others : List Kind) × (self.now.host.awaited ≡ kind ∷ others) }
         ensures stands { (x : MachineState) × StandsFor self.now x }
     {
-        laws::worlds_are_told();
+        laws::worlds_are_reported();
         self.stands();
         self.inner.host()
     }

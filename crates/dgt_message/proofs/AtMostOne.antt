@@ -15,7 +15,7 @@ use Rattle.dgt_message.proofs.Sizes.{AllowsBefore, IsRightSize, IsWrongSize}
 use Rattle.dgt_message.specs.Layout.{Layout, column_of, layout_of, layout_total}
 use Rattle.dgt_message.specs.Layout.Column.{hours, sixty, anything}
 use Rattle.dgt_message.specs.Clock.{Times as BothTimes, AreTimes}
-use Rattle.dgt_message.specs.Spelling.{BodySpells, Fits, times_bytes}
+use Rattle.dgt_message.specs.Encoding.{BodyEncodes, Fits, times_bytes}
 use Rattle.dgt_message.proofs.MessageIn.{laid_out, said_layout, message_in-fits}
 use Rattle.dgt_message.proofs.Codes.{piece_code-below}
 
@@ -99,7 +99,7 @@ field_allowed s p (suc zero) h l = piece_code-below p
 field_allowed s p (suc (suc k)) h l = absurd (omega arith)
 
 -- each byte of a body that says something is allowed in its place
-said_allowed : (said : Content) (body : List ℕ) → IsMessage said → BodySpells said body
+said_allowed : (said : Content) (body : List ℕ) → IsMessage said → BodyEncodes said body
     → AllowsBefore (said_layout said) body (length body)
 said_allowed (dump pieces) body h s at l = rw s (codes_allowed pieces at (rw (← s) l))
 said_allowed (field where_ what) body h s at l = rw s (field_allowed where_ what at h (omega (arith, ap length s)))
@@ -107,7 +107,7 @@ said_allowed (times readings) body h s at l = rw s (times_allowed readings h at 
 said_allowed _ body h s at l = tt
 
 -- a body that says something has the size of its layout
-said_size : (said : Content) (body : List ℕ) → IsMessage said → BodySpells said body
+said_size : (said : Content) (body : List ℕ) → IsMessage said → BodyEncodes said body
     → IsRightSize (said_layout said) body
 said_size (dump pieces) body h s = rw s (omega (arith, length-map pieces piece_code))
 said_size (field where_ what) body h s = rw s refl
@@ -129,7 +129,7 @@ pub not_both : (code : ℕ) (body : List ℕ) (said : Content) (fault : BodyFaul
     → IsFaultOf code body fault → ⊥
 not_both code body said fault h k =
     let has : HasFault (said_layout said) body fault =
-    rw (← laid_out said body h.is_message h.spelled, ← h.code_is) k in
-    faultless (said_layout said) body fault (said_size said body h.is_message h.spelled)
-    (said_allowed said body h.is_message h.spelled)
+    rw (← laid_out said body h.is_message h.encoded, ← h.code_is) k in
+    faultless (said_layout said) body fault (said_size said body h.is_message h.encoded)
+    (said_allowed said body h.is_message h.encoded)
     (arises (said_layout said) body fault has)

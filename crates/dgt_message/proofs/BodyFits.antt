@@ -6,7 +6,7 @@ use Rattle.std.proofs.lemmas.List.{length-map}
 use Rattle.std.proofs.lemmas.List.Elements.{All-from_recursion}
 use Rattle.dgt_values.specs.Board.{piece_code}
 use Rattle.dgt_message.specs.declared.known.KnownCode.{KnownCode}
-use Rattle.dgt_message.specs.Spelling.{ack_in, Fits, packed_decimal}
+use Rattle.dgt_message.specs.Encoding.{ack_in, Fits, packed_decimal}
 use Rattle.dgt_message.specs.Clock.{IsMarked, SaysNoClock, is_marked, says_no_clock, IsTime}
 use Rattle.dgt_message.specs.Code.{known_number, known_with}
 use Rattle.dgt_message.specs.Content.{IsCarried}
@@ -33,14 +33,14 @@ codes_back (b ∷ body) h =
 dump_fits : (body : List ℕ) → length body + 3 ≡ 67 → AllowsBefore Layout.dump body (length body)
     → FitsAs KnownCode.Dump Layout.dump body
 dump_fits body size h =
-    record { is_message = omega (arith, length-map body piece_with_code); code_is = refl; spelled = codes_back body h }
+    record { is_message = omega (arith, length-map body piece_with_code); code_is = refl; encoded = codes_back body h }
 
 -- a square and a code are a field
 field_fits : (body : List ℕ) → length body + 3 ≡ 5 → AllowsBefore Layout.field body (length body)
     → FitsAs KnownCode.Field Layout.field body
 field_fits (a ∷ b ∷ []) size h =
     let is : piece_code (piece_with_code b) ≡ b = piece_code-piece_with_code b (h 1 (omega arith)) in
-    record { is_message = h 0 (omega arith); code_is = refl; spelled = rw is refl }
+    record { is_message = h 0 (omega arith); code_is = refl; encoded = rw is refl }
 field_fits (a ∷ b ∷ c ∷ body) size h = absurd (omega arith)
 field_fits (a ∷ []) size h = absurd (omega arith)
 field_fits [] size h = absurd (omega arith)
@@ -49,7 +49,7 @@ field_fits [] size h = absurd (omega arith)
 version_fits : (body : List ℕ) → length body + 3 ≡ 5 → All (λ byte. byte < 128) body
     → FitsAs KnownCode.Version Layout.version body
 version_fits (a ∷ b ∷ []) size seven =
-    record { is_message = (seven 0 0 (omega arith), seven 1 0 (omega arith)); code_is = refl; spelled = refl }
+    record { is_message = (seven 0 0 (omega arith), seven 1 0 (omega arith)); code_is = refl; encoded = refl }
 version_fits (a ∷ b ∷ c ∷ body) size seven = absurd (omega arith)
 version_fits (a ∷ []) size seven = absurd (omega arith)
 version_fits [] size seven = absurd (omega arith)
@@ -88,7 +88,7 @@ times_fits (a ∷ b ∷ c ∷ d ∷ e ∷ f ∷ g ∷ []) size seven shown h =
         λ no. absurd (let k : true ≡ false = sym no ∙ shown in cc),
       );
       code_is = refl;
-      spelled = same_seven a b c d e f g _ _ _ _ _ _ (joined a) (repacked b at1) (repacked c at2) (joined d)
+      encoded = same_seven a b c d e f g _ _ _ _ _ _ (joined a) (repacked b at1) (repacked c at2) (joined d)
           (repacked e at4) (repacked f at5);
     }
 times_fits (a ∷ b ∷ c ∷ d ∷ e ∷ f ∷ g ∷ i ∷ body) size seven shown h = absurd (omega arith)
@@ -112,7 +112,7 @@ ack_fits body size seven marked =
         at 6 (omega arith),
       );
       code_is = refl;
-      spelled = (omega arith, marked, refl, refl);
+      encoded = (omega arith, marked, refl, refl);
     }
 
 -- seven bytes with no mark and with no clock are those of a board without one
@@ -148,8 +148,8 @@ body_fits (Some KnownCode.Field) code body small carried e size h =
     rw (found_number code KnownCode.Field e) (field_fits body size h)
 body_fits (Some KnownCode.Serial) code body small carried e size h =
     rw (found_number code KnownCode.Serial e)
-    (record { is_message = (omega arith, carried.1); code_is = refl; spelled = refl })
+    (record { is_message = (omega arith, carried.1); code_is = refl; encoded = refl })
 body_fits (Some KnownCode.Version) code body small carried e size h =
     rw (found_number code KnownCode.Version e) (version_fits body size carried.1)
 body_fits _ code body small carried e size h =
-    record { is_message = (small, ap (λ known. known_layout known body) e, carried); code_is = refl; spelled = refl }
+    record { is_message = (small, ap (λ known. known_layout known body) e, carried); code_is = refl; encoded = refl }

@@ -49,21 +49,21 @@ not_allowed sixty byte h a =
 not_allowed anything byte h a = cc
 
 -- what a search finds in a body of the right size is the first bad place, and where it finds none there is none
-search_tells : (layout : Layout) (body : List ℕ) → IsRightSize layout body → (found : Option ℕ)
+search_finds : (layout : Layout) (body : List ℕ) → IsRightSize layout body → (found : Option ℕ)
     → Search (λ place. is_allowed (column_of layout place) (slice_index body place)) (length body) found
     → MatchOption found (AllowsBefore layout body (length body)) (IsFirstBad layout body)
-search_tells layout body size None (all h) = λ k l. allowed (column_of layout k) (slice_index body k) (h k l)
-search_tells layout body size (Some at) (fails _ l f h) = record {
+search_finds layout body size None (all h) = λ k l. allowed (column_of layout k) (slice_index body k) (h k l)
+search_finds layout body size (Some at) (fails _ l f h) = record {
   size = size;
   within = l;
   bad = not_allowed (column_of layout at) (slice_index body at) f;
   first = λ k less. allowed (column_of layout k) (slice_index body k) (h k less);
 }
 
-pub first_bad_place-tells : (layout : Layout) (body : List ℕ) → IsRightSize layout body
+pub first_bad_place-reports : (layout : Layout) (body : List ℕ) → IsRightSize layout body
     → MatchOption (first_bad_place layout body) (AllowsBefore layout body (length body)) (IsFirstBad layout body)
-first_bad_place-tells layout body size =
-    search_tells layout body size (first_bad_place layout body) (searched _ (length body))
+first_bad_place-reports layout body size =
+    search_finds layout body size (first_bad_place layout body) (searched _ (length body))
 
 -- the fault of a square or a piece of a field
 field_fault : (body : List ℕ) (at : ℕ) → IsFirstBad Layout.field body at → (b : Bool) → (at == 0) ≡ b

@@ -5,7 +5,7 @@ pub mod Codes
 pub mod MessageIn
 pub mod AtMostOne
 pub mod Headers
-pub mod SpellingSpells
+pub mod EncodingEncodes
 pub mod FirstBad
 pub mod BodyFits
 pub mod ReadingFits

@@ -11,7 +11,7 @@ use Rattle.dgt_message.specs.Content.{Content, code_of, IsMessage}
 use Rattle.dgt_message.specs.Content.Content.{dump, field, times, no_clock, ack, serial, version, carried}
 use Rattle.dgt_message.specs.Layout.{Layout, clock_layout, layout_of}
 use Rattle.dgt_message.specs.Reading.{piece_with_code, time_in, said_in}
-use Rattle.dgt_message.specs.Spelling.{BodySpells, Fits, Spells, times_bytes, packed_decimal}
+use Rattle.dgt_message.specs.Encoding.{BodyEncodes, Fits, Encodes, times_bytes, packed_decimal}
 
 -- a piece is the one with its code
 pub piece_with_code-piece_code : (piece : Piece) → piece_with_code (piece_code piece) ≡ piece
@@ -102,7 +102,7 @@ said_layout (version main sub) = Layout.version
 said_layout (carried own body) = Layout.carried
 
 -- a body that says something is laid out as this message
-pub laid_out : (said : Content) (body : List ℕ) → IsMessage said → BodySpells said body
+pub laid_out : (said : Content) (body : List ℕ) → IsMessage said → BodyEncodes said body
     → layout_of (code_of said) body ≡ said_layout said
 laid_out (dump pieces) body h s = refl
 laid_out (field square piece) body h s = refl
@@ -121,7 +121,7 @@ absence_back (a ∷ b ∷ c ∷ d ∷ e ∷ f ∷ g ∷ raw) status h = absurd (
 absence_back _ status h = absurd (omega arith)
 
 -- a message comes back from its body by its layout
-said_back : (said : Content) (body : List ℕ) → IsMessage said → BodySpells said body
+said_back : (said : Content) (body : List ℕ) → IsMessage said → BodyEncodes said body
     → said_in (said_layout said) (code_of said) body ≡ said
 said_back (dump pieces) body h s = rw s (ap dump (map-piece_with_code pieces))
 said_back (field square piece) body h s = rw s (ap (field square) (piece_with_code-piece_code piece))
@@ -139,11 +139,11 @@ message_in code body = said_in (layout_of code body) code body
 -- a message that fits is the one in the body
 pub message_in-fits : (said : Content) (code : ℕ) (body : List ℕ) → Fits said code body → message_in code body ≡ said
 message_in-fits said code body h =
-    rw (h.code_is, laid_out said body h.is_message h.spelled) (said_back said body h.is_message h.spelled)
+    rw (h.code_is, laid_out said body h.is_message h.encoded) (said_back said body h.is_message h.encoded)
 
 -- the whole encodes what its code and its body say
-pub message_in-spells : (said : Content) (bytes : List ℕ) → Spells said bytes
+pub message_in-encodes : (said : Content) (bytes : List ℕ) → Encodes said bytes
     → message_in (slice_index bytes 0 - 128) (drop 3 bytes) ≡ said
-message_in-spells said bytes h =
+message_in-encodes said bytes h =
     let code : slice_index bytes 0 - 128 ≡ code_of said = omega (arith, h.header.code_is) in
-    message_in-fits said _ _ (record { is_message = h.is_message; code_is = code; spelled = h.spelled })
+    message_in-fits said _ _ (record { is_message = h.is_message; code_is = code; encoded = h.encoded })

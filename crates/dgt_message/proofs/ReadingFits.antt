@@ -14,11 +14,11 @@ use Rattle.dgt_message.specs.Reading.{IsFaultOf, IsFirstBad, Views, fault_of, fi
 use Rattle.std.specs.Option.{option_map_or}
 use Rattle.std.specs.Result.{result_map_both}
 use Rattle.dgt_message.specs.Layout.{Layout, column_of, layout_of, layout_total}
-use Rattle.dgt_message.specs.Spelling.{Fits, Spells}
+use Rattle.dgt_message.specs.Encoding.{Fits, Encodes}
 use Rattle.dgt_message.proofs.AtMostOne.{one_message, one_fault, not_both}
 use Rattle.dgt_message.proofs.BodyFits.{body_fits}
-use Rattle.dgt_message.proofs.FirstBad.{first_bad_place-tells, place_fault, right_size, wrong_size}
-use Rattle.dgt_message.proofs.SpellingSpells.{small_code}
+use Rattle.dgt_message.proofs.FirstBad.{first_bad_place-reports, place_fault, right_size, wrong_size}
+use Rattle.dgt_message.proofs.EncodingEncodes.{small_code}
 
 -- what the result says of the code and the body is so
 abbrev Says : ℕ → List ℕ → Result Content BodyFault → Type 0
@@ -50,7 +50,7 @@ reading_says code body small carried =
         → Says code body (cond t (message_or_fault layout code body (first_bad_place layout body)) (Err WrongSize))
     go true e =
         let size = right_size (layout_total layout) (length body + 3) e in
-        by_place code body small carried size (first_bad_place layout body) (first_bad_place-tells layout body size)
+        by_place code body small carried size (first_bad_place layout body) (first_bad_place-reports layout body size)
     go false e = wrong_size (layout_total layout) (length body + 3) e
 
 -- what fits is the reading
@@ -105,11 +105,11 @@ third_on [] h = h
 third_on (a ∷ bytes) h = All-drop (λ byte. byte < 128) 2 bytes h
 
 -- a message is the reading of its encodings
-pub spelled_is_read : (said : Content) (bytes : List ℕ) → Spells said bytes
+pub encoded_is_read : (said : Content) (bytes : List ℕ) → Encodes said bytes
     → reading (slice_index bytes 0 - 128) (drop 3 bytes) ≡ Ok said
-spelled_is_read said bytes h =
+encoded_is_read said bytes h =
     let code : slice_index bytes 0 - 128 ≡ code_of said = omega (arith, h.header.code_is) in
     let short : length (drop 3 bytes) ≤ 16380 = omega (arith, length-drop 3 bytes, h.header.short_enough) in
     rw code ((reading-Ok (code_of said) (drop 3 bytes) said (small_code said h.is_message)
     (short, third_on bytes h.header.seven_bit)).1
-    (record { is_message = h.is_message; code_is = refl; spelled = h.spelled }))
+    (record { is_message = h.is_message; code_is = refl; encoded = h.encoded }))

@@ -12,7 +12,7 @@ use Rattle.dgt_message.specs.declared.viewing.BodyFault.{BodyFault}
 use Rattle.dgt_message.specs.Clock.{Time, absence_of, time_of, times_of}
 use Rattle.dgt_message.specs.Content.{Content, content}
 use Rattle.dgt_message.specs.Layout.{Column, Layout, column_of, layout_of, layout_total}
-use Rattle.dgt_message.specs.Spelling.{ack_in, Fits}
+use Rattle.dgt_message.specs.Encoding.{ack_in, Fits}
 
 -- a column allows a byte: two digits are packed, with tens in the high four bits
 abbrev pub Allows : Column → ℕ → Type 0

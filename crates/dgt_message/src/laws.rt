@@ -9,7 +9,7 @@ ghost use Rattle.dgt_message.specs.declared.viewing.BodyFault.{BodyFault};
 ghost use Rattle.dgt_message.specs.Code.{known_number, known_with};
 ghost use Rattle.dgt_message.specs.Content.{absence_seen, answer_seen, clock_seen, code_number, content, status_code, time_seen, times_seen, Content, IsCarried, IsMessage};
 ghost use Rattle.dgt_message.specs.Reading.{reading, IsFaultOf};
-ghost use Rattle.dgt_message.specs.Spelling.{message_bytes, spelling, Fits, Spells};
+ghost use Rattle.dgt_message.specs.Encoding.{message_bytes, encoding, Fits, Encodes};
 
 use crate::clock::{Clock, ClockAck, NoClock, NotThisKind, Times};
 use crate::known::KnownCode;
@@ -72,11 +72,11 @@ pub fn one_reading()
 
 /// No bytes encode two messages, and the encoding of no message is a prefix of the encoding of
 /// another.
-pub fn spelled_once()
+pub fn encoded_once()
     ensures one_message { (bytes : List ℕ) (first second : Content)
-        → Spells first bytes → Spells second bytes → first ≡ second }
+        → Encodes first bytes → Encodes second bytes → first ≡ second }
     ensures none_longer { (bytes more : List ℕ) (first second : Content)
-        → Spells first bytes → Spells second (bytes ++ more) → more ≡ [] }
+        → Encodes first bytes → Encodes second (bytes ++ more) → more ≡ [] }
 {}
 
 /// The reading of a code and a body is the message that fits them, or the fault of the body.
@@ -89,18 +89,18 @@ pub fn reading_is_exact()
 
 /// A message fits a code and a body exactly if the whole bytes with this code and this body encode
 /// it.
-pub fn fits_where_spelled()
+pub fn fits_if_encoded()
     ensures { (code : ℕ) (body : List ℕ) (said : Content) → code < 128 → IsCarried body
-        → Fits said code body ↔ Spells said (message_bytes code body) }
+        → Fits said code body ↔ Encodes said (message_bytes code body) }
 {}
 
 /// What is written for a message encodes it.
-pub fn spelling_spells()
-    ensures { (said : Content) → IsMessage said → Spells said (spelling said) }
+pub fn encoding_encodes()
+    ensures { (said : Content) → IsMessage said → Encodes said (encoding said) }
 {}
 
 /// The bytes of a message are read as this message.
-pub fn spelled_is_read()
+pub fn encoded_is_read()
     ensures { (said : Content) (bytes : List ℕ)
-        → Spells said bytes → reading (slice_index bytes 0 - 128) (drop 3 bytes) ≡ Ok said }
+        → Encodes said bytes → reading (slice_index bytes 0 - 128) (drop 3 bytes) ≡ Ok said }
 {}

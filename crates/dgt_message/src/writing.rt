@@ -3,12 +3,12 @@
 ghost use Rattle.std.specs.Prelude.{◌≡◌, ◌≤◌, ◌<◌, ◌++◌, [], ◌∷◌, length, map};
 ghost use Rattle.dgt_values.specs.declared.bodies.TheConstants.{MAX_BODY};
 ghost use Rattle.dgt_values.specs.Board.{square_number};
-ghost use Rattle.dgt_values.specs.Bytes.{number, AreSevenBit, WritesFront};
+ghost use Rattle.dgt_values.specs.Bytes.{number, AreSevenBit, WritesPrefix};
 ghost use Rattle.dgt_message.specs.Clock.{AreTimes, IsAbsence, IsAck, IsTime};
 ghost use Rattle.dgt_message.specs.Code.{known_number};
 ghost use Rattle.dgt_message.specs.Content.{absence_seen, answer_seen, content, time_seen, times_seen, IsMessage};
 ghost use Rattle.dgt_message.specs.Content.Content.{field};
-ghost use Rattle.dgt_message.specs.Spelling.{ack_spelling, body_spelling, mark_with, message_bytes, packed_decimal, spelling, time_bytes, times_bytes, Spells};
+ghost use Rattle.dgt_message.specs.Encoding.{ack_encoding, body_encoding, mark_with, message_bytes, packed_decimal, encoding, time_bytes, times_bytes, Encodes};
 
 use crate::clock::{ACK_MARK, ClockAck, NoClock, Times};
 use crate::known::KnownCode;
@@ -18,7 +18,7 @@ use dgt_values::{NoRoom, Piece, SevenBit, Square};
 
 /// How many bytes the message takes, its header of three bytes included: 3 to 16383.
 pub fn length(message: &Message<'_>) -> usize
-    ensures value { result ≡ length (spelling (content message.now)) }
+    ensures value { result ≡ length (encoding (content message.now)) }
     ensures in_range { (3 ≤ result) × (result < 16384) }
 {
     body_length(message) + 3
@@ -31,8 +31,8 @@ pub fn length(message: &Message<'_>) -> usize
 /// An acknowledgement has several encodings. The one that is written has the mark in byte 3 and in
 /// byte 6 of the whole, and D6 of both clear.
 pub fn encode(message: &Message<'_>, out: &mut [u8]) -> Result<usize, NoRoom>
-    ensures written { WritesFront (spelling (content message.now)) out.old out.new result }
-    ensures spells { Spells (content message.now) (spelling (content message.now)) }
+    ensures written { WritesPrefix (encoding (content message.now)) out.old out.new result }
+    ensures encodes { Encodes (content message.now) (encoding (content message.now)) }
     ensures in_range { IsMessage (content message.now) }
 {
     match message {
@@ -55,10 +55,10 @@ pub fn encode(message: &Message<'_>, out: &mut [u8]) -> Result<usize, NoRoom>
 /// Writes what `encode` writes of [`Message::Field`]. No message is made of it: to copy one takes
 /// longer than to write these five bytes.
 pub fn encode_field(square: Square, piece: Piece, out: &mut [u8]) -> Result<usize, NoRoom>
-    ensures written { WritesFront
-        (spelling (field (square_number square) piece)) out.old out.new result }
-    ensures spells { Spells
-        (field (square_number square) piece) (spelling (field (square_number square) piece)) }
+    ensures written { WritesPrefix
+        (encoding (field (square_number square) piece)) out.old out.new result }
+    ensures encodes { Encodes
+        (field (square_number square) piece) (encoding (field (square_number square) piece)) }
 {
     if out.len() < 5 {
         return Err(NoRoom { need: 5 });
@@ -72,7 +72,7 @@ pub fn encode_field(square: Square, piece: Piece, out: &mut [u8]) -> Result<usiz
 }
 
 fn body_length(message: &Message<'_>) -> usize
-    ensures value { result ≡ length (body_spelling (content message.now)) }
+    ensures value { result ≡ length (body_encoding (content message.now)) }
     ensures fits { result ≤ MAX_BODY }
 {
     match message {
@@ -90,7 +90,7 @@ fn body_length(message: &Message<'_>) -> usize
 
 fn write_known(code: KnownCode, body: &[u8], out: &mut [u8]) -> Result<usize, NoRoom>
     requires { length body.now ≤ MAX_BODY }
-    ensures { WritesFront (message_bytes (known_number code) body.now) out.old out.new result }
+    ensures { WritesPrefix (message_bytes (known_number code) body.now) out.old out.new result }
 {
     write_whole(code.number(), body, out)
 }
@@ -98,7 +98,7 @@ fn write_known(code: KnownCode, body: &[u8], out: &mut [u8]) -> Result<usize, No
 fn write_whole(code: u8, body: &[u8], out: &mut [u8]) -> Result<usize, NoRoom>
     requires code { code < 128 }
     requires fits { length body.now ≤ MAX_BODY }
-    ensures { WritesFront (message_bytes code body.now) out.old out.new result }
+    ensures { WritesPrefix (message_bytes code body.now) out.old out.new result }
 {
     let need = body.len() + 3;
     if out.len() < need {
@@ -173,7 +173,7 @@ fn absence_bytes(absence: NoClock) -> [u8; 7]
 }
 
 fn ack_bytes(answer: ClockAck) -> [u8; 7]
-    ensures bytes { result ≡ ack_spelling (answer_seen answer) }
+    ensures bytes { result ≡ ack_encoding (answer_seen answer) }
     ensures in_range { IsAck (answer_seen answer) }
 {
     let [a, b, c, d] = answer.ack;

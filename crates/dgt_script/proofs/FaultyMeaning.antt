@@ -3,7 +3,7 @@ use Rattle.std.proofs.Common.{◌≡◌, ◌≢◌, ℕ, List, [], ◌∷◌, Op
 use Rattle.std.specs.Prelude.{bytes_eq, codes, if◌then◌else◌, Ok}
 use Rattle.hex.specs.Hex.{decode_of}
 use Rattle.hex.proofs.HexLemmas.{decode_of-same}
-use Rattle.dgt_command.specs.Laws.{SpellingsTellCommands}
+use Rattle.dgt_command.specs.Laws.{EncodingsGiveCommands}
 use Rattle.dgt_link.specs.Faults.{FaultyContent}
 use Rattle.dgt_script.specs.ScriptWords.{words_text}
 use Rattle.dgt_script.specs.declared.script_words.FaultyVerb.{FaultyVerb}
@@ -94,17 +94,17 @@ one_bytes word a b (inl h) (inr k) = absurd (no_digits word b h.0 k.2)
 one_bytes word a b (inr h) (inl k) = absurd (no_digits word a k.0 h.2)
 one_bytes word a b (inr h) (inr k) = decode_of-same word a b h.2 k.2
 
-pub same_faulty_act : IsRead → SpellingsTellCommands → (parts : List (List ℕ)) (a b : FaultyContent)
+pub same_faulty_act : IsRead → EncodingsGiveCommands → (parts : List (List ℕ)) (a b : FaultyContent)
     → faulty_verb_of a ≡ faulty_verb_of b → AsksFaulty parts a → AsksFaulty parts b → a ≡ b
-same_faulty_act exact tells parts (FaultyContent.Plain s) (FaultyContent.Plain t) e h k =
-    ap FaultyContent.Plain (same_act exact tells parts s t (cc e) h k)
-same_faulty_act exact tells parts (FaultyContent.GarbleUp s) (FaultyContent.GarbleUp t) e h k =
+same_faulty_act exact gives parts (FaultyContent.Plain s) (FaultyContent.Plain t) e h k =
+    ap FaultyContent.Plain (same_act exact gives parts s t (cc e) h k)
+same_faulty_act exact gives parts (FaultyContent.GarbleUp s) (FaultyContent.GarbleUp t) e h k =
     ap FaultyContent.GarbleUp (one_value IsBytesWord one_bytes (faulty_text faulty.GarbleUp) parts s t h k)
-same_faulty_act exact tells parts (FaultyContent.GarbleDown s) (FaultyContent.GarbleDown t) e h k =
+same_faulty_act exact gives parts (FaultyContent.GarbleDown s) (FaultyContent.GarbleDown t) e h k =
     ap FaultyContent.GarbleDown (one_value IsBytesWord one_bytes (faulty_text faulty.GarbleDown) parts s t h k)
-same_faulty_act exact tells parts FaultyContent.BoardLost FaultyContent.BoardLost e h k = refl
-same_faulty_act exact tells parts FaultyContent.Restart FaultyContent.Restart e h k = refl
-same_faulty_act exact tells parts a b e h k = cc e
+same_faulty_act exact gives parts FaultyContent.BoardLost FaultyContent.BoardLost e h k = refl
+same_faulty_act exact gives parts FaultyContent.Restart FaultyContent.Restart e h k = refl
+same_faulty_act exact gives parts a b e h k = cc e
 
 -- ---- Lines
 

@@ -1,7 +1,7 @@
 -- The vocabulary of plain lines is ordered, and words ask for one act at most.
 use Rattle.std.proofs.Common.{◌≡◌, ℕ, List, [], ◌∷◌, Option, Some, None, refl, sym, ◌∙◌, ap, subst}
 use Rattle.std.specs.Prelude.{bytes_eq, if◌then◌else◌}
-use Rattle.dgt_command.specs.Laws.{SpellingsTellCommands}
+use Rattle.dgt_command.specs.Laws.{EncodingsGiveCommands}
 use Rattle.dgt_link.specs.Act.{ActContent, Change, ClockRead, Host, BoardSend, ToBoard, ToHost, Break, HostBreak}
 use Rattle.dgt_script.specs.declared.script_words.Verb.{Verb}
 use Rattle.dgt_script.specs.declared.script_words.Verb.TheVariants as verb
@@ -80,24 +80,24 @@ plain_order = record { named = verb_named; names = verb_named-verb_text; verb_of
 
 -- ---- One act
 
-pub same_act : IsRead → SpellingsTellCommands → (parts : List (List ℕ)) (a b : ActContent) → verb_of a ≡ verb_of b
+pub same_act : IsRead → EncodingsGiveCommands → (parts : List (List ℕ)) (a b : ActContent) → verb_of a ≡ verb_of b
     → Asks parts a → Asks parts b → a ≡ b
-same_act exact tells parts (Change s p) (Change t q) e h k =
+same_act exact gives parts (Change s p) (Change t q) e h k =
     let both : verb_text verb.Change ∷ h.0 ∷ h.1 ∷ [] ≡ verb_text verb.Change ∷ k.0 ∷ k.1 ∷ [] = sym h.2 ∙ k.2 in
     let first : h.0 ≡ k.0 = cc both in
     let second : h.1 ≡ k.1 = cc both in
     let square : s ≡ t = one_square k.0 s t (subst (λ w. IsSquareWord w s) first h.3) k.3 in
     let piece : p ≡ q = one_piece k.1 p q (subst (λ w. IsPieceWord w p) second h.4) k.4 in
     cc (square, piece)
-same_act exact tells parts (ClockRead s) (ClockRead t) e h k =
+same_act exact gives parts (ClockRead s) (ClockRead t) e h k =
     ap ClockRead (one_value IsClockWord (one_clock exact) (verb_text verb.Clock) parts s t h k)
-same_act exact tells parts (Host s) (Host t) e h k =
-    ap Host (one_value IsCommandWord (one_command tells) (verb_text verb.Host) parts s t h k)
-same_act exact tells parts BoardSend BoardSend e h k = refl
-same_act exact tells parts (ToBoard s) (ToBoard t) e h k =
+same_act exact gives parts (Host s) (Host t) e h k =
+    ap Host (one_value IsCommandWord (one_command gives) (verb_text verb.Host) parts s t h k)
+same_act exact gives parts BoardSend BoardSend e h k = refl
+same_act exact gives parts (ToBoard s) (ToBoard t) e h k =
     ap ToBoard (one_value IsCountWord one_count (verb_text verb.ToBoard) parts s t h k)
-same_act exact tells parts (ToHost s) (ToHost t) e h k =
+same_act exact gives parts (ToHost s) (ToHost t) e h k =
     ap ToHost (one_value IsCountWord one_count (verb_text verb.ToHost) parts s t h k)
-same_act exact tells parts Break Break e h k = refl
-same_act exact tells parts HostBreak HostBreak e h k = refl
-same_act exact tells parts a b e h k = cc e
+same_act exact gives parts Break Break e h k = refl
+same_act exact gives parts HostBreak HostBreak e h k = refl
+same_act exact gives parts a b e h k = cc e

@@ -25,11 +25,11 @@ use Rattle.dgt_message.specs.Clock.{AreTimes, Times as BothTimes, ClockState}
 use Rattle.dgt_message.specs.Content.{clock_message, clock_seen, Content, IsCarried}
 use Rattle.dgt_message.specs.Code.{known_number}
 use Rattle.dgt_message.specs.Reading.{IsFaultOf, reading}
-use Rattle.dgt_message.specs.Spelling.{Fits, times_bytes}
+use Rattle.dgt_message.specs.Encoding.{Fits, times_bytes}
 use Rattle.dgt_command.specs.Content.{CommandContent, Read}
-use Rattle.dgt_command.specs.Laws.{SpellingsTellCommands, WordsAreShort}
-use Rattle.dgt_command.specs.Spelling.{command_in, SpellsCommand}
-use Rattle.dgt_script.specs.ScriptWords.{IsClockWord, IsCommandWord, IsCountWord, IsHexOf, IsPieceWord, IsSquareWord, TellsClock}
+use Rattle.dgt_command.specs.Laws.{EncodingsGiveCommands, WordsAreShort}
+use Rattle.dgt_command.specs.Encoding.{command_in, EncodesCommand}
+use Rattle.dgt_script.specs.ScriptWords.{IsClockWord, IsCommandWord, IsCountWord, IsHexOf, IsPieceWord, IsSquareWord, ReportsClock}
 
 -- ---- What a call answers
 
@@ -148,17 +148,17 @@ times_small t h = (
 -- the bytes of a clock are seven
 pub length-clock : (clock : ClockState) (body : List ℕ)
     → Fits (clock_message clock) (known_number KnownCode.Clock) body → length body ≡ 7
-length-clock (ClockState.times readings) body h = rw h.spelled refl
+length-clock (ClockState.times readings) body h = rw h.encoded refl
 length-clock (ClockState.no_clock absence) body h =
-    rw h.spelled (omega (arith, h.is_message.0, length-append absence.raw (absence.status ∷ [])))
+    rw h.encoded (omega (arith, h.is_message.0, length-append absence.raw (absence.status ∷ [])))
 
 -- each byte of a clock is below 128
 pub clock_is_seven_bit : (clock : ClockState) (body : List ℕ)
     → Fits (clock_message clock) (known_number KnownCode.Clock) body → All (λ byte. byte < 128) body
 clock_is_seven_bit (ClockState.times readings) body h =
-    rw h.spelled (All-from_recursion (λ byte. byte < 128) (times_bytes readings) (times_small readings h.is_message))
+    rw h.encoded (All-from_recursion (λ byte. byte < 128) (times_bytes readings) (times_small readings h.is_message))
 clock_is_seven_bit (ClockState.no_clock absence) body h =
-    rw h.spelled
+    rw h.encoded
     (All-append (λ byte. byte < 128) absence.raw (absence.status ∷ []) h.is_message.1
     (All-from_recursion (λ byte. byte < 128) (absence.status ∷ []) (h.is_message.3, tt)))
 
@@ -222,13 +222,13 @@ clock_not_faulty exact refused word bytes clock why e h r =
     cc both
 
 -- what a message of these bytes reports of the clock is what the word says
-pub clock_told : IsRead → (word bytes : List ℕ) (said : Content) (r : Option Clock) → decode_sized word 7 ≡ Ok bytes
+pub clock_reported : IsRead → (word bytes : List ℕ) (said : Content) (r : Option Clock) → decode_sized word 7 ≡ Ok bytes
     → Fits said (known_number KnownCode.Clock) bytes
-    → MatchOption r ((clock : ClockState) → ¬ (TellsClock said clock)) (λ clock. TellsClock said (clock_seen clock))
+    → MatchOption r ((clock : ClockState) → ¬ (ReportsClock said clock)) (λ clock. ReportsClock said (clock_seen clock))
     → MatchOption r ((clock : ClockState) → ¬ (IsClockWord word clock)) (λ clock. IsClockWord word (clock_seen clock))
-clock_told exact word bytes said None e f m =
+clock_reported exact word bytes said None e f m =
     λ clock h. m clock (one_message exact clock said bytes (clock_fits word bytes clock e h) f)
-clock_told exact word bytes said (Some clock) e f m =
+clock_reported exact word bytes said (Some clock) e f m =
     record { body = bytes; digits = sized_hex word 7 bytes e; fits = rw m f }
 
 -- a word says one clock at most
@@ -241,17 +241,17 @@ one_clock exact word a b h k =
 -- ---- Commands
 
 -- the bytes of a command are no more than 257
-pub length-command : WordsAreShort → (command : CommandContent) (bytes : List ℕ) → SpellsCommand command bytes
+pub length-command : WordsAreShort → (command : CommandContent) (bytes : List ℕ) → EncodesCommand command bytes
     → length bytes ≤ 257
 length-command short command bytes h =
-    (short (Read command) bytes (record { form = h.spelled; are_bytes = h.are_bytes })).1
+    (short (Read command) bytes (record { form = h.encoded; are_bytes = h.are_bytes })).1
 
 -- a word says one command at most
-pub one_command : SpellingsTellCommands → (word : List ℕ) (a b : CommandContent) → IsCommandWord word a
+pub one_command : EncodingsGiveCommands → (word : List ℕ) (a b : CommandContent) → IsCommandWord word a
     → IsCommandWord word b → a ≡ b
-one_command tells word a b h k =
-    sym (tells a h.bytes h.spells) ∙ ap command_in (decode_of-same word h.bytes k.bytes h.digits k.digits) ∙ tells b
-    k.bytes k.spells
+one_command gives word a b h k =
+    sym (gives a h.bytes h.encodes) ∙ ap command_in (decode_of-same word h.bytes k.bytes h.digits k.digits) ∙ gives b
+    k.bytes k.encodes
 
 -- ---- Counts
 
@@ -291,7 +291,7 @@ pub parsed_count : {E : Type 0} (word : List ℕ) (n : ℕ) (r : Result ℕ E) �
 parsed_count {E} word n r h e first =
     let same : ParsesUnsigned {E = E} 16 10 word (Ok n) = rw e at h in
     let parsed = parse_plain numerals {E = E} 16 word (Ok n) same (λ plus. omega arith) in
-    let spelled : decimal (digits_value 10 word) ≡ word = decimal-digits_value numerals word parsed.0.0 parsed.0.1
+    let encoded : decimal (digits_value 10 word) ≡ word = decimal-digits_value numerals word parsed.0.0 parsed.0.1
     (λ none. absurd (omega arith)) (omega (arith, parsed.0.2)) in
-    let written : decimal n ≡ word = ap decimal parsed.1 ∙ spelled in
+    let written : decimal n ≡ word = ap decimal parsed.1 ∙ encoded in
     (not_zero word n first written, omega (arith, parsed.0.2, parsed.1), sym written)

@@ -18,7 +18,7 @@ pub record IsCut (bytes : List ℕ) (lines : List (List ℕ)) (rest : List ℕ) 
 
 -- the buffer keeps the line's first 519 bytes, and knows whether there were more
 pub record KeepsLine (buffer : LineBuffer) (line : List ℕ) : Type 0 where
-  pub front : buffer.bytes.items ≡ take 519 line
+  pub prefix : buffer.bytes.items ≡ take 519 line
   pub long : buffer.is_long ≡ nat_lt 519 (length line)
 
 -- what is given is the line if it has at most 519 bytes, and else none

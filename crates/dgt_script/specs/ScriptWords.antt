@@ -8,9 +8,9 @@ use Rattle.dgt_message.specs.declared.known.KnownCode.{KnownCode}
 use Rattle.dgt_message.specs.Code.{known_number}
 use Rattle.dgt_message.specs.Clock.{ClockState}
 use Rattle.dgt_message.specs.Content.{clock_message, Content}
-use Rattle.dgt_message.specs.Spelling.{Fits}
+use Rattle.dgt_message.specs.Encoding.{Fits}
 use Rattle.dgt_command.specs.Content.{CommandContent}
-use Rattle.dgt_command.specs.Spelling.{SpellsCommand}
+use Rattle.dgt_command.specs.Encoding.{EncodesCommand}
 use Rattle.dgt_script.specs.declared.script_words.Verb.{Verb}
 use Rattle.dgt_script.specs.declared.script_words.Verb.TheVariants as verb
 
@@ -48,8 +48,8 @@ abbrev pub IsHexOf : List ℕ → List ℕ → Type 0
 IsHexOf word bytes = decode_of word ≡ Ok bytes
 
 -- the message reports this clock
-abbrev pub TellsClock : Content → ClockState → Type 0
-TellsClock said clock = clock_message clock ≡ said
+abbrev pub ReportsClock : Content → ClockState → Type 0
+ReportsClock said clock = clock_message clock ≡ said
 
 -- hexadecimal digits of the body of the message that reports the clock
 pub record IsClockWord (word : List ℕ) (clock : ClockState) : Type 0 where
@@ -61,7 +61,7 @@ pub record IsClockWord (word : List ℕ) (clock : ClockState) : Type 0 where
 pub record IsCommandWord (word : List ℕ) (command : CommandContent) : Type 0 where
   pub bytes : List ℕ
   pub digits : IsHexOf word bytes
-  pub spells : SpellsCommand command bytes
+  pub encodes : EncodesCommand command bytes
 
 -- a number from 1 to 65535 in decimal, with no leading zero
 abbrev pub IsCountWord : List ℕ → ℕ → Type 0

@@ -48,7 +48,7 @@ pub fn lines_have_one_meaning()
         IsBadAt plain_words line at → at ≢ 0 → IsBadAt faulty_words line at }
 {
     dgt_message::laws::reading_is_exact();
-    dgt_command::laws::spellings_tell_commands();
+    dgt_command::laws::encodings_give_commands();
 }
 
 /// The words after a verb ask for an act exactly if they are of the kinds that follow it.

@@ -1,4 +1,4 @@
-//! The lines of a script, from pieces of any lengths.
+//! The lines of a script, from chunks of any lengths.
 
 ghost use Rattle.std.specs.Prelude.{◌≡◌, ◌↔◌, List, [], ◌++◌, IsTrue, ℕ};
 ghost use Rattle.dgt_script.specs.ScriptLines.{IsShort, KeepsLine};
@@ -27,14 +27,14 @@ impl LineBuffer {
     }
 
     /// Adds bytes to the line. Those for which there is no room aren't kept.
-    pub fn add(&mut self, piece: &[u8])
+    pub fn add(&mut self, chunk: &[u8])
         ensures { (line : List ℕ) → KeepsLine self.old line →
-            KeepsLine self.new (line ++ piece.now) }
+            KeepsLine self.new (line ++ chunk.now) }
     {
         let room = self.bytes.remaining_capacity();
-        self.is_long = self.is_long || piece.len() > room;
+        self.is_long = self.is_long || chunk.len() > room;
         self.bytes
-            .try_extend_from_slice(&piece[..piece.len().min(room)])
+            .try_extend_from_slice(&chunk[..chunk.len().min(room)])
             .unwrap();
     }
 

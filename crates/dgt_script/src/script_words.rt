@@ -8,7 +8,7 @@ ghost use Rattle.dgt_message.specs.Clock.{ClockState};
 ghost use Rattle.dgt_command.specs.Content.{command_content, CommandContent};
 ghost use Rattle.dgt_script.specs.FaultyScript.{faulty_text};
 ghost use Rattle.dgt_script.specs.ScriptReading.{FindsWord};
-ghost use Rattle.dgt_script.specs.ScriptWords.{verb_text, IsBytesWord, IsClockWord, IsCommandWord, IsCountWord, IsHexOf, IsPieceWord, IsSquareWord, TellsClock};
+ghost use Rattle.dgt_script.specs.ScriptWords.{verb_text, IsBytesWord, IsClockWord, IsCommandWord, IsCountWord, IsHexOf, IsPieceWord, IsSquareWord, ReportsClock};
 
 use dgt_command::{Command, MAX_WORD, view_command};
 use dgt_message::{Clock, KnownCode, Message, view};
@@ -120,8 +120,8 @@ pub(crate) fn clock_word(word: &[u8]) -> Option<Clock>
 // The clock that a message reports.
 fn clock_of(message: Message<'_>) -> Option<Clock>
     ensures { MatchOption result
-        ((clock : ClockState) → ¬ (TellsClock (content message.entry) clock))
-        (λ clock. TellsClock (content message.entry) (clock_seen clock)) }
+        ((clock : ClockState) → ¬ (ReportsClock (content message.entry) clock))
+        (λ clock. ReportsClock (content message.entry) (clock_seen clock)) }
 {
     match message {
         Message::Times(times) => Some(Clock::Times(times)),

@@ -3,35 +3,35 @@ use Rattle.std.proofs.Common.{◌≡◌, ℕ, ◌<◌, ◌≤◌, suc, zero, Lis
 use Rattle.std.proofs.Math.ListN.{length-set}
 use Rattle.std.proofs.lemmas.Option.{none-some, same_Some}
 use Rattle.dgt_message.specs.Content.{Content}
-use Rattle.dgt_message.specs.Spelling.{spelling}
+use Rattle.dgt_message.specs.Encoding.{encoding}
 use Rattle.dgt_command.specs.Content.{EventContent}
-use Rattle.dgt_command.specs.Laws.{DivisionsAppend, EachDividesOnce, FrontsDivideFirst}
-use Rattle.dgt_command.specs.Spelling.{AreBytes}
+use Rattle.dgt_command.specs.Laws.{DivisionsAppend, EachDividesOnce, PrefixesDivideFirst}
+use Rattle.dgt_command.specs.Encoding.{AreBytes}
 use Rattle.dgt_command.specs.Words.{IsWord, IsPartial, Divides}
 use Rattle.dgt_board.specs.State.{BoardState, effect}
-use Rattle.dgt_board.specs.Sending.{after_sending, left_to_send, next_message, piece_on, told_squares_after}
+use Rattle.dgt_board.specs.Sending.{after_sending, left_to_send, next_message, piece_on, reported_squares_after}
 use Rattle.dgt_board.specs.View.{BoardView, after_bytes}
-use Rattle.dgt_text.specs.Conversation.{Exchange, told, heard, Converses, events_heard, bytes_told, Hears, HearsFront, EachIsAnswered, EachIsAnsweredOnce, EachFrontGoesOn}
+use Rattle.dgt_text.specs.Conversation.{Exchange, sent, heard, Converses, events_heard, bytes_sent, Hears, HearsPrefix, EachIsAnswered, EachIsAnsweredOnce, EachPrefixGoesOn}
 
 -- ---- steps in a row
 
 pub converses-append : (b : BoardState) (s t : List Exchange) (c d : BoardState) → Converses b s c → Converses c t d
     → Converses b (s ++ t) d
 converses-append b [] t c d p q = subst (λ x. Converses x t d) (sym p) q
-converses-append b (told message ∷ s) t c d p q = (p.0, converses-append (after_sending b message) s t c d p.1 q)
+converses-append b (sent message ∷ s) t c d p q = (p.0, converses-append (after_sending b message) s t c d p.1 q)
 converses-append b (heard event ∷ s) t c d p q = (p.0, converses-append (effect b event) s t c d p.1 q)
 
 pub events_heard-append : (s t : List Exchange) → events_heard (s ++ t) ≡ events_heard s ++ events_heard t
 events_heard-append [] t = refl
-events_heard-append (told message ∷ s) t = events_heard-append s t
+events_heard-append (sent message ∷ s) t = events_heard-append s t
 events_heard-append (heard event ∷ s) t = ap (λ (l : List EventContent). event ∷ l) (events_heard-append s t)
 
-pub bytes_told-append : (s t : List Exchange) → bytes_told (s ++ t) ≡ bytes_told s ++ bytes_told t
-bytes_told-append [] t = refl
-bytes_told-append (told message ∷ s) t =
-    ap (λ (l : List ℕ). spelling message ++ l)
-    (bytes_told-append s t) ∙ sym (append_assoc (spelling message) (bytes_told s) (bytes_told t))
-bytes_told-append (heard event ∷ s) t = bytes_told-append s t
+pub bytes_sent-append : (s t : List Exchange) → bytes_sent (s ++ t) ≡ bytes_sent s ++ bytes_sent t
+bytes_sent-append [] t = refl
+bytes_sent-append (sent message ∷ s) t =
+    ap (λ (l : List ℕ). encoding message ++ l)
+    (bytes_sent-append s t) ∙ sym (append_assoc (encoding message) (bytes_sent s) (bytes_sent t))
+bytes_sent-append (heard event ∷ s) t = bytes_sent-append s t
 
 pub hears_then : DivisionsAppend → (old mid new : BoardView) (s t : List ℕ) (steps more : List Exchange)
     → Hears old s steps mid → Hears mid t more new → Hears old (s ++ t) (steps ++ more) new
@@ -43,37 +43,37 @@ hears_then append old mid new s t steps more p q =
           q.heard);
     }
 
-pub front_then : DivisionsAppend → (old mid new : BoardView) (s t : List ℕ) (steps more : List Exchange)
-    → Hears old s steps mid → HearsFront mid t more new → HearsFront old (s ++ t) (steps ++ more) new
-front_then append old mid new s t steps more p q =
+pub prefix_then : DivisionsAppend → (old mid new : BoardView) (s t : List ℕ) (steps more : List Exchange)
+    → Hears old s steps mid → HearsPrefix mid t more new → HearsPrefix old (s ++ t) (steps ++ more) new
+prefix_then append old mid new s t steps more p q =
     record {
-      front = s ++ q.front;
+      prefix = s ++ q.prefix;
       rest = q.rest;
-      whole = ap (λ (l : List ℕ). s ++ l) q.whole ∙ sym (append_assoc s q.front q.rest);
-      hears = hears_then append old mid new s q.front steps more p q.hears;
+      whole = ap (λ (l : List ℕ). s ++ l) q.whole ∙ sym (append_assoc s q.prefix q.rest);
+      hears = hears_then append old mid new s q.prefix steps more p q.hears;
     }
 
-pub front_longer : (old new : BoardView) (s t : List ℕ) (steps : List Exchange) → HearsFront old s steps new
-    → HearsFront old (s ++ t) steps new
-front_longer old new s t steps p =
+pub prefix_longer : (old new : BoardView) (s t : List ℕ) (steps : List Exchange) → HearsPrefix old s steps new
+    → HearsPrefix old (s ++ t) steps new
+prefix_longer old new s t steps p =
     record {
-      front = p.front;
+      prefix = p.prefix;
       rest = p.rest ++ t;
-      whole = ap (λ (l : List ℕ). l ++ t) p.whole ∙ append_assoc p.front p.rest t;
+      whole = ap (λ (l : List ℕ). l ++ t) p.whole ∙ append_assoc p.prefix p.rest t;
       hears = p.hears;
     }
 
-pub front_whole : (old new : BoardView) (s : List ℕ) (steps : List Exchange) → Hears old s steps new
-    → HearsFront old s steps new
-front_whole old new s steps p = record { front = s; rest = []; whole = sym (append-nil s); hears = p }
+pub prefix_whole : (old new : BoardView) (s : List ℕ) (steps : List Exchange) → Hears old s steps new
+    → HearsPrefix old s steps new
+prefix_whole old new s steps p = record { prefix = s; rest = []; whole = sym (append-nil s); hears = p }
 
 -- ---- one step
 
 -- a message is reported
-pub converses-told : (old mid new : BoardState) (steps : List Exchange) (message : Content) → Converses old steps mid
+pub converses-sent : (old mid new : BoardState) (steps : List Exchange) (message : Content) → Converses old steps mid
     → next_message mid ≡ Some message → new ≡ after_sending mid message
-    → Converses old (steps ++ told message ∷ []) new
-converses-told old mid new steps message p next is = converses-append old steps (told message ∷ []) mid new p
+    → Converses old (steps ++ sent message ∷ []) new
+converses-sent old mid new steps message p next is = converses-append old steps (sent message ∷ []) mid new p
     (next, sym is)
 
 -- messages alone hear nothing
@@ -103,28 +103,30 @@ hears_part old new bytes partial is = rw is (record { conversation = refl; heard
 -- a board with all its squares
 record IsWhole (board : BoardState) : Type 0 where
   pub squares : length board.squares ≡ 64
-  pub told_squares : length board.told_squares ≡ 64
+  pub reported_squares : length board.reported_squares ≡ 64
 
-told_length : (board : BoardState) (message : Content) → IsWhole board → length (told_squares_after board message) ≡ 64
-told_length board (Content.dump pieces) whole = whole.squares
-told_length board (Content.field square piece) whole =
-    length-set board.told_squares square (piece_on board.squares square) ∙ whole.told_squares
-told_length board _ whole = whole.told_squares
+reported_length : (board : BoardState) (message : Content) → IsWhole board
+    → length (reported_squares_after board message) ≡ 64
+reported_length board (Content.dump pieces) whole = whole.squares
+reported_length board (Content.field square piece) whole =
+    length-set board.reported_squares square (piece_on board.squares square) ∙ whole.reported_squares
+reported_length board _ whole = whole.reported_squares
 
 whole_after_sending : (board : BoardState) (message : Content) → IsWhole board → IsWhole (after_sending board message)
 whole_after_sending board message whole =
-    record { squares = whole.squares; told_squares = told_length board message whole }
+    record { squares = whole.squares; reported_squares = reported_length board message whole }
 
 whole_after_event : (board : BoardState) (event : EventContent) → IsWhole board → IsWhole (effect board event)
 whole_after_event board (EventContent.Read command) whole =
-    record { squares = whole.squares; told_squares = whole.told_squares }
+    record { squares = whole.squares; reported_squares = whole.reported_squares }
 whole_after_event board EventContent.BadSize whole = whole
 whole_after_event board EventContent.BadStart whole = whole
 whole_after_event board EventContent.BadEnd whole = whole
 whole_after_event board (EventContent.Stray byte) whole = whole
 
 abbrev Lowers : Type 0
-Lowers = (board : BoardState) (message : Content) → length board.told_squares ≡ 64 → next_message board ≡ Some message
+Lowers = (board : BoardState) (message : Content) → length board.reported_squares ≡ 64
+    → next_message board ≡ Some message
     → left_to_send (after_sending board message) < left_to_send board
 
 -- a board hears these events and reports all that there is to report
@@ -136,15 +138,15 @@ record GoesOn (board : BoardState) (events : List EventContent) : Type 0 where
   pub settled : next_message after ≡ None
   pub heard : events_heard steps ≡ events
 
-tells_first : (board : BoardState) (next : Option Content) → next_message board ≡ next → IsWhole board
+sends_first : (board : BoardState) (next : Option Content) → next_message board ≡ next → IsWhole board
     → ((message : Content) → next_message board ≡ Some message → GoesOn (after_sending board message) [])
     → GoesOn board []
-tells_first board None is whole rest =
+sends_first board None is whole rest =
     record { steps = []; after = board; whole = whole; conversation = refl; settled = is; heard = refl }
-tells_first board (Some message) is whole rest =
+sends_first board (Some message) is whole rest =
     let more = rest message is in
     record {
-      steps = told message ∷ more.steps;
+      steps = sent message ∷ more.steps;
       after = more.after;
       whole = more.whole;
       conversation = (is, more.conversation);
@@ -152,19 +154,19 @@ tells_first board (Some message) is whole rest =
       heard = more.heard;
     }
 
-tells_all : Lowers → (n : ℕ) (board : BoardState) → IsWhole board → left_to_send board ≤ n → GoesOn board []
-tells_all lowers zero board whole few =
-    tells_first board (next_message board) refl whole
-    (λ message is. let less = lowers board message whole.told_squares is in absurd (omega (arith, less, few)))
-tells_all lowers (suc n) board whole few =
-    tells_first board (next_message board) refl whole
-    (λ message is. let less = lowers board message whole.told_squares is in tells_all lowers n
+sends_all : Lowers → (n : ℕ) (board : BoardState) → IsWhole board → left_to_send board ≤ n → GoesOn board []
+sends_all lowers zero board whole few =
+    sends_first board (next_message board) refl whole
+    (λ message is. let less = lowers board message whole.reported_squares is in absurd (omega (arith, less, few)))
+sends_all lowers (suc n) board whole few =
+    sends_first board (next_message board) refl whole
+    (λ message is. let less = lowers board message whole.reported_squares is in sends_all lowers n
     (after_sending board message) (whole_after_sending board message whole) (omega (arith, less, few)))
 
 goes_on : Lowers → (board : BoardState) (events : List EventContent) → IsWhole board → GoesOn board events
-goes_on lowers board [] whole = tells_all lowers (left_to_send board) board whole (omega arith)
+goes_on lowers board [] whole = sends_all lowers (left_to_send board) board whole (omega arith)
 goes_on lowers board (event ∷ events) whole =
-    let first = tells_all lowers (left_to_send board) board whole (omega arith) in
+    let first = sends_all lowers (left_to_send board) board whole (omega arith) in
     let more = goes_on lowers (effect first.after event) events (whole_after_event first.after event first.whole) in
     record {
       steps = first.steps ++ heard event ∷ more.steps;
@@ -184,7 +186,7 @@ pub each_is_answered : EachDividesOnce
 each_is_answered divisions are_all_bytes lowers before bytes board are =
     let found = divisions.0 (before.partial ++ bytes) (are_all_bytes before.partial bytes board.partial are) in
     let talk = goes_on lowers before.state found.0
-    (record { squares = board.squares; told_squares = board.told_squares }) in (
+    (record { squares = board.squares; reported_squares = board.reported_squares }) in (
       talk.steps,
       record { state = talk.after; partial = found.1 },
       record {
@@ -209,17 +211,17 @@ follows : (board between after : BoardState) (steps others : List Exchange) (eve
     → Converses board steps between → Converses board others after → next_message after ≡ None
     → events_heard others ≡ events_heard steps ++ events → Continues steps others between after
 follows board between after [] others events p q settled is = (others, refl, subst (λ x. Converses x others after) p q)
-follows board between after (told message ∷ steps) [] events p q settled is =
+follows board between after (sent message ∷ steps) [] events p q settled is =
     absurd (none-some message (sym settled ∙ ap next_message (sym q) ∙ p.0))
-follows board between after (told message ∷ steps) (told later ∷ others) events p q settled is =
+follows board between after (sent message ∷ steps) (sent later ∷ others) events p q settled is =
     let same : later ≡ message = same_Some later message (sym q.0 ∙ p.0) in
-    one_more (told message) (told later) steps others between after (ap told same)
+    one_more (sent message) (sent later) steps others between after (ap sent same)
     (follows (after_sending board message) between after steps others events p.1
     (subst (λ (m : Content). Converses (after_sending board m) others after) same q.1) settled is)
-follows board between after (told message ∷ steps) (heard event ∷ others) events p q settled is = absurd
+follows board between after (sent message ∷ steps) (heard event ∷ others) events p q settled is = absurd
     (none-some message (sym q.0 ∙ p.0))
 follows board between after (heard event ∷ steps) [] events p q settled is = absurd (cc)
-follows board between after (heard event ∷ steps) (told message ∷ others) events p q settled is = absurd
+follows board between after (heard event ∷ steps) (sent message ∷ others) events p q settled is = absurd
     (none-some message (sym p.0 ∙ q.0))
 follows board between after (heard event ∷ steps) (heard later ∷ others) events p q settled is =
     let same : later ≡ event = cc in
@@ -228,21 +230,22 @@ follows board between after (heard event ∷ steps) (heard later ∷ others) eve
     (follows (effect board event) between after steps others events p.1
     (subst (λ (e : EventContent). Converses (effect board e) others after) same q.1) settled left)
 
-pub each_front_goes_on : FrontsDivideFirst → EachFrontGoesOn
-each_front_goes_on fronts before between after bytes steps others front answers =
-    let whole : before.partial ++ bytes ≡ (before.partial ++ front.front) ++ front.rest
-    = ap (λ (l : List ℕ). before.partial ++ l) front.whole ∙ sym (append_assoc before.partial front.front front.rest) in
-    let more = fronts (before.partial ++ front.front) front.rest (events_heard steps)
-    (events_heard others) between.partial after.partial front.hears.heard
+pub each_prefix_goes_on : PrefixesDivideFirst → EachPrefixGoesOn
+each_prefix_goes_on prefixes before between after bytes steps others prefix answers =
+    let whole : before.partial ++ bytes ≡ (before.partial ++ prefix.prefix) ++ prefix.rest
+    = ap (λ (l : List ℕ). before.partial ++ l) prefix.whole
+    ∙ sym (append_assoc before.partial prefix.prefix prefix.rest) in
+    let more = prefixes (before.partial ++ prefix.prefix) prefix.rest (events_heard steps)
+    (events_heard others) between.partial after.partial prefix.hears.heard
     (subst (λ (l : List ℕ). Divides l (events_heard others) after.partial) whole answers.hears.heard) in
-    follows before.state between.state after.state steps others more.0 front.hears.conversation
+    follows before.state between.state after.state steps others more.0 prefix.hears.conversation
     answers.hears.conversation answers.settled more.1
 
 -- a settled board says no more to events that it doesn't hear
 nothing_more : (board after : BoardState) (steps : List Exchange) → next_message board ≡ None
     → Converses board steps after → events_heard steps ≡ [] → (steps ≡ []) × (board ≡ after)
 nothing_more board after [] settled p none = (refl, p)
-nothing_more board after (told message ∷ steps) settled p none = absurd (none-some message (sym settled ∙ p.0))
+nothing_more board after (sent message ∷ steps) settled p none = absurd (none-some message (sym settled ∙ p.0))
 nothing_more board after (heard event ∷ steps) settled p none = absurd (cc)
 
 pub each_is_answered_once : EachDividesOnce → EachIsAnsweredOnce

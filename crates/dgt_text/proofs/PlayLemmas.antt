@@ -14,7 +14,7 @@ use Rattle.dgt_lines.specs.declared.faults.RunFault.TheVariants.{ReadFailed, Wri
 use Rattle.dgt_script.specs.declared.script_lines.LineBuffer.{LineBuffer}
 use Rattle.dgt_text.specs.Closing.{closing_lines}
 use Rattle.dgt_script.specs.Outcomes.{outcome_line}
-use Rattle.dgt_lines.specs.Monitoring.{IsFront}
+use Rattle.dgt_lines.specs.Monitoring.{IsPrefix}
 use Rattle.dgt_lines.specs.Writing.{Writes, Stopped}
 use Rattle.dgt_script.specs.ScriptLines.{HasNoFeed, IsCut, KeepsLine, ended}
 use Rattle.dgt_text.specs.Simulating.{BeginsWith, IsSimulatedFrom, Plays, Part, PlaysOn, PlaysTorn, Rules, Stops, Took, all_lines, part}
@@ -85,13 +85,14 @@ begins_after at_end bytes tail lines more e h (inr p) = inr (
 
 -- ---- sinks
 
--- a list that has a front and a rest of no byte is none
-front_none : (front rest : List ℕ) → [] ≡ front ++ rest → front ≡ []
-front_none [] rest h = refl
-front_none (b ∷ front) rest h = cc
+-- a list that has a prefix and a rest of no byte is none
+prefix_none : (prefix rest : List ℕ) → [] ≡ prefix ++ rest → prefix ≡ []
+prefix_none [] rest h = refl
+prefix_none (b ∷ prefix) rest h = cc
 
 pub stopped_none : {S : Type 0} (W : Sink S) (a b : S) → Stopped W a b [] → Appends (W.written a) (W.written b) []
-stopped_none W a b p = subst (λ l. Appends (W.written a) (W.written b) l) (front_none p.front p.rest p.whole) p.appends
+stopped_none W a b p = subst (λ l. Appends (W.written a) (W.written b) l)
+    (prefix_none p.prefix p.rest p.whole) p.appends
 
 module _ (rules : Rules) where
   -- ---- playing
@@ -124,17 +125,17 @@ module _ (rules : Rules) where
     between = w;
     text = [];
     torn = [];
-    front = [];
+    prefix = [];
     plays = (refl, refl);
     ends = (refl, refl);
-    is_front = ([], refl);
+    is_prefix = ([], refl);
     out_is = refl;
   }
 
   -- one line, whose outcome may be torn
-  torn_one : (w l : WorldView) (line front text : List ℕ) → Plays rules w (line ∷ []) text l → IsFront front text
-      → PlaysTorn rules w (line ∷ []) front l
-  torn_one w l line front text p f = record {
+  torn_one : (w l : WorldView) (line prefix text : List ℕ) → Plays rules w (line ∷ []) text l → IsPrefix prefix text
+      → PlaysTorn rules w (line ∷ []) prefix l
+  torn_one w l line prefix text p f = record {
     earlier = [];
     final = line ∷ [];
     split = refl;
@@ -142,10 +143,10 @@ module _ (rules : Rules) where
     between = w;
     text = [];
     torn = text;
-    front = front;
+    prefix = prefix;
     plays = (refl, refl);
     ends = p;
-    is_front = f;
+    is_prefix = f;
     out_is = refl;
   }
 
@@ -160,11 +161,11 @@ module _ (rules : Rules) where
     between = q.between;
     text = t ++ q.text;
     torn = q.torn;
-    front = q.front;
+    prefix = q.prefix;
     plays = plays_append w m q.between ls q.earlier t q.text p q.plays;
     ends = q.ends;
-    is_front = q.is_front;
-    out_is = ap (λ x. t ++ x) q.out_is ∙ sym (append_assoc t q.text q.front);
+    is_prefix = q.is_prefix;
+    out_is = ap (λ x. t ++ x) q.out_is ∙ sym (append_assoc t q.text q.prefix);
   }
 
   -- ---- lines, and then what is made of the rest
@@ -256,7 +257,7 @@ module _ (rules : Rules) where
       (λ fault. Took W old new (Stops rules at_end (part number bytes world last) fault))
 
   module _ {S : Type 0} (W : Sink S) where
-    -- the line of an outcome, or a front of it
+    -- the line of an outcome, or a prefix of it
     pub line_put : {A : Type 0} (at_end : Bool) (r : Result A RunFault) (w l : WorldView) (a b : S) (number : ℕ)
         (line bytes : List ℕ) (o : Outcome) → Writes W a b r (outcome_line o)
         → rules.does line w o l → BeginsWith at_end bytes (line ∷ [])
@@ -265,12 +266,12 @@ module _ (rules : Rules) where
         (outcome_line o, p.appends, plays_one w l line o h)
     line_put at_end (Err e) w l a b number line bytes o p h g =
         subst (λ f. Took W a b (Stops rules at_end (part number bytes w l) f)) (sym p.0) (
-          p.1.front,
+          p.1.prefix,
           p.1.appends,
           (
             line ∷ [],
             g,
-            torn_one w l line p.1.front (outcome_line o) (plays_one w l line o h)
+            torn_one w l line p.1.prefix (outcome_line o) (plays_one w l line o h)
                 (p.1.rest, p.1.whole),
           ),
         )
@@ -287,7 +288,7 @@ module _ (rules : Rules) where
         subst (λ x. PlaysLine {A = A} W at_end w w a b x number line bytes) (sym e)
         ([], p, ([], begins_none at_end bytes, torn_none w))
 
-    -- ---- pieces
+    -- ---- chunks
 
     pub on_none : (w : WorldView) (a : S) (line : LineBuffer) (number : ℕ) (rest : List ℕ) → KeepsLine line rest
         → HasNoFeed rest → PlaysOn rules W (part number rest w w) a a line number
@@ -404,7 +405,7 @@ module _ (rules : Rules) where
         → Took W a b (λ out. Plays rules w (all_lines [] rest) out l)
     end_none w l a b rest e f h = rw (e, f, h) ([], Appends-nil (W.written a), (refl, refl))
 
-    -- the closing lines, or a front of them
+    -- the closing lines, or a prefix of them
     pub end_closing : {A : Type 0} (at_end : Bool) (r : Result A RunFault) (w l : WorldView) (a b c : S) (n : ℕ)
         (rest : List ℕ) (quiet : Bool) → IsTrue at_end → HasNoFeed rest
         → Took W a b (λ out. Plays rules w (all_lines [] rest) out l) → (IsTrue quiet ↔ IsQuietWorld l)
@@ -418,14 +419,14 @@ module _ (rules : Rules) where
         = subst (λ g. let r : Result A RunFault = Err g in Took W a c
         (IsSimulatedFrom rules at_end (part n rest w l) r))
         (sym p.0) (
-          t.0 ++ p.1.front,
-          Appends-trans _ _ _ t.0 p.1.front t.1 p.1.appends,
+          t.0 ++ p.1.prefix,
+          Appends-trans _ _ _ t.0 p.1.prefix t.1 p.1.appends,
           inr (
             [],
             rest,
             t.0,
             quiet,
-            p.1.front,
+            p.1.prefix,
             record { whole = refl; each = all_none; last = h },
             t.2,
             k,

@@ -5,7 +5,7 @@ use Rattle.std.proofs.lemmas.List.{take-append-drop, take_all, take_rest}
 use Rattle.std.specs.Io.KnownBytes.{Consumes}
 use Rattle.std.proofs.KnownBytes.{Appends-trans, Consumes-trans}
 use Rattle.dgt_message.specs.Content.{Content}
-use Rattle.dgt_message.specs.Spelling.{spelling}
+use Rattle.dgt_message.specs.Encoding.{encoding}
 use Rattle.dgt_command.specs.Content.{EventContent}
 use Rattle.dgt_command.specs.Laws.{DivisionsAppend}
 use Rattle.dgt_command.specs.Words.{IsWord, IsPartial}
@@ -18,13 +18,13 @@ use Rattle.dgt_lines.specs.declared.faults.RunFault.{RunFault}
 use Rattle.dgt_lines.specs.declared.faults.RunFault.TheVariants.{WriteFailed}
 use Rattle.dgt_lines.specs.Writing.{Wrote, Stopped, Writes, InARow}
 use Rattle.dgt_lines.specs.Turns.{Ran, change, InTurns}
-use Rattle.dgt_text.specs.Conversation.{Exchange, told, heard, Converses, events_heard, bytes_told, Hears}
-use Rattle.dgt_text.specs.Serving.{IsAlmostTold, IsServed, Served, Halted, Serves}
+use Rattle.dgt_text.specs.Conversation.{Exchange, sent, heard, Converses, events_heard, bytes_sent, Hears}
+use Rattle.dgt_text.specs.Serving.{IsAlmostSent, IsServed, Served, Halted, Serves}
 use Rattle.dgt_lines.proofs.TurnLemmas.{BetweenReads}
-use Rattle.dgt_text.proofs.ConversationLemmas.{events_heard-append, bytes_told-append, converses-told, hears_then, hears_nothing, hears_word, hears_part, front_then, front_longer, front_whole}
+use Rattle.dgt_text.proofs.ConversationLemmas.{events_heard-append, bytes_sent-append, converses-sent, hears_then, hears_nothing, hears_word, hears_part, prefix_then, prefix_longer, prefix_whole}
 use Rattle.dgt_text.specs.Simulating.{part}
 
--- ---- pieces
+-- ---- chunks
 
 -- n more bytes of a chunk
 pub chunk_more : (chunk : List ℕ) (i n : ℕ)
@@ -42,7 +42,7 @@ pub record HasSent (before after : BoardView) (count : ℕ) (out : List ℕ) : T
   pub message : Content
   pub next : next_message before.state ≡ Some message
   pub state : after ≡ record before { state = after_sending before.state message }
-  pub bytes : take count out ≡ spelling message
+  pub bytes : take count out ≡ encoding message
 
 pub has_sent : (before after : BoardView) (count : ℕ) (old out : List ℕ)
     → Polls (Polled.Wrote count) (next_message before.state) before after old out → HasSent before after count out
@@ -56,8 +56,8 @@ has_sent before after count old out = go (next_message before.state) refl
           message = message;
           next = is;
           state = p.4;
-          bytes = ap (λ (l : List ℕ). take count l) p.2 ∙ ap (λ (n : ℕ). take n (spelling message ++ drop count old))
-              p.0 ∙ take-append_seam (spelling message) (drop count old);
+          bytes = ap (λ (l : List ℕ). take count l) p.2 ∙ ap (λ (n : ℕ). take n (encoding message ++ drop count old))
+              p.0 ∙ take-append_seam (encoding message) (drop count old);
         }
 
 -- bytes that ended a word
@@ -85,26 +85,26 @@ hears_none content before after chunk used (Some e) none part is = absurd (cc)
 
 -- ---- what was written
 
--- all but the last step was written, and a front of what that reported
-pub almost_told : (before last : List Exchange) (front rest : List ℕ) → length last ≤ 1
-    → bytes_told last ≡ front ++ rest → IsAlmostTold (before ++ last) (bytes_told before ++ front)
-almost_told before last front rest one is =
+-- all but the last step was written, and a prefix of what that reported
+pub almost_sent : (before last : List Exchange) (prefix rest : List ℕ) → length last ≤ 1
+    → bytes_sent last ≡ prefix ++ rest → IsAlmostSent (before ++ last) (bytes_sent before ++ prefix)
+almost_sent before last prefix rest one is =
     record {
       before = before;
       last = last;
       whole = refl;
       one = one;
-      sure = (front, refl);
-      front = (
+      sure = (prefix, refl);
+      prefix = (
         rest,
-        bytes_told-append before last ∙ ap (λ (l : List ℕ). bytes_told before ++ l) is ∙
-            sym (append_assoc (bytes_told before) front rest),
+        bytes_sent-append before last ∙ ap (λ (l : List ℕ). bytes_sent before ++ l) is ∙
+            sym (append_assoc (bytes_sent before) prefix rest),
       );
     }
 
-almost_told_then : (steps more : List Exchange) (out : List ℕ) → IsAlmostTold more out
-    → IsAlmostTold (steps ++ more) (bytes_told steps ++ out)
-almost_told_then steps more out p =
+almost_sent_then : (steps more : List Exchange) (out : List ℕ) → IsAlmostSent more out
+    → IsAlmostSent (steps ++ more) (bytes_sent steps ++ out)
+almost_sent_then steps more out p =
     record {
       before = steps ++ p.before;
       last = p.last;
@@ -112,14 +112,14 @@ almost_told_then steps more out p =
       one = p.one;
       sure = (
         p.sure.0,
-        ap (λ (l : List ℕ). bytes_told steps ++ l) p.sure.1 ∙
-            sym (append_assoc (bytes_told steps) (bytes_told p.before) p.sure.0) ∙ ap (λ (l : List ℕ). l ++ p.sure.0)
-            (sym (bytes_told-append steps p.before)),
+        ap (λ (l : List ℕ). bytes_sent steps ++ l) p.sure.1 ∙
+            sym (append_assoc (bytes_sent steps) (bytes_sent p.before) p.sure.0) ∙ ap (λ (l : List ℕ). l ++ p.sure.0)
+            (sym (bytes_sent-append steps p.before)),
       );
-      front = (
-        p.front.0,
-        bytes_told-append steps more ∙ ap (λ (l : List ℕ). bytes_told steps ++ l) p.front.1 ∙
-            sym (append_assoc (bytes_told steps) out p.front.0),
+      prefix = (
+        p.prefix.0,
+        bytes_sent-append steps more ∙ ap (λ (l : List ℕ). bytes_sent steps ++ l) p.prefix.1 ∙
+            sym (append_assoc (bytes_sent steps) out p.prefix.0),
       );
     }
 
@@ -129,49 +129,49 @@ pub record Sent {S : Type 0} (W : Sink S) (before after : BoardView) (old new : 
   pub conversation : Converses before.state steps after.state
   pub none_heard : events_heard steps ≡ []
   pub partial : after.partial ≡ before.partial
-  pub wrote : Wrote W old new (bytes_told steps)
+  pub wrote : Wrote W old new (bytes_sent steps)
 
 module _ {S : Type 0} (W : Sink S) where
   pub sent_more : InARow W → (old mid new : BoardView) (a b c : S) (message : Content) → Sent W old mid a b
       → next_message mid.state ≡ Some message
-      → new ≡ record mid { state = after_sending mid.state message } → Wrote W b c (spelling message)
+      → new ≡ record mid { state = after_sending mid.state message } → Wrote W b c (encoding message)
       → Sent W old new a c
   sent_more row old mid new a b c message p next is q =
       record {
-        steps = p.steps ++ told message ∷ [];
-        conversation = converses-told old.state mid.state new.state p.steps message p.conversation next
+        steps = p.steps ++ sent message ∷ [];
+        conversation = converses-sent old.state mid.state new.state p.steps message p.conversation next
             (ap (λ (v : BoardView). v.state) is);
         none_heard =
-            events_heard-append p.steps (told message ∷ []) ∙ ap (λ (l : List EventContent). l ++ []) p.none_heard;
+            events_heard-append p.steps (sent message ∷ []) ∙ ap (λ (l : List EventContent). l ++ []) p.none_heard;
         partial = ap (λ (v : BoardView). v.partial) is ∙ p.partial;
         wrote = subst (λ (l : List ℕ). Wrote W a c l)
-            (ap (λ (l : List ℕ). bytes_told p.steps ++ l)
-            (sym (append-nil (spelling message))) ∙ sym (bytes_told-append p.steps (told message ∷ [])))
-            (row.writes a b c (bytes_told p.steps) (spelling message) (Ok tt) p.wrote q);
+            (ap (λ (l : List ℕ). bytes_sent p.steps ++ l)
+            (sym (append-nil (encoding message))) ∙ sym (bytes_sent-append p.steps (sent message ∷ [])))
+            (row.writes a b c (bytes_sent p.steps) (encoding message) (Ok tt) p.wrote q);
       }
 
   -- the sink refused a message
   pub sent_halts : (old mid new : BoardView) (a b c : S) (message : Content) → Sent W old mid a b
       → IsPartial mid.partial → next_message mid.state ≡ Some message
-      → new ≡ record mid { state = after_sending mid.state message } → Stopped W b c (spelling message)
+      → new ≡ record mid { state = after_sending mid.state message } → Stopped W b c (encoding message)
       → Halted W old new a c []
   sent_halts old mid new a b c message p partial next is q =
-      let steps = p.steps ++ told message ∷ [] in
-      let conversation = converses-told old.state mid.state new.state p.steps message p.conversation next
+      let steps = p.steps ++ sent message ∷ [] in
+      let conversation = converses-sent old.state mid.state new.state p.steps message p.conversation next
       (ap (λ (v : BoardView). v.state) is) in
       let none : events_heard steps ≡ [] =
-      events_heard-append p.steps (told message ∷ []) ∙ ap (λ (l : List EventContent). l ++ []) p.none_heard in
+      events_heard-append p.steps (sent message ∷ []) ∙ ap (λ (l : List EventContent). l ++ []) p.none_heard in
       let same : new.partial ≡ mid.partial = ap (λ (v : BoardView). v.partial) is in
       record {
-        out = bytes_told p.steps ++ q.front;
+        out = bytes_sent p.steps ++ q.prefix;
         breaks = record {
           steps = steps;
-          hears = front_whole old new [] steps
+          hears = prefix_whole old new [] steps
               (hears_nothing old new steps conversation none (same ∙ p.partial) (subst IsPartial (sym same) partial));
-          told = almost_told p.steps (told message ∷ []) q.front q.rest (omega arith)
-              (append-nil (spelling message) ∙ q.whole);
+          sent = almost_sent p.steps (sent message ∷ []) q.prefix q.rest (omega arith)
+              (append-nil (encoding message) ∙ q.whole);
         };
-        appends = Appends-trans _ _ _ (bytes_told p.steps) q.front p.wrote.appends q.appends;
+        appends = Appends-trans _ _ _ (bytes_sent p.steps) q.prefix p.wrote.appends q.appends;
         refused = q.refused;
         in_time = λ h. q.in_time (p.wrote.kept ∙ h) ∙ p.wrote.in_time h;
       }
@@ -180,15 +180,15 @@ module _ {S : Type 0} (W : Sink S) where
 
   -- steps that report nothing, and what follows them
   pub served_then : InARow W → DivisionsAppend → (old mid between new : BoardView) (a b c : S) (s t : List ℕ)
-      (steps : List Exchange) → Served W old mid a b s → Hears mid t steps between → bytes_told steps ≡ []
+      (steps : List Exchange) → Served W old mid a b s → Hears mid t steps between → bytes_sent steps ≡ []
       → Served W between new b c [] → Served W old new a c (s ++ t)
   served_then row append old mid between new a b c s t steps p h none q =
       let all = p.steps ++ (steps ++ q.steps) in
       let later : Hears mid (t ++ []) (steps ++ q.steps) new =
       hears_then append mid between new t [] steps q.steps h q.answers.hears in
-      let told : bytes_told all ≡ bytes_told p.steps ++ bytes_told q.steps
-      = bytes_told-append p.steps (steps ++ q.steps) ∙ ap (λ (l : List ℕ). bytes_told p.steps ++ l)
-      (bytes_told-append steps q.steps ∙ ap (λ (l : List ℕ). l ++ bytes_told q.steps) none) in
+      let sent : bytes_sent all ≡ bytes_sent p.steps ++ bytes_sent q.steps
+      = bytes_sent-append p.steps (steps ++ q.steps) ∙ ap (λ (l : List ℕ). bytes_sent p.steps ++ l)
+      (bytes_sent-append steps q.steps ∙ ap (λ (l : List ℕ). l ++ bytes_sent q.steps) none) in
       record {
         steps = all;
         answers = record {
@@ -196,8 +196,8 @@ module _ {S : Type 0} (W : Sink S) where
               (rw (append-nil t) at later);
           settled = q.answers.settled;
         };
-        wrote = subst (λ (l : List ℕ). Wrote W a c l) (sym told)
-            (row.writes a b c (bytes_told p.steps) (bytes_told q.steps) (Ok tt) p.wrote q.wrote);
+        wrote = subst (λ (l : List ℕ). Wrote W a c l) (sym sent)
+            (row.writes a b c (bytes_sent p.steps) (bytes_sent q.steps) (Ok tt) p.wrote q.wrote);
       }
 
   pub halted_longer : (old new : BoardView) (a b : S) (s t : List ℕ) → Halted W old new a b s
@@ -207,8 +207,8 @@ module _ {S : Type 0} (W : Sink S) where
         out = p.out;
         breaks = record {
           steps = p.breaks.steps;
-          hears = front_longer old new s t p.breaks.steps p.breaks.hears;
-          told = p.breaks.told;
+          hears = prefix_longer old new s t p.breaks.steps p.breaks.hears;
+          sent = p.breaks.sent;
         };
         appends = p.appends;
         refused = p.refused;
@@ -216,17 +216,17 @@ module _ {S : Type 0} (W : Sink S) where
       }
 
   halted_then : DivisionsAppend → (old mid new : BoardView) (a b c : S) (s t : List ℕ) (steps : List Exchange)
-      → Hears old s steps mid → Wrote W a b (bytes_told steps) → Halted W mid new b c t
+      → Hears old s steps mid → Wrote W a b (bytes_sent steps) → Halted W mid new b c t
       → Halted W old new a c (s ++ t)
   halted_then append old mid new a b c s t steps h w q =
       record {
-        out = bytes_told steps ++ q.out;
+        out = bytes_sent steps ++ q.out;
         breaks = record {
           steps = steps ++ q.breaks.steps;
-          hears = front_then append old mid new s t steps q.breaks.steps h q.breaks.hears;
-          told = almost_told_then steps q.breaks.steps q.out q.breaks.told;
+          hears = prefix_then append old mid new s t steps q.breaks.steps h q.breaks.hears;
+          sent = almost_sent_then steps q.breaks.steps q.out q.breaks.sent;
         };
-        appends = Appends-trans _ _ _ (bytes_told steps) q.out w.appends q.appends;
+        appends = Appends-trans _ _ _ (bytes_sent steps) q.out w.appends q.appends;
         refused = q.refused;
         in_time = λ h. q.in_time (w.kept ∙ h) ∙ w.in_time h;
       }
@@ -241,8 +241,8 @@ module _ {S : Type 0} (W : Sink S) where
           hears = hears_then append old mid new s t p.steps q.steps p.answers.hears q.answers.hears;
           settled = q.answers.settled;
         };
-        wrote = subst (λ (l : List ℕ). Wrote W a c l) (sym (bytes_told-append p.steps q.steps))
-            (row.writes a b c (bytes_told p.steps) (bytes_told q.steps) (Ok tt) p.wrote q.wrote);
+        wrote = subst (λ (l : List ℕ). Wrote W a c l) (sym (bytes_sent-append p.steps q.steps))
+            (row.writes a b c (bytes_sent p.steps) (bytes_sent q.steps) (Ok tt) p.wrote q.wrote);
       }
 
   -- the sink refused after a word
@@ -264,7 +264,7 @@ module _ {S : Type 0} (W : Sink S) where
           hears = hears_then append old mid new s t p.steps [] p.answers.hears (hears_part mid new t partial is);
           settled = ap (λ (v : BoardView). next_message v.state) is ∙ p.answers.settled;
         };
-        wrote = subst (λ (l : List Exchange). Wrote W a b (bytes_told l)) (sym (append-nil p.steps)) p.wrote;
+        wrote = subst (λ (l : List Exchange). Wrote W a b (bytes_sent l)) (sym (append-nil p.steps)) p.wrote;
       }
 
   -- a flush at the end
@@ -274,20 +274,20 @@ module _ {S : Type 0} (W : Sink S) where
       record {
         steps = p.steps;
         answers = p.answers;
-        wrote = subst (λ (l : List ℕ). Wrote W a c l) (append-nil (bytes_told p.steps))
-            (row.writes a b c (bytes_told p.steps) [] (Ok tt) p.wrote q);
+        wrote = subst (λ (l : List ℕ). Wrote W a c l) (append-nil (bytes_sent p.steps))
+            (row.writes a b c (bytes_sent p.steps) [] (Ok tt) p.wrote q);
       }
   served_flushed row old new a b c s (Err e) p q = (
     q.0,
     record {
-      out = bytes_told p.steps ++ q.1.front;
+      out = bytes_sent p.steps ++ q.1.prefix;
       breaks = record {
         steps = p.steps;
-        hears = front_whole old new s p.steps p.answers.hears;
-        told = subst (λ (l : List Exchange). IsAlmostTold l (bytes_told p.steps ++ q.1.front)) (append-nil p.steps)
-            (almost_told p.steps [] q.1.front q.1.rest (omega arith) q.1.whole);
+        hears = prefix_whole old new s p.steps p.answers.hears;
+        sent = subst (λ (l : List Exchange). IsAlmostSent l (bytes_sent p.steps ++ q.1.prefix)) (append-nil p.steps)
+            (almost_sent p.steps [] q.1.prefix q.1.rest (omega arith) q.1.whole);
       };
-      appends = Appends-trans _ _ _ (bytes_told p.steps) q.1.front p.wrote.appends q.1.appends;
+      appends = Appends-trans _ _ _ (bytes_sent p.steps) q.1.prefix p.wrote.appends q.1.appends;
       refused = q.1.refused;
       in_time = λ h. q.1.in_time (p.wrote.kept ∙ h) ∙ p.wrote.in_time h;
     },

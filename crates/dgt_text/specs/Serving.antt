@@ -4,8 +4,8 @@ use Rattle.std.specs.Io.KnownBytes.{Appends}
 use Rattle.dgt_board.specs.View.{BoardView}
 use Rattle.dgt_lines.specs.declared.faults.RunFault.{RunFault}
 use Rattle.dgt_lines.specs.declared.faults.RunFault.TheVariants.{ReadFailed, WriteFailed, TooManyTurns, BadLine}
-use Rattle.dgt_text.specs.Conversation.{Exchange, bytes_told, Answers, HearsFront}
-use Rattle.dgt_lines.specs.Monitoring.{IsFront}
+use Rattle.dgt_text.specs.Conversation.{Exchange, bytes_sent, Answers, HearsPrefix}
+use Rattle.dgt_lines.specs.Monitoring.{IsPrefix}
 use Rattle.dgt_lines.specs.Turns.{Change}
 use Rattle.dgt_lines.specs.Writing.{Wrote}
 use Rattle.dgt_lines.specs.declared.streams.Sink.{Ghosts as Sink}
@@ -13,22 +13,22 @@ use Rattle.dgt_lines.specs.declared.streams.Sink.{Ghosts as Sink}
 -- the board answered the bytes, and all that it reported was written
 abbrev pub IsAnswered : BoardView → BoardView → List ℕ → List ℕ → Type 0
 IsAnswered before after bytes out =
-    (steps : List Exchange) × Answers before bytes steps after × (out ≡ bytes_told steps)
+    (steps : List Exchange) × Answers before bytes steps after × (out ≡ bytes_sent steps)
 
 -- All that was sent was written, except for the last message, of which a prefix may be written.
-pub record IsAlmostTold (steps : List Exchange) (out : List ℕ) : Type 0 where
+pub record IsAlmostSent (steps : List Exchange) (out : List ℕ) : Type 0 where
   pub before : List Exchange
   pub last : List Exchange
   pub whole : steps ≡ before ++ last
   pub one : length last ≤ 1
-  pub sure : IsFront (bytes_told before) out
-  pub front : IsFront out (bytes_told steps)
+  pub sure : IsPrefix (bytes_sent before) out
+  pub prefix : IsPrefix out (bytes_sent steps)
 
 -- the board was answering the bytes when a write or a flush was refused
 pub record IsBrokenOff (before after : BoardView) (bytes out : List ℕ) : Type 0 where
   pub steps : List Exchange
-  pub hears : HearsFront before bytes steps after
-  pub told : IsAlmostTold steps out
+  pub hears : HearsPrefix before bytes steps after
+  pub sent : IsAlmostSent steps out
 
 -- the board before and after, the bytes that were read and those that were written, if `serve` gave
 -- this answer
@@ -47,7 +47,7 @@ pub record Served {S : Type 0} (W : Sink S) (before after : BoardView) (old new 
     (bytes : List ℕ) : Type 0 where
   pub steps : List Exchange
   pub answers : Answers before bytes steps after
-  pub wrote : Wrote W old new (bytes_told steps)
+  pub wrote : Wrote W old new (bytes_sent steps)
 
 -- the sink refused
 pub record Halted {S : Type 0} (W : Sink S) (before after : BoardView) (old new : S)

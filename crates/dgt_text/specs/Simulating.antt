@@ -17,7 +17,7 @@ use Rattle.dgt_lines.specs.declared.faults.RunFault.TheVariants.{ReadFailed, Wri
 use Rattle.dgt_script.specs.declared.script_lines.LineBuffer.{LineBuffer}
 use Rattle.dgt_text.specs.Closing.{closing_lines}
 use Rattle.dgt_script.specs.Outcomes.{outcome_line}
-use Rattle.dgt_lines.specs.Monitoring.{IsFront}
+use Rattle.dgt_lines.specs.Monitoring.{IsPrefix}
 use Rattle.dgt_lines.specs.Turns.{Change, sink_mark_after}
 use Rattle.dgt_script.specs.FaultyScript.{faulty_words}
 use Rattle.dgt_script.specs.Script.{AsksFor, IsBadAt, Vocabulary, plain_words}
@@ -88,11 +88,11 @@ pub record PlaysTorn (rules : Rules) (world : WorldView) (lines : List (List ℕ
   pub between : WorldView
   pub text : List ℕ
   pub torn : List ℕ
-  pub front : List ℕ
+  pub prefix : List ℕ
   pub plays : Plays rules world earlier text between
   pub ends : Plays rules between final torn last
-  pub is_front : IsFront front torn
-  pub out_is : out ≡ text ++ front
+  pub is_prefix : IsPrefix prefix torn
+  pub out_is : out ≡ text ++ prefix
 
 -- a part of a script: the number of its first line, its bytes, and the world before and after it
 pub record Part : Type 0 where
@@ -140,9 +140,9 @@ IsSimulatedFrom rules at_end p (Err (BadLine number at)) out =
 IsSimulatedFrom rules at_end p (Err WriteFailed) out =
     Stops rules at_end p WriteFailed out
     ⊎ ((lines : List (List ℕ)) × (rest : List ℕ) × (text : List ℕ) × (quiet : Bool)
-    × (front : List ℕ) × IsCut p.bytes lines rest
+    × (prefix : List ℕ) × IsCut p.bytes lines rest
     × Plays rules p.world (all_lines lines rest) text p.last × (IsTrue quiet ↔ IsQuietWorld p.last)
-    × IsFront front (closing_lines p.last quiet) × (out ≡ text ++ front) × IsTrue at_end)
+    × IsPrefix prefix (closing_lines p.last quiet) × (out ≡ text ++ prefix) × IsTrue at_end)
 
 -- the first line of a script has number 1
 abbrev pub IsSimulated : {A : Type 0} → Rules → Bool → Result A RunFault → WorldView → WorldView
@@ -164,13 +164,13 @@ EndsAlike world out =
     × ShowsTwice (placement_text world.board.state.squares) (closing_lines world true)
 
 -- if updates and a dump were asked for and all is quiet, the text ends so
-abbrev pub TellsPicture : WorldView → List ℕ → Type 0
-TellsPicture world out =
+abbrev pub ShowsPicture : WorldView → List ℕ → Type 0
+ShowsPicture world out =
     (x : MachineState) → StandsFor world x → IsPromised x → IsQuietWorld world → EndsAlike world out
 
 -- if the host is promised its picture, whatever failed before, and all is quiet, the text ends so
-abbrev pub TellsHealed : WorldView → List ℕ → Type 0
-TellsHealed world out = IsPromisedWorld world → IsQuietWorld world → EndsAlike world out
+abbrev pub ShowsHealed : WorldView → List ℕ → Type 0
+ShowsHealed world out = IsPromisedWorld world → IsQuietWorld world → EndsAlike world out
 
 -- ---- the engine's parts
 

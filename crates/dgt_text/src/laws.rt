@@ -4,7 +4,7 @@
 ghost use Rattle.std.specs.Prelude.{◌≡◌, ℕ, List};
 ghost use Rattle.dgt_link.specs.View.{WorldView};
 ghost use Rattle.dgt_text.specs.Closing.{ClosingLinesAgree};
-ghost use Rattle.dgt_text.specs.Conversation.{EachFrontGoesOn, EachIsAnswered, EachIsAnsweredOnce};
+ghost use Rattle.dgt_text.specs.Conversation.{EachPrefixGoesOn, EachIsAnswered, EachIsAnsweredOnce};
 ghost use Rattle.dgt_script.specs.ScriptLines.{IsCut};
 ghost use Rattle.dgt_text.specs.Simulating.{Plays, faulty_rules, plain_rules};
 
@@ -19,10 +19,10 @@ pub use dgt_script::laws::lines_have_one_meaning;
 pub fn one_conversation()
     ensures answered { EachIsAnswered }
     ensures once { EachIsAnsweredOnce }
-    ensures goes_on { EachFrontGoesOn }
+    ensures goes_on { EachPrefixGoesOn }
 {
     dgt_command::laws::one_division();
-    dgt_command::laws::fronts_divide_first();
+    dgt_command::laws::prefixes_divide_first();
     dgt_command::laws::parts_of_words();
     dgt_board::laws::bounded_sending();
 }

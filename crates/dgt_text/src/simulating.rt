@@ -7,7 +7,7 @@ ghost use Rattle.dgt_lines.specs.Writing.{Writes};
 ghost use Rattle.dgt_text.specs.Closing.{closing_lines};
 ghost use Rattle.dgt_lines.specs.Turns.{change, InTurns, Ran, RunsInTurns};
 ghost use Rattle.dgt_script.specs.ScriptLines.{HasNoFeed, KeepsLine};
-ghost use Rattle.dgt_text.specs.Simulating.{BeginsWith, IsSimulated, IsSimulatedFrom, Plays, PlaysOn, Stops, StopsAtLines, TellsHealed, TellsPicture, Took, faulty_rules, part, plain_rules};
+ghost use Rattle.dgt_text.specs.Simulating.{BeginsWith, IsSimulated, IsSimulatedFrom, Plays, PlaysOn, Stops, StopsAtLines, ShowsHealed, ShowsPicture, Took, faulty_rules, part, plain_rules};
 
 use crate::laws;
 use crate::stage::Stage;
@@ -177,7 +177,7 @@ pub fn simulate<R: Source, W: Sink>(
     // and host have one placement
     ensures picture { Ran R.Source W.Sink
         (change reader.old reader.new) (change writer.old writer.new)
-        (InTurns limit result (λ _ out. OnOk result (TellsPicture world.new out))) }
+        (InTurns limit result (λ _ out. OnOk result (ShowsPicture world.new out))) }
 
     // how often it reads, when it stops, and which marks it leaves
     ensures in_turns { RunsInTurns R.Source W.Sink (change reader.old reader.new)
@@ -212,7 +212,7 @@ pub fn simulate_faults<R: Source, W: Sink>(
     // placement
     ensures picture { Ran R.Source W.Sink
         (change reader.old reader.new) (change writer.old writer.new)
-        (InTurns limit result (λ _ out. OnOk result (TellsHealed world.new out))) }
+        (InTurns limit result (λ _ out. OnOk result (ShowsHealed world.new out))) }
 
     // how often it reads, when it stops, and which marks it leaves
     ensures in_turns { RunsInTurns R.Source W.Sink (change reader.old reader.new)

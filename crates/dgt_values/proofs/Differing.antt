@@ -49,16 +49,16 @@ square_same a b n h k =
     )
 
 -- the mask of the codes of two positions reports the squares that differ
-pub mask_tells : (a b : List Piece) (xs ys : List ℕ) → length a ≡ 64 → length b ≡ 64 → length xs ≡ 64 → length ys ≡ 64
+pub mask_differs : (a b : List Piece) (xs ys : List ℕ) → length a ≡ 64 → length b ≡ 64 → length xs ≡ 64 → length ys ≡ 64
     → (n : ℕ) → n < 64
     → get_or xs n 0 ≡ piece_code (get_or a n Empty) → get_or ys n 0 ≡ piece_code (get_or b n Empty)
     → IsBitSet (mask_l (map (top 7) (zip2 (λ a b. cond (unequal a b) 255 0) xs ys)) % 2 ^ 64) n
     ↔ (slice_get a n ≢ slice_get b n)
-mask_tells a b xs ys a_long b_long xs_long ys_long n within own others =
+mask_differs a b xs ys a_long b_long xs_long ys_long n within own others =
     let mask = mask_l (map (top 7) (zip2 (λ a b. cond (unequal a b) 255 0) xs ys)) % 2 ^ 64 in
-    let told = unequal_bits xs ys xs_long ys_long n within ∙ ap (λ x. cond (unequal x (get_or ys n 0)) 1 0) own
+    let here = unequal_bits xs ys xs_long ys_long n within ∙ ap (λ x. cond (unequal x (get_or ys n 0)) 1 0) own
     ∙ ap (λ y. cond (unequal (piece_code (get_or a n Empty)) y) 1 0) others in
-    let bit = code_bit (get_or a n Empty) (get_or b n Empty) (bit_at mask n) told in
+    let bit = code_bit (get_or a n Empty) (get_or b n Empty) (bit_at mask n) here in
     let square = square_same a b n (omega arith) (omega arith) in
     let shift = bit_set_by_shift mask n in (
       λ set. square.0 (bit.0 (sym (shr_and_one mask n) ∙ shift.1 set)),

@@ -152,9 +152,9 @@ stuck_is_bad : (text rest : List ℕ) (byte n s : ℕ) (done : List Piece) → s
     → IsFirstBadOffset (text ++ byte ∷ rest) (length text)
 stuck_is_bad text rest byte n s done le h stuck =
     let inside : length text < length (text ++ byte ∷ rest) = omega (arith, length-append text (byte ∷ rest)) in
-    let front : take (length text) (text ++ byte ∷ rest) ≡ text = take_at text (byte ∷ rest) (length text) refl in
+    let prefix : take (length text) (text ++ byte ∷ rest) ≡ text = take_at text (byte ∷ rest) (length text) refl in
     let here : get_or (text ++ byte ∷ rest) (length text) 0 ≡ byte = get_or-append_seam text byte rest 0 in
-    first_bad (text ++ byte ∷ rest) done (length text) n s inside le (rw front h) (rw here stuck)
+    first_bad (text ++ byte ∷ rest) done (length text) n s inside le (rw prefix h) (rw here stuck)
 
 -- what is left of a text has an outcome
 outcome_from : (rest text : List ℕ) (n s : ℕ) (done : List Piece) → s ≤ 8 → Leaves text n s done

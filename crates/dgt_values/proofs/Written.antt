@@ -82,11 +82,11 @@ rank_after (piece ∷ squares) empty le = elim (empty_or_not piece) [
 are_ranks : (n : ℕ) (pieces : List Piece) → length pieces ≡ 8 * n → AreRanks (ranks_text n pieces) pieces
 are_ranks zero pieces long = nil_from_length pieces long
 are_ranks (suc n) pieces long =
-    let front : length (take 8 pieces) ≡ 8 = omega (arith, length-take 8 pieces) in
+    let prefix : length (take 8 pieces) ≡ 8 = omega (arith, length-take 8 pieces) in
     let back : length (drop 8 pieces) ≡ 8 * n = omega (arith, length-drop 8 pieces) in (
       take 8 pieces,
       drop 8 pieces,
-      front,
+      prefix,
       rank_after (take 8 pieces) 0 (omega arith),
       are_ranks n (drop 8 pieces) back,
       sym (take-append-drop 8 pieces),

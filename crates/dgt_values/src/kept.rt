@@ -84,7 +84,7 @@ impl<const ROOM: usize> Kept<ROOM> {
     }
 
     /// Keeps the first `len` of these bytes, or as many as there are and fit, and none from before.
-    pub fn set_front(&mut self, bytes: &[u8], len: usize)
+    pub fn set_prefix(&mut self, bytes: &[u8], len: usize)
         ensures { self.new ≡ take (min len ROOM) bytes.now }
     {
         let len = len.min(ROOM).min(bytes.len());

@@ -52,7 +52,7 @@ const OTHERS: [&str; 11] = [
 ];
 
 // Whether these are the bytes of a command: they are viewed whole and in no part, and written.
-fn is_spelled(bytes: &[u8]) -> bool {
+fn is_encoded(bytes: &[u8]) -> bool {
     for place in 0..bytes.len() {
         if view_command(&bytes[..place]).is_some() {
             return false;
@@ -63,7 +63,7 @@ fn is_spelled(bytes: &[u8]) -> bool {
     };
     let (mut out, mut right) = ([0xee; 258], [0xee; 258]);
     match right.get_mut(..bytes.len()) {
-        Some(front) => front.copy_from_slice(bytes),
+        Some(prefix) => prefix.copy_from_slice(bytes),
         None => return false,
     }
     length(&command) == bytes.len() && encode(&command, &mut out) == Ok(bytes.len()) && out == right
@@ -72,7 +72,7 @@ fn is_spelled(bytes: &[u8]) -> bool {
 #[test]
 fn commands_are_viewed_and_written(rt: HostRuntime) -> Result<(), Fail> {
     for digits in COMMANDS {
-        assert_that(&rt, is_spelled(&hex::decode(rt.alloc(), digits)?), digits);
+        assert_that(&rt, is_encoded(&hex::decode(rt.alloc(), digits)?), digits);
     }
     for digits in OTHERS {
         let bytes = hex::decode(rt.alloc(), digits)?;
@@ -80,12 +80,12 @@ fn commands_are_viewed_and_written(rt: HostRuntime) -> Result<(), Fail> {
     }
     let mut clock = [0x00; 257];
     clock[..4].copy_from_slice(&[0x2b, 0xff, 0x03, 0x01]);
-    assert_that(&rt, is_spelled(&clock), "the longest clock message");
+    assert_that(&rt, is_encoded(&clock), "the longest clock message");
     clock[256] = 0x01;
     assert_that(&rt, view_command(&clock).is_none(), "a bad end");
     let mut leds = [0x42; 257];
     leds[..2].copy_from_slice(&[0x60, 0xff]);
-    assert_that(&rt, is_spelled(&leds), "the longest LED frame");
+    assert_that(&rt, is_encoded(&leds), "the longest LED frame");
     Ok(())
 }
 

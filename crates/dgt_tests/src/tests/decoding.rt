@@ -17,12 +17,12 @@ fn assert_one(
     bytes: &[u8],
     event: Event<'_>,
 ) -> Result<(), AllocError> {
-    let told = plain::events_of(alloc, bytes)?;
-    let is_told = match told.as_slice() {
+    let reported = plain::events_of(alloc, bytes)?;
+    let is_reported = match reported.as_slice() {
         [(place, only)] => *place == bytes.len() && *only == event,
         _ => false,
     };
-    assert_that(rt, is_told, "the event of the plain reader");
+    assert_that(rt, is_reported, "the event of the plain reader");
     let mut decoder = Decoder::new();
     let fed = decoder.feed(bytes);
     let is_fed = fed.used == bytes.len() && fed.event == Some(event);
@@ -58,7 +58,7 @@ fn the_first_top_bit(rt: HostRuntime) {
 }
 
 #[test]
-fn an_unfinished_message_is_told_once(rt: HostRuntime) {
+fn an_unfinished_message_is_reported_once(rt: HostRuntime) {
     let mut decoder = Decoder::new();
     let fed = decoder.feed(&[0x8e, 0x00]);
     assert_that(&rt, fed.used == 2 && fed.event.is_none(), "no event");
@@ -83,10 +83,10 @@ fn a_framer_lends_what_it_found(rt: HostRuntime) {
     let mut framer = Framer::new();
     let advanced = framer.advance(&[0x8e, 0x00, 0x05]);
     assert!(rt; advanced.used == 3 && advanced.found.is_none());
-    assert_same(&rt, framer.open_len(), 3);
+    assert_same(&rt, framer.unfinished_len(), 3);
     let advanced = framer.advance(&[0x24, 0x01, 0x07]);
     assert_same(&rt, advanced.used, 2);
-    assert_same(&rt, framer.open_len(), 0);
+    assert_same(&rt, framer.unfinished_len(), 0);
     match advanced.found {
         Some(found) => {
             assert_same(&rt, found, Found::Message);
@@ -127,11 +127,11 @@ impl Listener for Places {
 }
 
 /// What a listener hears of a chunk.
-fn assert_told(
+fn assert_reported(
     rt: &impl Abort,
     decoder: &mut Decoder,
-    piece: &[u8],
-    told: &[usize],
+    chunk: &[u8],
+    reported: &[usize],
     messages: usize,
 ) {
     let mut heard = Places {
@@ -139,19 +139,19 @@ fn assert_told(
         count: 0,
         messages: 0,
     };
-    decoder.feed_all(piece, &mut heard);
-    assert_same(rt, heard.places.get(..heard.count), Some(told));
+    decoder.feed_all(chunk, &mut heard);
+    assert_same(rt, heard.places.get(..heard.count), Some(reported));
     assert_same(rt, heard.messages, messages);
 }
 
 #[test]
-fn a_listener_is_told_each_event_at_its_place_in_the_piece(rt: HostRuntime) {
+fn a_listener_hears_each_event_at_its_place_in_the_chunk(rt: HostRuntime) {
     let mut decoder = Decoder::new();
-    assert_told(&rt, &mut decoder, &[], &[], 0);
+    assert_reported(&rt, &mut decoder, &[], &[], 0);
     let cut = [0x86, 0x00, 0x43, 0x00, 0x8e, 0x00, 0x05, 0x34];
-    assert_told(&rt, &mut decoder, &cut, &[5], 0);
+    assert_reported(&rt, &mut decoder, &cut, &[5], 0);
     assert_same(&rt, decoder.rest(), 4);
     let ends = [0x00, 0x07, 0x8e, 0x00, 0x05, 0x24, 0x01, 0x93];
-    assert_told(&rt, &mut decoder, &ends, &[1, 2, 7], 2);
+    assert_reported(&rt, &mut decoder, &ends, &[1, 2, 7], 2);
     assert_same(&rt, decoder.rest(), 1);
 }

@@ -90,10 +90,10 @@ fn writes(host: &mut Host, ask: Ask, room: usize, bytes: &[u8]) -> bool {
         Some(out) => write(host, ask, out),
         None => return false,
     };
-    let Some((front, rest)) = out.split_at_checked(bytes.len()) else {
+    let Some((prefix, rest)) = out.split_at_checked(bytes.len()) else {
         return false;
     };
-    written == Ok(bytes.len()) && front == bytes && is_all(rest, 0xff)
+    written == Ok(bytes.len()) && prefix == bytes && is_all(rest, 0xff)
 }
 
 fn writes_nothing(host: &mut Host, ask: Ask, room: usize, fault: SendFault) -> bool {
@@ -322,7 +322,7 @@ fn hosts(rt: HostRuntime) {
 }
 
 #[test]
-fn whole_pieces_at_once(rt: HostRuntime) {
+fn whole_chunks_at_once(rt: HostRuntime) {
     let mut host = Host::new();
     host.hear_all(&[]);
     host.hear_all(&START_DUMP[..60]);

@@ -43,7 +43,7 @@ fn is_written_back(bytes: &[u8]) -> Result<bool, Fail> {
     };
     let (mut out, mut right) = ([0xff; 80], [0xff; 80]);
     match right.get_mut(..bytes.len()) {
-        Some(front) => front.copy_from_slice(bytes),
+        Some(prefix) => prefix.copy_from_slice(bytes),
         None => return Ok(false),
     }
     let written = encode(&message, &mut out);
@@ -94,7 +94,7 @@ fn assert_reads(rt: &impl Abort, reading: Reading, values: [u8; 4]) {
 }
 
 #[test]
-fn readings_and_the_status_are_told(rt: HostRuntime) -> Result<(), Fail> {
+fn readings_and_the_status_are_reported(rt: HostRuntime) -> Result<(), Fail> {
     let status = Status::new(SevenBit::try_from(0x11)?);
     let times = Times::new(
         Reading::new(1, 30, 0, 0)?,

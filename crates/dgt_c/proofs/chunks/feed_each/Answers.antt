@@ -1,44 +1,44 @@
 use Rattle.std.proofs.Common.{refl, sym, ◌∙◌, ap, append-nil}
 use Rattle.std.proofs.lemmas.List.{take_rest}
-use Rattle.dgt_decode.specs.Grammar.{open_message}
-use Rattle.dgt_c.proofs.ChunkLemmas.{decoder, fed_in_pieces, heard_nothing, none_heard, one_heard, uses, uses_some}
+use Rattle.dgt_decode.specs.Grammar.{unfinished_message}
+use Rattle.dgt_c.proofs.ChunkLemmas.{decoder, fed_in_chunks, heard_nothing, none_heard, one_heard, uses, uses_some}
 use Rattle.dgt_c.proofs.chunks.feed_each.Goals as goal
 
 pub loop-decoder-init : goal.loop-decoder-init
 loop-decoder-init c =
-    heard_nothing decoder c.events_append.ensures c.args.decoder.now c.args.chunk.now c.args.told.now
-    c.args.body.now c.open_is_quiet.ensures c.rest.ensures.unfinished (ap open_message (append-nil
+    heard_nothing decoder c.events_append.ensures c.args.decoder.now c.args.chunk.now c.args.reported.now
+    c.args.body.now c.unfinished_is_quiet.ensures c.rest.ensures.unfinished (ap unfinished_message (append-nil
     c.args.decoder.now) ∙ c.rest.ensures.unfinished)
 
 pub loop-decoder-preserved-then-is_some : goal.loop-decoder-preserved-then-is_some
 loop-decoder-preserved-then-is_some c =
     let call = rw (take_rest c.args.chunk.now c.loop-decoder.used) at c.feed.ensures in
     let after = rw (take_rest c.args.chunk.now c.loop-decoder.used) at c.feed.follows.holds-at-none in
-    one_heard decoder c.events_append.ensures c.args.decoder.now c.args.chunk.now c.args.told.now
-    c.args.body.now c.open_is_part.ensures (fed_in_pieces c.open_append.ensures) c.loop-decoder.decoder _
-    c.loop-decoder.used c.feed.result.used c.loop-decoder.count c.loop-decoder.body_len c.loop-decoder.told
-    c.loop-decoder.body c.body_of-said.result.now c.overwrite.new.out c.feed.result.event c.tell_at.new.out
+    one_heard decoder c.events_append.ensures c.args.decoder.now c.args.chunk.now c.args.reported.now
+    c.args.body.now c.unfinished_is_part.ensures (fed_in_chunks c.unfinished_append.ensures) c.loop-decoder.decoder _
+    c.loop-decoder.used c.feed.result.used c.loop-decoder.count c.loop-decoder.body_len c.loop-decoder.reported
+    c.loop-decoder.body c.body_of-said.result.now c.overwrite.new.out c.feed.result.event c.report_at.new.out
     c.loop-decoder.invariant (c.loop-decoder-test.ensures.0 refl) call.first after (sym c.is_some.ensures ∙
-    c.if-is_some.true) c.tell_at.ensures c.body_of-said.ensures c.overwrite.ensures
+    c.if-is_some.true) c.report_at.ensures c.body_of-said.ensures c.overwrite.ensures
 
 pub loop-decoder-preserved : goal.loop-decoder-preserved
 loop-decoder-preserved c =
     let call = rw (take_rest c.args.chunk.now c.loop-decoder.used) at c.feed.ensures in
     let after = rw (take_rest c.args.chunk.now c.loop-decoder.used) at c.feed.follows.holds-at-none in
-    none_heard decoder c.events_append.ensures c.args.decoder.now c.args.chunk.now c.args.told.now
-    c.args.body.now (fed_in_pieces c.open_append.ensures) c.loop-decoder.decoder _ c.loop-decoder.used
-    c.feed.result.used c.loop-decoder.count c.loop-decoder.body_len c.loop-decoder.told c.loop-decoder.body
+    none_heard decoder c.events_append.ensures c.args.decoder.now c.args.chunk.now c.args.reported.now
+    c.args.body.now (fed_in_chunks c.unfinished_append.ensures) c.loop-decoder.decoder _ c.loop-decoder.used
+    c.feed.result.used c.loop-decoder.count c.loop-decoder.body_len c.loop-decoder.reported c.loop-decoder.body
     c.feed.result.event c.loop-decoder.invariant (c.loop-decoder-test.ensures.0 refl) call.first after (sym
     c.is_some.ensures ∙ c.if-is_some.false)
 
 pub returns-clause-uses : goal.returns-clause-uses
 returns-clause-uses c =
-    uses decoder c.events_append.ensures c.args.decoder.now c.args.chunk.now c.args.told.now c.args.body.now
-    c.loop-decoder.decoder c.loop-decoder.used c.loop-decoder.count c.loop-decoder.body_len c.loop-decoder.told
+    uses decoder c.events_append.ensures c.args.decoder.now c.args.chunk.now c.args.reported.now c.args.body.now
+    c.loop-decoder.decoder c.loop-decoder.used c.loop-decoder.count c.loop-decoder.body_len c.loop-decoder.reported
     c.loop-decoder.body c.loop-decoder.invariant c.loop-decoder-test.ensures.1
 
 pub returns-clause-progress : goal.returns-clause-progress
 returns-clause-progress c =
-    uses_some decoder c.events_append.ensures c.args.decoder.now c.args.chunk.now c.args.told.now
-    c.args.body.now c.open_is_quiet.ensures c.rest.ensures.unfinished c.loop-decoder.used (returns-clause-uses
+    uses_some decoder c.events_append.ensures c.args.decoder.now c.args.chunk.now c.args.reported.now
+    c.args.body.now c.unfinished_is_quiet.ensures c.rest.ensures.unfinished c.loop-decoder.used (returns-clause-uses
     c)

@@ -5,37 +5,37 @@ use Rattle.dgt_c.proofs.chunks.hear_each.Goals as goal
 
 pub loop-host-init : goal.loop-host-init
 loop-host-init c =
-    heard_nothing host c.events_append.ensures c.args.host.now c.args.chunk.now c.args.told.now c.args.body.now
-    c.open_is_quiet.ensures c.unread.ensures.all_open (c.nothing_heard.ensures c.args.host.now
-    c.unread.ensures.all_open)
+    heard_nothing host c.events_append.ensures c.args.host.now c.args.chunk.now c.args.reported.now c.args.body.now
+    c.unfinished_is_quiet.ensures c.unread.ensures.all_unfinished (c.nothing_heard.ensures c.args.host.now
+    c.unread.ensures.all_unfinished)
 
 pub loop-host-preserved-then-is_some : goal.loop-host-preserved-then-is_some
 loop-host-preserved-then-is_some c =
     let call = rw (take_rest c.args.chunk.now c.loop-host.used) at c.hear.ensures in
     let after = rw (take_rest c.args.chunk.now c.loop-host.used) at c.hear.follows.holds-at-none in
-    one_heard host c.events_append.ensures c.args.host.now c.args.chunk.now c.args.told.now c.args.body.now
-    c.open_is_part.ensures c.heard_in_pieces.ensures c.loop-host.host _ c.loop-host.used c.hear.result.used
-    c.loop-host.count c.loop-host.body_len c.loop-host.told c.loop-host.body c.body_of-said.result.now
-    c.overwrite.new.out c.hear.result.event c.tell_heard.new.out c.loop-host.invariant
+    one_heard host c.events_append.ensures c.args.host.now c.args.chunk.now c.args.reported.now c.args.body.now
+    c.unfinished_is_part.ensures c.heard_in_chunks.ensures c.loop-host.host _ c.loop-host.used c.hear.result.used
+    c.loop-host.count c.loop-host.body_len c.loop-host.reported c.loop-host.body c.body_of-said.result.now
+    c.overwrite.new.out c.hear.result.event c.report_heard.new.out c.loop-host.invariant
     (c.loop-host-test.ensures.0 refl) call.first after (sym c.is_some.ensures ∙ c.if-is_some.true)
-    (c.hear.result.unasked, call.unasked, c.tell_heard.ensures) c.body_of-said.ensures c.overwrite.ensures
+    (c.hear.result.unasked, call.unasked, c.report_heard.ensures) c.body_of-said.ensures c.overwrite.ensures
 
 pub loop-host-preserved : goal.loop-host-preserved
 loop-host-preserved c =
     let call = rw (take_rest c.args.chunk.now c.loop-host.used) at c.hear.ensures in
     let after = rw (take_rest c.args.chunk.now c.loop-host.used) at c.hear.follows.holds-at-none in
-    none_heard host c.events_append.ensures c.args.host.now c.args.chunk.now c.args.told.now c.args.body.now
-    c.heard_in_pieces.ensures c.loop-host.host _ c.loop-host.used c.hear.result.used c.loop-host.count
-    c.loop-host.body_len c.loop-host.told c.loop-host.body c.hear.result.event c.loop-host.invariant
+    none_heard host c.events_append.ensures c.args.host.now c.args.chunk.now c.args.reported.now c.args.body.now
+    c.heard_in_chunks.ensures c.loop-host.host _ c.loop-host.used c.hear.result.used c.loop-host.count
+    c.loop-host.body_len c.loop-host.reported c.loop-host.body c.hear.result.event c.loop-host.invariant
     (c.loop-host-test.ensures.0 refl) call.first after (sym c.is_some.ensures ∙ c.if-is_some.false)
 
 pub returns-clause-uses : goal.returns-clause-uses
 returns-clause-uses c =
-    uses host c.events_append.ensures c.args.host.now c.args.chunk.now c.args.told.now c.args.body.now
-    c.loop-host.host c.loop-host.used c.loop-host.count c.loop-host.body_len c.loop-host.told c.loop-host.body
+    uses host c.events_append.ensures c.args.host.now c.args.chunk.now c.args.reported.now c.args.body.now
+    c.loop-host.host c.loop-host.used c.loop-host.count c.loop-host.body_len c.loop-host.reported c.loop-host.body
     c.loop-host.invariant c.loop-host-test.ensures.1
 
 pub returns-clause-progress : goal.returns-clause-progress
 returns-clause-progress c =
-    uses_some host c.events_append.ensures c.args.host.now c.args.chunk.now c.args.told.now c.args.body.now
-    c.open_is_quiet.ensures c.unread.ensures.all_open c.loop-host.used (returns-clause-uses c)
+    uses_some host c.events_append.ensures c.args.host.now c.args.chunk.now c.args.reported.now c.args.body.now
+    c.unfinished_is_quiet.ensures c.unread.ensures.all_unfinished c.loop-host.used (returns-clause-uses c)

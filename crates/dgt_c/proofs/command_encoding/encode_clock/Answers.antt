@@ -5,5 +5,5 @@ pub returns-clause-encoded : goal.returns-clause-encoded
 returns-clause-encoded c = λ short.
     let message : ClockContent = record { id = c.args.id; payload = c.args.payload.now } in
     let said : CommandContent = CommandContent.ClockMessage message in
-    let done = c.encode_word.ensures.encoded said c.spell_clock.ensures in
-    rw c.spell_clock.ensures at done
+    let done = c.encode_word.ensures.encoded said c.put_clock.ensures in
+    rw c.put_clock.ensures at done

@@ -1,7 +1,7 @@
 use Rattle.std.proofs.Common.{arith, ◌<◌, length}
 use Rattle.dgt_values.specs.declared.kinds.Kind.TheVariants.{Dump}
 use Rattle.dgt_c.specs.Kinds.{asking_code}
-use Rattle.dgt_c.proofs.Codes.{one_more_in_front}
+use Rattle.dgt_c.proofs.Codes.{one_more_in_prefix}
 use Rattle.dgt_c.proofs.looking.put_kinds.Goals as goal
 
 pub loop-index-preserved : goal.loop-index-preserved
@@ -9,4 +9,4 @@ loop-index-preserved c =
     let within : c.loop-index.index < length c.args.kinds.now = omega arith in
     let room : c.loop-index.index < length c.args.codes.now = omega arith in
     rw (c.code_asking_for.ensures, c.loop-index.invariant)
-    (one_more_in_front asking_code _ _ _ Dump within room)
+    (one_more_in_prefix asking_code _ _ _ Dump within room)

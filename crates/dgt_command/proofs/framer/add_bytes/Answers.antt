@@ -1,8 +1,8 @@
 use Rattle.std.proofs.Common.{◌≡◌, ap, arith, min, take, ◌∙◌}
 use Rattle.std.proofs.lemmas.Grind.{common_steps}
-use Rattle.dgt_command.specs.Spelling.{AreBytes}
+use Rattle.dgt_command.specs.Encoding.{AreBytes}
 use Rattle.dgt_command.specs.Words.{IsWholeWord}
-use Rattle.dgt_command.proofs.ReaderLemmas.{whole_front, word_limit}
+use Rattle.dgt_command.proofs.ReaderLemmas.{whole_prefix, word_limit}
 use Rattle.dgt_command.proofs.framer.add_bytes.Goals as goal
 
 pub returns : goal.returns
@@ -11,7 +11,7 @@ returns c =
     let length = c.length_so_far-length.result in
     let bytes : AreBytes chunk = λ i. omega (arith, c.type_inv.chunk i) in
     let fits : min length 257 ≡ length = omega (arith, c.length_so_far-length.ensures, word_limit chunk bytes) in
-    let front : c.set_front.new.self ≡ take length chunk = c.set_front.ensures ∙ ap (λ n. take n chunk) fits in
-    let whole : IsWholeWord c.set_front.new.self =
-    rw front (whole_front chunk length bytes c.length_so_far-length.ensures (omega arith)) in
+    let prefix : c.set_prefix.new.self ≡ take length chunk = c.set_prefix.ensures ∙ ap (λ n. take n chunk) fits in
+    let whole : IsWholeWord c.set_prefix.new.self =
+    rw prefix (whole_prefix chunk length bytes c.length_so_far-length.ensures (omega arith)) in
     grind (arith, common_steps)

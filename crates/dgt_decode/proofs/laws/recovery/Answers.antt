@@ -1,5 +1,5 @@
-use Rattle.dgt_decode.proofs.Spelled.{recovery}
+use Rattle.dgt_decode.proofs.Encoded.{recovery}
 use Rattle.dgt_decode.proofs.laws.recovery.Goals as goal
 
 pub returns : goal.returns
-returns c = recovery c.spelled_is_read.ensures
+returns c = recovery c.encoded_is_read.ensures

@@ -4,5 +4,6 @@ use Rattle.dgt_decode.specs.Taking.{placed_content}
 use Rattle.dgt_decode.proofs.plain.push_strays.Given as goal
 
 abbrev pub invariant-loop-index : goal.invariant-loop-index
-invariant-loop-index l = map placed_content l.told.items ≡ map placed_content l.fn.told.items ++ events_behind l.before
+invariant-loop-index l = map placed_content l.reported.items ≡ map placed_content l.fn.reported.items
+    ++ events_behind l.before
     (strays (take l.index l.bytes))

@@ -26,7 +26,7 @@ returns-in-Err-clause-output g c =
     let before = c.loop-at.invariant.output in (
       refl,
       record {
-        front = take c.loop-at.at c.args.bytes.now;
+        prefix = take c.loop-at.at c.args.bytes.now;
         rest = drop c.loop-at.at c.args.bytes.now;
         whole = sym (take-append-drop c.loop-at.at c.args.bytes.now);
         appends = Appends-kept _ _ _ _ before.appends c.in-Err.ensures.bytes;

@@ -1,5 +1,5 @@
-use Rattle.dgt_lines.proofs.TellingLemmas
+use Rattle.dgt_lines.proofs.PrintedWords
 use Rattle.dgt_lines.proofs.laws.texts_append.Goals as goal
 
 pub returns : goal.returns
-returns c = TellingLemmas.texts_append
+returns c = PrintedWords.texts_append

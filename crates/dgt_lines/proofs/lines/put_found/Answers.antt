@@ -12,7 +12,7 @@ returns-in_err-make_room-clause-output g c =
 pub returns-clause-output : goal.returns-clause-output
 unfolding event_text
 returns-clause-output g c =
-    let told = rw c.bytes.ensures at c.in-Some.ensures in
-    rw (c.in-Message.is, told.1)
+    let reported = rw c.bytes.ensures at c.in-Some.ensures in
+    rw (c.in-Message.is, reported.1)
     (gathered_pushed _ _ _ _ _ _ _ c.in_ok-make_room.ensures.output
     (rw (c.push.ensures.bytes, c.push_field.ensures.text, c.push_offset.ensures.text) (simp append_assoc refl)))

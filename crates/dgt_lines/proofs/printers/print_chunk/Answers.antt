@@ -1,6 +1,6 @@
 use Rattle.std.proofs.Common.{◌+◌, ◌++◌, arith, drop, rules, take}
 use Rattle.std.proofs.lemmas.List.{places, take_all}
-use Rattle.dgt_command.specs.Spelling.{AreBytes}
+use Rattle.dgt_command.specs.Encoding.{AreBytes}
 use Rattle.dgt_lines.proofs.ChunkLemmas.{all_bytes, counted_on, gathered_first, gathered_more, later_bytes, more_bytes, prints_out, prints_refused}
 use Rattle.dgt_lines.proofs.printers.print_chunk.Goals as goal
 
@@ -16,8 +16,8 @@ loop-at-preserved g c = record {
   bound = search (rules, places, c.loop-at.invariant.bound, c.in_ok-at.ensures.within);
   gathered = λ first bytes text has counted.
       let now = c.loop-at.invariant.gathered first bytes text has counted in
-      let front = bytes ++ take c.loop-at.at c.args.chunk.now in
-      let more = c.in_ok-at.ensures.output first front (text ++ now.more) now.has
+      let prefix = bytes ++ take c.loop-at.at c.args.chunk.now in
+      let more = c.in_ok-at.ensures.output first prefix (text ++ now.more) now.has
       (counted_on bytes c.args.chunk.now c.loop-at.at c.args.offset counted c.loop-at.invariant.bound) in
       rw (more.1, ← more_bytes bytes c.args.chunk.now c.loop-at.at more.0)
       (gathered_more _ _ _ _ _ text now _ _ _ more.2);
@@ -28,8 +28,8 @@ loop-at-preserved g c = record {
 pub returns-in_err-at-clause-output : goal.returns-in_err-at-clause-output
 returns-in_err-at-clause-output g c = λ first bytes text has counted.
     let now = c.loop-at.invariant.gathered first bytes text has counted in
-    let front = bytes ++ take c.loop-at.at c.args.chunk.now in
-    let more = c.in_err-at.ensures.output first front (text ++ now.more) now.has
+    let prefix = bytes ++ take c.loop-at.at c.args.chunk.now in
+    let more = c.in_err-at.ensures.output first prefix (text ++ now.more) now.has
     (counted_on bytes c.args.chunk.now c.loop-at.at c.args.offset counted c.loop-at.invariant.bound) in
     let later = drop (c.loop-at.at + more.0) c.args.chunk.now in
     let are : AreBytes later =

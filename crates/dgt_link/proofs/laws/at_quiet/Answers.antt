@@ -1,4 +1,4 @@
-use Rattle.dgt_link.proofs.Quiet.{quiet_awaited, quiet_clock, quiet_clock_told, quiet_picture, promised_picture}
+use Rattle.dgt_link.proofs.Quiet.{quiet_awaited, quiet_clock, quiet_clock_reported, quiet_picture, promised_picture}
 use Rattle.dgt_link.proofs.laws.at_quiet.Goals as goal
 
 pub returns : goal.returns
@@ -7,6 +7,6 @@ returns c =
       awaited = quiet_awaited;
       picture = quiet_picture;
       clock = quiet_clock;
-      clock_told = quiet_clock_told;
+      clock_reported = quiet_clock_reported;
       promised = promised_picture;
     }

@@ -5,14 +5,14 @@ returns c =
     record {
       reads = record {
         append = c.events_append.ensures;
-        open_append = c.open_append.ensures;
+        unfinished_append = c.unfinished_append.ensures;
         quiet_held = c.quiet_held.ensures;
-        spelling = c.spelling_is_read.ensures;
+        encoding = c.encoding_is_read.ensures;
         places = c.places_do_not_matter.ensures;
       };
       begins_anew = c.begins_anew.ensures;
       divisions_append = c.divisions_append.ensures;
-      fronts_divide_first = c.fronts_divide_first.ensures;
+      prefixes_divide_first = c.prefixes_divide_first.ensures;
       once = c.one_division.ensures;
       zeros_settle = c.zeros_settle_the_reader.ensures;
       nothing = c.parts_of_words.ensures.nothing;

@@ -5,8 +5,8 @@ pub returns : goal.returns
 returns c =
     one_state
     (record {
-      spells = c.spelling_spells.ensures;
-      one_message = c.spelled_once.ensures.one_message;
-      none_longer = c.spelled_once.ensures.none_longer;
+      encodes = c.encoding_encodes.ensures;
+      one_message = c.encoded_once.ensures.one_message;
+      none_longer = c.encoded_once.ensures.none_longer;
     })
     c.one_division.ensures

@@ -7,7 +7,7 @@ loop-moved-preserved c =
     record {
       most = omega (arith, c.hear_front-moved.ensures.most);
       hearing =
-          hearing_more c.heard_in_pieces.ensures _ _ _ c.args.line.now c.loop-moved.line _ c.loop-moved.moved
+          hearing_more c.heard_in_chunks.ensures _ _ _ c.args.line.now c.loop-moved.line _ c.loop-moved.moved
           c.hear_front-moved.result c.loop-moved.invariant.hearing c.hear_front-moved.ensures.heard
           c.hear_front-moved.ensures.left;
     }

@@ -1,5 +1,5 @@
 use Rattle.std.proofs.Common.{sym, ◌∙◌}
-use Rattle.dgt_script.proofs.ScriptWordLemmas.{clock_decoded, clock_not_faulty, clock_not_refused, clock_told, error_of, not_ok, ok_of, value_of}
+use Rattle.dgt_script.proofs.ScriptWordLemmas.{clock_decoded, clock_not_faulty, clock_not_refused, clock_reported, error_of, not_ok, ok_of, value_of}
 use Rattle.dgt_script.proofs.script_words.clock_word.Goals as goal
 
 pub returns-in_err-bytes : goal.returns-in_err-bytes
@@ -30,5 +30,5 @@ returns c =
     let decoded = sym c.from_hex.ensures ∙ ok_of c.from_hex.result _ c.in_ok-bytes.ensures.value in
     let body = value_of _ _ c.new.result _ c.in_ok-ok.ensures.value c.new.ensures in
     let said = value_of _ _ c.view.result _ c.in_ok-ok-2.ensures.value c.view.ensures.says in
-    clock_told c.reading_is_exact.ensures.message c.args.word.now _ _ c.clock_of.result decoded
+    clock_reported c.reading_is_exact.ensures.message c.args.word.now _ _ c.clock_of.result decoded
     (rw (c.from_small-code.ensures, c.number.ensures.value, body) at said) c.clock_of.ensures

@@ -5,4 +5,4 @@ pub returns-in_err-hex_bytes : goal.returns-in_err-hex_bytes
 returns-in_err-hex_bytes c =
     rw c.from_residual.ensures
     (λ command h. c.in_err-hex_bytes.ensures h.bytes
-    (length-command c.words_are_short.ensures command h.bytes h.spells) h.digits)
+    (length-command c.words_are_short.ensures command h.bytes h.encodes) h.digits)

@@ -109,7 +109,7 @@ const PICTURES: [Run; 8] = [
     (&[START], 67, Turns, 2, Ok(()), 2, &[PLACED]),
 ];
 
-const TELLINGS: [Run; 9] = [
+const PRINTED: [Run; 9] = [
     (&[BEEP], 64, Room, 16, Ok(()), 2, &[BEEP_LINE]),
     (&[BEEP], 64, Room, 9, WRITE_FAILED, 1, &[b"00000006 "]),
     (&[BEEP], 64, Flush, 1, WRITE_FAILED, 1, &[BEEP_LINE]),
@@ -163,7 +163,7 @@ const FAULTY_SCRIPTS: [Run; 1] = [(&LOST, 1, Turns, 200, Ok(()), 70, &LOST_PLAYE
 const TABLES: [(Engine<'static>, usize, &[Run]); 9] = [
     (Engine::Monitor, 0, &MONITORS),
     (Engine::Picture, 0, &PICTURES),
-    (Engine::Commands, 0, &TELLINGS),
+    (Engine::Commands, 0, &PRINTED),
     (SERVE, 0, &SERVINGS),
     (SERVE, 2, &SERVINGS_OF_PARTS),
     (Engine::Serve(&[0x4d]), 0, &SERVINGS_OF_THE_ASKED),
@@ -222,10 +222,10 @@ fn runs_that_fail(rt: HostRuntime) -> Result<(), Fail> {
     Ok(())
 }
 
-// Whether the sink takes this front of the event's line, and no call comes after its refusal.
-fn is_refused(mut sink: Recorder, event: &Event<'_>, front: &[u8]) -> bool {
+// Whether the sink takes this prefix of the event's line, and no call comes after its refusal.
+fn is_refused(mut sink: Recorder, event: &Event<'_>, prefix: &[u8]) -> bool {
     write_event(&mut sink, 123456789, event) == WRITE_FAILED
-        && sink.taken() == front
+        && sink.taken() == prefix
         && sink.failed
         && !sink.late
 }

@@ -111,9 +111,9 @@ fn sweep_places(
 }
 
 // What is run, what it reads and writes, what it writes at the end, and what a whole run answers.
-type Told = (Engine<'static>, &'static [Row], &'static [u8], Answer);
+type Swept = (Engine<'static>, &'static [Row], &'static [u8], Answer);
 
-fn sweep_all(rt: &(impl Abort + AllocGlobal), table: &[Told]) -> Result<(), Fail> {
+fn sweep_all(rt: &(impl Abort + AllocGlobal), table: &[Swept]) -> Result<(), Fail> {
     for (engine, rows, last, whole) in table {
         let run = Sweep {
             engine: *engine,
@@ -129,7 +129,7 @@ fn sweep_all(rt: &(impl Abort + AllocGlobal), table: &[Told]) -> Result<(), Fail
     Ok(())
 }
 
-// Each message and each fault, and the front of a message at the end.
+// Each message and each fault, and a prefix of a message at the end.
 const GARBAGE: [Row; 8] = [
     (&[0x05], b"00000001 stray 05\n"),
     (&[0x8e, 0x00, 0x8e], b"00000004 cut 2\n"),
@@ -219,7 +219,7 @@ const COMMANDS: [Row; 2] = [
     (&[0xff], b"00000002 stray ff\n"),
 ];
 
-const TELLINGS: [Told; 10] = [
+const PRINTED: [Swept; 10] = [
     (
         Engine::Monitor,
         &GARBAGE,
@@ -239,7 +239,7 @@ const TELLINGS: [Told; 10] = [
 
 #[test]
 fn readers_meet_each_trouble_at_each_place(rt: HostRuntime) -> Result<(), Fail> {
-    sweep_all(&rt, &TELLINGS)
+    sweep_all(&rt, &PRINTED)
 }
 
 // Lets the board send at most `most` messages, and returns how many more it may send.
@@ -311,7 +311,7 @@ const FULL: [Row; 9] = [
     (&[0x45], SERIAL),
 ];
 
-const SERVINGS: [Told; 4] = [
+const SERVINGS: [Swept; 4] = [
     (Engine::Serve(b""), &SERVED, b"", Ok(())),
     (Engine::Serve(&[0x47, 0x4c]), &OWING, b"", Ok(())),
     (Engine::Serve(&[0x4d; 8]), &FULL, b"", Ok(())),
@@ -385,7 +385,7 @@ const BAD: [Row; 4] = [
 
 const BAD_END: [Row; 2] = [(b"send\n", b"nothing\n"), (b"sned", b"")];
 
-const SCRIPTS: [Told; 4] = [
+const SCRIPTS: [Swept; 4] = [
     (Engine::Simulate, &MOVES, MOVED, Ok(())),
     (
         Engine::Simulate,

@@ -160,7 +160,7 @@ impl Text {
         (came, begun)
     }
 
-    /// After a torn write the sink has a front of the text, and else all of it.
+    /// After a torn write the sink has a prefix of the text, and else all of it.
     pub fn assert_written(
         &self,
         rt: &impl Abort,

@@ -21,7 +21,7 @@ loop-piece-preserved c =
           }
           )
       | else-is_same w ↦ (
-          let differs : get_or c.args.rank.now c.loop-piece.piece-index Empty ≢ Empty = λ e. let told =
+          let differs : get_or c.args.rank.now c.loop-piece.piece-index Empty ≢ Empty = λ e. let here =
           c.is_same.ensures.1 e in cc in
           let pushed = w.push.ensures.ascii w.letter.ensures.ascii in
           record {

@@ -13,7 +13,7 @@ invariant_of-self-2 c = rw (c.advance-advanced.ensures.held, c.in-Some.is) c.par
 
 pub returns : goal.returns
 returns c =
-    let bytes = take c.advance-advanced.result.used c.args.piece.now in
+    let bytes = take c.advance-advanced.result.used c.args.chunk.now in
     let event = command_event_content c.event-event.result in
     let word : IsWord event (c.args.self.now.partial ++ bytes) =
     rw (c.event-event.ensures, ← c.self.view_is) (rw c.in-Some.is at c.advance-advanced.ensures.first) in
@@ -27,7 +27,7 @@ returns c =
 
 pub returns-in-Some-bare_command : goal.returns-in-Some-bare_command
 returns-in-Some-bare_command c =
-    let bytes = take c.advance-advanced.result.used c.args.piece.now in
+    let bytes = take c.advance-advanced.result.used c.args.chunk.now in
     let event : EventContent = Read (command_content c.in-Some-bare_command.command) in
     let is : event ≡ word_found_in c.advance-advanced.new.self.word c.in-Some.found =
     c.in-Some-bare_command.ensures.command in

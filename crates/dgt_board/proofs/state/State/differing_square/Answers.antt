@@ -6,12 +6,12 @@ use Rattle.dgt_board.proofs.state.State.differing_square.Goals as goal
 pub returns-then-differing-eq0 : goal.returns-then-differing-eq0
 returns-then-differing-eq0 c =
     let kept = c.args.self.now in
-    none_differs (state_of kept) c.differ-differing.result kept.told_squares.all kept.squares.all
+    none_differs (state_of kept) c.differ-differing.result kept.reported_squares.all kept.squares.all
     c.differ-differing.ensures (omega arith)
 
 pub returns : goal.returns
 returns c =
     let kept = c.args.self.now in
     rw c.from_small.ensures
-    (lowest_differs (state_of kept) c.differ-differing.result kept.told_squares.all kept.squares.all
+    (lowest_differs (state_of kept) c.differ-differing.result kept.reported_squares.all kept.squares.all
     c.differ-differing.ensures (omega arith) (omega arith))

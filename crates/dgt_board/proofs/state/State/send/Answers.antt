@@ -13,5 +13,5 @@ returns-in-Ok-clause-falls c =
     let next = rw c.in-Some.is at c.due.ensures.next in
     let with_less : BoardState → BoardState = λ board. record board { owed = drop 1 board.owed } in
     let sent : state_of c.drop_reply.new.self ≡ after_sending before message =
-    c.drop_reply.ensures ∙ ap with_less c.note_told.ensures in
-    λ _ _. subst Lower (sym sent) (sending_lowers before message c.args.self.now.told_squares.all next)
+    c.drop_reply.ensures ∙ ap with_less c.note_reported.ensures in
+    λ _ _. subst Lower (sym sent) (sending_lowers before message c.args.self.now.reported_squares.all next)

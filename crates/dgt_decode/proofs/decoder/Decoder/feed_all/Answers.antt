@@ -1,38 +1,38 @@
 use Rattle.std.proofs.Common.{◌∙◌, ◌++◌, ap}
 use Rattle.std.proofs.lemmas.List.{take_all, take_rest}
-use Rattle.dgt_decode.specs.Grammar.{open_message}
+use Rattle.dgt_decode.specs.Grammar.{unfinished_message}
 use Rattle.dgt_decode.specs.Feeding.{event_found_in}
 use Rattle.dgt_decode.proofs.ChunkEvents.{heard_none, heard_one, heard_quiet}
-use Rattle.dgt_decode.proofs.Steps.{IsHeld-open}
+use Rattle.dgt_decode.proofs.Steps.{IsHeld-unfinished}
 use Rattle.dgt_decode.proofs.decoder.Decoder.feed_all.Goals as goal
 
 pub loop-at-init : goal.loop-at-init
 loop-at-init g c =
     rw (← c.self.view_is)
-    (heard_none g.L.Listener.hears (open_message c.self.inside.framer) c.args.chunk.now c.args.listener.now
-    (IsHeld-open c.self.inside.framer))
+    (heard_none g.L.Listener.hears (unfinished_message c.self.inside.framer) c.args.chunk.now c.args.listener.now
+    (IsHeld-unfinished c.self.inside.framer))
 
 pub loop-at-preserved-in-Some : goal.loop-at-preserved-in-Some
 loop-at-preserved-in-Some g c =
     let call = rw (take_rest c.args.chunk.now c.loop-at.at) at c.advance-advanced.ensures in
     heard_one g.L.Listener.hears c.args.self.now c.args.chunk.now c.loop-at.at c.advance-advanced.result.used
-    c.args.listener.now c.loop-at.listener c.hear.new.self (open_message c.loop-at.self-inside.framer)
-    (open_message c.advance-advanced.new.self) (event_found_in c.advance-advanced.new.self c.in-Some.found)
+    c.args.listener.now c.loop-at.listener c.hear.new.self (unfinished_message c.loop-at.self-inside.framer)
+    (unfinished_message c.advance-advanced.new.self) (event_found_in c.advance-advanced.new.self c.in-Some.found)
     c.loop-at.invariant call.within (rw c.in-Some.is at call.first) call.held (rw c.event.ensures at c.hear.ensures)
 
 pub loop-at-preserved : goal.loop-at-preserved
 loop-at-preserved g c =
     let call = rw (take_rest c.args.chunk.now c.loop-at.at) at c.advance-advanced.ensures in
     heard_quiet g.L.Listener.hears c.args.self.now c.args.chunk.now c.loop-at.at c.advance-advanced.result.used
-    c.args.listener.now c.loop-at.listener (open_message c.loop-at.self-inside.framer)
-    (open_message c.advance-advanced.new.self) c.loop-at.invariant call.within (rw c.in_default.is at call.first)
+    c.args.listener.now c.loop-at.listener (unfinished_message c.loop-at.self-inside.framer)
+    (unfinished_message c.advance-advanced.new.self) c.loop-at.invariant call.within (rw c.in_default.is at call.first)
     call.held
 
-pub returns-clause-told : goal.returns-clause-told
-returns-clause-told g c =
-    rw (take_all _ c.args.chunk.now c.loop-at-test.false) at c.loop-at.invariant.told
+pub returns-clause-reported : goal.returns-clause-reported
+returns-clause-reported g c =
+    rw (take_all _ c.args.chunk.now c.loop-at-test.false) at c.loop-at.invariant.reported
 
 pub returns-clause-held : goal.returns-clause-held
 returns-clause-held g c =
     c.loop-at.invariant.holds
-    ∙ ap (λ xs. open_message (c.args.self.now ++ xs)) (take_all _ c.args.chunk.now c.loop-at-test.false)
+    ∙ ap (λ xs. unfinished_message (c.args.self.now ++ xs)) (take_all _ c.args.chunk.now c.loop-at-test.false)

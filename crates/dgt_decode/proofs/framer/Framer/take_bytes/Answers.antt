@@ -1,12 +1,12 @@
 use Rattle.std.proofs.Common.{◌≡◌, ◌+◌, length, refl, arith}
-use Rattle.dgt_decode.specs.Grammar.{open_message}
-use Rattle.dgt_decode.proofs.Steps.{IsHeld-open}
+use Rattle.dgt_decode.specs.Grammar.{unfinished_message}
+use Rattle.dgt_decode.proofs.Steps.{IsHeld-unfinished}
 use Rattle.dgt_decode.proofs.Loops.{taken_none, one_byte, found_first, found_none, frames_found, frames_none, step_held, step_came}
 use Rattle.dgt_decode.proofs.framer.Framer.take_bytes.Goals as goal
 
 pub loop-index-init : goal.loop-index-init
 loop-index-init c = (
-  taken_none (open_message c.args.self.now) c.args.bytes.now (IsHeld-open c.args.self.now),
+  taken_none (unfinished_message c.args.self.now) c.args.bytes.now (IsHeld-unfinished c.args.self.now),
   λ some. absurd (omega (arith, some)),
 )
 

@@ -5,7 +5,7 @@ use Rattle.dgt_decode.specs.Taking.{IsKept}
 use Rattle.dgt_decode.proofs.Bytes.{held_total}
 use Rattle.dgt_decode.proofs.Framing.{closed}
 use Rattle.dgt_decode.proofs.BodyRuns.{IsBodyRun, body_run, frames-body_run}
-use Rattle.dgt_decode.proofs.Loops.{front_of_front}
+use Rattle.dgt_decode.proofs.Loops.{prefix_of_prefix}
 use Rattle.dgt_decode.proofs.framer.Framer.take_run.Goals as goal
 
 pub append_run-used-requires : goal.append_run-used-requires
@@ -42,4 +42,4 @@ pub take_bytes-requires : goal.take_bytes-requires
 take_bytes-requires c = omega (arith, length-take c.min.result c.args.rest.now, c.min.ensures, c.requires)
 
 pub returns : goal.returns
-returns c = front_of_front c.args.self.now c.args.rest.now _ _ _ _ c.take_bytes.ensures
+returns c = prefix_of_prefix c.args.self.now c.args.rest.now _ _ _ _ c.take_bytes.ensures

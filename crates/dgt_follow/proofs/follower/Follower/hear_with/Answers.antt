@@ -9,6 +9,6 @@ returns-clause-heard g c =
     (heard_once c.self.inside.host c.self.inside.pace c.args.now c.hear.result.used c.args.chunk.now
     (event_content_if_any c.hear.result.event) c.hear.ensures.first)
 
-pub returns-clause-told : goal.returns-clause-told
-returns-clause-told g c =
-    rw (← c.self.view_is) (event_content_if_any c.hear.result.event, c.hear.ensures.first, c.tell.ensures)
+pub returns-clause-reported : goal.returns-clause-reported
+returns-clause-reported g c =
+    rw (← c.self.view_is) (event_content_if_any c.hear.result.event, c.hear.ensures.first, c.report.ensures)

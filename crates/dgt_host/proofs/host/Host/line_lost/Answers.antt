@@ -1,7 +1,7 @@
 use Rattle.std.proofs.Common.{refl}
-use Rattle.dgt_decode.specs.Grammar.{open_message}
+use Rattle.dgt_decode.specs.Grammar.{unfinished_message}
 use Rattle.dgt_host.proofs.host.Host.line_lost.Goals as goal
 
 pub returns : goal.returns
-unfolding open_message
+unfolding unfinished_message
 returns c = rw (c.reset.ensures, c.clear.ensures) refl

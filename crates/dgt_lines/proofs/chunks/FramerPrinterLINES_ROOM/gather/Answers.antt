@@ -6,19 +6,19 @@ use Rattle.dgt_lines.proofs.chunks.FramerPrinterLINES_ROOM.gather.Goals as goal
 pub returns-in_err-put_found-clause-output : goal.returns-in_err-put_found-clause-output
 returns-in_err-put_found-clause-output g c = λ first bytes text printed counted.
     gathers_refused bytes _ text c.advance-advanced.result.used _
-    (heard_event printed c.pieces_in_a_row.ensures.add c.open_append.ensures _ _ _ counted _
+    (heard_event printed c.chunks_in_a_row.ensures.add c.unfinished_append.ensures _ _ _ counted _
     c.advance-advanced.ensures.held _ (rw c.in-Some.is at c.advance-advanced.ensures.first))
     _ _ c.from_residual.ensures.1 c.in_err-put_found.ensures.output
 
 pub returns-in_ok-put_found-clause-output : goal.returns-in_ok-put_found-clause-output
 returns-in_ok-put_found-clause-output g c = λ first bytes text printed counted.
     gathers_some bytes _ text c.advance-advanced.result.used _
-    (heard_event printed c.pieces_in_a_row.ensures.add c.open_append.ensures _ _ _ counted _
+    (heard_event printed c.chunks_in_a_row.ensures.add c.unfinished_append.ensures _ _ _ counted _
     c.advance-advanced.ensures.held _ (rw c.in-Some.is at c.advance-advanced.ensures.first))
     c.in_ok-put_found.ensures.output (λ _. c.in_ok-put_found.ensures.waits)
 
 pub returns-in_default-clause-output : goal.returns-in_default-clause-output
 returns-in_default-clause-output g c = λ first bytes text printed counted.
     gathers_none bytes _ text c.advance-advanced.result.used
-    (heard_more printed c.pieces_in_a_row.ensures.add c.open_append.ensures _ _ _ counted _
+    (heard_more printed c.chunks_in_a_row.ensures.add c.unfinished_append.ensures _ _ _ counted _
     c.advance-advanced.ensures.held None (rw c.in_default.is at c.advance-advanced.ensures.first))

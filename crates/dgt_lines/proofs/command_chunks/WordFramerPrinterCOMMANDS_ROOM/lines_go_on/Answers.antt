@@ -4,5 +4,5 @@ use Rattle.dgt_lines.proofs.command_chunks.WordFramerPrinterCOMMANDS_ROOM.lines_
 
 pub returns : goal.returns
 returns c = λ first kept bytes text more printed are.
-    listed_on printed c.one_text.ensures.told more
+    listed_on printed c.one_text.ensures.printed more
     (c.parts_of_words.ensures.bytes (rest_of kept) more printed.are_words.partial are)

@@ -1,7 +1,7 @@
 use Rattle.std.proofs.Common.{rules, ◌≡◌, ◌+◌, ◌-◌, ◌/◌, ◌%◌, ◌<◌, ◌∷◌, ◌++◌, ◌∙◌, ◌⊎◌, inl, inr, ap, arith, append_assoc, drop, length, sym, take}
 use Rattle.std.proofs.lemmas.List.{drop-set, take_rest}
 use Rattle.dgt_lines.specs.Lines.{padded_decimal}
-use Rattle.dgt_lines.proofs.DecimalLemmas.{front, front-all, front-last, none_below, tenth_below}
+use Rattle.dgt_lines.proofs.DecimalLemmas.{prefix, prefix-all, prefix-last, none_below, tenth_below}
 use Rattle.dgt_lines.proofs.gathering.Outgoing.push_decimal.Goals as goal
 use Rattle.dgt_lines.proofs.gathering.Outgoing.push_decimal.Goals.{then-rest-gt0, else-rest-gt0+then-at-width}
 
@@ -28,10 +28,10 @@ loop-rest-preserved g c =
       fits = omega (arith, c.loop-rest.invariant.fits);
       room = search rules;
       text = c.loop-rest.invariant.text
-          ∙ ap (λ l. l ++ drop at c.loop-rest.digits) (front-last width rest c.loop-rest.invariant.fits more)
-          ∙ append_assoc (front (width - 1) (rest / 10)) _ _
-          ∙ ap (λ w. front w (rest / 10) ++ digit ∷ drop at c.loop-rest.digits) narrow
-          ∙ ap (λ l. front (c.args.width - (20 - last)) (rest / 10) ++ l)
+          ∙ ap (λ l. l ++ drop at c.loop-rest.digits) (prefix-last width rest c.loop-rest.invariant.fits more)
+          ∙ append_assoc (prefix (width - 1) (rest / 10)) _ _
+          ∙ ap (λ w. prefix w (rest / 10) ++ digit ∷ drop at c.loop-rest.digits) narrow
+          ∙ ap (λ l. prefix (c.args.width - (20 - last)) (rest / 10) ++ l)
           (sym (drop-set c.loop-rest.digits last digit inside ∙ ap (λ i. digit ∷ drop i c.loop-rest.digits) next));
     }
 
@@ -42,8 +42,8 @@ returns-clause-bytes g c =
     let none : c.loop-rest.rest ≡ 0 = omega (arith, c.if-rest-gt0.false) in
     let wide : c.args.width - (20 - at) ≡ 0 = omega (arith, c.if-at-width.false) in
     let written : padded_decimal c.args.width c.args.number ≡ drop at digits =
-    sym (front-all c.args.width c.args.number c.requires.some) ∙ c.loop-rest.invariant.text
-    ∙ ap (λ n. front (c.args.width - (20 - at)) n ++ drop at digits) none ∙ ap (λ w. front w 0 ++ drop at digits) wide
+    sym (prefix-all c.args.width c.args.number c.requires.some) ∙ c.loop-rest.invariant.text
+    ∙ ap (λ n. prefix (c.args.width - (20 - at)) n ++ drop at digits) none ∙ ap (λ w. prefix w 0 ++ drop at digits) wide
     in
     let whole : take (20 - at) (drop at digits) ≡ drop at digits =
     ap (λ n. take (n - at) (drop at digits)) (sym c.loop-rest.invariant.room) ∙ take_rest digits at in

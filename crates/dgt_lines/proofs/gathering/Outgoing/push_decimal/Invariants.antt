@@ -1,5 +1,5 @@
 use Rattle.std.proofs.Common.{◌≡◌, ◌-◌, ◌^◌, ◌<◌, ◌≤◌, ◌++◌, drop, length}
-use Rattle.dgt_lines.proofs.DecimalLemmas.{front}
+use Rattle.dgt_lines.proofs.DecimalLemmas.{prefix}
 use Rattle.dgt_lines.proofs.gathering.Outgoing.push_decimal.Given as goal
 
 abbrev pub invariant-loop-rest : goal.invariant-loop-rest
@@ -8,7 +8,7 @@ invariant-loop-rest g l = record {
   short : l.rest < 10 ^ l.at;
   fits : l.rest < 2 ^ 64;
   room : length l.digits ≡ 20;
-  text : front l.width l.fn.number ≡ front (l.width - (20 - l.at)) l.rest ++ drop l.at l.digits;
+  text : prefix l.width l.fn.number ≡ prefix (l.width - (20 - l.at)) l.rest ++ drop l.at l.digits;
 }
 
 abbrev pub decreases-loop-rest : goal.decreases-loop-rest

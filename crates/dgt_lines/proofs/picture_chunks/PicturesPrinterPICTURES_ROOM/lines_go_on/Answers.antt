@@ -3,4 +3,4 @@ use Rattle.dgt_lines.proofs.picture_chunks.PicturesPrinterPICTURES_ROOM.lines_go
 
 pub returns : goal.returns
 returns c = λ first now bytes text more printed are.
-    pictured_on printed c.pieces_in_a_row.ensures.add more
+    pictured_on printed c.chunks_in_a_row.ensures.add more

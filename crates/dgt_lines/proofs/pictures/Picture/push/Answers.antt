@@ -18,7 +18,7 @@ returns g c =
     ∙ ap placement_text c.self.view_is in
     c.push.ensures.bytes
     ∙ ap (λ l. l ++ 10 ∷ [])
-    (c.push_front-2.ensures.bytes
+    (c.push_prefix-2.ensures.bytes
     ∙ ap (λ l. l ++ last) (c.loop-rank.invariant.written ∙ ap (λ l. text ++ ended_ranks l) seven)
     ∙ append_assoc text ended last ∙ ap (λ l. text ++ l) placement)
     ∙ append_assoc text _ (10 ∷ [])

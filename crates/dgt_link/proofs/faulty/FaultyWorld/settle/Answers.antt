@@ -32,9 +32,9 @@ returns c =
     let kept = settled_kept count old new settled in
     let still = c.promised_worlds_heal.ensures.kept count old new settled in
     let clock_still = c.clocks_heal.ensures.settled count old new settled in
-    let open_is = c.holds_open.ensures in
+    let unfinished_is = c.holds_unfinished.ensures in
     let quiet : IsPromisedWorld old → IsQuietWorld new
-    = λ is. c.promised_worlds_heal.ensures.quiet new (still is) rests.0 (rw rests.1 at open_is) in
+    = λ is. c.promised_worlds_heal.ensures.quiet new (still is) rests.0 (rw rests.1 at unfinished_is) in
     record {
       rested = rw rests.1 rests.0;
       run = rw rests.1 settled;

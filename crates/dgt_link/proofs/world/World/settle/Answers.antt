@@ -4,7 +4,7 @@ use Rattle.dgt_link.specs.View.{IsQuietWorld}
 use Rattle.dgt_link.proofs.PromisedActs.{Leads}
 use Rattle.dgt_link.proofs.Rested.{settled_clock as settled_same_clock}
 use Rattle.dgt_link.proofs.Settling.{rests, run_is_world, settled_awaited, settled_clock, settled_known, settled_mode}
-use Rattle.dgt_link.proofs.Settling.{settled_picture, settled_told, settling_no_host_break}
+use Rattle.dgt_link.proofs.Settling.{settled_picture, settled_reported, settling_no_host_break}
 use Rattle.dgt_link.proofs.world.World.settle.Goals as goal
 
 pub invariant_of-self : goal.invariant_of-self
@@ -27,7 +27,7 @@ returns c =
     = run_is_world c.acts_keep.ensures.sound count old new settled (rw c.self.view_is at c.self.invariant) in
     let quiet : IsQuietWorld new
     = rests c.grammars.ensures.reads once new is_world c.settle-done.ensures.rested
-    c.holds_open.ensures in
+    c.holds_unfinished.ensures in
     let exact : IsExactWorld old → IsExactWorld new
     = λ is. c.acts_keep.ensures.exact_after_all settled.acts _ _ _
     (settling_no_host_break settled.acts settled.settling) is settled.run in
@@ -40,9 +40,9 @@ returns c =
       keeps_clock = rw c.self.view_is at c.settle-done.ensures.keeps_clock;
       mode = settled_mode leads once count old new settled quiet;
       picture = settled_picture leads once count old new settled quiet;
-      told = settled_told leads once count old new settled quiet c.stands.ensures.0 c.stands.ensures.1;
+      reported = settled_reported leads once count old new settled quiet c.stands.ensures.0 c.stands.ensures.1;
       clock = λ is. settled_clock once count old new settled (exact is) quiet;
-      clock_told = settled_known leads once count old new settled quiet c.stands.ensures.0 c.stands.ensures.1;
+      clock_reported = settled_known leads once count old new settled quiet c.stands.ensures.0 c.stands.ensures.1;
       clock_promised = λ promised. settled_same_clock count old new settled
           (c.clocks_heal.ensures.clock new (c.clocks_heal.ensures.settled count old new settled promised) quiet);
       awaited = settled_awaited leads once count old new settled quiet c.stands.ensures.0 c.stands.ensures.1;

@@ -5,11 +5,11 @@ use Rattle.dgt_script.proofs.script_lines.LineBuffer.add.Goals as goal
 
 pub returns : goal.returns
 returns c = λ line h. record {
-  front = (rw c.unwrap.ensures at c.try_extend_from_slice.ensures.ok) ∙ kept_more c.args.self.now.bytes.items line
-      c.args.piece.now c.min.result h.front (search rules);
+  prefix = (rw c.unwrap.ensures at c.try_extend_from_slice.ensures.ok) ∙ kept_more c.args.self.now.bytes.items line
+      c.args.chunk.now c.min.result h.prefix (search rules);
   long = elim c.if-self.branch [
-    | then-self w ↦ w.self-is ∙ w.if-self.true ∙ long_stays line c.args.piece.now (sym h.long ∙ w.if-self.true)
-    | else-self w ↦ w.self-is ∙ long_more c.args.self.now.bytes.items line c.args.piece.now
-        c.remaining_capacity-room.result h.front (search rules) (sym h.long ∙ w.if-self.false)
+    | then-self w ↦ w.self-is ∙ w.if-self.true ∙ long_stays line c.args.chunk.now (sym h.long ∙ w.if-self.true)
+    | else-self w ↦ w.self-is ∙ long_more c.args.self.now.bytes.items line c.args.chunk.now
+        c.remaining_capacity-room.result h.prefix (search rules) (sym h.long ∙ w.if-self.false)
   ];
 }

@@ -3,7 +3,7 @@ use Rattle.std.proofs.lemmas.List.{get_or-map}
 use Rattle.dgt_values.specs.declared.pieces.Piece.{Piece}
 use Rattle.dgt_values.specs.declared.pieces.Piece.TheVariants.{Empty}
 use Rattle.dgt_values.specs.Board.{piece_code}
-use Rattle.dgt_values.proofs.Differing.{mask_tells}
+use Rattle.dgt_values.proofs.Differing.{mask_differs}
 use Rattle.dgt_values.proofs.positions.Position.differ.Goals as goal
 
 -- the code of what stands on a square
@@ -13,7 +13,7 @@ code_at pieces codes n are all h = rw are (get_or-map piece_code pieces n Empty 
 
 pub returns : goal.returns
 returns c =
-    λ n h. mask_tells c.args.self.now.pieces c.args.other.now.pieces c.codes-own.result c.codes-others.result
+    λ n h. mask_differs c.args.self.now.pieces c.args.other.now.pieces c.codes-own.result c.codes-others.result
     (omega (arith, c.args.self.now.all)) (omega (arith, c.args.other.now.all)) (omega arith) (omega arith) n h
     (code_at c.args.self.now.pieces c.codes-own.result n c.codes-own.ensures.codes c.args.self.now.all h)
     (code_at c.args.other.now.pieces c.codes-others.result n c.codes-others.ensures.codes c.args.other.now.all h)

@@ -1,0 +1,167 @@
+-- Messages that are encoded one after another.
+use Rattle.std.proofs.Common.{◌≡◌, ℕ, ◌+◌, ◌-◌, List, [], ◌∷◌, ◌++◌, length, drop, Ok, refl, sym, ap, ◌∙◌, append_assoc, arith}
+use Rattle.std.specs.Prelude.{slice_index}
+use Rattle.std.specs.List.{AllByRecursion}
+use Rattle.std.proofs.lemmas.List.{append-nil}
+use Rattle.std.proofs.Math.Seq.{drop-length}
+use Rattle.dgt_message.specs.Content.{Content, IsMessage}
+use Rattle.dgt_message.specs.Reading.{reading}
+use Rattle.dgt_message.specs.Encoding.{Encodes, encoding}
+use Rattle.dgt_decode.specs.Grammar.{Message, Placed, events_behind, lead, segments, message_event, cut_of, segments_events, events, unfinished_message}
+use Rattle.dgt_decode.specs.Feeding.{IsWholeMessage}
+use Rattle.dgt_decode.specs.Laws.{Sent, sent_bytes, arrivals, EncodingIsRead}
+use Rattle.dgt_decode.proofs.Places.{events_behind-append, events_behind-events_behind, events_behind-zero}
+use Rattle.dgt_decode.proofs.Cuts.{lead-append, segments-append}
+use Rattle.dgt_decode.proofs.Appending.{IsAlone, events-append, cut_before-nothing}
+use Rattle.dgt_decode.proofs.UnfinishedLemmas.{IsUnfinished, nothing, waiting, IsUnfinished-unfinished, length-unfinished, unfinished-append}
+use Rattle.dgt_decode.proofs.Wholes.{IsAlone-whole, verdict-of_whole, whole_unfinished}
+
+-- ---- Bytes that are read as messages
+
+-- the bytes of a message are read as this message
+abbrev pub AreRead : Type 0
+AreRead = (said : Content) (bytes : List ℕ) → Encodes said bytes
+    → reading (slice_index bytes 0 - 128) (drop 3 bytes) ≡ Ok said
+
+-- what is written of a message encodes it
+abbrev pub AreEncoded : Type 0
+AreEncoded = (said : Content) → IsMessage said → Encodes said (encoding said)
+
+-- the bytes of one message, which make it known
+record IsRead (m : Sent) : Type 0 where
+  whole : IsWholeMessage m.bytes
+  reports : message_event m.bytes ≡ Message m.said
+
+-- a message that is encoded is read
+is_read : AreRead → (m : Sent) → Encodes m.said m.bytes → IsRead m
+is_read reads m h =
+    record {
+      whole = record {
+        first = omega (arith, h.header.code_is);
+        later = h.header.seven_bit;
+        long = h.header.long_enough;
+        whole = h.header.total_is;
+      };
+      reports = rw (reads m.said m.bytes h) refl;
+    }
+
+-- and so are several
+are_read : AreRead → (ms : List Sent) → AllByRecursion (λ m. Encodes m.said m.bytes) ms → AllByRecursion IsRead ms
+are_read reads [] h = tt
+are_read reads (m ∷ ms) h = (is_read reads m h.0, are_read reads ms h.1)
+
+-- ---- Their cut
+
+-- their bytes, message by message
+abbrev encodings : List Sent → List (List ℕ)
+encodings [] = []
+encodings (m ∷ ms) = m.bytes ∷ encodings ms
+
+-- where a message begins after them, bytes of one segment stay one
+lead-before : (g q : List ℕ) → IsAlone g → lead (g ++ q) ≡ []
+lead-before g q alone = rw (lead-append g q, alone.no_lead, alone.one) refl
+
+-- and then come the segments of what stands after
+segments-before : (g q : List ℕ) → IsAlone g → lead q ≡ [] → segments (g ++ q) ≡ g ∷ segments q
+segments-before g q alone e = rw (segments-append g q, alone.one, e, append-nil g) refl
+
+-- encodings in a row have no lead
+lead-sent : (ms : List Sent) → AllByRecursion IsRead ms → lead (sent_bytes ms) ≡ []
+lead-sent [] h = refl
+lead-sent (m ∷ ms) h = lead-before m.bytes (sent_bytes ms) (IsAlone-whole m.bytes h.0.whole)
+
+-- their segments are the encodings
+segments-sent : (ms : List Sent) → AllByRecursion IsRead ms → segments (sent_bytes ms) ≡ encodings ms
+segments-sent [] h = refl
+segments-sent (m ∷ ms) h =
+    segments-before m.bytes (sent_bytes ms) (IsAlone-whole m.bytes h.0.whole) (lead-sent ms h.1)
+    ∙ ap (λ (gs : List (List ℕ)). m.bytes ∷ gs) (segments-sent ms h.1)
+
+-- their events are the messages
+segments_events-encodings : (ms : List Sent) → AllByRecursion IsRead ms → segments_events (encodings ms) ≡ arrivals ms
+segments_events-encodings [] h = refl
+segments_events-encodings (m ∷ ms) h =
+    rw (
+      verdict-of_whole m.bytes h.0.whole,
+      drop-length m.bytes,
+      cut_before-nothing
+          (encodings ms),
+      segments_events-encodings ms h.1,
+      h.0.reports,
+    ) refl
+
+-- ---- After any bytes
+
+-- after what is unfinished
+behind_unfinished : (o : List ℕ) → IsUnfinished o → (m : Sent) (ms : List Sent) → AllByRecursion IsRead (m ∷ ms)
+    → events (o ++ sent_bytes (m ∷ ms)) ≡ events_behind (length o) (cut_of o ++ arrivals (m ∷ ms))
+unfolding events
+behind_unfinished o nothing m ms h =
+    rw (lead-sent (m ∷ ms) h, segments-sent (m ∷ ms) h, segments_events-encodings (m ∷ ms) h) refl
+behind_unfinished o (waiting g alone e) m ms h =
+    rw (
+      lead-before g (sent_bytes (m ∷ ms)) alone,
+      segments-before g (sent_bytes (m ∷ ms)) alone
+          (lead-sent (m ∷ ms) h),
+      segments-sent (m ∷ ms) h,
+      events_behind-zero,
+    )
+    (rw (e, segments_events-encodings (m ∷ ms) h) refl)
+
+-- after any bytes
+events-sent : (s : List ℕ) (m : Sent) (more : List Sent) → AllByRecursion IsRead (m ∷ more) →
+    events (s ++ sent_bytes (m ∷ more))
+    ≡ events s ++ events_behind (length s) (cut_of (unfinished_message s))
+    ++ events_behind (length s) (arrivals (m ∷ more))
+events-sent s m more h =
+    let o = unfinished_message s in
+    let here : length s - length o + length o ≡ length s = omega (arith, length-unfinished s) in
+    let a = cut_of o in
+    let b = arrivals (m ∷ more) in
+    events-append s (sent_bytes (m ∷ more))
+    ∙ ap (λ (zs : List Placed). events s ++ events_behind (length s - length o) zs)
+    (behind_unfinished o (IsUnfinished-unfinished s) m more h)
+    ∙ ap (λ (zs : List Placed). events s ++ zs)
+    (events_behind-events_behind (length s - length o) (length o)
+    (a ++ b) ∙ ap (λ (n : ℕ). events_behind n (a ++ b)) here ∙ events_behind-append (length s) a b)
+    ∙ sym (append_assoc (events s) (events_behind (length s) a) (events_behind (length s) b))
+
+-- a whole message after what is unfinished leaves nothing unfinished
+behind_whole : (o w : List ℕ) → IsUnfinished o → IsWholeMessage w → unfinished_message (o ++ w) ≡ []
+unfolding unfinished_message
+behind_whole o w nothing whole = whole_unfinished w whole
+behind_whole o w (waiting g before e) whole =
+    let alone = IsAlone-whole w whole in
+    rw (segments-before g w before alone.no_lead, alone.one, verdict-of_whole w whole) refl
+
+-- they leave nothing unfinished
+unfinished-sent : (s : List ℕ) (m : Sent) (more : List Sent) → AllByRecursion IsRead (m ∷ more)
+    → unfinished_message (s ++ sent_bytes (m ∷ more)) ≡ []
+unfinished-sent s m [] h =
+    ap (λ (x : List ℕ). unfinished_message (s ++ x)) (append-nil m.bytes)
+    ∙ unfinished-append s m.bytes
+    ∙ behind_whole (unfinished_message s) m.bytes (IsUnfinished-unfinished s) h.0.whole
+unfinished-sent s m (k ∷ more) h =
+    ap (λ (x : List ℕ). unfinished_message x) (sym (append_assoc s m.bytes (sent_bytes (k ∷ more))))
+    ∙ unfinished-sent (s ++ m.bytes) k more h.1
+
+-- ---- The laws
+
+-- both of messages that are encoded
+pub recovery : AreRead → (s : List ℕ) (m : Sent) (more : List Sent) → AllByRecursion (λ m. Encodes m.said m.bytes)
+    (m ∷ more) →
+    (events (s ++ sent_bytes (m ∷ more))
+    ≡ events s ++ events_behind (length s) (cut_of (unfinished_message s))
+    ++ events_behind (length s) (arrivals (m ∷ more)))
+    × (unfinished_message (s ++ sent_bytes (m ∷ more)) ≡ [])
+recovery reads s m more h =
+    let read = are_read reads (m ∷ more) h in
+    (events-sent s m more read, unfinished-sent s m more read)
+
+-- one message, as it is written
+pub encoding_is_read : AreRead → AreEncoded → EncodingIsRead
+encoding_is_read reads encoded s said is =
+    let m : Sent = record { said = said; bytes = encoding said } in
+    let one = recovery reads s m [] (encoded said is, tt) in
+    let same : encoding said ++ [] ≡ encoding said = append-nil (encoding said) in
+    (rw same at one.0, rw same at one.1)

@@ -1,0 +1,85 @@
+-- The text of bytes that come in chunks.
+use Rattle.std.proofs.Common.{◌≡◌, ℕ, ◌+◌, ◌-◌, List, [], ◌∷◌, ◌++◌, refl, sym, ◌∙◌, ap, length, arith, append_assoc, append-nil, length-append}
+use Rattle.std.proofs.lemmas.Grind.{flat_map-append}
+use Rattle.std.specs.List.{AllByRecursion}
+use Rattle.dgt_command.specs.Content.{EventContent}
+use Rattle.dgt_command.specs.Words.{IsWord, IsPartial, Word, word_bytes}
+use Rattle.dgt_command.specs.Laws.{EachHasItsWords}
+use Rattle.dgt_lines.specs.CommandLines.{Prints, command_line, word_lines}
+use Rattle.dgt_lines.specs.CommandLaws.{EachIsPrinted, EachIsPrintedOnce, TextsAppend}
+
+-- each is the word that it is said to be
+abbrev pub AllWords : List Word → Type 0
+AllWords words = AllByRecursion (λ word. IsWord word.event word.bytes) words
+
+all_words-append : (xs ys : List Word) → AllWords xs → AllWords ys → AllWords (xs ++ ys)
+all_words-append [] ys h k = k
+all_words-append (x ∷ xs) ys h k = (h.0, all_words-append xs ys h.1 k)
+
+word_lines-append : (k : ℕ) (xs ys : List Word)
+    → word_lines k (xs ++ ys) ≡ word_lines k xs ++ word_lines (k + length (word_bytes xs)) ys
+word_lines-append k [] ys = let e : k ≡ k + 0 = omega arith in ap (λ n. word_lines n ys) e
+word_lines-append k (x ∷ xs) ys =
+    let end = k + length x.bytes in
+    let line = command_line end x.event in
+    let e : end + length (word_bytes xs) ≡ k + length (x.bytes ++ word_bytes xs) =
+    omega (arith, length-append x.bytes (word_bytes xs)) in
+    ap (λ l. line ++ l) (word_lines-append end xs ys)
+    ∙ ap (λ n. line ++ (word_lines end xs ++ word_lines n ys)) e
+    ∙ sym (append_assoc line (word_lines end xs) _)
+
+-- bytes in a row
+pub texts_append : TextsAppend
+texts_append k s t r q text others h g = record {
+  words = h.words ++ g.words;
+  are_words = record {
+    each = all_words-append h.words g.words h.are_words.each g.are_words.each;
+    whole =
+        ap (λ l. l ++ t) h.are_words.whole
+        ∙ append_assoc (word_bytes h.words) r t
+        ∙ ap (λ l. word_bytes h.words ++ l) g.are_words.whole
+        ∙ sym (append_assoc (word_bytes h.words) (word_bytes g.words) q)
+        ∙ ap (λ l. l ++ q) (sym (flat_map-append (λ (word : Word). word.bytes) h.words g.words));
+    partial = g.are_words.partial;
+  };
+  said =
+      let e : k + (length s - length r) ≡ k + length (word_bytes h.words) =
+      omega (arith, ap length h.are_words.whole, length-append (word_bytes h.words) r) in
+      ap (λ l. l ++ others) h.said
+      ∙ ap (λ l. word_lines k h.words ++ l) g.said
+      ∙ ap (λ n. word_lines k h.words ++ word_lines n g.words) e
+      ∙ sym (word_lines-append k h.words g.words);
+}
+
+-- one word
+pub word_is_printed : IsPartial [] → (k : ℕ) (word : List ℕ) (event : EventContent) → IsWord event word
+    → Prints k word [] (command_line (k + length word) event)
+word_is_printed none k word event h = record {
+  words = record { event = event; bytes = word } ∷ [];
+  are_words = record {
+    each = (h, tt);
+    whole = sym (append-nil (word ++ []) ∙ append-nil word);
+    partial = none;
+  };
+  said = sym (append-nil (command_line (k + length word) event));
+}
+
+-- no whole word
+pub part_is_printed : (k : ℕ) (rest : List ℕ) → IsPartial rest → Prints k rest rest []
+part_is_printed k rest h = record {
+  words = [];
+  are_words = record { each = tt; whole = refl; partial = h };
+  said = refl;
+}
+
+-- each list of bytes has a text
+pub each_is_printed : EachHasItsWords → EachIsPrinted
+each_is_printed has k s are =
+    let found = has.0 s are in
+    (found.1, word_lines k found.0, record { words = found.0; are_words = found.2; said = refl })
+
+-- and only one
+pub each_is_printed_once : EachHasItsWords → EachIsPrintedOnce
+each_is_printed_once has k s r q text also h g =
+    let same = has.1 s h.words g.words r q h.are_words g.are_words in
+    (same.1, h.said ∙ ap (word_lines k) same.0 ∙ sym g.said)
