@@ -441,8 +441,8 @@ class CommandReader:
 
 class Board:
     def __init__(self, squares):
-        self.squares, self.told_squares = list(squares), list(squares)
-        self.clock, self.told_clock = FIRST_CLOCK, None
+        self.squares, self.reported_squares = list(squares), list(squares)
+        self.clock, self.reported_clock = FIRST_CLOCK, None
         self.mode = IDLE
         self.owes_times = False
         self.owed = []  # codes of messages, and bodies of acknowledgements
@@ -457,12 +457,12 @@ class Board:
     def hand_clock(self, clock):
         self.clock = clock
         self.owes_times = (
-            self.mode == UPDATE or self.mode == UPDATE_NICE and self.told_clock != clock
+            self.mode == UPDATE or self.mode == UPDATE_NICE and self.reported_clock != clock
         )
 
     def line_lost(self):
         self.mode = IDLE
-        self.told_squares, self.told_clock = list(self.squares), None
+        self.reported_squares, self.reported_clock = list(self.squares), None
         self.owes_times = False
         self.owed = []
         self.reader = CommandReader()
@@ -473,7 +473,8 @@ class Board:
             return
         if command[0] in MODES:
             self.mode = command[0]
-            self.owes_times = self.mode in (UPDATE, UPDATE_NICE) and self.told_clock != self.clock
+            follows = self.mode in (UPDATE, UPDATE_NICE)
+            self.owes_times = follows and self.reported_clock != self.clock
         elif command[0] in REPLIES:
             self.owed.append(REPLIES[command[0]])
         elif not self.clock[6] & 0x20:  # a clock is connected
@@ -496,7 +497,7 @@ class Board:
             )
         if self.mode != IDLE:
             for square in range(64):
-                if self.squares[square] != self.told_squares[square]:
+                if self.squares[square] != self.reported_squares[square]:
                     return spell(FIELD, [square, self.squares[square]])
         return self.form(CLOCK) if self.owes_times else None
 
@@ -506,11 +507,11 @@ class Board:
             self.owed.pop(0)
         code, body = message[0] & 0x7F, message[3:]
         if code == DUMP:
-            self.told_squares = list(body)
+            self.reported_squares = list(body)
         elif code == FIELD:
-            self.told_squares[body[0]] = body[1]
+            self.reported_squares[body[0]] = body[1]
         elif code == CLOCK and not is_acknowledgement(body):
-            self.told_clock, self.owes_times = body, False
+            self.reported_clock, self.owes_times = body, False
 
 
 def serve(commands, squares):

@@ -123,7 +123,7 @@ struct State {
     squares: Position,
     told: Position,
     clock: Clock,
-    told_clock: Option<Clock>,
+    reported_clock: Option<Clock>,
     mode: Mode,
     times_owed: bool,
     owed: VecDeque<Reply>,
@@ -134,7 +134,7 @@ impl State {
     fn enter(&mut self, mode: Mode) {
         self.mode = mode;
         let follows = matches!(mode, Mode::Update | Mode::UpdateNice);
-        self.times_owed = follows && self.told_clock != Some(self.clock);
+        self.times_owed = follows && self.reported_clock != Some(self.clock);
     }
 
     fn obey(&mut self, command: &Command) {
@@ -199,7 +199,7 @@ impl State {
     fn send_clock(&mut self, out: &mut [u8]) -> Polled {
         let polled = put_message(0x0d, &clock_body(&self.clock), out);
         if let Polled::Wrote(_) = polled {
-            (self.told_clock, self.times_owed) = (Some(self.clock), false);
+            (self.reported_clock, self.times_owed) = (Some(self.clock), false);
         }
         polled
     }
@@ -259,7 +259,7 @@ impl Board {
             squares,
             told: squares,
             clock,
-            told_clock: None,
+            reported_clock: None,
             mode: Mode::Idle,
             times_owed: false,
             owed: VecDeque::with_capacity(MAX_OWED),

@@ -9,7 +9,7 @@ use Rattle.std.specs.Prelude.{◌≢◌, filter, length, slice_get}
 use Rattle.std.specs.List.{range_with_len}
 use Rattle.dgt_values.specs.declared.pieces.Piece.{Piece}
 use Rattle.dgt_values.specs.Board.{piece_code, DifferingSquares}
-use Rattle.dgt_message.specs.Reading.{piece_with_code}
+use Rattle.dgt_values.proofs.PieceCodes.{same_code}
 use Rattle.dgt_board.specs.State.{BoardState}
 use Rattle.dgt_board.specs.Sending.{differs, every_square, piece_on}
 
@@ -48,14 +48,6 @@ unfolding every_square
 first_square test at within before holds =
     rw (← zero-add at)
     (first_passes test 0 64 at within (λ k l. rw (zero-add k) (before k l)) (rw (zero-add at) holds))
-
--- a piece is known by its code
-code_piece : (piece : Piece) → piece_with_code (piece_code piece) ≡ piece
-code_piece Piece.Empty = refl
-code_piece _ = refl
-
-same_code : (a b : Piece) → piece_code a ≡ piece_code b → a ≡ b
-same_code a b same = sym (code_piece a) ∙ ap piece_with_code same ∙ code_piece b
 
 -- ---- a mask of the squares that differ
 

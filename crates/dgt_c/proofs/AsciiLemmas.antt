@@ -1,4 +1,5 @@
 -- Placements are ASCII, so that a text is none from its first other byte on.
+use Prim.Native.Char.{code as ascii}
 use Rattle.std.proofs.Common.{◌≡◌, ℕ, ◌+◌, ◌<◌, ◌≤◌, List, [], ◌∷◌, ◌++◌, length, take, lit<, arith, inl, inr}
 use Rattle.std.proofs.lemmas.Bool.{cases_lt}
 use Rattle.std.proofs.lemmas.List.{append-nil, get_or-take, get_or_append_left, get_or_past, length-take, length-take-le, take-take, take_all}
@@ -25,13 +26,14 @@ rank-ascii [] squares h = IsAscii-nil
 rank-ascii (byte ∷ bytes) squares (first, rest, means, is_rank, same) =
     IsAscii-cons byte bytes (byte-ascii byte first means) (rank-ascii bytes rest is_rank)
 
-ranks-ascii : (ranks : List (List ℕ)) (pieces : List Piece) → AreRanks ranks pieces → IsAscii (join_with_byte 47 ranks)
+ranks-ascii : (ranks : List (List ℕ)) (pieces : List Piece) → AreRanks ranks pieces →
+    IsAscii (join_with_byte (ascii "/") ranks)
 ranks-ascii [] pieces h = IsAscii-nil
 ranks-ascii (rank ∷ []) pieces (squares, rest, eight, is_rank, others, same) = rank-ascii rank squares is_rank
 ranks-ascii (rank ∷ next ∷ ranks) pieces (squares, rest, eight, is_rank, others, same) =
     let behind = ranks-ascii (next ∷ ranks) rest others in
-    IsAscii-append rank (47 ∷ join_with_byte 47 (next ∷ ranks)) (rank-ascii rank squares is_rank)
-    (IsAscii-cons 47 (join_with_byte 47 (next ∷ ranks)) (lit< tt) behind)
+    IsAscii-append rank (ascii "/" ∷ join_with_byte (ascii "/") (next ∷ ranks)) (rank-ascii rank squares is_rank)
+    (IsAscii-cons (ascii "/") (join_with_byte (ascii "/") (next ∷ ranks)) (lit< tt) behind)
 
 placement-ascii : (text : List ℕ) (pieces : List Piece) → IsPlacement text pieces → IsAscii text
 placement-ascii text pieces h = rw h.joined (ranks-ascii h.ranks pieces h.each)

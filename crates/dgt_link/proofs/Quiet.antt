@@ -10,7 +10,7 @@ use Rattle.dgt_values.specs.declared.pieces.Piece.{Piece}
 use Rattle.dgt_values.specs.Board.{piece_code}
 use Rattle.dgt_message.specs.Content.{Content, clock_message}
 use Rattle.dgt_message.specs.Clock.{ClockState}
-use Rattle.dgt_message.specs.Reading.{piece_with_code}
+use Rattle.dgt_values.proofs.PieceCodes.{same_code}
 use Rattle.dgt_command.specs.Content.{CommandContent, EventContent}
 use Rattle.dgt_board.specs.declared.replies.Reply.{Reply}
 use Rattle.dgt_board.specs.State.{BoardState, follows_clock, updates}
@@ -52,17 +52,11 @@ every_square-at : (k : ℕ) → k < 64 → (k < length every_square) × (get_or 
 unfolding every_square
 every_square-at k h = (h, get_or-range_with_len 0 64 k 0 h ∙ omega arith)
 
--- a piece is known by its code
-code-piece : (piece : Piece) → piece_with_code (piece_code piece) ≡ piece
-code-piece Piece.Empty = refl
-code-piece _ = refl
-
 same_unless_differs : (reported piece : Piece) → not (piece_code reported == piece_code piece) ≡ false
     → reported ≡ piece
 same_unless_differs reported piece h =
-    sym (code-piece reported) ∙ ap piece_with_code
+    same_code reported piece
     (eqb-true (piece_code reported) (piece_code piece) (not-false (piece_code reported == piece_code piece) h))
-    ∙ code-piece piece
 
 -- if no square differs, the board has reported its squares
 none_differs : (board : BoardState) → length board.squares ≡ 64 → length board.reported_squares ≡ 64

@@ -1,4 +1,5 @@
 -- The words of a script line: each one has one value at most, and what a reader of them relies on.
+use Prim.Native.Char.{code as ascii}
 use Rattle.std.proofs.Common.{◌≡◌, ℕ, zero, ◌+◌, ◌-◌, ◌/◌, ◌%◌, ◌<◌, ◌≤◌, true, false, List, [], ◌∷◌, length, get_or, Option, Some, None, Result, Ok, Err, is_ok, refl, sym, ap, ◌∙◌, arith, length-append}
 use Rattle.std.proofs.lemmas.Fmt.{IsAscii-decimal, decimal-digits_value, decimal_digit, decimal_injective, decimal_nonempty, digits_decimal, first_decimal, parse-decimal}
 use Rattle.std.proofs.lemmas.Str.{IsUtf8-from_ascii}
@@ -6,7 +7,7 @@ use Rattle.std.proofs.lemmas.Str.Ascii.{IsAscii-cons, IsAscii-nil}
 use Rattle.std.proofs.lemmas.Str.Parse.{IsNumeralModel, digit_at, numerals_by_value, parse_plain, tells_digits}
 use Rattle.std.proofs.lemmas.List.Elements.{All-append, All-from_recursion}
 use Rattle.std.specs.List.{AllByRecursion}
-use Rattle.std.specs.Prelude.{◌↔◌, All, MatchOption, MatchResult, decimal, if◌then◌else◌, ◌==◌, slice_index}
+use Rattle.std.specs.Prelude.{◌↔◌, All, MatchOption, MatchResult, decimal, slice_index}
 use Rattle.std.specs.Result.{result_ok}
 use Rattle.std.specs.Str.{IsUtf8}
 use Rattle.std.specs.Str.Parse.{AllDigits, ParsesUnsigned, digits_value}
@@ -15,9 +16,9 @@ use Rattle.hex.proofs.HexLemmas.{decode_of-ok, decode_of-same, decode_sized-ok, 
 use Rattle.dgt_values.specs.declared.refusals.BodyError.{BodyError}
 use Rattle.dgt_values.specs.declared.refusals.BodyError.TheVariants.{Length, Byte}
 use Rattle.dgt_values.specs.declared.pieces.Piece.{Piece}
-use Rattle.dgt_values.specs.declared.pieces.Piece.TheVariants.{Empty, WhitePawn, WhiteRook, WhiteKnight, WhiteBishop, WhiteKing, WhiteQueen, BlackPawn, BlackRook, BlackKnight, BlackBishop, BlackKing, BlackQueen, FirstExtra, SecondExtra, ThirdExtra}
 use Rattle.dgt_values.specs.Bytes.{Refuses}
-use Rattle.dgt_values.specs.Board.{piece_letter, square_name}
+use Rattle.dgt_values.specs.Board.{square_name}
+use Rattle.dgt_values.proofs.PieceCodes.{letter_one}
 use Rattle.dgt_message.specs.declared.viewing.BodyFault.{BodyFault}
 use Rattle.dgt_message.specs.declared.clock.Clock.{Clock}
 use Rattle.dgt_message.specs.declared.known.KnownCode.{KnownCode}
@@ -72,48 +73,9 @@ one_square word a b h k =
 
 -- ---- Pieces
 
--- the piece of a letter
-abbrev piece_of : ℕ → Piece
-piece_of letter =
-    if letter == 46 then Empty
-    else if letter == 80 then WhitePawn
-    else if letter == 82 then WhiteRook
-    else if letter == 78 then WhiteKnight
-    else if letter == 66 then WhiteBishop
-    else if letter == 75 then WhiteKing
-    else if letter == 81 then WhiteQueen
-    else if letter == 112 then BlackPawn
-    else if letter == 114 then BlackRook
-    else if letter == 110 then BlackKnight
-    else if letter == 98 then BlackBishop
-    else if letter == 107 then BlackKing
-    else if letter == 113 then BlackQueen
-    else if letter == 88 then FirstExtra
-    else if letter == 89 then SecondExtra
-    else ThirdExtra
-
-piece_of-piece_letter : (piece : Piece) → piece_of (piece_letter piece) ≡ piece
-piece_of-piece_letter Empty = refl
-piece_of-piece_letter WhitePawn = refl
-piece_of-piece_letter WhiteRook = refl
-piece_of-piece_letter WhiteKnight = refl
-piece_of-piece_letter WhiteBishop = refl
-piece_of-piece_letter WhiteKing = refl
-piece_of-piece_letter WhiteQueen = refl
-piece_of-piece_letter BlackPawn = refl
-piece_of-piece_letter BlackRook = refl
-piece_of-piece_letter BlackKnight = refl
-piece_of-piece_letter BlackBishop = refl
-piece_of-piece_letter BlackKing = refl
-piece_of-piece_letter BlackQueen = refl
-piece_of-piece_letter FirstExtra = refl
-piece_of-piece_letter SecondExtra = refl
-piece_of-piece_letter ThirdExtra = refl
-
 -- a word names one piece at most
 pub one_piece : (word : List ℕ) (a b : Piece) → IsPieceWord word a → IsPieceWord word b → a ≡ b
-one_piece word a b h k = sym (piece_of-piece_letter a) ∙ ap (λ w. piece_of (slice_index w 0))
-    (sym h ∙ k) ∙ piece_of-piece_letter b
+one_piece word a b h k = letter_one a b (ap (λ w. slice_index w 0) (sym h ∙ k))
 
 -- ---- Hexadecimal digits
 
@@ -268,8 +230,8 @@ numerals : IsNumeralModel (AllDigits 10) (digits_value 10)
 numerals = numerals_by_value (AllDigits 10) tells_digits
 
 -- the first digit of a count is one of 1 to 9
-pub count_first : (word : List ℕ) (n : ℕ) → IsCountWord word n → (0 < length word) × (48 < get_or word 0 0)
-    × (get_or word 0 0 ≤ 57)
+pub count_first : (word : List ℕ) (n : ℕ) → IsCountWord word n → (0 < length word) × (ascii "0" < get_or word 0 0)
+    × (get_or word 0 0 ≤ ascii "9")
 count_first word n h =
     let some = decimal_nonempty n (omega arith) in
     let digit = digit_at (decimal n) 0 (digits_decimal numerals n (omega arith)) some in
@@ -281,13 +243,13 @@ pub count_parsed : {E : Type 0} (word : List ℕ) (n : ℕ) (r : Result ℕ E) �
 count_parsed word n r h p = parse-decimal 16 n word r (omega arith) (omega arith) h.2 p
 
 -- a number that is written with a first digit above 0 is at least 1
-not_zero : (word : List ℕ) (n : ℕ) → 48 < get_or word 0 0 → decimal n ≡ word → 1 ≤ n
+not_zero : (word : List ℕ) (n : ℕ) → ascii "0" < get_or word 0 0 → decimal n ≡ word → 1 ≤ n
 not_zero word zero first e = absurd (omega (arith, ap (λ w. get_or w 0 0) (sym (decimal_digit 0 (omega arith)) ∙ e)))
 not_zero word n first e = omega arith
 
 -- what is parsed is a count if its first byte is above the digit 0
 pub parsed_count : {E : Type 0} (word : List ℕ) (n : ℕ) (r : Result ℕ E) → ParsesUnsigned 16 10 word r → r ≡ Ok n
-    → 48 < get_or word 0 0 → IsCountWord word n
+    → ascii "0" < get_or word 0 0 → IsCountWord word n
 parsed_count {E} word n r h e first =
     let same : ParsesUnsigned {E = E} 16 10 word (Ok n) = rw e at h in
     let parsed = parse_plain numerals {E = E} 16 word (Ok n) same (λ plus. omega arith) in

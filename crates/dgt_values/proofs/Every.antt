@@ -13,7 +13,8 @@ use Rattle.dgt_values.specs.declared.refusals.BadPlacement.{BadPlacement}
 use Rattle.dgt_values.specs.Board.{piece_letter}
 use Rattle.dgt_values.specs.declared.positions.Position.{Position}
 use Rattle.dgt_values.specs.Placement.{MeansSquares, IsPlacement, IsFirstBadOffset, ParsesPlacement}
-use Rattle.dgt_values.proofs.Finishing.{letter_piece, letter_piece-letter, means_one, above_slash, Steps}
+use Rattle.dgt_values.proofs.Finishing.{means_one, above_slash, Steps}
+use Rattle.dgt_values.proofs.PieceCodes.{letter_piece, letter_piece-letter}
 use Rattle.dgt_values.proofs.Written.{placement_long}
 use Rattle.dgt_values.proofs.Reading.{Leaves, leaves_start, leaves_more, leaves_none, first_bad, ends_short}
 

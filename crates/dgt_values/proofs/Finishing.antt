@@ -3,37 +3,14 @@
 use Prim.Native.Char.{code as ascii}
 use Rattle.std.proofs.Common.{◌≡◌, ℕ, suc, ◌+◌, ◌<◌, ◌⊎◌, inl, inr, refl, sym, ap, ◌∙◌, arith, List, [], ◌∷◌, ◌++◌}
 use Rattle.std.proofs.Common.{length, replicate, append_assoc, length-append}
-use Rattle.std.specs.Prelude.{◌≢◌, ◌==◌, if◌then◌else◌}
+use Rattle.std.specs.Prelude.{◌≢◌}
 use Rattle.std.specs.List.{join_with_byte}
 use Rattle.std.proofs.lemmas.List.{append-nil}
 use Rattle.dgt_values.specs.declared.pieces.Piece.{Piece}
-use Rattle.dgt_values.specs.declared.pieces.Piece.TheVariants.{Empty, WhitePawn, WhiteRook, WhiteKnight, WhiteBishop}
-use Rattle.dgt_values.specs.declared.pieces.Piece.TheVariants.{WhiteKing, WhiteQueen, BlackPawn, BlackRook, BlackKnight}
-use Rattle.dgt_values.specs.declared.pieces.Piece.TheVariants.{BlackBishop, BlackKing, BlackQueen, FirstExtra}
-use Rattle.dgt_values.specs.declared.pieces.Piece.TheVariants.{SecondExtra, ThirdExtra}
+use Rattle.dgt_values.specs.declared.pieces.Piece.TheVariants.{Empty}
 use Rattle.dgt_values.specs.Board.{piece_letter}
 use Rattle.dgt_values.specs.Placement.{MeansSquares, IsRank, AreRanks, IsPlacement}
-
--- the piece with a letter
-abbrev pub letter_piece : ℕ → Piece
-letter_piece b =
-    if b == ascii "P" then WhitePawn else (if b == ascii "R" then WhiteRook else
-    (if b == ascii "N" then WhiteKnight else (if b == ascii "B" then WhiteBishop else
-    (if b == ascii "K" then WhiteKing else (if b == ascii "Q" then WhiteQueen else
-    (if b == ascii "p" then BlackPawn else (if b == ascii "r" then BlackRook else
-    (if b == ascii "n" then BlackKnight else (if b == ascii "b" then BlackBishop else
-    (if b == ascii "k" then BlackKing else (if b == ascii "q" then BlackQueen else
-    (if b == ascii "X" then FirstExtra else (if b == ascii "Y" then SecondExtra else
-    (if b == ascii "Z" then ThirdExtra else Empty))))))))))))))
-
--- the letter of a piece is its own alone
-pub letter_piece-letter : (piece : Piece) → letter_piece (piece_letter piece) ≡ piece
-letter_piece-letter Empty = refl
-letter_piece-letter _ = refl
-
--- no two pieces have one letter
-pub letter_one : (a b : Piece) → piece_letter a ≡ piece_letter b → a ≡ b
-letter_one a b e = sym (letter_piece-letter a) ∙ ap letter_piece e ∙ letter_piece-letter b
+use Rattle.dgt_values.proofs.PieceCodes.{letter_one}
 
 -- letters stand above the slash and the digits
 pub letter_above : (piece : Piece) → piece ≢ Empty → ascii "9" < piece_letter piece

@@ -16,7 +16,8 @@ use Rattle.dgt_values.specs.declared.pieces.Piece.TheVariants.{Empty}
 use Rattle.dgt_values.specs.Board.{piece_letter}
 use Rattle.std.specs.Char.{IsAsciiDigit}
 use Rattle.dgt_values.specs.Placement.{MeansSquares, digit_count, IsRank, AreRanks, IsPlacement, run_text, rank_text_after, ranks_text, placement_text}
-use Rattle.dgt_values.proofs.Finishing.{letter_one, letter_above}
+use Rattle.dgt_values.proofs.Finishing.{letter_above}
+use Rattle.dgt_values.proofs.PieceCodes.{letter_one}
 use Rattle.dgt_values.proofs.Placing.{text_after_piece}
 use Rattle.dgt_values.proofs.Apart.{Apart, BeginsWithDigit, apart_around, apart_before, apart_after}
 
