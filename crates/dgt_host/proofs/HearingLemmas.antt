@@ -7,7 +7,8 @@ use Rattle.dgt_message.specs.Content.{Content, IsMessage}
 use Rattle.dgt_message.specs.Encoding.{encoding}
 use Rattle.dgt_decode.specs.Grammar.{Event, Message, Refused, Cut, BadLength, Stray, Placed, at_place, cut_of, events, events_behind, unfinished_message}
 use Rattle.dgt_decode.specs.Laws.{EventsAppend, UnfinishedAppend, UnfinishedIsQuiet, EncodingIsRead}
-use Rattle.dgt_host.specs.Host.{HeardInChunks, HostView, clock_after_all, host_after, host_after_event, host_after_events, host_after_message, picture_after_all}
+use Rattle.dgt_message.specs.Picture.{clock_after_all, picture_after_all}
+use Rattle.dgt_host.specs.Host.{HeardInChunks, HostView, host_after, host_after_event, host_after_events, host_after_message}
 
 host_after_events-append : (host : HostView) (xs ys : List Placed)
     → host_after_events host (xs ++ ys) ≡ host_after_events (host_after_events host xs) ys

@@ -1,13 +1,13 @@
 -- What contracts see of a host, what it makes of the bytes that it hears, and what it sends.
-use Rattle.std.specs.Prelude.{◌≡◌, ◌≢◌, ℕ, ◌<◌, ◌≤◌, nat_le, List, [], ◌∷◌, ◌++◌, length, drop, replicate, Option, Some, None, is_some, option_map, option_to_list, Result, Ok, Err, Bool, true, false, ◌&&◌, IsTrue, if◌then◌else◌, slice_get, slice_set}
+use Rattle.std.specs.Prelude.{◌≡◌, ◌≢◌, ℕ, ◌<◌, ◌≤◌, nat_le, List, [], ◌∷◌, ◌++◌, length, drop, replicate, Option, Some, None, is_some, option_map, option_to_list, Result, Ok, Err, Bool, true, false, ◌&&◌, IsTrue, if◌then◌else◌, slice_get}
 use Rattle.dgt_values.specs.declared.kinds.Kind.{Kind}
 use Rattle.dgt_values.specs.declared.pieces.Piece.{Piece}
 use Rattle.dgt_values.specs.declared.positions.Position.{Position}
 use Rattle.dgt_values.specs.Board.{pieces_of}
 use Rattle.dgt_message.specs.declared.clock.Clock.{Clock}
 use Rattle.dgt_message.specs.Content.{Content, clock_seen, answered_kind}
-use Rattle.dgt_message.specs.Content.Content.{dump, field, times, no_clock}
 use Rattle.dgt_message.specs.Clock.{ClockState}
+use Rattle.dgt_message.specs.Picture.{clock_after, picture_after}
 use Rattle.dgt_command.specs.Content.CommandContent.{Dump, UpdateBoard}
 use Rattle.dgt_command.specs.Encoding.{command_encoding}
 use Rattle.dgt_decode.specs.Grammar.{Event, Message, Placed, events, unfinished_message}
@@ -35,27 +35,6 @@ abbrev pub new_host : HostView
 new_host = record { picture = None; clock = None; awaited = []; unread = [] }
 
 -- ---- what it hears
-
--- the picture after a message: a dump sets it, a field sets one square of a picture that is known
-abbrev pub picture_after : Option (List Piece) → Content → Option (List Piece)
-picture_after picture (dump pieces) = Some pieces
-picture_after picture (field square piece) =
-    option_map (λ pieces. slice_set pieces square piece) picture
-picture_after picture _ = picture
-
-abbrev pub picture_after_all : Option (List Piece) → List Content → Option (List Piece)
-picture_after_all picture [] = picture
-picture_after_all picture (said ∷ more) = picture_after_all (picture_after picture said) more
-
--- the clock after a message: what it reports of a clock, if it does
-abbrev pub clock_after : Option ClockState → Content → Option ClockState
-clock_after before (times readings) = Some (ClockState.times readings)
-clock_after before (no_clock absence) = Some (ClockState.no_clock absence)
-clock_after before _ = before
-
-abbrev pub clock_after_all : Option ClockState → List Content → Option ClockState
-clock_after_all before [] = before
-clock_after_all before (said ∷ more) = clock_after_all (clock_after before said) more
 
 abbrev pub is_same_kind : Kind → Kind → Bool
 is_same_kind Kind.Dump Kind.Dump = true

@@ -4,7 +4,8 @@ ghost use Rattle.std.specs.Prelude.{◌≡◌, ◌↔◌, ℕ, List, IsTrue, Som
 ghost use Rattle.dgt_values.specs.Board.{pieces_of};
 ghost use Rattle.dgt_message.specs.Content.{clock_seen, content, answered_kind};
 ghost use Rattle.dgt_decode.specs.Feeding.{event_content};
-ghost use Rattle.dgt_host.specs.Host.{IsUnasked, awaited_after, clock_after, host_after_event, host_seen, is_same_kind, picture_after};
+ghost use Rattle.dgt_message.specs.Picture.{clock_after, picture_after};
+ghost use Rattle.dgt_host.specs.Host.{IsUnasked, awaited_after, host_after_event, host_seen, is_same_kind};
 
 use crate::host::MAX_AWAITED;
 use arrayvec::ArrayVec;

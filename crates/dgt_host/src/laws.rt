@@ -9,7 +9,8 @@ ghost use Rattle.dgt_message.specs.Content.{Content, IsMessage};
 ghost use Rattle.dgt_message.specs.Encoding.{encoding};
 ghost use Rattle.dgt_decode.specs.Feeding.{event_content_if_any};
 ghost use Rattle.dgt_decode.specs.Grammar.{Event, Placed, events_behind, unfinished_message};
-ghost use Rattle.dgt_host.specs.Host.{HeardInChunks, HostView, clock_after_all, host_after, host_after_events, host_after_message, picture_after_all};
+ghost use Rattle.dgt_message.specs.Picture.{clock_after_all, picture_after_all};
+ghost use Rattle.dgt_host.specs.Host.{HeardInChunks, HostView, host_after, host_after_events, host_after_message};
 
 use crate::{Heard, Kind, MAX_AWAITED, RESTART_LENGTH, SendFault};
 

@@ -8,14 +8,14 @@ use Rattle.dgt_message.specs.Clock.{ClockState}
 use Rattle.dgt_message.specs.Content.{clock_message}
 use Rattle.dgt_message.specs.Content.Content.{dump, field, times, no_clock}
 use Rattle.dgt_decode.specs.Grammar.{Event, Message, Placed, events}
-use Rattle.dgt_host.specs.Host.{HostView, host_after_event, host_after_events, new_host, picture_after}
+use Rattle.dgt_message.specs.Picture.{picture_after}
 use Rattle.dgt_lines.specs.declared.clocks.ShownClock.{ShownClock}
 use Rattle.dgt_lines.specs.declared.clocks.ShownClock.TheVariants.{Hidden, Unknown, Known}
 use Rattle.dgt_lines.specs.declared.doubts.Doubt.{Doubt}
 use Rattle.dgt_lines.specs.declared.doubts.PictureState.{PictureState}
 use Rattle.dgt_lines.specs.Clocks.{clock_text}
 use Rattle.dgt_lines.specs.Pictures.{PlacedPicture, known_at}
-use Rattle.dgt_lines.specs.Reports.{ClockLeavesReports, HiddenClockIsSilent, LastClockIsTheHosts, OtherClocksAreReported, Report, SaysClock, Shows, ShowsClock, clock_reports, clocking, clocks_shown, new_state, new_state_with_clock, reports, reports_at, shown_after, state_after_event, state_after_events, without_clock}
+use Rattle.dgt_lines.specs.Reports.{ClockLeavesReports, HiddenClockIsSilent, LastLineIsClock, OtherClocksAreReported, Report, SaysClock, Shows, ShowsClock, clock_after_event, clock_after_events, clock_reports, clocking, clocks_shown, new_state, new_state_with_clock, reports, reports_at, shown_after, state_after_event, state_after_events, without_clock}
 use Rattle.dgt_lines.proofs.DoubtLemmas.{always_hidden}
 use Rattle.dgt_lines.proofs.PictureLemmas.{last_or-append}
 use Rattle.dgt_lines.proofs.ReportLemmas.{of_clock, of_raised, reports-append}
@@ -96,9 +96,9 @@ all_silent before (x ∷ xs) h =
 pub hidden_clock_is_silent : HiddenClockIsSilent
 hidden_clock_is_silent doubt placed = all_silent (new_state doubt) placed refl
 
--- ---- the clock of a host
+-- ---- the clock that is known
 
--- what is shown of a host's clock
+-- what is shown of it
 abbrev shown_of : Option ClockState → ShownClock
 shown_of None = Unknown
 shown_of (Some clock) = Known (clock_text clock)
@@ -107,17 +107,17 @@ shows_other : (text : List ℕ) (clock : Option ClockState) → shown_after text
 shows_other text None = refl
 shows_other text (Some clock) = refl
 
-one_shown : (event : Event) (before : PictureState) (host : HostView) → before.clock ≡ shown_of host.clock
-    → (state_after_event before event).clock ≡ shown_of (host_after_event host event).clock
-one_shown (Message (times readings)) before host h = ap (shown_after _) h ∙ shows_other _ host.clock
-one_shown (Message (no_clock absence)) before host h = ap (shown_after _) h ∙ shows_other _ host.clock
-one_shown _ before host h = h
+one_shown : (event : Event) (before : PictureState) (clock : Option ClockState) → before.clock ≡ shown_of clock
+    → (state_after_event before event).clock ≡ shown_of (clock_after_event clock event)
+one_shown (Message (times readings)) before clock h = ap (shown_after _) h ∙ shows_other _ clock
+one_shown (Message (no_clock absence)) before clock h = ap (shown_after _) h ∙ shows_other _ clock
+one_shown _ before clock h = h
 
-all_shown : (xs : List Placed) (before : PictureState) (host : HostView) → before.clock ≡ shown_of host.clock
-    → (state_after_events before xs).clock ≡ shown_of (host_after_events host xs).clock
-all_shown [] before host h = h
-all_shown (x ∷ xs) before host h =
-    all_shown xs (state_after_event before x.event) (host_after_event host x.event) (one_shown x.event before host h)
+all_shown : (xs : List Placed) (before : PictureState) (clock : Option ClockState) → before.clock ≡ shown_of clock
+    → (state_after_events before xs).clock ≡ shown_of (clock_after_events clock xs)
+all_shown [] before clock h = h
+all_shown (x ∷ xs) before clock h =
+    all_shown xs (state_after_event before x.event) (clock_after_event clock x.event) (one_shown x.event before clock h)
 
 -- ---- the last line of the clock
 
@@ -132,33 +132,34 @@ news_last : (place : ℕ) (text : List ℕ) (clock : Option ClockState)
 news_last place text None = refl
 news_last place text (Some clock) = last_text place text (clock_text clock) (bytes_eq (clock_text clock) text) refl
 
-one_last : (place : ℕ) (event : Event) (before : PictureState) (host : HostView) → before.clock ≡ shown_of host.clock
-    → last_or (option_map clock_text host.clock) (clocks_shown (reports_at place event before))
-    ≡ option_map clock_text (host_after_event host event).clock
-one_last place (Message (field square piece)) before host h =
+one_last : (place : ℕ) (event : Event) (before : PictureState) (clock : Option ClockState)
+    → before.clock ≡ shown_of clock
+    → last_or (option_map clock_text clock) (clocks_shown (reports_at place event before))
+    ≡ option_map clock_text (clock_after_event clock event)
+one_last place (Message (field square piece)) before clock h =
     ap (last_or _) (shows_no_clock (known_at place (picture_after before.picture (field square piece))))
-one_last place (Message (times readings)) before host h = rw h (news_last place _ host.clock)
-one_last place (Message (no_clock absence)) before host h = rw h (news_last place _ host.clock)
-one_last place (Message _) before host h = refl
-one_last place _ before host h =
-    let last = option_map clock_text host.clock in
+one_last place (Message (times readings)) before clock h = rw h (news_last place _ clock)
+one_last place (Message (no_clock absence)) before clock h = rw h (news_last place _ clock)
+one_last place (Message _) before clock h = refl
+one_last place _ before clock h =
+    let last = option_map clock_text clock in
     of_raised (λ l. last_or last (clocks_shown l) ≡ last) place before.picture before.doubt refl refl
 
-all_last : (xs : List Placed) (before : PictureState) (host : HostView) → before.clock ≡ shown_of host.clock
-    → last_or (option_map clock_text host.clock) (clocks_shown (reports before xs))
-    ≡ option_map clock_text (host_after_events host xs).clock
-all_last [] before host h = refl
-all_last (x ∷ xs) before host h =
+all_last : (xs : List Placed) (before : PictureState) (clock : Option ClockState) → before.clock ≡ shown_of clock
+    → last_or (option_map clock_text clock) (clocks_shown (reports before xs))
+    ≡ option_map clock_text (clock_after_events clock xs)
+all_last [] before clock h = refl
+all_last (x ∷ xs) before clock h =
     let after = state_after_event before x.event in
-    let heard = host_after_event host x.event in
+    let heard = clock_after_event clock x.event in
     let first = reports_at x.place x.event before in
-    ap (last_or (option_map clock_text host.clock)) (clocks-append first (reports after xs))
-    ∙ last_or-append (option_map clock_text host.clock) (clocks_shown first) (clocks_shown (reports after xs))
-    ∙ ap (λ o. last_or o (clocks_shown (reports after xs))) (one_last x.place x.event before host h)
-    ∙ all_last xs after heard (one_shown x.event before host h)
+    ap (last_or (option_map clock_text clock)) (clocks-append first (reports after xs))
+    ∙ last_or-append (option_map clock_text clock) (clocks_shown first) (clocks_shown (reports after xs))
+    ∙ ap (λ o. last_or o (clocks_shown (reports after xs))) (one_last x.place x.event before clock h)
+    ∙ all_last xs after heard (one_shown x.event before clock h)
 
-pub last_clock_is_the_hosts : LastClockIsTheHosts
-last_clock_is_the_hosts doubt bytes = all_last (events bytes) (new_state_with_clock doubt) new_host refl
+pub last_line_is_clock : LastLineIsClock
+last_line_is_clock doubt bytes = all_last (events bytes) (new_state_with_clock doubt) None refl
 
 -- ---- what is reported of one event more
 
@@ -167,8 +168,8 @@ abbrev now : Doubt → List Placed → PictureState
 now doubt earlier = state_after_events (new_state_with_clock doubt) earlier
 
 now_shown : (doubt : Doubt) (earlier : List Placed)
-    → (now doubt earlier).clock ≡ shown_of (host_after_events new_host earlier).clock
-now_shown doubt earlier = all_shown earlier (new_state_with_clock doubt) new_host refl
+    → (now doubt earlier).clock ≡ shown_of (clock_after_events None earlier)
+now_shown doubt earlier = all_shown earlier (new_state_with_clock doubt) None refl
 
 one_more : (doubt : Doubt) (earlier : List Placed) (x : Placed) (reported : List Report)
     → reports_at x.place x.event (now doubt earlier) ≡ reported
@@ -184,7 +185,7 @@ says place (ClockState.no_clock absence) before = refl
 
 clock_at : (doubt : Doubt) (earlier : List Placed) (x : Placed) (clock : ClockState) → SaysClock x clock
     → reports_at x.place x.event (now doubt earlier) ≡ clock_reports x.place (clock_text clock)
-    (shown_of (host_after_events new_host earlier).clock)
+    (shown_of (clock_after_events None earlier))
 clock_at doubt earlier x clock s =
     ap (λ e. reports_at x.place e (now doubt earlier)) s
     ∙ says x.place clock (now doubt earlier)
@@ -217,11 +218,11 @@ other_clocks_are_reported = record {
   other = λ doubt earlier x clock s n.
       one_more doubt earlier x _
       (clock_at doubt earlier x clock s
-      ∙ other_news x.place (clock_text clock) (host_after_events new_host earlier).clock n);
+      ∙ other_news x.place (clock_text clock) (clock_after_events None earlier) n);
   same = λ doubt earlier x clock s h.
       one_more doubt earlier x _
       (clock_at doubt earlier x clock s
-      ∙ same_news x.place (clock_text clock) (host_after_events new_host earlier).clock h)
+      ∙ same_news x.place (clock_text clock) (clock_after_events None earlier) h)
       ∙ append-nil _;
   silent = λ doubt earlier x n.
       ap clocks_shown (one_more doubt earlier x _ refl)

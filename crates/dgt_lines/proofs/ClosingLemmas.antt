@@ -1,23 +1,24 @@
 -- Closing lines in parts.
-use Rattle.std.proofs.Common.{◌≡◌, ℕ, List, [], ◌++◌, Bool, ◌∙◌, ap, append_assoc, codes, sym}
+use Rattle.std.proofs.Common.{◌≡◌, ℕ, List, [], ◌++◌, Bool, Option, ◌∙◌, ap, append_assoc, codes, sym}
 use Rattle.dgt_values.specs.declared.pieces.Piece.{Piece}
 use Rattle.dgt_values.specs.Placement.{placement_text}
-use Rattle.dgt_host.specs.Host.{HostView}
+use Rattle.dgt_message.specs.Clock.{ClockState}
 use Rattle.dgt_lines.specs.Closing.{clock_text, closing_text, named_line, picture_text, quiet_text}
 
 -- the four lines, one after another
-pub closing_text-parts : (squares : List Piece) (host : HostView) (quiet : Bool)
+pub closing_text-parts : (squares : List Piece) (picture : Option (List Piece)) (clock : Option ClockState)
+    (quiet : Bool)
     (empty one three all : List ℕ) → empty ≡ []
     → one ≡ empty ++ named_line (codes "board") (placement_text squares)
-    → three ≡ one ++ (named_line (codes "host") (picture_text host.picture)
-    ++ named_line (codes "hostclock") (clock_text host.clock))
+    → three ≡ one ++ (named_line (codes "host") (picture_text picture)
+    ++ named_line (codes "hostclock") (clock_text clock))
     → all ≡ three ++ named_line (codes "quiet") (quiet_text quiet)
-    → all ≡ closing_text squares host quiet
+    → all ≡ closing_text squares picture clock quiet
 unfolding closing_text
-closing_text-parts squares host quiet empty one three all e b h q =
+closing_text-parts squares picture clock quiet empty one three all e b h q =
     let first = named_line (codes "board") (placement_text squares) in
-    let second = named_line (codes "host") (picture_text host.picture) in
-    let third = named_line (codes "hostclock") (clock_text host.clock) in
+    let second = named_line (codes "host") (picture_text picture) in
+    let third = named_line (codes "hostclock") (clock_text clock) in
     let fourth = named_line (codes "quiet") (quiet_text quiet) in
     q ∙ ap (λ l. l ++ fourth)
     (h ∙ ap (λ l. l ++ (second ++ third)) (b ∙ ap (λ l. l ++ first) e) ∙ sym (append_assoc first second third))

@@ -39,7 +39,7 @@ module _ {held bytes text : List ℕ} (h : Prints 0 bytes held text) where
       ) in
       rw (e, ← same)
       (texts_append 0 bytes (take n chunk) held [] text _ h (word_is_printed none place
-          (held ++ take n chunk) event word))
+      (held ++ take n chunk) event word))
 
   -- they complete none
   pub listed_part : (more held' : List ℕ) → held' ≡ held ++ more → IsPartial held'

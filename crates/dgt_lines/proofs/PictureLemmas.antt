@@ -8,9 +8,8 @@ use Rattle.dgt_values.specs.declared.pieces.Piece.{Piece}
 use Rattle.dgt_message.specs.Content.Content.{dump, field}
 use Rattle.dgt_decode.specs.Grammar.{Event, Message, Placed, events, unfinished_message}
 use Rattle.dgt_decode.specs.Laws.{ChunksAdd}
-use Rattle.dgt_host.specs.Host.{HostView, host_after_event, host_after_events, new_host}
 use Rattle.dgt_lines.specs.Lines.{events_after}
-use Rattle.dgt_lines.specs.Pictures.{LastLineIsPicture, PictureIsTheHosts, PlacedPicture, made_by, picture_after_event, picture_after_events, picture_line, picture_lines, picture_set, picture_reported, pictures, pictures_text}
+use Rattle.dgt_lines.specs.Pictures.{LastLineIsPicture, PlacedPicture, made_by, picture_after_event, picture_after_events, picture_line, picture_lines, picture_set, picture_reported, pictures, pictures_text}
 
 -- what more events make
 pub made_by-append : {S A : Type 0} (after : S → Event → S) (made : ℕ → Event → S → List A) (before : S)
@@ -74,20 +73,3 @@ pictures_last before (x ∷ xs) =
 
 pub last_line_is_picture : LastLineIsPicture
 last_line_is_picture bytes = pictures_last None (events bytes)
-
--- ---- a host
-
-host_picture_one : (host : HostView) (event : Event)
-    → (host_after_event host event).picture ≡ picture_after_event host.picture event
-host_picture_one host (Message said) = refl
-host_picture_one host _ = refl
-
-host_picture : (host : HostView) (xs : List Placed)
-    → (host_after_events host xs).picture ≡ picture_after_events host.picture xs
-host_picture host [] = refl
-host_picture host (x ∷ xs) =
-    host_picture (host_after_event host x.event) xs
-    ∙ ap (λ p. picture_after_events p xs) (host_picture_one host x.event)
-
-pub picture_is_the_hosts : PictureIsTheHosts
-picture_is_the_hosts bytes = host_picture new_host (events bytes)

@@ -4,7 +4,6 @@ use Rattle.dgt_values.specs.declared.pieces.Piece.{Piece}
 use Rattle.dgt_values.specs.Placement.{placement_text}
 use Rattle.dgt_message.specs.Clock.{ClockState}
 use Rattle.dgt_message.specs.Content.{clock_message}
-use Rattle.dgt_host.specs.Host.{HostView}
 use Rattle.dgt_lines.specs.Lines.{message_text, words_text}
 
 -- a name, a space, a text and a line feed
@@ -26,9 +25,9 @@ quiet_text true = codes "yes"
 quiet_text false = codes "no"
 
 -- the board's position, the host's picture and clock, and whether all is quiet
-unfoldable pub closing_text : List Piece → HostView → Bool → List ℕ
-closing_text squares host quiet =
+unfoldable pub closing_text : List Piece → Option (List Piece) → Option ClockState → Bool → List ℕ
+closing_text squares picture clock quiet =
     named_line (codes "board") (placement_text squares)
-    ++ named_line (codes "host") (picture_text host.picture)
-    ++ named_line (codes "hostclock") (clock_text host.clock)
+    ++ named_line (codes "host") (picture_text picture)
+    ++ named_line (codes "hostclock") (clock_text clock)
     ++ named_line (codes "quiet") (quiet_text quiet)

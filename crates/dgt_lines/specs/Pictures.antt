@@ -6,7 +6,7 @@ use Rattle.dgt_values.specs.declared.pieces.Piece.{Piece}
 use Rattle.dgt_values.specs.Placement.{placement_text}
 use Rattle.dgt_message.specs.Content.Content.{dump, field}
 use Rattle.dgt_decode.specs.Grammar.{Event, Message, Placed, events}
-use Rattle.dgt_host.specs.Host.{host_after, new_host, picture_after}
+use Rattle.dgt_message.specs.Picture.{picture_after}
 use Rattle.dgt_lines.specs.Lines.{line}
 
 -- ---- The picture
@@ -78,7 +78,3 @@ abbrev pub LastLineIsPicture : Type 0
 LastLineIsPicture =
     (bytes : List ℕ) → last_or None (map (λ x. x.pieces) (pictures None (events bytes)))
     ≡ picture_reported bytes
-
--- the picture is that of a host that hears the same bytes
-abbrev pub PictureIsTheHosts : Type 0
-PictureIsTheHosts = (bytes : List ℕ) → (host_after new_host bytes).picture ≡ picture_reported bytes

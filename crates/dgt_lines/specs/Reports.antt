@@ -8,7 +8,7 @@ use Rattle.dgt_message.specs.Clock.{ClockState}
 use Rattle.dgt_message.specs.Content.{Content, clock_message}
 use Rattle.dgt_message.specs.Content.Content.{dump, times, no_clock}
 use Rattle.dgt_decode.specs.Grammar.{Event, Message, Placed, at_place, events}
-use Rattle.dgt_host.specs.Host.{host_after, host_after_events, new_host, picture_after}
+use Rattle.dgt_message.specs.Picture.{clock_after, picture_after}
 use Rattle.dgt_lines.specs.declared.clocks.ShownClock.{ShownClock}
 use Rattle.dgt_lines.specs.declared.clocks.ShownClock.TheVariants.{Hidden, Unknown, Known}
 use Rattle.dgt_lines.specs.declared.doubts.Doubt.{Doubt}
@@ -239,17 +239,25 @@ abbrev pub HiddenClockIsSilent : Type 0
 HiddenClockIsSilent =
     (doubt : Doubt) (placed : List Placed) → clocks_shown (reports (new_state doubt) placed) ≡ []
 
--- the text of the clock of a host that heard these events, if the host knows its clock
-abbrev pub hosts_clock_text : List Placed → Option (List ℕ)
-hosts_clock_text placed = option_map clock_text (host_after_events new_host placed).clock
+-- the clock after an event: only a message changes it
+abbrev pub clock_after_event : Option ClockState → Event → Option ClockState
+clock_after_event clock (Message said) = clock_after clock said
+clock_after_event clock _ = clock
 
--- The last line of the clock has the text of the clock of a host that hears the same bytes. If the
--- host does not know its clock, there is no such line.
-abbrev pub LastClockIsTheHosts : Type 0
-LastClockIsTheHosts =
+abbrev pub clock_after_events : Option ClockState → List Placed → Option ClockState
+clock_after_events clock placed = fold (λ before x. clock_after_event before x.event) clock placed
+
+-- the text of the clock that these events report, if one is known then and none was before
+abbrev pub last_clock_text : List Placed → Option (List ℕ)
+last_clock_text placed = option_map clock_text (clock_after_events None placed)
+
+-- The last line of the clock has the text of the clock after all messages that were read. If that
+-- is unknown there is no such line.
+abbrev pub LastLineIsClock : Type 0
+LastLineIsClock =
     (doubt : Doubt) (bytes : List ℕ) → last_or None
     (clocks_shown (reports (new_state_with_clock doubt) (events bytes)))
-    ≡ option_map clock_text (host_after new_host bytes).clock
+    ≡ last_clock_text (events bytes)
 
 -- what is reported of events, if nothing was known before and the clock is shown
 abbrev pub clocking : Doubt → List Placed → List Report
@@ -263,11 +271,11 @@ SaysClock x clock = x.event ≡ Message (clock_message clock)
 -- there was none, and no other is. What is no message of the clock has no line of it.
 pub record OtherClocksAreReported : Type 0 where
   pub other : (doubt : Doubt) (earlier : List Placed) (x : Placed) (clock : ClockState)
-      → SaysClock x clock → hosts_clock_text earlier ≢ Some (clock_text clock)
+      → SaysClock x clock → last_clock_text earlier ≢ Some (clock_text clock)
       → clocking doubt (earlier ++ x ∷ [])
       ≡ clocking doubt earlier ++ ShowsClock x.place (clock_text clock) ∷ []
   pub same : (doubt : Doubt) (earlier : List Placed) (x : Placed) (clock : ClockState)
-      → SaysClock x clock → hosts_clock_text earlier ≡ Some (clock_text clock)
+      → SaysClock x clock → last_clock_text earlier ≡ Some (clock_text clock)
       → clocking doubt (earlier ++ x ∷ []) ≡ clocking doubt earlier
   pub silent : (doubt : Doubt) (earlier : List Placed) (x : Placed)
       → ((clock : ClockState) → SaysClock x clock → ⊥)

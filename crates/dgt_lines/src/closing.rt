@@ -1,8 +1,9 @@
 //! What is written of a board and a host at the end.
 
-ghost use Rattle.std.specs.Prelude.{◌≡◌, ◌+◌, ◌≤◌, ◌++◌, codes, length};
+ghost use Rattle.std.specs.Prelude.{◌≡◌, ◌+◌, ◌≤◌, ◌++◌, codes, length, option_map};
 ghost use Rattle.dgt_values.specs.Board.{pieces_of};
 ghost use Rattle.dgt_values.specs.Placement.{placement_text};
+ghost use Rattle.dgt_message.specs.Content.{clock_seen};
 ghost use Rattle.dgt_lines.specs.Closing.{clock_text, closing_text, named_line, picture_text, quiet_text};
 ghost use Rattle.dgt_lines.specs.Writing.{Writes};
 
@@ -10,7 +11,7 @@ use crate::faults::RunFault;
 use crate::gathering::Outgoing;
 use crate::streams::Sink;
 use crate::wording::push_clock;
-use dgt_host::Host;
+use dgt_message::Clock;
 use dgt_values::Position;
 
 // Room for the closing lines.
@@ -35,19 +36,21 @@ fn push_board(text: &mut Outgoing<CLOSING_ROOM>, board: &Position)
     text.push(b"\n");
 }
 
-fn push_host(text: &mut Outgoing<CLOSING_ROOM>, host: &Host)
+fn push_host(text: &mut Outgoing<CLOSING_ROOM>, picture: Option<&Position>, clock: Option<&Clock>)
     requires { length text.old + 200 ≤ CLOSING_ROOM }
-    ensures text { text.new ≡ text.old ++ (named_line (codes "host") (picture_text host.now.picture)
-        ++ named_line (codes "hostclock") (clock_text host.now.clock)) }
+    ensures text { text.new ≡ text.old ++ (named_line (codes "host")
+        (picture_text (option_map (λ position. pieces_of position.now) picture))
+        ++ named_line (codes "hostclock")
+        (clock_text (option_map (λ clock. clock_seen clock.now) clock))) }
     ensures room { length text.new ≤ length text.old + 200 }
 {
     text.push(b"host ");
-    match host.picture() {
+    match picture {
         Some(position) => push_placement(text, position),
         None => text.push(b"unknown"),
     }
     text.push(b"\nhostclock ");
-    match host.clock() {
+    match clock {
         Some(clock) => push_clock(text, *clock),
         None => text.push(b"unknown"),
     }
@@ -61,20 +64,24 @@ fn push_quiet(text: &mut Outgoing<CLOSING_ROOM>, quiet: bool)
     text.push(if quiet { b"quiet yes\n" } else { b"quiet no\n" });
 }
 
-/// Writes four closing lines, without a flush: a board's position, a host's picture, the host's
-/// clock, and whether all is quiet. Returns `WriteFailed` if the writer refuses.
+/// Writes four closing lines, without a flush: a board's position, a host's picture and clock, each
+/// `unknown` if there is none, and whether all is quiet. Returns `WriteFailed` if the writer
+/// refuses.
 pub fn write_closing<W: Sink>(
     board: &Position,
-    host: &Host,
+    picture: Option<&Position>,
+    clock: Option<&Clock>,
     quiet: bool,
     writer: &mut W,
 ) -> Result<(), RunFault>
     ensures { Writes W.Sink writer.old writer.new result
-        (closing_text (pieces_of board.now) host.now quiet) }
+        (closing_text (pieces_of board.now)
+        (option_map (λ position. pieces_of position.now) picture)
+        (option_map (λ clock. clock_seen clock.now) clock) quiet) }
 {
     let mut text = Outgoing::<CLOSING_ROOM>::new();
     push_board(&mut text, board);
-    push_host(&mut text, host);
+    push_host(&mut text, picture, clock);
     push_quiet(&mut text, quiet);
     text.write_out(writer)
 }

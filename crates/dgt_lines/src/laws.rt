@@ -6,8 +6,8 @@ ghost use Rattle.dgt_values.specs.Equality.{CloneIsSame, EqualIsSame};
 ghost use Rattle.dgt_decode.specs.Grammar.{unfinished_message};
 ghost use Rattle.dgt_lines.specs.CommandLaws.{EachCharacterIsShown, EachIsPrinted, EachIsPrintedOnce, OthersAreQuestionMarks, TextsAppend};
 ghost use Rattle.dgt_lines.specs.Lines.{events_after, lines, lines_after};
-ghost use Rattle.dgt_lines.specs.Pictures.{LastLineIsPicture, PictureIsTheHosts, picture_after_events, picture_lines, picture_reported, pictures_text};
-ghost use Rattle.dgt_lines.specs.Reports.{ClockLeavesReports, DoubtsKeepThePicture, DoubtsLeavePictures, FirstFaultsAreReported, HiddenClockIsSilent, IgnoredFaultsAreSilent, LastClockIsTheHosts, OtherClocksAreReported, report_lines, state_after_events, state_from, text_from};
+ghost use Rattle.dgt_lines.specs.Pictures.{LastLineIsPicture, picture_after_events, picture_lines, picture_reported, pictures_text};
+ghost use Rattle.dgt_lines.specs.Reports.{ClockLeavesReports, DoubtsKeepThePicture, DoubtsLeavePictures, FirstFaultsAreReported, HiddenClockIsSilent, IgnoredFaultsAreSilent, LastLineIsClock, OtherClocksAreReported, report_lines, state_after_events, state_from, text_from};
 ghost use Rattle.dgt_lines.specs.Writing.{InARow};
 ghost use Rattle.dgt_lines.specs.declared.doubts.PictureState.{PictureState};
 
@@ -126,19 +126,13 @@ pub fn clock_leaves_reports()
     ensures silent { HiddenClockIsSilent }
 {}
 
-/// The last line of the clock has the text of the clock of a host that hears the same bytes, and
-/// there is none if the host does not know it.
-pub fn last_clock_is_the_hosts()
-    ensures { LastClockIsTheHosts }
+/// The last line of the clock has the text of the clock after all messages. If that is unknown
+/// there is no such line.
+pub fn last_line_is_clock()
+    ensures { LastLineIsClock }
 {}
 
 /// A message of the clock is reported if its text is another one than before, and no other is.
 pub fn other_clocks_are_reported()
     ensures { OtherClocksAreReported }
-{}
-
-/// The picture that lines show is that of a host that hears the same bytes, also if this is
-/// unknown.
-pub fn picture_is_the_hosts()
-    ensures { PictureIsTheHosts }
 {}

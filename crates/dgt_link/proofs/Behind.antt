@@ -14,7 +14,8 @@ use Rattle.dgt_board.specs.State.{BoardState, after_change, after_hand_clock}
 use Rattle.dgt_board.specs.Sending.{after_sending, next_message}
 use Rattle.dgt_decode.specs.Grammar.{Event, Message, Placed, cut_of, events, events_behind, unfinished_message}
 use Rattle.dgt_decode.specs.Laws.{BeginsAnew}
-use Rattle.dgt_host.specs.Host.{HostView, awaited_after, clock_after, host_after, host_after_event, host_after_events, host_after_message, picture_after}
+use Rattle.dgt_message.specs.Picture.{clock_after, picture_after}
+use Rattle.dgt_host.specs.Host.{HostView, awaited_after, host_after, host_after_event, host_after_events, host_after_message}
 use Rattle.dgt_link.specs.Faults.{is_break}
 use Rattle.dgt_link.specs.Act.{ActContent}
 use Rattle.dgt_link.specs.declared.acts.Outcome.{Outcome}

@@ -10,7 +10,7 @@ use Rattle.dgt_command.specs.Content.{CommandContent, EventContent}
 use Rattle.dgt_board.specs.declared.replies.Reply.{Reply}
 use Rattle.dgt_board.specs.State.{BoardState, effect, follows_clock, updates}
 use Rattle.dgt_board.specs.Sending.{differs, field_of, reply_message, reported_clock_after}
-use Rattle.dgt_host.specs.Host.{clock_after, clock_after_all}
+use Rattle.dgt_message.specs.Picture.{clock_after, clock_after_all}
 use Rattle.dgt_link.specs.Act.{ActContent}
 use Rattle.dgt_link.specs.declared.acts.Outcome.{Outcome}
 use Rattle.dgt_link.specs.Clocks.{ClockIsComing, IsClockPromised}

@@ -14,7 +14,7 @@ use Rattle.dgt_board.specs.declared.modes.Mode.{Mode}
 use Rattle.dgt_board.specs.declared.replies.Reply.{Reply}
 use Rattle.dgt_board.specs.State.{BoardState, updates, command_mode, effect, replies_to, effects}
 use Rattle.dgt_board.specs.Sending.{differs, field_of, reply_message}
-use Rattle.dgt_host.specs.Host.{picture_after, picture_after_all}
+use Rattle.dgt_message.specs.Picture.{picture_after, picture_after_all}
 use Rattle.dgt_command.specs.Words.{IsNoiseList}
 use Rattle.dgt_link.specs.Machine.{IsHostBreak, Move, MachineState, commands_anew, after_move, after_reported, after_take, after_reply, after_hear}
 use Rattle.dgt_link.specs.Sound.{coming_picture}

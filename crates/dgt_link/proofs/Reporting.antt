@@ -13,7 +13,7 @@ use Rattle.dgt_board.specs.declared.modes.Mode.{Mode}
 use Rattle.dgt_board.specs.declared.replies.Reply.{Reply}
 use Rattle.dgt_board.specs.State.{BoardState, is_reported, owed_when_handed, follows_clock}
 use Rattle.dgt_board.specs.Sending.{field_of, reply_message, reported_squares_after, reported_clock_after, times_owed_after}
-use Rattle.dgt_host.specs.Host.{clock_after, clock_after_all, picture_after, picture_after_all}
+use Rattle.dgt_message.specs.Picture.{clock_after, clock_after_all, picture_after, picture_after_all}
 use Rattle.dgt_link.specs.Sound.{IsUnknownOr, kind_of_reply}
 
 pub picture_after_all-append : (picture : Option (List Piece)) (up : List Content) (message : Content)

@@ -10,7 +10,7 @@ use Rattle.dgt_command.specs.Content.{EventContent}
 use Rattle.dgt_board.specs.declared.replies.Reply.{Reply}
 use Rattle.dgt_board.specs.State.{updates}
 use Rattle.dgt_board.specs.Sending.{differs, field_of, reply_message}
-use Rattle.dgt_host.specs.Host.{picture_after, picture_after_all}
+use Rattle.dgt_message.specs.Picture.{picture_after, picture_after_all}
 use Rattle.dgt_link.specs.Act.{ActContent}
 use Rattle.dgt_link.specs.declared.acts.Outcome.{Outcome}
 use Rattle.dgt_link.specs.Faults.{is_break}

@@ -7,7 +7,8 @@ use Rattle.dgt_command.specs.Laws.{EachDividesOnce}
 use Rattle.dgt_board.specs.State.{follows_clock, updates}
 use Rattle.dgt_board.specs.Sending.{pending_messages}
 use Rattle.dgt_decode.specs.Grammar.{Event}
-use Rattle.dgt_host.specs.Host.{IsUnasked, picture_after_all}
+use Rattle.dgt_message.specs.Picture.{picture_after_all}
+use Rattle.dgt_host.specs.Host.{IsUnasked}
 use Rattle.dgt_link.specs.Machine.{MachineState}
 use Rattle.dgt_link.specs.Promise.{IsPromised, IsQuiet}
 use Rattle.dgt_link.specs.Sound.{IsExact, IsUnknownOr}

@@ -11,7 +11,8 @@ use Rattle.dgt_command.specs.Words.{IsNoiseList}
 use Rattle.dgt_board.specs.declared.replies.Reply.{Reply as OwedReply}
 use Rattle.dgt_board.specs.State.{IdentityContent, BoardState, new_board, after_change, after_hand_clock, after_line_lost, updates, effect}
 use Rattle.dgt_board.specs.Sending.{after_reporting, differs, field_of, reply_message}
-use Rattle.dgt_host.specs.Host.{awaited_after, clock_after, picture_after}
+use Rattle.dgt_message.specs.Picture.{clock_after, picture_after}
+use Rattle.dgt_host.specs.Host.{awaited_after}
 
 pub record MachineState : Type 0 where
   pub board : BoardState

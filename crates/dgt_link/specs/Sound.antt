@@ -8,7 +8,7 @@ use Rattle.dgt_message.specs.Content.{answered_kind}
 use Rattle.dgt_command.specs.Content.{EventContent, requested_kind}
 use Rattle.dgt_board.specs.declared.replies.Reply.{Reply}
 use Rattle.dgt_board.specs.State.{follows_clock}
-use Rattle.dgt_host.specs.Host.{clock_after_all, picture_after_all}
+use Rattle.dgt_message.specs.Picture.{clock_after_all, picture_after_all}
 use Rattle.dgt_link.specs.Machine.{MachineState}
 
 -- ---- what comes to the host

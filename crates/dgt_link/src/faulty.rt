@@ -15,7 +15,7 @@ ghost use Rattle.dgt_link.specs.Clocks.{IsClockFollowing, IsClockPromisedWorld, 
 ghost use Rattle.dgt_link.specs.Faults.{FaultyContent, FaultyRuns, FaultyStep, IfRan, begins_anew, faulty_content, is_fault, loses_step, sends, stops};
 ghost use Rattle.dgt_link.specs.Healing.{IsClockHealing, IsFaultyWorld, IsFollowing, IsHealing, IsInStep, IsInStepBy, IsInTurn, IsPromisedWorld, IsRestedWorld, StandsBehind, counted_by};
 ghost use Rattle.dgt_link.specs.Machine.{MachineState};
-ghost use Rattle.dgt_host.specs.Host.{picture_after_all};
+ghost use Rattle.dgt_message.specs.Picture.{picture_after_all};
 ghost use Rattle.dgt_link.specs.Step.{Step, done_count};
 ghost use Rattle.dgt_link.specs.View.{IsQuietWorld};
 

@@ -9,7 +9,7 @@ ghost use Rattle.dgt_board.specs.State.{command_mode, follows_clock, updates};
 ghost use Rattle.dgt_board.specs.declared.modes.Mode.{Mode};
 ghost use Rattle.dgt_link.specs.Machine.{IsHostBreak, MachineState, Move};
 ghost use Rattle.dgt_link.specs.Reported.{IsReportedBy, WasReported};
-ghost use Rattle.dgt_host.specs.Host.{picture_after_all};
+ghost use Rattle.dgt_message.specs.Picture.{picture_after_all};
 ghost use Rattle.dgt_link.specs.Act.{ActContent};
 ghost use Rattle.dgt_link.specs.Sound.{IsSound};
 ghost use Rattle.dgt_link.specs.Stands.{IsWorld};

@@ -10,7 +10,7 @@ ghost use Rattle.dgt_command.specs.Content.{CommandContent};
 ghost use Rattle.dgt_board.specs.Sending.{backlog};
 ghost use Rattle.dgt_board.specs.State.{command_mode, follows_clock, updates};
 ghost use Rattle.dgt_board.specs.declared.modes.Mode.{Mode};
-ghost use Rattle.dgt_host.specs.Host.{picture_after_all};
+ghost use Rattle.dgt_message.specs.Picture.{picture_after_all};
 ghost use Rattle.dgt_link.specs.declared.line.LineMemory.{LineMemory};
 ghost use Rattle.dgt_link.specs.declared.world.NoWorld.{NoWorld};
 ghost use Rattle.dgt_link.specs.Act.{ActContent, act_content};

@@ -4,3 +4,4 @@ pub mod PlayLemmas
 pub mod ScriptRuns
 pub mod PlayOnce
 pub mod ClosingLemmas
+pub mod HostLemmas

@@ -6,7 +6,8 @@ use Rattle.dgt_link.specs.View.{WorldView}
 
 -- the board's position, the host's picture and clock, and whether the world is quiet
 abbrev pub closing_lines : WorldView → Bool → List ℕ
-closing_lines world quiet = closing_text world.board.state.squares world.host quiet
+closing_lines world quiet =
+    closing_text world.board.state.squares world.host.picture world.host.clock quiet
 
 -- If the host's picture is the board's position, the lines of board and host, which come first,
 -- have one and the same placement.

@@ -3,3 +3,4 @@ pub mod Conversation
 pub mod Serving
 pub mod Closing
 pub mod Simulating
+pub mod Hosts

@@ -5,12 +5,13 @@ ghost use Rattle.std.specs.Prelude.{◌≡◌, ℕ, List};
 ghost use Rattle.dgt_link.specs.View.{WorldView};
 ghost use Rattle.dgt_text.specs.Closing.{ClosingLinesAgree};
 ghost use Rattle.dgt_text.specs.Conversation.{EachPrefixGoesOn, EachIsAnswered, EachIsAnsweredOnce};
+ghost use Rattle.dgt_text.specs.Hosts.{LastClockIsTheHosts, PictureIsTheHosts};
 ghost use Rattle.dgt_script.specs.ScriptLines.{IsCut};
 ghost use Rattle.dgt_text.specs.Simulating.{Plays, faulty_rules, plain_rules};
 
 pub use dgt_lines::laws::{
-    clock_leaves_reports, doubts_leave_pictures, first_faults_are_reported,
-    last_clock_is_the_hosts, last_line_is_picture, other_clocks_are_reported,
+    clock_leaves_reports, doubts_leave_pictures, first_faults_are_reported, last_line_is_clock,
+    last_line_is_picture, other_clocks_are_reported,
 };
 pub use dgt_script::laws::lines_have_one_meaning;
 
@@ -48,3 +49,17 @@ pub fn scripts_have_one_play()
 pub fn closing_lines_agree()
     ensures { ClosingLinesAgree }
 {}
+
+/// The picture that lines show is that of a host that hears the same bytes, also if this is
+/// unknown.
+pub fn picture_is_the_hosts()
+    ensures { PictureIsTheHosts }
+{}
+
+/// The last line of the clock has the text of the clock of a host that hears the same bytes, and
+/// there is none if the host does not know it.
+pub fn last_clock_is_the_hosts()
+    ensures { LastClockIsTheHosts }
+{
+    last_line_is_clock();
+}

@@ -46,8 +46,14 @@ impl Stage for World {
     }
 
     fn end<W: Sink>(&self, writer: &mut W) -> Result<(), RunFault> {
-        let squares = self.board().position();
-        write_closing(squares, self.host(), self.quiet(), writer)
+        let host = self.host();
+        write_closing(
+            self.board().position(),
+            host.picture(),
+            host.clock(),
+            self.quiet(),
+            writer,
+        )
     }
 }
 
@@ -63,7 +69,13 @@ impl Stage for FaultyWorld {
     }
 
     fn end<W: Sink>(&self, writer: &mut W) -> Result<(), RunFault> {
-        let squares = self.board().position();
-        write_closing(squares, self.host(), self.quiet(), writer)
+        let host = self.host();
+        write_closing(
+            self.board().position(),
+            host.picture(),
+            host.clock(),
+            self.quiet(),
+            writer,
+        )
     }
 }

@@ -3,6 +3,6 @@ use Rattle.dgt_lines.proofs.closing.write_closing.Goals as goal
 
 pub returns : goal.returns
 returns g c =
-    let all = closing_text-parts _ c.args.host.now c.args.quiet _ _ _ _
+    let all = closing_text-parts _ _ _ c.args.quiet _ _ _ _
     c.new-text.ensures c.push_board.ensures.text c.push_host.ensures.text c.push_quiet.ensures in
     rw all at c.write_out.ensures.output
