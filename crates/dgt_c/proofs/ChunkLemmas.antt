@@ -142,7 +142,7 @@ module _ (later : EventsAppend) (held chunk : List ℕ) (old : List DgtEvent) (o
     | inr late ↦
         let from : used + (k - used) ≡ k = omega (arith, late) in
         let none = quiet_before later (unfinished_message (held ++ take used chunk)) (drop used chunk) n
-            (k - used) event
+        (k - used) event
         first (omega (arith, h, late)) in
         let same : events_up_to held chunk k ≡ events_up_to held chunk used =
         ap (events_up_to held chunk) (sym from) ∙ quiet later held chunk used (k - used) none in
@@ -347,12 +347,12 @@ module _ (K : Hearer) (later : EventsAppend) (x : K.S) (chunk : List ℕ) (old :
       let place = place_in_chunk part (K.held x) chunk used n has.read.within in
       let reported_then = subst (λ (s : K.S). K.Reports s (used + n) (Some event) reported) has.heard is_reported in
       let reported_there = subst (λ (k : ℕ). K.Reports (K.after x (take used chunk)) k (Some event) reported)
-          (sym place)
+      (sym place)
       reported_then in
       record {
         read = rw (said_here, body_here)
             (one_read later (K.held x) chunk old old_body used n count body_len now body event reported has.read on.1
-                on.2
+            on.2
             on.0 first_here);
         heard = heard_more in_chunks before after used n has.heard hears;
         reports = rw (made, take_more_set now count reported on.1)

@@ -1,7 +1,7 @@
 //! An event as C has it.
 
-ghost use Rattle.std.specs.Prelude.{◌≡◌, length, map};
-ghost use Rattle.dgt_values.specs.Bytes.{body_bytes, number};
+ghost use Rattle.std.specs.Prelude.{◌≡◌, length};
+ghost use Rattle.dgt_values.specs.Bytes.{body_bytes};
 ghost use Rattle.dgt_message.specs.Code.{known_number};
 ghost use Rattle.dgt_message.specs.Content.{content};
 ghost use Rattle.dgt_decode.specs.Feeding.{event_content_if_any};
@@ -15,15 +15,8 @@ use crate::header::{
     FAULT_BAD_SQUARE, FAULT_WRONG_SIZE, NOTHING,
 };
 use dgt_decode::Event;
-use dgt_message::{BodyFault, KnownCode, Message};
-use dgt_values::{Body, SevenBit};
-
-fn serial_numbers(serial: &[SevenBit; 5]) -> [u8; 5]
-    ensures { result ≡ map number serial.now }
-{
-    let [a, b, c, d, e] = serial;
-    [a.get(), b.get(), c.get(), d.get(), e.get()]
-}
+use dgt_message::{BodyFault, KnownCode, Message, serial_bytes};
+use dgt_values::Body;
 
 // Each struct is written where it lies for C: to copy one takes longer than to write it. What
 // reports an event is inlined, so that the event itself is not copied once more.
@@ -79,7 +72,7 @@ fn report_message(message: &Message<'_>, out: &mut DgtEvent)
         }
         Message::Serial(serial) => {
             out.kind = EVENT_SERIAL;
-            out.serial = serial_numbers(serial);
+            out.serial = serial_bytes(serial);
         }
         Message::Version { main, sub } => {
             out.kind = EVENT_VERSION;

@@ -75,7 +75,7 @@ pub(crate) fn send_word<S: Sender>(sender: &mut S, word: &[u8], out: &mut [u8]) 
 pub(crate) fn send_leds<S: Sender>(sender: &mut S, leds: &[u8], out: &mut [u8]) -> DgtSent
     ensures sends { length leds.now ≤ MAX_LED_BYTES →
         SendsReported
-            (record { kind = None; bytes = command_encoding (CommandContent.Leds leds.now) })
+        (record { kind = None; bytes = command_encoding (CommandContent.Leds leds.now) })
         (S.host sender.old) (S.host sender.new) out.old out.new result }
     ensures refused { MAX_LED_BYTES < length leds.now →
         RefusesCommand (S.host sender.old) (S.host sender.new) out.old out.new result }

@@ -67,7 +67,7 @@ pub extern "C" fn dgt_host_send_leds(host: &mut DgtHost, leds: &[u8], out: &mut 
     ensures place { host.new.at ≡ host.old.at }
     ensures sends { length leds.now ≤ MAX_LED_BYTES →
         SendsReported
-            (record { kind = None; bytes = command_encoding (CommandContent.Leds leds.now) })
+        (record { kind = None; bytes = command_encoding (CommandContent.Leds leds.now) })
         host.old.inside host.new.inside out.old out.new result }
     ensures refused { MAX_LED_BYTES < length leds.now →
         RefusesCommand host.old.inside host.new.inside out.old out.new result }
@@ -117,7 +117,7 @@ pub extern "C" fn dgt_follower_send_leds(
     ensures place { follower.new.at ≡ follower.old.at }
     ensures sends { length leds.now ≤ MAX_LED_BYTES →
         SendsReported
-            (record { kind = None; bytes = command_encoding (CommandContent.Leds leds.now) })
+        (record { kind = None; bytes = command_encoding (CommandContent.Leds leds.now) })
         follower.old.inside.host follower.new.inside.host out.old out.new result }
     ensures refused { MAX_LED_BYTES < length leds.now →
         RefusesCommand follower.old.inside.host follower.new.inside.host out.old out.new result }

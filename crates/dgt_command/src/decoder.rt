@@ -8,7 +8,7 @@ ghost use Rattle.dgt_command.specs.Framing.{rest_after};
 ghost use Rattle.dgt_command.specs.Words.{IsPartial, IsWord};
 
 use crate::command::CommandEvent;
-use crate::framer::WordFramer;
+use crate::framer::{MAX_WORD, WordFramer};
 use std::marker::Model;
 
 /// What [`CommandDecoder::feed`] did with a chunk.
@@ -75,11 +75,11 @@ impl CommandDecoder {
         CommandFed { used, event }
     }
 
-    /// How many bytes are held of a word that isn't finished: at most 256.
+    /// How many bytes are held of a word that isn't finished: fewer than [`MAX_WORD`].
     pub fn partial(&self) -> usize
         ensures length { result ≡ length self.now }
         ensures unfinished { IsPartial self.now }
-        ensures limit { result ≤ 256 }
+        ensures limit { result < MAX_WORD }
     {
         self.framer.partial()
     }

@@ -155,11 +155,11 @@ impl WordFramer {
         }
     }
 
-    /// How many bytes are kept of a word that isn't finished: at most 256.
+    /// How many bytes are kept of a word that isn't finished: fewer than [`MAX_WORD`].
     pub fn partial(&self) -> usize
         ensures length { result ≡ length (rest_of self.now) }
         ensures unfinished { IsPartial (rest_of self.now) }
-        ensures limit { result ≤ 256 }
+        ensures limit { result < MAX_WORD }
     {
         if self.is_whole { 0 } else { self.word.len() }
     }

@@ -13,7 +13,7 @@ ghost use Rattle.dgt_lines.specs.Wording.{text_with};
 use crate::clocks::time_text;
 use crate::gathering::Outgoing;
 use dgt_decode::{Event, Found};
-use dgt_message::{BodyFault, Clock, ClockAck, Message, NoClock, Reading, Times};
+use dgt_message::{BodyFault, Clock, ClockAck, Message, NoClock, Reading, Times, serial_bytes};
 use dgt_values::{Body, Piece, SevenBit, Square};
 
 /// Adds the text of an event up to the bytes that it carries, and answers these.
@@ -177,16 +177,8 @@ fn push_absence<const ROOM: usize>(text: &mut Outgoing<ROOM>, absence: NoClock)
     ensures len { length text.new ≡ length text.old + 23 }
 {
     text.push(b"noclock ");
-    text.push_hex(&absence_bytes(absence));
+    text.push_hex(&absence.raw_bytes());
     push_byte(text, absence.status().code().get());
-}
-
-fn absence_bytes(absence: NoClock) -> [u8; 6]
-    ensures bytes { result ≡ (absence_seen absence).raw }
-    ensures len { length result ≡ 6 }
-{
-    let [a, b, c, d, e, f] = absence.raw();
-    [a.get(), b.get(), c.get(), d.get(), e.get(), f.get()]
 }
 
 fn push_ack<const ROOM: usize>(text: &mut Outgoing<ROOM>, answer: ClockAck)
@@ -226,14 +218,6 @@ fn push_serial<const ROOM: usize>(text: &mut Outgoing<ROOM>, digits: &[SevenBit;
 {
     text.push(b"serial ");
     text.push_hex(&serial_bytes(digits));
-}
-
-fn serial_bytes(digits: &[SevenBit; 5]) -> [u8; 5]
-    ensures bytes { result ≡ map number digits.now }
-    ensures len { length result ≡ 5 }
-{
-    let [a, b, c, d, e] = digits;
-    [a.get(), b.get(), c.get(), d.get(), e.get()]
 }
 
 #[tactic(auto, unfolding(crate::specs::Lines::event_text))]

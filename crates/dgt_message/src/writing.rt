@@ -111,9 +111,11 @@ fn write_whole(code: u8, body: &[u8], out: &mut [u8]) -> Result<usize, NoRoom>
     Ok(need)
 }
 
-fn serial_bytes(serial: &[SevenBit; 5]) -> [u8; 5]
+/// The digits of a serial number, as bytes.
+pub fn serial_bytes(serial: &[SevenBit; 5]) -> [u8; 5]
     ensures bytes { result ≡ map number serial.now }
-    ensures len { length serial.now ≡ 5 }
+    ensures len { length result ≡ 5 }
+    ensures digits { length serial.now ≡ 5 }
     ensures seven_bit { AreSevenBit (map number serial.now) }
 {
     let [a, b, c, d, e] = serial;
@@ -160,16 +162,8 @@ fn absence_bytes(absence: NoClock) -> [u8; 7]
     ensures bytes { result ≡ (absence_seen absence).raw ++ (absence_seen absence).status ∷ [] }
     ensures in_range { IsAbsence (absence_seen absence) }
 {
-    let [a, b, c, d, e, f] = absence.raw();
-    [
-        a.get(),
-        b.get(),
-        c.get(),
-        d.get(),
-        e.get(),
-        f.get(),
-        absence.status().code().get(),
-    ]
+    let [a, b, c, d, e, f] = absence.raw_bytes();
+    [a, b, c, d, e, f, absence.status().code().get()]
 }
 
 fn ack_bytes(answer: ClockAck) -> [u8; 7]
