@@ -555,11 +555,14 @@ nothing_said (message ∷ messages) e = cc
 
 pub quiet_behind : EachDividesOnce → (garbage : List ℕ) (world : WorldView) (x : MachineState)
     → StandsBehind garbage world x → IsQuietWorld world → IsQuiet x
-quiet_behind once garbage world x stands (up, down, unread, partial, none) =
+quiet_behind once garbage world x stands quiet =
+    let up = nothing_said x.up
+    (right_empty garbage (flat_map encoding x.up) (sym (rw (quiet.unread, quiet.up) at stands.up))) in
     record {
-      up = nothing_said x.up (right_empty garbage (flat_map encoding x.up) (sym (rw (unread, up) at stands.up)));
-      down = (once.1 [] x.down [] [] [] (rw (partial, down) at stands.down) (refl, rw partial at stands.partial)).0;
-      pending = nothing_first (pending_messages x.board) (rw stands.board at none);
+      up = up;
+      down = (once.1 [] x.down [] [] [] (rw (quiet.partial, quiet.down) at stands.down)
+          (refl, rw quiet.partial at stands.partial)).0;
+      pending = nothing_first (pending_messages x.board) (rw stands.board at quiet.pending);
     }
 
 -- what the state knows the host knows

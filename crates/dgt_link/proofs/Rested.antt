@@ -88,13 +88,13 @@ module _ (reads : Reads) where
       } in
       let known = picture_has_come x stands.sound quiet promised.coming in
       let clean : garbage ≡ []
-      = known_has_no_garbage x.picture garbage (x.host_clock ≡ None) stands.unheard known in (
-        up,
-        down,
-        all ∙ rw (clean, silent) refl,
-        partial,
-        none,
-      )
+      = known_has_no_garbage x.picture garbage (x.host_clock ≡ None) stands.unheard known in record {
+        up = up;
+        down = down;
+        unread = all ∙ rw (clean, silent) refl;
+        partial = partial;
+        pending = none;
+      }
 
   pub promised_rests : EachDividesOnce → (world : WorldView) → IsPromisedWorld world → IsRestedWorld world
       → unfinished_message world.host.unread ≡ world.host.unread → IsQuietWorld world

@@ -47,11 +47,12 @@ nothing_first (message ∷ rest) h = cc
 -- a quiet world stands for a quiet state
 pub quiet_state : EachDividesOnce → (world : WorldView) (x : MachineState) → StandsFor world x → IsQuietWorld world
     → IsQuiet x
-quiet_state law world x stands (up, down, unread, partial, none) =
+quiet_state law world x stands quiet =
     record {
-      up = nothing_encoded x.up (rw (unread, up) at stands.up);
-      down = (law.1 [] x.down [] [] [] (rw (partial, down) at stands.down) (refl, rw partial at stands.partial)).0;
-      pending = nothing_first (pending_messages x.board) (rw stands.board at none);
+      up = nothing_encoded x.up (rw (quiet.unread, quiet.up) at stands.up);
+      down = (law.1 [] x.down [] [] [] (rw (quiet.partial, quiet.down) at stands.down)
+          (refl, rw quiet.partial at stands.partial)).0;
+      pending = nothing_first (pending_messages x.board) (rw stands.board at quiet.pending);
     }
 
 module _ (law : EachDividesOnce) (world : WorldView) (x : MachineState) (stands : StandsFor world x)

@@ -327,13 +327,13 @@ module _ (short : WordsAreShort) (within : NoWordBeginsAPart) (rises : BacklogRi
 
 pub rests : Reads → EachDividesOnce → (world : WorldView) → IsWorld world → IsRestedWorld world
     → unfinished_message world.host.unread ≡ world.host.unread → IsQuietWorld world
-rests reads law world is (up, down, none) unfinished_is = (
-  up,
-  down,
-  nothing_unread reads is.state.up world.host.unread (rw up at is.stands.up) unfinished_is,
-  nothing_partial law is.state.down world.board.partial is.stands.partial (rw down at is.stands.down),
-  none,
-)
+rests reads law world is (up, down, none) unfinished_is = record {
+  up = up;
+  down = down;
+  unread = nothing_unread reads is.state.up world.host.unread (rw up at is.stands.up) unfinished_is;
+  partial = nothing_partial law is.state.down world.board.partial is.stands.partial (rw down at is.stands.down);
+  pending = none;
+}
 
 pub not_owing : (result : Bool) (board : BoardState) → (IsTrue result ↔ IsSome (next_message board)) → result ≡ false
     → next_message board ≡ None

@@ -46,9 +46,10 @@ new_world position clock identity up down =
       down = line_holding [] down;
     }
 
--- both lines are empty, the host has no unread and the board no partial bytes, and the board has
--- nothing to send
-abbrev pub IsQuietWorld : WorldView → Type 0
-IsQuietWorld world =
-    (world.up.bytes ≡ []) × (world.down.bytes ≡ []) × (world.host.unread ≡ [])
-    × (world.board.partial ≡ []) × (next_message world.board.state ≡ None)
+-- nothing is on the lines or half read, and the board has nothing to send
+pub record IsQuietWorld (world : WorldView) : Type 0 where
+  pub up : world.up.bytes ≡ []
+  pub down : world.down.bytes ≡ []
+  pub unread : world.host.unread ≡ []
+  pub partial : world.board.partial ≡ []
+  pub pending : next_message world.board.state ≡ None
