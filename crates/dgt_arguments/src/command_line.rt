@@ -96,7 +96,7 @@ const VERSION: &str = "1.0.0";
 /// The placement in which a game begins.
 const START: &str = "rnbqkbnr/pppppppp/8/8/8/8/PPPPPPPP/RNBQKBNR";
 
-/// The bytes that a line holds where the command line doesn't say.
+/// The bytes that a line holds if the command line doesn't say.
 const LINE_BYTES: &str = "1024";
 
 fn position<'a>(alloc: Global) -> Arg<'a> {

@@ -32,7 +32,7 @@ fewer_pass less test h [] = omega arith
 fewer_pass less test h (x ∷ xs) =
     fewer_step x (less x) (test x) (filter less xs) (filter test xs) (h x) (fewer_pass less test h xs)
 
--- the same, where the first test also fails at the first place that passes the second
+-- the same, if the first test also fails at the first place that passes the second
 one_step : (x at : ℕ) (a b : Bool) (xs ys rest : List ℕ) → (b ≡ false → a ≡ false) → (x ≡ at → a ≡ false)
     → length xs ≤ length ys → (ys ≡ at ∷ rest → length xs < length ys) → cond b (x ∷ ys) ys ≡ at ∷ rest
     → length (cond a (x ∷ xs) xs) < length (cond b (x ∷ ys) ys)
@@ -62,7 +62,7 @@ at_most test (x ∷ xs) = go (test x) (at_most test xs)
 
 -- ---- what is left
 
--- the replies, the squares that differ where these are asked for, and the clock
+-- the replies, the squares that differ if these are asked for, and the clock
 abbrev pub left_by : Bool → BoardState → ℕ
 left_by asks board =
     length board.owed + length (cond asks (filter (differs board) every_square) []) + length (clock_news board)
@@ -98,7 +98,7 @@ when_fewer : (t : Bool) (xs ys : List ℕ) → length xs ≤ length ys → lengt
 when_fewer true xs ys h = h
 when_fewer false xs ys h = omega arith
 
--- no news where there was none
+-- no news if there was none
 news_fewer : (a b : Bool) (m n : Content) → (b ≡ false → a ≡ false)
     → length (cond a (m ∷ []) []) ≤ length (cond b (n ∷ []) [])
 news_fewer true true m n h = omega arith
@@ -169,7 +169,7 @@ field_reports board square k within h = go (k == square) refl
         let other : k ≢ square = λ f. false≢true (sym e ∙ eq-eqb k square f) in
         rw (get_or-set_other board.reported_squares square k piece Piece.Empty other) h
 
--- fewer squares are left where one of them is reported
+-- fewer squares are left if one of them is reported
 fewer_squares : (own asks : Bool) (less test : ℕ → Bool) (at : ℕ) (rest : List ℕ) → (own ≡ true → asks ≡ true)
     → ((k : ℕ) → test k ≡ false → less k ≡ false) → less at ≡ false → cond own (filter test every_square) [] ≡ at ∷ rest
     → length (cond asks (filter less every_square) []) < length (cond asks (filter test every_square) [])
@@ -276,7 +276,7 @@ field_is_next board square none first =
     rw (no_first board.owed none) (first_mapped (field_of board) (unreported_squares board)
         (clock_news board) square first)
 
--- with no square left either, the clock is, where it is owed
+-- with no square left either, the clock is, if it is owed
 pub times_are_next : (board : BoardState) → slice_get board.owed 0 ≡ None
     → slice_get (unreported_squares board) 0 ≡ None
     → board.times_owed ≡ true → next_message board ≡ Some (clock_message board.clock)

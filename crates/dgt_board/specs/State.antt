@@ -89,7 +89,7 @@ after_hand_clock board clock =
 
 -- ---- what it reads
 
--- the mode that a command sets, where it sets one
+-- the mode that a command sets, if it sets one
 abbrev pub command_mode : CommandContent → Option Mode
 command_mode CommandContent.Reset = Some Mode.Idle
 command_mode CommandContent.Update = Some Mode.Update
@@ -97,7 +97,7 @@ command_mode CommandContent.UpdateBoard = Some Mode.UpdateBoard
 command_mode CommandContent.UpdateNice = Some Mode.UpdateNice
 command_mode _ = None
 
--- The acknowledgement of a clock message: where the version is asked for it carries the clock's. A
+-- The acknowledgement of a clock message: if the version is asked for it carries the clock's. A
 -- board with no clock acknowledges nothing.
 abbrev pub acknowledgements : ClockState → IdentityContent → ClockContent → List Reply
 acknowledgements (ClockState.times readings) identity message =

@@ -37,7 +37,7 @@ pub enum Due {
     Times,
 }
 
-// Success, the id of the clock message, and the version of the clock where the id asks for it.
+// Success, the id of the clock message, and the version of the clock if the id asks for it.
 fn acknowledgement<'a>(id: u8, version: u8) -> Message<'a>
     ensures { content result
         ≡ Content.ack (record { ack = 0x10 ∷ id ∷ version ∷ 0x00 ∷ []; status = 0x00 }) }

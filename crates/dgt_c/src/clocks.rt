@@ -94,7 +94,7 @@ fn read_absence(clock: &DgtClock) -> Option<NoClock>
     NoClock::new(raw, status).ok()
 }
 
-/// The clock that C says, where it is one.
+/// The clock that C says, if it is one.
 pub(crate) fn read_clock(clock: &DgtClock) -> Option<Clock>
     ensures { MatchOption result ((shown : ClockState) → ¬ (SaysClock clock.now shown))
         (λ read. SaysClock clock.now (clock_seen read)) }

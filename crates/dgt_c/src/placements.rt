@@ -12,7 +12,7 @@ use crate::copying::put_placement;
 use crate::header::{DgtParsed, PLACEMENT_ROOM};
 use dgt_values::{BadPlacement, Position};
 
-/// Writes the placement of the pieces with these codes, and a zero. False where one of them is the
+/// Writes the placement of the pieces with these codes, and a zero. False if one of them is the
 /// code of none, and then the slice stays.
 #[unsafe(no_mangle)]
 pub extern "C" fn dgt_placement(pieces: &[u8; 64], text: &mut [u8; PLACEMENT_ROOM]) -> bool

@@ -17,7 +17,7 @@ use crate::header::{
 use dgt_board::{Board, Identity, MAX_KEPT_BODY};
 use dgt_values::{Body, SevenBit};
 
-// The body that C says, where it is one.
+// The body that C says, if it is one.
 fn read_body<'a>(said: &'a DgtBody) -> Option<Body<'a>>
     ensures { MatchOption result (¬ (IsBody said.now))
         (λ body. IsBody said.now × (body_bytes body ≡ body_in said.now)) }
@@ -28,7 +28,7 @@ fn read_body<'a>(said: &'a DgtBody) -> Option<Body<'a>>
     Body::new(&said.bytes[..said.len]).ok()
 }
 
-// The identity that C says, where it is one.
+// The identity that C says, if it is one.
 fn read_identity(said: &DgtIdentity) -> Option<Identity>
     ensures { MatchOption result (¬ (IsIdentity said.now))
         (λ identity. IsIdentity said.now × (identity ≡ identity_in said.now)) }

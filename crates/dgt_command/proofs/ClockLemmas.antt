@@ -25,7 +25,7 @@ all_places KnownId.Text p h = sym (members 9 p (eqb-true _ _ h))
 all_places KnownId.Icons p h = refl
 all_places _ p h = sym (nil_from_length p (eqb-true _ _ h))
 
--- the same, where the id is known and has this many bytes
+-- the same, if the id is known and has this many bytes
 pub own_places : (known : KnownId) (id : ℕ) (p : List ℕ) → id_with id ≡ Some known → IsTrue (has_own_case id (length p))
     → by_places known p ≡ p
 own_places known id p e h = all_places known p (rw e at h)

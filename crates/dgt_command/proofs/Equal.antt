@@ -14,7 +14,7 @@ use Rattle.dgt_command.specs.Ids.{has_own_case}
 use Rattle.dgt_command.specs.contracts.clock.ClockCommandPartialEq.TheImpl as derived_clock
 use Rattle.dgt_command.proofs.ListLemmas.{members}
 
--- two lists of numbers are equal exactly where they are the same
+-- two lists of numbers are equal exactly if they are the same
 pub equal_bytes : (xs ys : List ℕ) → IsTrue (pointwise nat_eq xs ys) ↔ (xs ≡ ys)
 equal_bytes xs ys = slice_eq-Decides Decides-eqb xs ys _ refl
 
@@ -56,7 +56,7 @@ abbrev letters_of : ClockContent → List ℕ
 letters_of p =
     byte_of 0 p ∷ byte_of 1 p ∷ byte_of 2 p ∷ byte_of 3 p ∷ byte_of 4 p ∷ byte_of 5 p ∷ byte_of 6 p ∷ byte_of 7 p ∷ []
 
--- displays say the same exactly where their parts are the same
+-- displays say the same exactly if their parts are the same
 same_display : (places others : List ℕ) (dots more beep long : ℕ) → length places ≡ 6 → length others ≡ 6
     → ((places ≡ others) × ((dots ≡ more) × (beep ≡ long)))
     ↔ (clock_content (clock.Display places dots beep) ≡ clock_content (clock.Display others more long))
@@ -65,7 +65,7 @@ same_display places others dots more beep long h k = (
   λ e. (members 6 places h ∙ ap places_of e ∙ sym (members 6 others k), (ap (byte_of 6) e, ap (byte_of 7) e)),
 )
 
--- settings say the same exactly where their parts are the same
+-- settings say the same exactly if their parts are the same
 same_setting : (left other right another : List ℕ) (control byte : ℕ)
     → length left ≡ 3 → length other ≡ 3 → length right ≡ 3 → length another ≡ 3
     → ((left ≡ other) × ((right ≡ another) × (control ≡ byte)))
@@ -78,7 +78,7 @@ same_setting left other right another control byte h k m n = (
   ),
 )
 
--- texts say the same exactly where their parts are the same
+-- texts say the same exactly if their parts are the same
 same_text : (letters others : List ℕ) (beep long : ℕ) → length letters ≡ 8 → length others ≡ 8
     → ((letters ≡ others) × (beep ≡ long))
     ↔ (clock_content (clock.Text letters beep) ≡ clock_content (clock.Text others long))
@@ -94,7 +94,7 @@ raw_apart raw said own e =
     let same : false ≡ true = sym raw.unread ∙ ap (λ (p : ClockContent). has_own_case p.id (length p.payload)) e ∙ own
     in cc
 
--- two clock messages are equal exactly where they say the same
+-- two clock messages are equal exactly if they say the same
 pub equal_clocks : EqualIsSameReadOf HasArrays clock_content (derived_clock.eq-value).it
 equal_clocks (clock.Display places dots beep) (clock.Display others more long) h k =
     let bytes = Decides-and _ _ (Decides-eqb dots more) (Decides-eqb beep long) in

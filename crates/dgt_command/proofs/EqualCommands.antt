@@ -26,7 +26,7 @@ abbrev leds_of : CommandContent → List ℕ
 leds_of (content.Leds leds) = leds
 leds_of _ = []
 
--- two commands are equal exactly where they say the same
+-- two commands are equal exactly if they say the same
 pub equal_commands : EqualIsSameReadOf CommandHasArrays command_content (derived_command.eq-value).it
 equal_commands command.Reset command.Reset h k = (λ _. refl, λ _. refl)
 equal_commands command.Clock command.Clock h k = (λ _. refl, λ _. refl)
@@ -64,7 +64,7 @@ abbrev byte_of : EventContent → ℕ
 byte_of (content.Stray byte) = byte
 byte_of _ = 0
 
--- two events are equal exactly where they report the same
+-- two events are equal exactly if they report the same
 pub equal_events : EqualIsSameReadOf EventHasArrays command_event_content (derived_event.eq-value).it
 equal_events (event.Command a) (event.Command b) h k =
     let same = equal_commands a b h k in
@@ -87,7 +87,7 @@ abbrev how_many : Option EventContent → ℕ
 how_many (Some reported) = 1
 how_many None = 0
 
--- two events, or none, are equal exactly where they report the same
+-- two events, or none, are equal exactly if they report the same
 equal_found : (a b : Option CommandEvent) → IfSome a EventHasArrays → IfSome b EventHasArrays
     → IsTrue (option_eq (derived_event.eq-value).it a b) ↔
     (option_map command_event_content a ≡ option_map command_event_content b)
@@ -98,7 +98,7 @@ equal_found None None h k = (λ _. refl, λ _. refl)
 equal_found (Some a) None h k = differ how_many (Some (command_event_content a)) None refl
 equal_found None (Some b) h k = differ how_many None (Some (command_event_content b)) refl
 
--- two answers are equal exactly where they use and report the same
+-- two answers are equal exactly if they use and report the same
 pub equal_fed : EqualIsSameReadOf FedHasArrays fed_seen (derived_fed.eq-value).it
 equal_fed a b h k =
     let same = Decides-and _ _ (Decides-eqb a.used b.used) (equal_found a.event b.event h k) in

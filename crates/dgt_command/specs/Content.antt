@@ -87,7 +87,7 @@ command_event_content event.BadStart = BadStart
 command_event_content event.BadEnd = BadEnd
 command_event_content (event.Stray byte) = Stray byte
 
--- the kind of the reply that a command asks for, where the host awaits it
+-- the kind of the reply that a command asks for, if the host awaits it
 abbrev pub requested_kind : CommandContent → Option Kind
 requested_kind Dump = Some Kind.Dump
 requested_kind Serial = Some Kind.Serial

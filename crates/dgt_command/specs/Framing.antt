@@ -14,7 +14,7 @@ pub record KeptWord : Type 0 where
 abbrev pub rest_of : KeptWord → List ℕ
 rest_of kept = if kept.is_whole then [] else kept.word
 
--- the rest after these bytes, where an event says that they ended a word
+-- the rest after these bytes, if an event says that they ended a word
 abbrev pub rest_after : {A : Type 0} → Option A → List ℕ → List ℕ
 rest_after None bytes = bytes
 rest_after (Some event) bytes = []

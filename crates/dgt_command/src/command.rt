@@ -16,7 +16,7 @@ pub enum Command<'a> {
     Update,
     /// From now on send each changed square.
     UpdateBoard,
-    /// From now on send each changed square, and the clock's times where they changed.
+    /// From now on send each changed square, and the clock's times if they changed.
     UpdateNice,
     /// Send the serial number.
     Serial,

@@ -51,7 +51,7 @@ pub struct AdvancedWord {
 /// So a type that owns it can look at an event, write its own state, and then lend the event.
 ///
 /// Contracts see the bytes kept (`word`) and whether they are a whole word (`is_whole`). The rest,
-/// of which the next bytes are read on, is the bytes kept where they aren't whole, and else empty
+/// of which the next bytes are read on, is the bytes kept if they aren't whole, and else empty
 /// (`rest_of`).
 #[derive(Drop)]
 pub struct WordFramer {

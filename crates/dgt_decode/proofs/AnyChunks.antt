@@ -37,7 +37,7 @@ call_reported s call first =
     (events_behind-at_place_if_any (length s - length o) (length o + call.used)
     (length s + call.used) call.event place)
 
--- by induction: each call goes on where the one before it stopped
+-- by induction: each call goes on if the one before it stopped
 pub in_any_chunks : (s : List ℕ) (calls : List Call) → AreCalls (unfinished_message s) calls
     → events (s ++ used_bytes calls) ≡ events s ++ events_in_chunks (length s) calls
 in_any_chunks s [] are = rw (append-nil s) (sym (append-nil (events s)))

@@ -59,7 +59,7 @@ early b h l (suc n) total (x ∷ more) two low seven within fits is =
     shorter : SevenByRecursion (take n (x ∷ more))
     shorter = rw (← fewer) (seven-take n (take (suc n) (x ∷ more)) seven)
 
--- A message that begins is whole where none of it is missing then, and reports nothing otherwise.
+-- A message that begins is whole if none of it is missing then, and reports nothing otherwise.
 pub frames-beginning : (kept rest : List ℕ) (total used : ℕ) → unfinished_message kept ≡ [] → Begins total rest
     → IsBeginning total rest used
     → FramesPrefix kept rest used (take used rest) (after (total - used)).1

@@ -27,7 +27,7 @@ seven-before (b ∷ bytes) = go (has_top_bit b) refl (seven-before bytes)
     go false e more = let one_more : 1 + position_or_len has_top_bit bytes ≡ suc
         (position_or_len has_top_bit bytes) = omega arith in rw one_more (leb-false 128 b e, more)
 
--- there are some where the first byte is
+-- there are some if the first byte is
 some-before : (bytes : List ℕ) → 0 < length bytes → get_or bytes 0 0 < 128 → 0 < position_or_len has_top_bit bytes
 some-before [] some seven = absurd (omega arith)
 some-before (b ∷ bytes) some seven = rw (lt-leb 128 b seven) (omega arith)
@@ -63,7 +63,7 @@ seven-take zero bytes seven = tt
 seven-take (suc n) [] seven = tt
 seven-take (suc n) (b ∷ bytes) seven = (seven.0, seven-take n bytes seven.1)
 
--- A run of the body ends the message where none of it is missing then, and reports nothing otherwise.
+-- A run of the body ends the message if none of it is missing then, and reports nothing otherwise.
 pub frames-body_run : (state : FramerState) (kept rest : List ℕ) (left used : ℕ) → IsKept state kept
     → state ≡ Body left → IsBodyRun left rest used
     → FramesPrefix kept rest used (kept ++ take used rest) (after (left - used)).1

@@ -175,7 +175,7 @@ from_here : (bytes : List ℕ) (start : ℕ) → start < length bytes → drop s
     (start + 1) bytes
 from_here bytes start more = rw (add-one, drop-cons bytes start 0 more) refl
 
--- the Cut is made where another segment follows
+-- the Cut is made if another segment follows
 cut_here : (bytes : List ℕ) (end : ℕ) (u : List ℕ) → end ≤ length bytes → lead (drop end bytes) ≡ []
     → cut_before (segments (drop end bytes)) u ≡ cut_after (nat_eq end (length bytes)) u
 cut_here bytes end u within none = elim (cases_lt end (length bytes)) [

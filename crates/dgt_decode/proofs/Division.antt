@@ -118,7 +118,7 @@ quiet_parts ((b ∷ g) ∷ k ∷ parts) h e =
     let cut : cut_of (unfinished_part (verdict (b ∷ g)) (b ∷ g)) ≡ [] = nil_left _ _ (nil_raised _ _ behind) in
     absurd (let some = rw none at cut in cc)
 
--- where bytes make no event, they are all held
+-- if bytes make no event, they are all held
 pub quiet_held : (s : List ℕ) → events s ≡ [] → unfinished_message s ≡ s
 unfolding events unfinished_message
 quiet_held s e =

@@ -57,7 +57,7 @@ abbrev encodings : List Sent → List (List ℕ)
 encodings [] = []
 encodings (m ∷ ms) = m.bytes ∷ encodings ms
 
--- where a message begins after them, bytes of one segment stay one
+-- if a message begins after them, bytes of one segment stay one
 lead-before : (g q : List ℕ) → IsAlone g → lead (g ++ q) ≡ []
 lead-before g q alone = rw (lead-append g q, alone.no_lead, alone.one) refl
 

@@ -8,7 +8,7 @@ use Rattle.dgt_decode.specs.Feeding.{event_content}
 use Rattle.dgt_decode.specs.contracts.event.EventPartialEq.TheImpl as event
 
 module _ (equal_messages : EqualIsSameRead content (message.eq-value).it) where
-  -- two events are equal exactly where they report the same
+  -- two events are equal exactly if they report the same
   pub equal_events : EqualIsSameRead event_content (event.eq-value).it
   equal_events (code_events.Message a) (code_events.Message b) =
       let same = equal_messages a b in

@@ -56,7 +56,7 @@ frames-first kept b none top =
       unfinished = λ e. (first-begins b top).leaves;
     }
 
--- it reports a Cut where a message was unfinished
+-- it reports a Cut if a message was unfinished
 pub frames-cut : (kept : List ℕ) (b : ℕ) → 0 < length (unfinished_message kept) → 128 ≤ b
     → Frames kept (b ∷ []) (b ∷ []) (Some (found.Cut (length (unfinished_message kept))))
 frames-cut kept b some top =
@@ -151,7 +151,7 @@ frames-bad state kept b is head more seven small =
 
 -- ---- A later byte
 
--- the state and what was found, where this many bytes are still to come
+-- the state and what was found, if this many bytes are still to come
 abbrev pub after : ℕ → FramerState × Option Found
 after left = if left == 0 then (Whole, Some found.Message) else (Body left, None)
 
@@ -167,7 +167,7 @@ pub record ReportsRun (kept run : List ℕ) (what : Option Found) : Type 0 where
   pub message : what ≡ Some found.Message → IsWholeMessage (kept ++ run)
   pub unfinished : what ≢ Some found.Message → IsHeld (kept ++ run)
 
--- they end it where none is left, and report nothing otherwise
+-- they end it if none is left, and report nothing otherwise
 pub reports-after : (kept run : List ℕ) (left : ℕ) → IsHeld kept → 2 ≤ length kept → 0 < length run
     → SevenByRecursion run
     → announced_total (kept ++ run) ≡ length (kept ++ run) + left

@@ -108,7 +108,7 @@ next-waits held run h some seven less =
     let e = verdict-waits (held ++ run) less in
     record { reported = gives.reported ∙ rw e refl; leaves = gives.leaves ∙ rw e refl }
 
--- where the header says too little
+-- if the header says too little
 pub next-bad : (held run : List ℕ) → IsHeld held → 0 < length held → SevenByRecursion run → length (held ++ run) ≡ 3
     → announced_total (held ++ run) < 3
     → Gives (held ++ run) (at_place 3 BadLength ∷ []) []
@@ -119,7 +119,7 @@ next-bad held run h some seven three small =
     let none : drop 3 (held ++ run) ≡ [] = rw (← three) (drop-length (held ++ run)) in
     record { reported = gives.reported ∙ rw (e, none) refl; leaves = gives.leaves ∙ rw e refl }
 
--- where the total is reached
+-- if the total is reached
 pub next-whole : (held run : List ℕ) → IsHeld held → 0 < length held → SevenByRecursion run → 3 ≤ length (held ++ run)
     → announced_total (held ++ run) ≡ length (held ++ run)
     → Gives (held ++ run) (at_place (length (held ++ run)) (message_event (held ++ run)) ∷ []) []

@@ -21,13 +21,13 @@ unfinished-alone g alone = rw alone.one refl
 
 -- ---- The unfinished message
 
--- a first segment is not unfinished where others follow
+-- a first segment is not unfinished if others follow
 unfinished_segment-first : (g : List ℕ) (p h : List ℕ) (gs : List (List ℕ))
     → unfinished_segment (g ∷ segments_with p (h ∷ gs)) ≡ unfinished_segment (segments_with p (h ∷ gs))
 unfinished_segment-first g p h [] = refl
 unfinished_segment-first g p h (k ∷ gs) = refl
 
--- nor where it is finished
+-- nor if it is finished
 unfinished_segment-finished : (g : List ℕ) (x : Placed) (gs : List (List ℕ)) → verdict g ≡ Some x
     → unfinished_segment (g ∷ gs) ≡ unfinished_segment gs
 unfinished_segment-finished g x [] e = rw e refl

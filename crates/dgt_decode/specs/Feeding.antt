@@ -40,7 +40,7 @@ event_content_if_any event = option_map event_content event
 abbrev pub fed_content : Fed → ℕ × Option Event
 fed_content fed = (fed.used, event_content_if_any fed.event)
 
--- what was found, where these bytes are kept
+-- what was found, if these bytes are kept
 abbrev pub event_found_in : List ℕ → Found → Event
 event_found_in kept found.Message = message_event kept
 event_found_in kept (found.Cut have) = Cut have

@@ -90,7 +90,7 @@ abbrev pub cut_of : List ℕ → List Placed
 cut_of [] = []
 cut_of (b ∷ bytes) = at_place 1 (Cut (length (b ∷ bytes))) ∷ []
 
--- the Cut, where another segment follows
+-- the Cut, if another segment follows
 abbrev pub cut_before : List (List ℕ) → List ℕ → List Placed
 cut_before [] unfinished = []
 cut_before (next ∷ others) unfinished = cut_of unfinished

@@ -247,7 +247,7 @@ impl Framer {
         matches!(self.state, FramerState::Hunting | FramerState::Whole)
     }
 
-    // Takes the run at the front where a message begins, or where many bytes of one are missing,
+    // Takes the run at the front if a message begins, or if many bytes of one are missing,
     // and else a few bytes one by one.
     fn take_run(&mut self, rest: &[u8]) -> Advanced
         requires { 0 < length rest.now }

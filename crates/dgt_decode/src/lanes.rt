@@ -11,7 +11,7 @@ use std::simd::prelude::*;
 // How many bytes are compared at once.
 const LANES: usize = 32;
 
-/// The index of the first byte with a set top bit, or the length where there is none.
+/// The index of the first byte with a set top bit, or the length if there is none.
 pub fn first_top(bytes: &[u8]) -> usize
     ensures { result ≡ position_or_len has_top_bit bytes.now }
 {
@@ -33,7 +33,7 @@ pub fn first_top(bytes: &[u8]) -> usize
     at
 }
 
-// The first lane with a set top bit, or the number of lanes where there is none.
+// The first lane with a set top bit, or the number of lanes if there is none.
 #[inline(always)]
 fn first_top_lane(lanes: u8x32) -> usize
     ensures value { result ≡ position_or_len has_top_bit lanes }

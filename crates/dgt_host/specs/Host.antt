@@ -45,7 +45,7 @@ is_same_kind Kind.Battery Kind.Battery = true
 is_same_kind Kind.LongSerial Kind.LongSerial = true
 is_same_kind _ _ = false
 
--- what is awaited after a message of this kind: the kind is taken off where it is the first
+-- what is awaited after a message of this kind: the kind is taken off if it is the first
 abbrev pub awaited_after : List Kind → Option Kind → List Kind
 awaited_after awaited None = awaited
 awaited_after [] (Some kind) = []
@@ -93,7 +93,7 @@ HeardInChunks =
 abbrev pub awaits_too_many : HostView → Option Kind → Bool
 awaits_too_many host kind = is_some kind && nat_le MAX_AWAITED (length host.awaited)
 
--- the host that awaits one more reply, where there is a kind
+-- the host that awaits one more reply, if there is a kind
 abbrev pub host_awaiting : HostView → Option Kind → HostView
 host_awaiting host kind = record host { awaited = host.awaited ++ option_to_list kind }
 

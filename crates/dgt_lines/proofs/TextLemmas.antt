@@ -6,10 +6,9 @@ use Rattle.std.proofs.lemmas.List.Folds.{list_all-append}
 use Rattle.std.proofs.lemmas.Fmt.{decimal_digit, decimal_step, decimal_nonempty}
 use Rattle.std.specs.List.{list_all}
 use Rattle.std.specs.Prelude.{◌&&◌, codes, decimal}
-use Rattle.hex.specs.Hex.{encode_lower}
 use Rattle.dgt_message.specs.Clock.{ClockState, Times}
 use Rattle.dgt_lines.specs.Clocks.{clock_text, has_bit, low_text, running_text, turn_text}
-use Rattle.dgt_lines.specs.Lines.{byte_text, bytes_text, padded_decimal, shown_time, words_text}
+use Rattle.dgt_lines.specs.Lines.{byte_text, padded_decimal, shown_time, words_text}
 
 -- no leading zero
 pub padded_one : (n : ℕ) → n < 2 ^ 64 → padded_decimal 1 n ≡ decimal n
@@ -33,11 +32,6 @@ padded_two n h = elim (cases_lt n 10) [
       decimal_step n high (omega arith) ∙ ap (λ l. l ++ (48 + n % 10) ∷ []) tens in
       ap (λ l. replicate (2 - length l) 48 ++ l) e
 ]
-
--- no hyphen if there is a byte
-pub bytes_text_some : (bytes : List ℕ) → 0 < length bytes → bytes_text bytes ≡ encode_lower bytes
-bytes_text_some [] h = absurd (omega arith)
-bytes_text_some (byte ∷ bytes) h = refl
 
 -- two digits for each byte, and a space before them
 abbrev pub spaced_text : List ℕ → List ℕ

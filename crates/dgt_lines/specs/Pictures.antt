@@ -72,7 +72,7 @@ picture_lines before placed = flat_map picture_line (pictures before placed)
 abbrev pub pictures_text : List ℕ → List ℕ
 pictures_text bytes = picture_lines None (events bytes)
 
--- The last line shows the picture after all messages that were read. Where that is unknown there
+-- The last line shows the picture after all messages that were read. If that is unknown there
 -- is no line.
 abbrev pub LastLineIsPicture : Type 0
 LastLineIsPicture =

@@ -25,7 +25,7 @@ pub fn limits()
     ensures commands { COMMANDS_ROOM ≡ 32768 }
 {}
 
-/// Two values are equal, as `==` answers, exactly where they are the same.
+/// Two values are equal, as `==` answers, exactly if they are the same.
 pub fn equal_is_same()
     ensures run_fault { EqualIsSame ⟦<RunFault as PartialEq>⟧.eq }
     ensures failed { EqualIsSame ⟦<Failed as PartialEq>⟧.eq }
@@ -85,7 +85,7 @@ pub fn pictures_append()
     laws::chunks_in_a_row();
 }
 
-/// The last line that shows the board has the placement of the picture after all messages. Where
+/// The last line that shows the board has the placement of the picture after all messages. If
 /// that is unknown there is no line.
 pub fn last_line_is_picture()
     ensures { LastLineIsPicture }

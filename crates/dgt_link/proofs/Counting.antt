@@ -571,7 +571,7 @@ pub host_knows : {X : Type 0} {known seen : Option X} {x : X} → IsUnknownOr kn
 host_knows (inl none) is = cc
 host_knows (inr same) is = sym same ∙ is
 
--- nothing is awaited, where all that is awaited was still to come
+-- nothing is awaited, if all that is awaited was still to come
 pub in_turn_awaits_nothing : EachDividesOnce → (c : Counted) (world : WorldView) → Holds c world → IsInTurn c
     → IsQuietWorld world → world.host.awaited ≡ []
 in_turn_awaits_nothing once c world holds turn quiet =

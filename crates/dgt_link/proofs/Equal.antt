@@ -19,7 +19,7 @@ use Rattle.dgt_link.specs.Faults.{FaultyActHasArrays, faulty_content}
 
 module _ (equal_clocks : EqualIsSameRead clock_seen (derived_clock.eq-value).it)
     (equal_commands : EqualIsSameReadOf CommandHasArrays command_content (derived_command.eq-value).it) where
-  -- two acts are equal exactly where they do the same
+  -- two acts are equal exactly if they do the same
   pub equal_acts : EqualIsSameReadOf ActHasArrays act_content (derived.eq-value).it
   equal_acts (act.Change square piece) (act.Change other second) h k = search rules
   equal_acts (act.ClockRead a) (act.ClockRead b) h k =

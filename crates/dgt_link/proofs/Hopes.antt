@@ -142,7 +142,7 @@ module _ (behind : ActsBehind) (asks : Mode → Bool) (ends : FaultyContent → 
       }) is
       (plain_step (ActContent.Host command) world Outcome.Done after step)
 
-  -- ---- every act, where those that fail (by this test) and those that end it are left out
+  -- ---- every act but those that fail (by this test) and those that end it
 
   module _ (fails : FaultyContent → Bool) (down : (bytes : List ℕ) → fails (FaultyContent.GarbleDown bytes) ≡ true)
       (lost : fails FaultyContent.BoardLost ≡ true) (Q : MachineState → Type 0) (Given : WorldView → Type 0)

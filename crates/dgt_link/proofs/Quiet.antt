@@ -107,7 +107,7 @@ up_to_date board squares reported nothing =
 pub quiet_up_to_date : (x : MachineState) → IsSound x → IsQuiet x → IsUpToDate x.board
 quiet_up_to_date x sound quiet = up_to_date x.board sound.squares sound.reported_squares quiet.pending
 
--- the host's picture, where the mode asks for updates
+-- the host's picture, if the mode asks for updates
 picture_at_quiet : (x : MachineState) → IsSound x → IsQuiet x → IsUnknownOr x.picture (Some x.board.reported_squares)
 picture_at_quiet x sound quiet = rw quiet.up at sound.picture
 

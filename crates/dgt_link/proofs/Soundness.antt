@@ -127,7 +127,7 @@ kinds_after_first : (kind : Option Kind) (up rest : List Kind)
 kinds_after_first None up rest = refl
 kinds_after_first (Some kind) up rest = refl
 
--- the kinds that come, where a message is the first under way
+-- the kinds that come, if a message is the first under way
 hear-kinds : (x : MachineState) (message : Content) (rest : List Content) → x.up ≡ message ∷ rest
     → coming_kinds x ≡ cons_option (answered_kind message) (coming_kinds (after_hear x (message ∷ rest)))
 hear-kinds x message rest e = rw e (kinds_after_first (answered_kind message) (filter_map answered_kind rest) _)

@@ -81,7 +81,7 @@ pub record FaultyStep (act : FaultyContent) (world : WorldView) (answer : Outcom
 abbrev pub FaultyRuns : List FaultyContent → WorldView → List Outcome → WorldView → Type 0
 FaultyRuns = RunsBy FaultyStep
 
--- what holds of the outcomes, where these acts lead from one world to the other
+-- what holds of the outcomes, if these acts lead from one world to the other
 abbrev pub IfRan : List FaultyContent → WorldView → WorldView → (List Outcome → Type 0) → Type 0
 IfRan acts world after Holds =
     (outcomes : List Outcome) → FaultyRuns acts world outcomes after → Holds outcomes

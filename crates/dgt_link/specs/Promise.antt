@@ -13,14 +13,14 @@ use Rattle.dgt_link.specs.Act.{ActContent}
 use Rattle.dgt_link.specs.Machine.{MachineState, Move, commands_anew}
 use Rattle.dgt_link.specs.Sound.{coming_picture}
 
--- the last of these modes, or the one before them where there is none
+-- the last of these modes, or the one before them if there is none
 abbrev pub last_mode : Mode → List Mode → Mode
 last_mode before [] = before
 last_mode before (mode ∷ modes) = last_mode mode modes
 
 -- ---- what is asked of the board
 
--- by a move: its commands in order, and `None` where it ends what was asked before
+-- by a move: its commands in order, and `None` if it ends what was asked before
 abbrev pub requests : Move → List (Option CommandContent)
 requests (Move.Ask command) = Some command ∷ []
 requests Move.Break = None ∷ []
@@ -40,7 +40,7 @@ run_requests (act ∷ acts) (outcome ∷ outcomes) =
     act_requests outcome act ++ run_requests acts outcomes
 run_requests _ _ = []
 
--- the commands since the last break, after requests, where these were before them
+-- the commands since the last break, after requests, if these were before them
 abbrev pub commands_after : List CommandContent → List (Option CommandContent) → List CommandContent
 commands_after before [] = before
 commands_after before (None ∷ later) = commands_after [] later
@@ -56,7 +56,7 @@ pub record IsAsked (commands : List CommandContent) : Type 0 where
 abbrev pub IsAskedBy : List ActContent → List Outcome → Type 0
 IsAskedBy acts outcomes = IsAsked (commands_after [] (run_requests acts outcomes))
 
--- the mode to come after requests, where this one was before them: a break counts as a reset
+-- the mode to come after requests, if this one was before them: a break counts as a reset
 abbrev pub mode_after : Mode → List (Option CommandContent) → Mode
 mode_after before [] = before
 mode_after before (None ∷ later) = mode_after Mode.Idle later
@@ -65,7 +65,7 @@ mode_after before (Some command ∷ later) =
 
 -- ---- of states
 
--- the mode that what is read of a command sets, where it sets one
+-- the mode that what is read of a command sets, if it sets one
 abbrev pub event_mode : EventContent → Option Mode
 event_mode (EventContent.Read command) = command_mode command
 event_mode _ = None

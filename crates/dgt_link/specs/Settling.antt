@@ -49,7 +49,7 @@ IsNext world (ActContent.ToBoard count) =
     × (0 < count) × (count ≡ length world.down.bytes)
 IsNext world _ = ⊥
 
--- acts that lead from one world to the other, each of them the next where it is done, and done
+-- acts that lead from one world to the other, each of them the next if it is done, and done
 abbrev pub AreInOrder : List ActContent → WorldView → WorldView → Type 0
 AreInOrder [] world after = after ≡ world
 AreInOrder (act ∷ acts) world after =

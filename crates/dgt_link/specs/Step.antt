@@ -70,7 +70,7 @@ pub record Delivers (count : ℕ) (world after : WorldView) : Type 0 where
 abbrev pub with_state : WorldView → BoardState → WorldView
 with_state world state = record world { board = record world.board { state = state } }
 
--- what an act leaves, where it is done
+-- what an act leaves, if it is done
 abbrev pub Becomes : ActContent → WorldView → WorldView → Type 0
 Becomes (ActContent.Change square piece) world after =
     after ≡ with_state world (after_change world.board.state square piece)
@@ -110,7 +110,7 @@ Becomes ActContent.HostBreak world after =
       down = line_holding restart_bytes world.down.capacity;
     }
 
--- the first of these where an act is done, and else the second
+-- the first of these if an act is done, and else the second
 abbrev pub IfDone : Outcome → Type 0 → Type 0 → Type 0
 IfDone Outcome.Done done kept = done
 IfDone _ done kept = kept
@@ -121,7 +121,7 @@ pub record Step (act : ActContent) (world : WorldView) (answer : Outcome) (after
   pub answers : answer ≡ outcome act world
   pub leaves : IfDone answer (Becomes act world after) (after ≡ world)
 
--- acts in order, each with its outcome, where this says what one of them does
+-- acts in order, each with its outcome, if this says what one of them does
 abbrev pub RunsBy : {A : Type 0} → (A → WorldView → Outcome → WorldView → Type 0) → List A
     → WorldView → List Outcome → WorldView → Type 0
 RunsBy Does [] world [] after = after ≡ world

@@ -1,4 +1,4 @@
--- How much is left to do until a world is quiet, where each delivery is of all that is in the line.
+-- How much is left to do until a world is quiet, if each delivery is of all that is in the line.
 use Rattle.std.specs.Prelude.{ℕ, ◌+◌, ◌*◌, ◌==◌, if◌then◌else◌, length}
 use Rattle.dgt_board.specs.Sending.{backlog}
 use Rattle.dgt_link.specs.View.{WorldView}

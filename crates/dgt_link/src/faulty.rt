@@ -198,7 +198,7 @@ impl FaultyWorld {
         done
     }
 
-    // The board sends, where it can: with an empty line it can send anything.
+    // The board sends, if it can: with an empty line it can send anything.
     fn send(&mut self) -> Outcome
         ensures exact { Step ActContent.BoardSend self.old result self.new }
         ensures room { self.old.up.bytes ≡ [] → result ≢ Outcome.NoRoom }

@@ -117,7 +117,7 @@ pub fn answers_in_order()
 {}
 
 /// What a move makes of the promise: a dump that is asked for begins its first half, which only a
-/// break ends. Its second half is that of the last command that sets a mode, where a break counts
+/// break ends. Its second half is that of the last command that sets a mode, if a break counts
 /// as a reset. A host break begins both.
 pub fn promise_is_kept()
     ensures begun { (x : MachineState) →
@@ -247,7 +247,7 @@ pub fn acts_keep()
 }
 
 /// What an act makes of the promise: a dump that is asked for begins its first half, which only a
-/// break ends. Its second half is that of the last mode asked for, where a break counts as a reset.
+/// break ends. Its second half is that of the last mode asked for, if a break counts as a reset.
 /// A host break begins both: noise comes to the board, and then what the host asks for.
 pub fn promise_by_acts()
     ensures begun { (world after : WorldView) (x y : MachineState) →
@@ -292,7 +292,7 @@ pub fn worlds_are_reported()
 
 /// In a quiet world nothing is awaited, and a picture that is known is the board's squares if the
 /// mode asks for updates. If it follows the clock, a clock that the host knows is the board's, and
-/// it knows it if the world stands for an exact state. Where it stands for a promised state the
+/// it knows it if the world stands for an exact state. If it stands for a promised state the
 /// picture is known.
 pub fn at_quiet_world()
     ensures awaited { (world : WorldView) (x : MachineState) →

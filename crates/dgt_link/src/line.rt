@@ -68,7 +68,7 @@ impl Line {
         self.ring.fill_from_slice(bytes);
     }
 
-    /// The oldest bytes: as many as stand in memory in a row, and at least one where there is one.
+    /// The oldest bytes: as many as stand in memory in a row, and at least one if there is one.
     pub fn front(&self) -> &[u8]
         ensures front { result.now ≡ take (length result.now) self.now.bytes }
         ensures within { length result.now ≤ length self.now.bytes }

@@ -124,7 +124,7 @@ faultless : (layout : Layout) (body : List ℕ) (why : BodyFault) → IsRightSiz
 faultless layout body why size allowed (inl h) = not_both_sizes layout body size h.0
 faultless layout body why size allowed (inr (at, h, e)) = h.bad (allowed at h.within)
 
--- where a message fits, the size is right and each place allows its byte
+-- if a message fits, the size is right and each place allows its byte
 pub not_both : (code : ℕ) (body : List ℕ) (said : Content) (fault : BodyFault) → Fits said code body
     → IsFaultOf code body fault → ⊥
 not_both code body said fault h k =

@@ -20,16 +20,16 @@ use Rattle.dgt_message.specs.contracts.clock.TimesPartialEq.TheImpl as times
 use Rattle.dgt_message.specs.contracts.clock.ClockPartialEq.TheImpl as clock
 use Rattle.dgt_message.specs.contracts.message.MessagePartialEq.TheImpl as message
 
--- two tests are both true exactly where each is
+-- two tests are both true exactly if each is
 both : {P Q : Type 0} → (p q : Bool) → IsTrue p ↔ P → IsTrue q ↔ Q → IsTrue (p && q) ↔ (P × Q)
 both true q p_is q_is = (λ t. (p_is.0 refl, q_is.0 t), λ h. q_is.1 h.1)
 both false q p_is q_is = (λ t. cc, λ h. p_is.1 h.0)
 
--- two numbers are equal exactly where they are the same
+-- two numbers are equal exactly if they are the same
 equal_numbers : (m n : ℕ) → IsTrue (nat_eq m n) ↔ (m ≡ n)
 equal_numbers m n = search rules
 
--- lists are equal exactly where the same is read of them, if that holds of their elements
+-- lists are equal exactly if the same is read of them, if that holds of their elements
 pub equal_lists : {T Read : Type 0} → (read : T → Read) (eq : T → T → Bool) → EqualIsSameRead read eq
     → EqualIsSameRead (map read) (pointwise eq)
 equal_lists read eq same [] [] = (λ _. refl, λ _. refl)
@@ -39,11 +39,11 @@ equal_lists read eq same (x ∷ xs) (y ∷ ys) =
     let each = both (eq x y) (pointwise eq xs ys) (same x y) (equal_lists read eq same xs ys) in
     (λ t. let found = each.0 t in let first = found.0 in let rest = found.1 in cc, λ e. each.1 (cc, cc))
 
--- the times of two clocks are equal exactly where they are the same
+-- the times of two clocks are equal exactly if they are the same
 pub equal_times : EqualIsSameRead times_seen (times.eq-value).it
 equal_times a b = grind (arith, common_steps)
 
--- boards without a clock are equal exactly where they report the same bytes and status
+-- boards without a clock are equal exactly if they report the same bytes and status
 pub equal_absences : EqualIsSameRead absence_seen (absence.eq-value).it
 equal_absences a b =
     let same =
@@ -60,7 +60,7 @@ equal_absences a b =
     status_of : Absence → ℕ
     status_of seen = seen.status
 
--- two clocks are equal exactly where they report the same
+-- two clocks are equal exactly if they report the same
 pub equal_clocks : EqualIsSameRead clock_seen (clock.eq-value).it
 equal_clocks (clock_variants.Times a) (clock_variants.Times b) =
     let same = equal_times a b in
@@ -75,7 +75,7 @@ equal_clocks _ _ = (λ t. cc, λ e. cc)
 not_known : (other : OtherCode) (number : ℕ) → code_number other ≡ number → HasCase number → ⊥
 not_known other number e has = other.unread (rw e has)
 
--- two messages are equal exactly where they say the same
+-- two messages are equal exactly if they say the same
 pub equal_messages : EqualIsSameRead content (message.eq-value).it
 equal_messages (Dump a) (Dump b) =
     let same = slice_eq-Decides {E = (piece.eq-value).it} (search rules) a.pieces b.pieces _ refl in

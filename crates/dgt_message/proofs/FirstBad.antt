@@ -48,7 +48,7 @@ not_allowed sixty byte h a =
     ]
 not_allowed anything byte h a = cc
 
--- what a search finds in a body of the right size is the first bad place, and where it finds none there is none
+-- what a search finds in a body of the right size is the first bad place, and if it finds none there is none
 search_finds : (layout : Layout) (body : List ℕ) → IsRightSize layout body → (found : Option ℕ)
     → Search (λ place. is_allowed (column_of layout place) (slice_index body place)) (length body) found
     → MatchOption found (AllowsBefore layout body (length body)) (IsFirstBad layout body)

@@ -65,14 +65,14 @@ fault_is : (code : ℕ) (body : List ℕ) (r : Result Content BodyFault) (why : 
 fault_is code body (Ok said) why h bad = absurd (not_both code body said why h bad)
 fault_is code body (Err other_) why h bad = ap Err (one_fault code body other_ why h bad)
 
--- the reading is a message exactly where it fits
+-- the reading is a message exactly if it fits
 pub reading-Ok : (code : ℕ) (body : List ℕ) (said : Content) → code < 128 → IsCarried body
     → (reading code body ≡ Ok said) ↔ Fits said code body
 reading-Ok code body said small carried =
     let says = reading_says code body small carried in
     (λ e. rw e at says, said_is code body (reading code body) said says)
 
--- the reading is a fault exactly where it is one of the body
+-- the reading is a fault exactly if it is one of the body
 pub reading-Err : (code : ℕ) (body : List ℕ) (why : BodyFault) → code < 128 → IsCarried body
     → (reading code body ≡ Err why) ↔ IsFaultOf code body why
 reading-Err code body why small carried =

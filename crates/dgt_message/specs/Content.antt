@@ -84,7 +84,7 @@ code_of (serial digits) = known_number KnownCode.Serial
 code_of (version main sub) = known_number KnownCode.Version
 code_of (carried own body) = own
 
--- the kind of the messages under a code, where they answer a command that has one
+-- the kind of the messages under a code, if they answer a command that has one
 abbrev pub kind_with : Option KnownCode → Option Kind
 kind_with (Some KnownCode.Dump) = Some Kind.Dump
 kind_with (Some KnownCode.Serial) = Some Kind.Serial

@@ -31,7 +31,7 @@ known_layout _ body = carried
 abbrev pub layout_of : ℕ → List ℕ → Layout
 layout_of code body = known_layout (known_with code) body
 
--- the length of a whole message, where it is fixed
+-- the length of a whole message, if it is fixed
 abbrev pub layout_total : Layout → Option ℕ
 layout_total dump = Some 67
 layout_total field = Some 5

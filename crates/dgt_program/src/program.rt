@@ -59,7 +59,7 @@ fn run<I: Read + Drop, O: Write + Drop>(
 }
 
 // Each task has room of its own on the stack, and is not inlined. Room for all of them at once is
-// more than a process has from its start, and where the address space is limited, a stack that
+// more than a process has from its start, and if the address space is limited, a stack that
 // can't grow ends the process by a signal.
 
 #[inline(never)]

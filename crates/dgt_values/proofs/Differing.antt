@@ -28,7 +28,7 @@ unequal_bits xs ys xs_long ys_long n within =
     ap (λ mask. bit_at mask n) masked ∙ bit_mask_l lanes n
     ∙ ap (λ b. cond b 1 0) (get_or-zip2 unequal xs ys n 0 0 false (omega arith) (omega arith))
 
--- a bit that says whether two codes differ is set exactly where the pieces do
+-- a bit that says whether two codes differ is set exactly if the pieces do
 code_bit : (a b : Piece) (bit : ℕ) → bit ≡ cond (unequal (piece_code a) (piece_code b)) 1 0 → (bit ≡ 1) ↔ (a ≢ b)
 code_bit a b bit is = (
   λ one same.

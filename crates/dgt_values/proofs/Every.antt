@@ -84,7 +84,7 @@ record Step (byte n s : ℕ) : Type 0 where
 abbrev IsStuck : ℕ → ℕ → ℕ → Type 0
 IsStuck byte n s = (n' s' : ℕ) (first : List Piece) → Steps byte n s n' s' first → ⊥
 
--- a byte that means squares is a step where they fit
+-- a byte that means squares is a step if they fit
 with_squares : (byte n s : ℕ) (squares : List Piece) → s ≤ 8 → MeansSquares byte squares
     → (s < length squares) ⊎ (length squares ≤ s) → Step byte n s ⊎ IsStuck byte n s
 with_squares byte n s squares le stands (inl long) = inr (too_long byte n s squares stands long)
@@ -105,7 +105,7 @@ no_slash : (byte n s : ℕ) → ((squares : List Piece) → MeansSquares byte sq
 no_slash byte n s none refused n' s' first (inl x) = refused x.slash x.full (omega (arith, x.one_less))
 no_slash byte n s none refused n' s' first (inr x) = none first x.stands
 
--- a byte that means nothing is a step where it is a slash in its place
+-- a byte that means nothing is a step if it is a slash in its place
 with_slash : (byte n s : ℕ) → ((squares : List Piece) → MeansSquares byte squares → ⊥)
     → ((byte ≡ ascii "/") ⊎ (byte ≢ ascii "/"))
     → Step byte n s ⊎ IsStuck byte n s

@@ -122,7 +122,7 @@ leaves_stuck text n s done byte h stuck (more, pieces, p) =
     let f = known.1 in
     stuck f.0 f.1 f.2 f.4
 
--- where something is left, the text is too short
+-- if something is left, the text is too short
 pub leaves_short : (text : List ℕ) (n s : ℕ) (done pieces : List Piece) → Leaves text n s done → (n ≡ 0 → s ≡ 0 → ⊥)
     → IsPlacement text pieces → ⊥
 leaves_short text n s done pieces h some p =
@@ -217,7 +217,7 @@ all_filled pieces filled piece next count room is =
     simp (length-take, length-drop) (omega arith) in
     is ∙ ap (λ n. replicate n piece) many
 
--- a list keeps its length where a part of it is written
+-- a list keeps its length if a part of it is written
 pub length_mid : {X : Type 0} (next count : ℕ) (pieces filled : List X) → next + count ≤ length pieces
     → length filled ≡ count
     → length (put_mid next count pieces filled) ≡ length pieces

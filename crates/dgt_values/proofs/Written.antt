@@ -148,7 +148,7 @@ run_after (suc count) empty rest =
     let same : empty + suc count ≡ empty + 1 + count = omega arith in
     rw same (run_after count (empty + 1) rest)
 
--- what follows a run of empty squares is written alone where it begins with no digit
+-- what follows a run of empty squares is written alone if it begins with no digit
 after_run : (bytes : List ℕ) (rest : List Piece) (count : ℕ) → IsRank bytes rest → (BeginsWithDigit bytes → ⊥)
     → rank_text_after count rest ≡ run_text count ++ rank_text_after 0 rest
 after_run [] rest count none other = rw none (sym (append-nil (run_text count)))

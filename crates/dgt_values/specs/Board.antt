@@ -50,7 +50,7 @@ start_pieces =
     ++ Piece.WhiteRook ∷ Piece.WhiteKnight ∷ Piece.WhiteBishop ∷ Piece.WhiteQueen
     ∷ Piece.WhiteKing ∷ Piece.WhiteBishop ∷ Piece.WhiteKnight ∷ Piece.WhiteRook ∷ []
 
--- bit n is set exactly where square n differs
+-- bit n is set exactly if square n differs
 abbrev pub DifferingSquares : List Piece → List Piece → ℕ → Type 0
 DifferingSquares a b bits =
     (square : ℕ) → square < 64 → IsBitSet bits square ↔ (slice_get a square ≢ slice_get b square)

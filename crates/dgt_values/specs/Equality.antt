@@ -2,15 +2,15 @@
 use Rattle.std.specs.declared.clone.Clone as clone
 use Rattle.std.specs.Prelude.{◌≡◌, ◌↔◌, Bool, IsTrue}
 
--- two values are equal exactly where they are the same
+-- two values are equal exactly if they are the same
 abbrev pub EqualIsSame : {T : Type 0} → (T → T → Bool) → Type 0
 EqualIsSame eq = (a b : _) → IsTrue (eq a b) ↔ (a ≡ b)
 
--- two values are equal exactly where a clause reads the same of them
+-- two values are equal exactly if a clause reads the same of them
 abbrev pub EqualIsSameRead : {T Read : Type 0} → (T → Read) → (T → T → Bool) → Type 0
 EqualIsSameRead read eq = (a b : _) → IsTrue (eq a b) ↔ (read a ≡ read b)
 
--- two values of which this holds are equal exactly where a clause reads the same of them
+-- two values of which this holds are equal exactly if a clause reads the same of them
 abbrev pub EqualIsSameReadOf :
     {T Read : Type 0} → (T → Type 0) → (T → Read) → (T → T → Bool) → Type 0
 EqualIsSameReadOf Holds read eq =

@@ -78,7 +78,7 @@ abbrev pub DigitsApart : List ℕ → Type 0
 DigitsApart text =
     (k : ℕ) → IsAsciiDigit (slice_index text k) → ¬ (IsAsciiDigit (slice_index text (k + 1)))
 
--- the digit for a run of empty squares, where there is one
+-- the digit for a run of empty squares, if there is one
 abbrev pub run_text : ℕ → List ℕ
 run_text empty = if empty == 0 then [] else (ascii "0" + empty) ∷ []
 

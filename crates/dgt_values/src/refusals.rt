@@ -42,7 +42,7 @@ pub struct NoSquare;
 pub struct NoPiece;
 
 /// The text is no placement. `at` is the offset of the first byte with which it no longer begins
-/// any accepted one, or the text's length where it is only too short.
+/// any accepted one, or the text's length if it is only too short.
 #[derive(Clone, Copy, Debug, PartialEq, Eq, Error)]
 #[error("no placement, from offset {at} on")]
 pub struct BadPlacement {
