@@ -39,9 +39,9 @@ fn push_board(text: &mut Outgoing<CLOSING_ROOM>, board: &Position)
 fn push_host(text: &mut Outgoing<CLOSING_ROOM>, picture: Option<&Position>, clock: Option<&Clock>)
     requires { length text.old + 200 ≤ CLOSING_ROOM }
     ensures text { text.new ≡ text.old ++ (named_line (codes "host")
-        (picture_text (option_map (λ position. pieces_of position.now) picture))
+        (picture_text (option_map (λ position. pieces_of position.now) picture.entry))
         ++ named_line (codes "hostclock")
-        (clock_text (option_map (λ clock. clock_seen clock.now) clock))) }
+        (clock_text (option_map (λ clock. clock_seen clock.now) clock.entry))) }
     ensures room { length text.new ≤ length text.old + 200 }
 {
     text.push(b"host ");
@@ -76,8 +76,8 @@ pub fn write_closing<W: Sink>(
 ) -> Result<(), RunFault>
     ensures { Writes W.Sink writer.old writer.new result
         (closing_text (pieces_of board.now)
-        (option_map (λ position. pieces_of position.now) picture)
-        (option_map (λ clock. clock_seen clock.now) clock) quiet) }
+        (option_map (λ position. pieces_of position.now) picture.entry)
+        (option_map (λ clock. clock_seen clock.now) clock.entry) quiet) }
 {
     let mut text = Outgoing::<CLOSING_ROOM>::new();
     push_board(&mut text, board);

@@ -18,7 +18,7 @@ returns g c =
     elim c.if-len-le-FEW.branch [
       | then-len-le-FEW+then-bytes-ge-FEW+then-this-ge-FEW w ↦
           (let eight : length (take 8 bytes) ≡ 8 = length-take-le 8 bytes w.if-bytes-ge-FEW.true in
-          rw (w.self-inside-is, put_chunk_is 0 c.self.inside.bytes (take 8 bytes) (omega (arith, eight, c.self.here)))
+          rw (w.self-inside-is, put_chunk_is 0 c.self.inside.bytes (take 8 bytes) (omega (arith, eight, c.self.told)))
           (prefix len 8 bytes _ w.if-len-le-FEW.true w.if-bytes-ge-FEW.true ∙ all))
       | else-len-le-FEW w ↦ rw (w.self-inside-is, w.copy_from_slice.ensures.after)
           (prefix len len bytes _ (omega arith) (omega (arith, c.min-len.ensures)) ∙ all)

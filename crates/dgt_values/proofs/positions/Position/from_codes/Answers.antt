@@ -21,4 +21,4 @@ returns-in_default c =
 pub returns : goal.returns
 returns c =
     let done = c.loop-at.invariant in
-    sym (coded c.args.codes.now c.loop-at.pieces c.here-codes done.len (λ n h. done.read n (omega (arith, h))))
+    sym (coded c.args.codes.now c.loop-at.pieces c.told-codes done.len (λ n h. done.read n (omega (arith, h))))
