@@ -274,7 +274,7 @@ pub field_is_next : (board : BoardState) (square : ℕ) → slice_get board.owed
     → slice_get (unreported_squares board) 0 ≡ Some square → next_message board ≡ Some (field_of board square)
 field_is_next board square none first =
     rw (no_first board.owed none) (first_mapped (field_of board) (unreported_squares board)
-        (clock_news board) square first)
+    (clock_news board) square first)
 
 -- with no square left either, the clock is, if it is owed
 pub times_are_next : (board : BoardState) → slice_get board.owed 0 ≡ None

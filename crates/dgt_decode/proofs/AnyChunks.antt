@@ -29,7 +29,7 @@ pub call_reported : (s : List ℕ) (call : Call) → FirstEvent (unfinished_mess
 call_reported s call first =
     let o = unfinished_message s in
     let place : length s - length o + (length o + call.used) ≡ length s + call.used =
-        omega (arith, length-unfinished s) in
+    omega (arith, length-unfinished s) in
     events-append s (take call.used call.chunk)
     ∙ ap (λ (xs : List Placed). events s ++ events_behind (length s - length o) xs)
     (first_reported o call.chunk call.used call.event first)

@@ -97,7 +97,7 @@ frames-body_run state kept rest left used was body run =
         frames = record {
           first = rw is.0 (first_of_run kept bytes _ (omega (arith, count, run.some))
               (rw (count, prefix) (next-waits kept early is.0 (omega (arith, is.1)) early_seven waiting).reported)
-                  t.0.reported);
+              t.0.reported);
           held = rw is.0 refl;
           whole = t.0.message;
           came = λ e. rw is.0 refl;

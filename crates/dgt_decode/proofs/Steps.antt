@@ -36,7 +36,7 @@ first-begins b top =
     let unfinished_one = waiting (b ∷ []) (IsAlone-from b [] top tt) (verdict-short (b ∷ []) (omega arith)) in
     record {
       reported = events-of_unfinished (b ∷ []) unfinished_one;
-      leaves = unfinished-of_unfinished (b ∷ []) unfinished_one
+      leaves = unfinished-of_unfinished (b ∷ []) unfinished_one;
     }
 
 -- a seven-bit byte is stray

@@ -86,8 +86,8 @@ impl Decoder {
     /// However the bytes are cut, the events are those of the bytes in a row
     /// (`laws::chunks_in_a_row`).
     pub fn feed_all<L: Listener>(&mut self, chunk: &[u8], listener: &mut L)
-        ensures reported {
-            FoldsTo L.hears listener.old (chunk_events self.old chunk.now) listener.new }
+        ensures reported { FoldsTo L.hears listener.old
+            (chunk_events self.old chunk.now) listener.new }
         ensures held { self.new ≡ unfinished_message (self.old ++ chunk.now) }
     {
         let mut at = 0;

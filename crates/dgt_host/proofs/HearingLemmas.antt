@@ -74,7 +74,7 @@ nothing_heard quiet host held =
     let no_event : events (host.unread ++ []) ≡ [] =
     ap events (append-nil host.unread ∙ sym held) ∙ quiet.no_event host.unread in
     let stays : unfinished_message (host.unread ++ []) ≡ host.unread = ap unfinished_message (append-nil host.unread)
-        ∙ held in
+    ∙ held in
     rw (no_event, stays) refl
 
 -- some more bytes of a chunk

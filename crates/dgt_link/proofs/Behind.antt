@@ -184,7 +184,7 @@ module _ (laws : Grammars) where
       let moves : List Move = replicate (length prefix.heard) Move.Hear in
       let led : after_moves x moves ≡ with_host x (host_after_messages (host_of x) prefix.heard) prefix.left =
       hears prefix.heard prefix.left x (host_of x) prefix.all
-          (record { picture = refl; clock = refl; awaited = refl }) in
+      (record { picture = refl; clock = refl; awaited = refl }) in
       let known = knows_no_more (host_of x) host prefix.heard less in
       let same : host_after_events world.host (events (all_heard world count))
       ≡ host_after_messages host prefix.heard

@@ -49,7 +49,7 @@ module _ (behind : ActsBehind) where
       → IsInStep world → FaultyStep (sends command) world Outcome.Done after → IsClockPromisedWorld after
   clock_owed_promises command mode world after sets asks none is step =
       set_promises behind follows_clock stops_clock ClockIsComing clock_hope
-          (λ x. x.board.reported_clock ≡ None) command
+      (λ x. x.board.reported_clock ≡ None) command
       mode world after (λ x moves e reported. rw e (inr (inr (inr reported)))) sets asks
       (record {
         garbage = is.garbage;

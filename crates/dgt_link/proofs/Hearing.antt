@@ -45,7 +45,7 @@ module _ (reads : Reads) where
   nothing_more prefix rest x y xs e whole =
       let behind : List Placed
       = events_behind (length prefix - length (unfinished_message prefix))
-          (events (unfinished_message prefix ++ rest)) in
+      (events (unfinished_message prefix ++ rest)) in
       let all : x ∷ (xs ++ behind) ≡ y ∷ []
       = ap (λ (es : List Placed). es ++ behind) (sym e) ∙ sym (reads.append prefix rest) ∙ whole in
       nothing_behind (length prefix - length (unfinished_message prefix)) (events (unfinished_message prefix ++ rest))
@@ -97,7 +97,7 @@ module _ (reads : Reads) where
           are_messages = tt;
           in_a_row =
               rw (left_empty prefix more encoded.in_a_row, right_empty prefix more encoded.in_a_row, nothing_unfinished)
-                  refl;
+              refl;
         };
       }
   heard_prefix prefix more (message ∷ messages) encoded =

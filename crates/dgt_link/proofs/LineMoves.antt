@@ -204,7 +204,7 @@ taking_more append board now new line left after moved n taking more within room
     let next' : HasTaken now (take n (drop moved line.bytes)) new
     = subst (λ (l : List ℕ). HasTaken now (take n l) new) rest next in
     let calm' : StaysUnfinished now (drop moved line.bytes) n =
-        subst (λ (l : List ℕ). StaysUnfinished now l n) rest calm in
+    subst (λ (l : List ℕ). StaysUnfinished now l n) rest calm in
     record {
       within = within;
       taken = inr (omega (arith, more), taken_more append board now new line.bytes moved n taking.taken next');

@@ -95,7 +95,7 @@ pub record ReportedIsHeard (board : BoardState) (message : Content) : Type 0 whe
   pub first_clock : IsUnknownOr (clock_after None message) (reported_clock_after board message)
   pub followed : (reported_clock_after board message ≡ Some board.clock) ⊎
       ((reported_clock_after board message ≡ board.reported_clock)
-          × (times_owed_after board message ≡ board.times_owed))
+      × (times_owed_after board message ≡ board.times_owed))
 
 pub field_reports : (board : BoardState) (square : ℕ) → ReportedIsHeard board (field_of board square)
 field_reports board square =
@@ -176,7 +176,7 @@ pub picture_reported : (board : BoardState) (message : Content) → ReportedIsHe
 picture_reported board message reports picture up h =
     rw (picture_after_all-append picture up message)
     (seen_after board.reported_squares (reported_squares_after board message) message reports.picture
-        reports.first_picture
+    reports.first_picture
     (picture_after_all picture up) h)
 
 clock_seen_after : (reported reported' : Option ClockState) (message : Content)
@@ -192,7 +192,7 @@ pub clock_reported_of : (board : BoardState) (message : Content) → ReportedIsH
 clock_reported_of board message reports clock up h =
     rw (clock_after_all-append clock up message)
     (clock_seen_after board.reported_clock (reported_clock_after board message) message reports.clock
-        reports.first_clock
+    reports.first_clock
     (clock_after_all clock up) h)
 
 -- the clock that is followed is reported, or owed
@@ -203,7 +203,7 @@ followed_after board message reports before = go reports.followed before
   where
     go : (reported_clock_after board message ≡ Some board.clock) ⊎
         ((reported_clock_after board message ≡ board.reported_clock)
-            × (times_owed_after board message ≡ board.times_owed))
+        × (times_owed_after board message ≡ board.times_owed))
         → IsTrue board.times_owed ⊎ (board.reported_clock ≡ Some board.clock)
         → IsTrue (times_owed_after board message) ⊎ (reported_clock_after board message ≡ Some board.clock)
     go (inl reported) before = inr reported

@@ -93,7 +93,7 @@ abbrev pub after_reply : MachineState → List OwedReply → MachineState
 after_reply x [] = x
 after_reply x (reply ∷ later) =
     after_reported (record x { board = record x.board { owed = later } })
-        (reply_message x.board reply)
+    (reply_message x.board reply)
 
 -- the first of these messages is heard
 abbrev pub after_hear : MachineState → List Content → MachineState

@@ -7,20 +7,20 @@ use Rattle.dgt_decode.proofs.dumps.dump_position.Goals as goal
 pub returns-then-bytes : goal.returns-then-bytes
 returns-then-bytes c = λ pieces e.
     let reported = only_dump c.reading_is_exact.ensures.message _ pieces
-        (omega (arith, c.type_inv.bytes 0)) c.requires e in
+    (omega (arith, c.type_inv.bytes 0)) c.requires e in
     omega (arith, reported.0)
 
 pub returns-in_default : goal.returns-in_default
 returns-in_default c = λ pieces e.
     let reported = only_dump c.reading_is_exact.ensures.message _ pieces
-        (omega (arith, c.type_inv.bytes 0)) c.requires e in
+    (omega (arith, c.type_inv.bytes 0)) c.requires e in
     let other = rw (take_rest c.args.bytes.now 3) at c.in_default.ensures in
     omega (arith, other, reported.1, length-drop 3 c.args.bytes.now)
 
 pub returns-in-Err : goal.returns-in-Err
 returns-in-Err c = λ pieces e.
     let reported = only_dump c.reading_is_exact.ensures.message _ pieces
-        (omega (arith, c.type_inv.bytes 0)) c.requires e in
+    (omega (arith, c.type_inv.bytes 0)) c.requires e in
     let body = rw (take_rest c.args.bytes.now 3) at c.in-Ok.ensures in
     let bad = rw body.1.same at c.in-Err.ensures in
     omega (arith, bad.0, reported.2 _ c.in-Err.field-0.small)

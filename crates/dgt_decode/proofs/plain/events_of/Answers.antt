@@ -16,7 +16,7 @@ push_segment-requires-clause-is_segment c =
     let start = c.loop-start.start in
     IsSegment-next bytes start c.lead_length.result _ (
     next_segment bytes start c.lead_length.result (map placed_content c.loop-start.reported.items)
-        c.loop-start.invariant
+    c.loop-start.invariant
     c.loop-start-test.true
     (rw (take_rest bytes (start + 1)) at c.lead_length.ensures.is_lead)
     (rw (take_rest bytes (start + 1)) at c.lead_length.ensures.within)
