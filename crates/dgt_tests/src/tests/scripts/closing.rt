@@ -55,8 +55,9 @@ fn a_new_world_and_one_that_is_refused(rt: HostRuntime) -> Result<(), Fail> {
             refuses,
         };
         let mut device = Device::new(&mut taking);
-        let squares = world.board().position();
-        let closed = write_closing(squares, world.host(), world.quiet(), &mut device);
+        let (squares, host) = (world.board().position(), world.host());
+        let (picture, clock) = (host.picture(), host.clock());
+        let closed = write_closing(squares, picture, clock, world.quiet(), &mut device);
         assert_same(&rt, closed, written);
         assert_same(&rt, taking.taken.as_slice(), lines);
         assert_same(&rt, taking.writes, 1);
