@@ -1,5 +1,5 @@
 -- What a board keeps, and what is done to it.
-use Rattle.std.specs.Prelude.{ℕ, ◌<◌, ◌≤◌, List, [], ◌∷◌, ◌++◌, length, map, All, Option, Some, None, option_to_list, unwrap_or, Bool, true, false, ◌&&◌, not, ◌==◌, if◌then◌else◌, slice_set}
+use Rattle.std.specs.Prelude.{IsTrue, ℕ, ◌<◌, ◌≤◌, List, [], ◌∷◌, ◌++◌, length, map, All, Option, Some, None, option_to_list, unwrap_or, Bool, true, false, ◌&&◌, not, ◌==◌, if◌then◌else◌, slice_set}
 use Rattle.std.specs.Option.{option_map_or}
 use Rattle.dgt_values.specs.declared.pieces.Piece.{Piece}
 use Rattle.dgt_message.specs.Clock.{ClockState, clock_eq}
@@ -63,6 +63,10 @@ abbrev pub follows_clock : Mode → Bool
 follows_clock Mode.Update = true
 follows_clock Mode.UpdateNice = true
 follows_clock _ = false
+
+-- the clock is owed only in a mode that asks for it
+abbrev pub OwesByItsMode : BoardState → Type 0
+OwesByItsMode board = IsTrue board.times_owed → IsTrue (follows_clock board.mode)
 
 -- whether what was reported of the clock is what it shows
 abbrev pub is_reported : Option ClockState → ClockState → Bool

@@ -7,7 +7,9 @@ ghost use Rattle.dgt_message.specs.Content.{Content};
 ghost use Rattle.dgt_command.specs.Content.{EventContent, command_event_content};
 ghost use Rattle.dgt_command.specs.Equality.{EventHasArrays};
 ghost use Rattle.dgt_board.specs.declared.boards.Taken.{Taken};
-ghost use Rattle.dgt_board.specs.State.{BoardState, effects};
+ghost use Rattle.dgt_board.specs.State.{BoardState, IdentityContent, OwesByItsMode, after_hand_clock, after_line_lost, effect, effects, new_board};
+ghost use Rattle.dgt_message.specs.Clock.{ClockState};
+ghost use Rattle.dgt_values.specs.declared.pieces.Piece.{Piece};
 ghost use Rattle.dgt_board.specs.Sending.{after_sending, backlog, clock_news, left_to_send, next_message, unreported_squares};
 ghost use Rattle.dgt_board.specs.View.{BoardView, HasTaken};
 
@@ -89,4 +91,17 @@ pub fn bounded_backlog()
         → backlog (after_sending board message) < backlog board }
     ensures rises { (board : BoardState) (events : List EventContent) →
         backlog (effects board events) ≤ backlog board + length events }
+{}
+
+/// A board reports its clock by itself only in a mode that asks for it, whatever is done to it.
+pub fn clock_is_owed_by_the_mode()
+    ensures new { (squares : List Piece) (clock : ClockState) (identity : IdentityContent)
+        → OwesByItsMode (new_board squares clock identity) }
+    ensures handed { (board : BoardState) (clock : ClockState)
+        → OwesByItsMode (after_hand_clock board clock) }
+    ensures read { (board : BoardState) (event : EventContent)
+        → OwesByItsMode board → OwesByItsMode (effect board event) }
+    ensures sent { (board : BoardState) (message : Content)
+        → OwesByItsMode board → OwesByItsMode (after_sending board message) }
+    ensures lost { (board : BoardState) → OwesByItsMode (after_line_lost board) }
 {}

@@ -13,17 +13,18 @@
 //! dgt_follow has an example of a program that asks.
 #![tactic(auto)]
 
-ghost use Rattle.std.specs.Prelude.{◌≡◌, ◌<◌, ℕ, List, Some, length, take};
+ghost use Rattle.std.specs.Prelude.{◌≡◌, ◌≢◌, ◌⊎◌, ◌<◌, ◌≤◌, ◌+◌, ◌∷◌, ℕ, List, Some, length, take, true};
 ghost use Rattle.dgt_command.specs.Content.{CommandContent, requested_kind};
 ghost use Rattle.dgt_command.specs.Encoding.{EncodesCommand, command_encoding};
 ghost use Rattle.dgt_host.specs.Host.{HostView, Sends};
 ghost use Rattle.dgt_follow.specs.Pace.{asking_bytes};
 ghost use Rattle.dgt_follow.specs.Follower.{Asks, FollowerView, asking_of, follower_after};
-ghost use Rattle.dgt_followed.specs.Followed.{AfterAskings, FollowedStep, FollowedView, Happening, HasRoom, RunsDone, after_writing, asking_acts, clock_count_after, clock_count_after_asking, count_after, count_after_asking, follower_of};
+ghost use Rattle.dgt_followed.specs.Followed.{AfterAskings, FollowedRuns, FollowedStep, FollowedView, Happening, HasRoom, RunsDone, after_writing, asking_acts, clock_count_after, clock_count_after_asking, count_after, count_after_asking, follower_of, unsettles};
 ghost use Rattle.dgt_link.specs.Act.{ActContent};
 ghost use Rattle.dgt_link.specs.Clocks.{IsClockPromisedWorld};
-ghost use Rattle.dgt_link.specs.Faults.{FaultyContent, sends};
-ghost use Rattle.dgt_link.specs.Healing.{IsPromisedWorld};
+ghost use Rattle.dgt_link.specs.Faults.{FaultyContent, is_fault, sends, stops};
+ghost use Rattle.dgt_link.specs.Healing.{IsPromisedWorld, IsSane};
+ghost use Rattle.dgt_follow.specs.declared.asking.Asking.{Asking};
 ghost use Rattle.dgt_link.specs.View.{IsQuietWorld, WorldView, without_first};
 
 /// What a follower's `ask` writes and leaves are acts of the faulty world of its host, each of them
@@ -111,4 +112,27 @@ pub fn clocks_heal()
 {
     dgt_link::healing::faults_heal();
     dgt_link::healing::clocks_heal();
+}
+
+/// What the words of the other laws come to. Each asking that is due counts, and nothing but a
+/// fault, a break or a reset begins the count anew. Steps in a row are runs.
+pub fn askings_count()
+    ensures asking { (what : Asking) (since : ℕ) → what ≢ Asking.Nothing →
+        count_after_asking what since ≡ since + 1 }
+    ensures other { (act : FaultyContent) → unsettles act ≡ true →
+        (is_fault act ≡ true) ⊎ (stops act ≡ true) }
+    ensures runs { (happening : Happening) (later : List Happening)
+        (before between after : FollowedView) → FollowedStep happening before between →
+        FollowedRuns later between after → FollowedRuns (happening ∷ later) before after }
+{}
+
+/// `askings_heal` in full.
+pub fn patience_and_one_more_heal()
+    ensures { (happenings : List Happening) (before after : FollowedView) → IsSane before.world →
+        before.pace.left ≤ before.pace.patience → before.since ≡ 0 →
+        FollowedRuns happenings before after → after.pace.patience + 1 ≤ after.since →
+        IsQuietWorld after.world →
+        after.world.host.picture ≡ Some after.world.board.state.squares }
+{
+    askings_heal();
 }

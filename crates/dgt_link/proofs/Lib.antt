@@ -30,3 +30,7 @@ pub mod Hopes
 pub mod Hoping
 pub mod ClockHopes
 pub mod Reports
+pub mod Fair
+pub mod History
+pub mod Counts
+pub mod Headlines

@@ -234,7 +234,7 @@ pub nothing_asked : (x : MachineState) → IsComing [] x
 nothing_asked x =
     record { picture = λ h. absurd (nothing_contained CommandContent.Dump h); before = coming_mode x; mode = refl }
 
-asked-mode : (commands : List CommandContent) (command : CommandContent) (before mode : Mode)
+pub asked-mode : (commands : List CommandContent) (command : CommandContent) (before mode : Mode)
     → mode ≡ last_mode before (filter_map command_mode commands)
     → unwrap_or (command_mode command) mode ≡ last_mode before (filter_map command_mode (commands ++ command ∷ []))
 asked-mode commands command before mode e =

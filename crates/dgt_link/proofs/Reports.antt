@@ -27,6 +27,7 @@ use Rattle.dgt_link.proofs.Asking.{step_is_other}
 use Rattle.dgt_link.proofs.Counting.{forgotten, forgotten_stands}
 use Rattle.dgt_link.proofs.Promises.{picture_after_known}
 use Rattle.dgt_link.proofs.Lists.{all_append, left_empty, right_empty}
+use Rattle.dgt_link.proofs.History.{in_order}
 use Rattle.dgt_link.proofs.AfterMoves.{moves_sound}
 use Rattle.dgt_link.proofs.Standing.{moves-append}
 
@@ -311,13 +312,14 @@ module _ (behind : ActsBehind) where
 
   pub reported_by : (acts : List ActContent) (world after : WorldView) (answers : List Outcome)
       → AllByRecursion (λ act. is_break act ≡ false) acts → IsInStep world → Runs acts world answers after
-      → IsReportedBy acts answers after
+      → IsReportedBy acts answers world after
   reported_by acts world after answers all is runs =
       let stands = forgotten_stands is.garbage world world.up is.state is.stands in
       let reached = run_behind acts (world.host.unread ++ world.up.bytes) world after answers (forgotten is.state) all
       stands runs in
       record {
         start = forgotten is.state;
+        begins = stands;
         nothing_heard = refl;
         nothing_sent = refl;
         garbage = reached.garbage;
@@ -325,6 +327,7 @@ module _ (behind : ActsBehind) where
         are_moves = reached.are_moves;
         stands = reached.stands;
         reported = was_reported (forgotten is.state) reached.moves stands.sound refl reached.plain;
+        shown = λ square. in_order square (forgotten is.state) reached.moves refl refl;
       }
 
 -- ---- what is known of the state

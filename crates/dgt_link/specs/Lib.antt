@@ -7,9 +7,11 @@ pub mod Sound
 pub mod Stands
 pub mod Promise
 pub mod Settling
+pub mod Headline
 pub mod Faults
 pub mod Healing
 pub mod Clocks
+pub mod History
 pub mod Reported
 -- for bodies alone
 pub mod Work

@@ -8,6 +8,7 @@ use Rattle.dgt_board.specs.Sending.{differs, field_of, reply_message}
 use Rattle.dgt_link.specs.declared.acts.Outcome.{Outcome}
 use Rattle.dgt_link.specs.Act.{ActContent}
 use Rattle.dgt_link.specs.Healing.{StandsBehind}
+use Rattle.dgt_link.specs.History.{IsInOrderOf, shown_on, stood_on}
 use Rattle.dgt_link.specs.Machine.{MachineState, Move, after_move, after_moves}
 use Rattle.dgt_link.specs.Sound.{IsUnknownOr}
 use Rattle.dgt_link.specs.Stands.{AreMovesOfRun}
@@ -45,11 +46,14 @@ pub record ReportedBefore (x : MachineState) (moves : List Move) (seen : Option 
 abbrev pub WasReported : MachineState → List Move → Type 0
 WasReported x moves = ReportedBefore x moves (after_moves x moves).picture (after_moves x moves).up
 
--- After some garbage, the world after these acts stands for a state to which their moves lead from
--- one that knows no picture and has no message under way. What that state knows was reported.
-pub record IsReportedBy (acts : List ActContent) (answers : List Outcome) (after : WorldView)
+-- The first world stands, after all bytes under way to the host as garbage, for a state that knows
+-- no picture and has no message under way. After some garbage, the world after these acts stands
+-- for a state to which their moves lead from that one. What that state knows was reported, and what
+-- it shows of a square stood there, in this order.
+pub record IsReportedBy (acts : List ActContent) (answers : List Outcome) (world after : WorldView)
     : Type 0 where
   pub start : MachineState
+  pub begins : StandsBehind (world.host.unread ++ world.up.bytes) world start
   pub nothing_heard : start.picture ≡ None
   pub nothing_sent : start.up ≡ []
   pub garbage : List ℕ
@@ -57,3 +61,4 @@ pub record IsReportedBy (acts : List ActContent) (answers : List Outcome) (after
   pub are_moves : AreMovesOfRun acts answers moves
   pub stands : StandsBehind garbage after (after_moves start moves)
   pub reported : WasReported start moves
+  pub shown : (square : ℕ) → IsInOrderOf (shown_on square start moves) (stood_on square start moves)

@@ -12,7 +12,7 @@ ghost use Rattle.dgt_link.specs.Settling.{IsNext, SettlesIn};
 ghost use Rattle.dgt_link.specs.Work.{work_left};
 ghost use Rattle.dgt_link.specs.declared.acts.Outcome.{Outcome as Answer};
 ghost use Rattle.dgt_link.specs.Clocks.{IsClockFollowing, IsClockPromisedWorld, stops_clock};
-ghost use Rattle.dgt_link.specs.Faults.{FaultyContent, FaultyRuns, FaultyStep, IfRan, begins_anew, faulty_content, is_fault, loses_step, sends, stops};
+ghost use Rattle.dgt_link.specs.Faults.{AreCalm, FaultyContent, FaultyRuns, FaultyStep, IfRan, begins_anew, faulty_content, is_fault, loses_step, sends, stops};
 ghost use Rattle.dgt_link.specs.Healing.{IsClockHealing, IsFaultyWorld, IsFollowing, IsHealing, IsInStep, IsInStepBy, IsInTurn, IsPromisedWorld, IsRestedWorld, StandsBehind, counted_by};
 ghost use Rattle.dgt_link.specs.Machine.{MachineState};
 ghost use Rattle.dgt_message.specs.Picture.{picture_after_all};
@@ -159,6 +159,8 @@ impl FaultyWorld {
         ensures promised { IfRan (map faulty_content acts.now) self.old self.new (λ outcomes.
             IsHealing (counted_by false (map faulty_content acts.now) outcomes) →
             IsPromisedWorld self.new) }
+        ensures kept { AreCalm (map faulty_content acts.now) → IsPromisedWorld self.old →
+            IsPromisedWorld self.new }
         ensures awaited { IfRan (map faulty_content acts.now) self.old self.new (λ outcomes.
             IsInTurn (counted_by false (map faulty_content acts.now) outcomes) →
             IsQuietWorld self.new → self.new.host.awaited ≡ []) }
@@ -183,6 +185,7 @@ impl FaultyWorld {
     {
         healing::clocks_heal();
         healing::faults_heal();
+        healing::steps_heal();
         self.is_faulty();
         self.act_all(acts)
     }

@@ -1,7 +1,7 @@
 //! How the picture and the clock of a host heal after faults of the lines and of the board's power.
 //! Nothing here runs: each function stands for the facts that its contract states.
 
-ghost use Rattle.std.specs.Prelude.{◌≡◌, ◌≢◌, ℕ, List, [], Some, None, IsSome, IsTrue, false, true};
+ghost use Rattle.std.specs.Prelude.{◌≡◌, ◌≢◌, ℕ, List, [], ◌∷◌, ◌++◌, length, Some, None, IsSome, IsTrue, false, true};
 ghost use Rattle.std.specs.List.{AllByRecursion};
 ghost use Rattle.dgt_command.specs.Content.{CommandContent};
 ghost use Rattle.dgt_decode.specs.Grammar.{unfinished_message};
@@ -186,10 +186,20 @@ pub fn pictures_were_reported()
         → WasReported x moves }
     ensures acts { (acts : List ActContent) (world after : WorldView) (answers : List Outcome) →
         AllByRecursion (λ act. is_break act ≡ false) acts → IsInStep world
-        → Runs acts world answers after → IsReportedBy acts answers after }
+        → Runs acts world answers after → IsReportedBy acts answers world after }
     ensures known { (garbage : List ℕ) (world : WorldView) (x : MachineState) →
         StandsBehind garbage world x → IsSome x.picture → (world.host.picture ≡ x.picture)
         × (picture_after_all world.host.picture x.up ≡ Some world.board.state.reported_squares) }
 {
     acts_behind_garbage();
 }
+
+/// What is counted is what the words say: an act with which the host begins anew counts if it is
+/// done, whatever was done and whatever failed before, and so it does after any acts of which none
+/// is a fault, a reset or a break that both sides see.
+pub fn beginnings_count()
+    ensures { (acts later : List FaultyContent) (act : FaultyContent)
+        (answers others : List Outcome) → length answers ≡ length acts → begins_anew act ≡ true
+        → AreCalm later → IsHealing
+        (counted_by false (acts ++ act ∷ later) (answers ++ Outcome.Done ∷ others)) }
+{}

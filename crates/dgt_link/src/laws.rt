@@ -1,7 +1,7 @@
 //! What holds of the machine of a board and its host, and of the worlds that stand for its states.
 //! Nothing here runs: each function stands for the facts that its contract states.
 
-ghost use Rattle.std.specs.Prelude.{◌≡◌, ◌≢◌, ◌≤◌, List, [], ◌∷◌, ◌++◌, All, Contains};
+ghost use Rattle.std.specs.Prelude.{◌≡◌, ◌≢◌, ◌≤◌, ◌<◌, ℕ, List, [], ◌∷◌, ◌++◌, All, Contains};
 ghost use Rattle.std.specs.Prelude.{Some, None, flat_map, length, map, replicate, IsTrue, IsSome};
 ghost use Rattle.std.specs.List.{AllByRecursion};
 ghost use Rattle.dgt_values.specs.declared.pieces.Piece.{Piece};
@@ -28,7 +28,9 @@ ghost use Rattle.dgt_link.specs.Readers.{Grammars};
 ghost use Rattle.dgt_link.specs.Stands.{IsExactWorld, IsWorld, StandsAfterRun, StandsAfterStep, StandsFor};
 ghost use Rattle.dgt_link.specs.declared.acts.Outcome.{Outcome};
 ghost use Rattle.dgt_link.specs.Step.{Runs, Step, done_count};
-ghost use Rattle.dgt_link.specs.Settling.{IsSettling, IsSettlingMove, SettlesBy, steps_left};
+ghost use Rattle.dgt_link.specs.Settling.{HasRounds, IsSettling, IsSettlingMove, IsShortClock, IsShortIdentity, SettlesBy, steps_left};
+ghost use Rattle.dgt_link.specs.History.{IsInOrderOf, RunsThrough, shown_in, shown_on, stood_in, stood_on};
+ghost use Rattle.dgt_link.specs.Healing.{IsRestedWorld};
 ghost use Rattle.dgt_link.specs.View.{IsQuietWorld, WorldView};
 
 use crate::{Act, FaultyAct, MIN_DOWN, MIN_UP, Outcome as ActOutcome, WorldFault};
@@ -363,4 +365,39 @@ pub fn settling_ends()
     dgt_board::laws::bounded_backlog();
     dgt_command::laws::words_are_short();
     dgt_command::laws::parts_of_words();
+}
+
+/// However a world is delivered and its board sends, in whatever order and chunks: if each side
+/// moves again and again, both lines are empty and the board has nothing to send after a limited
+/// number of rounds.
+pub fn fair_rounds_rest()
+    ensures { (rounds : ℕ) (acts : List ActContent) (world after : WorldView)
+        (answers : List Outcome) → IsWorld world → IsShortIdentity world.board.state.identity
+        → IsShortClock world.board.state.clock → HasRounds rounds acts
+        → steps_left world < rounds → Runs acts world answers after → IsRestedWorld after }
+{
+    acts_keep();
+    dgt_board::laws::bounded_backlog();
+    dgt_board::laws::nothing_to_send();
+    dgt_command::laws::words_are_short();
+    dgt_command::laws::parts_of_words();
+}
+
+/// What a host shows of a square stood there, in this order: nothing is shown that never stood
+/// there, and nothing comes back that was followed by something else. Breaks change nothing of it.
+pub fn squares_are_shown_in_order()
+    ensures { (x : MachineState) (moves : List Move) (square : ℕ) → x.picture ≡ None → x.up ≡ []
+        → IsInOrderOf (shown_on square x moves) (stood_on square x moves) }
+{}
+
+/// What a host shows of a square at first and after each act stood there, in this order, whatever
+/// the acts are. The first world's host knows no picture, and nothing is under way to it, as in a
+/// new world and after a break.
+pub fn worlds_show_in_order()
+    ensures { (acts : List ActContent) (world : WorldView) (answers : List Outcome)
+        (worlds : List WorldView) (square : ℕ) → IsWorld world → world.host.picture ≡ None
+        → world.host.unread ≡ [] → world.up.bytes ≡ [] → RunsThrough acts world answers worlds
+        → IsInOrderOf (shown_in square worlds) (stood_in square worlds) }
+{
+    acts_are_moves();
 }

@@ -1,6 +1,6 @@
 //! The world: a board, a host, and the two lines between them.
 
-ghost use Rattle.std.specs.Prelude.{◌≡◌, ◌≢◌, ◌↔◌, ◌⊎◌, ◌<◌, ◌≤◌, ◌+◌, ◌*◌, false, List, []};
+ghost use Rattle.std.specs.Prelude.{◌≡◌, ◌≢◌, ◌↔◌, ◌⊎◌, ◌<◌, ◌≤◌, ◌+◌, ◌*◌, ℕ, false, List, []};
 ghost use Rattle.std.specs.Prelude.{◌∷◌, ◌++◌, All, Contains, Some, None, IsTrue, IfOk};
 ghost use Rattle.std.specs.Prelude.{IsErrAnd, IsErrOf, map, length};
 ghost use Rattle.dgt_values.specs.Board.{pieces_of};
@@ -17,13 +17,15 @@ ghost use Rattle.dgt_link.specs.Act.{ActContent, act_content};
 ghost use Rattle.dgt_link.specs.Clocks.{IsClockFollowing, IsClockPromisedWorld, stops_clock};
 ghost use Rattle.dgt_link.specs.Faults.{FaultyContent};
 ghost use Rattle.dgt_link.specs.Healing.{IsInStep};
+ghost use Rattle.dgt_link.specs.Headline.{AskForPicture, squares_after};
 ghost use Rattle.dgt_link.specs.Stands.{StandsAfterRun, StandsAfterStep, IsExactWorld, IsWorld, StandsFor};
 ghost use Rattle.dgt_link.specs.Promise.{IsAskedBy, IsPromised, IsRestarted, PictureIsComing, act_requests, coming_mode, mode_after};
 ghost use Rattle.dgt_link.specs.Machine.{MachineState, new_state};
 ghost use Rattle.dgt_link.specs.Settling.{SettlesIn};
 ghost use Rattle.dgt_link.specs.Sound.{IsExact, IsSound, IsUnknownOr};
 ghost use Rattle.dgt_link.specs.Step.{Runs, Step, done_count};
-ghost use Rattle.dgt_link.specs.View.{IsQuietWorld, new_world};
+ghost use Rattle.dgt_link.specs.History.{IsInOrderOf, RunsThrough, shown_in, stood_in};
+ghost use Rattle.dgt_link.specs.View.{IsQuietWorld, WorldView, new_world};
 
 use crate::acts::{Act, Outcome, count};
 use crate::faulty::{FaultyAct, FaultyWorld};
@@ -244,11 +246,18 @@ impl World {
             Runs (map act_content acts.now) self.old outcomes self.new →
             IsAskedBy (map act_content acts.now) outcomes → IsQuietWorld self.new →
             self.new.host.picture ≡ Some self.new.board.state.squares }
+        // what the host shows of a square at first and after each act stood there, in this order
+        ensures in_order { (outcomes : List Outcome) (worlds : List WorldView) (square : ℕ) →
+            RunsThrough (map act_content acts.now) self.old outcomes worlds →
+            self.old.host.picture ≡ None → self.old.host.unread ≡ [] → self.old.up.bytes ≡ [] →
+            IsInOrderOf (shown_in square worlds) (stood_in square worlds) }
     {
         laws::acts_are_moves();
         laws::acts_keep();
         laws::picture_after_acts();
+        laws::worlds_show_in_order();
         self.stands();
+        self.is_world();
         self.act_all(acts)
     }
 
@@ -312,6 +321,24 @@ impl World {
         self.stands();
         let done = self.inner.settle();
         self.inner.holds_unfinished();
+        done
+    }
+
+    /// Does all acts in order, delivers all that is under way ([`World::settle`]), and returns how
+    /// many of the acts were `Done`.
+    ///
+    /// If all were done, and they ask for a dump and for updates, the host's picture is what was on
+    /// the board before, with the changes made.
+    pub fn play(&mut self, acts: &[Act<'_>]) -> usize
+        ensures exact { (outcomes : List Outcome) × (between : WorldView) × (steps : ℕ)
+            × (result ≡ done_count outcomes)
+            × Runs (map act_content acts.now) self.old outcomes between
+            × SettlesIn steps between self.new }
+        ensures picture { result ≡ length acts.now → AskForPicture acts.now →
+            self.new.host.picture ≡ Some (squares_after self.old.board.state.squares acts.now) }
+    {
+        let done = self.run(acts);
+        self.settle();
         done
     }
 

@@ -1,0 +1,145 @@
+-- Acts that were all done: what they put on the board, and what they ask for.
+use Rattle.std.proofs.Common.{◌≡◌, refl, ap, ◌∙◌, ◌≤◌, List, [], ◌∷◌, ◌++◌, length, map, true, arith}
+use Rattle.std.proofs.lemmas.Bool.{false≢true}
+use Rattle.std.proofs.lemmas.List.Elements.{filter_map-append, Contains-append_left, Contains-push}
+use Rattle.std.specs.Prelude.{Contains, IsTrue, filter_map}
+use Rattle.dgt_values.specs.declared.pieces.Piece.{Piece}
+use Rattle.dgt_command.specs.Content.{CommandContent, command_content}
+use Rattle.dgt_command.specs.declared.command.Command.{Command}
+use Rattle.dgt_command.specs.declared.command.Command.TheVariants as command
+use Rattle.dgt_board.specs.declared.modes.Mode.{Mode}
+use Rattle.dgt_board.specs.State.{command_mode, updates}
+use Rattle.dgt_link.specs.declared.acts.Act.{Act}
+use Rattle.dgt_link.specs.declared.acts.Act.TheVariants as act
+use Rattle.dgt_link.specs.declared.acts.Outcome.{Outcome}
+use Rattle.dgt_link.specs.Act.{act_content}
+use Rattle.dgt_link.specs.Headline.{AskForPicture, Asking, asking_after, asking_with, nothing_asked, squares_after}
+use Rattle.dgt_link.specs.Promise.{IsAskedBy, commands_after, last_mode, run_requests}
+use Rattle.dgt_link.specs.Step.{Becomes, Runs, done_count}
+use Rattle.dgt_link.specs.View.{WorldView}
+use Rattle.dgt_link.proofs.Promises.{last_mode-append}
+use Rattle.dgt_link.proofs.Taking.{effects_same_game}
+
+-- each act was done
+abbrev pub all_done : List Act → List Outcome
+all_done [] = []
+all_done (act ∷ acts) = Outcome.Done ∷ all_done acts
+
+-- ---- what is on the board
+
+one_act : (one : Act) (world after : WorldView) → Becomes (act_content one) world after
+    → after.board.state.squares ≡ squares_after world.board.state.squares (one ∷ [])
+one_act (act.ToBoard count) world after delivers =
+    rw (delivers.leaves, delivers.taken.state) (effects_same_game world.board.state delivers.taken.events).squares
+one_act (act.Change square piece) world after same = rw same refl
+one_act (act.ClockRead clock) world after same = rw same refl
+one_act (act.Host said) world after same = rw same.1 refl
+one_act act.BoardSend world after (message, is_next, encodes, same) = rw same refl
+one_act (act.ToHost count) world after same = rw same refl
+one_act act.Break world after same = rw same refl
+one_act act.HostBreak world after same = rw same refl
+
+one_more : (squares : List Piece) (one : Act) (acts : List Act)
+    → squares_after (squares_after squares (one ∷ [])) acts ≡ squares_after squares (one ∷ acts)
+one_more squares (act.Change square piece) acts = refl
+one_more squares _ acts = refl
+
+few_done : (acts : List Act) (world after : WorldView) (answers : List Outcome)
+    → Runs (map act_content acts) world answers after → done_count answers ≤ length acts
+few_done [] world after [] same = omega arith
+few_done (one ∷ acts) world after (Outcome.Done ∷ answers) (between, step, runs) =
+    omega (arith, few_done acts between after answers runs)
+few_done (one ∷ acts) world after (_ ∷ answers) (between, step, runs) =
+    omega (arith, few_done acts between after answers runs)
+few_done _ world after _ none = absurd none
+
+-- acts that were all done
+pub record RanAll (acts : List Act) (world after : WorldView) (answers : List Outcome) : Type 0 where
+  pub all : answers ≡ all_done acts
+  pub squares : after.board.state.squares ≡ squares_after world.board.state.squares acts
+
+pub ran_all : (acts : List Act) (world after : WorldView) (answers : List Outcome)
+    → Runs (map act_content acts) world answers after → done_count answers ≡ length acts
+    → RanAll acts world after answers
+ran_all [] world after [] same count = rw same (record { all = refl; squares = refl })
+ran_all (one ∷ acts) world after (Outcome.Done ∷ answers) (between, step, runs) count =
+    let rest = ran_all acts between after answers runs (omega (arith, count)) in
+    let first = one_act one world between step.leaves in
+    record {
+      all = ap (λ (others : List Outcome). Outcome.Done ∷ others) rest.all;
+      squares = rest.squares ∙ ap (λ (squares : List Piece). squares_after squares acts) first
+          ∙ one_more world.board.state.squares one acts;
+    }
+ran_all (one ∷ acts) world after (_ ∷ answers) (between, step, runs) count =
+    absurd (omega (arith, few_done acts between after answers runs, count))
+ran_all _ world after _ none count = absurd none
+
+-- ---- what they ask for
+
+-- these commands ask for this
+record IsAskedFor (commands : List CommandContent) (asking : Asking) : Type 0 where
+  dump : IsTrue asking.dump → Contains commands CommandContent.Dump
+  mode : updates (last_mode Mode.Idle (filter_map command_mode commands)) ≡ asking.updates
+
+last-push : (commands : List CommandContent) (said : CommandContent)
+    → last_mode Mode.Idle (filter_map command_mode (commands ++ said ∷ []))
+    ≡ last_mode (last_mode Mode.Idle (filter_map command_mode commands)) (filter_map command_mode (said ∷ []))
+last-push commands said =
+    ap (last_mode Mode.Idle) (filter_map-append command_mode commands (said ∷ []))
+    ∙ last_mode-append Mode.Idle (filter_map command_mode commands) (filter_map command_mode (said ∷ []))
+
+dump_more : (commands : List CommandContent) (asking : Asking) (one : Command) → IsAskedFor commands asking
+    → IsTrue (asking_with asking one).dump → Contains (commands ++ command_content one ∷ []) CommandContent.Dump
+dump_more commands asking command.Dump is h = Contains-push commands CommandContent.Dump
+dump_more commands asking one is h =
+    Contains-append_left commands (command_content one ∷ []) CommandContent.Dump (is.dump h)
+
+mode_more : (commands : List CommandContent) (asking : Asking) (one : Command) → IsAskedFor commands asking
+    → updates (last_mode (last_mode Mode.Idle (filter_map command_mode commands))
+    (filter_map command_mode (command_content one ∷ []))) ≡ (asking_with asking one).updates
+mode_more commands asking command.Reset is = refl
+mode_more commands asking command.Update is = refl
+mode_more commands asking command.UpdateBoard is = refl
+mode_more commands asking command.UpdateNice is = refl
+mode_more commands asking _ is = is.mode
+
+command_more : (commands : List CommandContent) (asking : Asking) (one : Command) → IsAskedFor commands asking
+    → IsAskedFor (commands ++ command_content one ∷ []) (asking_with asking one)
+command_more commands asking one is =
+    record {
+      dump = dump_more commands asking one is;
+      mode = ap updates (last-push commands (command_content one)) ∙ mode_more commands asking one is;
+    }
+
+none_asked_for : IsAskedFor [] nothing_asked
+none_asked_for = record { dump = λ h. absurd (false≢true h); mode = refl }
+
+-- what begins anew asks for both
+anew_more : (commands : List CommandContent)
+    → IsAskedFor ((commands ++ CommandContent.UpdateBoard ∷ []) ++ CommandContent.Dump ∷ [])
+    (record { dump = true; updates = true })
+anew_more commands =
+    record {
+      dump = λ h. Contains-push (commands ++ CommandContent.UpdateBoard ∷ []) CommandContent.Dump;
+      mode = ap updates (last-push (commands ++ CommandContent.UpdateBoard ∷ []) CommandContent.Dump
+          ∙ last-push commands CommandContent.UpdateBoard);
+    }
+
+acts_more : (commands : List CommandContent) (asking : Asking) (acts : List Act) → IsAskedFor commands asking
+    → IsAskedFor (commands_after commands (run_requests (map act_content acts) (all_done acts)))
+    (asking_after asking acts)
+acts_more commands asking [] is = is
+acts_more commands asking (act.Host said ∷ acts) is =
+    acts_more (commands ++ command_content said ∷ []) (asking_with asking said) acts
+    (command_more commands asking said is)
+acts_more commands asking (act.Break ∷ acts) is = acts_more [] nothing_asked acts none_asked_for
+acts_more commands asking (act.HostBreak ∷ acts) is =
+    acts_more ((commands ++ CommandContent.UpdateBoard ∷ []) ++ CommandContent.Dump ∷ [])
+    (record { dump = true; updates = true }) acts (anew_more commands)
+acts_more commands asking (_ ∷ acts) is = acts_more commands asking acts is
+
+-- acts that ask for the picture do so once all are done
+pub asked_if_done : (acts : List Act) → AskForPicture acts → IsAskedBy (map act_content acts) (all_done acts)
+asked_if_done acts ask =
+    let is = acts_more [] nothing_asked acts none_asked_for in
+    record { dump = is.dump ask.dump; mode = is.mode ∙ ask.updates }
