@@ -1,6 +1,6 @@
 //! Messages that are read and written back. What they say is in `checks/rows`.
 
-use super::asserting::{assert_said, assert_same, assert_that};
+use super::asserting::{assert_row, assert_said, assert_same, assert_that};
 use dgt_message::{
     BadDigits, BodyFault, Message, NoClock, NotThisKind, OtherCode, Reading, Status, Times, encode,
     length, view,
@@ -93,6 +93,32 @@ fn assert_reads(rt: &impl Abort, reading: Reading, values: [u8; 4]) {
     assert_same(rt, found, values);
 }
 
+// What a status with this byte reports, by the numbers of the bits.
+fn flags(byte: u8) -> Result<[bool; 6], Fail> {
+    let status = Status::new(SevenBit::try_from(byte)?);
+    Ok([
+        status.running(),
+        status.lever(),
+        status.battery_low(),
+        status.black_turn(),
+        status.white_turn(),
+        status.no_clock(),
+    ])
+}
+
+#[test]
+fn each_bit_of_a_status_is_reported_by_one_call(rt: HostRuntime) -> Result<(), Fail> {
+    let bits = [0x01, 0x02, 0x04, 0x08, 0x10, 0x20, 0x40];
+    for (bit, byte) in bits.iter().enumerate() {
+        let (set, clear) = (flags(*byte)?, flags(0x7f ^ *byte)?);
+        for index in 0..6 {
+            assert_row(&rt, bit, set[index], index == bit);
+            assert_row(&rt, bit, clear[index], index != bit);
+        }
+    }
+    Ok(())
+}
+
 #[test]
 fn readings_and_the_status_are_reported(rt: HostRuntime) -> Result<(), Fail> {
     let status = Status::new(SevenBit::try_from(0x11)?);
@@ -103,23 +129,7 @@ fn readings_and_the_status_are_reported(rt: HostRuntime) -> Result<(), Fail> {
     )?;
     assert_reads(&rt, times.first(), [1, 30, 0, 0]);
     assert_reads(&rt, times.second(), [1, 29, 55, 0]);
-    let status = times.status();
-    assert_same(&rt, status.code().get(), 0x11);
-    assert_that(
-        &rt,
-        status.running() && status.white_turn(),
-        "bits that are set",
-    );
-    assert_that(
-        &rt,
-        !status.lever() && !status.battery_low(),
-        "bits that are clear",
-    );
-    assert_that(
-        &rt,
-        !status.black_turn() && !status.no_clock(),
-        "other clear bits",
-    );
+    assert_same(&rt, times.status().code().get(), 0x11);
     let zero = SevenBit::try_from(0x00)?;
     let absence = NoClock::new([zero; 6], Status::new(SevenBit::try_from(0x20)?))?;
     assert_that(&rt, absence.status().no_clock(), "no clock");
