@@ -1,5 +1,6 @@
 mod ClockLemmas
 mod SquareLemmas
+mod RisingLemmas
 mod SendingLemmas
 mod TakingLemmas
 mod BacklogLemmas

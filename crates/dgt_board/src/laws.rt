@@ -1,16 +1,17 @@
 //! What holds of what a board keeps, of what it sends and of what it has taken, whoever runs it.
 //! Nothing here runs: each function stands for the fact that its contract states.
 
-ghost use Rattle.std.specs.Prelude.{◌≡◌, ◌↔◌, ◌≤◌, ◌<◌, ◌+◌, ◌++◌, ℕ, List, [], Option, Some, None, IfSome, length, option_map};
+ghost use Rattle.std.specs.Prelude.{◌≡◌, ◌↔◌, ◌≤◌, ◌<◌, ◌+◌, ◌∷◌, ◌++◌, ℕ, List, [], Option, Some, None, IfSome, false, length, map, option_map, true};
 ghost use Rattle.dgt_values.specs.Equality.{CloneIsSame, EqualIsSame, EqualIsSameReadOf};
 ghost use Rattle.dgt_message.specs.Content.{Content};
-ghost use Rattle.dgt_command.specs.Content.{EventContent, command_event_content};
+ghost use Rattle.dgt_command.specs.Content.{CommandContent, EventContent, command_event_content};
 ghost use Rattle.dgt_command.specs.Equality.{EventHasArrays};
 ghost use Rattle.dgt_board.specs.declared.boards.Taken.{Taken};
-ghost use Rattle.dgt_board.specs.State.{BoardState, IdentityContent, OwesByItsMode, after_hand_clock, after_line_lost, effect, effects, new_board};
+ghost use Rattle.dgt_board.specs.declared.modes.Mode.{Mode as BoardMode};
+ghost use Rattle.dgt_board.specs.State.{BoardState, IdentityContent, OwesByItsMode, after_hand_clock, after_line_lost, command_mode, effect, effects, follows_clock, new_board, updates};
 ghost use Rattle.dgt_message.specs.Clock.{ClockState};
 ghost use Rattle.dgt_values.specs.declared.pieces.Piece.{Piece};
-ghost use Rattle.dgt_board.specs.Sending.{after_sending, backlog, clock_news, left_to_send, next_message, unreported_squares};
+ghost use Rattle.dgt_board.specs.Sending.{after_sending, backlog, clock_news, left_to_send, next_message, piece_on, unreported_squares};
 ghost use Rattle.dgt_board.specs.View.{BoardView, HasTaken};
 
 use crate::{Busy, MAX_KEPT_BODY, MAX_OWED, MAX_SENT, Mode, Polled, Taken, TooLong};
@@ -104,4 +105,30 @@ pub fn clock_is_owed_by_the_mode()
     ensures sent { (board : BoardState) (message : Content)
         → OwesByItsMode board → OwesByItsMode (after_sending board message) }
     ensures lost { (board : BoardState) → OwesByItsMode (after_line_lost board) }
+{}
+
+/// The modes, idle first and in the order of their commands' bytes: the commands that set them, and
+/// which of them report the squares and the clock.
+pub fn modes()
+    ensures set { map command_mode (CommandContent.Reset ∷ CommandContent.Update
+        ∷ CommandContent.UpdateBoard ∷ CommandContent.UpdateNice ∷ []) ≡ map Some
+        (BoardMode.Idle ∷ BoardMode.Update ∷ BoardMode.UpdateBoard ∷ BoardMode.UpdateNice ∷ []) }
+    ensures squares { map updates (BoardMode.Idle ∷ BoardMode.Update ∷ BoardMode.UpdateBoard
+        ∷ BoardMode.UpdateNice ∷ []) ≡ false ∷ true ∷ true ∷ true ∷ [] }
+    ensures clock { map follows_clock (BoardMode.Idle ∷ BoardMode.Update ∷ BoardMode.UpdateBoard
+        ∷ BoardMode.UpdateNice ∷ []) ≡ false ∷ true ∷ false ∷ true ∷ [] }
+{}
+
+/// A board in the idle mode that owes no reply is silent, whatever has changed.
+pub fn idle_boards_are_silent()
+    ensures { (board : BoardState) → board.mode ≡ BoardMode.Idle → board.owed ≡ []
+        → OwesByItsMode board → next_message board ≡ None }
+{}
+
+/// Fields are sent by the numbers of their squares: no square with a lower number differs from
+/// what was reported.
+pub fn fields_rise()
+    ensures { (board : BoardState) (square lower : ℕ) (piece : Piece) → board.owed ≡ []
+        → next_message board ≡ Some (Content.field square piece) → lower < square
+        → piece_on board.squares lower ≡ piece_on board.reported_squares lower }
 {}

@@ -8,5 +8,6 @@ pub mod Headers
 pub mod EncodingEncodes
 pub mod FirstBad
 pub mod BodyFits
+pub mod OtherBodies
 pub mod ReadingFits
 pub mod Equal

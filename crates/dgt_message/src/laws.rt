@@ -1,7 +1,7 @@
 //! What holds of the messages and their encodings as such. Nothing here runs: each function stands
 //! for the fact that its contract states.
 
-ghost use Rattle.std.specs.Prelude.{◌≡◌, ◌<◌, ◌-◌, ◌++◌, ◌↔◌, ◌⊎◌, ℕ, List, [], drop};
+ghost use Rattle.std.specs.Prelude.{◌≡◌, ◌≢◌, ◌<◌, ◌-◌, ◌++◌, ◌↔◌, ◌⊎◌, ℕ, List, [], drop, length};
 ghost use Rattle.std.specs.Prelude.{slice_index, Some, Ok, Err};
 ghost use Rattle.dgt_values.specs.Equality.{CloneIsSame, EqualIsSame, EqualIsSameRead};
 ghost use Rattle.dgt_message.specs.declared.known.KnownCode.{KnownCode};
@@ -103,4 +103,25 @@ pub fn encoding_encodes()
 pub fn encoded_is_read()
     ensures { (said : Content) (bytes : List ℕ)
         → Encodes said bytes → reading (slice_index bytes 0 - 128) (drop 3 bytes) ≡ Ok said }
+{}
+
+/// A body of another length than its code fixes has a wrong size: 64 bytes of a dump, 7 of the
+/// clock, 2 of a field, 5 of a serial number and 2 of a version.
+pub fn one_size()
+    ensures dump { (body : List ℕ) → length body ≢ 64
+        → reading 0x06 body ≡ Err BodyFault.WrongSize }
+    ensures clock { (body : List ℕ) → length body ≢ 7
+        → reading 0x0d body ≡ Err BodyFault.WrongSize }
+    ensures field { (body : List ℕ) → length body ≢ 2
+        → reading 0x0e body ≡ Err BodyFault.WrongSize }
+    ensures serial { (body : List ℕ) → length body ≢ 5
+        → reading 0x11 body ≡ Err BodyFault.WrongSize }
+    ensures version { (body : List ℕ) → length body ≢ 2
+        → reading 0x13 body ≡ Err BodyFault.WrongSize }
+{}
+
+/// Under every other code a body is carried as it is, whatever its bytes.
+pub fn other_bodies_are_carried()
+    ensures { (code : ℕ) (body : List ℕ) → code ≢ 0x06 → code ≢ 0x0d → code ≢ 0x0e
+        → code ≢ 0x11 → code ≢ 0x13 → reading code body ≡ Ok (Content.carried code body) }
 {}

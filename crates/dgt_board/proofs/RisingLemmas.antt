@@ -1,0 +1,74 @@
+-- Squares are reported by their numbers.
+use Rattle.std.proofs.Common.{arith, ◌≡◌, refl, sym, ℕ, zero, suc, ◌+◌, ◌<◌, ◌≤◌, List, [], ◌∷◌, ◌++◌, Some, Bool, true, false, cond, not, inl, inr}
+use Rattle.std.proofs.lemmas.Bool.{eqb-true}
+use Rattle.std.proofs.lemmas.Bool.Decides.{eqb_tells}
+use Rattle.std.specs.Prelude.{◌==◌, ◌≢◌, ◌⊎◌, filter, map, slice_get}
+use Rattle.std.specs.List.{range_with_len}
+use Rattle.dgt_values.specs.declared.pieces.Piece.{Piece}
+use Rattle.dgt_values.specs.Board.{piece_code}
+use Rattle.dgt_values.proofs.PieceCodes.{same_code}
+use Rattle.dgt_message.specs.Clock.{ClockState}
+use Rattle.dgt_message.specs.Content.{Content, clock_message}
+use Rattle.dgt_board.specs.State.{BoardState, updates}
+use Rattle.dgt_board.specs.Sending.{clock_news, differs, every_square, field_of, next_message, piece_on, unreported_squares}
+
+-- no number of a range before the first that passes a test passes it
+before_first : (test : ℕ → Bool) (a n at : ℕ) (rest : List ℕ)
+    → filter test (range_with_len a n) ≡ at ∷ rest → (k : ℕ) → a ≤ k → k < at → test k ≡ false
+before_first test a zero at rest e k from below = cc
+before_first test a (suc n) at rest e k from below =
+    go (test a) refl e (eqb_tells k a) (λ fails more. before_first test (a + 1) n at rest fails k more below)
+  where
+    later : List ℕ
+    later = filter test (range_with_len (a + 1) n)
+
+    go : (passes : Bool) → test a ≡ passes → cond passes (a ∷ later) later ≡ at ∷ rest
+        → ((k == a ≡ true) × (k ≡ a)) ⊎ ((k == a ≡ false) × (k ≢ a))
+        → (later ≡ at ∷ rest → a + 1 ≤ k → test k ≡ false) → test k ≡ false
+    go true here e which behind = let first : a ≡ at = cc in absurd (omega (arith, first, from, below))
+    go false here e (inl same) behind = rw same.1 here
+    go false here e (inr other) behind = behind e (omega (arith, other.1, from))
+
+-- the same of the squares that an update mode has still to report
+before_square : (asks : Bool) (test : ℕ → Bool) (at lower : ℕ) (rest : List ℕ)
+    → cond asks (filter test every_square) [] ≡ at ∷ rest → lower < at → test lower ≡ false
+unfolding every_square
+before_square true test at lower rest e below =
+    before_first test 0 64 at rest e lower (omega arith) below
+before_square false test at lower rest e below = cc
+
+-- a square that doesn't differ has the piece that was reported
+same_piece : (board : BoardState) (square : ℕ) → differs board square ≡ false
+    → piece_on board.squares square ≡ piece_on board.reported_squares square
+same_piece board square same =
+    let reported = piece_code (piece_on board.reported_squares square) in
+    go (reported == piece_code (piece_on board.squares square)) refl same
+  where
+    go : (equal : Bool)
+        → (piece_code (piece_on board.reported_squares square) == piece_code (piece_on board.squares square)) ≡ equal
+        → not equal ≡ false → piece_on board.squares square ≡ piece_on board.reported_squares square
+    go true e h = sym (same_code _ _ (eqb-true _ _ e))
+    go false e h = cc
+
+-- the message of the clock is no field
+no_field : (owed : Bool) (clock : ClockState) (square : ℕ) (piece : Piece)
+    → slice_get (cond owed (clock_message clock ∷ []) []) 0 ≡ Some (Content.field square piece) → ⊥
+no_field false clock square piece e = cc
+no_field true (ClockState.times readings) square piece e = cc
+no_field true (ClockState.no_clock absence) square piece e = cc
+
+-- no square before the one of the next field differs
+pub lower_same : (board : BoardState) (square lower : ℕ) (piece : Piece) → board.owed ≡ []
+    → next_message board ≡ Some (Content.field square piece) → lower < square
+    → piece_on board.squares lower ≡ piece_on board.reported_squares lower
+lower_same board square lower piece none next below =
+    go (unreported_squares board) refl (rw none at next)
+  where
+    go : (squares : List ℕ) → unreported_squares board ≡ squares
+        → slice_get (map (field_of board) squares ++ clock_news board) 0 ≡ Some (Content.field square piece)
+        → piece_on board.squares lower ≡ piece_on board.reported_squares lower
+    go [] e next = absurd (no_field board.times_owed board.clock square piece next)
+    go (at ∷ rest) e next =
+        let here : at ≡ square = cc in
+        same_piece board lower
+        (before_square (updates board.mode) (differs board) at lower rest e (omega (arith, here)))
