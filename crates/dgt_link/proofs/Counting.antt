@@ -21,12 +21,12 @@ use Rattle.dgt_host.specs.Host.{follow_bytes, restart_bytes}
 use Rattle.dgt_link.specs.Act.{ActContent}
 use Rattle.dgt_link.specs.declared.acts.Outcome.{Outcome}
 use Rattle.dgt_link.specs.Faults.{FaultyBecomes, FaultyContent, FaultyRuns, FaultyStep, is_break}
-use Rattle.dgt_link.specs.Healing.{AwaitsWhatComes, Counted, IsFaultyWorld, IsInStep, IsInTurn, IsSane, StandsBehind, StandsWith, counted_after, counted_after_all, counted_by, nothing_counted, sets_mode}
+use Rattle.dgt_link.specs.Healing.{AwaitsWhatComes, Counted, IsFaultyWorld, IsInStep, IsInTurn, IsInTurnWorld, IsSane, StandsBehind, StandsWith, counted_after, counted_after_all, counted_by, nothing_counted, sets_mode}
 use Rattle.dgt_link.specs.Machine.{MachineState, Move, after_move, after_moves, commands_anew, state_of_board}
 use Rattle.dgt_link.specs.Promise.{IsQuiet, act_requests, commands_after, event_mode, last_mode}
 use Rattle.dgt_link.specs.Sound.{IsSound, IsSubsequence, IsUnknownOr, coming_kinds, kind_of_event, kind_of_reply}
 use Rattle.dgt_link.specs.Stands.{AreMovesOfStep, IsWorld, StandsFor}
-use Rattle.dgt_link.specs.Step.{Becomes, Step}
+use Rattle.dgt_link.specs.Step.{Becomes, Runs, Step}
 use Rattle.dgt_link.specs.View.{IsQuietWorld, LineContents, WorldView, line_holding}
 use Rattle.dgt_link.proofs.Asking.{requests-step}
 use Rattle.dgt_link.specs.Clocks.{ClockIsComing}
@@ -469,6 +469,13 @@ pub faulty_step : (act : ActContent) (world : WorldView) (answer : Outcome) (aft
     → Step act world answer after → FaultyStep (FaultyContent.Plain act) world answer after
 faulty_step act world answer after step = record { answers = step.answers; leaves = step.leaves }
 
+pub faulty_runs : (acts : List ActContent) (world after : WorldView) (answers : List Outcome)
+    → Runs acts world answers after → FaultyRuns (map FaultyContent.Plain acts) world answers after
+faulty_runs [] world after [] same = same
+faulty_runs (act ∷ acts) world after (answer ∷ answers) (between, step, runs) =
+    (between, faulty_step act world answer between step, faulty_runs acts between after answers runs)
+faulty_runs _ world after _ none = absurd none
+
 module _ (laws : Grammars) where
   breaks_after : (c : Counted) (world : WorldView) (answer : Outcome) (after : WorldView) → IsSane world
       → Step ActContent.Break world answer after
@@ -571,15 +578,22 @@ pub host_knows : {X : Type 0} {known seen : Option X} {x : X} → IsUnknownOr kn
 host_knows (inl none) is = cc
 host_knows (inr same) is = sym same ∙ is
 
--- nothing is awaited, if all that is awaited was still to come
-pub in_turn_awaits_nothing : EachDividesOnce → (c : Counted) (world : WorldView) → Holds c world → IsInTurn c
-    → IsQuietWorld world → world.host.awaited ≡ []
-in_turn_awaits_nothing once c world holds turn quiet =
-    let f = holds.follows turn.in_step in
-    let still = quiet_behind once f.garbage world f.state f.stands quiet in
-    quiet_awaited (awaiting f.state world.host.awaited)
-    (asked_sound f.state f.state.down world.host.awaited f.stands.sound (f.awaits turn.in_turn))
+-- all that is awaited was still to come, and nothing comes any more
+pub awaited_has_come : (world : WorldView) (is : IsInTurnWorld world) → IsQuiet is.state → world.host.awaited ≡ []
+awaited_has_come world is still =
+    quiet_awaited (awaiting is.state world.host.awaited)
+    (asked_sound is.state is.state.down world.host.awaited is.stands.sound is.holds)
     (record { up = still.up; down = still.down; pending = still.pending })
+
+pub in_turn_at_quiet : EachDividesOnce → (world : WorldView) → IsInTurnWorld world → IsQuietWorld world
+    → world.host.awaited ≡ []
+in_turn_at_quiet once world is quiet =
+    awaited_has_come world is (quiet_behind once is.garbage world is.state is.stands quiet)
+
+pub counted_in_turn : (c : Counted) (world : WorldView) → Holds c world → IsInTurn c → IsInTurnWorld world
+counted_in_turn c world holds turn =
+    let f = holds.follows turn.in_step in
+    record { garbage = f.garbage; state = f.state; stands = f.stands; holds = f.awaits turn.in_turn }
 
 -- ---- a world with no fault
 
@@ -617,6 +631,15 @@ stands_behind world x stands =
 pub world_in_step : (world : WorldView) → IsWorld world → IsInStep world
 world_in_step world is =
     record { garbage = []; state = is.state; stands = stands_behind world is.state is.stands; holds = tt }
+
+pub world_in_turn : (world : WorldView) → IsWorld world → IsInTurnWorld world
+world_in_turn world is =
+    record {
+      garbage = [];
+      state = is.state;
+      stands = stands_behind world is.state is.stands;
+      holds = rw is.stands.awaited is.stands.sound.awaited;
+    }
 
 -- nothing comes to the board
 pub empty_in_step : (world : WorldView) → IsSane world → world.down.bytes ≡ [] → world.board.partial ≡ []

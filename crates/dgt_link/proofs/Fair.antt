@@ -69,7 +69,8 @@ module _ (board : BoardState) (squares : length board.squares ≡ 64) (is : IsSh
   fields_are_short : (fields : List ℕ) (message : Content)
       → slice_get (map (field_of board) fields ++ clock_news board) 0 ≡ Some message → length (encoding message) ≤ 67
   fields_are_short [] message e = news_is_short board.times_owed message e
-  fields_are_short (square ∷ fields) message e = subst (λ (said : Content). length (encoding said) ≤ 67) (same_Some _ _ e)
+  fields_are_short (square ∷ fields) message e =
+      subst (λ (said : Content). length (encoding said) ≤ 67) (same_Some _ _ e)
       (field_is_short board square)
 
   all_are_short : (owed : List Reply) (message : Content)

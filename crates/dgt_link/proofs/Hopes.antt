@@ -34,7 +34,7 @@ pub record Hope (asks : Mode → Bool) (ends : FaultyContent → Bool) (Comes : 
   pub comes : (x : MachineState) (act : ActContent) (answer : Outcome) (moves : List Move) → is_break act ≡ false
       → AreMovesOfStep act answer moves → Comes x → Comes (after_moves x moves)
 
-settling_is_plain : (act : ActContent) → IsSettling act → is_break act ≡ false
+pub settling_is_plain : (act : ActContent) → IsSettling act → is_break act ≡ false
 settling_is_plain = by_settling (λ act. is_break act ≡ false) refl (λ count. refl) (λ count. refl)
 
 -- an act that is no break leads the state after the garbage by its moves
@@ -64,7 +64,7 @@ garbled Q keeps bytes world after is same =
       holds = keeps is.state is.holds;
     }
 
-module _ (behind : ActsBehind) (asks : Mode → Bool) (ends : FaultyContent → Bool) (Comes : MachineState → Type 0)
+module _ (asks : Mode → Bool) (ends : FaultyContent → Bool) (Comes : MachineState → Type 0)
     (hope : Hope asks ends Comes) where
   -- what doesn't end it leaves a mode that asks
   mode_stays : (before : Mode) (act : ActContent) (answer : Outcome) → is_break act ≡ false
@@ -83,23 +83,30 @@ module _ (behind : ActsBehind) (asks : Mode → Bool) (ends : FaultyContent → 
   still_follows act answer x moves other going are asked =
       rw (mode-step x act answer moves are) (mode_stays (coming_mode x) act answer other going asked)
 
+  pub stays_promised : (act : ActContent) (answer : Outcome) (x : MachineState) (moves : List Move)
+      → is_break act ≡ false → ends (FaultyContent.Plain act) ≡ false → AreMovesOfStep act answer moves
+      → IsPromisedBy Comes asks x → IsPromisedBy Comes asks (after_moves x moves)
+  stays_promised act answer x moves other going are promised =
+      record {
+        coming = hope.comes x act answer moves other are promised.coming;
+        mode = still_follows act answer x moves other going are promised.mode;
+      }
+
+module _ (behind : ActsBehind) (asks : Mode → Bool) (ends : FaultyContent → Bool) (Comes : MachineState → Type 0)
+    (hope : Hope asks ends Comes) where
   pub other_following : (act : ActContent) (world : WorldView) (answer : Outcome) (after : WorldView)
       → is_break act ≡ false → ends (FaultyContent.Plain act) ≡ false → StandsWith (Follows asks) world
       → Step act world answer after → StandsWith (Follows asks) after
   other_following act world answer after other going is step =
       led behind (Follows asks) (Follows asks) act world answer after other
-      (λ x moves are asked. still_follows act answer x moves other going are asked) is step
+      (λ x moves are asked. still_follows asks ends Comes hope act answer x moves other going are asked) is step
 
   pub other_promised : (act : ActContent) (world : WorldView) (answer : Outcome) (after : WorldView)
       → is_break act ≡ false → ends (FaultyContent.Plain act) ≡ false → StandsWith (IsPromisedBy Comes asks) world
       → Step act world answer after → StandsWith (IsPromisedBy Comes asks) after
   other_promised act world answer after other going is step =
       led behind (IsPromisedBy Comes asks) (IsPromisedBy Comes asks) act world answer after other
-      (λ x moves are promised.
-      record {
-        coming = hope.comes x act answer moves other are promised.coming;
-        mode = still_follows act answer x moves other going are promised.mode;
-      }) is step
+      (λ x moves are promised. stays_promised asks ends Comes hope act answer x moves other going are promised) is step
 
   mode_is_set : (mode : Mode) (command : CommandContent) (x : MachineState) (moves : List Move)
       → command_mode command ≡ Some mode → IsTrue (asks mode)
@@ -138,7 +145,8 @@ module _ (behind : ActsBehind) (asks : Mode → Bool) (ends : FaultyContent → 
       (λ x moves are asked.
       record {
         coming = comes x moves are;
-        mode = still_follows (ActContent.Host command) Outcome.Done x moves refl going are asked;
+        mode =
+            still_follows asks ends Comes hope (ActContent.Host command) Outcome.Done x moves refl going are asked;
       }) is
       (plain_step (ActContent.Host command) world Outcome.Done after step)
 

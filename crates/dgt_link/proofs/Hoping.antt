@@ -1,5 +1,5 @@
 -- What each act makes of a world's hope: that it is in step, that it follows, and that it is promised to heal.
-use Rattle.std.proofs.Common.{◌≡◌, refl, List, [], ◌∷◌, Some, true, false, arith}
+use Rattle.std.proofs.Common.{◌≡◌, refl, ℕ, List, [], ◌∷◌, Some, true, false, arith, map, replicate}
 use Rattle.std.specs.List.{AllByRecursion}
 use Rattle.std.specs.Prelude.{IsTrue}
 use Rattle.dgt_command.specs.Content.{CommandContent}
@@ -7,20 +7,23 @@ use Rattle.dgt_board.specs.declared.modes.Mode.{Mode}
 use Rattle.dgt_board.specs.State.{updates}
 use Rattle.dgt_link.specs.Act.{ActContent}
 use Rattle.dgt_link.specs.declared.acts.Outcome.{Outcome}
-use Rattle.dgt_link.specs.Faults.{FaultyContent, FaultyRuns, FaultyStep, begins_anew, is_break, is_fault, loses_step, sends, stops}
-use Rattle.dgt_link.specs.Healing.{IsFollowing, IsInStep, IsPromisedWorld, IsSane}
+use Rattle.dgt_link.specs.Faults.{AreCalm, FaultyContent, FaultyRuns, FaultyStep, begins_anew, is_break, is_fault, loses_step, sends, stops}
+use Rattle.dgt_link.specs.Healing.{IsFollowing, IsInStep, IsInTurnWorld, IsPromisedWorld, IsSane}
 use Rattle.dgt_link.specs.Machine.{MachineState, Move, after_moves, commands_anew}
 use Rattle.dgt_link.specs.Promise.{IsPromised, PictureIsComing, mode_after}
 use Rattle.dgt_link.specs.Readers.{Grammars}
-use Rattle.dgt_link.specs.Stands.{AreMovesOfStep}
+use Rattle.dgt_link.specs.Stands.{AreMovesOfRun, AreMovesOfStep}
+use Rattle.dgt_link.specs.Settling.{IsSettling, SettlesIn}
+use Rattle.dgt_link.specs.Step.{Step}
 use Rattle.dgt_link.specs.View.{WorldView}
 use Rattle.dgt_link.proofs.Asking.{dump_is_coming, step_keeps_coming}
 use Rattle.dgt_link.proofs.Behind.{ActsBehind}
 use Rattle.dgt_link.proofs.Clocks.{no_break}
 use Rattle.dgt_link.proofs.Counting.{Follows as Counted, break_follows, follows_in_step, follows_with, host_break_follows, plain_step, restart_follows}
-use Rattle.dgt_link.proofs.Hopes.{Follows, Hope, asked_promises, garbled, kept, led, other_following, other_promised}
+use Rattle.dgt_link.proofs.Hopes.{Follows, Hope, asked_promises, garbled, kept, led, other_following, other_promised, settling_is_plain, stays_promised}
 use Rattle.dgt_link.proofs.Settling.{by_settling}
-use Rattle.dgt_link.proofs.Promises.{coming_promise}
+use Rattle.dgt_link.proofs.Promises.{anew_is_promised, coming_promise}
+use Rattle.dgt_link.proofs.Standing.{moves-append}
 use Rattle.dgt_link.proofs.ActRuns.{run_keeps}
 
 -- ---- it is a hope
@@ -110,6 +113,82 @@ module _ (behind : ActsBehind) where
         kept behind updates stops PictureIsComing picture_hope is_fault (λ bytes. refl) refl IsPromised IsSane
         (other_promised behind updates stops PictureIsComing picture_hope) (λ bytes old new fault. cc)
         (λ act old new begins ends sane step. anew_heals act old new begins sane step)
+
+    -- ---- what the host awaits
+
+    turn_of : (asked : List CommandContent) (world : WorldView) → Counted true asked world → IsInTurnWorld world
+    turn_of asked world f =
+        record { garbage = f.garbage; state = f.state; stands = f.stands; holds = f.awaits refl }
+
+    pub anew_in_turn : (act : FaultyContent) (world after : WorldView) → begins_anew act ≡ true → IsSane world
+        → FaultyStep act world Outcome.Done after → IsInTurnWorld after
+    anew_in_turn FaultyContent.Restart world after is sane step =
+        turn_of commands_anew after (restart_follows laws world after sane step.leaves)
+    anew_in_turn (FaultyContent.Plain ActContent.HostBreak) world after is sane step =
+        turn_of commands_anew after (host_break_follows laws world after sane step.leaves)
+    anew_in_turn (FaultyContent.Plain act) world after is sane step = cc
+    anew_in_turn _ world after is sane step = cc
+
+    pub other_in_turn : (act : ActContent) (world : WorldView) (answer : Outcome) (after : WorldView)
+        → is_break act ≡ false → IsInTurnWorld world → Step act world answer after → IsInTurnWorld after
+    other_in_turn act world answer after other is step =
+        let reached = behind act is.garbage world answer after is.state other is.stands step in
+        record {
+          garbage = reached.0;
+          state = after_moves is.state reached.1;
+          stands = reached.3;
+          holds = reached.4 is.holds;
+        }
+
+    plain_in_turn : (act : ActContent) (world : WorldView) (answer : Outcome) (after : WorldView) → IsSane world
+        → IsInTurnWorld world → FaultyStep (FaultyContent.Plain act) world answer after → IsInTurnWorld after
+    plain_in_turn ActContent.Break world Outcome.Done after sane is step =
+        turn_of [] after (break_follows laws world after sane step.leaves)
+    plain_in_turn ActContent.Break world _ after sane is step = let a = step.answers in cc
+    plain_in_turn ActContent.HostBreak world Outcome.Done after sane is step =
+        anew_in_turn (FaultyContent.Plain ActContent.HostBreak) world after refl sane step
+    plain_in_turn ActContent.HostBreak world _ after sane is step = let a = step.answers in cc
+    plain_in_turn act world answer after sane is step =
+        other_in_turn act world answer after refl is (plain_step act world answer after step)
+
+    pub keeps_in_turn : (act : FaultyContent) (world after : WorldView) (answer : Outcome) → is_fault act ≡ false
+        → IsSane world → IsInTurnWorld world → FaultyStep act world answer after → IsInTurnWorld after
+    keeps_in_turn (FaultyContent.Plain act) world after answer none sane is step =
+        plain_in_turn act world answer after sane is step
+    keeps_in_turn FaultyContent.Restart world after Outcome.Done none sane is step =
+        anew_in_turn FaultyContent.Restart world after refl sane step
+    keeps_in_turn FaultyContent.Restart world after _ none sane is step = rw step.leaves is
+    keeps_in_turn _ world after answer none sane is step = cc
+
+    pub settled_in_turn : (count : ℕ) (old new : WorldView) → SettlesIn count old new → IsInTurnWorld old
+        → IsInTurnWorld new
+    settled_in_turn count old new settled is =
+        run_keeps Step IsSettling IsInTurnWorld
+        (λ act world after answer settling is step.
+        other_in_turn act world answer after (settling_is_plain act settling) is step)
+        settled.acts old new (replicate count Outcome.Done) settled.settling is settled.run
+
+-- ---- a promise of a world without faults
+
+calm_step : (act : ActContent) (answer : Outcome) (x : MachineState) (moves : List Move)
+    → stops (FaultyContent.Plain act) ≡ false → AreMovesOfStep act answer moves → IsPromised x
+    → IsPromised (after_moves x moves)
+calm_step ActContent.Break answer x moves calm are is = cc
+calm_step ActContent.HostBreak Outcome.Done x moves calm (noise, is_noise, e) is =
+    rw e (anew_is_promised x noise is_noise)
+calm_step ActContent.HostBreak _ x moves calm e is = rw e is
+calm_step act answer x moves calm are is =
+    stays_promised updates stops PictureIsComing picture_hope act answer x moves refl calm are is
+
+pub calm_promised : (acts : List ActContent) (answers : List Outcome) (x : MachineState) (moves : List Move)
+    → AreCalm (map FaultyContent.Plain acts) → AreMovesOfRun acts answers moves → IsPromised x
+    → IsPromised (after_moves x moves)
+calm_promised [] [] x moves calm none is = rw none is
+calm_promised (act ∷ acts) (answer ∷ answers) x moves calm (first, later, one, others, both) is =
+    rw (both, moves-append x first later)
+    (calm_promised acts answers (after_moves x first) later calm.1 others
+    (calm_step act answer x first calm.0.1 one is))
+calm_promised _ _ x moves calm none is = absurd none
 
 -- ---- acts in order
 

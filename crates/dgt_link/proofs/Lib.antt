@@ -34,3 +34,4 @@ pub mod Fair
 pub mod History
 pub mod Counts
 pub mod Headlines
+pub mod Restarting

@@ -11,13 +11,15 @@ use Rattle.dgt_message.specs.Encoding.{encoding}
 use Rattle.dgt_command.specs.Laws.{EachDividesOnce}
 use Rattle.dgt_board.specs.Sending.{pending_messages}
 use Rattle.dgt_decode.specs.Grammar.{unfinished_message}
-use Rattle.dgt_link.specs.Healing.{Counted, IsHealing, IsPromisedWorld, IsRestedWorld, StandsBehind}
+use Rattle.dgt_link.specs.Healing.{Counted, IsHealing, IsInTurnWorld, IsPromisedWorld, IsRestedWorld, StandsBehind}
+use Rattle.dgt_link.specs.Clocks.{IsClockPromisedWorld}
 use Rattle.dgt_link.specs.Machine.{MachineState}
 use Rattle.dgt_link.specs.Promise.{IsPromised, IsQuiet}
 use Rattle.dgt_link.specs.Settling.{SettlesIn}
 use Rattle.dgt_link.specs.View.{IsQuietWorld, WorldView}
-use Rattle.dgt_link.proofs.Counting.{Holds, follows_with, host_knows, nothing_said, quiet_behind}
+use Rattle.dgt_link.proofs.Counting.{Holds, awaited_has_come, follows_with, host_knows, nothing_said, quiet_behind}
 use Rattle.dgt_link.specs.Readers.{Reads}
+use Rattle.dgt_link.proofs.Clocks.{promised_clock}
 use Rattle.dgt_link.proofs.Lists.{right_empty}
 use Rattle.dgt_link.proofs.Promises.{coming_promise}
 use Rattle.dgt_link.proofs.Quiet.{picture_has_come, promised_picture}
@@ -71,35 +73,56 @@ module _ (reads : Reads) where
   known_has_no_garbage picture garbage other (inr unknown) some =
       absurd (false≢true (rw unknown.0 at some))
 
-  rests_behind : EachDividesOnce → (garbage : List ℕ) (world : WorldView) (x : MachineState)
-      → StandsBehind garbage world x → IsPromised x → IsRestedWorld world
-      → unfinished_message world.host.unread ≡ world.host.unread → IsQuietWorld world
-  rests_behind once garbage world x stands promised (up, down, none) held =
-      let all : world.host.unread ≡ garbage ++ flat_map encoding x.up
-      = sym (append-nil world.host.unread)
-      ∙ ap (λ (bytes : List ℕ). world.host.unread ++ bytes) (sym up) ∙ stands.up in
-      let silent : x.up ≡ [] = none_unread world.host.unread garbage x.up stands.are_messages all held in
-      let partial : world.board.partial ≡ []
-      = nothing_partial once x.down world.board.partial stands.partial (rw down at stands.down) in
-      let quiet : IsQuiet x = record {
-        up = silent;
-        down = (once.1 [] x.down [] [] [] (rw (partial, down) at stands.down) (refl, rw partial at stands.partial)).0;
-        pending = nothing_first (pending_messages x.board) (rw stands.board at none);
-      } in
-      let known = picture_has_come x stands.sound quiet promised.coming in
-      let clean : garbage ≡ []
-      = known_has_no_garbage x.picture garbage (x.host_clock ≡ None) stands.unheard known in record {
-        up = up;
-        down = down;
-        unread = all ∙ rw (clean, silent) refl;
-        partial = partial;
-        pending = none;
-      }
+  module _ (once : EachDividesOnce) (garbage : List ℕ) (world : WorldView) (x : MachineState)
+      (stands : StandsBehind garbage world x) (rested : IsRestedWorld world)
+      (held : unfinished_message world.host.unread ≡ world.host.unread) where
+    all_unread : world.host.unread ≡ garbage ++ flat_map encoding x.up
+    all_unread =
+        sym (append-nil world.host.unread)
+        ∙ ap (λ (bytes : List ℕ). world.host.unread ++ bytes) (sym rested.0) ∙ stands.up
 
-  pub promised_rests : EachDividesOnce → (world : WorldView) → IsPromisedWorld world → IsRestedWorld world
-      → unfinished_message world.host.unread ≡ world.host.unread → IsQuietWorld world
-  promised_rests once world is rested held =
-      rests_behind once is.garbage world is.state is.stands is.holds rested held
+    no_part : world.board.partial ≡ []
+    no_part = nothing_partial once x.down world.board.partial stands.partial (rw rested.1 at stands.down)
+
+    -- a rested world stands for a quiet state
+    still_behind : IsQuiet x
+    still_behind =
+        record {
+          up = none_unread world.host.unread garbage x.up stands.are_messages all_unread held;
+          down = (once.1 [] x.down [] [] [] (rw (no_part, rested.1) at stands.down)
+              (refl, rw no_part at stands.partial)).0;
+          pending = nothing_first (pending_messages x.board) (rw stands.board at rested.2);
+        }
+
+    rests_behind : IsPromised x → IsQuietWorld world
+    rests_behind promised =
+        let known = picture_has_come x stands.sound still_behind promised.coming in
+        let clean : garbage ≡ []
+        = known_has_no_garbage x.picture garbage (x.host_clock ≡ None) stands.unheard known in record {
+          up = rested.0;
+          down = rested.1;
+          unread = all_unread ∙ rw (clean, still_behind.up) refl;
+          partial = no_part;
+          pending = rested.2;
+        }
+
+  module _ (once : EachDividesOnce) (world : WorldView) where
+    pub promised_rests : IsPromisedWorld world → IsRestedWorld world
+        → unfinished_message world.host.unread ≡ world.host.unread → IsQuietWorld world
+    promised_rests is rested held = rests_behind once is.garbage world is.state is.stands rested held is.holds
+
+    pub clock_at_rest : IsClockPromisedWorld world → IsRestedWorld world
+        → unfinished_message world.host.unread ≡ world.host.unread
+        → world.host.clock ≡ Some world.board.state.clock
+    clock_at_rest is rested held =
+        let still = still_behind once is.garbage world is.state is.stands rested held in
+        rw is.stands.board
+        (host_knows is.stands.clock (promised_clock is.state is.stands.sound is.holds still))
+
+    pub in_turn_at_rest : IsInTurnWorld world → IsRestedWorld world
+        → unfinished_message world.host.unread ≡ world.host.unread → world.host.awaited ≡ []
+    in_turn_at_rest is rested held =
+        awaited_has_come world is (still_behind once is.garbage world is.state is.stands rested held)
 
 pub settled_squares : (count : ℕ) (old new : WorldView) → SettlesIn count old new
     → new.host.picture ≡ Some new.board.state.squares → new.host.picture ≡ Some old.board.state.squares

@@ -1,10 +1,11 @@
 -- When the host's clock is promised to be the board's clock.
-use Rattle.std.specs.Prelude.{◌≡◌, ◌⊎◌, None, IsSome, IsTrue, Contains, Bool, true, false}
+use Rattle.std.specs.Prelude.{◌≡◌, ◌⊎◌, List, None, IsSome, IsTrue, Contains, Bool, true, false}
+use Rattle.std.specs.List.{AllByRecursion}
 use Rattle.dgt_command.specs.Content.{CommandContent, EventContent}
 use Rattle.dgt_board.specs.declared.replies.Reply.{Reply}
 use Rattle.dgt_board.specs.State.{follows_clock}
 use Rattle.dgt_link.specs.Act.{ActContent}
-use Rattle.dgt_link.specs.Faults.{FaultyContent}
+use Rattle.dgt_link.specs.Faults.{FaultyContent, is_fault}
 use Rattle.dgt_link.specs.Healing.{StandsWith}
 use Rattle.dgt_link.specs.Machine.{MachineState}
 use Rattle.dgt_link.specs.Promise.{IsPromisedBy, coming_mode}
@@ -38,3 +39,7 @@ stops_clock (FaultyContent.Plain ActContent.Break) = true
 stops_clock (FaultyContent.Plain ActContent.HostBreak) = true
 stops_clock FaultyContent.Restart = true
 stops_clock _ = false
+
+-- no act is a fault, and after each the board goes on reporting its clock's changes
+abbrev pub AreClockCalm : List FaultyContent → Type 0
+AreClockCalm = AllByRecursion (λ act. (is_fault act ≡ false) × (stops_clock act ≡ false))

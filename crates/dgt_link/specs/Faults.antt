@@ -95,6 +95,10 @@ is_fault (FaultyContent.GarbleDown bytes) = true
 is_fault FaultyContent.BoardLost = true
 is_fault _ = false
 
+-- no act is a fault
+abbrev pub AreFaultless : List FaultyContent → Type 0
+AreFaultless = AllByRecursion (λ act. is_fault act ≡ false)
+
 -- after it the board may read commands that the host didn't send, or has forgotten some
 abbrev pub loses_step : FaultyContent → Bool
 loses_step (FaultyContent.GarbleDown bytes) = true

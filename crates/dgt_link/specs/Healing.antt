@@ -135,6 +135,10 @@ IsInStep = StandsWith (λ x. Unit {0})
 abbrev pub AwaitsWhatComes : WorldView → MachineState → Type 0
 AwaitsWhatComes world x = IsSubsequence world.host.awaited (coming_kinds x)
 
+-- each reply that the host awaits is still to come
+abbrev pub IsInTurnWorld : WorldView → Type 0
+IsInTurnWorld world = StandsWith (AwaitsWhatComes world) world
+
 -- The world after an act stands, after some garbage, for a state to which the act's moves lead from
 -- this one. What the host awaits stays among what comes.
 abbrev pub StandsBehindAfter : ActContent → Outcome → WorldView → MachineState → WorldView → Type 0

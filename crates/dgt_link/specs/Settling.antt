@@ -77,7 +77,7 @@ steps_left world =
 
 -- ---- in rounds, in whatever order and chunks
 
--- Deliveries and sendings among which the board sends, it takes some bytes, and the host hears some.
+-- Deliveries and sendings among which the board sends, takes some bytes, and the host hears some.
 pub record IsRound (acts : List ActContent) : Type 0 where
   pub settling : AllByRecursion IsSettling acts
   pub sends : Contains acts ActContent.BoardSend

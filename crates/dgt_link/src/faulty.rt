@@ -1,6 +1,6 @@
 //! A world whose lines and whose board's power may fail.
 
-ghost use Rattle.std.specs.Prelude.{◌≡◌, ◌≢◌, ◌↔◌, ◌<◌, ◌≤◌, ◌+◌, ◌*◌, ◌^◌, ℕ, List, [], Some, IsTrue};
+ghost use Rattle.std.specs.Prelude.{◌≡◌, ◌≢◌, ◌↔◌, ◌<◌, ◌≤◌, ◌+◌, ◌*◌, ◌^◌, ℕ, List, [], ◌∷◌, Some, IsTrue};
 ghost use Rattle.std.specs.Prelude.{IsSome, None, map, length, false, true};
 ghost use Rattle.dgt_board.specs.Sending.{backlog, next_message};
 ghost use Rattle.dgt_board.specs.State.{command_mode, follows_clock, updates};
@@ -11,9 +11,9 @@ ghost use Rattle.dgt_link.specs.Act.{ActContent};
 ghost use Rattle.dgt_link.specs.Settling.{IsNext, SettlesIn};
 ghost use Rattle.dgt_link.specs.Work.{work_left};
 ghost use Rattle.dgt_link.specs.declared.acts.Outcome.{Outcome as Answer};
-ghost use Rattle.dgt_link.specs.Clocks.{IsClockFollowing, IsClockPromisedWorld, stops_clock};
-ghost use Rattle.dgt_link.specs.Faults.{AreCalm, FaultyContent, FaultyRuns, FaultyStep, IfRan, begins_anew, faulty_content, is_fault, loses_step, sends, stops};
-ghost use Rattle.dgt_link.specs.Healing.{IsClockHealing, IsFaultyWorld, IsFollowing, IsHealing, IsInStep, IsInStepBy, IsInTurn, IsPromisedWorld, IsRestedWorld, StandsBehind, counted_by};
+ghost use Rattle.dgt_link.specs.Clocks.{AreClockCalm, IsClockFollowing, IsClockPromisedWorld, stops_clock};
+ghost use Rattle.dgt_link.specs.Faults.{AreCalm, AreFaultless, FaultyContent, FaultyRuns, FaultyStep, IfRan, begins_anew, faulty_content, is_fault, loses_step, sends, stops};
+ghost use Rattle.dgt_link.specs.Healing.{IsClockHealing, IsFaultyWorld, IsFollowing, IsHealing, IsInStep, IsInStepBy, IsInTurn, IsInTurnWorld, IsPromisedWorld, IsRestedWorld, StandsBehind, counted_by};
 ghost use Rattle.dgt_link.specs.Machine.{MachineState};
 ghost use Rattle.dgt_message.specs.Picture.{picture_after_all};
 ghost use Rattle.dgt_link.specs.Step.{Step, done_count};
@@ -24,7 +24,7 @@ use crate::healing;
 use crate::line::Line;
 use crate::moving::{act_on, hold, restart_behind, send_next};
 use dgt_board::Board;
-use dgt_host::Host;
+use dgt_host::{Host, RESTART_LENGTH};
 use std::marker::Model;
 
 /// What happens to a world whose lines and whose board's power may fail.
@@ -100,6 +100,9 @@ impl FaultyWorld {
     pub fn step(&mut self, act: FaultyAct<'_>) -> Outcome
         ensures exact { FaultyStep (faulty_content act.entry) self.old result self.new }
         ensures unchanged { result ≢ Outcome.Done → self.new ≡ self.old }
+        ensures restart { faulty_content act.entry ≡ FaultyContent.Restart →
+            ((result ≡ Outcome.Done)
+            ↔ (length self.old.down.bytes + RESTART_LENGTH ≤ self.old.down.capacity)) }
         // the picture: what promises that it heals, and what keeps that promise
         ensures anew { begins_anew (faulty_content act.entry) ≡ true → result ≡ Outcome.Done →
             IsPromisedWorld self.new }
@@ -133,9 +136,15 @@ impl FaultyWorld {
         ensures clock_kept { is_fault (faulty_content act.entry) ≡ false →
             stops_clock (faulty_content act.entry) ≡ false →
             IsClockPromisedWorld self.old → IsClockPromisedWorld self.new }
+        // what the host awaits
+        ensures awaited_anew { begins_anew (faulty_content act.entry) ≡ true →
+            result ≡ Outcome.Done → IsInTurnWorld self.new }
+        ensures awaited_kept { is_fault (faulty_content act.entry) ≡ false →
+            IsInTurnWorld self.old → IsInTurnWorld self.new }
     {
         healing::clocks_heal();
         healing::steps_heal();
+        healing::awaited_replies_come();
         self.is_faulty();
         self.act(act)
     }
@@ -151,6 +160,12 @@ impl FaultyWorld {
     pub fn run(&mut self, acts: &[FaultyAct<'_>]) -> usize
         ensures exact { (outcomes : List Answer) × (result ≡ done_count outcomes)
             × FaultyRuns (map faulty_content acts.now) self.old outcomes self.new }
+        // from any state of the board, the host and both lines
+        ensures from_any_state { (later : List FaultyContent) →
+            map faulty_content acts.now ≡ FaultyContent.Restart ∷ later →
+            length self.old.down.bytes + RESTART_LENGTH ≤ self.old.down.capacity →
+            AreCalm later → IsQuietWorld self.new →
+            self.new.host.picture ≡ Some self.new.board.state.squares }
         ensures in_step { IfRan (map faulty_content acts.now) self.old self.new (λ outcomes.
             IsInStepBy (map faulty_content acts.now) outcomes → IsInStep self.new) }
         ensures heals { IfRan (map faulty_content acts.now) self.old self.new (λ outcomes.
@@ -164,6 +179,11 @@ impl FaultyWorld {
         ensures awaited { IfRan (map faulty_content acts.now) self.old self.new (λ outcomes.
             IsInTurn (counted_by false (map faulty_content acts.now) outcomes) →
             IsQuietWorld self.new → self.new.host.awaited ≡ []) }
+        ensures in_turn { IfRan (map faulty_content acts.now) self.old self.new (λ outcomes.
+            IsInTurn (counted_by false (map faulty_content acts.now) outcomes) →
+            IsInTurnWorld self.new) }
+        ensures awaited_kept { AreFaultless (map faulty_content acts.now) →
+            IsInTurnWorld self.old → IsInTurnWorld self.new }
         ensures dump_promised { IsInStep self.old →
             IfRan (map faulty_content acts.now) self.old self.new (λ outcomes.
             IsHealing (counted_by true (map faulty_content acts.now) outcomes) →
@@ -182,10 +202,14 @@ impl FaultyWorld {
         ensures clock_heals { IfRan (map faulty_content acts.now) self.old self.new (λ outcomes.
             IsClockHealing (counted_by false (map faulty_content acts.now) outcomes) →
             IsQuietWorld self.new → self.new.host.clock ≡ Some self.new.board.state.clock) }
+        ensures clock_kept { AreClockCalm (map faulty_content acts.now) →
+            IsClockPromisedWorld self.old → IsClockPromisedWorld self.new }
     {
+        healing::calm_heals();
         healing::clocks_heal();
         healing::faults_heal();
         healing::steps_heal();
+        healing::awaited_replies_come();
         self.is_faulty();
         self.act_all(acts)
     }
@@ -295,11 +319,14 @@ impl FaultyWorld {
         ensures picture { IsPromisedWorld self.old →
             self.new.host.picture ≡ Some self.old.board.state.squares }
         ensures clock_kept { IsClockPromisedWorld self.old → IsClockPromisedWorld self.new }
-        ensures clock { IsPromisedWorld self.old → IsClockPromisedWorld self.old →
+        ensures clock { IsClockPromisedWorld self.old →
             self.new.host.clock ≡ Some self.old.board.state.clock }
+        ensures in_turn { IsInTurnWorld self.old → IsInTurnWorld self.new }
+        ensures awaited { IsInTurnWorld self.old → self.new.host.awaited ≡ [] }
     {
         healing::promised_worlds_heal();
         healing::clocks_heal();
+        healing::awaited_replies_come();
         self.work();
         let mut done = 0;
         while self.settle_once() {
@@ -329,8 +356,10 @@ impl FaultyWorld {
             self.now.host.picture ≡ Some self.now.board.state.squares }
         ensures clock { IsTrue result → IsClockPromisedWorld self.now →
             self.now.host.clock ≡ Some self.now.board.state.clock }
+        ensures awaited { IsTrue result → IsInTurnWorld self.now → self.now.host.awaited ≡ [] }
     {
         healing::promised_worlds_heal();
+        healing::awaited_replies_come();
         healing::worlds_are_in_step();
         healing::clocks_heal();
         self.is_faulty();

@@ -1,7 +1,7 @@
 //! How the picture and the clock of a host heal after faults of the lines and of the board's power.
 //! Nothing here runs: each function stands for the facts that its contract states.
 
-ghost use Rattle.std.specs.Prelude.{◌≡◌, ◌≢◌, ℕ, List, [], ◌∷◌, ◌++◌, length, Some, None, IsSome, IsTrue, false, true};
+ghost use Rattle.std.specs.Prelude.{◌≡◌, ◌≢◌, ◌≤◌, ◌+◌, ℕ, List, [], ◌∷◌, ◌++◌, length, Some, None, IsSome, IsTrue, false, true};
 ghost use Rattle.std.specs.List.{AllByRecursion};
 ghost use Rattle.dgt_command.specs.Content.{CommandContent};
 ghost use Rattle.dgt_decode.specs.Grammar.{unfinished_message};
@@ -17,11 +17,12 @@ ghost use Rattle.dgt_link.specs.declared.acts.Outcome.{Outcome};
 ghost use Rattle.dgt_link.specs.Step.{Runs, Step};
 ghost use Rattle.dgt_link.specs.Settling.{SettlesIn};
 ghost use Rattle.dgt_link.specs.View.{IsQuietWorld, WorldView};
-ghost use Rattle.dgt_link.specs.Clocks.{IsClockFollowing, IsClockPromisedWorld, stops_clock};
+ghost use Rattle.dgt_link.specs.Clocks.{AreClockCalm, IsClockFollowing, IsClockPromisedWorld, stops_clock};
 ghost use Rattle.dgt_link.specs.Faults.{AreCalm, FaultyContent, FaultyRuns, FaultyStep, begins_anew, is_break, is_fault, loses_step, sends, stops};
-ghost use Rattle.dgt_link.specs.Healing.{AfterFaults, IsClockHealing, IsFaultyWorld, IsFollowing, IsHealing, IsInStep, IsInStepBy, IsInTurn, IsPromisedWorld, IsRestedWorld, IsSane, StandsBehind, StandsBehindAfter, counted_by};
+ghost use Rattle.dgt_link.specs.Healing.{AfterFaults, IsClockHealing, IsFaultyWorld, IsFollowing, IsHealing, IsInStep, IsInStepBy, IsInTurn, IsInTurnWorld, IsPromisedWorld, IsRestedWorld, IsSane, StandsBehind, StandsBehindAfter, counted_by};
 
 use crate::laws;
+use dgt_host::RESTART_LENGTH;
 
 /// An act that is no break keeps this: the world stands, after some garbage, for a state. The act's
 /// moves lead to the new state. Hearing garbage is no move.
@@ -124,7 +125,14 @@ pub fn steps_heal()
 /// begun anew, its picture is the board's position whenever the world is quiet. That holds as long
 /// as nothing fails again, no reset is sent and no break comes that both sides see. If only the up
 /// line failed and the board's mode to come asks for updates, a dump is enough.
+///
+/// The state before may be any in which the board is sound: how it came about doesn't matter.
 pub fn calm_heals()
+    ensures any_state { (later : List FaultyContent) (world after : WorldView)
+        (answers : List Outcome) → IsSane world →
+        length world.down.bytes + RESTART_LENGTH ≤ world.down.capacity → AreCalm later →
+        FaultyRuns (FaultyContent.Restart ∷ later) world answers after → IsQuietWorld after
+        → after.host.picture ≡ Some after.board.state.squares }
     ensures restart { (acts later : List FaultyContent) (act : FaultyContent)
         (world between begun after : WorldView) (answers others : List Outcome) →
         IsSane world → FaultyRuns acts world answers between
@@ -168,11 +176,39 @@ pub fn clocks_heal()
         → FaultyStep act world answer after → IsClockPromisedWorld after }
     ensures settled { (count : ℕ) (world after : WorldView) → SettlesIn count world after
         → IsClockPromisedWorld world → IsClockPromisedWorld after }
+    ensures kept_by_all { (acts : List FaultyContent) (world after : WorldView)
+        (answers : List Outcome) → AreClockCalm acts → IsClockPromisedWorld world
+        → FaultyRuns acts world answers after → IsClockPromisedWorld after }
     ensures clock { (world : WorldView) → IsClockPromisedWorld world → IsQuietWorld world
+        → world.host.clock ≡ Some world.board.state.clock }
+    ensures rested { (world : WorldView) → IsClockPromisedWorld world → IsRestedWorld world
+        → unfinished_message world.host.unread ≡ world.host.unread
         → world.host.clock ≡ Some world.board.state.clock }
 {
     acts_behind_garbage();
-    dgt_command::laws::one_division();
+    laws::grammars();
+}
+
+/// What the host awaits. Each awaited reply is still to come in a world without faults, and in any
+/// world once the host has begun anew. Only a fault ends that. At rest nothing is awaited then.
+pub fn awaited_replies_come()
+    ensures world { (world : WorldView) → IsWorld world → IsInTurnWorld world }
+    ensures anew { (act : FaultyContent) (world after : WorldView) → begins_anew act ≡ true
+        → IsSane world → FaultyStep act world Outcome.Done after → IsInTurnWorld after }
+    ensures kept { (act : FaultyContent) (world after : WorldView) (answer : Outcome) →
+        is_fault act ≡ false → IsSane world → IsInTurnWorld world
+        → FaultyStep act world answer after → IsInTurnWorld after }
+    ensures counted { AfterFaults (λ acts world after answers.
+        IsInTurn (counted_by false acts answers) → IsInTurnWorld after) }
+    ensures settled { (count : ℕ) (world after : WorldView) → SettlesIn count world after
+        → IsInTurnWorld world → IsInTurnWorld after }
+    ensures rested { (world : WorldView) → IsInTurnWorld world → IsRestedWorld world
+        → unfinished_message world.host.unread ≡ world.host.unread → world.host.awaited ≡ [] }
+    ensures quiet { (world : WorldView) → IsInTurnWorld world → IsQuietWorld world
+        → world.host.awaited ≡ [] }
+{
+    acts_behind_garbage();
+    laws::grammars();
 }
 
 /// Between the faults and quiet. Any world in step stands, after some garbage, for a state that
@@ -194,8 +230,8 @@ pub fn pictures_were_reported()
     acts_behind_garbage();
 }
 
-/// What is counted is what the words say: an act with which the host begins anew counts if it is
-/// done, whatever was done and whatever failed before, and so it does after any acts of which none
+/// What is counted is what the words say. An act with which the host begins anew counts if it is
+/// done, whatever was done and whatever failed before. It still counts after any acts of which none
 /// is a fault, a reset or a break that both sides see.
 pub fn beginnings_count()
     ensures { (acts later : List FaultyContent) (act : FaultyContent)

@@ -23,7 +23,7 @@ ghost use Rattle.dgt_link.specs.Machine.{IsHostBreak, IsSending, MachineState, M
 ghost use Rattle.dgt_link.specs.Sound.{IsExact, IsSound, IsUnknownOr, coming_picture};
 ghost use Rattle.dgt_link.specs.Promise.{IsAsked, IsAskedBy, IsPromised, IsQuiet, IsRestarted, PictureIsComing, act_requests, coming_mode, commands_after, mode_after, requests};
 ghost use Rattle.dgt_link.specs.Act.{ActContent, act_content, ActHasArrays};
-ghost use Rattle.dgt_link.specs.Faults.{FaultyActHasArrays, FaultyContent, FaultyStep, faulty_content};
+ghost use Rattle.dgt_link.specs.Faults.{AreCalm, FaultyActHasArrays, FaultyContent, FaultyStep, faulty_content};
 ghost use Rattle.dgt_link.specs.Readers.{Grammars};
 ghost use Rattle.dgt_link.specs.Stands.{IsExactWorld, IsWorld, StandsAfterRun, StandsAfterStep, StandsFor};
 ghost use Rattle.dgt_link.specs.declared.acts.Outcome.{Outcome};
@@ -317,7 +317,8 @@ pub fn at_quiet_world()
 
 /// Take acts that ask for a dump after the last break, and of which the last that asks for a mode
 /// asks for updates. Then the world after them stands for a promised state. Once it is quiet the
-/// host's picture is the board's squares.
+/// host's picture is the board's squares. A promised state stays so by any acts without a reset and
+/// a break that both sides see.
 pub fn picture_after_acts()
     ensures promised { (acts : List ActContent) (world after : WorldView)
         (answers : List Outcome) (x : MachineState) →
@@ -327,6 +328,10 @@ pub fn picture_after_acts()
         (answers : List Outcome) (x : MachineState) →
         StandsFor world x → Runs acts world answers after → IsAskedBy acts answers
         → IsQuietWorld after → after.host.picture ≡ Some after.board.state.squares }
+    ensures kept { (acts : List ActContent) (world after : WorldView)
+        (answers : List Outcome) (x : MachineState) →
+        StandsFor world x → Runs acts world answers after → AreCalm (map FaultyContent.Plain acts)
+        → IsPromised x → (y : MachineState) × StandsFor after y × IsPromised y }
 {
     acts_are_moves();
     at_quiet_world();
@@ -367,9 +372,9 @@ pub fn settling_ends()
     dgt_command::laws::parts_of_words();
 }
 
-/// However a world is delivered and its board sends, in whatever order and chunks: if each side
-/// moves again and again, both lines are empty and the board has nothing to send after a limited
-/// number of rounds.
+/// A world may be delivered and its board may send in whatever order and chunks. If each side moves
+/// again and again, both lines are empty and the board has nothing to send after a limited number of
+/// rounds.
 pub fn fair_rounds_rest()
     ensures { (rounds : ℕ) (acts : List ActContent) (world after : WorldView)
         (answers : List Outcome) → IsWorld world → IsShortIdentity world.board.state.identity

@@ -14,9 +14,9 @@ ghost use Rattle.dgt_message.specs.Picture.{picture_after_all};
 ghost use Rattle.dgt_link.specs.declared.line.LineMemory.{LineMemory};
 ghost use Rattle.dgt_link.specs.declared.world.NoWorld.{NoWorld};
 ghost use Rattle.dgt_link.specs.Act.{ActContent, act_content};
-ghost use Rattle.dgt_link.specs.Clocks.{IsClockFollowing, IsClockPromisedWorld, stops_clock};
-ghost use Rattle.dgt_link.specs.Faults.{FaultyContent};
-ghost use Rattle.dgt_link.specs.Healing.{IsInStep};
+ghost use Rattle.dgt_link.specs.Clocks.{AreClockCalm, IsClockFollowing, IsClockPromisedWorld, stops_clock};
+ghost use Rattle.dgt_link.specs.Faults.{AreCalm, FaultyContent};
+ghost use Rattle.dgt_link.specs.Healing.{IsInStep, IsInTurnWorld};
 ghost use Rattle.dgt_link.specs.Headline.{AskForPicture, squares_after};
 ghost use Rattle.dgt_link.specs.Stands.{StandsAfterRun, StandsAfterStep, IsExactWorld, IsWorld, StandsFor};
 ghost use Rattle.dgt_link.specs.Promise.{IsAskedBy, IsPromised, IsRestarted, PictureIsComing, act_requests, coming_mode, mode_after};
@@ -153,7 +153,9 @@ impl World {
     pub fn at_fault(self) -> FaultyWorld
         ensures same { result ≡ self }
         ensures in_step { IsInStep result }
+        ensures in_turn { IsInTurnWorld result }
     {
+        healing::awaited_replies_come();
         healing::worlds_are_in_step();
         self.inner
     }
@@ -246,12 +248,18 @@ impl World {
             Runs (map act_content acts.now) self.old outcomes self.new →
             IsAskedBy (map act_content acts.now) outcomes → IsQuietWorld self.new →
             self.new.host.picture ≡ Some self.new.board.state.squares }
+        ensures kept { AreCalm (map FaultyContent.Plain (map act_content acts.now)) →
+            (x : MachineState) → StandsFor self.old x → IsPromised x →
+            (y : MachineState) × StandsFor self.new y × IsPromised y }
+        ensures clock_kept { AreClockCalm (map FaultyContent.Plain (map act_content acts.now)) →
+            IsClockPromisedWorld self.old → IsClockPromisedWorld self.new }
         // what the host shows of a square at first and after each act stood there, in this order
         ensures in_order { (outcomes : List Outcome) (worlds : List WorldView) (square : ℕ) →
             RunsThrough (map act_content acts.now) self.old outcomes worlds →
             self.old.host.picture ≡ None → self.old.host.unread ≡ [] → self.old.up.bytes ≡ [] →
             IsInOrderOf (shown_in square worlds) (stood_in square worlds) }
     {
+        healing::clocks_heal();
         laws::acts_are_moves();
         laws::acts_keep();
         laws::picture_after_acts();

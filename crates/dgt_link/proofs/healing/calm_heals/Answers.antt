@@ -1,6 +1,9 @@
+use Rattle.std.proofs.Common.{refl, []}
 use Rattle.dgt_link.specs.declared.acts.Outcome.{Outcome}
+use Rattle.dgt_link.specs.Faults.{FaultyContent}
 use Rattle.dgt_link.specs.Healing.{IsFollowing, IsPromisedWorld}
 use Rattle.dgt_link.proofs.Hoping.{sane_keeps, sane_after}
+use Rattle.dgt_link.proofs.Restarting.{restart_runs}
 use Rattle.dgt_link.proofs.healing.calm_heals.Goals as goal
 
 pub returns-clause-restart : goal.returns-clause-restart
@@ -26,3 +29,10 @@ returns-clause-dump c =
     (λ a old new answer calm. c.steps_heal.ensures.kept a old new answer calm.0 calm.1) later begun after others calm
     (sane_after c.faults_heal.ensures.sane _ between begun Outcome.Done still step)
     (c.steps_heal.ensures.dump between begun following step) runs) quiet
+
+pub returns-clause-any_state : goal.returns-clause-any_state
+returns-clause-any_state c =
+    λ later world after answers sane room calm runs quiet.
+    let ran = restart_runs later world after answers room runs in
+    returns-clause-restart c [] later FaultyContent.Restart world world ran.0 after [] ran.1 sane refl refl ran.2 calm
+    ran.3 quiet

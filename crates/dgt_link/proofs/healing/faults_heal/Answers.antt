@@ -1,4 +1,4 @@
-use Rattle.dgt_link.proofs.Counting.{counted_holds, follows_in_step, in_step_counted_holds, in_turn_awaits_nothing}
+use Rattle.dgt_link.proofs.Counting.{counted_holds, follows_in_step, counted_in_turn, in_step_counted_holds, in_turn_at_quiet}
 use Rattle.dgt_link.proofs.ClockHopes.{clock_healing_promised}
 use Rattle.dgt_link.proofs.Rested.{healing_promised, promised_at_quiet}
 use Rattle.dgt_link.proofs.healing.faults_heal.Goals as goal
@@ -19,7 +19,8 @@ returns c =
       dump_promised = λ acts world after answers sane runs is healing.
           healing_promised _ after (in_step_counted_holds laws acts world after answers sane runs is) healing;
       awaited = λ acts world after answers sane runs turn quiet.
-          in_turn_awaits_nothing laws.once _ after (counted_holds laws acts world after answers sane runs) turn quiet;
+          in_turn_at_quiet laws.once after
+          (counted_in_turn _ after (counted_holds laws acts world after answers sane runs) turn) quiet;
       dump_heals = λ acts world after answers sane runs is healing quiet.
           promised_at_quiet laws.once after
           (healing_promised _ after (in_step_counted_holds laws acts world after answers sane runs is) healing) quiet;

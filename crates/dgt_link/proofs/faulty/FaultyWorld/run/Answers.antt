@@ -1,6 +1,21 @@
-use Rattle.dgt_link.specs.Healing.{IsPromisedWorld}
+use Rattle.dgt_link.specs.Healing.{IsInTurnWorld, IsPromisedWorld}
 use Rattle.dgt_link.proofs.Hoping.{sane_keeps}
 use Rattle.dgt_link.proofs.faulty.FaultyWorld.run.Goals as goal
+
+pub returns-clause-from_any_state : goal.returns-clause-from_any_state
+returns-clause-from_any_state c =
+    λ later are room calm. c.calm_heals.ensures.any_state later _ _ c.act_all.ensures.0 c.is_faulty.ensures.sane room
+    calm (rw are at c.act_all.ensures.2)
+
+pub returns-clause-awaited_kept : goal.returns-clause-awaited_kept
+returns-clause-awaited_kept c =
+    λ none is. sane_keeps c.faults_heal.ensures.sane _ IsInTurnWorld
+    (λ act old new answer. c.awaited_replies_come.ensures.kept act old new answer) _ _ _
+    c.act_all.ensures.0 none c.is_faulty.ensures.sane is c.act_all.ensures.2
+
+pub returns-clause-clock_kept : goal.returns-clause-clock_kept
+returns-clause-clock_kept c =
+    λ calm is. c.clocks_heal.ensures.kept_by_all _ _ _ c.act_all.ensures.0 calm is c.act_all.ensures.2
 
 pub returns-clause-kept : goal.returns-clause-kept
 returns-clause-kept c =

@@ -32,6 +32,7 @@ returns c =
     let kept = settled_kept count old new settled in
     let still = c.promised_worlds_heal.ensures.kept count old new settled in
     let clock_still = c.clocks_heal.ensures.settled count old new settled in
+    let turn_still = c.awaited_replies_come.ensures.settled count old new settled in
     let unfinished_is = c.holds_unfinished.ensures in
     let quiet : IsPromisedWorld old → IsQuietWorld new
     = λ is. c.promised_worlds_heal.ensures.quiet new (still is) rests.0 (rw rests.1 at unfinished_is) in
@@ -49,6 +50,9 @@ returns c =
           (c.promised_worlds_heal.ensures.picture new (still is) (quiet is)));
       clock_kept = rw rests.1 clock_still;
       clock = rw rests.1
-          (λ is clock. settled_clock count old new settled
-          (c.clocks_heal.ensures.clock new (clock_still clock) (quiet is)));
+          (λ clock. settled_clock count old new settled
+          (c.clocks_heal.ensures.rested new (clock_still clock) rests.0 (rw rests.1 at unfinished_is)));
+      in_turn = rw rests.1 turn_still;
+      awaited = rw rests.1
+          (λ turn. c.awaited_replies_come.ensures.rested new (turn_still turn) rests.0 (rw rests.1 at unfinished_is));
     }

@@ -1,5 +1,6 @@
 use Rattle.dgt_link.specs.Faults.{faulty_content}
 use Rattle.dgt_link.proofs.Counting.{undone}
+use Rattle.dgt_link.proofs.Restarting.{restart_done}
 use Rattle.dgt_link.proofs.faulty.FaultyWorld.step.Goals as goal
 
 pub returns : goal.returns
@@ -12,6 +13,7 @@ returns c =
     record {
       exact = step;
       unchanged = λ other. undone act _ _ _ other step;
+      restart = λ is. restart_done _ _ _ (rw is at step);
       anew = λ is done. hopes.anew act _ _ is sane (rw done at step);
       in_step = λ keeps is. hopes.in_step act _ _ c.act.result keeps sane is step;
       asked = λ command mode is sets asks done in_step.
@@ -26,4 +28,6 @@ returns c =
       clock_following = λ keeps going is. clock.following act _ _ c.act.result keeps going is step;
       reading = λ is done follows. clock.reading _ _ follows (rw (is, done) at step);
       clock_kept = λ none going is. clock.kept act _ _ c.act.result none going is step;
+      awaited_anew = λ is done. c.awaited_replies_come.ensures.anew act _ _ is sane (rw done at step);
+      awaited_kept = λ none is. c.awaited_replies_come.ensures.kept act _ _ c.act.result none sane is step;
     }

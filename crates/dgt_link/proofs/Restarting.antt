@@ -1,0 +1,34 @@
+-- A restart is done exactly if its bytes fit.
+use Rattle.std.proofs.Common.{◌≡◌, refl, sym, ◌∙◌, ◌+◌, ◌≤◌, Bool, true, false, List, [], ◌∷◌, length, if◌then◌else◌, nat_lt, arith, rules}
+use Rattle.std.specs.Prelude.{◌↔◌}
+use Rattle.dgt_host.specs.Host.{restart_bytes}
+use Rattle.dgt_link.specs.declared.acts.Outcome.{Outcome}
+use Rattle.dgt_link.specs.Faults.{FaultyContent, FaultyRuns, FaultyStep}
+use Rattle.dgt_link.specs.View.{LineContents, WorldView, overflows}
+
+restart_fits : (line : LineContents) → length line.bytes + 257 ≤ line.capacity → overflows line restart_bytes ≡ false
+restart_fits line room = search rules
+
+restart_is_done : (world after : WorldView) (answer : Outcome) → length world.down.bytes + 257 ≤ world.down.capacity
+    → FaultyStep FaultyContent.Restart world answer after → answer ≡ Outcome.Done
+restart_is_done world after answer room step = rw (restart_fits world.down room) at step.answers
+
+pub restart_runs : (later : List FaultyContent) (world after : WorldView) (answers : List Outcome)
+    → length world.down.bytes + 257 ≤ world.down.capacity
+    → FaultyRuns (FaultyContent.Restart ∷ later) world answers after
+    → (begun : WorldView) × (others : List Outcome) × FaultyStep FaultyContent.Restart world Outcome.Done begun
+    × FaultyRuns later begun others after
+restart_runs later world after (answer ∷ answers) room (begun, step, runs) =
+    (begun, answers, rw (restart_is_done world begun answer room step) at step, runs)
+restart_runs later world after [] room none = absurd none
+
+restart_has_room : (line : LineContents) → (if overflows line restart_bytes then Outcome.NoRoom else Outcome.Done)
+    ≡ Outcome.Done → length line.bytes + 257 ≤ line.capacity
+restart_has_room line e = search rules
+
+pub restart_done : (world after : WorldView) (answer : Outcome) → FaultyStep FaultyContent.Restart world answer after
+    → (answer ≡ Outcome.Done) ↔ (length world.down.bytes + 257 ≤ world.down.capacity)
+restart_done world after answer step = (
+  λ done. restart_has_room world.down (sym step.answers ∙ done),
+  λ room. restart_is_done world after answer room step,
+)
