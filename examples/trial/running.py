@@ -98,9 +98,9 @@ class Room:
         self.log.close()
         self.folder.cleanup()
 
-    def start(self, *words, **environment):
+    def start(self, *words):
         how = {"stdin": subprocess.DEVNULL, "stdout": self.log, "stderr": self.log}
-        environment = {**os.environ, "PATH": ALIVE, **environment}
+        environment = os.environ | {"PATH": ALIVE}
         ran = subprocess.Popen([*map(str, words)], env=environment, cwd=self.path, **how)
         self.runs.append(ran)
         return ran

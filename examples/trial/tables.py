@@ -149,11 +149,10 @@ class Table:
 
     def start(self, *words, **environment):
         """Runs a program on the display, with a home of its own."""
-        home = self.room.path / "home"
-        home.mkdir(exist_ok=True)
-        own = {"DISPLAY": self.display, "HOME": str(home), "NO_AT_BRIDGE": "1",
-               "LC_ALL": "C.UTF-8", "XDG_CONFIG_HOME": str(home / ".config")}
-        return self.room.start(*words, **own, **environment)
+        environment["DISPLAY"] = self.display
+        settings = [f"{name}={value}" for name, value in environment.items()]
+        isolated = ROOT / "examples" / "trial" / "isolated"
+        return self.room.start(isolated, self.room.path / "home", *settings, *words)
 
     def shot(self, name):
         if folder := os.environ.get("TRIAL_SHOTS"):
