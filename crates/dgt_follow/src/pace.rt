@@ -202,7 +202,7 @@ impl Pace {
 
     /// Notes the event that was heard at this time, if there is one. `unasked` says whether it is a
     /// message of a kind that isn't awaited first.
-    pub fn note(&mut self, event: &Option<Event<'_>>, unasked: bool, now: u64)
+    pub(crate) fn note(&mut self, event: &Option<Event<'_>>, unasked: bool, now: u64)
         ensures { (awaited : List Kind) →
             (IsTrue unasked ↔ IsUnasked awaited (event_content_if_any event.now)) →
             self.new ≡ pace_after_event_if_any self.old now awaited
