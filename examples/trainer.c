@@ -19,8 +19,8 @@ static void show(dgt_follower *board, int port) {
     if (dgt_follower_in_doubt(board) || !dgt_follower_placement(board, text)) return;
     if (strcmp(text, shown) == 0) return;
     puts(strcpy(shown, text));
-    snprintf(number, sizeof number, "%-8d", ++changes);
-    dgt_sent sent = dgt_follower_send_text(board, number, 0, out, sizeof out);
+    snprintf(number, sizeof number, "%d", ++changes);
+    dgt_sent sent = dgt_follower_show_text(board, number, 0, out, sizeof out);
     dgt_port_write(port, out, sent.bytes); /* if the port has gone, dgt_port_exchange finds it */
 }
 

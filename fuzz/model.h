@@ -86,7 +86,7 @@ model_sending model_leds(const uint8_t *leds, size_t n);
 /* One of the eight calls that send a message to the clock by its meaning. */
 typedef struct model_clock_call {
     uint8_t id;           /* DGT_ID_DISPLAY to DGT_ID_TEXT */
-    const char *text;     /* six or eight characters, as the id has it */
+    const uint8_t *text;  /* six or eight characters, as the id has it */
     const uint8_t *left, *right; /* three numbers each */
     uint8_t one, other;   /* the numbers after these */
     const uint8_t *icons;

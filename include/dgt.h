@@ -25,6 +25,7 @@
  * the memory that it is given, fails to return, or does other than is said here, whatever the bytes
  * are. If you don't, nothing is promised. Unless NDEBUG is defined, each call asserts that its
  * handle stands where it was made. Nothing tests the rest when the program runs.
+ * The inline calls below, such as dgt_host_new, are C: they are tested, and not proved.
  *
  *  - A pointer whose length is the next parameter may be NULL if that length is 0, in each call. No
  *    other pointer is null. Each is aligned as its type is. A length is at most 2^63 - 1, and
@@ -104,6 +105,12 @@ extern "C" {
 #else
 #define DGT_READS_(...)
 #define DGT_WRITES_(...)
+#endif
+
+#ifdef __cplusplus /* an array parameter has this length or more */
+#define DGT_LEAST_
+#else
+#define DGT_LEAST_ static
 #endif
 
 /* ---- The version of this header, by which conditions can be compiled, and of the library. */
@@ -414,15 +421,51 @@ dgt_sent dgt_host_send_clock(dgt_host *host, uint8_t id, const uint8_t *payload,
  * DGT_EVENT_ACK. */
 
 /* Shows six digits, spaces and hyphens, from left to right. DGT_NO_COMMAND if there is another
- * character among them; it goes before all else. */
-dgt_sent dgt_host_send_display(dgt_host *host, const char text[6], uint8_t dots, uint8_t beep,
-                               uint8_t *out, size_t n)
+ * character among them; it goes before all else. It reads six bytes, and no zero after them:
+ * dgt_host_show_digits takes a text such as "12-34". */
+dgt_sent dgt_host_send_display(dgt_host *host, const uint8_t text[DGT_LEAST_ 6], uint8_t dots,
+                               uint8_t beep, uint8_t *out, size_t n)
     DGT_MUST_USE_ DGT_NONNULL_(1, 2) DGT_READS_(2) DGT_WRITES_(5, 6);
 
-/* Shows eight characters, from left to right, a byte each. */
-dgt_sent dgt_host_send_text(dgt_host *host, const char text[8], uint8_t beep, uint8_t *out,
-                            size_t n)
+/* Shows eight characters, from left to right, a byte each. It reads eight bytes, and no zero after
+ * them: dgt_host_show_text takes a text such as "hello". */
+dgt_sent dgt_host_send_text(dgt_host *host, const uint8_t text[DGT_LEAST_ 8], uint8_t beep,
+                            uint8_t *out, size_t n)
     DGT_MUST_USE_ DGT_NONNULL_(1, 2) DGT_READS_(2) DGT_WRITES_(4, 5);
+
+/* Copies a text, and as many spaces after it as there is room for. False if it doesn't fit, or is
+ * not ASCII. */
+static inline bool dgt_pad_(const char *text, uint8_t *padded, size_t room) {
+    for (size_t at = 0; at < room; at++) {
+        char each = *text != '\0' ? *text++ : ' ';
+        padded[at] = each & 0x7f;
+        if (padded[at] != each) return false;
+    }
+    return *text == '\0';
+}
+
+/* Shows a text of at most six digits, spaces and hyphens, with a zero at its end. A short one
+ * has spaces after it. DGT_NO_COMMAND if it is longer or has another character; it goes before all
+ * else. */
+DGT_MUST_USE_ DGT_NONNULL_(1, 2) DGT_WRITES_(5, 6)
+static inline dgt_sent dgt_host_show_digits(dgt_host *host, const char *text, uint8_t dots,
+                                            uint8_t beep, uint8_t *out, size_t n) {
+    const dgt_sent refused = {DGT_NO_COMMAND, 0};
+    uint8_t padded[6];
+    if (!dgt_pad_(text, padded, sizeof padded)) return refused;
+    return dgt_host_send_display(host, padded, dots, beep, out, n);
+}
+
+/* Shows a text of at most eight ASCII characters, with a zero at its end. A short one has spaces
+ * after it. DGT_NO_COMMAND if it is longer or not ASCII; it goes before all else. */
+DGT_MUST_USE_ DGT_NONNULL_(1, 2) DGT_WRITES_(4, 5)
+static inline dgt_sent dgt_host_show_text(dgt_host *host, const char *text, uint8_t beep,
+                                          uint8_t *out, size_t n) {
+    const dgt_sent refused = {DGT_NO_COMMAND, 0};
+    uint8_t padded[8];
+    if (!dgt_pad_(text, padded, sizeof padded)) return refused;
+    return dgt_host_send_text(host, padded, beep, out, n);
+}
 
 /* Beeps for this duration. */
 dgt_sent dgt_host_send_beep(dgt_host *host, uint8_t duration, uint8_t *out, size_t n)
@@ -573,12 +616,29 @@ dgt_sent dgt_follower_send_clock(dgt_follower *follower, uint8_t id, const uint8
     DGT_MUST_USE_ DGT_NONNULL_(1) DGT_READS_(3, 4) DGT_WRITES_(5, 6);
 
 /* Sends what the calls of the same names send for a host. */
-dgt_sent dgt_follower_send_display(dgt_follower *follower, const char text[6], uint8_t dots,
-                                   uint8_t beep, uint8_t *out, size_t n)
+dgt_sent dgt_follower_send_display(dgt_follower *follower, const uint8_t text[DGT_LEAST_ 6],
+                                   uint8_t dots, uint8_t beep, uint8_t *out, size_t n)
     DGT_MUST_USE_ DGT_NONNULL_(1, 2) DGT_READS_(2) DGT_WRITES_(5, 6);
-dgt_sent dgt_follower_send_text(dgt_follower *follower, const char text[8], uint8_t beep,
-                                uint8_t *out, size_t n)
+dgt_sent dgt_follower_send_text(dgt_follower *follower, const uint8_t text[DGT_LEAST_ 8],
+                                uint8_t beep, uint8_t *out, size_t n)
     DGT_MUST_USE_ DGT_NONNULL_(1, 2) DGT_READS_(2) DGT_WRITES_(4, 5);
+DGT_MUST_USE_ DGT_NONNULL_(1, 2) DGT_WRITES_(5, 6)
+static inline dgt_sent dgt_follower_show_digits(dgt_follower *follower, const char *text,
+                                                uint8_t dots, uint8_t beep, uint8_t *out,
+                                                size_t n) {
+    const dgt_sent refused = {DGT_NO_COMMAND, 0};
+    uint8_t padded[6];
+    if (!dgt_pad_(text, padded, sizeof padded)) return refused;
+    return dgt_follower_send_display(follower, padded, dots, beep, out, n);
+}
+DGT_MUST_USE_ DGT_NONNULL_(1, 2) DGT_WRITES_(4, 5)
+static inline dgt_sent dgt_follower_show_text(dgt_follower *follower, const char *text,
+                                              uint8_t beep, uint8_t *out, size_t n) {
+    const dgt_sent refused = {DGT_NO_COMMAND, 0};
+    uint8_t padded[8];
+    if (!dgt_pad_(text, padded, sizeof padded)) return refused;
+    return dgt_follower_send_text(follower, padded, beep, out, n);
+}
 dgt_sent dgt_follower_send_beep(dgt_follower *follower, uint8_t duration, uint8_t *out, size_t n)
     DGT_MUST_USE_ DGT_NONNULL_(1) DGT_WRITES_(3, 4);
 dgt_sent dgt_follower_send_set_and_run(dgt_follower *follower, const uint8_t left[3],
@@ -965,6 +1025,8 @@ static inline dgt_host *dgt_host_(dgt_host *handle) {
 #define dgt_host_send_clock(it, ...) dgt_host_send_clock(dgt_host_(it), __VA_ARGS__)
 #define dgt_host_send_display(it, ...) dgt_host_send_display(dgt_host_(it), __VA_ARGS__)
 #define dgt_host_send_text(it, ...) dgt_host_send_text(dgt_host_(it), __VA_ARGS__)
+#define dgt_host_show_digits(it, ...) dgt_host_show_digits(dgt_host_(it), __VA_ARGS__)
+#define dgt_host_show_text(it, ...) dgt_host_show_text(dgt_host_(it), __VA_ARGS__)
 #define dgt_host_send_beep(it, ...) dgt_host_send_beep(dgt_host_(it), __VA_ARGS__)
 #define dgt_host_send_set_and_run(it, ...) dgt_host_send_set_and_run(dgt_host_(it), __VA_ARGS__)
 #define dgt_host_send_icons(it, ...) dgt_host_send_icons(dgt_host_(it), __VA_ARGS__)
@@ -996,6 +1058,8 @@ static inline dgt_follower *dgt_follower_(dgt_follower *handle) {
 #define dgt_follower_send_clock(it, ...) dgt_follower_send_clock(dgt_follower_(it), __VA_ARGS__)
 #define dgt_follower_send_display(it, ...) dgt_follower_send_display(dgt_follower_(it), __VA_ARGS__)
 #define dgt_follower_send_text(it, ...) dgt_follower_send_text(dgt_follower_(it), __VA_ARGS__)
+#define dgt_follower_show_digits(it, ...) dgt_follower_show_digits(dgt_follower_(it), __VA_ARGS__)
+#define dgt_follower_show_text(it, ...) dgt_follower_show_text(dgt_follower_(it), __VA_ARGS__)
 #define dgt_follower_send_beep(it, ...) dgt_follower_send_beep(dgt_follower_(it), __VA_ARGS__)
 #define dgt_follower_send_set_and_run(it, ...) \
     dgt_follower_send_set_and_run(dgt_follower_(it), __VA_ARGS__)
@@ -1054,6 +1118,7 @@ static inline dgt_board *dgt_board_(dgt_board *handle) {
 #endif
 
 #undef DGT_HAS_
+#undef DGT_LEAST_
 #undef DGT_NONNULL_
 #undef DGT_MUST_USE_
 #undef DGT_READS_

@@ -30,6 +30,10 @@
 #ifndef DGT_HPP
 #define DGT_HPP
 
+#if __cplusplus < 201703L
+#error "dgt.hpp is for C++17 and later: compile it with -std=c++17"
+#endif
+
 #include "dgt.h"
 
 #include <algorithm>
@@ -555,23 +559,23 @@ inline std::optional<Milliseconds> time(bool is_known, std::uint64_t count) {
 
 // The calls of dgt.h that send a message to the clock, by one name for a host and a follower.
 
-inline dgt_sent send_display(dgt_host *it, const char *text, std::uint8_t dots, std::uint8_t beep,
-                             std::uint8_t *out, std::size_t n) {
+inline dgt_sent send_display(dgt_host *it, const std::uint8_t *text, std::uint8_t dots,
+                             std::uint8_t beep, std::uint8_t *out, std::size_t n) {
     return dgt_host_send_display(it, text, dots, beep, out, n);
 }
 
-inline dgt_sent send_display(dgt_follower *it, const char *text, std::uint8_t dots,
+inline dgt_sent send_display(dgt_follower *it, const std::uint8_t *text, std::uint8_t dots,
                              std::uint8_t beep, std::uint8_t *out, std::size_t n) {
     return dgt_follower_send_display(it, text, dots, beep, out, n);
 }
 
-inline dgt_sent send_text(dgt_host *it, const char *text, std::uint8_t beep, std::uint8_t *out,
-                          std::size_t n) {
+inline dgt_sent send_text(dgt_host *it, const std::uint8_t *text, std::uint8_t beep,
+                          std::uint8_t *out, std::size_t n) {
     return dgt_host_send_text(it, text, beep, out, n);
 }
 
-inline dgt_sent send_text(dgt_follower *it, const char *text, std::uint8_t beep, std::uint8_t *out,
-                          std::size_t n) {
+inline dgt_sent send_text(dgt_follower *it, const std::uint8_t *text, std::uint8_t beep,
+                          std::uint8_t *out, std::size_t n) {
     return dgt_follower_send_text(it, text, beep, out, n);
 }
 
@@ -684,8 +688,8 @@ public:
     /// Shows at most six digits, spaces and hyphens, from left to right.
     Commands display(std::string_view text, std::uint8_t dots = 0, std::uint8_t beep = 0) {
         auto shown = padded<6>(text);
-        for (char each : shown)
-            if (dgt_segment(static_cast<std::uint8_t>(each)) == DGT_NO_SUCH)
+        for (std::uint8_t each : shown)
+            if (dgt_segment(each) == DGT_NO_SUCH)
                 throw std::invalid_argument("no digit, space or hyphen");
         return sent([&](auto *it, auto *out, auto n) {
             return detail::send_display(it, shown.data(), dots, beep, out, n);
@@ -695,8 +699,8 @@ public:
     /// Shows at most eight ASCII characters, from left to right.
     Commands text(std::string_view text, std::uint8_t beep = 0) {
         auto shown = padded<8>(text);
-        for (char each : shown)
-            if (static_cast<unsigned char>(each) > 127) throw std::invalid_argument("not ASCII");
+        for (std::uint8_t each : shown)
+            if (each > 127) throw std::invalid_argument("not ASCII");
         return sent([&](auto *it, auto *out, auto n) {
             return detail::send_text(it, shown.data(), beep, out, n);
         });
@@ -750,8 +754,8 @@ private:
         return detail::sent([&](auto *out, auto n) { return send(handle, out, n); });
     }
 
-    template <std::size_t N> static std::array<char, N> padded(std::string_view text) {
-        std::array<char, N> shown;
+    template <std::size_t N> static std::array<std::uint8_t, N> padded(std::string_view text) {
+        std::array<std::uint8_t, N> shown;
         shown.fill(' ');
         if (text.size() > N)
             throw std::invalid_argument("more than " + std::to_string(N) + " characters");

@@ -436,16 +436,16 @@ static bool is_sent(dgt_sent sent, uint8_t *out, const uint8_t *bytes, size_t n)
 /* Has a host and a follower send the same, and compares the bytes. */
 #define SENDS(name, bytes, ...)                                                                  \
     do {                                                                                         \
-        CHECK(is_sent(dgt_host_send_##name(host, __VA_ARGS__), out, bytes));                     \
-        CHECK(is_sent(dgt_follower_send_##name(follower, __VA_ARGS__), out, bytes));             \
+        CHECK(is_sent(dgt_host_##name(host, __VA_ARGS__), out, bytes));                          \
+        CHECK(is_sent(dgt_follower_##name(follower, __VA_ARGS__), out, bytes));                  \
     } while (0)
 
 /* Has a host and a follower send the same, which returns this status and this number. */
 #define REFUSES(name, said, count, ...)                                                          \
     do {                                                                                         \
-        dgt_sent told = dgt_host_send_##name(host, __VA_ARGS__);                                 \
+        dgt_sent told = dgt_host_##name(host, __VA_ARGS__);                                      \
         CHECK(told.status == (said) && told.bytes == (count));                                   \
-        told = dgt_follower_send_##name(follower, __VA_ARGS__);                                  \
+        told = dgt_follower_##name(follower, __VA_ARGS__);                                       \
         CHECK(told.status == (said) && told.bytes == (count));                                   \
     } while (0)
 
@@ -455,27 +455,53 @@ static void clock_commands(void) {
     CHECK(dgt_host_new(host) && dgt_follower_new(follower, 1000, 1));
     uint8_t *out = room(DGT_MAX_WORD), *many = room(DGT_MAX_PAYLOAD + 1);
     uint8_t *left = copy("\1\0\0", 3), *right = copy("\0\73\36", 3);
-    char *digits = (char *)copy("-12345", 6), *other = (char *)copy("12345a", 6);
-    char *letters = (char *)copy("Resume!\377", 8);
+    uint8_t *digits = copy("-12345", 6), *other = copy("12345a", 6);
+    uint8_t *letters = copy("Resume!\377", 8);
 
-    SENDS(display, BYTES(0x2b, 11, 3, 1, 0x5b, 6, 0x40, 0x6d, 0x66, 0x4f, 1, 2, 0), digits, 1, 2,
-          out, 13);
-    REFUSES(display, DGT_NO_COMMAND, 0, other, 0, 0, out, 0);
-    REFUSES(display, DGT_NO_ROOM, 13, digits, 0, 0, out, 12);
-    SENDS(text, BYTES(0x2b, 12, 3, 12, 'R', 'e', 's', 'u', 'm', 'e', '!', 255, 7, 0), letters, 7,
-          out, 14);
-    SENDS(beep, BYTES(0x2b, 4, 3, 11, 3, 0), 3, out, 6);
-    SENDS(set_and_run, BYTES(0x2b, 10, 3, 10, 1, 0, 0, 0, 59, 30, 1, 0), left, right, 1, out, 12);
-    SENDS(icons, BYTES(0x2b, 5, 3, 2, 8, 9, 0), BYTES(8, 9), out, 7);
+    SENDS(send_display, BYTES(0x2b, 11, 3, 1, 0x5b, 6, 0x40, 0x6d, 0x66, 0x4f, 1, 2, 0), digits, 1,
+          2, out, 13);
+    REFUSES(send_display, DGT_NO_COMMAND, 0, other, 0, 0, out, 0);
+    REFUSES(send_display, DGT_NO_ROOM, 13, digits, 0, 0, out, 12);
+    SENDS(send_text, BYTES(0x2b, 12, 3, 12, 'R', 'e', 's', 'u', 'm', 'e', '!', 255, 7, 0), letters,
+          7, out, 14);
+    SENDS(send_beep, BYTES(0x2b, 4, 3, 11, 3, 0), 3, out, 6);
+    SENDS(send_set_and_run, BYTES(0x2b, 10, 3, 10, 1, 0, 0, 0, 59, 30, 1, 0), left, right, 1, out,
+          12);
+    SENDS(send_icons, BYTES(0x2b, 5, 3, 2, 8, 9, 0), BYTES(8, 9), out, 7);
     dgt_sent sent = dgt_host_send_icons(host, many, DGT_MAX_PAYLOAD, out, DGT_MAX_WORD);
     CHECK(sent.status == DGT_SENT && sent.bytes == DGT_MAX_WORD && out[1] == 255 && out[4] == 0xa5);
-    REFUSES(icons, DGT_NO_COMMAND, 0, many, DGT_MAX_PAYLOAD + 1, out, DGT_MAX_WORD);
-    SENDS(end, BYTES(0x2b, 3, 3, 3, 0), out, 5);
-    SENDS(button, BYTES(0x2b, 3, 3, 8, 0), out, 5);
-    SENDS(clock_version, BYTES(0x2b, 3, 3, 9, 0), out, 5);
-    REFUSES(clock_version, DGT_NO_ROOM, 5, out, 4);
+    REFUSES(send_icons, DGT_NO_COMMAND, 0, many, DGT_MAX_PAYLOAD + 1, out, DGT_MAX_WORD);
+    SENDS(send_end, BYTES(0x2b, 3, 3, 3, 0), out, 5);
+    SENDS(send_button, BYTES(0x2b, 3, 3, 8, 0), out, 5);
+    SENDS(send_clock_version, BYTES(0x2b, 3, 3, 9, 0), out, 5);
+    REFUSES(send_clock_version, DGT_NO_ROOM, 5, out, 4);
     free(host), free(follower), free(out), free(many), free(left), free(right);
     free(digits), free(other), free(letters);
+}
+
+/* Texts that end with a zero are sent with spaces after them, and refused if they don't fit. */
+static void texts(void) {
+    dgt_host *host = room(dgt_host_size());
+    dgt_follower *follower = room(dgt_follower_size());
+    CHECK(dgt_host_new(host) && dgt_follower_new(follower, 1000, 1));
+    uint8_t out[14];
+    char *five = (char *)copy("hello", 6), *none = (char *)copy("", 1); /* no byte after them */
+    SENDS(show_text, BYTES(0x2b, 12, 3, 12, 'h', 'e', 'l', 'l', 'o', ' ', ' ', ' ', 7, 0), five, 7,
+          out, 14);
+    SENDS(show_text, BYTES(0x2b, 12, 3, 12, 'i', 'n', ' ', 'e', 'i', 'g', 'h', 't', 0, 0),
+          "in eight", 0, out, 14);
+    SENDS(show_text, BYTES(0x2b, 12, 3, 12, ' ', ' ', ' ', ' ', ' ', ' ', ' ', ' ', 0, 0), none, 0,
+          out, 14);
+    REFUSES(show_text, DGT_NO_COMMAND, 0, "nine char", 0, out, 14);
+    REFUSES(show_text, DGT_NO_COMMAND, 0, "R\xc3\xa9sum\xc3\xa9", 0, out, 14);
+    REFUSES(show_text, DGT_NO_ROOM, 14, five, 0, out, 13);
+    SENDS(show_digits, BYTES(0x2b, 11, 3, 1, 0x40, 0x5b, 6, 0, 0, 0x4f, 1, 2, 0), "12-3", 1, 2, out,
+          13);
+    SENDS(show_digits, BYTES(0x2b, 11, 3, 1, 0, 0, 0, 0, 0, 0, 0, 0, 0), none, 0, 0, out, 13);
+    REFUSES(show_digits, DGT_NO_COMMAND, 0, "1234567", 0, 0, out, 14);
+    REFUSES(show_digits, DGT_NO_COMMAND, 0, five, 0, 0, out, 14);
+    REFUSES(show_digits, DGT_NO_ROOM, 13, "123456", 0, 0, out, 12);
+    free(host), free(follower), free(five), free(none);
 }
 
 static void decoders(void) {
@@ -751,15 +777,15 @@ static void no_bytes_for_commands(void) {
     dgt_host *host = room(dgt_host_size());
     dgt_follower *follower = room(dgt_follower_size());
     CHECK(dgt_host_new(host) && dgt_follower_new(follower, 1000, 1));
-    const uint8_t time[3] = {0};
-    REFUSES(display, DGT_NO_ROOM, 13, "123456", 0, 0, NULL, 0);
-    REFUSES(text, DGT_NO_ROOM, 14, "in eight", 0, NULL, 0);
-    REFUSES(beep, DGT_NO_ROOM, 6, 3, NULL, 0);
-    REFUSES(set_and_run, DGT_NO_ROOM, 12, time, time, 0, NULL, 0);
-    REFUSES(icons, DGT_NO_ROOM, 5, NULL, 0, NULL, 0);
-    REFUSES(end, DGT_NO_ROOM, 5, NULL, 0);
-    REFUSES(button, DGT_NO_ROOM, 5, NULL, 0);
-    REFUSES(clock_version, DGT_NO_ROOM, 5, NULL, 0);
+    const uint8_t time[3] = {0}, digits[6] = {'1', '2', '3', '4', '5', '6'}, text[8] = {0};
+    REFUSES(send_display, DGT_NO_ROOM, 13, digits, 0, 0, NULL, 0);
+    REFUSES(send_text, DGT_NO_ROOM, 14, text, 0, NULL, 0);
+    REFUSES(send_beep, DGT_NO_ROOM, 6, 3, NULL, 0);
+    REFUSES(send_set_and_run, DGT_NO_ROOM, 12, time, time, 0, NULL, 0);
+    REFUSES(send_icons, DGT_NO_ROOM, 5, NULL, 0, NULL, 0);
+    REFUSES(send_end, DGT_NO_ROOM, 5, NULL, 0);
+    REFUSES(send_button, DGT_NO_ROOM, 5, NULL, 0);
+    REFUSES(send_clock_version, DGT_NO_ROOM, 5, NULL, 0);
     free(host), free(follower);
 }
 
@@ -818,6 +844,7 @@ int main(void) {
     chunks();
     follower();
     clock_commands();
+    texts();
     decoders();
     messages();
     no_messages();

@@ -3,7 +3,8 @@
 //! its head what a caller owes. The crate `dgt` keeps that by itself, and has no unsafe calls.
 //!
 //! A number has the type of the member that holds it. The inline calls of the header, which have no
-//! symbol, are functions here: [`dgt_host_new`] and its like.
+//! symbol, are functions here: [`dgt_host_new`] and its like. Those that show a text with a zero at
+//! its end are left out: [`dgt_host_send_text`] and its like take an array.
 //!
 //! ```
 //! let mut name = [0u8; 3];
@@ -498,7 +499,7 @@ unsafe extern "C" {
     /// Sends a message to the clock that shows six digits, spaces and hyphens.
     pub fn dgt_host_send_display(
         host: *mut dgt_host,
-        text: *const [c_char; 6],
+        text: *const [u8; 6],
         dots: u8,
         beep: u8,
         out: *mut u8,
@@ -507,7 +508,7 @@ unsafe extern "C" {
     /// Sends a message to the clock that shows eight characters.
     pub fn dgt_host_send_text(
         host: *mut dgt_host,
-        text: *const [c_char; 8],
+        text: *const [u8; 8],
         beep: u8,
         out: *mut u8,
         n: usize,
@@ -613,7 +614,7 @@ unsafe extern "C" {
     /// Sends a message to the clock that shows six digits, spaces and hyphens.
     pub fn dgt_follower_send_display(
         follower: *mut dgt_follower,
-        text: *const [c_char; 6],
+        text: *const [u8; 6],
         dots: u8,
         beep: u8,
         out: *mut u8,
@@ -622,7 +623,7 @@ unsafe extern "C" {
     /// Sends a message to the clock that shows eight characters.
     pub fn dgt_follower_send_text(
         follower: *mut dgt_follower,
-        text: *const [c_char; 8],
+        text: *const [u8; 8],
         beep: u8,
         out: *mut u8,
         n: usize,

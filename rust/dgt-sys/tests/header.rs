@@ -150,7 +150,10 @@ fn every_name_of_the_header_is_declared() {
     assert_eq!(declared.collect::<BTreeSet<_>>(), structs);
     let (code, plain) = (code(), declared_by_header());
     let (declared, mut missing) = (words(&code, "dgt_"), called(&plain));
-    missing.retain(|name| !declared.contains(name));
+    // Those for texts with a zero at their end are left out.
+    missing.retain(|name| {
+        !declared.contains(name) && !name.contains("_show_") && !name.ends_with('_')
+    });
     assert_eq!(missing, BTreeSet::new());
 }
 
