@@ -7,11 +7,7 @@
 //     words N            writes the lines of `dgt commands`, but those of clock messages as hex
 //     board N            writes what a Board answers
 #include "dgt.hpp"
-
-#pragma GCC diagnostic push
-#pragma GCC diagnostic ignored "-Wold-style-cast" // dgt_port.h is C
 #include "dgt_port.hpp"
-#pragma GCC diagnostic pop
 
 #include <stdlib.h>
 

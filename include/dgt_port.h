@@ -39,6 +39,11 @@
 #error "dgt_port.h: define _DEFAULT_SOURCE before the first #include"
 #endif
 
+#if defined(__cplusplus) && defined(__GNUC__)
+#pragma GCC diagnostic push
+#pragma GCC diagnostic ignored "-Wold-style-cast" /* C has no others */
+#endif
+
 enum {
     DGT_PORT_PATIENCE = 2000,  /* for how many milliseconds dgt_port_write waits for the port */
     DGT_PORT_LONGEST = 3600000 /* for how many dgt_port_read does */
@@ -149,5 +154,9 @@ static inline void dgt_port_close(int port) {
     ioctl(port, TIOCNXCL);
     close(port);
 }
+
+#if defined(__cplusplus) && defined(__GNUC__)
+#pragma GCC diagnostic pop
+#endif
 
 #endif
