@@ -6,6 +6,7 @@ import collections
 import contextlib
 import functools
 import hashlib
+import os
 import queue
 import re
 import sys
@@ -20,6 +21,7 @@ import dgt
 
 import topics
 
+PROGRAM = os.path.basename(sys.argv[0])
 MOST_GAMES = 10000  # the latest ones
 MOST_WAITING = 100000  # of what boards say, before games are made of it
 SHOWN_MOVES = 12
@@ -328,4 +330,4 @@ def nothing(_: str) -> None:
 def report(text: str) -> None:
     """Prints a line on standard error. Nobody may read it, or its disk may be full."""
     with contextlib.suppress(OSError):
-        sys.stderr.write(f"serve: {text}\n")
+        sys.stderr.write(f"{PROGRAM}: {text}\n")
