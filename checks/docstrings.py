@@ -111,7 +111,7 @@ def check(dgt, folder):
     readme = folder / "README.md"
     runner, told = doctest.DocTestRunner(), []
     with (unittest.mock.patch.dict(sys.modules, stand_ins(dgt)),
-          unittest.mock.patch("dgt.following.Port", lambda name: OwnPort(dgt.Board(), None))):
+          unittest.mock.patch("dgt.following.Port", lambda *_: OwnPort(dgt.Board(), None))):
         for test in tests(dgt, readme):
             runner.run(test, out=told.append)
     if runner.failures:

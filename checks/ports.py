@@ -13,7 +13,10 @@ import os
 import pathlib
 import pty
 import select
+import signal
 import socket
+import subprocess
+import sys
 import tempfile
 import termios
 import threading
@@ -323,6 +326,69 @@ def closing(dgt, line):
         expect("once more", board, (PUT, False, None))
 
 
+FOLLOWS = """
+import signal, sys, dgt
+signal.signal(signal.SIGINT, signal.default_int_handler)
+try:
+    for view in dgt.follow(sys.argv[1]):
+        print(flush=True)
+except KeyboardInterrupt as fault:
+    kept = fault
+print(flush=True)
+input()
+for view in dgt.follow(sys.argv[1]):
+    print(flush=True)
+"""
+
+
+def leaving(dgt, line):
+    """A loop that is left without `with` leaves the port to others at once."""
+    def is_held():
+        return is_exclusive(line.ends[1])
+
+    for _ in dgt.follow(line.path):
+        wanted("in a loop", is_held(), True)
+        break
+    wanted("after a break", is_held(), False)
+    with contextlib.suppress(ZeroDivisionError):
+        for _ in dgt.follow(line.path):
+            1 / 0
+    wanted("after an exception", is_held(), False)
+    path = {"PYTHONPATH": str(pathlib.Path(dgt.__file__).parent.parent)}
+    with subprocess.Popen([sys.executable, "-c", FOLLOWS, line.path], env=os.environ | path,
+                          stdin=subprocess.PIPE, stdout=subprocess.PIPE,
+                          stderr=subprocess.DEVNULL) as ran:
+        ran.stdout.readline()
+        wanted("in another program", is_held(), True)
+        ran.send_signal(signal.SIGINT)
+        ran.stdout.readline()
+        wanted("after Ctrl-C, whose traceback is kept", is_held(), False)
+        ran.stdin.write(b"\n")
+        ran.stdin.flush()
+        ran.stdout.readline()
+        wanted("once more", is_held(), True)
+        ran.send_signal(signal.SIGINT)
+    wanted("after Ctrl-C that ends it", (ran.returncode, is_held()), (-signal.SIGINT, False))
+
+
+def closing_elsewhere(dgt, line):
+    """Another thread ends a wait at once, with a port and without."""
+    for what in ("a port that is there", "a port that has gone"):
+        board = dgt.follow(line.path, 60)
+        expect("at first", board, (START, False, None))
+        if what == "a port that has gone":
+            line.unplug()
+            expect("gone", board, (START, True, GONE))
+        closer = threading.Timer(0.3, board.close)
+        closer.start()
+        begun = time.monotonic()
+        wanted(what, list(board), [])
+        wanted(f"how long, {what}", 0.25 < time.monotonic() - begun < 0.3 + LATE, True)
+        closer.join()
+        wanted("whether others are refused", any(map(is_exclusive, line.ends[1:])), False)
+    line.plug()
+
+
 def settings(dgt, line):
     """What another program left of the port's settings is set right."""
     port = line.ends[1]
@@ -492,7 +558,8 @@ def streams(dgt, line):
 
 
 CASES = [changes, asks_when_due, heals, clock_heals, noise, silence, goes_and_comes, comes_late,
-         faults, closing, settings, waits, wakes, takes_nothing, handed, streams]
+         faults, closing, leaving, closing_elsewhere, settings, waits, wakes, takes_nothing,
+         handed, streams]
 
 
 def try_case(dgt, case):

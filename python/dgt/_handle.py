@@ -30,7 +30,14 @@ def writable(size: int) -> tuple[bytearray, int]:
     return room, ctypes.addressof((c_char * size).from_buffer(room))
 
 
-class Handle:
+class Uncopied:
+    """An object that can't be copied or pickled: a copy would share a part of it."""
+
+    def __reduce__(self) -> NoReturn:
+        raise TypeError(f"a {type(self).__name__} can't be copied")
+
+
+class Handle(Uncopied):
     """An object of the library in memory that Python owns. It ends when `close` is called, or when
     nothing refers to it."""
 
@@ -83,12 +90,3 @@ class Handle:
 
     def __exit__(self, *_: object) -> None:
         self.close()
-
-    def __reduce__(self) -> NoReturn:
-        raise TypeError(f"a {type(self).__name__} can't be copied")
-
-    def __copy__(self) -> NoReturn:
-        self.__reduce__()
-
-    def __deepcopy__(self, _: object) -> NoReturn:
-        self.__reduce__()

@@ -46,15 +46,19 @@ def _open(name: str) -> int:
 class Port:
     """A serial port that this process alone has. No call but `exchange` waits."""
 
-    def __init__(self, name: str) -> None:
-        """`OSError` if it can't be opened. Its text says why, and what to do."""
+    def __init__(self, name: str, closing: int) -> None:
+        """`exchange` also returns if the descriptor `closing` has something to read. `OSError` if
+        it can't be opened. Its text says why, and what to do."""
         try:
             line = _open(name)
+        except ValueError:  # it has a zero in it
+            raise OSError(errno.ENOENT, _ADVICE[errno.ENOENT], name) from None
         except (OSError, termios.error) as fault:
             number, text = fault.args[:2]
             raise OSError(number, _ADVICE.get(number, text), name) from None
         self._line, self._file = line, open(line, "r+b", buffering=0)
         self._poll = select.poll()
+        self._poll.register(closing, select.POLLIN)
         self._unsent = b""
 
     def ask(self, chunk: bytes) -> None:

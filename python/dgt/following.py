@@ -7,20 +7,21 @@ import contextlib
 import errno
 import os
 import select
+import threading
 import time
 from collections import deque
 from collections.abc import AsyncGenerator
 from dataclasses import dataclass, field
 from typing import TYPE_CHECKING, Protocol, Self
 
-from ._handle import Bytes
+from ._handle import Bytes, Uncopied, readable
 from ._port import Port
 from .board import Mode
 from .clock_commands import ClockCommands
 from .commands import ClockId
 from .errors import BadValue, Closed
 from .follower import Follower
-from .values import Clock, Position
+from .values import Clock, Position, seconds
 
 if TYPE_CHECKING:
     from asyncio import StreamReader, StreamWriter
@@ -85,9 +86,7 @@ class _Steps:
     added to `changes`."""
 
     def __init__(self, period: float, patience: int, mode: Mode) -> None:
-        if not period >= _LEAST:
-            raise BadValue(f"a period is {_LEAST} seconds at least: {period!r}")
-        self.follower = Follower(period, patience, mode)
+        self.follower = Follower(seconds(period, "period", _LEAST), patience, mode)
         self.view = BoardView()
         self.changes: deque[BoardView] = deque()
         self._missing: str | None = None
@@ -145,12 +144,13 @@ class _Steps:
             self.changes.append(view)
 
 
-def _has_input(descriptor: int | None, seconds: float) -> bool:
-    """Waits until a descriptor has something to read, at most for this time in seconds, and
-    returns whether it has."""
+def _has_input(descriptor: int | None, seconds: float, other: int | None = None) -> bool:
+    """Waits until a descriptor or another one has something to read, at most for this time in
+    seconds, and returns whether it has."""
     poll = select.poll()
-    if descriptor is not None:
-        poll.register(descriptor, select.POLLIN)
+    for each in (descriptor, other):
+        if each is not None:
+            poll.register(each, select.POLLIN)
     return bool(poll.poll(1000 * seconds))
 
 
@@ -172,20 +172,19 @@ class _Given:
             raise Closed("the line was closed")
         return chunk
 
-    def close(self) -> None:
-        """Leaves it open: it is the caller's."""
 
-
-class Following(ClockCommands[None]):
+class Following(Uncopied, ClockCommands[None]):
     """A board on a serial port that is followed, as `follow` returns it. It is an iterator of
     `BoardView`s, and its `wait` waits no longer than until a time. The calls of `ClockCommands`
-    send a command to the board's clock. It is for one thread.
+    send a command to the board's clock. It is for one thread; any other may `close` it. It is also
+    closed once nothing refers to it, as after a loop over `dgt.follow(..)` that was left.
 
     >>> with dgt.follow("/dev/ttyUSB0") as board:
     ...     board.text("hello")
     """
 
     _line: Port | _Given | None
+    _closing: tuple[int, ...] = ()
 
     def __init__(self, port: str | os.PathLike[str] | SerialLine, period: float = 10.0, *,
                  patience: int = 6, mode: Mode = Mode.UPDATE_BOARD,
@@ -193,12 +192,22 @@ class Following(ClockCommands[None]):
         """As `follow`."""
         self._steps = _Steps(period, patience, mode)
         self._waits, self._was_there, self._look_at = wait_for_port, False, 0.0
-        self._is_closed = False
+        self._is_closed, self._line, self._name = False, None, ""
+        self._lock = threading.RLock()  # of a `wait` under way, which has the port
+        self._closing = os.pipe()  # has something to read once `close` is called
         if isinstance(port, (str, os.PathLike)):
-            self._line, self._name = None, os.fspath(port)
+            self._name = os.fspath(port)
             self._look(is_first=True)
+        elif all(hasattr(port, name) for name in ("is_open", "read", "write")):
+            self._line = _Given(port)
         else:
-            self._line, self._name = _Given(port), ""
+            raise TypeError(f"port must be a port's name, or an open port as of pyserial: {port!r}")
+
+    def __del__(self) -> None:
+        if self._closing:
+            Following.close(self)
+            for end in self._closing:
+                os.close(end)
 
     @property
     def view(self) -> BoardView:
@@ -216,7 +225,7 @@ class Following(ClockCommands[None]):
         for a period. `Closed` if this is closed."""
         self._check_open()
         if self._line is not None:
-            self._line.write(bytes(chunk))
+            self._line.write(readable(chunk)[0])
 
     def _clock_message(self, id: ClockId, payload: bytes) -> None:
         self.write(self.follower.send_clock(id, payload))
@@ -227,14 +236,15 @@ class Following(ClockCommands[None]):
         closed, or if the line that it was handed is. `BadValue` for `wakes` with a line that it was
         handed, which may also raise exceptions of its own."""
         changes = self._steps.changes
-        self._check_open()
-        while not changes:
-            self._turn(until, wakes)
+        with self._lock:
             self._check_open()
-            is_over = until is not None and time.monotonic() >= until
-            if not changes and (is_over or _has_input(wakes, 0.0)):
-                return None
-        return changes.popleft()
+            while not changes:
+                self._turn(until, wakes)
+                self._check_open()
+                is_over = until is not None and time.monotonic() >= until
+                if not changes and (is_over or _has_input(wakes, 0.0)):
+                    return None
+            return changes.popleft()
 
     def _turn(self, until: float | None, wakes: int | None) -> None:
         """Asks what is due, and hears what comes, or else waits until something is due."""
@@ -243,7 +253,7 @@ class Following(ClockCommands[None]):
             self._look()
         elif self._line is None:
             end = self._look_at if until is None else min(self._look_at, until)
-            _has_input(wakes, max(0.0, end - now))
+            _has_input(wakes, max(0.0, end - now), self._closing[0])
         else:
             self._converse(self._line, now, until, wakes)
 
@@ -270,7 +280,7 @@ class Following(ClockCommands[None]):
         """Opens the port if it is there. At the first time this may be an `OSError`."""
         self._look_at = time.monotonic() + _LOOK
         try:
-            self._line = Port(self._name)
+            self._line = Port(self._name, self._closing[0])
         except OSError as fault:
             if is_first and (not self._waits or fault.errno == errno.ENOTTY):
                 raise
@@ -285,11 +295,17 @@ class Following(ClockCommands[None]):
             raise Closed("this Following is closed")
 
     def close(self) -> None:
-        """Ends it, and closes the port if it has opened it. Each later `wait` raises `Closed`."""
-        self._is_closed = True
-        if self._line is not None:
-            self._line.close()
-            self._line = None
+        """Ends it, and closes the port if it has opened it. Each later `wait` raises `Closed`. So
+        does a `wait` of another thread, at once, or once a `read` of a line that it was handed
+        returns."""
+        if not self._is_closed:
+            self._is_closed = True
+            os.write(self._closing[1], b"c")
+        if not isinstance(self._line, _Given):
+            with self._lock:
+                if self._line is not None:
+                    self._line.close()
+                self._line = None
 
     def __enter__(self) -> Self:
         return self
@@ -305,6 +321,9 @@ class Following(ClockCommands[None]):
             view = self.wait()
         except Closed:
             raise StopIteration from None
+        except KeyboardInterrupt as stop:
+            del self  # a traceback that is kept, as at a prompt, would keep the port
+            raise stop.with_traceback(None)
         assert view is not None  # there is no time at which it gives up
         return view
 
@@ -333,7 +352,7 @@ def follow(port: str | os.PathLike[str] | SerialLine, period: float = 10.0, *, p
     All squares are asked for every `period` seconds, so that a change that was lost becomes known.
     `patience` and `mode` are those of `Follower`. A board reports its clock in the modes `UPDATE`
     and `UPDATE_NICE`, and is then asked for a reading of it in each period, too. `BadValue` if the
-    period is below 0.1, or as of `Follower`."""
+    period is below 0.1, or as of `Follower`. `TypeError` if `port` is no port."""
     return Following(port, period, patience=patience, mode=mode, wait_for_port=wait_for_port)
 
 
