@@ -1,9 +1,11 @@
 """Checks the values of the package for Python. A position is a sequence of letters. A time, a
-clock and an identity are refused when they are made with a value out of its range."""
+clock and an identity are refused when they are made with a value out of its range. Calls refuse
+wrong arguments by the errors that their docstrings name, and objects refuse to be copied."""
 
 import collections.abc
 import copy
 import dataclasses
+import math
 import operator
 import pickle
 
@@ -104,7 +106,114 @@ def check_fields(dgt):
     return count
 
 
+# ---- Calls with wrong arguments, and copies
+
+WRONG = (None, 5, -1, 1.5, math.nan, math.inf, 2**70, "text", "\0", "9" * 5000, b"text", [1], {})
+
+
+def calls(dgt):
+    """Calls, each with right arguments."""
+    position, state, times = dgt.Position.start(), dgt.GameState.start(), dgt.Times()
+    world, board, host, follower = dgt.World(), dgt.Board(), dgt.Host(), dgt.Follower()
+    games, recogniser = dgt.Games(len, len), dgt.MoveRecogniser()
+    encoded = [(dgt.encode_message, dgt.Dump, position), (dgt.encode_message, dgt.Field, "e2", "."),
+               (dgt.encode_message, dgt.Ack, bytes(4), 0), (dgt.encode_message, dgt.Version, 1, 3),
+               (dgt.encode_message, dgt.Serial, bytes(5)), (dgt.encode_message, dgt.Battery, b""),
+               (dgt.encode_message, dgt.Other, 0x30, b""), (dgt.encode_command, dgt.Asked, 0x42),
+               (dgt.encode_command, dgt.ClockMessage, 3, b""), (dgt.encode_command, dgt.Leds, b"")]
+    return [
+        *((lambda *of, how=how, kind=kind: how(kind(*of)), *of) for how, kind, *of in encoded),
+        (dgt.Follower, 10.0, 6, dgt.Mode.UPDATE), (follower.ask, 0.0), (follower.hear, b"", 0.0),
+        (follower.hear_each, b"", 0.0), (host.hear, b""), (host.hear_each, b""), (host.send, 0x42),
+        (host.send_clock, 3, b""), (host.send_leds, b""), (host.display, "1", 0, 0),
+        (host.text, "1", 0), (host.beep, 1), (host.set_and_run, dgt.Time(), dgt.Time(), 0),
+        (host.icons, b""), (dgt.Decoder().feed_placed, b""), (dgt.CommandDecoder().feed, b""),
+        (dgt.Board, position, times, dgt.Identity()), (board.change, "e2", "."),
+        (board.hand_clock, times), (board.take, b""), (board.answers, b""),
+        (dgt.World, position, times, dgt.Identity()), (world.change, "e2", "."),
+        (world.hand_clock, times), (world.host_sends, dgt.Ask.DUMP), (world.to_board, 1),
+        (world.to_host, 1), (world.garble_up, b""), (world.garble_down, b""),
+        (dgt.encode_message, times), (dgt.encode_command, dgt.Leds(b"")),
+        (dgt.view_message, 1, b""), (dgt.view_command, b""),
+        (dgt.Position, position.codes), (dgt.Position.parse, START), (position.changes, position),
+        (dgt.Position.of_letters, LETTERS), (position.differ, position),
+        (dgt.square_number, "e2"), (dgt.piece_code, "P"), (dgt.segment, "1"),
+        (dgt.GameState.parse, dgt.START_FEN), (dgt.GameState.place, LETTERS, True),
+        (state.after, "e2e4"), (dgt.san, state, "e2e4"), (dgt.PgnGame().add, "e2e4"),
+        (dgt.MoveRecogniser, dgt.START_FEN, 0.3, 1.0), (recogniser.see, position, 0.0),
+        (recogniser.wait, 0.0), (dgt.Games, len, len, None, {}, "left", dgt.START_FEN, ""),
+        (games.see, dgt.BoardView(position), 0.0), (games.set_tags, {}, True), (games.wait, 0.0),
+        (dgt.follow, "/", 10.0),
+        (lambda tags: dgt.PgnGame(tags).text(), {"White": "Ann"}),
+        (lambda name: dgt.PgnGame({name: ""}).text(), "White"),
+        (lambda value: dgt.PgnGame({"White": value}).text(), "Ann"),
+    ]
+
+
+def check_calls(dgt):
+    """Each argument is one of another type, or out of range. Returns how many calls were tried."""
+    count = 0
+    for call, *right in calls(dgt):
+        for at in range(len(right)):
+            for wrong in WRONG:
+                count += 1
+                try:
+                    call(*right[:at], wrong, *right[at + 1:])
+                except (dgt.DgtError, TypeError, OSError):
+                    continue
+                except Exception as fault:
+                    what = f"{call} with {wrong!r:.40} as its argument {at}"
+                    raise Wrong(f"{what}: {fault!r}") from fault
+    return count
+
+
+def check_refusals(dgt):
+    """What is said of some of them."""
+    for call, error, said in [
+        (lambda: dgt.Follower(patience=1.5), dgt.BadValue,
+         "patience must be a number from 0 to 4294967295: 1.5"),
+        (lambda: dgt.Follower(mode=7), dgt.BadValue, "mode must be a number from 0 to 3: 7"),
+        (lambda: dgt.Follower(mode=0), dgt.BadValue,
+         "a follower has no mode in which a board reports nothing"),
+        (lambda: dgt.Follower("text"), dgt.BadValue,
+         "a time must be a number of seconds, 0.0 or more: 'text'"),
+        (lambda: dgt.Follower().ask(2.0**64), dgt.BadValue,
+         "a time must be below 2**64 milliseconds: 1.8446744073709552e+19"),
+        (lambda: dgt.follow(5), TypeError,
+         "port must be a port's name, or an open port as of pyserial: 5"),
+        (lambda: dgt.follow("/", None), dgt.BadValue,
+         "period must be a number of seconds, 0.1 or more: None"),
+        (lambda: dgt.MoveRecogniser(5), dgt.BadFen, "no text: 5"),
+        (lambda: dgt.MoveRecogniser(settle=-1), dgt.BadValue,
+         "settle must be a number of seconds, 0.0 or more: -1"),
+        (lambda: dgt.MoveRecogniser().see(None, 0.0), TypeError, "this must be a Position: None"),
+        (lambda: dgt.Games(len, len, white_clock="top"), dgt.BadValue,
+         "white_clock must be left or right: 'top'"),
+        (lambda: dgt.PgnGame({"Round": 3}).text(), dgt.BadValue,
+         "the tag Round must be a text: 3"),
+    ]:
+        wanted("what is said", refusal(said, error, call), said)
+
+
+def check_copies(dgt):
+    """Objects that would share a part with their copy can't be copied."""
+    for kind in (dgt.World, dgt.Host, dgt.Follower, dgt.Decoder, dgt.CommandDecoder, dgt.Board,
+                 dgt.Following, dgt.Games, dgt.PgnFile):
+        for how in (copy.copy, copy.deepcopy, pickle.dumps):
+            said = f"a {kind.__name__} can't be copied"
+            wanted(f"{how}", refusal(said, TypeError, lambda: how(kind.__new__(kind))), said)
+    first = dgt.MoveRecogniser()
+    first.see(dgt.Position.start(), 0.0)
+    for how in (copy.copy, copy.deepcopy, lambda it: pickle.loads(pickle.dumps(it))):
+        other = how(first)
+        after = dgt.Position.of_letters(dgt.GameState.start().after("e2e4").letters)
+        wanted("a copy's events", (other.see(after, 1.0), len(other.wait(2.0))), ([], 1))
+        wanted("the moves", (other.moves, first.moves, first.due), (["e2e4"], [], None))
+
+
 def check(dgt):
     """Returns how many values were tried."""
     check_position(dgt)
-    return check_fields(dgt)
+    check_refusals(dgt)
+    check_copies(dgt)
+    return check_fields(dgt) + check_calls(dgt)

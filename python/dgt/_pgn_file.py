@@ -11,6 +11,8 @@ import time
 from collections.abc import Iterator
 from dataclasses import dataclass
 
+from ._handle import Uncopied
+
 _TRIES = 200
 _TRY_EACH = 0.01
 """How often, and after how many seconds, the lock of a folder that another program has is asked
@@ -39,7 +41,7 @@ class KeptGame:
         return content + b"\n" * (max(0, 2 - feeds) if content else 0) + text + b"\n\n"
 
 
-class PgnFile:
+class PgnFile(Uncopied):
     """A file to which games are appended, and in which a game is replaced as it grows. What else
     the file has stays, also if another program writes it meanwhile. A file that has gone gets all
     games of this object again.
@@ -66,7 +68,7 @@ class PgnFile:
     def put(self, text: str, game: KeptGame | None = None) -> None:
         """Sets the text of a game, or else of the last one, for `save` to write."""
         game = game or self._last
-        game.text = text.rstrip("\n").encode(errors="replace")
+        game.text = str.rstrip(text, "\n").encode(errors="replace")
         if not game.is_listed:
             game.is_listed = True
             self._games.append(game)

@@ -34,7 +34,7 @@ class Busy(DgtError):
 
 
 class BadValue(DgtError, ValueError):
-    """An argument is no square, piece or byte, or out of the range of a clock or an identity."""
+    """An argument is no square, piece, number, byte or text of its kind, or out of its range."""
 
 
 class BadPlacement(BadValue):

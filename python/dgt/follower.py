@@ -10,14 +10,15 @@ from ._handle import Bytes, readable
 from ._library import dgt
 from .board import Mode
 from .errors import BadValue
-from .values import Position
+from .values import Position, number, seconds
 
 
-def _milliseconds(seconds: float) -> int:
-    """Returns a time or a period in milliseconds. `BadValue` if it is negative or too great."""
-    if not 0 <= seconds * 1000 < 2**64:
-        raise BadValue(f"no time in seconds: {seconds!r}")
-    return round(seconds * 1000)
+def _milliseconds(time: float) -> int:
+    """Returns a time or a period in milliseconds. `BadValue` if it is negative, too great, or no
+    number."""
+    if not seconds(time, "a time") * 1000 < 2**64:
+        raise BadValue(f"a time must be below 2**64 milliseconds: {time!r}")
+    return round(time * 1000)
 
 
 class Follower(Asker):
@@ -47,11 +48,10 @@ class Follower(Asker):
                  mode: Mode = Mode.UPDATE_BOARD) -> None:
         """`period` is in seconds, from one asking to the next; with 0 each call of `ask` is due.
         With a patience of 0 each asking begins anew. `BadValue` if the period is negative, the
-        patience isn't from 0 to 2**32 - 1, or the mode is `IDLE`."""
+        patience isn't from 0 to 2**32 - 1, or the mode is `IDLE` or none."""
         super().__init__()
-        if not 0 <= patience < 2**32:
-            raise BadValue(f"no patience: {patience!r}")
-        self._call(dgt.dgt_follower_start, _milliseconds(period), patience)
+        held = number(patience, 2**32 - 1, "patience")
+        self._call(dgt.dgt_follower_start, _milliseconds(period), held)
         self.mode = mode
 
     def hear(self, chunk: Bytes, now: float) -> None:
@@ -113,12 +113,12 @@ class Follower(Asker):
     @property
     def mode(self) -> Mode:
         """What the board is asked to report by itself, from the next asking on. `BadValue` if it is
-        set to `IDLE`."""
+        set to `IDLE`, or to no mode."""
         return Mode(self._call(dgt.dgt_follower_mode))
 
     @mode.setter
     def mode(self, mode: Mode) -> None:
-        if not self._call(dgt.dgt_follower_set_mode, Mode(mode)):
+        if not self._call(dgt.dgt_follower_set_mode, number(mode, max(Mode), "mode")):
             raise BadValue("a follower has no mode in which a board reports nothing")
 
     @property

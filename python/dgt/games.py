@@ -8,12 +8,14 @@ from collections.abc import Callable
 from dataclasses import replace
 from typing import Protocol
 
+from ._handle import Uncopied
 from ._turn import to_put
+from .errors import BadValue
 from .following import BoardView
 from .moves import GameBegun, MoveEvent, MoveMade, MoveRecogniser, MoveTakenBack
 from .pgn import PgnGame, PgnMove, _GameText, numbered
 from .rules import GameState
-from .values import SQUARES, Clock, Time, Times
+from .values import SQUARES, Clock, Time, Times, checked
 
 _SET_UP_WAIT = 5.0
 """For how long a position rests that is set up after a game, before another begins with it."""
@@ -57,7 +59,7 @@ class GameStore(Protocol):
         """Keeps what was put. `OSError` if that fails; it is called again after the next move."""
 
 
-class Games:
+class Games(Uncopied):
     """The games on a board. Hand it what is known of the board with `see`, from `follow` or from
     any other source, and call `wait` when `due` is reached. `tell` gets each line of what happens,
     as `dgt-game` prints it, and `warn` what one should know.
@@ -80,7 +82,9 @@ class Games:
                  white_clock: str = "left", fen: str | None = None, port: str = "") -> None:
         """`file` gets each game as PGN, with these tags. `white_clock` is the side of the clock
         that has White's time, `left` or `right`. `fen` is that of `MoveRecogniser`, and `port` what
-        the board is called in a warning. `BadFen` if the FEN is none."""
+        the board is called in a warning. `BadFen` if the FEN is none, `BadValue` if the side is."""
+        if white_clock not in ("left", "right"):
+            raise BadValue(f"white_clock must be left or right: {white_clock!r}")
         self.recogniser = MoveRecogniser(fen, set_up=_SET_UP_WAIT)
         self.game: PgnGame | None = None
         self._text = _GameText(PgnGame())
@@ -110,8 +114,9 @@ class Games:
         return min((each for each in times if each is not None), default=None)
 
     def see(self, view: BoardView, now: float) -> None:
-        """Notes what is known of the board from this time on."""
-        self._note_away(view)
+        """Notes what is known of the board from this time on. `TypeError` if that is no
+        `BoardView`."""
+        self._note_away(checked(view, BoardView))
         self._note_clock(view.clock, now)
         if view.in_doubt or view.picture is None:
             self._doubt(view, now)

@@ -3,14 +3,16 @@
 from __future__ import annotations
 
 import contextlib
+import copy
 from collections import deque
 from collections.abc import Callable, Collection, Iterable, Iterator
 from dataclasses import dataclass, replace
 from functools import lru_cache, partial
+from typing import Self
 
 from .errors import BadFen
 from .rules import START_FEN, GameState
-from .values import Position, square_number
+from .values import Position, checked, seconds, square_number
 
 _CASTLING_WAIT = 2.0
 """For how long a rook's move rests that may be the first half of castling."""
@@ -155,10 +157,11 @@ class MoveRecogniser:
                  ) -> None:
         """With a FEN, the game begins when the board shows its position, also turned, and other
         positions begin none before. `settle` and `set_up` are in the unit of all times here,
-        seconds. `BadFen` if the text is none."""
+        seconds. `BadFen` if the text is none, `BadValue` if one of them is no number from 0 on."""
         self._start = GameState.parse(START_FEN)
         self._first = None if fen is None else GameState.parse(fen)
-        self._settle, self._set_up_wait = settle, set_up
+        self._settle = seconds(settle, "settle")
+        self._set_up_wait = seconds(set_up, "set_up")
         self._turned = False
         self._roots: tuple[GameState, ...] = ()
         self._moves: list[tuple[str, GameState]] = []
@@ -171,6 +174,9 @@ class MoveRecogniser:
         self._seen: list[_Reading] = []
         self._next: _Reading | tuple[GameState, ...] = ()
         self._due: float | None = None
+
+    def __copy__(self) -> Self:
+        return copy.deepcopy(self)
 
     @property
     def moves(self) -> list[str]:
@@ -194,9 +200,9 @@ class MoveRecogniser:
 
     def see(self, position: Position, time: float) -> list[MoveEvent]:
         """Returns what has happened in the game, now that the board shows a position. Times never
-        fall from one call to the next."""
+        fall from one call to the next. `TypeError` if it is no position."""
+        letters = checked(position, Position).letters
         events = self.wait(time)
-        letters = position.letters
         shown = letters[::-1] if self._turned else letters
         if shown == self._shown:
             return events

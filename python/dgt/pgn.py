@@ -8,7 +8,7 @@ from dataclasses import dataclass, field
 
 from .errors import BadValue
 from .rules import START_FEN, GameState
-from .values import Time, square_number
+from .values import Time, checked, square_number
 
 RESULTS = ("1-0", "0-1", "1/2-1/2", "*")
 """What a game may end with. `*` is a game that goes on, or was broken off."""
@@ -35,14 +35,15 @@ def _origin(state: GameState, move: str) -> str:
 
 
 def san(state: GameState, move: str) -> str:
-    """Returns a legal move in short algebraic notation. `IllegalMove` if it is none.
+    """Returns a legal move in short algebraic notation. `IllegalMove` if it is none, `TypeError` if
+    the state is none.
 
     >>> san(GameState.start(), "g1f3")
     'Nf3'
     >>> san(GameState.parse("3r3k/2P5/8/8/8/8/8/K7 w - - 0 1"), "c7d8n")
     'cxd8=N'
     """
-    after, to = state.after(move), move[2:4]
+    after, to = checked(state, GameState).after(move), move[2:4]
     kind = state.letters[square_number(move[:2])].upper()
     takes = "x" if state.letters[square_number(to)] != "." else ""
     if kind == "K" and move[0] == "e" and to[0] in "cg":
@@ -117,14 +118,14 @@ class PgnGame:
 
     def text(self) -> str:
         """Returns the game in the export format: its tags, an empty line, and its moves in lines of
-        fewer than 80 columns. `BadValue` if a tag has no name, or the result is none."""
+        fewer than 80 columns. `BadValue` if a tag has no name or no text, or the result is none."""
         return _GameText(self).text()
 
     def _heads(self) -> list[str]:
         """Returns the lines of the tags."""
         if self.result not in RESULTS:
             raise BadValue(f"result must be one of {', '.join(RESULTS)}: {self.result!r}")
-        given = {name: value for name, value in self.tags.items()
+        given = {name: value for name, value in {**self.tags}.items()
                  if name not in ("Result", "FEN", "SetUp")}
         tags = {**_TAGS, **{name: given.pop(name) for name in _TAGS if name in given},
                 "Result": self.result, **given}
@@ -185,8 +186,11 @@ class _GameText:
 def _head(name: str, value: str) -> str:
     """Returns the line of a tag. In its value a backslash stands before each quote and backslash,
     and a space in place of what can't be printed."""
-    if not name.replace("_", "").isalnum() or not name.isascii():
+    letters = name.replace("_", "") if isinstance(name, str) else ""
+    if not letters.isalnum() or not letters.isascii():
         raise BadValue(f"a tag is named by letters, digits and underscores: {name!r}")
+    if not isinstance(value, str):
+        raise BadValue(f"the tag {name} must be a text: {value!r}")
     plain = "".join(each if each.isprintable() else " " for each in value)
     escaped = plain.replace("\\", "\\\\").replace('"', '\\"')
     return f'[{name} "{escaped}"]'

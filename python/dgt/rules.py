@@ -6,6 +6,7 @@ Squares have the numbers of `SQUARES`, from 0 for a8 to 63 for h1; pieces have t
 
 from __future__ import annotations
 
+import re
 from collections.abc import Iterator
 from dataclasses import dataclass
 
@@ -112,7 +113,8 @@ class GameState:
         is possible whose king and rook stand on their first squares. `BadFen` if there isn't one
         king of each side, a pawn stands on its first or last rank, a piece is nobody's, or the side
         whose turn it isn't is in check."""
-        if len(letters) != 64 or set(letters) - set(".PRNBKQprnbkq"):
+        is_text = isinstance(letters, str) and len(letters) == 64
+        if not is_text or set(letters) - set(".PRNBKQprnbkq"):
             raise BadFen(f"no 64 letters of pieces: {letters!r}")
         if (letters.count("K"), letters.count("k")) != (1, 1):
             raise BadFen("not one king of each side")
@@ -132,6 +134,8 @@ class GameState:
         """Returns the state that a FEN gives; fields that are left out at its end are `w - - 0 1`.
         A castling without its king and rook is left out. `BadFen` if the text is none, or for the
         reasons of `place`."""
+        if not isinstance(fen, str):
+            raise BadFen(f"no text: {fen!r}")
         fields = fen.split()
         fields += ["8/8/8/8/8/8/8/8", "w", "-", "-", "0", "1"][len(fields):]
         placement, turn, castlings, passed, *counts = fields
@@ -142,7 +146,7 @@ class GameState:
             raise BadFen(f"{wrong}: {fen!r}") from None
         if turn not in ("w", "b") or set(castlings) - set("KQkq-"):
             raise BadFen(f"no turn, or no castlings: {fen!r}")
-        if len(counts) != 2 or not all(each.isascii() and each.isdigit() for each in counts):
+        if len(counts) != 2 or not all(re.fullmatch("[0-9]{1,9}", each) for each in counts):
             raise BadFen(f"no two counts at the end: {fen!r}")
         if square is not None and not state._was_passed(square):
             raise BadFen(f"no pawn has just passed {passed}: {fen!r}")

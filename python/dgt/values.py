@@ -2,9 +2,11 @@
 
 from __future__ import annotations
 
+import contextlib
 from collections.abc import Iterator, Sequence
 from ctypes import byref, c_char, c_uint8, c_uint64
 from dataclasses import dataclass
+from typing import TypeVar
 
 from ._library import NO_SUCH, PLACEMENT_ROOM, ClockStruct, TimeStruct, dgt
 from .errors import BadPlacement, BadValue
@@ -15,6 +17,7 @@ LETTERS = ".PRNBKQprnbkqXYZ"
 SQUARES = tuple(f"{file}{rank}" for rank in "87654321" for file in "abcdefgh")
 """The name of each square by its number."""
 
+_Kind = TypeVar("_Kind")
 _SQUARE_NUMBERS = {name: number for number, name in enumerate(SQUARES)}
 _PIECE_CODES = {letter: code for code, letter in enumerate(LETTERS)}
 
@@ -51,6 +54,13 @@ def plain_bytes(held: object) -> bytes | None:
     return bytes.__getitem__(held, slice(None)) if isinstance(held, bytes) else None
 
 
+def checked(held: object, kind: type[_Kind]) -> _Kind:
+    """Returns the object. `TypeError` if it is none of this class."""
+    if not isinstance(held, kind):
+        raise TypeError(f"this must be a {kind.__name__}: {held!r}")
+    return held
+
+
 @dataclass(frozen=True, slots=True)
 class Position(Sequence[str]):
     """What stands on the 64 squares. `position["e4"]` is the letter of a piece.
@@ -84,7 +94,7 @@ class Position(Sequence[str]):
     def parse(cls, placement: str) -> Position:
         """Returns the position that the first field of a FEN gives. `BadPlacement` if the text is
         none."""
-        text = str.encode(placement, errors="replace")
+        text = str.encode(placement, errors="replace") if isinstance(placement, str) else b""
         codes = (c_uint8 * 64)()
         parsed = dgt.dgt_parse_placement(text, len(text), codes)
         if not parsed.ok:
@@ -126,19 +136,21 @@ class Position(Sequence[str]):
         return iter(self.letters)
 
     def changes(self, newer: Position) -> dict[str, str]:
-        """Returns the squares on which a newer position differs, each with its letter there."""
-        pairs = zip(SQUARES, self.codes, newer.codes)
+        """Returns the squares on which a newer position differs, each with its letter there.
+        `TypeError` if it is no position."""
+        pairs = zip(SQUARES, self.codes, checked(newer, Position).codes)
         return {square: LETTERS[new] for square, old, new in pairs if old != new}
 
     def differ(self, other: Position) -> int:
         """Returns the squares on which another position differs, as a number of 64 bits: bit n is
-        set exactly if square n differs.
+        set exactly if square n differs. `TypeError` if it is no position.
 
         >>> hex(Position.start().differ(Position.parse("8/8/8/8/8/8/8/8")))
         '0xffff00000000ffff'
         """
         squares = c_uint64()
-        own, others = ((c_uint8 * 64).from_buffer_copy(each.codes) for each in (self, other))
+        own, others = ((c_uint8 * 64).from_buffer_copy(each.codes)
+                       for each in (self, checked(other, Position)))
         dgt.dgt_differ(own, others, byref(squares))
         return squares.value
 
@@ -152,6 +164,15 @@ def number(held: object, most: int, what: str) -> int:
     if not 0 <= plain <= most:
         raise BadValue(f"{what} must be a number from 0 to {most}: {held!r}")
     return plain
+
+
+def seconds(held: float, what: str, least: float = 0.0) -> float:
+    """Returns the number of seconds, `least` or more. `BadValue` that names `what` it is, if it is
+    none."""
+    with contextlib.suppress(TypeError):
+        if held >= least:
+            return held
+    raise BadValue(f"{what} must be a number of seconds, {least} or more: {held!r}")
 
 
 _TIME_FIELDS = (("hours", 9), ("minutes", 59), ("seconds", 59), ("flags", 7))

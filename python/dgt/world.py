@@ -6,7 +6,7 @@ from collections.abc import Callable
 from enum import StrEnum
 from typing import Any
 
-from ._handle import Bytes, readable, writable
+from ._handle import Bytes, Uncopied, readable, writable
 from ._library import MAX_SENT, MAX_WORD, dgt
 from .board import Board, Identity
 from .commands import Ask, Asked, ClockMessage, Command, Leds
@@ -33,7 +33,7 @@ _SENDING = {_SENT: Outcome.DONE, _TOO_MANY: Outcome.TOO_MANY, _NO_ROOM: Outcome.
 _POLLING = {_NOTHING: Outcome.NOTHING, _WROTE: Outcome.DONE, _NEED_ROOM: Outcome.NO_ROOM}
 
 
-class World:
+class World(Uncopied):
     """A board and a host, with a line of bytes each way between them. Nothing moves by itself: each
     call is one act, and returns its `Outcome`. The lines hold as many bytes as `up` (from the
     board, at least 67) and `down` (from the host, at least 257) say.
