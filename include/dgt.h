@@ -21,11 +21,11 @@
  *
  * A follower asks again by itself. A host is asked by rules of your own, and reports each event.
  *
- * THE LIBRARY IS PROVED; WHAT FOLLOWS IS YOUR PART. If you keep it, no call reads or writes outside
- * the memory that it is given, fails to return, or does other than is said here, whatever the bytes
- * are. If you don't, nothing is promised. Unless NDEBUG is defined, each call asserts that its
- * handle stands where it was made. Nothing tests the rest when the program runs.
- * The inline calls below, such as dgt_host_new, are C: they are tested, and not proved.
+ * WHAT IS PROVED, AND YOUR PART. The Rattle code of the library is proved to keep its contracts: if
+ * you keep to what follows, each call returns, and touches only the memory that it is given,
+ * whatever the bytes are. This header's comments and inline functions, such as dgt_host_new, are
+ * tested and not proved. If you don't keep to it, nothing is promised. Unless NDEBUG is defined,
+ * each call asserts that its handle stands where it was made. Nothing tests the rest at run time.
  *
  *  - A pointer whose length is the next parameter may be NULL if that length is 0, in each call. No
  *    other pointer is null. Each is aligned as its type is. A length is at most 2^63 - 1, and

@@ -33,11 +33,11 @@ for those that are there (`in_waiting`), or else for one. `hear_each` hears a by
 before it was taken, so that the picture is the picture after that event; `hear` hears the whole
 chunk first.
 
-The objects are those of the proved library libdgt, in memory that Python owns. Each object has a
-lock, so that threads may share it: a call waits for a call of another thread, and raises `Nested`
-within a call of its own thread. No call can make the program crash. If a process was forked while
-another thread was in a call of an object, it must not use that object: its calls would wait for
-ever.
+The objects are those of the library libdgt, in memory that Python owns. The Rattle code of libdgt
+is proved; this layer is tested. Each object has a lock, so that threads may share it: a call waits
+for a call of another thread, and raises `Nested` within a call of its own thread. If a process was
+forked while another thread was in a call of an object, it must not use that object: its calls would
+wait for ever.
 """
 
 from ._pgn_file import KeptGame, PgnFile

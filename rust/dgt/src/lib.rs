@@ -1,8 +1,7 @@
 //! A host, a follower, a decoder, a reader of commands and a board for DGT electronic chess boards.
 //!
-//! The crate is a safe layer over the library for C (`dgt-sys`), whose code is proved. It decodes
-//! each message as the protocol says, however the line cuts the bytes, and no byte makes a call
-//! fail. Types and calls have the names that the Rattle crates give them.
+//! The crate is a layer over the library for C, libdgt (`dgt-sys`). The Rattle code of libdgt is
+//! proved; this layer is tested. Types and calls have the names that the Rattle crates give them.
 //!
 //! | Type | What it does |
 //! |---|---|
