@@ -4,7 +4,7 @@ use Rattle.std.specs.Prelude.{slice_index as nth, find, Option, unwrap_or, if◌
 use Rattle.std.specs.Option.{option_map}
 use Rattle.dgt_command.specs.declared.command.Command.{Command}
 use Rattle.dgt_command.specs.declared.command.Command.TheVariants as command
-use Rattle.dgt_command.specs.Content.{ClockContent, CommandContent, Reset, Clock, Dump, Update, UpdateBoard, UpdateNice, Serial, Trademark, Battery, Version, LongSerial, ClockMessage, Leds, command_content}
+use Rattle.dgt_command.specs.Content.{CommandContent, Reset, Clock, Dump, Update, UpdateBoard, UpdateNice, Serial, Trademark, Battery, Version, LongSerial, ClockMessage, Leds, command_content}
 
 abbrev pub AreBytes : List ℕ → Type 0
 AreBytes bytes = (i : ℕ) → nth bytes i < 256

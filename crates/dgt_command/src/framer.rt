@@ -227,12 +227,12 @@ impl WordFramer {
     /// copying an event takes longer than reading one byte.
     #[inline(always)]
     pub fn bare_command(&self, found: FoundWord) -> Option<Command<'static>>
-        requires { found ≡ FoundWord.Command → IsEncoding self.now.word }
-        ensures command { IfSome result (λ command.
+        ensures command { (found ≡ FoundWord.Command → IsEncoding self.now.word)
+            → IfSome result (λ command.
             Read (command_content command) ≡ word_found_in self.now.word found) }
         ensures byte { OnSome result (length self.now.word ≡ 1) }
-        ensures none { IfNone result
-            (found ≡ FoundWord.Command → length self.now.word ≢ 1) }
+        ensures none { (found ≡ FoundWord.Command → IsEncoding self.now.word)
+            → IfNone result (found ≡ FoundWord.Command → length self.now.word ≢ 1) }
     {
         match (found, self.word.as_slice()) {
             (FoundWord::Command, [byte]) => command_of_byte(*byte),

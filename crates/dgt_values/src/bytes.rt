@@ -1,6 +1,6 @@
 //! Bytes with a clear top bit.
 
-ghost use Rattle.std.specs.Prelude.{◌≡◌, ℕ, ◌<◌};
+ghost use Rattle.std.specs.Prelude.{◌≡◌, ℕ, ◌<◌, ◌%◌};
 
 use crate::refusals::NotSevenBit;
 
@@ -31,12 +31,12 @@ impl TryFrom<u8> for SevenBit {
 impl SevenBit {
     ghost use Rattle.dgt_values.specs.Bytes.{number};
 
-    /// The byte, which the caller knows to be below 128.
+    /// The low seven bits of a byte: the byte itself if it is below 128.
     pub fn from_small(value: u8) -> Self
-        requires small { value < 128 }
-        ensures { number result ≡ value }
+        ensures low_bits { number result ≡ value % 128 }
+        ensures small { value < 128 → number result ≡ value }
     {
-        SevenBit { value }
+        SevenBit { value: value & 0x7f }
     }
 
     /// The byte, from 0 to 127.

@@ -1,6 +1,6 @@
 //! The squares of the board.
 
-ghost use Rattle.std.specs.Prelude.{◌≡◌, ◌≢◌, ℕ, ◌<◌, ◌≤◌, ◌∷◌, [], MatchResult};
+ghost use Rattle.std.specs.Prelude.{◌≡◌, ◌≢◌, ℕ, ◌<◌, ◌≤◌, ◌%◌, ◌∷◌, [], MatchResult};
 
 use crate::refusals::NoSquare;
 
@@ -28,12 +28,12 @@ impl Square {
         }
     }
 
-    /// The square of a number that the caller knows to be below 64.
+    /// The square of the low six bits of a number: of the number itself if it is below 64.
     pub fn from_small(index: u8) -> Self
-        requires small { index < 64 }
-        ensures { square_number result ≡ index }
+        ensures low_bits { square_number result ≡ index % 64 }
+        ensures small { index < 64 → square_number result ≡ index }
     {
-        Square { index }
+        Square { index: index & 0x3f }
     }
 
     /// The number, from 0 to 63.

@@ -10,7 +10,7 @@ loop-index-preserved g c =
     let room : c.loop-index.index < length c.args.bytes.now = omega arith in
     let before = c.loop-index.invariant in
     record {
-      read = one_more_read number _ _ _ _ within room c.from_small.ensures before.read;
+      read = one_more_read number _ _ _ _ within room (c.from_small.ensures.small (search rules)) before.read;
       all = length-set _ _ _ ∙ before.all;
     }
 

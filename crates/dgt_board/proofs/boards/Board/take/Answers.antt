@@ -30,7 +30,7 @@ returns-in-Some-bare_command c =
     let bytes = take c.advance-advanced.result.used c.args.chunk.now in
     let event : EventContent = Read (command_content c.in-Some-bare_command.command) in
     let is : event ≡ word_found_in c.advance-advanced.new.self.word c.in-Some.found =
-    c.in-Some-bare_command.ensures.command in
+    c.in-Some-bare_command.ensures.command (λ command. search rules) in
     let word : IsWord event (c.args.self.now.partial ++ bytes) =
     rw (is, ← c.self.view_is) (rw c.in-Some.is at c.advance-advanced.ensures.first) in
     let state : state_of c.obey_command.new.self ≡ effect c.args.self.now.state event =

@@ -15,7 +15,7 @@ loop-at-preserved c =
 
 pub returns-in_default : goal.returns-in_default
 returns-in_default c =
-    rw c.from_small.ensures
+    rw (c.from_small.ensures.small (omega arith))
     (c.in_default.ensures, λ n h. rw (c.loop-at.invariant.read n h) (piece_code-below _))
 
 pub returns : goal.returns
