@@ -105,8 +105,8 @@ pub fn encoded_is_read()
         → Encodes said bytes → reading (slice_index bytes 0 - 128) (drop 3 bytes) ≡ Ok said }
 {}
 
-/// A body of another length than its code fixes has a wrong size: 64 bytes of a dump, 7 of the
-/// clock, 2 of a field, 5 of a serial number and 2 of a version.
+/// A body of another length than its code fixes has a wrong size. A dump has 64 bytes, a message of
+/// the clock 7, a field 2, a serial number 5 and a version 2.
 pub fn one_size()
     ensures dump { (body : List ℕ) → length body ≢ 64
         → reading 0x06 body ≡ Err BodyFault.WrongSize }

@@ -19,7 +19,8 @@ pub returns-in_err-ok-2 : goal.returns-in_err-ok-2
 returns-in_err-ok-2 c =
     let decoded = sym c.from_hex.ensures ∙ ok_of c.from_hex.result _ c.in_ok-bytes.ensures.value in
     let body = value_of _ _ c.new.result _ c.in_ok-ok.ensures.value c.new.ensures in
-    let says = rw (c.from_small-code.ensures.small c.number.ensures.in_range, c.number.ensures.value, body) at c.view.ensures.says in
+    let code = c.from_small-code.ensures.small c.number.ensures.in_range in
+    let says = rw (code, c.number.ensures.value, body) at c.view.ensures.says in
     let faulty = error_of _ _ c.view.result c.in_err-ok-2.ensures.variant says in
     rw c.from_residual-in_err-ok-2.ensures
     (λ clock h. clock_not_faulty c.reading_is_exact.ensures.message c.reading_is_exact.ensures.fault
@@ -30,5 +31,6 @@ returns c =
     let decoded = sym c.from_hex.ensures ∙ ok_of c.from_hex.result _ c.in_ok-bytes.ensures.value in
     let body = value_of _ _ c.new.result _ c.in_ok-ok.ensures.value c.new.ensures in
     let said = value_of _ _ c.view.result _ c.in_ok-ok-2.ensures.value c.view.ensures.says in
+    let code = c.from_small-code.ensures.small c.number.ensures.in_range in
     clock_reported c.reading_is_exact.ensures.message c.args.word.now _ _ c.clock_of.result decoded
-    (rw (c.from_small-code.ensures.small c.number.ensures.in_range, c.number.ensures.value, body) at said) c.clock_of.ensures
+    (rw (code, c.number.ensures.value, body) at said) c.clock_of.ensures
