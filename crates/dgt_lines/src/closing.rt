@@ -1,6 +1,6 @@
 //! What is written of a board and a host at the end.
 
-ghost use Rattle.std.specs.Prelude.{◌≡◌, ◌+◌, ◌≤◌, ◌++◌, codes, length, option_map};
+ghost use Rattle.std.specs.Prelude.{◌≡◌, ◌+◌, ◌≤◌, ◌++◌, codes, false, length, option_map};
 ghost use Rattle.dgt_values.specs.Board.{pieces_of};
 ghost use Rattle.dgt_values.specs.Placement.{placement_text};
 ghost use Rattle.dgt_message.specs.Content.{clock_seen};
@@ -74,10 +74,11 @@ pub fn write_closing<W: Sink>(
     quiet: bool,
     writer: &mut W,
 ) -> Result<(), RunFault>
-    ensures { Writes W.Sink writer.old writer.new result
+    ensures output { Writes W.Sink writer.old writer.new result
         (closing_text (pieces_of board.now)
         (option_map (λ position. pieces_of position.now) picture.entry)
         (option_map (λ clock. clock_seen clock.now) clock.entry) quiet) }
+    ensures no_flush { W.flushed writer.old ≡ false → W.flushed writer.new ≡ false }
 {
     let mut text = Outgoing::<CLOSING_ROOM>::new();
     push_board(&mut text, board);

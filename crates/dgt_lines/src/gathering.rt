@@ -31,6 +31,7 @@ pub fn put<W: Sink>(writer: &mut W, bytes: &[u8]) -> Result<(), RunFault>
 pub fn flush<W: Sink>(writer: &mut W) -> Result<(), RunFault>
     ensures output { Writes W.Sink writer.old writer.new result [] }
     ensures flushed { OnOk result (IsTrue (W.flushed writer.new)) }
+    ensures same_flushed { OnErr result (W.flushed writer.new ≡ W.flushed writer.old) }
 {
     match writer.flush_all() {
         Ok(()) => Ok(()),

@@ -213,8 +213,9 @@ fn put_message_event<W: Sink, const ROOM: usize>(
 /// Writes the line of a message or a command of which this number of bytes came, and no more,
 /// without a flush.
 pub fn write_unfinished<W: Sink>(writer: &mut W, offset: u64, have: usize) -> Result<(), RunFault>
-    ensures { Writes W.Sink writer.old writer.new result
+    ensures output { Writes W.Sink writer.old writer.new result
         (line offset (unfinished_text have)) }
+    ensures no_flush { W.flushed writer.old ≡ false → W.flushed writer.new ≡ false }
 {
     let mut text = Outgoing::<LINE_ROOM>::new();
     push_offset(&mut text, offset);

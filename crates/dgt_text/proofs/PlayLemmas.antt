@@ -1,5 +1,5 @@
 -- Lines that are played in a row.
-use Rattle.std.proofs.Common.{◌≡◌, ◌≢◌, ℕ, ◌+◌, ◌-◌, ◌<◌, List, [], ◌∷◌, ◌++◌, ◌⊎◌, inl, inr, Bool, Result, Ok, Err, IsErrAnd, IsTrue, refl, sym, ◌∙◌, ap, subst, length, arith, append_assoc, append-nil, length-append, zero, suc, take, drop, slice_index, add-one, rules}
+use Rattle.std.proofs.Common.{◌≡◌, ◌≢◌, ℕ, ◌+◌, ◌-◌, ◌<◌, List, [], ◌∷◌, ◌++◌, ◌⊎◌, inl, inr, Bool, false, Result, Ok, Err, IsErrAnd, IsTrue, refl, sym, ◌∙◌, ap, subst, length, arith, append_assoc, append-nil, length-append, zero, suc, take, drop, slice_index, add-one, rules}
 use Rattle.std.specs.Prelude.{◌↔◌, All, MatchResult, flat_map}
 use Rattle.std.specs.Io.KnownBytes.{Appends}
 use Rattle.std.proofs.KnownBytes.{Appends-trans, Appends-nil}
@@ -15,9 +15,10 @@ use Rattle.dgt_script.specs.declared.script_lines.LineBuffer.{LineBuffer}
 use Rattle.dgt_text.specs.Closing.{closing_lines}
 use Rattle.dgt_script.specs.Outcomes.{outcome_line}
 use Rattle.dgt_lines.specs.Monitoring.{IsPrefix}
+use Rattle.dgt_lines.specs.Turns.{change}
 use Rattle.dgt_lines.specs.Writing.{Writes, Stopped}
 use Rattle.dgt_script.specs.ScriptLines.{HasNoFeed, IsCut, KeepsLine, ended}
-use Rattle.dgt_text.specs.Simulating.{BeginsWith, IsSimulatedFrom, Plays, Part, PlaysOn, PlaysTorn, Rules, Stops, Took, all_lines, part}
+use Rattle.dgt_text.specs.Simulating.{BeginsWith, IsSimulatedFrom, NoFlush, Plays, Part, PlaysOn, PlaysTorn, Rules, Stops, Took, all_lines, part}
 use Rattle.dgt_lines.specs.declared.streams.Sink.{Ghosts as Sink}
 
 -- ---- lines
@@ -93,6 +94,19 @@ prefix_none (b ∷ prefix) rest h = cc
 pub stopped_none : {S : Type 0} (W : Sink S) (a b : S) → Stopped W a b [] → Appends (W.written a) (W.written b) []
 stopped_none W a b p = subst (λ l. Appends (W.written a) (W.written b) l)
     (prefix_none p.prefix p.rest p.whole) p.appends
+
+-- a call that flushes nothing, whatever it answers
+pub no_flush_at : {S A : Type 0} (W : Sink S) (a b : S) (r : Result A RunFault)
+    → (W.flushed a ≡ false → W.flushed b ≡ false) → NoFlush W (change a b) r
+no_flush_at W a b (Ok x) p = p
+no_flush_at W a b (Err e) p = λ _. p
+
+-- the exit of a `?`, before which nothing was flushed
+pub no_flush_exit : {S A : Type 0} (W : Sink S) (a b c : S) (r : Result A RunFault) (e : RunFault)
+    → IsErrAnd r (λ y. y ≡ e) → (W.flushed a ≡ false → W.flushed b ≡ false)
+    → (e ≡ WriteFailed → W.flushed b ≡ false → W.flushed c ≡ false) → NoFlush W (change a c) r
+no_flush_exit W a b c (Ok x) e k p q = absurd k
+no_flush_exit W a b c (Err y) e k p q = λ w h. q (sym k ∙ w) (p h)
 
 module _ (rules : Rules) where
   -- ---- playing

@@ -1,5 +1,5 @@
 -- A script that is played in a world.
-use Rattle.std.specs.Prelude.{◌≡◌, ◌≢◌, ◌+◌, ◌<◌, ◌≤◌, ◌↔◌, ◌⊎◌, ⊤, ℕ, Bool, true, false, List, [], ◌∷◌, ◌++◌, All, IfErr, IsTrue, Result, Ok, Err, codes, flat_map, length}
+use Rattle.std.specs.Prelude.{◌≡◌, ◌≢◌, ◌+◌, ◌<◌, ◌≤◌, ◌↔◌, ◌⊎◌, ⊤, ℕ, Bool, true, false, List, [], ◌∷◌, ◌++◌, All, IfErr, IsTrue, MatchResult, Result, Ok, Err, codes, flat_map, length}
 use Rattle.std.specs.Io.KnownBytes.{Appends}
 use Rattle.std.proofs.Common.{inl, refl}
 use Rattle.dgt_link.specs.declared.acts.Outcome.{Outcome}
@@ -189,6 +189,12 @@ pub record StopsAtLines {S A : Type 0} (W : Sink S) (sink : Change S) (r : Resul
   pub failed : W.failed sink.new ≡ sink_mark_after r (W.failed sink.old)
   pub in_time : W.failed sink.old ≡ false → W.late sink.new ≡ W.late sink.old
   pub flushed : IfErr r (λ fault. fault ≢ WriteFailed → IsTrue (W.flushed sink.new))
+
+-- nothing is flushed, unless a line is bad: what waited for a flush still does
+abbrev pub NoFlush : {S A : Type 0} → Sink S → Change S → Result A RunFault → Type 0
+NoFlush W sink r =
+    let waits = W.flushed sink.old ≡ false → W.flushed sink.new ≡ false in
+    MatchResult r (λ _. waits) (λ fault. fault ≡ WriteFailed → waits)
 
 -- between two moments the sink took bytes of which P holds
 abbrev pub Took : {S : Type 0} → Sink S → S → S → (List ℕ → Type 0) → Type 0

@@ -1,6 +1,6 @@
 //! The engine that answers for a board.
 
-ghost use Rattle.std.specs.Prelude.{[], IsTrue, OnOk};
+ghost use Rattle.std.specs.Prelude.{◌≡◌, [], false, IsTrue, OnOk};
 ghost use Rattle.dgt_lines.specs.Turns.{change, InTurns, Ran, RunsInTurns};
 ghost use Rattle.dgt_text.specs.Serving.{IsServed, Serves};
 
@@ -12,8 +12,9 @@ use dgt_lines::{MAX_CHUNK, RunFault, Sink, Source, flush, put};
 // The board sends until it owes nothing. Each message is written before the next is asked for, so
 // the board is at most one message ahead of the sink.
 fn send_all<W: Sink>(board: &mut Board, writer: &mut W) -> Result<(), RunFault>
-    ensures { Serves W.Sink (change board.old board.new) (change writer.old writer.new)
+    ensures served { Serves W.Sink (change board.old board.new) (change writer.old writer.new)
         result [] }
+    ensures no_flush { W.flushed writer.old ≡ false → W.flushed writer.new ≡ false }
 {
     writes_in_a_row::<W>();
     let mut message = [0; MAX_SENT];
@@ -23,12 +24,12 @@ fn send_all<W: Sink>(board: &mut Board, writer: &mut W) -> Result<(), RunFault>
     Ok(())
 }
 
-// The board sends until it owes nothing, and again after each command or fault of `chunk`. Then the
-// sink is flushed.
-fn answer<W: Sink>(board: &mut Board, chunk: &[u8], writer: &mut W) -> Result<(), RunFault>
+// The board sends until it owes nothing, and again after each command or fault of `chunk`. Nothing
+// is flushed.
+fn answer_chunk<W: Sink>(board: &mut Board, chunk: &[u8], writer: &mut W) -> Result<(), RunFault>
     ensures served { Serves W.Sink (change board.old board.new) (change writer.old writer.new)
         result chunk.now }
-    ensures flushed { OnOk result (IsTrue (W.flushed writer.new)) }
+    ensures no_flush { W.flushed writer.old ≡ false → W.flushed writer.new ≡ false }
 {
     laws::divisions_append();
     laws::parts_of_words();
@@ -42,6 +43,17 @@ fn answer<W: Sink>(board: &mut Board, chunk: &[u8], writer: &mut W) -> Result<()
             send_all(board, writer)?;
         }
     }
+    Ok(())
+}
+
+// Answers a chunk, and then flushes the sink.
+fn answer<W: Sink>(board: &mut Board, chunk: &[u8], writer: &mut W) -> Result<(), RunFault>
+    ensures served { Serves W.Sink (change board.old board.new) (change writer.old writer.new)
+        result chunk.now }
+    ensures flushed { OnOk result (IsTrue (W.flushed writer.new)) }
+{
+    writes_in_a_row::<W>();
+    answer_chunk(board, chunk, writer)?;
     flush(writer)
 }
 

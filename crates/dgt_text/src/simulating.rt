@@ -7,7 +7,7 @@ ghost use Rattle.dgt_lines.specs.Writing.{Writes};
 ghost use Rattle.dgt_text.specs.Closing.{closing_lines};
 ghost use Rattle.dgt_lines.specs.Turns.{change, InTurns, Ran, RunsInTurns};
 ghost use Rattle.dgt_script.specs.ScriptLines.{HasNoFeed, KeepsLine};
-ghost use Rattle.dgt_text.specs.Simulating.{BeginsWith, IsSimulated, IsSimulatedFrom, Plays, PlaysOn, Stops, StopsAtLines, ShowsHealed, ShowsPicture, Took, faulty_rules, part, plain_rules};
+ghost use Rattle.dgt_text.specs.Simulating.{BeginsWith, IsSimulated, IsSimulatedFrom, NoFlush, Plays, PlaysOn, Stops, StopsAtLines, ShowsHealed, ShowsPicture, Took, faulty_rules, part, plain_rules};
 
 use crate::laws;
 use crate::stage::Stage;
@@ -22,6 +22,7 @@ fn refuse<W: Sink>(writer: &mut W, line: u64, at: usize) -> Result<(), RunFault>
     ensures refused { (result ≡ Err (RunFault.BadLine line at))
         ⊎ (result ≡ Err RunFault.WriteFailed) }
     ensures marks { StopsAtLines W.Sink (change writer.old writer.new) result }
+    ensures no_flush { NoFlush W.Sink (change writer.old writer.new) result }
 {
     flush(writer)?;
     Err(RunFault::BadLine { line, at })
@@ -41,6 +42,7 @@ fn play_line<S: Stage, W: Sink>(
         (λ fault. Took W.Sink writer.old writer.new
         (Stops S.rules at_end (part number bytes (S.seen world.old) (S.seen world.new)) fault)) }
     ensures marks { StopsAtLines W.Sink (change writer.old writer.new) result }
+    ensures no_flush { NoFlush W.Sink (change writer.old writer.new) result }
 {
     let Some(bytes) = line.line() else {
         return refuse(writer, number, MAX_LINE);
@@ -67,6 +69,7 @@ fn play_chunk<S: Stage, W: Sink>(
         (λ fault. Took W.Sink writer.old writer.new (Stops S.rules at_end played fault)) }
     ensures counted { OnOk result (number.new ≤ number.old + length chunk.now) }
     ensures marks { StopsAtLines W.Sink (change writer.old writer.new) result }
+    ensures no_flush { NoFlush W.Sink (change writer.old writer.new) result }
 {
     let mut at = 0;
     while at < chunk.len() {

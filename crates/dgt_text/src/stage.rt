@@ -1,6 +1,6 @@
 //! The worlds in which a script can be run.
 
-ghost use Rattle.std.specs.Prelude.{◌≡◌, ◌↔◌, Bool, IfOk, IfErr, IsTrue, OnErr};
+ghost use Rattle.std.specs.Prelude.{◌≡◌, ◌↔◌, Bool, false, IfOk, IfErr, IsTrue, OnErr};
 ghost use Rattle.dgt_lines.specs.Writing.{Writes};
 ghost use Rattle.dgt_link.specs.View.{IsQuietWorld, WorldView};
 ghost use Rattle.dgt_text.specs.Closing.{closing_lines};
@@ -30,8 +30,9 @@ pub(crate) trait Stage {
 
     /// Writes the four closing lines of the world, without a flush.
     fn end<W: Sink>(&self, writer: &mut W) -> Result<(), RunFault>
-        ensures { (quiet : Bool) × (IsTrue quiet ↔ IsQuietWorld (seen self.now))
-            × Writes W.Sink writer.old writer.new result (closing_lines (seen self.now) quiet) };
+        ensures output { (quiet : Bool) × (IsTrue quiet ↔ IsQuietWorld (seen self.now))
+            × Writes W.Sink writer.old writer.new result (closing_lines (seen self.now) quiet) }
+        ensures no_flush { W.flushed writer.old ≡ false → W.flushed writer.new ≡ false };
 }
 
 impl Stage for World {

@@ -14,4 +14,4 @@ returns-in_err-write_unfinished-clause-output g c = λ held e.
 pub returns-clause-output : goal.returns-clause-output
 returns-clause-output g c = λ held e.
     rw (unfinished_line-some held c.args.offset c.args.have (omega (arith, e, c.if-have-eq0.false)) e)
-    (rw append-nil at (writes_then _ _ _ _ _ _ _ c.in_ok-write_unfinished.ensures c.flush.ensures.output))
+    (rw append-nil at (writes_then _ _ _ _ _ _ _ c.in_ok-write_unfinished.ensures.output c.flush.ensures.output))

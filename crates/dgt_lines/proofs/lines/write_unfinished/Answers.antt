@@ -3,8 +3,8 @@ use Rattle.dgt_lines.specs.Lines.{line, unfinished_text}
 use Rattle.dgt_lines.proofs.TextLemmas.{padded_one}
 use Rattle.dgt_lines.proofs.lines.write_unfinished.Goals as goal
 
-pub returns : goal.returns
-returns g c =
+pub returns-clause-output : goal.returns-clause-output
+returns-clause-output g c =
     let whole : c.push-2.new.self ≡ line c.args.offset (unfinished_text c.args.have) =
     rw (
       c.push-2.ensures.bytes,

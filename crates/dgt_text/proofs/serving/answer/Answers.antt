@@ -1,55 +1,11 @@
-use Rattle.std.proofs.Common.{◌+◌, ◌∷◌, [], take, drop, length, ◌-◌, refl, rules}
-use Rattle.std.proofs.lemmas.List.{places, take_all}
-use Rattle.dgt_command.specs.Content.{command_event_content}
-use Rattle.dgt_text.specs.Conversation.{heard}
-use Rattle.dgt_text.proofs.ServingLemmas.{chunk_more, chunk_rest, hears_some, hears_none, served_then, served_part, served_halts, served_flushed, halted_exit, halted_longer}
+use Rattle.dgt_text.proofs.ServingLemmas.{halted_exit, served_flushed}
 use Rattle.dgt_text.proofs.serving.answer.Goals as goal
 
-pub returns-in_err-send_all-clause-served : goal.returns-in_err-send_all-clause-served
-returns-in_err-send_all-clause-served g c =
-    halted_exit _ _ _ _ _ _ _ _ c.from_residual.ensures.1 c.in_err-send_all.ensures.0
-    (halted_longer _ _ _ _ _ [] c.args.chunk.now c.in_err-send_all.ensures.1)
-
-pub loop-at-preserved-in-Continue-branch-2 : goal.loop-at-preserved-in-Continue-branch-2
-loop-at-preserved-in-Continue-branch-2 g c =
-    let taken = rw c.unwrap-used.ensures at c.take.follows.holds-at-none in
-    let found = hears_some c.parts_of_words.ensures.nothing command_event_content _ _ _ _
-    c.loop-at.invariant.served.answers.settled c.if-is_some.ensures
-    (rw c.unwrap-used.ensures at c.take.ensures.event) taken.0 in
-    record {
-      bound = search (rules, places, c.loop-at.invariant.bound, rw c.unwrap-used.ensures at c.take.ensures.within);
-      served = rw (chunk_more c.args.chunk.now c.loop-at.at c.unwrap-used.result.used)
-          (served_then _ c.writes_in_a_row.ensures c.divisions_append.ensures _ _ _ _ _ _ _ _ _ (heard found.0 ∷ [])
-          c.loop-at.invariant.served found.1 refl c.in_ok-send_all-2.ensures);
-    }
-
-pub returns-in_err-send_all-2-clause-served : goal.returns-in_err-send_all-2-clause-served
-returns-in_err-send_all-2-clause-served g c =
-    let taken = rw c.unwrap-used.ensures at c.take.follows.holds-at-none in
-    let found = hears_some c.parts_of_words.ensures.nothing command_event_content _ _ _ _
-    c.loop-at.invariant.served.answers.settled c.if-is_some.ensures
-    (rw c.unwrap-used.ensures at c.take.ensures.event) taken.0 in
-    let halted = served_halts _ c.writes_in_a_row.ensures c.divisions_append.ensures _ _ _ _ _ _ _ _ _ found.0
-    c.loop-at.invariant.served found.1 c.in_err-send_all-2.ensures.1 in
-    halted_exit _ _ _ _ _ _ _ _ c.from_residual-in_err-send_all-2.ensures.1 c.in_err-send_all-2.ensures.0
-    (rw (chunk_rest c.args.chunk.now c.loop-at.at c.unwrap-used.result.used) at
-    (halted_longer _ _ _ _ _ _ (drop (c.loop-at.at + c.unwrap-used.result.used) c.args.chunk.now) halted))
-
-pub loop-at-preserved : goal.loop-at-preserved
-loop-at-preserved g c =
-    let taken = rw c.unwrap-used.ensures at c.take.follows.holds-at-none in
-    let part =
-    hears_none command_event_content _ _
-    (take (length c.args.chunk.now - c.loop-at.at) (drop c.loop-at.at c.args.chunk.now)) _ _ c.if-is_some.ensures
-    (rw c.unwrap-used.ensures at c.take.ensures.none) taken.0 in
-    record {
-      bound = search (rules, places, c.loop-at.invariant.bound, rw c.unwrap-used.ensures at c.take.ensures.within);
-      served = rw (chunk_more c.args.chunk.now c.loop-at.at c.unwrap-used.result.used)
-          (served_part _ c.divisions_append.ensures _ _ _ _ _ _ _ c.loop-at.invariant.served part.0 part.1);
-    }
+pub returns-in_err-answer_chunk-clause-served : goal.returns-in_err-answer_chunk-clause-served
+returns-in_err-answer_chunk-clause-served g c =
+    halted_exit _ _ _ _ _ _ _ _ c.from_residual.ensures.1 c.in_err-answer_chunk.ensures.served.0
+    c.in_err-answer_chunk.ensures.served.1
 
 pub returns-clause-served : goal.returns-clause-served
-returns-clause-served g c =
-    let whole = take_all _ c.args.chunk.now c.loop-at-test.false in
-    served_flushed _ c.writes_in_a_row.ensures _ _ _ _ _ _ _ (rw whole at c.loop-at.invariant.served)
-    c.flush.ensures.output
+returns-clause-served g c = served_flushed _ c.writes_in_a_row.ensures _ _ _ _ _ _ _
+    c.in_ok-answer_chunk.ensures.served c.flush.ensures.output

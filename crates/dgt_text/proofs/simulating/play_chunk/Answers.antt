@@ -1,7 +1,7 @@
 use Rattle.std.proofs.Common.{refl, sym, ◌∙◌, append-nil, drop, true, arith, rules}
 use Rattle.std.proofs.lemmas.List.{places}
 use Rattle.dgt_text.specs.Simulating.{Stops}
-use Rattle.dgt_text.proofs.PlayLemmas.{on_none, on_held, on_line, on_rest, piece_exit, stops_after, held_bytes, line_bytes, left_bytes, feed_begins}
+use Rattle.dgt_text.proofs.PlayLemmas.{on_none, on_held, on_line, on_rest, piece_exit, stops_after, held_bytes, line_bytes, left_bytes, feed_begins, no_flush_exit}
 use Rattle.dgt_text.proofs.simulating.play_chunk.Goals as goal
 
 pub loop-at-init : goal.loop-at-init
@@ -10,6 +10,7 @@ loop-at-init g c = record {
   count = omega arith;
   not_failed = refl;
   in_time = λ _. refl;
+  no_flush = λ h. h;
   played = λ rest h k. rw (append-nil rest)
       (on_none g.S.Stage.rules g.W.Sink
       (g.S.Stage.seen c.args.world.now) c.args.writer.now c.args.line.now c.args.number.now rest h k);
@@ -23,6 +24,7 @@ loop-at-preserved g c =
       count = let k = c.loop-at.invariant.count in omega arith;
       not_failed = c.loop-at.invariant.not_failed;
       in_time = c.loop-at.invariant.in_time;
+      no_flush = c.loop-at.invariant.no_flush;
       played = λ rest h k.
           let q = c.loop-at.invariant.played rest h k in
           rw (sym (held_bytes rest p i n))
@@ -39,6 +41,7 @@ loop-at-preserved-then-at-chunk g c =
       not_failed = rw c.in_ok-play_line.ensures.marks.failed c.loop-at.invariant.not_failed;
       in_time = λ h. c.in_ok-play_line.ensures.marks.in_time
           (c.loop-at.invariant.not_failed ∙ h) ∙ c.loop-at.invariant.in_time h;
+      no_flush = λ h. c.in_ok-play_line.ensures.no_flush (c.loop-at.invariant.no_flush h);
       played = λ rest h k.
           let q = c.loop-at.invariant.played rest h k in
           let begins = feed_begins true q.rest p i n c.if-at-chunk.true c.len_before-end.ensures.found q.cut.last
@@ -60,3 +63,7 @@ returns-in_err-play_line-clause-played g c = λ at_end rest h k.
     (on_rest g.S.Stage.rules g.W.Sink (λ part. Stops g.S.Stage.rules at_end part fault)
     (stops_after g.S.Stage.rules at_end fault) _ _ _ _ _ _ _ _ _ _ (drop i p) q
     (c.in_err-play_line.ensures.played at_end _ _ (c.add.ensures q.rest q.kept) begins)))
+
+pub returns-in_err-play_line-clause-no_flush : goal.returns-in_err-play_line-clause-no_flush
+returns-in_err-play_line-clause-no_flush g c = no_flush_exit g.W.Sink _ _ _ _ _ c.from_residual.ensures.1
+    c.loop-at.invariant.no_flush c.in_err-play_line.ensures.no_flush

@@ -9,6 +9,7 @@ invariant-loop-at g l = record {
   count : l.number ≤ l.fn.number + l.at;
   not_failed : g.W.Sink.failed l.writer ≡ g.W.Sink.failed l.fn.writer;
   in_time : g.W.Sink.failed l.fn.writer ≡ false → g.W.Sink.late l.writer ≡ g.W.Sink.late l.fn.writer;
+  no_flush : g.W.Sink.flushed l.fn.writer ≡ false → g.W.Sink.flushed l.writer ≡ false;
   played : (rest : List ℕ) → KeepsLine l.fn.line rest → HasNoFeed rest
       → PlaysOn g.S.Stage.rules g.W.Sink
       (part l.fn.number (rest ++ take l.at l.chunk) (g.S.Stage.seen l.fn.world)

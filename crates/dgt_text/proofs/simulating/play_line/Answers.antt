@@ -1,5 +1,5 @@
 use Rattle.std.proofs.Common.{rules}
-use Rattle.dgt_text.proofs.PlayLemmas.{line_put, line_refused}
+use Rattle.dgt_text.proofs.PlayLemmas.{line_put, line_refused, no_flush_at}
 use Rattle.dgt_text.proofs.simulating.play_line.Goals as goal
 
 pub returns-in_default-clause-played : goal.returns-in_default-clause-played
@@ -26,3 +26,6 @@ returns-in-Err-BadLine-clause-played g c = λ at_end whole bytes h b.
     c.args.writer.now c.refuse-in-Err-BadLine.new.writer c.args.number _ whole bytes
     c.refuse-in-Err-BadLine.ensures.refused c.refuse-in-Err-BadLine.ensures.bytes
     (let bad : stage.rules.is_bad whole _ = rw short.0 at c.in-Err-BadLine.ensures.bad in search rules) b)
+
+pub returns-in-Ok-clause-no_flush : goal.returns-in-Ok-clause-no_flush
+returns-in-Ok-clause-no_flush g c = no_flush_at g.W.Sink _ _ c.put.result c.put.ensures.no_flush
