@@ -1,6 +1,5 @@
 -- Askings after the last fault heal the clock, in the modes that report it: the patience and one more.
 use Rattle.std.proofs.Common.{◌≡◌, inl, inr, ◌+◌, false, Some, refl, ℕ, List, [], ◌∷◌, arith}
-use Rattle.std.specs.List.{AllByRecursion}
 use Rattle.std.specs.Prelude.{IsTrue}
 use Rattle.dgt_command.specs.Content.{CommandContent}
 use Rattle.dgt_board.specs.declared.modes.Mode.{Mode}
@@ -10,7 +9,7 @@ use Rattle.dgt_follow.specs.declared.asking.UpdateMode.{UpdateMode}
 use Rattle.dgt_follow.specs.Pace.{pace_after_asking}
 use Rattle.dgt_follow.specs.Follower.{asking_of}
 use Rattle.dgt_link.specs.declared.acts.Outcome.{Outcome}
-use Rattle.dgt_link.specs.Clocks.{IsClockFollowing, IsClockPromisedWorld, stops_clock}
+use Rattle.dgt_link.specs.Clocks.{AreClockCalm, IsClockFollowing, IsClockPromisedWorld, stops_clock}
 use Rattle.dgt_link.specs.Faults.{FaultyContent, FaultyRuns, FaultyStep, is_fault, sends}
 use Rattle.dgt_link.specs.Healing.{IsInStep, IsInStepBy, IsSane}
 use Rattle.dgt_link.specs.View.{WorldView}
@@ -19,10 +18,6 @@ use Rattle.dgt_followed.proofs.Askings.{Hope, Hopes, heartbeat_hope, neither, ot
 
 abbrev count : FollowedView → ℕ
 count followed = followed.clock_since
-
--- no act is a fault, and after each the board goes on reporting its clock
-abbrev AreClockCalm : List FaultyContent → Type 0
-AreClockCalm = AllByRecursion (λ act. (is_fault act ≡ false) × (stops_clock act ≡ false))
 
 -- the acts of a heartbeat and of a new beginning that ask for the clock, by their mode's command
 abbrev heartbeat_acts : CommandContent → List FaultyContent

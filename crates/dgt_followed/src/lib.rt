@@ -13,7 +13,7 @@
 //! dgt_follow has an example of a program that asks.
 #![tactic(auto)]
 
-ghost use Rattle.std.specs.Prelude.{◌≡◌, ◌≢◌, ◌⊎◌, ◌<◌, ◌≤◌, ◌+◌, ◌∷◌, ℕ, List, Some, length, take, true};
+ghost use Rattle.std.specs.Prelude.{◌≡◌, ◌≢◌, ◌⊎◌, ◌<◌, ◌≤◌, ◌+◌, [], ◌∷◌, ℕ, List, Some, length, take, false, true};
 ghost use Rattle.dgt_command.specs.Content.{CommandContent, requested_kind};
 ghost use Rattle.dgt_command.specs.Encoding.{EncodesCommand, command_encoding};
 ghost use Rattle.dgt_host.specs.Host.{HostView, Sends};
@@ -21,11 +21,13 @@ ghost use Rattle.dgt_follow.specs.Pace.{asking_bytes};
 ghost use Rattle.dgt_follow.specs.Follower.{Asks, FollowerView, asking_of, follower_after};
 ghost use Rattle.dgt_followed.specs.Followed.{AfterAskings, FollowedRuns, FollowedStep, FollowedView, Happening, HasRoom, RunsDone, after_writing, asking_acts, clock_count_after, clock_count_after_asking, count_after, count_after_asking, follower_of, unsettles};
 ghost use Rattle.dgt_link.specs.Act.{ActContent};
-ghost use Rattle.dgt_link.specs.Clocks.{IsClockPromisedWorld};
-ghost use Rattle.dgt_link.specs.Faults.{FaultyContent, is_fault, sends, stops};
+ghost use Rattle.dgt_link.specs.Clocks.{IsClockPromisedWorld, stops_clock};
+ghost use Rattle.dgt_link.specs.Faults.{FaultyContent, FaultyStep, is_fault, sends, stops};
 ghost use Rattle.dgt_link.specs.Healing.{IsPromisedWorld, IsSane};
 ghost use Rattle.dgt_follow.specs.declared.asking.Asking.{Asking};
-ghost use Rattle.dgt_link.specs.View.{IsQuietWorld, WorldView, without_first};
+ghost use Rattle.dgt_follow.specs.declared.asking.UpdateMode.{UpdateMode};
+ghost use Rattle.dgt_link.specs.declared.acts.Outcome.{Outcome};
+ghost use Rattle.dgt_link.specs.View.{IsQuietWorld, LineContents, WorldView, without_first};
 
 /// What a follower's `ask` writes and leaves are acts of the faulty world of its host, each of them
 /// done: `Host(mode)` and `Host(Dump)`, or `Restart` and `Host(mode)`, or none. In a mode that
@@ -115,24 +117,48 @@ pub fn clocks_heal()
 }
 
 /// What the words of the other laws come to. Each asking that is due counts, and nothing but a
-/// fault, a break or a reset begins the count anew. Steps in a row are runs.
+/// fault, a break or a reset begins the count anew. An asking in a mode with the clock counts for
+/// the clock, and nothing begins that count anew but what unsettles the clock. Any act may happen
+/// with any outcome that it has, if patience and counts are as said. Steps in a row are runs.
 pub fn askings_count()
     ensures asking { (what : Asking) (since : ℕ) → what ≢ Asking.Nothing →
         count_after_asking what since ≡ since + 1 }
     ensures other { (act : FaultyContent) → unsettles act ≡ true →
         (is_fault act ≡ true) ⊎ (stops act ≡ true) }
+    ensures kept { (act : FaultyContent) (since : ℕ) → is_fault act ≡ false → stops act ≡ false →
+        count_after act since ≡ since }
+    ensures clock_asking { (mode : UpdateMode) (what : Asking) (since : ℕ) →
+        what ≢ Asking.Nothing → mode ≢ UpdateMode.Squares →
+        clock_count_after_asking mode what since ≡ since + 1 }
+    ensures clock_kept { (act : FaultyContent) (since : ℕ) → is_fault act ≡ false →
+        stops_clock act ≡ false → clock_count_after act since ≡ since }
+    ensures room { (line : LineContents) (bytes : List ℕ) →
+        length line.bytes + length bytes ≤ line.capacity → HasRoom line bytes }
+    ensures step { (act : FaultyContent) (answer : Outcome) (before after : FollowedView) →
+        FaultyStep act before.world answer after.world →
+        after.pace.patience ≡ before.pace.patience → after.pace.left ≡ before.pace.left →
+        after.since ≡ count_after act before.since →
+        after.clock_since ≡ clock_count_after act before.clock_since →
+        FollowedStep (Happening.Other act) before after }
+    ensures no_runs { (followed : FollowedView) → FollowedRuns [] followed followed }
     ensures runs { (happening : Happening) (later : List Happening)
         (before between after : FollowedView) → FollowedStep happening before between →
         FollowedRuns later between after → FollowedRuns (happening ∷ later) before after }
 {}
 
-/// `askings_heal` in full.
+/// `askings_heal` and `clocks_heal` in full.
 pub fn patience_and_one_more_heal()
-    ensures { (happenings : List Happening) (before after : FollowedView) → IsSane before.world →
+    ensures picture { (happenings : List Happening) (before after : FollowedView) → IsSane before.world →
         before.pace.left ≤ before.pace.patience → before.since ≡ 0 →
         FollowedRuns happenings before after → after.pace.patience + 1 ≤ after.since →
         IsQuietWorld after.world →
         after.world.host.picture ≡ Some after.world.board.state.squares }
+    ensures clock { (happenings : List Happening) (before after : FollowedView) →
+        IsSane before.world → before.pace.left ≤ before.pace.patience → before.clock_since ≡ 0 →
+        FollowedRuns happenings before after → after.pace.patience + 1 ≤ after.clock_since →
+        IsQuietWorld after.world →
+        after.world.host.clock ≡ Some after.world.board.state.clock }
 {
     askings_heal();
+    clocks_heal();
 }

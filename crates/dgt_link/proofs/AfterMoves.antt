@@ -24,7 +24,7 @@ moves_exact x (move ∷ moves) others exact =
 
 -- ---- what moves ask
 
-commands_after-append : (before : List CommandContent) (asked more : List (Option CommandContent))
+pub commands_after-append : (before : List CommandContent) (asked more : List (Option CommandContent))
     → commands_after before (asked ++ more) ≡ commands_after (commands_after before asked) more
 commands_after-append before [] more = refl
 commands_after-append before (None ∷ asked) more = commands_after-append [] asked more

@@ -1,5 +1,5 @@
 -- What a world at fault keeps, and how a host that begins anew, or asks for a dump, comes to know the board again.
-use Rattle.std.proofs.Common.{◌≡◌, ◌≢◌, refl, sym, ap, subst, ◌∙◌, inl, inr, ℕ, zero, suc, List, [], ◌∷◌, ◌++◌, length, drop, replicate, map}
+use Rattle.std.proofs.Common.{◌≡◌, ◌≢◌, ◌⊎◌, refl, sym, ap, subst, ◌∙◌, inl, inr, ℕ, zero, suc, List, [], ◌∷◌, ◌++◌, length, drop, replicate, map}
 use Rattle.std.proofs.Common.{Option, Some, false, true, Bool, append_assoc, arith, rules}
 use Rattle.std.proofs.lemmas.Bool.{false≢true}
 use Rattle.std.proofs.lemmas.List.{append-nil}
@@ -12,9 +12,9 @@ use Rattle.dgt_message.specs.Encoding.{encoding}
 use Rattle.dgt_command.specs.Content.{CommandContent, EventContent}
 use Rattle.dgt_command.specs.Laws.{EachDividesOnce}
 use Rattle.dgt_command.specs.Encoding.{AreBytes, command_encoding}
-use Rattle.dgt_command.specs.Words.{Divides, IsNoiseList}
+use Rattle.dgt_command.specs.Words.{Divides, IsNoiseList, IsPartial}
 use Rattle.dgt_board.specs.declared.modes.Mode.{Mode}
-use Rattle.dgt_board.specs.State.{BoardState, after_line_lost, command_mode, effects}
+use Rattle.dgt_board.specs.State.{BoardState, after_line_lost, command_mode, effects, follows_clock}
 use Rattle.dgt_board.specs.Sending.{pending_messages}
 use Rattle.dgt_board.specs.View.{BoardView}
 use Rattle.dgt_host.specs.Host.{follow_bytes, restart_bytes}
@@ -660,6 +660,25 @@ empty_in_step world sane down partial =
         partial = sane.partial;
       };
       holds = tt;
+    }
+
+pub sane_if : (world : WorldView) → length world.board.state.squares ≡ 64
+    → length world.board.state.reported_squares ≡ 64
+    → (IsTrue (follows_clock world.board.state.mode)
+    → IsTrue world.board.state.times_owed ⊎ (world.board.state.reported_clock ≡ Some world.board.state.clock))
+    → IsPartial world.board.partial → AreBytes world.down.bytes → IsSane world
+sane_if world squares reported followed partial down =
+    record {
+      board = record {
+        squares = squares;
+        reported_squares = reported;
+        picture = inl refl;
+        followed = followed;
+        clock = inl refl;
+        awaited = tt;
+      };
+      partial = partial;
+      down = down;
     }
 
 world_is_sane : (world : WorldView) (x : MachineState) → StandsFor world x → IsSane world

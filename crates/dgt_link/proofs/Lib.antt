@@ -35,3 +35,5 @@ pub mod History
 pub mod Counts
 pub mod Headlines
 pub mod Restarting
+pub mod ActKinds
+pub mod Asked

@@ -1,9 +1,12 @@
 //! How the picture and the clock of a host heal after faults of the lines and of the board's power.
 //! Nothing here runs: each function stands for the facts that its contract states.
 
-ghost use Rattle.std.specs.Prelude.{◌≡◌, ◌≢◌, ◌≤◌, ◌+◌, ℕ, List, [], ◌∷◌, ◌++◌, length, Some, None, IsSome, IsTrue, false, true};
+ghost use Rattle.std.specs.Prelude.{◌≡◌, ◌≢◌, ◌⊎◌, ◌↔◌, ◌≤◌, ◌+◌, ℕ, List, [], ◌∷◌, ◌++◌, length, Some, None};
+ghost use Rattle.std.specs.Prelude.{Contains, IsSome, IsTrue, false, true};
 ghost use Rattle.std.specs.List.{AllByRecursion};
 ghost use Rattle.dgt_command.specs.Content.{CommandContent};
+ghost use Rattle.dgt_command.specs.Encoding.{AreBytes};
+ghost use Rattle.dgt_command.specs.Words.{IsPartial};
 ghost use Rattle.dgt_decode.specs.Grammar.{unfinished_message};
 ghost use Rattle.dgt_board.specs.State.{command_mode, follows_clock, updates};
 ghost use Rattle.dgt_board.specs.declared.modes.Mode.{Mode};
@@ -18,7 +21,7 @@ ghost use Rattle.dgt_link.specs.Step.{Runs, Step};
 ghost use Rattle.dgt_link.specs.Settling.{SettlesIn};
 ghost use Rattle.dgt_link.specs.View.{IsQuietWorld, WorldView};
 ghost use Rattle.dgt_link.specs.Clocks.{AreClockCalm, IsClockFollowing, IsClockPromisedWorld, stops_clock};
-ghost use Rattle.dgt_link.specs.Faults.{AreCalm, FaultyContent, FaultyRuns, FaultyStep, begins_anew, is_break, is_fault, loses_step, sends, stops};
+ghost use Rattle.dgt_link.specs.Faults.{AreCalm, AreFaultless, FaultyContent, FaultyRuns, FaultyStep, begins_anew, is_break, is_fault, loses_step, sends, stops};
 ghost use Rattle.dgt_link.specs.Healing.{AfterFaults, IsClockHealing, IsFaultyWorld, IsFollowing, IsHealing, IsInStep, IsInStepBy, IsInTurn, IsInTurnWorld, IsPromisedWorld, IsRestedWorld, IsSane, StandsBehind, StandsBehindAfter, counted_by};
 
 use crate::laws;
@@ -36,8 +39,14 @@ pub fn acts_behind_garbage()
 }
 
 /// A world without faults is sane, in step and has room. Whatever failed, a world is in step if its
-/// down line is empty and its board has no part of a command.
+/// down line is empty and its board has no part of a command. A world is sane if its board is
+/// well-formed.
 pub fn worlds_are_in_step()
+    ensures sane { (world : WorldView) → let board = world.board.state in
+        length board.squares ≡ 64 → length board.reported_squares ≡ 64
+        → (IsTrue (follows_clock board.mode)
+        → IsTrue board.times_owed ⊎ (board.reported_clock ≡ Some board.clock))
+        → IsPartial world.board.partial → AreBytes world.down.bytes → IsSane world }
     ensures empty { (world : WorldView) → IsSane world → world.down.bytes ≡ []
         → world.board.partial ≡ [] → IsInStep world }
     ensures in_step { (world : WorldView) → IsWorld world → IsInStep world }
@@ -233,9 +242,73 @@ pub fn pictures_were_reported()
 /// What is counted is what the words say. An act with which the host begins anew counts if it is
 /// done, whatever was done and whatever failed before. It still counts after any acts of which none
 /// is a fault, a reset or a break that both sides see.
+///
+/// What the host awaits is in turn from then on until a fault, and the board is in step until a
+/// fault of the down line or of its power. So both are from a break that both sides see.
 pub fn beginnings_count()
-    ensures { (acts later : List FaultyContent) (act : FaultyContent)
+    ensures picture { (acts later : List FaultyContent) (act : FaultyContent)
         (answers others : List Outcome) → length answers ≡ length acts → begins_anew act ≡ true
         → AreCalm later → IsHealing
         (counted_by false (acts ++ act ∷ later) (answers ++ Outcome.Done ∷ others)) }
+    ensures awaited { (acts later : List FaultyContent) (act : FaultyContent)
+        (answers others : List Outcome) → length answers ≡ length acts
+        → (begins_anew act ≡ true) ⊎ (act ≡ FaultyContent.Plain ActContent.Break)
+        → AreFaultless later → IsInTurn
+        (counted_by false (acts ++ act ∷ later) (answers ++ Outcome.Done ∷ others)) }
+    ensures in_step { (acts later : List FaultyContent) (act : FaultyContent)
+        (answers others : List Outcome) → length answers ≡ length acts
+        → (begins_anew act ≡ true) ⊎ (act ≡ FaultyContent.Plain ActContent.Break)
+        → AllByRecursion (λ act. loses_step act ≡ false) later
+        → IsInStepBy (acts ++ act ∷ later) (answers ++ Outcome.Done ∷ others) }
+    ensures clock { (acts later : List FaultyContent) (act : FaultyContent)
+        (mode : CommandContent) (answers others : List Outcome) → length answers ≡ length acts
+        → begins_anew act ≡ true
+        → Contains (CommandContent.Update ∷ CommandContent.UpdateNice ∷ []) mode
+        → AreClockCalm later → IsClockHealing (counted_by false
+        (acts ++ act ∷ sends mode ∷ sends CommandContent.Clock ∷ later)
+        (answers ++ Outcome.Done ∷ Outcome.Done ∷ Outcome.Done ∷ others)) }
+{}
+
+/// In a world in step the bytes under way to the host may be replaced. A mode command from before
+/// that counts, and so does a dump or a reading that is requested afterwards.
+pub fn requests_count()
+    ensures picture { (mode : CommandContent) (bytes : List ℕ) (later : List FaultyContent)
+        (answer : Outcome) (others : List Outcome) → Contains
+        (CommandContent.Update ∷ CommandContent.UpdateBoard ∷ CommandContent.UpdateNice ∷ []) mode
+        → AreCalm later → IsHealing (counted_by true
+        (sends mode ∷ FaultyContent.GarbleUp bytes ∷ sends CommandContent.Dump ∷ later)
+        (Outcome.Done ∷ answer ∷ Outcome.Done ∷ others)) }
+    ensures clock { (mode : CommandContent) (bytes : List ℕ) (later : List FaultyContent)
+        (answer : Outcome) (others : List Outcome)
+        → Contains (CommandContent.Update ∷ CommandContent.UpdateNice ∷ []) mode
+        → AreClockCalm later → IsClockHealing (counted_by true
+        (sends mode ∷ FaultyContent.GarbleUp bytes ∷ sends CommandContent.Clock ∷ later)
+        (Outcome.Done ∷ answer ∷ Outcome.Done ∷ others)) }
+{}
+
+/// The kinds of acts by the acts that are of them.
+pub fn kinds_of_acts()
+    ensures fault { (act : FaultyContent) → (is_fault act ≡ true)
+        ↔ (((bytes : List ℕ) × (act ≡ FaultyContent.GarbleUp bytes))
+        ⊎ (((bytes : List ℕ) × (act ≡ FaultyContent.GarbleDown bytes))
+        ⊎ (act ≡ FaultyContent.BoardLost))) }
+    ensures loses_step { (act : FaultyContent) → (loses_step act ≡ true)
+        ↔ (((bytes : List ℕ) × (act ≡ FaultyContent.GarbleDown bytes))
+        ⊎ (act ≡ FaultyContent.BoardLost)) }
+    ensures stops { (act : FaultyContent) → (stops act ≡ true)
+        ↔ ((act ≡ sends CommandContent.Reset) ⊎ (act ≡ FaultyContent.Plain ActContent.Break)) }
+    ensures stops_clock { (act : FaultyContent) → (stops_clock act ≡ true)
+        ↔ Contains (sends CommandContent.Reset ∷ sends CommandContent.UpdateBoard
+        ∷ FaultyContent.Plain ActContent.Break ∷ FaultyContent.Plain ActContent.HostBreak
+        ∷ FaultyContent.Restart ∷ []) act }
+    ensures begins_anew { (act : FaultyContent) → (begins_anew act ≡ true)
+        ↔ ((act ≡ FaultyContent.Restart) ⊎ (act ≡ FaultyContent.Plain ActContent.HostBreak)) }
+    ensures breaks { (act : ActContent) → (is_break act ≡ true)
+        ↔ ((act ≡ ActContent.Break) ⊎ (act ≡ ActContent.HostBreak)) }
+    ensures calm { (acts : List FaultyContent) → ((act : FaultyContent) → Contains acts act
+        → (is_fault act ≡ false) × (stops act ≡ false)) → AreCalm acts }
+    ensures clock_calm { (acts : List FaultyContent) → ((act : FaultyContent) → Contains acts act
+        → (is_fault act ≡ false) × (stops_clock act ≡ false)) → AreClockCalm acts }
+    ensures faultless { (acts : List FaultyContent) → ((act : FaultyContent) → Contains acts act
+        → is_fault act ≡ false) → AreFaultless acts }
 {}

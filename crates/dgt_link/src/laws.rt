@@ -16,7 +16,7 @@ ghost use Rattle.dgt_decode.specs.Grammar.{Event};
 ghost use Rattle.dgt_board.specs.declared.replies.Reply.{Reply};
 ghost use Rattle.dgt_board.specs.State.{IdentityContent, BoardState, follows_clock, updates, effects};
 ghost use Rattle.dgt_board.specs.declared.modes.Mode.{Mode};
-ghost use Rattle.dgt_board.specs.Sending.{after_sending, next_message};
+ghost use Rattle.dgt_board.specs.Sending.{after_sending, backlog, next_message};
 ghost use Rattle.dgt_message.specs.Picture.{picture_after_all};
 ghost use Rattle.dgt_host.specs.Host.{IsUnasked};
 ghost use Rattle.dgt_link.specs.Machine.{IsHostBreak, IsSending, MachineState, Move, after_move, after_moves, commands_anew, new_state};
@@ -337,6 +337,34 @@ pub fn picture_after_acts()
     at_quiet_world();
 }
 
+/// What `IsAskedBy` asks for, act by act. Whatever was done before, a command that asks for updates
+/// and a dump request are enough, in either order, if both are done. They still count after any acts
+/// of which none is a reset or a break that both sides see.
+pub fn asking_counts()
+    ensures mode_first { (acts later : List ActContent) (mode : CommandContent)
+        (answers others : List Outcome) → length answers ≡ length acts → Contains
+        (CommandContent.Update ∷ CommandContent.UpdateBoard ∷ CommandContent.UpdateNice ∷ []) mode
+        → AreCalm (map FaultyContent.Plain later) → IsAskedBy
+        (acts ++ ActContent.Host mode ∷ ActContent.Host CommandContent.Dump ∷ later)
+        (answers ++ Outcome.Done ∷ Outcome.Done ∷ others) }
+    ensures dump_first { (acts later : List ActContent) (mode : CommandContent)
+        (answers others : List Outcome) → length answers ≡ length acts → Contains
+        (CommandContent.Update ∷ CommandContent.UpdateBoard ∷ CommandContent.UpdateNice ∷ []) mode
+        → AreCalm (map FaultyContent.Plain later) → IsAskedBy
+        (acts ++ ActContent.Host CommandContent.Dump ∷ ActContent.Host mode ∷ later)
+        (answers ++ Outcome.Done ∷ Outcome.Done ∷ others) }
+{}
+
+/// Two bounds in numbers. The up line takes 67 bytes and has 5, the board has 2 messages to send, and
+/// the down line has 3 bytes: 5, 68 times 2 and 69 times 3 make 348 steps. Of the machine one message
+/// is under way, 2 are to be sent and 3 commands are under way: 1, twice 2 and three times 3.
+pub fn bounds_in_numbers()
+    ensures steps { (world : WorldView) → world.up.capacity ≡ 67 → length world.up.bytes ≡ 5
+        → backlog world.board.state ≡ 2 → length world.down.bytes ≡ 3 → steps_left world ≡ 348 }
+    ensures moves { (x : MachineState) (moves : List Move) → SettlesBy moves x → length x.up ≡ 1
+        → backlog x.board ≡ 2 → length x.down ≡ 3 → length moves ≤ 14 }
+{}
+
 /// From each sound state some takes of the board, sendings of the board and hears of the host lead
 /// to a quiet one. There is at most one for each message under way, and three for each command and
 /// fault under way. There are two for each reply, square and clock that the board has still to
@@ -373,8 +401,8 @@ pub fn settling_ends()
 }
 
 /// A world may be delivered and its board may send in whatever order and chunks. If each side moves
-/// again and again, both lines are empty and the board has nothing to send after a limited number of
-/// rounds.
+/// again and again, both lines are empty and the board has nothing to send after a limited number
+/// of rounds.
 pub fn fair_rounds_rest()
     ensures { (rounds : ℕ) (acts : List ActContent) (world after : WorldView)
         (answers : List Outcome) → IsWorld world → IsShortIdentity world.board.state.identity

@@ -1,7 +1,11 @@
-use Rattle.std.proofs.Common.{false}
-use Rattle.dgt_link.specs.Healing.{nothing_counted}
-use Rattle.dgt_link.proofs.Counts.{counts_behind}
+use Rattle.dgt_link.proofs.Counts.{anew_is_healing, clock_again, in_step_again, in_turn_again}
 use Rattle.dgt_link.proofs.healing.beginnings_count.Goals as goal
 
 pub returns : goal.returns
-returns c = counts_behind (nothing_counted false)
+returns c =
+    record {
+      picture = anew_is_healing;
+      awaited = in_turn_again;
+      in_step = in_step_again;
+      clock = λ acts later act mode answers others same. clock_again acts later act answers others same mode;
+    }

@@ -1,0 +1,9 @@
+use Rattle.dgt_link.proofs.Counts.{dump_is_healing, reading_is_healing}
+use Rattle.dgt_link.proofs.healing.requests_count.Goals as goal
+
+pub returns : goal.returns
+returns c =
+    record {
+      picture = dump_is_healing;
+      clock = reading_is_healing;
+    }
