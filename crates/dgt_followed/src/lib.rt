@@ -148,7 +148,8 @@ pub fn askings_count()
 
 /// `askings_heal` and `clocks_heal` in full.
 pub fn patience_and_one_more_heal()
-    ensures picture { (happenings : List Happening) (before after : FollowedView) → IsSane before.world →
+    ensures picture { (happenings : List Happening) (before after : FollowedView) →
+        IsSane before.world →
         before.pace.left ≤ before.pace.patience → before.since ≡ 0 →
         FollowedRuns happenings before after → after.pace.patience + 1 ≤ after.since →
         IsQuietWorld after.world →

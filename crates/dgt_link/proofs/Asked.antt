@@ -15,7 +15,8 @@ use Rattle.dgt_link.proofs.Counts.{one_of_three, still_asked}
 use Rattle.dgt_link.proofs.Promises.{asked-mode}
 
 act_still_asked : (commands : List CommandContent) (act : ActContent) (answer : Outcome)
-    → stops (FaultyContent.Plain act) ≡ false → IsAsked commands → IsAsked (commands_after commands (act_requests answer act))
+    → stops (FaultyContent.Plain act) ≡ false → IsAsked commands
+    → IsAsked (commands_after commands (act_requests answer act))
 act_still_asked commands (ActContent.Host command) Outcome.Done calm is = still_asked commands command calm is
 act_still_asked commands ActContent.Break answer calm is = absurd (false≢true (sym calm))
 act_still_asked commands ActContent.HostBreak Outcome.Done calm is =
@@ -84,7 +85,8 @@ dump_then_mode commands mode asks =
     }
 
 module _ (acts later : List ActContent) (mode : CommandContent) (answers others : List Outcome)
-    (same : length answers ≡ length acts) (asks : IsUpdating mode) (calm : AreCalm (map FaultyContent.Plain later)) where
+    (same : length answers ≡ length acts) (asks : IsUpdating mode)
+    (calm : AreCalm (map FaultyContent.Plain later)) where
   pub asked_mode_first : IsAskedBy (acts ++ ActContent.Host mode ∷ ActContent.Host CommandContent.Dump ∷ later)
       (answers ++ Outcome.Done ∷ Outcome.Done ∷ others)
   asked_mode_first =

@@ -270,7 +270,8 @@ reading_counts bytes answer mode =
 
 module _ (mode : CommandContent) (bytes : List ℕ) (later : List FaultyContent) (answer : Outcome)
     (others : List Outcome) where
-  pub dump_is_healing : Contains (CommandContent.Update ∷ CommandContent.UpdateBoard ∷ CommandContent.UpdateNice ∷ []) mode
+  pub dump_is_healing
+      : Contains (CommandContent.Update ∷ CommandContent.UpdateBoard ∷ CommandContent.UpdateNice ∷ []) mode
       → AreCalm later
       → IsHealing (counted_after_all (nothing_counted true)
       (sends mode ∷ FaultyContent.GarbleUp bytes ∷ sends CommandContent.Dump ∷ later)

@@ -338,8 +338,8 @@ pub fn picture_after_acts()
 }
 
 /// What `IsAskedBy` asks for, act by act. Whatever was done before, a command that asks for updates
-/// and a dump request are enough, in either order, if both are done. They still count after any acts
-/// of which none is a reset or a break that both sides see.
+/// and a dump request are enough, in either order, if both are done. They still count after any
+/// acts of which none is a reset or a break that both sides see.
 pub fn asking_counts()
     ensures mode_first { (acts later : List ActContent) (mode : CommandContent)
         (answers others : List Outcome) → length answers ≡ length acts → Contains
@@ -355,9 +355,9 @@ pub fn asking_counts()
         (answers ++ Outcome.Done ∷ Outcome.Done ∷ others) }
 {}
 
-/// Two bounds in numbers. The up line takes 67 bytes and has 5, the board has 2 messages to send, and
-/// the down line has 3 bytes: 5, 68 times 2 and 69 times 3 make 348 steps. Of the machine one message
-/// is under way, 2 are to be sent and 3 commands are under way: 1, twice 2 and three times 3.
+/// Two bounds in numbers. The up line takes 67 bytes and has 5, the board has 2 messages to send,
+/// and the down line has 3 bytes: 5, 68 times 2 and 69 times 3 make 348 steps. Of the machine one
+/// message and 3 commands are under way, and 2 messages are to be sent: 1, twice 2 and 3 times 3.
 pub fn bounds_in_numbers()
     ensures steps { (world : WorldView) → world.up.capacity ≡ 67 → length world.up.bytes ≡ 5
         → backlog world.board.state ≡ 2 → length world.down.bytes ≡ 3 → steps_left world ≡ 348 }
