@@ -11,8 +11,8 @@
 //! | [`Board`] | stands in for a board, so that a host can be tested without one |
 //! | [`CommandDecoder`] | reads a host's bytes |
 //!
-//! Nothing here opens a line or waits: you hand in the bytes that came, in chunks of any length,
-//! and write out what a call wrote into your slice.
+//! None of them opens a line or waits: you hand in the bytes that came, in chunks of any length,
+//! and write out what a call wrote into your slice. A [`Port`] is a serial port for a follower.
 //!
 //! ```
 //! use dgt::{Board, Host, MAX_SENT, Piece, Polled, RESTART_LENGTH, Square};
@@ -43,8 +43,8 @@
 //! is_sync::<dgt::Host>();
 //! ```
 //!
-//! The feature `std`, on by default, turns a [`SendFault`] and a [`NoRoom`] into an error of
-//! `std::io`. Without it the crate needs `core` and `alloc` alone.
+//! The feature `std`, on by default, has [`Port`], and turns a [`SendFault`] and a [`NoRoom`] into
+//! an error of `std::io`. Without it the crate needs `core` and `alloc` alone.
 #![no_std]
 #![deny(missing_docs, unsafe_op_in_unsafe_fn)]
 
@@ -67,6 +67,8 @@ mod host;
 mod identities;
 mod messages;
 mod pieces;
+#[cfg(feature = "std")]
+mod port;
 mod positions;
 mod squares;
 mod text;
@@ -92,5 +94,7 @@ pub use host::{Heard, Host, Kind, MAX_AWAITED, RESTART_LENGTH};
 pub use identities::{Identity, MAX_KEPT_BODY};
 pub use messages::{ClockAck, Message, OtherCode};
 pub use pieces::Piece;
+#[cfg(feature = "std")]
+pub use port::{Port, now};
 pub use positions::{Placement, Position};
 pub use squares::Square;
