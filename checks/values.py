@@ -108,7 +108,8 @@ def check_fields(dgt):
 
 # ---- Calls with wrong arguments, and copies
 
-WRONG = (None, 5, -1, 1.5, math.nan, math.inf, 2**70, "text", "\0", "9" * 5000, b"text", [1], {})
+KINGS, LONG = "k7/8/8/8/8/8/8/K7", 5000 * "9"
+WRONG = (None, 5, -1, 1.5, math.nan, math.inf, 2**70, "text", "\0", LONG, b"text", [1], {})
 
 
 def calls(dgt):
@@ -184,6 +185,8 @@ def check_refusals(dgt):
         (lambda: dgt.follow("/", None), dgt.BadValue,
          "period must be a number of seconds, 0.1 or more: None"),
         (lambda: dgt.MoveRecogniser(5), dgt.BadFen, "no text: 5"),
+        (lambda: dgt.GameState.parse(f"{KINGS} w - - 0 {LONG}"), dgt.BadFen,
+         f"no two counts at the end: '{KINGS} w - - 0 {LONG}'"),
         (lambda: dgt.MoveRecogniser(settle=-1), dgt.BadValue,
          "settle must be a number of seconds, 0.0 or more: -1"),
         (lambda: dgt.MoveRecogniser().see(None, 0.0), TypeError, "this must be a Position: None"),
