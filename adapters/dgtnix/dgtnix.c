@@ -26,7 +26,7 @@ enum { SERIAL_TEXT = 0x1f00, BUS_ADDRESS_TEXT, VERSION_TEXT, TRADEMARK_TEXT, DRI
 
 enum {
     CLICK = 1,         /* the event "a piece was lifted", which eboard takes for a click */
-    SETTLE = 300,      /* for how long a move rests before it is told */
+    SETTLE = 300,      /* for how long a move rests before it is reported */
     BOARD_WAIT = 3000, /* for all squares, at the start */
     TEXTS_WAIT = 700   /* for the texts, which a board needn't have */
 };
@@ -56,7 +56,7 @@ static enum plays plays;
 static int settle;
 
 static pthread_mutex_t lock = PTHREAD_MUTEX_INITIALIZER;
-static char shown[65]; /* under the lock: what stands on the board, as GetBoard tells it */
+static char shown[65]; /* under the lock: what stands on the board, as GetBoard returns it */
 
 /* ---- Events for eboard */
 

@@ -10,7 +10,7 @@ typedef struct line {
     long long look;        /* when to look for the lost port again */
     dgt_follower follower; /* decides when to ask and what, and knows the squares */
     dgt_decoder decoder;   /* gets the same bytes, and reports the events: the follower doesn't */
-    int texts;             /* how many of the texts below were told */
+    int texts;             /* how many of the texts below were received */
     char serial[8], version[16], trademark[128];
 } line;
 

@@ -21,7 +21,7 @@ typedef struct move {
     uint8_t becomes;   /* what stands on `to` now: not the same where a pawn was promoted */
     bool may_castle;   /* a rook stands beside its king as if both were about to castle */
     bool corrects;     /* it stands in place of the last move */
-    uint8_t after[64]; /* the position behind the whole move */
+    uint8_t after[64]; /* the position after the whole move */
 } move;
 
 /* Finds the one move that leads from one position to the other, by geometry alone. Pieces go as
@@ -30,7 +30,7 @@ typedef struct move {
  * still be there. */
 bool find_move(const uint8_t before[64], const uint8_t now[64], move *found);
 
-enum { REMEMBERED = 32 }; /* so many moves can be taken back */
+enum { REMEMBERED = 32 }; /* the moves that can be taken back */
 
 typedef struct past {
     uint8_t before[64]; /* the position before the move */
@@ -41,7 +41,7 @@ typedef struct past {
 /* What the board's position means in the game. */
 enum reading {
     THE_SAME,
-    A_MOVE,     /* told once it has rested, or was answered */
+    A_MOVE,     /* reported once it has rested, or was answered */
     TAKEN_BACK, /* a position before one of the last moves */
     NEW_GAME,   /* the position in which a game begins */
     SET_UP,     /* any position, put up with the kings last; it begins a game once it has rested */
@@ -57,16 +57,16 @@ enum plays { BY_THE_BOARD, PLAYS_WHITE, PLAYS_BLACK, PLAYS_BOTH };
 typedef struct game {
     enum plays plays;
     bool turned;
-    uint8_t told[64]; /* the position behind the last move that was told */
+    uint8_t told[64]; /* the position after the last move that was reported */
     uint8_t now[64];  /* what stands on the board */
     past moves[REMEMBERED];
     int moves_made;   /* how many of them are known */
-    int moves_told;   /* with those behind them that were taken back: at least as many */
+    int moves_told;   /* with those after them that were taken back: at least as many */
     bool kings_off;   /* both kings were taken off: something new is being set up */
     bool is_early;    /* one side has moved, but it is the other side's turn: */
-    move early;       /* its move, which is told once the other side's is there */
+    move early;       /* its move, which is reported once the other side's is there */
     bool is_held;     /* a move waited, and the hand went on before it had rested: */
-    move held;        /* it is told if what follows is the answer to it */
+    move held;        /* it is reported if what follows is the answer to it */
     enum reading reading;
     move next;        /* where reading is A_MOVE */
     long long due;    /* when the position has rested that is waited for, or 0 */

@@ -193,7 +193,7 @@ def compare(dgt, table, text):
             raise Wrong(f"the game has {own}, and made were {made[number:number + 1]}")
         colours.append("White" if "DGT" in heads["White"] else "Black")
     if len(colours) != len(made) or not sent_all(table.told(), made):
-        raise Wrong(f"told {table.told()}, made {made}")
+        raise Wrong(f"reported {table.told()}, made {made}")
     return colours
 
 
