@@ -36,7 +36,9 @@ impl SevenBit {
         ensures low_bits { number result ≡ value % 128 }
         ensures small { value < 128 → number result ≡ value }
     {
-        SevenBit { value: value & 0x7f }
+        SevenBit {
+            value: value & 0x7f,
+        }
     }
 
     /// The byte, from 0 to 127.

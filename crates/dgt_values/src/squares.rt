@@ -33,7 +33,9 @@ impl Square {
         ensures low_bits { square_number result ≡ index % 64 }
         ensures small { index < 64 → square_number result ≡ index }
     {
-        Square { index: index & 0x3f }
+        Square {
+            index: index & 0x3f,
+        }
     }
 
     /// The number, from 0 to 63.
