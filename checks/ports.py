@@ -360,6 +360,7 @@ def leaving(dgt, line):
                           stderr=subprocess.DEVNULL) as ran:
         ran.stdout.readline()
         wanted("in another program", is_held(), True)
+        time.sleep(0.5)  # until it waits
         ran.send_signal(signal.SIGINT)
         ran.stdout.readline()
         wanted("after Ctrl-C, whose traceback is kept", is_held(), False)

@@ -140,7 +140,7 @@ def calls(dgt):
         (dgt.Position.of_letters, LETTERS), (position.differ, position),
         (dgt.square_number, "e2"), (dgt.piece_code, "P"), (dgt.segment, "1"),
         (dgt.GameState.parse, dgt.START_FEN), (dgt.GameState.place, LETTERS, True),
-        (state.after, "e2e4"), (dgt.san, state, "e2e4"), (dgt.PgnGame().add, "e2e4"),
+        (state.after, "e2e4"), (dgt.san, state, "e2e4"), (dgt.PgnGame().add, "e2e4", None),
         (dgt.MoveRecogniser, dgt.START_FEN, 0.3, 1.0), (recogniser.see, position, 0.0),
         (recogniser.wait, 0.0), (dgt.Games, len, len, None, {}, "left", dgt.START_FEN, ""),
         (games.see, dgt.BoardView(position), 0.0), (games.set_tags, {}, True), (games.wait, 0.0),
@@ -148,6 +148,7 @@ def calls(dgt):
         (lambda tags: dgt.PgnGame(tags).text(), {"White": "Ann"}),
         (lambda name: dgt.PgnGame({name: ""}).text(), "White"),
         (lambda value: dgt.PgnGame({"White": value}).text(), "Ann"),
+        (lambda result: dgt.PgnGame(result=result).text(), "*"),
     ]
 
 
@@ -192,6 +193,9 @@ def check_refusals(dgt):
         (lambda: dgt.MoveRecogniser().see(None, 0.0), TypeError, "this must be a Position: None"),
         (lambda: dgt.Games(len, len, white_clock="top"), dgt.BadValue,
          "white_clock must be left or right: 'top'"),
+        (lambda: dgt.PgnGame(result=1).text(), dgt.BadValue,
+         "result must be one of 1-0, 0-1, 1/2-1/2, *: 1"),
+        (lambda: dgt.PgnFile("\0"), OSError, "[Errno 2] there is no such file: '\\x00'"),
         (lambda: dgt.PgnGame({"Round": 3}).text(), dgt.BadValue,
          "the tag Round must be a text: 3"),
     ]:

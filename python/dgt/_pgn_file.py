@@ -12,6 +12,7 @@ from collections.abc import Iterator
 from dataclasses import dataclass
 
 from ._handle import Uncopied
+from .values import checked
 
 _TRIES = 200
 _TRY_EACH = 0.01
@@ -52,6 +53,8 @@ class PgnFile(Uncopied):
     def __init__(self, name: str) -> None:
         """`OSError` if there is no such folder, no file can be made there, or the name is that of
         something else than a file."""
+        if "\0" in os.fspath(name):
+            raise OSError(errno.ENOENT, "there is no such file", name)
         self.name = name
         self._games: list[KeptGame] = []  # a game is one of them once it has a text
         self._last = KeptGame()
@@ -67,7 +70,7 @@ class PgnFile(Uncopied):
 
     def put(self, text: str, game: KeptGame | None = None) -> None:
         """Sets the text of a game, or else of the last one, for `save` to write."""
-        game = game or self._last
+        game = checked(game or self._last, KeptGame)
         game.text = str.rstrip(text, "\n").encode(errors="replace")
         if not game.is_listed:
             game.is_listed = True

@@ -110,8 +110,9 @@ class PgnGame:
         return self.moves[-1].after if self.moves else self.start
 
     def add(self, move: str, clock: Time | None = None) -> PgnMove:
-        """Adds a move. `IllegalMove` if it is none."""
+        """Adds a move. `IllegalMove` if it is none, `TypeError` if the clock is no `Time`."""
         before = self.state
+        clock = None if clock is None else checked(clock, Time)
         added = PgnMove(move, san(before, move), before, before.after(move), clock)
         self.moves.append(added)
         return added
@@ -172,6 +173,7 @@ class _GameText:
     def text(self) -> str:
         """Returns what `PgnGame.text` does."""
         game = self._game
+        heads = "".join(f"{head}\n" for head in game._heads())
         for at in range(len(self._marks), len(game.moves)):
             self._marks.append((len(self._parts), len(self._parts[-1]), self._column))
             more, self._column = _filled(game._words(at), self._column)
@@ -179,7 +181,6 @@ class _GameText:
             if len(self._parts[-1]) > _PART:
                 self._parts.append("")
         last, _ = _filled(game._last_words(), self._column)
-        heads = "".join(f"{head}\n" for head in game._heads())
         return "".join([heads, "\n", *self._parts, last, "\n"])
 
 
