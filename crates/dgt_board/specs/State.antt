@@ -20,6 +20,18 @@ pub record IdentityContent : Type 0 where
   pub clock_version : ℕ
   pub long_serial : List ℕ
 
+-- what a board reports of itself is short: none of it makes a message longer than a dump
+pub record IsShortIdentity (identity : IdentityContent) : Type 0 where
+  pub serial : length identity.serial ≤ 64
+  pub trademark : length identity.trademark ≤ 64
+  pub battery : length identity.battery ≤ 64
+  pub long_serial : length identity.long_serial ≤ 64
+
+-- and so is what it reports of its clock
+abbrev pub IsShortClock : ClockState → Type 0
+IsShortClock (ClockState.times readings) = Unit {0}
+IsShortClock (ClockState.no_clock absence) = length absence.raw ≤ 63
+
 -- the bytes of a body that a board keeps
 pub record IsKeptBody (body : List ℕ) : Type 0 where
   pub short : length body ≤ MAX_KEPT_BODY

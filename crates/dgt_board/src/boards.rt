@@ -8,14 +8,14 @@ ghost use Rattle.dgt_message.specs.Content.{clock_seen};
 ghost use Rattle.dgt_message.specs.Encoding.{encoding};
 ghost use Rattle.dgt_command.specs.Content.{command_event_content};
 ghost use Rattle.dgt_command.specs.Words.{IsPartial, IsWord};
-ghost use Rattle.dgt_board.specs.State.{after_change, after_hand_clock};
+ghost use Rattle.dgt_board.specs.State.{IsShortClock, IsShortIdentity, after_change, after_hand_clock};
 ghost use Rattle.dgt_board.specs.Sending.{left_to_send, next_message};
 ghost use Rattle.dgt_board.specs.View.{HasTaken, IsBoard, Polls, after_bytes, new_view, view_after_line_lost};
 
 use crate::identities::Identity;
 use crate::modes::Mode;
 use crate::sending::{MAX_SENT, Polled};
-use crate::state::{MAX_OWED, State};
+use crate::state::{MAX_OWED, State, is_short_clock};
 use dgt_command::{CommandEvent, MAX_WORD, WordFramer};
 use dgt_message::Clock;
 use dgt_values::{Piece, Position, Square};
@@ -180,6 +180,16 @@ impl Board {
         ensures board { IsBoard self.now }
     {
         self.state.owed.len()
+    }
+
+    /// Does nothing. It stands for a fact: no message that reports the identity or the clock is
+    /// longer than a dump.
+    pub fn reports_are_short(&self)
+        ensures identity { IsShortIdentity self.now.state.identity }
+        ensures clock { IsShortClock self.now.state.clock }
+    {
+        self.state.identity.is_short();
+        is_short_clock(&self.state.clock);
     }
 
     /// How many bytes are held of an unfinished command.

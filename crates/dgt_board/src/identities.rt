@@ -2,7 +2,7 @@
 
 ghost use Rattle.std.specs.Prelude.{◌≡◌, ◌<◌, ◌≤◌, ◌⊎◌, ◌↔◌, length, map, All, IfOk, IsErr, MatchResult};
 ghost use Rattle.dgt_values.specs.Bytes.{body_bytes, number};
-ghost use Rattle.dgt_board.specs.State.{IsKeptBody};
+ghost use Rattle.dgt_board.specs.State.{IsKeptBody, IsShortIdentity};
 
 use arrayvec::ArrayVec;
 use dgt_values::{Body, SevenBit};
@@ -114,6 +114,16 @@ impl Identity {
         ensures short { length self.now.trademark ≤ MAX_KEPT_BODY }
     {
         Body::from_seven_bit(self.trademark.as_slice())
+    }
+
+    // Nothing of it makes a message longer than a dump.
+    pub(crate) fn is_short(&self)
+        ensures { IsShortIdentity self.now }
+    {
+        self.serial();
+        self.trademark();
+        self.battery();
+        self.long_serial();
     }
 
     pub(crate) fn main(&self) -> SevenBit

@@ -4,7 +4,7 @@ ghost use Rattle.std.specs.Prelude.{◌≡◌, ◌<◌, ◌++◌, ◌&&◌, not,
 ghost use Rattle.dgt_values.specs.Board.{pieces_of, square_number};
 ghost use Rattle.dgt_message.specs.Content.{clock_seen};
 ghost use Rattle.dgt_command.specs.Content.{clock_content, command_content, command_event_content};
-ghost use Rattle.dgt_board.specs.State.{acknowledgements, after_change, after_command, after_hand_clock, after_line_lost, effect, follows_clock, is_reported, new_board};
+ghost use Rattle.dgt_board.specs.State.{IsShortClock, acknowledgements, after_change, after_command, after_hand_clock, after_line_lost, effect, follows_clock, is_reported, new_board};
 
 use crate::identities::Identity;
 use crate::modes::Mode;
@@ -16,6 +16,15 @@ use dgt_values::{Piece, Position, Square};
 
 /// The most replies that a board owes.
 pub const MAX_OWED: usize = 8;
+
+// What a clock reports makes no message longer than a dump.
+pub(crate) fn is_short_clock(clock: &Clock)
+    ensures { IsShortClock (clock_seen clock.now) }
+{
+    if let Clock::NoClock(absence) = clock {
+        absence.raw();
+    }
+}
 
 /// All that a board keeps but the bytes of an unfinished command.
 #[derive(Drop)]

@@ -13,12 +13,12 @@ use Rattle.dgt_message.specs.Encoding.{encoding}
 use Rattle.dgt_command.specs.Content.{EventContent}
 use Rattle.dgt_command.specs.Laws.{NoWordBeginsAPart, WordsAreShort}
 use Rattle.dgt_board.specs.declared.replies.Reply.{Reply}
-use Rattle.dgt_board.specs.State.{BoardState, effect, effects}
+use Rattle.dgt_board.specs.State.{BoardState, IsShortClock, IsShortIdentity, effect, effects}
 use Rattle.dgt_board.specs.Sending.{clock_news, field_of, next_message, reply_message, unreported_squares}
 use Rattle.dgt_link.specs.Act.{ActContent}
 use Rattle.dgt_link.specs.declared.acts.Outcome.{Outcome}
 use Rattle.dgt_link.specs.Healing.{IsRestedWorld}
-use Rattle.dgt_link.specs.Settling.{HasRounds, IsRound, IsSettling, IsShortClock, IsShortIdentity, steps_left}
+use Rattle.dgt_link.specs.Settling.{HasRounds, IsRound, IsSettling, steps_left}
 use Rattle.dgt_link.specs.Stands.{IsWorld}
 use Rattle.dgt_link.specs.Step.{Becomes, Runs, Step, done_count, moves_nothing, outcome, sending_outcome}
 use Rattle.dgt_link.specs.View.{LineContents, WorldView, overflows}

@@ -1,8 +1,6 @@
 -- How a world comes to rest: what is under way is delivered, and the board sends what it owes.
 use Rattle.std.specs.Prelude.{◌≡◌, ℕ, zero, suc, ◌+◌, ◌*◌, ◌<◌, ◌≤◌, List, [], ◌∷◌, ◌++◌, length, replicate, None, IsSome, Contains}
 use Rattle.std.specs.List.{AllByRecursion}
-use Rattle.dgt_message.specs.Clock.{ClockState}
-use Rattle.dgt_board.specs.State.{IdentityContent}
 use Rattle.dgt_board.specs.Sending.{backlog, next_message}
 use Rattle.dgt_link.specs.declared.acts.Outcome.{Outcome}
 use Rattle.dgt_link.specs.Act.{ActContent}
@@ -90,15 +88,3 @@ HasRounds zero acts = AllByRecursion IsSettling acts
 HasRounds (suc rounds) acts =
     (round : List ActContent) × (later : List ActContent) × (acts ≡ round ++ later) × IsRound round
     × HasRounds rounds later
-
--- what a board reports of itself is short: none of it makes a message longer than a dump
-pub record IsShortIdentity (identity : IdentityContent) : Type 0 where
-  pub serial : length identity.serial ≤ 64
-  pub trademark : length identity.trademark ≤ 64
-  pub battery : length identity.battery ≤ 64
-  pub long_serial : length identity.long_serial ≤ 64
-
--- and so is what it reports of its clock
-abbrev pub IsShortClock : ClockState → Type 0
-IsShortClock (ClockState.times readings) = Unit {0}
-IsShortClock (ClockState.no_clock absence) = length absence.raw ≤ 63

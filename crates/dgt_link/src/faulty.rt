@@ -3,7 +3,7 @@
 ghost use Rattle.std.specs.Prelude.{◌≡◌, ◌≢◌, ◌↔◌, ◌<◌, ◌≤◌, ◌+◌, ◌*◌, ◌^◌, ℕ, List, [], ◌∷◌, Some, IsTrue};
 ghost use Rattle.std.specs.Prelude.{IsSome, None, map, length, false, true};
 ghost use Rattle.dgt_board.specs.Sending.{backlog, next_message};
-ghost use Rattle.dgt_board.specs.State.{command_mode, follows_clock, updates};
+ghost use Rattle.dgt_board.specs.State.{IsShortClock, IsShortIdentity, command_mode, follows_clock, updates};
 ghost use Rattle.dgt_board.specs.declared.modes.Mode.{Mode};
 ghost use Rattle.dgt_command.specs.Content.{CommandContent};
 ghost use Rattle.dgt_decode.specs.Grammar.{unfinished_message};
@@ -290,6 +290,14 @@ impl FaultyWorld {
         // how many bytes a line has, and how many replies are owed, is bounded where it is read
         let _coming = self.down.len();
         let _owed = self.board.owed_len();
+    }
+
+    // What its board reports of itself and of its clock is short.
+    pub(crate) fn reports_are_short(&self)
+        ensures identity { IsShortIdentity self.now.board.state.identity }
+        ensures clock { IsShortClock self.now.board.state.clock }
+    {
+        self.board.reports_are_short();
     }
 
     // What the host has unread is an unfinished message.

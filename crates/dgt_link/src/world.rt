@@ -21,7 +21,7 @@ ghost use Rattle.dgt_link.specs.Headline.{AskForPicture, squares_after};
 ghost use Rattle.dgt_link.specs.Stands.{StandsAfterRun, StandsAfterStep, IsExactWorld, IsWorld, StandsFor};
 ghost use Rattle.dgt_link.specs.Promise.{IsAskedBy, IsPromised, IsRestarted, PictureIsComing, act_requests, coming_mode, mode_after};
 ghost use Rattle.dgt_link.specs.Machine.{MachineState, new_state};
-ghost use Rattle.dgt_link.specs.Settling.{SettlesIn};
+ghost use Rattle.dgt_link.specs.Settling.{HasRounds, SettlesIn, steps_left};
 ghost use Rattle.dgt_link.specs.Sound.{IsExact, IsSound, IsUnknownOr};
 ghost use Rattle.dgt_link.specs.Step.{Runs, Step, done_count};
 ghost use Rattle.dgt_link.specs.History.{IsInOrderOf, RunsThrough, shown_in, stood_in};
@@ -253,6 +253,9 @@ impl World {
             (y : MachineState) × StandsFor self.new y × IsPromised y }
         ensures clock_kept { AreClockCalm (map FaultyContent.Plain (map act_content acts.now)) →
             IsClockPromisedWorld self.old → IsClockPromisedWorld self.new }
+        // in whatever order and chunks, if each side moves again and again
+        ensures fair { (rounds : ℕ) → HasRounds rounds (map act_content acts.now) →
+            steps_left self.old < rounds → IsQuietWorld self.new }
         // what the host shows of a square at first and after each act stood there, in this order
         ensures in_order { (outcomes : List Outcome) (worlds : List WorldView) (square : ℕ) →
             RunsThrough (map act_content acts.now) self.old outcomes worlds →
@@ -264,9 +267,14 @@ impl World {
         laws::acts_keep();
         laws::picture_after_acts();
         laws::worlds_show_in_order();
+        laws::fair_rounds_rest();
+        laws::grammars();
         self.stands();
         self.is_world();
-        self.act_all(acts)
+        self.inner.reports_are_short();
+        let done = self.act_all(acts);
+        self.inner.holds_unfinished();
+        done
     }
 
     fn act_all(&mut self, acts: &[Act<'_>]) -> usize
