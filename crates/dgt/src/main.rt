@@ -13,7 +13,9 @@
 mod tests;
 
 use dgt_arguments::refuse_arguments;
-use dgt_program::{Fault, run_words};
+pub use dgt_program as program;
+use dgt_program::Fault;
+pub use dgt_program::run_words;
 use std::env;
 use std::process::ExitCode;
 

@@ -2,17 +2,21 @@
 //! `checks/rows` compares all else that it prints about its words and its input.
 mod helps;
 
+use crate::run_words;
 use dgt_link::WorldFault;
-use dgt_program::{Fault, run_words};
+use dgt_program::Fault;
 use dgt_text::RunFault;
 use std::alloc::{AllocError, Global};
 use std::io;
-use std::io::{Cursor, Read, Write};
+use std::io::{Cursor, Read, Write, sink};
 use std::process::Abort;
 use std::test::Fail;
 
 /// Room for all that a run writes, so that the writers take no memory.
 const ROOM: usize = 8192;
+
+/// More reads than 2^20, for whole texts of five bytes.
+const READS: usize = 5 << 18;
 
 /// What a run returned and wrote.
 #[derive(Drop)]
@@ -188,6 +192,52 @@ fn stops_at_a_refused_read(rt: HostRuntime) -> Result<(), Fail> {
         let input = Cursor::new(input).chain(Broken);
         let ran = run(rt.alloc(), line, input, ROOM, true)?;
         compare(&rt, line, &ran, 1, output, "dgt: read failed\n");
+    }
+    Ok(())
+}
+
+/// A reader that gives these bytes again and again, one a read, until it gave `READS` of them.
+#[derive(Drop)]
+struct Dripping {
+    bytes: &'static [u8; 5],
+    given: usize,
+}
+
+impl Read for Dripping {
+    fn read(&mut self, buf: &mut [u8]) -> io::Result<usize> {
+        let Some(first) = buf.first_mut() else {
+            return Ok(0);
+        };
+        if self.given >= READS {
+            return Ok(0);
+        }
+        *first = self.bytes[self.given % 5];
+        self.given += 1;
+        Ok(1)
+    }
+}
+
+#[test]
+fn reads_on_after_a_million_reads(rt: HostRuntime) -> Result<(), Fail> {
+    let (field, beep) = (b"\x8e\x00\x05\x24\x01", b"\x2b\x03\x03\x09\x00");
+    let rows = [
+        ("dgt monitor", field),
+        ("dgt picture", field),
+        ("dgt picture --doubt", field),
+        ("dgt picture --clock", field),
+        ("dgt picture --doubt --clock", field),
+        ("dgt commands", beep),
+        ("dgt board", beep),
+        ("dgt simulate", b"send\n"),
+        ("dgt simulate --faults", b"send\n"),
+    ];
+    for (line, bytes) in rows {
+        let input = Dripping { bytes, given: 0 };
+        let mut errors = Vec::with_capacity(rt.alloc(), ROOM)?;
+        let line_words = words(rt.alloc(), line)?;
+        let status = run_words(rt.alloc(), line_words, input, sink(), &mut errors);
+        assert_eq!(rt; errors.as_slice(), b"".as_slice(), "errors of {line}");
+        assert_eq!(rt; status, 0, "status of {line}");
     }
     Ok(())
 }

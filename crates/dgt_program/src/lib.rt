@@ -26,7 +26,8 @@
 #![tactic(auto)]
 
 mod fault;
+pub mod laws;
 mod program;
 
 pub use fault::Fault;
-pub use program::run_words;
+pub use program::{MOST_TURNS, run_words};

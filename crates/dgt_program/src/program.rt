@@ -12,8 +12,8 @@ use hex::FromHexError;
 use std::alloc::Global;
 use std::io::{Read, Write};
 
-/// The reads that an engine makes at most.
-const MOST_TURNS: u32 = u32::MAX;
+/// The reads that an engine of the program makes at most.
+pub const MOST_TURNS: u32 = u32::MAX;
 
 /// Does what the words ask for, of which the first is the program's name, and answers the exit
 /// status.
