@@ -64,6 +64,12 @@ impl Port {
     /// Opens a port, and locks it and sets it up by the commands `flock` and `stty`. The fault is
     /// that of opening, or says that the port is in use or is no serial port. It never waits for a
     /// board.
+    ///
+    /// ```
+    /// use dgt::Port;
+    ///
+    /// assert_eq!(Port::open("/dev/null").unwrap_err().to_string(), "not a serial port");
+    /// ```
     pub fn open(path: impl AsRef<Path>) -> io::Result<Self> {
         let (mut options, mut set_up) = (File::options(), Command::new("sh"));
         options.read(true).write(true).custom_flags(O_NOCTTY | O_NONBLOCK);
