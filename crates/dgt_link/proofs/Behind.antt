@@ -8,7 +8,7 @@ use Rattle.dgt_values.specs.declared.pieces.Piece.{Piece}
 use Rattle.dgt_values.specs.declared.kinds.Kind.{Kind}
 use Rattle.dgt_message.specs.Content.{Content, IsMessage, answered_kind}
 use Rattle.dgt_message.specs.Clock.{ClockState}
-use Rattle.dgt_message.specs.Encoding.{encoding}
+use Rattle.dgt_message.specs.Encoding.{Encodes, encoding}
 use Rattle.dgt_command.specs.Content.{CommandContent, requested_kind}
 use Rattle.dgt_board.specs.State.{BoardState, after_change, after_hand_clock}
 use Rattle.dgt_board.specs.Sending.{after_sending, next_message}
@@ -21,8 +21,8 @@ use Rattle.dgt_link.specs.Act.{ActContent}
 use Rattle.dgt_link.specs.declared.acts.Outcome.{Outcome}
 use Rattle.dgt_link.specs.Machine.{MachineState, Move, after_moves}
 use Rattle.dgt_link.specs.Sound.{IsSound, IsSubsequence, IsUnknownOr, coming_kinds}
-use Rattle.dgt_link.specs.Step.{Becomes, Step}
-use Rattle.dgt_link.specs.View.{WorldView, without_first}
+use Rattle.dgt_link.specs.Step.{Becomes, Step, with_state}
+use Rattle.dgt_link.specs.View.{WorldView, with_bytes, without_first}
 use Rattle.dgt_link.specs.Healing.{AwaitsWhatComes, StandsBehind, StandsBehindAfter}
 use Rattle.dgt_link.proofs.Dividing.{divides_command}
 use Rattle.dgt_link.proofs.Hearing.{heard_prefix, host_after_messages}
@@ -33,6 +33,17 @@ use Rattle.dgt_link.proofs.Soundness.{ask-kinds, asked_sound, move_sound}
 use Rattle.dgt_link.proofs.Subsequences.{awaited_after-subsequence, subsequence_append, subsequence_later}
 use Rattle.dgt_link.specs.Readers.{Grammars}
 use Rattle.dgt_link.proofs.Standing.{prefix_of, hears, taken_state, takes, with_host, taken_as}
+
+-- a message is sent
+abbrev pub Sends : Content → WorldView → WorldView → Type 0
+Sends message world after =
+    (next_message world.board.state ≡ Some message) × Encodes message (encoding message)
+    × (after ≡ record (with_state world (after_sending world.board.state message)) {
+      up = with_bytes world.up (encoding message);
+    })
+
+abbrev pub after_sent : MachineState → Content → MachineState
+after_sent x message = record x { board = after_sending x.board message; up = x.up ++ message ∷ [] }
 
 -- ---- what a host knows that began with less
 
@@ -317,6 +328,25 @@ module _ (laws : Grammars) where
         (subsequence_append world.host.awaited (coming_kinds x) (option_to_list (requested_kind command)) a)),
   )
 
+  -- the board sends this message
+  pub sent_behind : (garbage : List ℕ) (world after : WorldView) (x : MachineState) (message : Content)
+      → StandsBehind garbage world x → Sends message world after
+      → StandsBehind garbage after (after_sent x message)
+  sent_behind garbage world after x message stands (is_next, encodes, same) =
+      let by = next_is_sent x message (ap next_message (sym stands.board) ∙ is_next) in
+      rw same
+      (assumption (
+        rw by.2 at (move_sound x by.0 stands.sound),
+        ap (λ (board : BoardState). after_sending board message) stands.board,
+        all_append IsMessage x.up (message ∷ []) stands.are_messages (encodes.is_message, tt),
+        sym (append_assoc world.host.unread world.up.bytes (encoding message))
+            ∙ ap (λ (prefix : List ℕ). prefix ++ encoding message) stands.up
+            ∙ append_assoc garbage (flat_map encoding x.up) (encoding message)
+            ∙ ap (λ (behind : List ℕ). garbage ++ behind)
+            (sym (flat_map-append encoding x.up (message ∷ [])
+            ∙ ap (λ (last : List ℕ). flat_map encoding x.up ++ last) (append-nil (encoding message)))),
+      ))
+
   send_behind : (garbage : List ℕ) (world after : WorldView) (x : MachineState) → StandsBehind garbage world x
       → Becomes ActContent.BoardSend world after → StandsBehindAfter ActContent.BoardSend Outcome.Done world x after
   send_behind garbage world after x stands (message, is_next, encodes, same) =
@@ -324,18 +354,7 @@ module _ (laws : Grammars) where
         garbage,
         by.0 ∷ [],
         (by.0, by.1, refl),
-        rw (same, by.2)
-            (assumption (
-              rw by.2 at (move_sound x by.0 stands.sound),
-              ap (λ (board : BoardState). after_sending board message) stands.board,
-              all_append IsMessage x.up (message ∷ []) stands.are_messages (encodes.is_message, tt),
-              sym (append_assoc world.host.unread world.up.bytes (encoding message))
-                  ∙ ap (λ (prefix : List ℕ). prefix ++ encoding message) stands.up
-                  ∙ append_assoc garbage (flat_map encoding x.up) (encoding message)
-                  ∙ ap (λ (behind : List ℕ). garbage ++ behind)
-                  (sym (flat_map-append encoding x.up (message ∷ [])
-                  ∙ ap (λ (last : List ℕ). flat_map encoding x.up ++ last) (append-nil (encoding message)))),
-            )),
+        rw by.2 (sent_behind garbage world after x message stands (is_next, encodes, same)),
         rw (same, by.2) (λ a.
             let also = next_is_sent (awaiting x world.host.awaited) message
             (ap next_message (sym stands.board) ∙ is_next) in

@@ -476,6 +476,13 @@ faulty_runs (act ∷ acts) world after (answer ∷ answers) (between, step, runs
     (between, faulty_step act world answer between step, faulty_runs acts between after answers runs)
 faulty_runs _ world after _ none = absurd none
 
+pub plain_runs : (acts : List ActContent) (world after : WorldView) (answers : List Outcome)
+    → FaultyRuns (map FaultyContent.Plain acts) world answers after → Runs acts world answers after
+plain_runs [] world after [] same = same
+plain_runs (act ∷ acts) world after (answer ∷ answers) (between, step, runs) =
+    (between, plain_step act world answer between step, plain_runs acts between after answers runs)
+plain_runs _ world after _ none = absurd none
+
 module _ (laws : Grammars) where
   breaks_after : (c : Counted) (world : WorldView) (answer : Outcome) (after : WorldView) → IsSane world
       → Step ActContent.Break world answer after

@@ -133,7 +133,7 @@ module _ (square : ℕ) where
 
   -- ---- what a message of the board shows
 
-  abbrev ShowsNow : BoardState → Content → Type 0
+  abbrev pub ShowsNow : BoardState → Content → Type 0
   ShowsNow board message =
       (picture : Option (List Piece))
       → (shown square (picture_after picture message) ≡ shown square picture)
@@ -177,11 +177,11 @@ module _ (square : ℕ) where
 
   -- ---- moves
 
-  abbrev now : MachineState → Piece
+  abbrev pub now : MachineState → Piece
   now x = piece_on x.board.squares square
 
   -- what was shown, is shown and will be by what is under way, stood there in this order
-  abbrev Goes : List Piece → List Piece → MachineState → Type 0
+  abbrev pub Goes : List Piece → List Piece → MachineState → Type 0
   Goes seen before x = IsInOrderOf (seen ++ along x.picture x.up) (before ++ now x ∷ [])
 
   abbrev GoesOn : List Piece → List Piece → MachineState → MachineState → Type 0
@@ -244,7 +244,7 @@ module _ (square : ℕ) where
       go (inl e) = rw e (same last refl)
       go (inr e) = rw e (last_shown (seen ++ along x.picture x.up) before (now x) goes)
 
-  sends : (seen before : List Piece) (x y : MachineState) (message : Content) → ShowsNow x.board message
+  pub sends : (seen before : List Piece) (x y : MachineState) (message : Content) → ShowsNow x.board message
       → y.picture ≡ x.picture → y.up ≡ x.up ++ message ∷ [] → Goes seen before x → GoesOn seen before x y
   sends seen before x y message shows picture up goes =
       rw (picture, up)
@@ -299,7 +299,7 @@ module _ (square : ℕ) where
   goes_on seen before x (Move.HostBreak noise is_noise) goes =
       lost seen before x (after_move x (Move.HostBreak noise is_noise)) refl refl goes
 
-  goes_all : (seen before : List Piece) (x : MachineState) (moves : List Move) → Goes seen before x
+  pub goes_all : (seen before : List Piece) (x : MachineState) (moves : List Move) → Goes seen before x
       → IsInOrderOf (seen ++ shown_on square x moves) (before ++ stood_on square x moves)
   goes_all seen before x [] goes =
       let b = begins x.picture x.up in
@@ -383,8 +383,8 @@ module _ (square : ℕ) where
   act_goes seen before x ActContent.HostBreak moves (noise, is_noise, are) goes =
       rw are (goes_on seen before x (Move.HostBreak noise is_noise) goes)
 
-  step_goes : (seen before : List Piece) (x : MachineState) (act : ActContent) (answer : Outcome) (moves : List Move)
-      → AreMovesOfStep act answer moves → Goes seen before x
+  pub step_goes : (seen before : List Piece) (x : MachineState) (act : ActContent) (answer : Outcome)
+      (moves : List Move) → AreMovesOfStep act answer moves → Goes seen before x
       → Goes (seen ++ shown square x.picture) (before ++ now x ∷ []) (after_moves x moves)
   step_goes seen before x act Outcome.Done moves are goes = act_goes seen before x act moves are goes
   step_goes seen before x act _ moves are goes = rw are (still seen before x x refl refl goes)

@@ -37,3 +37,4 @@ pub mod Headlines
 pub mod Restarting
 pub mod ActKinds
 pub mod Asked
+pub mod Dumps

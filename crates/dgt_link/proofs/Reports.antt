@@ -25,7 +25,7 @@ use Rattle.dgt_link.proofs.Clocks.{no_break, step_is_no_break}
 use Rattle.dgt_link.proofs.Behind.{ActsBehind}
 use Rattle.dgt_link.proofs.Asking.{step_is_other}
 use Rattle.dgt_link.proofs.Counting.{forgotten, forgotten_stands}
-use Rattle.dgt_link.proofs.Promises.{picture_after_known}
+use Rattle.dgt_link.proofs.Promises.{picture_after_known, picture_stays_known}
 use Rattle.dgt_link.proofs.Lists.{all_append, left_empty, right_empty}
 use Rattle.dgt_link.proofs.History.{in_order}
 use Rattle.dgt_link.proofs.AfterMoves.{moves_sound}
@@ -50,7 +50,7 @@ last_of (first ∷ prefix) back (y ∷ xs) x e =
 
 -- ---- a move that is no break
 
-abbrev IsPlain : Move → Type 0
+abbrev pub IsPlain : Move → Type 0
 IsPlain move = (move ≢ Move.Break) × (¬ (IsHostBreak move))
 
 -- what a move that hears nothing makes of what is under way, and of the picture
@@ -97,6 +97,37 @@ move_sends x Move.ReportClock plain other =
 move_sends x Move.Hear plain other = absurd (other refl)
 move_sends x Move.Break plain other = absurd (plain.0 refl)
 move_sends x (Move.HostBreak noise is_noise) plain other = absurd (plain.1 tt)
+
+-- a picture that is known stays so
+hear_stays_seen : (x : MachineState) (up : List Content) → IsSome x.picture → IsSome (after_hear x up).picture
+hear_stays_seen x [] some = some
+hear_stays_seen x (message ∷ later) some = picture_after_known x.picture message some
+
+seen_stays : (x : MachineState) (move : Move) → IsPlain move → IsSome x.picture → IsSome (after_move x move).picture
+seen_stays x (Move.Change square piece) plain some = some
+seen_stays x (Move.HandClock clock) plain some = some
+seen_stays x (Move.Ask command) plain some = some
+seen_stays x Move.Take plain some = rw (take_sends x).1 some
+seen_stays x Move.Reply plain some = rw (reply_sends x x.board.owed).1 some
+seen_stays x (Move.Report square) plain some =
+    rw (reported_if x (updates x.board.mode && differs x.board square) (field_of x.board square)).1 some
+seen_stays x Move.ReportClock plain some =
+    rw (reported_if x x.board.times_owed (clock_message x.board.clock)).1 some
+seen_stays x Move.Hear plain some = hear_stays_seen x x.up some
+seen_stays x Move.Break plain some = absurd (plain.0 refl)
+seen_stays x (Move.HostBreak noise is_noise) plain some = absurd (plain.1 tt)
+
+pub seen_by_all : (x : MachineState) (moves : List Move) → AllByRecursion IsPlain moves → IsSome x.picture
+    → IsSome (after_moves x moves).picture
+seen_by_all x [] all some = some
+seen_by_all x (move ∷ moves) all some = seen_by_all (after_move x move) moves all.1 (seen_stays x move all.0 some)
+
+-- and so does one that is known once all messages under way are heard
+pub comes_by_all : (x : MachineState) (moves : List Move) → AllByRecursion IsPlain moves → IsSome (coming_picture x)
+    → IsSome (coming_picture (after_moves x moves))
+comes_by_all x [] all some = some
+comes_by_all x (move ∷ moves) all some =
+    comes_by_all (after_move x move) moves all.1 (picture_stays_known x move all.0.0 all.0.1 some)
 
 -- at most one message is sent
 abbrev IsOneAtMost : List Content → Type 0
@@ -276,7 +307,7 @@ both_all : {X : Type 0} (P Q : X → Type 0) (xs : List X) → AllByRecursion P 
 both_all P Q [] p q = tt
 both_all P Q (x ∷ xs) p q = ((p.0, q.0), both_all P Q xs p.1 q.1)
 
-step_is_plain : (act : ActContent) (answer : Outcome) (moves : List Move) → is_break act ≡ false
+pub step_is_plain : (act : ActContent) (answer : Outcome) (moves : List Move) → is_break act ≡ false
     → AreMovesOfStep act answer moves → AllByRecursion IsPlain moves
 step_is_plain act answer moves other are =
     both_all (λ move. move ≢ Move.Break) (λ move. ¬ (IsHostBreak move)) moves

@@ -1,7 +1,9 @@
 //! A world whose lines and whose board's power may fail.
 
 ghost use Rattle.std.specs.Prelude.{◌≡◌, ◌≢◌, ◌↔◌, ◌<◌, ◌≤◌, ◌+◌, ◌*◌, ◌^◌, ℕ, List, [], ◌∷◌, Some, IsTrue};
-ghost use Rattle.std.specs.Prelude.{IsSome, None, map, length, false, true};
+ghost use Rattle.std.specs.Prelude.{◌++◌, IsSome, None, map, length, false, true};
+ghost use Rattle.std.specs.List.{AllByRecursion};
+ghost use Rattle.dgt_message.specs.Content.{Content};
 ghost use Rattle.dgt_board.specs.Sending.{backlog, next_message};
 ghost use Rattle.dgt_board.specs.State.{IsShortClock, IsShortIdentity, command_mode, follows_clock, updates};
 ghost use Rattle.dgt_board.specs.declared.modes.Mode.{Mode};
@@ -12,12 +14,13 @@ ghost use Rattle.dgt_link.specs.Settling.{IsNext, SettlesIn};
 ghost use Rattle.dgt_link.specs.Work.{work_left};
 ghost use Rattle.dgt_link.specs.declared.acts.Outcome.{Outcome as Answer};
 ghost use Rattle.dgt_link.specs.Clocks.{AreClockCalm, IsClockFollowing, IsClockPromisedWorld, stops_clock};
-ghost use Rattle.dgt_link.specs.Faults.{AreCalm, AreFaultless, FaultyContent, FaultyRuns, FaultyStep, IfRan, begins_anew, faulty_content, is_fault, loses_step, sends, stops};
+ghost use Rattle.dgt_link.specs.Faults.{AreCalm, AreFaultless, FaultyContent, FaultyRuns, FaultyStep, IfRan, begins_anew, faulty_content, is_break, is_fault, loses_step, sends, stops};
 ghost use Rattle.dgt_link.specs.Healing.{IsClockHealing, IsFaultyWorld, IsFollowing, IsHealing, IsInStep, IsInStepBy, IsInTurn, IsInTurnWorld, IsPromisedWorld, IsRestedWorld, StandsBehind, counted_by};
 ghost use Rattle.dgt_link.specs.Machine.{MachineState};
 ghost use Rattle.dgt_message.specs.Picture.{picture_after_all};
 ghost use Rattle.dgt_link.specs.Step.{Step, done_count};
-ghost use Rattle.dgt_link.specs.View.{IsQuietWorld};
+ghost use Rattle.dgt_link.specs.View.{IsQuietWorld, WorldView};
+ghost use Rattle.dgt_link.specs.History.{IsInOrderOf, RunsThrough, shown_in, stood_in};
 
 use crate::acts::{Act, Outcome, count};
 use crate::healing;
@@ -151,6 +154,10 @@ impl FaultyWorld {
 
     /// Does all acts in order and returns how many were `Done`.
     ///
+    /// From any state of the board, the host and both lines: if the first act is a `Restart` that
+    /// has room, the host's picture is the board's position once the world is quiet. The other acts
+    /// have no fault, no reset and no `Break` among them.
+    ///
     /// Whatever was done before and whatever failed: the host's picture is the board's position
     /// once the world is quiet, on two conditions. The host began anew after the last fault, and
     /// the last command since then that sets a mode asks for updates. If the world was in step
@@ -204,8 +211,28 @@ impl FaultyWorld {
             IsQuietWorld self.new → self.new.host.clock ≡ Some self.new.board.state.clock) }
         ensures clock_kept { AreClockCalm (map faulty_content acts.now) →
             IsClockPromisedWorld self.old → IsClockPromisedWorld self.new }
+        // between faults and quiet: the board sends a dump first, and no break comes
+        ensures reported { (later : List ActContent) (outcomes : List Answer) →
+            map faulty_content acts.now ≡ map FaultyContent.Plain (ActContent.BoardSend ∷ later) →
+            FaultyRuns (map faulty_content acts.now) self.old (Outcome.Done ∷ outcomes) self.new →
+            AllByRecursion (λ act. is_break act ≡ false) later → IsInStep self.old →
+            next_message self.old.board.state ≡ Some (Content.dump self.old.board.state.squares) →
+            self.new.host.unread ≡ [] → self.new.up.bytes ≡ [] →
+            self.new.host.picture ≡ Some self.new.board.state.reported_squares }
+        // from a moment on when nothing is under way, each square shows what stood there, in order
+        ensures in_order { (later : List ActContent) (outcomes : List Answer)
+            (earlier : List WorldView) (first : WorldView) (others : List WorldView) (square : ℕ) →
+            map faulty_content acts.now ≡ map FaultyContent.Plain (ActContent.BoardSend ∷ later) →
+            RunsThrough (ActContent.BoardSend ∷ later) self.old (Outcome.Done ∷ outcomes)
+            (self.old ∷ (earlier ++ first ∷ others)) →
+            AllByRecursion (λ act. is_break act ≡ false) later → IsInStep self.old →
+            next_message self.old.board.state ≡ Some (Content.dump self.old.board.state.squares) →
+            first.host.unread ≡ [] → first.up.bytes ≡ [] →
+            IsInOrderOf (shown_in square (first ∷ others))
+            (stood_in square (self.old ∷ (earlier ++ first ∷ others))) }
     {
         healing::calm_heals();
+        healing::dumps_are_shown();
         healing::clocks_heal();
         healing::faults_heal();
         healing::steps_heal();
@@ -313,7 +340,8 @@ impl FaultyWorld {
     ///
     /// A world that is promised to heal is quiet then, and the host's picture is the board's
     /// position. In any other the host may still have unread bytes, and the board a part of a
-    /// command.
+    /// command. If the clock is promised, the host's clock is the board's. If each awaited reply
+    /// was still to come, none is awaited any more.
     pub fn settle(&mut self) -> u128
         ensures rested { IsRestedWorld self.new }
         ensures run { SettlesIn result self.old self.new }
@@ -356,7 +384,8 @@ impl FaultyWorld {
     /// of a command and owes nothing.
     ///
     /// A quiet world is in step, whatever failed. If it is promised to heal, the host's picture is
-    /// the board's position, and if its clock is promised, the host's clock is the board's.
+    /// the board's position, and if its clock is promised, the host's clock is the board's. If each
+    /// awaited reply was still to come, none is awaited.
     pub fn quiet(&self) -> bool
         ensures quiet { IsTrue result ↔ IsQuietWorld self.now }
         ensures in_step { IsTrue result → IsInStep self.now }

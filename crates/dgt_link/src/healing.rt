@@ -12,7 +12,10 @@ ghost use Rattle.dgt_board.specs.State.{command_mode, follows_clock, updates};
 ghost use Rattle.dgt_board.specs.declared.modes.Mode.{Mode};
 ghost use Rattle.dgt_link.specs.Machine.{IsHostBreak, MachineState, Move};
 ghost use Rattle.dgt_link.specs.Reported.{IsReportedBy, WasReported};
+ghost use Rattle.dgt_message.specs.Content.{Content};
 ghost use Rattle.dgt_message.specs.Picture.{picture_after_all};
+ghost use Rattle.dgt_board.specs.Sending.{next_message};
+ghost use Rattle.dgt_link.specs.History.{IsInOrderOf, RunsThrough, shown_in, stood_in};
 ghost use Rattle.dgt_link.specs.Act.{ActContent};
 ghost use Rattle.dgt_link.specs.Sound.{IsSound};
 ghost use Rattle.dgt_link.specs.Stands.{IsWorld};
@@ -237,6 +240,30 @@ pub fn pictures_were_reported()
         × (picture_after_all world.host.picture x.up ≡ Some world.board.state.reported_squares) }
 {
     acts_behind_garbage();
+}
+
+/// After faults, in a world in step, let the board send a dump, and let no break come after it.
+/// Whenever nothing is under way to the host then, its picture is what the board has reported. From
+/// the first such moment on, what it shows of a square stood there, in this order.
+pub fn dumps_are_shown()
+    ensures picture { (acts : List ActContent) (world after : WorldView)
+        (answers : List Outcome) → AllByRecursion (λ act. is_break act ≡ false) acts
+        → IsInStep world
+        → next_message world.board.state ≡ Some (Content.dump world.board.state.squares)
+        → Runs (ActContent.BoardSend ∷ acts) world (Outcome.Done ∷ answers) after
+        → after.host.unread ≡ [] → after.up.bytes ≡ []
+        → after.host.picture ≡ Some after.board.state.reported_squares }
+    ensures in_order { (acts : List ActContent) (world : WorldView) (answers : List Outcome)
+        (earlier : List WorldView) (first : WorldView) (later : List WorldView) (square : ℕ)
+        → AllByRecursion (λ act. is_break act ≡ false) acts → IsInStep world
+        → next_message world.board.state ≡ Some (Content.dump world.board.state.squares)
+        → RunsThrough (ActContent.BoardSend ∷ acts) world (Outcome.Done ∷ answers)
+        (world ∷ (earlier ++ first ∷ later)) → first.host.unread ≡ [] → first.up.bytes ≡ []
+        → IsInOrderOf (shown_in square (first ∷ later))
+        (stood_in square (world ∷ (earlier ++ first ∷ later))) }
+{
+    acts_behind_garbage();
+    laws::grammars();
 }
 
 /// What is counted is what the words say. An act with which the host begins anew counts if it is

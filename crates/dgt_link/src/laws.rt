@@ -358,11 +358,15 @@ pub fn asking_counts()
 /// Two bounds in numbers. The up line takes 67 bytes and has 5, the board has 2 messages to send,
 /// and the down line has 3 bytes: 5, 68 times 2 and 69 times 3 make 348 steps. Of the machine one
 /// message and 3 commands are under way, and 2 messages are to be sent: 1, twice 2 and 3 times 3.
+///
+/// A sending and a byte each way are a round.
 pub fn bounds_in_numbers()
     ensures steps { (world : WorldView) → world.up.capacity ≡ 67 → length world.up.bytes ≡ 5
         → backlog world.board.state ≡ 2 → length world.down.bytes ≡ 3 → steps_left world ≡ 348 }
     ensures moves { (x : MachineState) (moves : List Move) → SettlesBy moves x → length x.up ≡ 1
         → backlog x.board ≡ 2 → length x.down ≡ 3 → length moves ≤ 14 }
+    ensures rounds { (rounds : ℕ) → HasRounds rounds (flat_map (λ round. round) (replicate rounds
+        (ActContent.BoardSend ∷ ActContent.ToBoard 1 ∷ ActContent.ToHost 1 ∷ []))) }
 {}
 
 /// From each sound state some takes of the board, sendings of the board and hears of the host lead

@@ -231,6 +231,9 @@ impl World {
     /// The host's picture is the board's position once the world is quiet, on two conditions. Those
     /// acts that were done after the last `Break` ask for a dump, and the last of them that asks
     /// for a mode asks for updates. A `HostBreak` asks for both.
+    ///
+    /// The world is quiet after enough rounds of deliveries and sendings, in whatever order and
+    /// chunks. In a round the board sends, takes some bytes, and the host hears some.
     pub fn run(&mut self, acts: &[Act<'_>]) -> usize
         ensures exact { (outcomes : List Outcome) × (result ≡ done_count outcomes)
             × Runs (map act_content acts.now) self.old outcomes self.new }

@@ -1,5 +1,26 @@
-use Rattle.std.proofs.Common.{arith, refl}
+use Rattle.std.proofs.Common.{arith, refl, ℕ, zero, suc, [], ◌∷◌, replicate}
+use Rattle.std.specs.List.{flat_map}
+use Rattle.dgt_link.specs.Act.{ActContent}
+use Rattle.dgt_link.specs.Settling.{HasRounds, IsRound}
 use Rattle.dgt_link.proofs.laws.bounds_in_numbers.Goals as goal
+
+one_round : IsRound (ActContent.BoardSend ∷ ActContent.ToBoard 1 ∷ ActContent.ToHost 1 ∷ [])
+one_round =
+    record {
+      settling = (tt, (tt, (tt, tt)));
+      sends = (0, omega arith, refl);
+      takes = (1, omega arith, (1, omega arith, refl));
+      hears = (1, omega arith, (2, omega arith, refl));
+    }
+
+all_rounds : (rounds : ℕ)
+    → HasRounds rounds (flat_map (λ round. round) (replicate rounds
+    (ActContent.BoardSend ∷ ActContent.ToBoard 1 ∷ ActContent.ToHost 1 ∷ [])))
+all_rounds zero = tt
+all_rounds (suc rounds) = (_, _, refl, one_round, all_rounds rounds)
+
+pub returns-clause-rounds : goal.returns-clause-rounds
+returns-clause-rounds c = all_rounds
 
 pub returns-clause-steps : goal.returns-clause-steps
 returns-clause-steps c =

@@ -1,4 +1,8 @@
+use Rattle.std.proofs.Common.{◌∷◌}
+use Rattle.dgt_link.specs.Act.{ActContent}
+use Rattle.dgt_link.specs.declared.acts.Outcome.{Outcome}
 use Rattle.dgt_link.specs.Healing.{IsInTurnWorld, IsPromisedWorld}
+use Rattle.dgt_link.proofs.Counting.{plain_runs}
 use Rattle.dgt_link.proofs.Hoping.{sane_keeps}
 use Rattle.dgt_link.proofs.faulty.FaultyWorld.run.Goals as goal
 
@@ -22,3 +26,15 @@ returns-clause-kept c =
     λ calm is. sane_keeps c.faults_heal.ensures.sane _ IsPromisedWorld
     (λ act old new answer quiet. c.steps_heal.ensures.kept act old new answer quiet.0 quiet.1) _ _ _
     c.act_all.ensures.0 calm c.is_faulty.ensures.sane is c.act_all.ensures.2
+
+pub returns-clause-reported : goal.returns-clause-reported
+returns-clause-reported c =
+    λ later outcomes are runs all is dump. c.dumps_are_shown.ensures.picture later c.args.self.now c.act_all.new.self
+    outcomes all is dump
+    (plain_runs (ActContent.BoardSend ∷ later) c.args.self.now c.act_all.new.self (Outcome.Done ∷ outcomes)
+    (rw are at runs))
+
+pub returns-clause-in_order : goal.returns-clause-in_order
+returns-clause-in_order c =
+    λ later outcomes earlier first others square are runs all is dump. c.dumps_are_shown.ensures.in_order later _
+    outcomes earlier first others square all is dump runs

@@ -14,7 +14,8 @@ returns-clause-in_order c =
 
 pub returns-clause-kept : goal.returns-clause-kept
 returns-clause-kept c =
-    λ calm x stands is. c.picture_after_acts.ensures.kept _ _ _ c.act_all-done.ensures.0 x stands c.act_all-done.ensures.2 calm is
+    λ calm x stands is. c.picture_after_acts.ensures.kept _ _ _ c.act_all-done.ensures.0 x stands
+    c.act_all-done.ensures.2 calm is
 
 pub returns-clause-clock_kept : goal.returns-clause-clock_kept
 returns-clause-clock_kept c =
