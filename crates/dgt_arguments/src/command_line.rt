@@ -10,6 +10,7 @@ use dgt_board::MAX_SENT;
 use dgt_command::MAX_WORD;
 use std::alloc::{AllocError, AllocFailed, Global};
 use std::io;
+use strsim::jaro;
 use thiserror::Error;
 
 /// What the command line asks for.
@@ -50,6 +51,22 @@ pub enum Task<'a> {
         down: u16,
         faults: bool,
     },
+}
+
+impl Task<'_> {
+    /// A line for somebody at a terminal, if the task reads a board's or a host's bytes from there
+    /// (`reads` says that standard input is it), or writes bytes there (`writes`: standard output).
+    pub fn note(&self, reads: bool, writes: bool) -> Option<&'static str> {
+        match self {
+            Task::Monitor | Task::Picture { .. } | Task::Commands if reads => {
+                Some("dgt: waiting for bytes from this terminal; Ctrl-D ends them")
+            }
+            Task::Ask { .. } | Task::Board { .. } if writes => {
+                Some("dgt: writing bytes to this terminal, which are no text")
+            }
+            _ => None,
+        }
+    }
 }
 
 /// Why the words are no command line.
@@ -207,21 +224,58 @@ pub fn read<'a>(alloc: Global, words: &'a [String]) -> Result<Task<'a>, BadArgum
             Some(task) => Ok(task),
             None => Err(without_task(alloc)?),
         },
-        Err(error) => unmatched(alloc, &error),
+        Err(error) => match help_text(alloc, &error)? {
+            Some(text) => Ok(Task::Help { text }),
+            None => Err(unmatched(alloc, words)?),
+        },
     }
 }
 
-// A request for help or for the version is a task, and any other error of clap is none.
-fn unmatched<'a>(alloc: Global, error: &clap::Error) -> Result<Task<'a>, BadArguments> {
+// The text of help or of the version, if it was asked for.
+fn help_text(alloc: Global, error: &clap::Error) -> Result<Option<String>, BadArguments> {
     match error.kind() {
-        ErrorKind::DisplayHelp | ErrorKind::DisplayVersion => {
-            Ok(Task::Help {
-                text: error.to_string(alloc)?,
-            })
-        }
+        ErrorKind::DisplayHelp | ErrorKind::DisplayVersion => Ok(Some(error.to_string(alloc)?)),
         ErrorKind::OutOfMemory => Err(BadArguments::OutOfMemory),
-        _ => Err(refused(alloc, error)?),
+        _ => Ok(None),
     }
+}
+
+// Why there is no task if clap refuses the words. The text quotes them with what is no letter or
+// sign escaped, since a terminal obeys that.
+fn unmatched(alloc: Global, words: &[String]) -> Result<BadArguments, BadArguments> {
+    let words: Vec<String> = words
+        .iter()
+        .map(|word| word.escape_debug().to_string(alloc))
+        .try_collect(alloc)?;
+    let text = match command(alloc)?.try_get_matches_from(words.as_slice()) {
+        Ok(_) => return without_task(alloc),
+        Err(error) => error.to_string(alloc)?,
+    };
+    let file = extra_file(words.as_slice(), text.as_str());
+    let text = match (file, text.split_once("\n\n")) {
+        (Some((command, file)), Some((first, rest))) => {
+            format!(in alloc;
+                "{first}\n\n  tip: {command} reads standard input: dgt {command} <{file}\n\n{rest}"
+            )?
+        }
+        _ => text,
+    };
+    Ok(BadArguments::Refused { text })
+}
+
+// The command that reads standard input, and the file that it is given in place of that, if clap's
+// text says so.
+fn extra_file<'w>(words: &'w [String], text: &str) -> Option<(&'w str, &'w str)> {
+    let (file, _) = text
+        .strip_prefix("error: unexpected argument '")?
+        .split_once("' found")?;
+    let command = words.get(1)?.as_str();
+    let reads = ["monitor", "picture", "commands", "board", "simulate"];
+    if file.starts_with('-') || !reads.contains(&command) {
+        return None;
+    }
+    let file = words.iter().find(|word| word.as_str() == file)?;
+    Some((command, file.as_str()))
 }
 
 // Each subcommand has its task here, and each option its value. What hasn't is refused.
@@ -266,14 +320,14 @@ fn asked<'a>(alloc: Global, words: &[&str]) -> Result<Task<'a>, BadArguments> {
     let text = match asked_bytes(alloc, words) {
         Ok(bytes) => return Ok(Task::Ask { bytes }),
         Err(BadAsk::Help) => return help_of_ask(alloc),
-        Err(BadAsk::Unknown(word)) => {
-            let word = word.escape_debug();
-            format!(in alloc; "'{word}' is none of the words {WORDS}")?
-        }
+        Err(BadAsk::Unknown(word)) => unknown_word(alloc, word)?,
         Err(BadAsk::Missing(detail)) => detail.form().to_string(alloc)?,
         Err(BadAsk::Unfit { detail, given }) => {
             let (form, given) = (detail.form(), given.escape_debug());
-            format!(in alloc; "{form}, not by '{given}'")?
+            format!(in alloc; "{form},\n  not by '{given}'")?
+        }
+        Err(BadAsk::Known { id, word }) => {
+            format!(in alloc; "id {id} with these bytes has its own word: {word}")?
         }
         Err(BadAsk::OutOfMemory) => return Err(BadArguments::OutOfMemory),
     };
@@ -281,12 +335,40 @@ fn asked<'a>(alloc: Global, words: &[&str]) -> Result<Task<'a>, BadArguments> {
     Err(refused(alloc, &ask.error(ErrorKind::InvalidValue, text.as_str())?)?)
 }
 
+// That this is no word of `ask`, with all words, and the one that it is most like.
+fn unknown_word(alloc: Global, word: &str) -> Result<String, AllocError> {
+    let given = word.escape_debug();
+    let mut text = format!(in alloc; "'{given}' is none of the words")?;
+    for line in WORDS.split('\n') {
+        write!(text, "\n  {line}")?;
+    }
+    if let Some(similar) = similar_word(alloc, word)? {
+        write!(text, "\n\n  tip: a similar word exists: '{similar}'")?;
+    }
+    Ok(text)
+}
+
+// The word that is most like this one, if one is. This is how clap finds a similar command.
+fn similar_word(alloc: Global, word: &str) -> Result<Option<&'static str>, AllocError> {
+    let (mut most, mut similar) = (0.7, None);
+    for known in WORDS.split(',') {
+        let name = known.trim_start().split(' ').next().unwrap_or(known);
+        let likeness = jaro(alloc, word, name)?;
+        if likeness > most {
+            (most, similar) = (likeness, Some(name));
+        }
+    }
+    Ok(similar)
+}
+
 // The help of `ask`, which one of its words asks for.
 fn help_of_ask<'a>(alloc: Global) -> Result<Task<'a>, BadArguments> {
-    match command(alloc)?.try_get_matches_from(&["dgt", "help", "ask"]) {
-        Ok(_) => Err(without_task(alloc)?),
-        Err(error) => unmatched(alloc, &error),
+    if let Err(error) = command(alloc)?.try_get_matches_from(&["dgt", "help", "ask"]) {
+        if let Some(text) = help_text(alloc, &error)? {
+            return Ok(Task::Help { text });
+        }
     }
+    Err(without_task(alloc)?)
 }
 
 /// Why there is no task if the system gave no words as text.

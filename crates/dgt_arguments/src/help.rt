@@ -50,8 +50,10 @@ The five bytes 8e 00 05 24 01 are one message: a white pawn now stands on e4.
   00000005 version 1.3
 A command asks a board for its version, and the answer is shown.
 
-A failure is reported on standard error, and by the exit status. If nobody reads
-standard output any more, that is a failure: 'dgt: write failed', status 1.
+Exit status: 0; 1 if standard input or output fails, as when nobody reads what
+is written any more, or if a line of a script is no act; 2 if the command line,
+a word or a placement is wrong; 3 if memory runs out. A line on standard error
+says which.
 
 'dgt show --help' and so on describe each command.";
 
@@ -63,6 +65,9 @@ for each fault in the bytes: the number of bytes up to there, then one of
 
 ",
     "
+
+HEX has two hexadecimal digits of either case for each byte, and nothing between
+them. 'dgt: bad hex' means that it has another character, or half a byte.
 
 Exit status: 0, with faults in the bytes too; 1 if standard output fails; 2 if
 the command line or the word is wrong; 3 if memory runs out.
@@ -176,7 +181,7 @@ The words, and what they ask for:
   version           the version of the board
   follow            updateboard and dump: all that a picture needs
   restart           255 zeros, which end a command that is half sent, and follow
-  beep N            the clock beeps for so long, 0 to 255
+  beep N            the clock beeps for N of its units of time, 0 to 255
   end               the clock shows its times again
   button            the clock reports its buttons
   clockversion      the clock reports its version
@@ -191,11 +196,12 @@ The words, and what they ask for:
   stray HEX         nothing: one byte, which begins no command
 
 A shorter TEXT gets spaces on its right. HEX is two hexadecimal digits a byte,
-and - stands for no bytes of icons, clockmessage or leds; ID is one byte. In the
-place of TEXT, display takes eight bytes and text nine, as 'dgt commands --help'
-describes. N has no sign and no leading zero.
+or - for no bytes of icons, clockmessage or leds. An empty HEX is refused. ID is
+one byte. In the place of TEXT, display takes eight bytes and text nine, as 'dgt
+commands --help' describes. N has no sign and no leading zero.
 
-Each word is an argument of its own. Or one argument is a command and all that
+Each word is an argument of its own. One -- before all words is passed over, and
+anywhere else it is a word. Or one argument is a command and all that
 follows it, with a space between its words: 'beep 3'. So each line of a command
 or a stray byte that 'dgt commands' writes is an argument, and this sends the
 commands in the file log again:
@@ -344,7 +350,9 @@ With --faults there are these acts too:
                        zeros, 44 and 42 after the bytes already on their way; it
                        keeps its picture
 
-Words have one space between them. HEX is two digits a byte. N is 1 to 65535.
+Words have one space between them. HEX is two digits a byte: at most 255 bytes
+for garbleup, and 254 for garbledown. N is 1 to 65535. A line has 519 bytes at
+most.
 
 What is written for an act:
   done                 it is done

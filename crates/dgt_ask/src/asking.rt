@@ -8,7 +8,7 @@ ghost use Rattle.dgt_host.specs.Host.{follow_bytes, restart_bytes};
 ghost use Rattle.hex.specs.Hex.{decode_of, decode_sized};
 
 use crate::details::{
-    Detail, beep, byte, detail_of, eight_letters, icons, leds, raw, set_and_run, six_places,
+    BadRaw, Detail, beep, byte, detail_of, eight_letters, icons, leds, raw, set_and_run, six_places,
 };
 use dgt_command::{
     ClockCommand, Command, CommandDecoder, CommandEvent, MAX_LED_BYTES, MAX_PAYLOAD, MAX_WORD,
@@ -17,10 +17,13 @@ use dgt_command::{
 use dgt_host::{Host, RESTART_LENGTH};
 use std::alloc::{AllocError, Global};
 
-/// The words, as a fault lists them.
-pub const WORDS: &str = "reset, clock, dump, update, updateboard, updatenice, serial, longserial, \
-trademark, battery, version, follow, restart, beep N, end, button, clockversion, display TEXT, \
-text TEXT, icons HEX, setandrun HEX, clockmessage ID HEX, leds HEX, stray HEX";
+/// The words and what follows them, with a comma after each but the last, in lines of at most 78
+/// columns.
+pub const WORDS: &str = "\
+reset, clock, dump, update, updateboard, updatenice, serial, longserial,
+trademark, battery, version, follow, restart, beep N, end, button,
+clockversion, display TEXT, text TEXT, icons HEX, setandrun HEX,
+clockmessage ID HEX, leds HEX, stray HEX";
 
 /// Why the words ask for no commands.
 #[derive(Drop)]
@@ -33,6 +36,8 @@ pub enum BadAsk<'a> {
     Missing(Detail),
     /// This can't follow the word before it.
     Unfit { detail: Detail, given: &'a str },
+    /// The id of `clockmessage`, with the bytes after it, has a word of its own.
+    Known { id: &'a str, word: &'static str },
     /// An allocation was refused.
     OutOfMemory,
 }
@@ -215,16 +220,13 @@ fn push_clock_message<'a>(id: &'a str, word: &'a str, bytes: &mut Vec<u8>) -> Re
         ++ command_encoding (ClockMessage (record { id = nth ids 0; payload = payload }))))) }
 {
     let mut room = [0; MAX_PAYLOAD];
-    match byte(id) {
-        Some(number) => {
-            push_fit(
-                raw(number, word, &mut room),
-                Detail::ClockMessage,
-                word,
-                bytes,
-            )
-        }
-        None => push_fit(None, Detail::ClockMessage, id, bytes),
+    let Some(number) = byte(id) else {
+        return push_fit(None, Detail::ClockMessage, id, bytes);
+    };
+    match raw(number, word, &mut room) {
+        Ok(command) => Ok(push(&command, bytes)?),
+        Err(BadRaw::Known(word)) => Err(BadAsk::Known { id, word }),
+        Err(BadRaw::Bytes) => push_fit(None, Detail::ClockMessage, word, bytes),
     }
 }
 

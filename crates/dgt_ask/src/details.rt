@@ -1,12 +1,14 @@
 //! What follows a word that is no command alone.
 
 ghost use Rattle.std.specs.Prelude.{◌≡◌, ◌≢◌, ◌<◌, ◌≤◌, ◌*◌, [], length, codes, slice_index as nth};
-ghost use Rattle.std.specs.Prelude.{IfOk, IfSome, IfNone, IsSomeAnd, MatchResult, Ok, Some, None};
+ghost use Rattle.std.specs.Prelude.{IfOk, IfSome, IfNone, IsErr, IsSomeAnd, MatchResult, Ok, Some, None};
 ghost use Rattle.dgt_command.specs.declared.ids.KnownId.{KnownId};
 ghost use Rattle.dgt_command.specs.Content.{command_content, ClockMessage, Leds, clock_content, known_clock};
 ghost use Rattle.hex.specs.Hex.{decode_of, decode_sized};
 
-use dgt_command::{ClockCommand, Command, LedBytes, MAX_LED_BYTES, Payload, RawClock, display};
+use dgt_command::{
+    ClockCommand, Command, KnownId, LedBytes, MAX_LED_BYTES, Payload, RawClock, display,
+};
 use hex::{FromHex, decode_to_slice};
 
 /// What a word is that is no command alone: something follows it.
@@ -23,22 +25,24 @@ pub enum Detail {
 }
 
 impl Detail {
-    /// What has to follow the word.
+    /// What has to follow the word, in lines of less than 80 columns.
     pub fn form(self) -> &'static str {
         match self {
             Detail::Beep => "beep is followed by a number from 0 to 255",
-            Detail::Display => "display is followed by six digits, spaces or hyphens at most, or \
-by eight bytes, two hexadecimal digits each",
-            Detail::Text => "text is followed by eight ASCII characters at most, or by nine bytes, \
-two hexadecimal digits each",
-            Detail::Icons => "icons is followed by 252 bytes at most, two hexadecimal digits each",
+            Detail::Display => "display is followed by six digits, spaces or hyphens at most,
+  or by eight bytes, two hexadecimal digits each",
+            Detail::Text => "text is followed by eight ASCII characters at most,
+  or by nine bytes, two hexadecimal digits each",
+            Detail::Icons => "icons is followed by 252 bytes at most, two hexadecimal digits each,
+  or by - for no bytes",
             Detail::SetAndRun =>
                 "setandrun is followed by seven bytes, two hexadecimal digits each",
-            Detail::ClockMessage => "clockmessage is followed by an id, two hexadecimal digits, \
-and by 252 bytes at most, two hexadecimal digits each, that have no other word",
-            Detail::Leds => "leds is followed by 255 bytes at most, two hexadecimal digits each",
-            Detail::Stray => "stray is followed by a byte that begins no command, two hexadecimal \
-digits",
+            Detail::ClockMessage => "clockmessage is followed by an id, two hexadecimal digits,
+  and by 252 bytes at most, two hexadecimal digits each, or by - for no bytes",
+            Detail::Leds => "leds is followed by 255 bytes at most, two hexadecimal digits each,
+  or by - for no bytes",
+            Detail::Stray => "stray is followed by a byte that begins no command,
+  two hexadecimal digits",
         }
     }
 }
@@ -144,6 +148,7 @@ pub(crate) fn icons<'r>(word: &str, room: &'r mut [u8]) -> Option<Command<'r>>
     ensures digits { word.now ≢ codes "-" → IfSome result (λ command.
         IfOk (decode_of word.now) (λ bytes.
         command_content command ≡ ClockMessage (known_clock KnownId.Icons bytes))) }
+    ensures empty { word.now ≡ [] → result ≡ None }
 {
     clock(ClockCommand::Icons(Payload::new(decoded(word, room)?).ok()?))
 }
@@ -153,8 +158,9 @@ pub(crate) fn leds<'r>(word: &str, room: &'r mut [u8; MAX_LED_BYTES]) -> Option<
         command_content command ≡ Leds []) }
     ensures digits { word.now ≢ codes "-" → IfSome result (λ command.
         IfOk (decode_of word.now) (λ bytes. command_content command ≡ Leds bytes)) }
-    ensures refused { word.now ≢ codes "-" → IfNone result
+    ensures refused { word.now ≢ codes "-" → word.now ≢ [] → IfNone result
         (IfOk (decode_of word.now) (λ _. 2 * 255 < length word.now)) }
+    ensures empty { word.now ≡ [] → result ≡ None }
 {
     Some(Command::Leds(LedBytes::new(decoded(word, room)?).ok()?))
 }
@@ -165,11 +171,16 @@ fn decoded<'r>(word: &str, room: &'r mut [u8]) -> Option<&'r [u8]>
     ensures digits { word.now ≢ codes "-"
         → IfSome result (λ bytes. decode_of word.now ≡ Ok bytes.now) }
     ensures room { IfSome result (λ bytes. length bytes.now ≤ length room.old) }
-    ensures refused { word.now ≢ codes "-" → IfNone result
+    ensures refused { word.now ≢ codes "-" → word.now ≢ [] → IfNone result
         (IfOk (decode_of word.now) (λ _. 2 * length room.old < length word.now)) }
+    ensures empty { word.now ≡ [] → result ≡ None }
 {
     if word == "-" {
         return Some(&[]);
+    }
+    // A shell's variable that isn't set.
+    if word.is_empty() {
+        return None;
     }
     let bytes = room.get_mut(..word.len() / 2)?;
     decode_to_slice(word, bytes).ok()?;
@@ -184,13 +195,42 @@ pub(crate) fn byte(word: &str) -> Option<u8>
     Some(bytes[0])
 }
 
-pub(crate) fn raw<'r>(id: u8, word: &str, room: &'r mut [u8]) -> Option<Command<'r>>
-    ensures none { word.now ≡ codes "-" → IfSome result (λ command.
+/// Why an id and a word ask for no clock message that has no other word.
+#[derive(Clone, Copy)]
+pub(crate) enum BadRaw {
+    /// The word is no bytes.
+    Bytes,
+    /// This is the word for the id and bytes.
+    Known(&'static str),
+}
+
+pub(crate) fn raw<'r>(id: u8, word: &str, room: &'r mut [u8]) -> Result<Command<'r>, BadRaw>
+    ensures none { word.now ≡ codes "-" → IfOk result (λ command.
         command_content command ≡ ClockMessage (record { id = id; payload = [] })) }
-    ensures digits { word.now ≢ codes "-" → IfSome result (λ command.
+    ensures digits { word.now ≢ codes "-" → IfOk result (λ command.
         IfOk (decode_of word.now) (λ bytes.
         command_content command ≡ ClockMessage (record { id = id; payload = bytes }))) }
+    ensures empty { word.now ≡ [] → IsErr result }
 {
-    let payload = Payload::new(decoded(word, room)?).ok()?;
-    clock(ClockCommand::Raw(RawClock::new(id, payload).ok()?))
+    let bytes = decoded(word, room).ok_or(BadRaw::Bytes)?;
+    let payload = Payload::new(bytes).map_err(|_| BadRaw::Bytes)?;
+    match RawClock::new(id, payload) {
+        Ok(message) => Ok(Command::ClockMessage(ClockCommand::Raw(message))),
+        Err(_) => Err(own_word(id).map_or(BadRaw::Bytes, BadRaw::Known)),
+    }
+}
+
+// The word for the clock messages of an id.
+fn own_word(id: u8) -> Option<&'static str> {
+    let word = match KnownId::with_number(id)? {
+        KnownId::Display => "display",
+        KnownId::Icons => "icons",
+        KnownId::End => "end",
+        KnownId::Button => "button",
+        KnownId::Version => "clockversion",
+        KnownId::SetAndRun => "setandrun",
+        KnownId::Beep => "beep",
+        KnownId::Text => "text",
+    };
+    Some(word)
 }
