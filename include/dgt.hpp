@@ -149,7 +149,8 @@ inline char letter(Piece piece) {
 /// The piece with this letter. std::invalid_argument if there is none.
 inline Piece piece(char letter) {
     std::uint8_t code = dgt_piece_code(static_cast<std::uint8_t>(letter));
-    if (code == DGT_NO_SUCH) throw std::invalid_argument("no piece has this letter");
+    if (code == DGT_NO_SUCH)
+        throw std::invalid_argument("not a piece: '" + std::string(1, letter) + "'");
     return static_cast<Piece>(code);
 }
 
@@ -166,7 +167,8 @@ public:
         if (name.size() == 2)
             number_ = dgt_square_number(static_cast<std::uint8_t>(name[0]),
                                         static_cast<std::uint8_t>(name[1]));
-        if (number_ == DGT_NO_SUCH) throw std::invalid_argument("no square has this name");
+        if (number_ == DGT_NO_SUCH)
+            throw std::invalid_argument("not a square: '" + std::string(name) + "'");
     }
 
     std::uint8_t number() const noexcept { return number_; }
@@ -199,7 +201,7 @@ public:
     /// By the first field of a FEN. std::invalid_argument if the text is none.
     explicit Position(std::string_view placement) : codes_{} {
         if (!dgt_parse_placement(placement.data(), placement.size(), codes_.data()).ok)
-            throw std::invalid_argument("no placement of a FEN: " + std::string(placement));
+            throw std::invalid_argument("not a placement: '" + std::string(placement) + "'");
     }
 
     /// The position in which a game begins.

@@ -28,7 +28,7 @@ def square_number(name: str) -> int:
     try:
         return _SQUARE_NUMBERS[name]
     except (KeyError, TypeError):
-        raise BadValue(f"no square: {name!r}") from None
+        raise BadValue(f"not a square: {name!r}") from None
 
 
 def piece_code(letter: str) -> int:
@@ -36,7 +36,7 @@ def piece_code(letter: str) -> int:
     try:
         return _PIECE_CODES[letter]
     except (KeyError, TypeError):
-        raise BadValue(f"no piece: {letter!r}") from None
+        raise BadValue(f"not a piece: {letter!r}") from None
 
 
 def segment(character: str) -> int:
@@ -45,7 +45,7 @@ def segment(character: str) -> int:
     known = isinstance(character, str) and str.__len__(character) == 1 and str.isascii(character)
     shown: int = dgt.dgt_segment(ord(character)) if known else NO_SUCH
     if shown == NO_SUCH:
-        raise BadValue(f"no segments: {character!r}")
+        raise BadValue(f"not a digit, space or hyphen: {character!r}")
     return shown
 
 

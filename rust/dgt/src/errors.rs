@@ -179,8 +179,8 @@ macro_rules! said {
 said! {
     NotSevenBit: "the top bit is set";
     TooMuch: "too many bytes";
-    NoSquare: "this stands for no square";
-    NoPiece: "this stands for no piece";
+    NoSquare: "not a square";
+    NoPiece: "not a piece";
     NoSegment: "this character has no segments";
     Known: "this has a case of its own";
     BadDigits: "no clock shows these digits";

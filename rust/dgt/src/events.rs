@@ -20,7 +20,7 @@ use dgt_sys::{self as sys, dgt_event};
 /// let fed = decoder.feed(b"\x8e\x00\x05\x24\x10");
 /// let Some(Event::Refused { fault, .. }) = fed.event else { panic!() };
 /// assert_eq!(fault, BodyFault::BadPiece { at: 1 });
-/// assert_eq!(fault.to_string(), "byte 1 is no piece");
+/// assert_eq!(fault.to_string(), "byte 1 is not a piece");
 /// ```
 #[derive(Clone, Copy, Debug, PartialEq, Eq, Hash)]
 pub enum BodyFault {
@@ -48,8 +48,8 @@ impl fmt::Display for BodyFault {
     fn fmt(&self, to: &mut fmt::Formatter<'_>) -> fmt::Result {
         match self {
             BodyFault::WrongSize => write!(to, "the body has not the size of its code"),
-            BodyFault::BadPiece { at } => write!(to, "byte {at} is no piece"),
-            BodyFault::BadSquare { at } => write!(to, "byte {at} is no square"),
+            BodyFault::BadPiece { at } => write!(to, "byte {at} is not a piece"),
+            BodyFault::BadSquare { at } => write!(to, "byte {at} is not a square"),
             BodyFault::BadReading { at } => write!(to, "byte {at} is no part of a reading"),
         }
     }
