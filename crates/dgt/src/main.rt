@@ -12,22 +12,52 @@
 #[cfg(test)]
 mod tests;
 
-use dgt_arguments::refuse_arguments;
+use dgt_arguments::{read, refuse_arguments};
 pub use dgt_program as program;
 use dgt_program::Fault;
 pub use dgt_program::run_words;
 use std::env;
+use std::fs::Files;
+use std::io::{IsTerminal, Write};
+use std::os::unix::fs::MetadataExt;
 use std::process::ExitCode;
 
 fn main(rt: HostRuntime) -> ExitCode {
     let alloc = rt.alloc();
-    let words = match env::args(&rt) {
+    let words: Result<Vec<String>, Fault> = match env::args(&rt) {
         Ok(words) => words.collect(alloc).map_err(Fault::from),
         Err(error) => Err(Fault::from(refuse_arguments(alloc, &error))),
     };
     let status = match words {
-        Ok(words) => run_words(alloc, words, rt.stdin(), rt.stdout(), rt.stderr()),
+        Ok(words) => {
+            note_terminals(&rt, words.as_slice());
+            run_words(alloc, words, rt.stdin(), rt.stdout(), rt.stderr())
+        }
         Err(fault) => fault.report(&mut rt.stderr()),
     };
     ExitCode::from(status)
+}
+
+// Says on standard error if the terminal is read or gets bytes. A fault of the words is left to
+// `run_words`.
+fn note_terminals(rt: &HostRuntime, words: &[String]) {
+    let reads = rt.stdin().is_terminal() && is_standard_error(rt, "/dev/stdin");
+    let writes = rt.stdout().is_terminal() && is_standard_error(rt, "/dev/stdout");
+    if !reads && !writes {
+        return;
+    }
+    if let Ok(task) = read(rt.alloc(), words) {
+        if let Some(note) = task.note(reads, writes) {
+            let _ = writeln!(rt.stderr(), "{note}");
+        }
+    }
+}
+
+// Whether this stream and standard error are one device. A serial port is a terminal to the system
+// too, and nobody sits at it.
+fn is_standard_error(rt: &HostRuntime, path: &str) -> bool {
+    match (rt.metadata(path), rt.metadata("/dev/stderr")) {
+        (Ok(stream), Ok(errors)) => stream.rdev() == errors.rdev(),
+        _ => false,
+    }
 }
