@@ -15,8 +15,8 @@ use std::test::Fail;
 /// Room for all that a run writes, so that the writers take no memory.
 const ROOM: usize = 8192;
 
-/// More reads than 2^20, for whole texts of five bytes.
-const READS: usize = 5 << 18;
+/// More reads than 2^20, and whole texts of five bytes.
+const READS: usize = 5 * 209_716;
 
 /// What a run returned and wrote.
 #[derive(Drop)]
@@ -217,29 +217,54 @@ impl Read for Dripping {
     }
 }
 
-#[test]
-fn reads_on_after_a_million_reads(rt: HostRuntime) -> Result<(), Fail> {
-    let (field, beep) = (b"\x8e\x00\x05\x24\x01", b"\x2b\x03\x03\x09\x00");
-    let rows = [
-        ("dgt monitor", field),
-        ("dgt picture", field),
-        ("dgt picture --doubt", field),
-        ("dgt picture --clock", field),
-        ("dgt picture --doubt --clock", field),
-        ("dgt commands", beep),
-        ("dgt board", beep),
-        ("dgt simulate", b"send\n"),
-        ("dgt simulate --faults", b"send\n"),
-    ];
+const FIELD: &[u8; 5] = b"\x8e\x00\x05\x24\x01";
+
+const BEEP: &[u8; 5] = b"\x2b\x03\x03\x09\x00";
+
+// Runs these lines, each over a million reads of one byte, to their end.
+fn check_long(
+    rt: &(impl Abort + AllocGlobal),
+    rows: &[(&str, &'static [u8; 5])],
+) -> Result<(), Fail> {
     for (line, bytes) in rows {
         let input = Dripping { bytes, given: 0 };
         let mut errors = Vec::with_capacity(rt.alloc(), ROOM)?;
-        let line_words = words(rt.alloc(), line)?;
-        let status = run_words(rt.alloc(), line_words, input, sink(), &mut errors);
+        let words = words(rt.alloc(), line)?;
+        let status = run_words(rt.alloc(), words, input, sink(), &mut errors);
         assert_eq!(rt; errors.as_slice(), b"".as_slice(), "errors of {line}");
         assert_eq!(rt; status, 0, "status of {line}");
     }
     Ok(())
+}
+
+#[test]
+fn reads_on_after_a_million_reads(rt: HostRuntime) -> Result<(), Fail> {
+    let rows = [
+        ("dgt monitor", FIELD),
+        ("dgt commands", BEEP),
+        ("dgt board", BEEP),
+    ];
+    check_long(&rt, &rows)
+}
+
+#[test]
+fn plays_on_after_a_million_reads(rt: HostRuntime) -> Result<(), Fail> {
+    let rows = [
+        ("dgt simulate", b"send\n"),
+        ("dgt simulate --faults", b"send\n"),
+    ];
+    check_long(&rt, &rows)
+}
+
+#[test]
+fn shows_pictures_after_a_million_reads(rt: HostRuntime) -> Result<(), Fail> {
+    let rows = [
+        ("dgt picture", FIELD),
+        ("dgt picture --doubt", FIELD),
+        ("dgt picture --clock", FIELD),
+        ("dgt picture --doubt --clock", FIELD),
+    ];
+    check_long(&rt, &rows)
 }
 
 // Reports a fault, and compares the status and the text.

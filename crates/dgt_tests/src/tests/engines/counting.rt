@@ -1,12 +1,12 @@
 //! Readers and writers of the standard library that count their calls, under devices.
 
 use crate::tests::asserting::assert_row;
-use crate::tests::engines::devices::{CallCounter, Lender, Refuser, Stutterer, TakesNone};
+use crate::tests::engines::devices::{CallCounter, Lender, MovesNone, Refuser, Stutterer};
 use crate::tests::engines::engine::Engine;
 use crate::tests::engines::messages::{BEEP, BEEP_AND_MORE, FIELD, QUESTIONS};
 use arrayvec::ArrayVec;
 use dgt_text::{Device, Failed, Sink, Source};
-use std::io::ErrorKind;
+use std::io::{Cursor, ErrorKind};
 use std::test::Fail;
 
 const KINDS: [ErrorKind; 5] = [
@@ -59,7 +59,7 @@ fn a_device_that_fails_is_called_once(rt: HostRuntime) {
 
 #[test]
 fn a_writer_that_takes_none_is_called_once(rt: HostRuntime) {
-    let mut writer = TakesNone::new();
+    let mut writer = MovesNone::new();
     let answer = Device::new(&mut writer).write_some(b"a");
     assert_row(&rt, 0, answer, Err(Failed));
     assert_row(&rt, 0, writer.calls, 1);
@@ -75,6 +75,21 @@ fn a_device_passes_each_call_on_once(rt: HostRuntime) {
     assert_row(&rt, 0, device.write_some(b"ab"), Ok(2));
     assert_row(&rt, 1, device.flush_all(), Ok(()));
     assert_row(&rt, 2, (counter.writes, counter.flushes), (1, 1));
+}
+
+#[test]
+fn a_device_asks_for_as_many_bytes_as_it_has_room_for(rt: HostRuntime) {
+    let answer = Device::new(Cursor::new(b"abcdefgh")).read_some(&mut [0; 8]);
+    assert_row(&rt, 0, answer, Ok(8));
+}
+
+#[test]
+fn a_device_reads_on_after_the_end(rt: HostRuntime) {
+    let mut reader = MovesNone::new();
+    let mut device = Device::new(&mut reader);
+    assert_row(&rt, 0, device.read_some(&mut [0; 8]), Ok(0));
+    assert_row(&rt, 1, device.read_some(&mut [0; 8]), Ok(0));
+    assert_row(&rt, 2, reader.calls, 2);
 }
 
 // These parts, each this number of times.

@@ -296,19 +296,27 @@ impl Write for Refuser {
     }
 }
 
-/// A writer of the standard library that takes no byte, and counts its writes.
+/// A reader of the standard library at its end, and a writer that takes no byte. Each counts its
+/// calls, but for flushes.
 #[derive(Drop)]
-pub struct TakesNone {
+pub struct MovesNone {
     pub calls: u64,
 }
 
-impl TakesNone {
+impl MovesNone {
     pub fn new() -> Self {
-        TakesNone { calls: 0 }
+        MovesNone { calls: 0 }
     }
 }
 
-impl Write for TakesNone {
+impl Read for MovesNone {
+    fn read(&mut self, _buf: &mut [u8]) -> io::Result<usize> {
+        self.calls = self.calls.saturating_add(1);
+        Ok(0)
+    }
+}
+
+impl Write for MovesNone {
     fn write(&mut self, _buf: &[u8]) -> io::Result<usize> {
         self.calls = self.calls.saturating_add(1);
         Ok(0)
