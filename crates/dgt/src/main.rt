@@ -9,17 +9,16 @@
 //! `main` fetches the words and the streams, and `run_words` of `dgt_program` does the rest.
 #![tactic(auto)]
 
+mod terminals;
 #[cfg(test)]
 mod tests;
 
-use dgt_arguments::{read, refuse_arguments};
+use crate::terminals::note_terminals;
+use dgt_arguments::refuse_arguments;
 pub use dgt_program as program;
 use dgt_program::Fault;
 pub use dgt_program::run_words;
 use std::env;
-use std::fs::Files;
-use std::io::{IsTerminal, Write};
-use std::os::unix::fs::MetadataExt;
 use std::process::ExitCode;
 
 fn main(rt: HostRuntime) -> ExitCode {
@@ -36,28 +35,4 @@ fn main(rt: HostRuntime) -> ExitCode {
         Err(fault) => fault.report(&mut rt.stderr()),
     };
     ExitCode::from(status)
-}
-
-// Says on standard error if the terminal is read or gets bytes. A fault of the words is left to
-// `run_words`.
-fn note_terminals(rt: &HostRuntime, words: &[String]) {
-    let reads = rt.stdin().is_terminal() && is_standard_error(rt, "/dev/stdin");
-    let writes = rt.stdout().is_terminal() && is_standard_error(rt, "/dev/stdout");
-    if !reads && !writes {
-        return;
-    }
-    if let Ok(task) = read(rt.alloc(), words) {
-        if let Some(note) = task.note(reads, writes) {
-            let _ = writeln!(rt.stderr(), "{note}");
-        }
-    }
-}
-
-// Whether this stream and standard error are one device. A serial port is a terminal to the system
-// too, and nobody sits at it.
-fn is_standard_error(rt: &HostRuntime, path: &str) -> bool {
-    match (rt.metadata(path), rt.metadata("/dev/stderr")) {
-        (Ok(stream), Ok(errors)) => stream.rdev() == errors.rdev(),
-        _ => false,
-    }
 }

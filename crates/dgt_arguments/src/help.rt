@@ -50,10 +50,10 @@ The five bytes 8e 00 05 24 01 are one message: a white pawn now stands on e4.
   00000005 version 1.3
 A command asks a board for its version, and the answer is shown.
 
-Exit status: 0; 1 if standard input or output fails, as when nobody reads what
-is written any more, or if a line of a script is no act; 2 if the command line,
-a word or a placement is wrong; 3 if memory runs out. A line on standard error
-says which.
+Exit status: 0, or 1 if standard input or output fails, as when nobody reads
+what is written any more, or if a line of a script is no act. It is 2 if the
+command line, a word or a placement is wrong, and 3 if memory runs out. A line
+on standard error says which.
 
 'dgt show --help' and so on describe each command.";
 

@@ -2,7 +2,8 @@
 //!
 //! [`run_words`] does what the words ask for. `dgt_arguments` reads the words, and the engines of
 //! `dgt_text` read and write. [`Fault`] is what can go wrong, with the text and the exit status of
-//! each. The crate `dgt` is this program:
+//! each. The crate `dgt` is this program. Before it runs, it says if a terminal is read or gets
+//! bytes:
 //!
 //! ```rust
 //! use dgt_arguments::refuse_arguments;
@@ -12,12 +13,15 @@
 //!
 //! fn main(rt: HostRuntime) -> ExitCode {
 //!     let alloc = rt.alloc();
-//!     let words = match env::args(&rt) {
+//!     let words: Result<Vec<String>, Fault> = match env::args(&rt) {
 //!         Ok(words) => words.collect(alloc).map_err(Fault::from),
 //!         Err(error) => Err(Fault::from(refuse_arguments(alloc, &error))),
 //!     };
 //!     let status = match words {
-//!         Ok(words) => run_words(alloc, words, rt.stdin(), rt.stdout(), rt.stderr()),
+//!         Ok(words) => {
+//!             note_terminals(&rt, words.as_slice());
+//!             run_words(alloc, words, rt.stdin(), rt.stdout(), rt.stderr())
+//!         }
 //!         Err(fault) => fault.report(&mut rt.stderr()),
 //!     };
 //!     ExitCode::from(status)
