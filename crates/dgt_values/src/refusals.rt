@@ -33,12 +33,12 @@ pub struct NoRoom {
 
 /// The number is above 63, or the name is none of a square.
 #[derive(Clone, Copy, Debug, PartialEq, Eq, Error)]
-#[error("this stands for no square")]
+#[error("not a square")]
 pub struct NoSquare;
 
 /// The code is above 15, or the letter is none of the sixteen.
 #[derive(Clone, Copy, Debug, PartialEq, Eq, Error)]
-#[error("this stands for no piece")]
+#[error("not a piece")]
 pub struct NoPiece;
 
 /// The text is no placement. `at` is the offset of the first byte with which it no longer begins

@@ -158,9 +158,9 @@ fn errors_have_texts(rt: HostRuntime) -> Result<(), Fail> {
     let size = "the body has not the size of its code";
     assert_said(&rt, alloc, &BodyFault::WrongSize, size)?;
     let piece = BodyFault::BadPiece { at: 5 };
-    assert_said(&rt, alloc, &piece, "byte 5 is no piece")?;
+    assert_said(&rt, alloc, &piece, "byte 5 is not a piece")?;
     let square = BodyFault::BadSquare { at: 6 };
-    assert_said(&rt, alloc, &square, "byte 6 is no square")?;
+    assert_said(&rt, alloc, &square, "byte 6 is not a square")?;
     let reading = BodyFault::BadReading { at: 4 };
     assert_said(&rt, alloc, &reading, "byte 4 is no part of a reading")?;
     assert_said(&rt, alloc, &BadDigits, "no clock shows these digits")?;

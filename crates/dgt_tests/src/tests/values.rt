@@ -115,8 +115,8 @@ fn errors_have_texts(rt: HostRuntime) -> Result<(), Fail> {
     assert_said(&rt, alloc, &NotSevenBit, "the top bit is set")?;
     assert_said(&rt, alloc, &Known, "this has a case of its own")?;
     assert_said(&rt, alloc, &TooMuch, "too many bytes")?;
-    assert_said(&rt, alloc, &NoPiece, "this stands for no piece")?;
-    assert_said(&rt, alloc, &NoSquare, "this stands for no square")?;
+    assert_said(&rt, alloc, &NoPiece, "not a piece")?;
+    assert_said(&rt, alloc, &NoSquare, "not a square")?;
     assert_said(&rt, alloc, &NoSegment, "this character has no segments")?;
     let placement = BadPlacement { at: 17 };
     assert_said(&rt, alloc, &placement, "no placement, from offset 17 on")?;
