@@ -643,6 +643,10 @@ class World:
         self.host.awaited = [DUMP]
         return "done"
 
+    def host_gives_up(self):
+        self.host.awaited = []
+        return "done"
+
     def is_quiet(self):
         unread = (
             self.up or self.down or self.host.decoder.unfinished or self.board.reader.unfinished
@@ -717,6 +721,7 @@ FAULTS = {
     b"garbledown": (World.down_garbles, [read_garbled]),
     b"boardlost": (World.board_loses_power, []),
     b"restart": (World.host_restarts, []),
+    b"giveup": (World.host_gives_up, []),
 }
 
 

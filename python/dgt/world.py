@@ -232,6 +232,11 @@ class World(Uncopied):
         self._down += self._host.restart()
         return Outcome.DONE
 
+    def host_gives_up(self) -> Outcome:
+        """The host gives up the replies that it awaits, which may be lost. Nothing else changes."""
+        self._host.give_up_awaited()
+        return Outcome.DONE
+
     def _board_forgets(self) -> None:
         self._board.line_lost()
         self._partial = 0

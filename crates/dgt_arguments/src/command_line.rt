@@ -193,7 +193,7 @@ fn simulate<'a>(alloc: Global) -> Result<Command<'a>, AllocError> {
         .arg(flag(
             alloc,
             "faults",
-            "Takes garbleup, garbledown, boardlost and restart too",
+            "Takes garbleup, garbledown, boardlost, restart, giveup",
         ))
 }
 

@@ -141,6 +141,8 @@ module _ (laws : Grammars) where
         partial = laws.nothing;
         down = sane.down;
       })
+  faulty_sane FaultyContent.GiveUp world after sane same =
+      rw same (record { board = sane.board; partial = sane.partial; down = sane.down })
   faulty_sane FaultyContent.Restart world after sane same =
       rw same (assumption (bytes_append world.down.bytes restart_bytes sane.down bytes_restart))
 
@@ -306,6 +308,35 @@ garbled_follows in_turn asked bytes world after f same =
       };
       clock = λ has. absurd (other_is_out CommandContent.Clock refl asked has);
       awaits = λ none. absurd (false≢true none);
+    }
+
+-- what the host awaits doesn't matter to what its world stands for
+pub given_up_stands : (world after : WorldView) (garbage : List ℕ) (x : MachineState)
+    → StandsBehind garbage world x → FaultyBecomes FaultyContent.GiveUp world after → StandsBehind garbage after x
+given_up_stands world after garbage x stands same =
+    rw same
+    (record {
+      sound = stands.sound;
+      board = stands.board;
+      picture = stands.picture;
+      clock = stands.clock;
+      unheard = stands.unheard;
+      are_messages = stands.are_messages;
+      up = stands.up;
+      down = stands.down;
+      partial = stands.partial;
+    })
+
+given_up_follows : (in_turn : Bool) (asked : List CommandContent) (world after : WorldView)
+    → Follows in_turn asked world → FaultyBecomes FaultyContent.GiveUp world after → Follows true asked after
+given_up_follows in_turn asked world after f same =
+    record {
+      garbage = f.garbage;
+      state = f.state;
+      stands = given_up_stands world after f.garbage f.state f.stands same;
+      comes = f.comes;
+      clock = f.clock;
+      awaits = λ turn. rw same tt;
     }
 
 -- ---- a break, and a host that begins anew
@@ -522,6 +553,9 @@ module _ (laws : Grammars) where
   follows_after c (FaultyContent.GarbleDown bytes) world _ after holds step in_step =
       unchanged c world after step.leaves holds in_step
   follows_after c FaultyContent.BoardLost world answer after holds step in_step = absurd (false≢true in_step)
+  follows_after c FaultyContent.GiveUp world Outcome.Done after holds step in_step =
+      given_up_follows c.in_turn c.asked world after (holds.follows in_step) step.leaves
+  follows_after c FaultyContent.GiveUp world _ after holds step in_step = let a = step.answers in cc
   follows_after c FaultyContent.Restart world Outcome.Done after holds step in_step =
       restart_follows laws world after holds.sane step.leaves
   follows_after c FaultyContent.Restart world _ after holds step in_step =

@@ -94,6 +94,7 @@ plain_heals c _ _ calm is = record { in_step = is.in_step; asked = is.asked }
 step_heals : (c : Counted) (act : FaultyContent) (answer : Outcome) → (is_fault act ≡ false) × (stops act ≡ false)
     → IsHealing c → IsHealing (counted_after c act answer)
 step_heals c (FaultyContent.Plain act) answer (none, calm) is = plain_heals c act answer calm is
+step_heals c FaultyContent.GiveUp answer (none, calm) is = record { in_step = is.in_step; asked = is.asked }
 step_heals c FaultyContent.Restart Outcome.Done (none, calm) is = anew_heals
 step_heals c FaultyContent.Restart _ (none, calm) is = is
 step_heals c _ answer (none, calm) is = absurd (false≢true (sym none))
@@ -115,6 +116,7 @@ turn_step : (c : Counted) (act : FaultyContent) (answer : Outcome) → is_fault 
 turn_step c (FaultyContent.Plain ActContent.HostBreak) answer none is = record { in_step = refl; in_turn = refl }
 turn_step c (FaultyContent.Plain ActContent.Break) answer none is = record { in_step = refl; in_turn = refl }
 turn_step c (FaultyContent.Plain _) answer none is = record { in_step = is.in_step; in_turn = is.in_turn }
+turn_step c FaultyContent.GiveUp answer none is = record { in_step = is.in_step; in_turn = refl }
 turn_step c FaultyContent.Restart Outcome.Done none is = record { in_step = refl; in_turn = refl }
 turn_step c FaultyContent.Restart _ none is = is
 turn_step c _ answer none is = absurd (false≢true (sym none))
@@ -137,6 +139,7 @@ stays_in_step c (FaultyContent.Plain ActContent.Break) answer none is = refl
 stays_in_step c (FaultyContent.Plain _) answer none is = is
 stays_in_step c (FaultyContent.GarbleUp bytes) Outcome.Done none is = is
 stays_in_step c (FaultyContent.GarbleUp bytes) _ none is = is
+stays_in_step c FaultyContent.GiveUp answer none is = is
 stays_in_step c FaultyContent.Restart Outcome.Done none is = refl
 stays_in_step c FaultyContent.Restart _ none is = is
 stays_in_step c _ answer none is = absurd (false≢true (sym none))
@@ -167,6 +170,8 @@ clock_step c (FaultyContent.Plain ActContent.HostBreak) answer (none, calm) is =
 clock_step c (FaultyContent.Plain _) Outcome.Done (none, calm) is =
     record { in_step = is.in_step; asked = is.asked; mode = is.mode }
 clock_step c (FaultyContent.Plain _) _ (none, calm) is =
+    record { in_step = is.in_step; asked = is.asked; mode = is.mode }
+clock_step c FaultyContent.GiveUp answer (none, calm) is =
     record { in_step = is.in_step; asked = is.asked; mode = is.mode }
 clock_step c FaultyContent.Restart answer (none, calm) is = absurd (false≢true (sym calm))
 clock_step c _ answer (none, calm) is = absurd (false≢true (sym none))

@@ -53,4 +53,5 @@ module _ (equal : EqualIsSameReadOf ActHasArrays act_content (derived.eq-value).
       (λ t. let bytes = same.0 t in cc, λ e. same.1 cc)
   equal_faulty_acts faulty.BoardLost faulty.BoardLost h k = (λ _. refl, λ _. refl)
   equal_faulty_acts faulty.Restart faulty.Restart h k = (λ _. refl, λ _. refl)
+  equal_faulty_acts faulty.GiveUp faulty.GiveUp h k = (λ _. refl, λ _. refl)
   equal_faulty_acts _ _ h k = (λ t. cc, λ e. cc)

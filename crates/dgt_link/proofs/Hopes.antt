@@ -17,7 +17,7 @@ use Rattle.dgt_link.specs.Step.{Step}
 use Rattle.dgt_link.specs.View.{WorldView}
 use Rattle.dgt_link.proofs.Asking.{mode-step}
 use Rattle.dgt_link.proofs.Behind.{ActsBehind}
-use Rattle.dgt_link.proofs.Counting.{forgotten, garbled_stands, plain_step}
+use Rattle.dgt_link.proofs.Counting.{forgotten, garbled_stands, given_up_stands, plain_step}
 use Rattle.dgt_link.proofs.ActRuns.{run_keeps}
 use Rattle.dgt_link.proofs.Settling.{by_settling}
 
@@ -63,6 +63,18 @@ garbled Q keeps bytes world after is same =
       stands = garbled_stands bytes world after is.garbage is.state is.stands same;
       holds = keeps is.state is.holds;
     }
+
+-- the host gives up what it awaits
+pub given_up : (Q : MachineState → Type 0) (world after : WorldView) (answer : Outcome) → StandsWith Q world
+    → FaultyStep FaultyContent.GiveUp world answer after → StandsWith Q after
+given_up Q world after Outcome.Done is step =
+    record {
+      garbage = is.garbage;
+      state = is.state;
+      stands = given_up_stands world after is.garbage is.state is.stands step.leaves;
+      holds = is.holds;
+    }
+given_up Q world after _ is step = let a = step.answers in cc
 
 module _ (asks : Mode → Bool) (ends : FaultyContent → Bool) (Comes : MachineState → Type 0)
     (hope : Hope asks ends Comes) where
@@ -183,6 +195,7 @@ module _ (behind : ActsBehind) (asks : Mode → Bool) (ends : FaultyContent → 
     kept (FaultyContent.GarbleDown bytes) world after answer none going given is step =
         absurd (false≢true (sym none ∙ down bytes))
     kept FaultyContent.BoardLost world after answer none going given is step = absurd (false≢true (sym none ∙ lost))
+    kept FaultyContent.GiveUp world after answer none going given is step = given_up Q world after answer is step
     kept FaultyContent.Restart world after Outcome.Done none going given is step =
         anew FaultyContent.Restart world after refl going given step
     kept FaultyContent.Restart world after _ none going given is step = rw step.leaves is

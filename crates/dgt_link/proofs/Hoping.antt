@@ -19,8 +19,8 @@ use Rattle.dgt_link.specs.View.{WorldView}
 use Rattle.dgt_link.proofs.Asking.{dump_is_coming, step_keeps_coming}
 use Rattle.dgt_link.proofs.Behind.{ActsBehind}
 use Rattle.dgt_link.proofs.Clocks.{no_break}
-use Rattle.dgt_link.proofs.Counting.{Follows as Counted, break_follows, follows_in_step, follows_with, host_break_follows, plain_step, restart_follows}
-use Rattle.dgt_link.proofs.Hopes.{Follows, Hope, asked_promises, garbled, kept, led, other_following, other_promised, settling_is_plain, stays_promised}
+use Rattle.dgt_link.proofs.Counting.{Follows as Counted, break_follows, follows_in_step, follows_with, given_up_stands, host_break_follows, plain_step, restart_follows}
+use Rattle.dgt_link.proofs.Hopes.{Follows, Hope, asked_promises, garbled, given_up, kept, led, other_following, other_promised, settling_is_plain, stays_promised}
 use Rattle.dgt_link.proofs.Settling.{by_settling}
 use Rattle.dgt_link.proofs.Promises.{anew_is_promised, coming_promise}
 use Rattle.dgt_link.proofs.Standing.{moves-append}
@@ -93,6 +93,8 @@ module _ (behind : ActsBehind) where
     keeps_in_step (FaultyContent.GarbleUp bytes) world after _ keeps sane is step = rw step.leaves is
     keeps_in_step (FaultyContent.GarbleDown bytes) world after answer keeps sane is step = cc
     keeps_in_step FaultyContent.BoardLost world after answer keeps sane is step = cc
+    keeps_in_step FaultyContent.GiveUp world after answer keeps sane is step =
+        given_up (λ x. Unit {0}) world after answer is step
     keeps_in_step FaultyContent.Restart world after Outcome.Done keeps sane is step =
         follows_in_step true commands_anew after (restart_follows laws world after sane step.leaves)
     keeps_in_step FaultyContent.Restart world after _ keeps sane is step = rw step.leaves is
@@ -155,6 +157,14 @@ module _ (behind : ActsBehind) where
         → IsSane world → IsInTurnWorld world → FaultyStep act world answer after → IsInTurnWorld after
     keeps_in_turn (FaultyContent.Plain act) world after answer none sane is step =
         plain_in_turn act world answer after sane is step
+    keeps_in_turn FaultyContent.GiveUp world after Outcome.Done none sane is step =
+        record {
+          garbage = is.garbage;
+          state = is.state;
+          stands = given_up_stands world after is.garbage is.state is.stands step.leaves;
+          holds = rw step.leaves tt;
+        }
+    keeps_in_turn FaultyContent.GiveUp world after _ none sane is step = let a = step.answers in cc
     keeps_in_turn FaultyContent.Restart world after Outcome.Done none sane is step =
         anew_in_turn FaultyContent.Restart world after refl sane step
     keeps_in_turn FaultyContent.Restart world after _ none sane is step = rw step.leaves is

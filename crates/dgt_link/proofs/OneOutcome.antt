@@ -118,6 +118,7 @@ module _ (one_taking : (before after other : BoardView) (bytes : List ℕ) → H
   faulty_becomes_once (FaultyContent.GarbleDown bytes) world one other e f = e.1 ∙ sym f.1
   faulty_becomes_once FaultyContent.BoardLost world one other e f = e ∙ sym f
   faulty_becomes_once FaultyContent.Restart world one other e f = e ∙ sym f
+  faulty_becomes_once FaultyContent.GiveUp world one other e f = e ∙ sym f
 
   pub one_faulty_step : (act : FaultyContent) (world one other : WorldView) (answer also : Outcome)
       → FaultyStep act world answer one → FaultyStep act world also other → (answer ≡ also) × (one ≡ other)

@@ -26,6 +26,8 @@ pub data FaultyContent : Type 0 where
   BoardLost : FaultyContent
   -- the host begins anew: it gives up what it awaits and appends its restart bytes to the down line
   Restart : FaultyContent
+  -- the host gives up what it awaits; nothing else changes
+  GiveUp : FaultyContent
 
 -- the act of a host that sends a command
 abbrev pub sends : CommandContent → FaultyContent
@@ -37,6 +39,7 @@ faulty_content (faulty.GarbleUp bytes) = FaultyContent.GarbleUp bytes.now
 faulty_content (faulty.GarbleDown bytes) = FaultyContent.GarbleDown bytes.now
 faulty_content faulty.BoardLost = FaultyContent.BoardLost
 faulty_content faulty.Restart = FaultyContent.Restart
+faulty_content faulty.GiveUp = FaultyContent.GiveUp
 
 -- the arrays of its command are as long as their types say
 abbrev pub FaultyActHasArrays : FaultyAct → Type 0
@@ -53,6 +56,7 @@ faulty_outcome (FaultyContent.Plain act) world = outcome act world
 faulty_outcome (FaultyContent.GarbleUp bytes) world = holding_outcome world.up bytes
 faulty_outcome (FaultyContent.GarbleDown bytes) world = holding_outcome world.down bytes
 faulty_outcome FaultyContent.BoardLost world = Outcome.Done
+faulty_outcome FaultyContent.GiveUp world = Outcome.Done
 faulty_outcome FaultyContent.Restart world =
     if overflows world.down restart_bytes then Outcome.NoRoom else Outcome.Done
 
@@ -70,6 +74,8 @@ FaultyBecomes FaultyContent.Restart world after =
       host = host_awaiting (without_awaited world.host) (Some Kind.Dump);
       down = with_bytes world.down restart_bytes;
     }
+FaultyBecomes FaultyContent.GiveUp world after =
+    after ≡ record world { host = without_awaited world.host }
 
 -- an act, its outcome and the world after it; an act that isn't done changes nothing
 pub record FaultyStep (act : FaultyContent) (world : WorldView) (answer : Outcome)

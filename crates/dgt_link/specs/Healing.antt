@@ -39,7 +39,8 @@ sets_mode command = is_some (command_mode command)
 
 -- What counts after an act. If the bytes under way to the host are replaced, replies may be lost,
 -- and only the commands that set a mode still count. If those under way to the board are replaced,
--- or the board loses its power, nothing counts until the host begins anew.
+-- or the board loses its power, nothing counts until the host begins anew. A host that gives up
+-- what it awaits awaits nothing.
 abbrev pub counted_after : Counted → FaultyContent → Outcome → Counted
 counted_after c (FaultyContent.Plain ActContent.HostBreak) answer = counted_anew
 counted_after c (FaultyContent.Plain act) answer =
@@ -53,6 +54,7 @@ counted_after c (FaultyContent.GarbleUp bytes) Outcome.Done =
 counted_after c (FaultyContent.GarbleDown bytes) Outcome.Done = nothing_counted false
 counted_after c FaultyContent.BoardLost answer = nothing_counted false
 counted_after c FaultyContent.Restart Outcome.Done = counted_anew
+counted_after c FaultyContent.GiveUp answer = record c { in_turn = true }
 counted_after c _ answer = c
 
 abbrev pub counted_after_all : Counted → List FaultyContent → List Outcome → Counted

@@ -27,7 +27,7 @@ use crate::healing;
 use crate::line::Line;
 use crate::moving::{act_on, hold, restart_behind, send_next};
 use dgt_board::Board;
-use dgt_host::{Host, RESTART_LENGTH};
+use dgt_host::{Host, MAX_AWAITED, RESTART_LENGTH};
 use std::marker::Model;
 
 /// What happens to a world whose lines and whose board's power may fail.
@@ -46,6 +46,8 @@ pub enum FaultyAct<'a> {
     /// The host begins anew: it gives up the replies that it awaits, keeps its picture, and appends
     /// the 257 bytes of its `restart` to the down line. Both lines keep their bytes.
     Restart,
+    /// The host gives up the replies that it awaits, which may be lost. Nothing else changes.
+    GiveUp,
 }
 
 /// A board, a host and two lines of bytes, of which the lines and the board's power may fail.
@@ -92,6 +94,10 @@ impl FaultyWorld {
                 Outcome::Done
             }
             FaultyAct::Restart => restart_behind(&mut self.host, &mut self.down),
+            FaultyAct::GiveUp => {
+                self.host.give_up_awaited();
+                Outcome::Done
+            }
         }
     }
 
@@ -99,13 +105,22 @@ impl FaultyWorld {
     ///
     /// A `Plain` act has the outcome that [`crate::World::step`] gives it. `GarbleUp` and
     /// `GarbleDown` are `NoRoom` if the bytes don't fit into the line, and `Restart` is `NoRoom` if
-    /// the down line has room for fewer than 257 more bytes. `BoardLost` is always `Done`.
+    /// the down line has room for fewer than 257 more bytes. `BoardLost` and `GiveUp` are always
+    /// `Done`.
+    ///
+    /// A dump request is `TooMany` if 16 replies are awaited. After a `GiveUp` it is not, however
+    /// many replies were lost.
     pub fn step(&mut self, act: FaultyAct<'_>) -> Outcome
         ensures exact { FaultyStep (faulty_content act.entry) self.old result self.new }
         ensures unchanged { result ≢ Outcome.Done → self.new ≡ self.old }
         ensures restart { faulty_content act.entry ≡ FaultyContent.Restart →
             ((result ≡ Outcome.Done)
             ↔ (length self.old.down.bytes + RESTART_LENGTH ≤ self.old.down.capacity)) }
+        ensures given_up { faulty_content act.entry ≡ FaultyContent.GiveUp →
+            (result ≡ Outcome.Done) × (self.new.host.awaited ≡ []) }
+        ensures dump_done { faulty_content act.entry ≡ sends CommandContent.Dump →
+            length self.old.host.awaited < MAX_AWAITED →
+            length self.old.down.bytes < self.old.down.capacity → result ≡ Outcome.Done }
         // the picture: what promises that it heals, and what keeps that promise
         ensures anew { begins_anew (faulty_content act.entry) ≡ true → result ≡ Outcome.Done →
             IsPromisedWorld self.new }

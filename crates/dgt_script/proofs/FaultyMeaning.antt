@@ -27,6 +27,7 @@ plain_or_fault None word =
     else if bytes_eq word (codes "garbledown") then Some faulty.GarbleDown
     else if bytes_eq word (codes "boardlost") then Some faulty.BoardLost
     else if bytes_eq word (codes "restart") then Some faulty.Restart
+    else if bytes_eq word (codes "giveup") then Some faulty.GiveUp
     else None
 
 abbrev pub faulty_named : List ℕ → Option FaultyVerb
@@ -39,6 +40,7 @@ faulty_named-faulty_text faulty.GarbleUp = refl
 faulty_named-faulty_text faulty.GarbleDown = refl
 faulty_named-faulty_text faulty.BoardLost = refl
 faulty_named-faulty_text faulty.Restart = refl
+faulty_named-faulty_text faulty.GiveUp = refl
 
 -- the first word of a line that asks for the act
 abbrev pub faulty_verb_of : FaultyContent → FaultyVerb
@@ -47,6 +49,7 @@ faulty_verb_of (FaultyContent.GarbleUp bytes) = faulty.GarbleUp
 faulty_verb_of (FaultyContent.GarbleDown bytes) = faulty.GarbleDown
 faulty_verb_of FaultyContent.BoardLost = faulty.BoardLost
 faulty_verb_of FaultyContent.Restart = faulty.Restart
+faulty_verb_of FaultyContent.GiveUp = faulty.GiveUp
 
 pub asks_faulty_in_order : (parts : List (List ℕ)) (act : FaultyContent) → AsksFaulty parts act
     → (rest : List (List ℕ)) × (parts ≡ faulty_text (faulty_verb_of act) ∷ rest)
@@ -56,6 +59,7 @@ asks_faulty_in_order parts (FaultyContent.GarbleUp bytes) h = (h.0 ∷ [], h.1, 
 asks_faulty_in_order parts (FaultyContent.GarbleDown bytes) h = (h.0 ∷ [], h.1, ((bytes, h.2), tt))
 asks_faulty_in_order parts FaultyContent.BoardLost h = ([], h, tt)
 asks_faulty_in_order parts FaultyContent.Restart h = ([], h, tt)
+asks_faulty_in_order parts FaultyContent.GiveUp h = ([], h, tt)
 
 -- an act for each list of words of the right kinds
 pub faulty_kinds_ask : (named : FaultyVerb) (rest : List (List ℕ)) → AreOf (faulty_kinds named) rest
@@ -72,6 +76,8 @@ faulty_kinds_ask faulty.BoardLost rest h =
     (FaultyContent.BoardLost, none_left (faulty_text faulty.BoardLost) rest h)
 faulty_kinds_ask faulty.Restart rest h =
     (FaultyContent.Restart, none_left (faulty_text faulty.Restart) rest h)
+faulty_kinds_ask faulty.GiveUp rest h =
+    (FaultyContent.GiveUp, none_left (faulty_text faulty.GiveUp) rest h)
 
 abbrev pub faulty_order : IsOrdered faulty_words
 faulty_order = record {
@@ -104,6 +110,7 @@ same_faulty_act exact gives parts (FaultyContent.GarbleDown s) (FaultyContent.Ga
     ap FaultyContent.GarbleDown (one_value IsBytesWord one_bytes (faulty_text faulty.GarbleDown) parts s t h k)
 same_faulty_act exact gives parts FaultyContent.BoardLost FaultyContent.BoardLost e h k = refl
 same_faulty_act exact gives parts FaultyContent.Restart FaultyContent.Restart e h k = refl
+same_faulty_act exact gives parts FaultyContent.GiveUp FaultyContent.GiveUp e h k = refl
 same_faulty_act exact gives parts a b e h k = cc e
 
 -- ---- Lines

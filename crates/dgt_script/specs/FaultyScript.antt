@@ -13,6 +13,7 @@ faulty_text faulty.GarbleUp = codes "garbleup"
 faulty_text faulty.GarbleDown = codes "garbledown"
 faulty_text faulty.BoardLost = codes "boardlost"
 faulty_text faulty.Restart = codes "restart"
+faulty_text faulty.GiveUp = codes "giveup"
 
 -- what has to follow a first word, word for word
 abbrev pub faulty_kinds : FaultyVerb → List WordKind
@@ -21,6 +22,7 @@ faulty_kinds faulty.GarbleUp = some_bytes ∷ []
 faulty_kinds faulty.GarbleDown = some_bytes ∷ []
 faulty_kinds faulty.BoardLost = []
 faulty_kinds faulty.Restart = []
+faulty_kinds faulty.GiveUp = []
 
 -- these words ask for this act
 abbrev pub AsksFaulty : List (List ℕ) → FaultyContent → Type 0
@@ -31,6 +33,7 @@ AsksFaulty parts (FaultyContent.GarbleDown bytes) =
     HasWordAfter (faulty_text faulty.GarbleDown) IsBytesWord parts bytes
 AsksFaulty parts FaultyContent.BoardLost = parts ≡ faulty_text faulty.BoardLost ∷ []
 AsksFaulty parts FaultyContent.Restart = parts ≡ faulty_text faulty.Restart ∷ []
+AsksFaulty parts FaultyContent.GiveUp = parts ≡ faulty_text faulty.GiveUp ∷ []
 
 abbrev pub faulty_words : Vocabulary FaultyVerb FaultyContent
 faulty_words = record { text_of = faulty_text; kinds_of = faulty_kinds; asks = AsksFaulty }

@@ -23,6 +23,7 @@ use dgt_link::FaultyAct;
 /// | `garbledown BYTES` | `GarbleDown` |
 /// | `boardlost` | `BoardLost` |
 /// | `restart` | `Restart` |
+/// | `giveup` | `GiveUp` |
 ///
 /// `BYTES` is `-` for no byte, or two hexadecimal digits of either case for each byte. The bytes of
 /// the line are put in `store`, which may hold any bytes after a refusal. Any other line, and one
@@ -60,6 +61,10 @@ impl<'a> FirstWord<'a> for FaultyVerb {
             FaultyVerb::Restart => {
                 no_word(rest)?;
                 Ok(FaultyAct::Restart)
+            }
+            FaultyVerb::GiveUp => {
+                no_word(rest)?;
+                Ok(FaultyAct::GiveUp)
             }
         }
     }

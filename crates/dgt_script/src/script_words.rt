@@ -39,6 +39,7 @@ pub(crate) enum FaultyVerb {
     GarbleDown,
     BoardLost,
     Restart,
+    GiveUp,
 }
 
 // The value of the row with this word. A `match` over byte strings takes three times as long to
@@ -80,6 +81,7 @@ pub(crate) fn faulty_word(word: &[u8]) -> Option<FaultyVerb>
         b"garbledown" => FaultyVerb::GarbleDown,
         b"boardlost" => FaultyVerb::BoardLost,
         b"restart" => FaultyVerb::Restart,
+        b"giveup" => FaultyVerb::GiveUp,
     })
 }
 

@@ -112,7 +112,7 @@ Options:
       --position <P>  The pieces, as in a FEN [default: as a game begins]
       --up <N>        Room for bytes to the host, 67 to 65535 [default: 1024]
       --down <N>      Room for bytes to the board, 257 to 65535 [default: 1024]
-      --faults        Takes garbleup, garbledown, boardlost and restart too
+      --faults        Takes garbleup, garbledown, boardlost, restart, giveup
   -h, --help          Print help
 
 ";

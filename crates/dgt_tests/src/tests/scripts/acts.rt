@@ -19,7 +19,7 @@ send,toboard 1,toboard 65535,tohost 1,tohost 9,tohost 10,tohost 67,tohost 514,to
 break,hostbreak";
 
 /// Lines that have the form in which `faulty_text` writes their acts.
-const FAULTY: &str = "garbleup -,garbleup 8000,garbledown -,boardlost,restart";
+const FAULTY: &str = "garbleup -,garbleup 8000,garbledown -,boardlost,restart,giveup";
 
 /// Digits in upper case, and the same in lower case.
 const UPPER: [(&str, &str); 5] = [
@@ -88,6 +88,7 @@ fn faulty_text(alloc: Global, act: FaultyAct<'_>) -> Result<String, Fail> {
         }
         FaultyAct::BoardLost => Ok("boardlost".to_string(alloc)?),
         FaultyAct::Restart => Ok("restart".to_string(alloc)?),
+        FaultyAct::GiveUp => Ok("giveup".to_string(alloc)?),
     }
 }
 

@@ -16,6 +16,11 @@ invariant_of-self-in-BoardLost c =
     c.faults_keep.ensures FaultyContent.BoardLost _ _ Outcome.Done c.self.invariant
     (record { answers = refl; leaves = rw c.line_lost.ensures refl })
 
+pub invariant_of-self-in-GiveUp : goal.invariant_of-self-in-GiveUp
+invariant_of-self-in-GiveUp c =
+    c.faults_keep.ensures FaultyContent.GiveUp _ _ Outcome.Done c.self.invariant
+    (record { answers = refl; leaves = rw c.give_up_awaited.ensures.gives_up refl })
+
 pub invariant_of-self-in-Restart : goal.invariant_of-self-in-Restart
 invariant_of-self-in-Restart c =
     c.faults_keep.ensures FaultyContent.Restart _ _ c.restart_behind.result c.self.invariant

@@ -1,6 +1,6 @@
 use Rattle.dgt_link.specs.Faults.{faulty_content}
 use Rattle.dgt_link.proofs.Counting.{undone}
-use Rattle.dgt_link.proofs.Restarting.{restart_done}
+use Rattle.dgt_link.proofs.Restarting.{dump_is_done, gives_up, restart_done}
 use Rattle.dgt_link.proofs.faulty.FaultyWorld.step.Goals as goal
 
 pub returns : goal.returns
@@ -14,6 +14,8 @@ returns c =
       exact = step;
       unchanged = λ other. undone act _ _ _ other step;
       restart = λ is. restart_done _ _ _ (rw is at step);
+      given_up = λ is. gives_up _ _ _ (rw is at step);
+      dump_done = λ is few room. dump_is_done _ _ _ few room (rw is at step);
       anew = λ is done. hopes.anew act _ _ is sane (rw done at step);
       in_step = λ keeps is. hopes.in_step act _ _ c.act.result keeps sane is step;
       asked = λ command mode is sets asks done in_step.
