@@ -24,7 +24,7 @@ macro_rules! with_lines {
 
 PIECE is one of PRNBKQ (white), prnbkq (black) and XYZ (extra pieces), or . for
 an empty square. TIME is H:MM:SS and three flags as a number of 0 to 7. Bytes,
-CODE and STATUS are hexadecimal, and - stands for no BYTES. FAULT is wrongsize,
+CODE and STATUS are hexadecimal, and - means no BYTES. FAULT is wrongsize,
 or badpiece, badsquare or badreading and the place in the body, from 0 on.",
             $after
         )
@@ -237,7 +237,7 @@ the command in the words of 'dgt ask --help', or one of
 A display with other signs, with dots or with a beep is 'display' and its eight
 bytes: the places C, B, A, F, E and D, the dots and the beep. A text with other
 characters or with a beep is 'text' and its nine bytes: the characters and the
-beep. Bytes are hexadecimal, and - stands for no bytes. 'dgt ask' takes the
+beep. Bytes are hexadecimal, and - means no bytes. 'dgt ask' takes the
 lines of commands and of stray bytes, and writes the bytes again.
 
 Exit status: 0, with faults in the bytes too. It is 1 if standard input or
