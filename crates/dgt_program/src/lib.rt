@@ -6,11 +6,6 @@
 //! bytes:
 //!
 //! ```rust
-//! use dgt_arguments::refuse_arguments;
-//! use dgt_program::{Fault, run_words};
-//! use std::env;
-//! use std::process::ExitCode;
-//!
 //! fn main(rt: HostRuntime) -> ExitCode {
 //!     let alloc = rt.alloc();
 //!     let words: Result<Vec<String>, Fault> = match env::args(&rt) {
