@@ -288,3 +288,10 @@ module _ (mode : CommandContent) (bytes : List ℕ) (later : List FaultyContent)
       (sends mode ∷ FaultyContent.GarbleUp bytes ∷ sends CommandContent.Clock ∷ later)
       (Outcome.Done ∷ answer ∷ Outcome.Done ∷ others))
   reading_is_healing asks calm = clock_goes_on _ later others calm (reading_counts bytes answer mode asks)
+
+-- a host that gives up, in a world in step
+pub given_up_is_in_turn : (later : List FaultyContent) (answer : Outcome) (others : List Outcome) → AreFaultless later
+    → IsInTurn (counted_after_all (nothing_counted true) (FaultyContent.GiveUp ∷ later) (answer ∷ others))
+given_up_is_in_turn later answer others none =
+    goes_on IsInTurn (λ act. is_fault act ≡ false) turn_step _ later others none
+    (record { in_step = refl; in_turn = refl })

@@ -153,18 +153,25 @@ module _ (behind : ActsBehind) where
     plain_in_turn act world answer after sane is step =
         other_in_turn act world answer after refl is (plain_step act world answer after step)
 
-    pub keeps_in_turn : (act : FaultyContent) (world after : WorldView) (answer : Outcome) → is_fault act ≡ false
-        → IsSane world → IsInTurnWorld world → FaultyStep act world answer after → IsInTurnWorld after
-    keeps_in_turn (FaultyContent.Plain act) world after answer none sane is step =
-        plain_in_turn act world answer after sane is step
-    keeps_in_turn FaultyContent.GiveUp world after Outcome.Done none sane is step =
+    -- nothing is awaited any more
+    pub given_up_in_turn : (world after : WorldView) (answer : Outcome) → IsInStep world
+        → FaultyStep FaultyContent.GiveUp world answer after → IsInTurnWorld after
+    given_up_in_turn world after Outcome.Done is step =
         record {
           garbage = is.garbage;
           state = is.state;
           stands = given_up_stands world after is.garbage is.state is.stands step.leaves;
           holds = rw step.leaves tt;
         }
-    keeps_in_turn FaultyContent.GiveUp world after _ none sane is step = let a = step.answers in cc
+    given_up_in_turn world after _ is step = let a = step.answers in cc
+
+    pub keeps_in_turn : (act : FaultyContent) (world after : WorldView) (answer : Outcome) → is_fault act ≡ false
+        → IsSane world → IsInTurnWorld world → FaultyStep act world answer after → IsInTurnWorld after
+    keeps_in_turn (FaultyContent.Plain act) world after answer none sane is step =
+        plain_in_turn act world answer after sane is step
+    keeps_in_turn FaultyContent.GiveUp world after answer none sane is step =
+        given_up_in_turn world after answer
+        (record { garbage = is.garbage; state = is.state; stands = is.stands; holds = tt }) step
     keeps_in_turn FaultyContent.Restart world after Outcome.Done none sane is step =
         anew_in_turn FaultyContent.Restart world after refl sane step
     keeps_in_turn FaultyContent.Restart world after _ none sane is step = rw step.leaves is

@@ -157,6 +157,8 @@ impl FaultyWorld {
         // what the host awaits
         ensures awaited_anew { begins_anew (faulty_content act.entry) ≡ true →
             result ≡ Outcome.Done → IsInTurnWorld self.new }
+        ensures awaited_given_up { faulty_content act.entry ≡ FaultyContent.GiveUp →
+            IsInStep self.old → IsInTurnWorld self.new }
         ensures awaited_kept { is_fault (faulty_content act.entry) ≡ false →
             IsInTurnWorld self.old → IsInTurnWorld self.new }
     {

@@ -201,8 +201,9 @@ pub fn clocks_heal()
     laws::grammars();
 }
 
-/// What the host awaits. Each awaited reply is still to come in a world without faults, and in any
-/// world once the host has begun anew. Only a fault ends that. At rest nothing is awaited then.
+/// What the host awaits. Each awaited reply is still to come in a world without faults, in any
+/// world once the host has begun anew, and in one in step once it has given up. Only a fault ends
+/// that. At rest nothing is awaited then.
 pub fn awaited_replies_come()
     ensures world { (world : WorldView) → IsWorld world → IsInTurnWorld world }
     ensures anew { (act : FaultyContent) (world after : WorldView) → begins_anew act ≡ true
@@ -210,6 +211,8 @@ pub fn awaited_replies_come()
     ensures kept { (act : FaultyContent) (world after : WorldView) (answer : Outcome) →
         is_fault act ≡ false → IsSane world → IsInTurnWorld world
         → FaultyStep act world answer after → IsInTurnWorld after }
+    ensures given_up { (world after : WorldView) (answer : Outcome) → IsInStep world
+        → FaultyStep FaultyContent.GiveUp world answer after → IsInTurnWorld after }
     ensures counted { AfterFaults (λ acts world after answers.
         IsInTurn (counted_by false acts answers) → IsInTurnWorld after) }
     ensures settled { (count : ℕ) (world after : WorldView) → SettlesIn count world after
@@ -297,8 +300,12 @@ pub fn beginnings_count()
 {}
 
 /// In a world in step the bytes under way to the host may be replaced. A mode command from before
-/// that counts, and so does a dump or a reading that is requested afterwards.
+/// that counts, and so does a dump or a reading that is requested afterwards. What a host awaits is
+/// in turn again once it has given up, until the next fault.
 pub fn requests_count()
+    ensures awaited { (later : List FaultyContent) (answer : Outcome) (others : List Outcome)
+        → AreFaultless later
+        → IsInTurn (counted_by true (FaultyContent.GiveUp ∷ later) (answer ∷ others)) }
     ensures picture { (mode : CommandContent) (bytes : List ℕ) (later : List FaultyContent)
         (answer : Outcome) (others : List Outcome) → Contains
         (CommandContent.Update ∷ CommandContent.UpdateBoard ∷ CommandContent.UpdateNice ∷ []) mode

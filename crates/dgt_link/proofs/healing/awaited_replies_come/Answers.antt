@@ -1,5 +1,5 @@
 use Rattle.dgt_link.proofs.Counting.{counted_holds, counted_in_turn, in_turn_at_quiet, world_in_turn}
-use Rattle.dgt_link.proofs.Hoping.{anew_in_turn, keeps_in_turn, settled_in_turn}
+use Rattle.dgt_link.proofs.Hoping.{anew_in_turn, given_up_in_turn, keeps_in_turn, settled_in_turn}
 use Rattle.dgt_link.proofs.Rested.{in_turn_at_rest}
 use Rattle.dgt_link.proofs.healing.awaited_replies_come.Goals as goal
 
@@ -11,6 +11,7 @@ returns c =
       world = world_in_turn;
       anew = anew_in_turn behind laws;
       kept = keeps_in_turn behind laws;
+      given_up = given_up_in_turn behind laws;
       counted = λ acts world after answers sane runs turn.
           counted_in_turn _ after (counted_holds laws acts world after answers sane runs) turn;
       settled = settled_in_turn behind laws;

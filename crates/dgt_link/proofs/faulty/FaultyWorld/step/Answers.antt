@@ -31,5 +31,6 @@ returns c =
       reading = λ is done follows. clock.reading _ _ follows (rw (is, done) at step);
       clock_kept = λ none going is. clock.kept act _ _ c.act.result none going is step;
       awaited_anew = λ is done. c.awaited_replies_come.ensures.anew act _ _ is sane (rw done at step);
+      awaited_given_up = λ is in_step. c.awaited_replies_come.ensures.given_up _ _ _ in_step (rw is at step);
       awaited_kept = λ none is. c.awaited_replies_come.ensures.kept act _ _ c.act.result none sane is step;
     }
