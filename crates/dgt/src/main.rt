@@ -7,6 +7,7 @@
 //! board, a host, and the lines between them.
 //!
 //! `main` fetches the words and the streams, and `run_words` of `dgt_program` does the rest.
+//! This crate re-exports `run_words`, and `dgt_program` as `program`.
 #![tactic(auto)]
 
 mod terminals;
