@@ -1,5 +1,5 @@
 -- Acts that were all done: what they put on the board, and what they ask for.
-use Rattle.std.proofs.Common.{◌≡◌, refl, ap, ◌∙◌, ◌≤◌, List, [], ◌∷◌, ◌++◌, length, map, true, arith}
+use Rattle.std.proofs.Common.{◌≡◌, ◌⊎◌, inl, inr, refl, sym, ap, ◌∙◌, ◌≤◌, List, [], ◌∷◌, ◌++◌, length, map, true, arith, false}
 use Rattle.std.proofs.lemmas.Bool.{false≢true}
 use Rattle.std.proofs.lemmas.List.Elements.{filter_map-append, Contains-append_left, Contains-push}
 use Rattle.std.specs.Prelude.{Contains, IsTrue, filter_map}
@@ -13,6 +13,7 @@ use Rattle.dgt_link.specs.declared.acts.Act.{Act}
 use Rattle.dgt_link.specs.declared.acts.Act.TheVariants as act
 use Rattle.dgt_link.specs.declared.acts.Outcome.{Outcome}
 use Rattle.dgt_link.specs.Act.{act_content}
+use Rattle.dgt_link.specs.Faults.{AreCalm, FaultyContent, sends, stops}
 use Rattle.dgt_link.specs.Headline.{AskForPicture, Asking, asking_after, asking_with, nothing_asked, squares_after}
 use Rattle.dgt_link.specs.Promise.{IsAskedBy, commands_after, last_mode, run_requests}
 use Rattle.dgt_link.specs.Step.{Becomes, Runs, done_count}
@@ -143,3 +144,52 @@ pub asked_if_done : (acts : List Act) → AskForPicture acts → IsAskedBy (map 
 asked_if_done acts ask =
     let is = acts_more [] nothing_asked acts none_asked_for in
     record { dump = is.dump ask.dump; mode = is.mode ∙ ask.updates }
+
+-- ---- acts that ask for the picture, and calm ones after them
+
+abbrev plain_of : Act → FaultyContent
+plain_of one = FaultyContent.Plain (act_content one)
+
+abbrev AsksForBoth : Asking → Type 0
+AsksForBoth asking = IsTrue asking.dump × IsTrue asking.updates
+
+both_with : (asking : Asking) (one : Command) → stops (sends (command_content one)) ≡ false → AsksForBoth asking
+    → AsksForBoth (asking_with asking one)
+both_with asking command.Dump calm both = (refl, both.1)
+both_with asking command.Reset calm both = absurd (false≢true (sym calm))
+both_with asking command.Update calm both = (both.0, refl)
+both_with asking command.UpdateBoard calm both = (both.0, refl)
+both_with asking command.UpdateNice calm both = (both.0, refl)
+both_with asking _ calm both = both
+
+still_both : (asking : Asking) (acts : List Act) → AreCalm (map plain_of acts) → AsksForBoth asking
+    → AsksForBoth (asking_after asking acts)
+still_both asking [] calm both = both
+still_both asking (act.Host said ∷ acts) calm both =
+    still_both (asking_with asking said) acts calm.1 (both_with asking said calm.0.1 both)
+still_both asking (act.Break ∷ acts) calm both = absurd (false≢true (sym calm.0.1))
+still_both asking (act.HostBreak ∷ acts) calm both =
+    still_both (record { dump = true; updates = true }) acts calm.1 (refl, refl)
+still_both asking (_ ∷ acts) calm both = still_both asking acts calm.1 both
+
+both_after_any : (more : List Act) → ((asking : Asking) → AsksForBoth (asking_after asking more)) → (asking : Asking)
+    → (acts : List Act) → AsksForBoth (asking_after asking (acts ++ more))
+both_after_any more always asking [] = always asking
+both_after_any more always asking (act.Host said ∷ acts) =
+    both_after_any more always (asking_with asking said) acts
+both_after_any more always asking (act.Break ∷ acts) = both_after_any more always nothing_asked acts
+both_after_any more always asking (act.HostBreak ∷ acts) =
+    both_after_any more always (record { dump = true; updates = true }) acts
+both_after_any more always asking (_ ∷ acts) = both_after_any more always asking acts
+
+pub asks_for_picture : (acts later : List Act) (mode : Command)
+    → (mode ≡ command.Update) ⊎ ((mode ≡ command.UpdateBoard) ⊎ (mode ≡ command.UpdateNice))
+    → AreCalm (map plain_of later) → AskForPicture (acts ++ act.Host mode ∷ act.Host command.Dump ∷ later)
+asks_for_picture acts later mode asks calm =
+    let both = both_after_any (act.Host mode ∷ act.Host command.Dump ∷ later)
+    (λ asking. elim asks [
+      | inl is ↦ rw is (still_both _ later calm (refl, refl))
+      | inr (inl is) ↦ rw is (still_both _ later calm (refl, refl))
+      | inr (inr is) ↦ rw is (still_both _ later calm (refl, refl))
+    ]) nothing_asked acts in
+    record { dump = both.0; updates = both.1 }

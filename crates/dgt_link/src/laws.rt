@@ -1,7 +1,7 @@
 //! What holds of the machine of a board and its host, and of the worlds that stand for its states.
 //! Nothing here runs: each function stands for the facts that its contract states.
 
-ghost use Rattle.std.specs.Prelude.{◌≡◌, ◌≢◌, ◌≤◌, ◌<◌, ℕ, List, [], ◌∷◌, ◌++◌, All, Contains};
+ghost use Rattle.std.specs.Prelude.{◌≡◌, ◌≢◌, ◌⊎◌, ◌≤◌, ◌<◌, ℕ, List, [], ◌∷◌, ◌++◌, All, Contains};
 ghost use Rattle.std.specs.Prelude.{Some, None, flat_map, length, map, replicate, IsTrue, IsSome};
 ghost use Rattle.std.specs.List.{AllByRecursion};
 ghost use Rattle.dgt_values.specs.declared.pieces.Piece.{Piece};
@@ -24,6 +24,9 @@ ghost use Rattle.dgt_link.specs.Sound.{IsExact, IsSound, IsUnknownOr, coming_pic
 ghost use Rattle.dgt_link.specs.Promise.{IsAsked, IsAskedBy, IsPromised, IsQuiet, IsRestarted, PictureIsComing, act_requests, coming_mode, commands_after, mode_after, requests};
 ghost use Rattle.dgt_link.specs.Act.{ActContent, act_content, ActHasArrays};
 ghost use Rattle.dgt_link.specs.Faults.{AreCalm, FaultyActHasArrays, FaultyContent, FaultyStep, faulty_content};
+ghost use Rattle.dgt_command.specs.declared.command.Command.{Command as AnyCommand};
+ghost use Rattle.dgt_link.specs.declared.acts.Act.{Act as AnyAct};
+ghost use Rattle.dgt_link.specs.Headline.{AskForPicture};
 ghost use Rattle.dgt_link.specs.Readers.{Grammars};
 ghost use Rattle.dgt_link.specs.Stands.{IsExactWorld, IsWorld, StandsAfterRun, StandsAfterStep, StandsFor};
 ghost use Rattle.dgt_link.specs.declared.acts.Outcome.{Outcome};
@@ -34,6 +37,7 @@ ghost use Rattle.dgt_link.specs.Healing.{IsRestedWorld};
 ghost use Rattle.dgt_link.specs.View.{IsQuietWorld, WorldView};
 
 use crate::{Act, FaultyAct, MIN_DOWN, MIN_UP, Outcome as ActOutcome, WorldFault};
+use dgt_command::Command;
 
 // What proofs use of the readers of messages and of commands.
 pub(crate) fn grammars()
@@ -337,7 +341,7 @@ pub fn picture_after_acts()
     at_quiet_world();
 }
 
-/// What `IsAskedBy` asks for, act by act. Whatever was done before, a command that asks for updates
+/// What `IsAskedBy` and `AskForPicture` ask for, act by act. Whatever was done before, a command that asks for updates
 /// and a dump request are enough, in either order, if both are done. They still count after any
 /// acts of which none is a reset or a break that both sides see.
 pub fn asking_counts()
@@ -353,6 +357,10 @@ pub fn asking_counts()
         → AreCalm (map FaultyContent.Plain later) → IsAskedBy
         (acts ++ ActContent.Host CommandContent.Dump ∷ ActContent.Host mode ∷ later)
         (answers ++ Outcome.Done ∷ Outcome.Done ∷ others) }
+    ensures play { (acts later : List AnyAct) (mode : AnyCommand) →
+        (mode ≡ Command.Update) ⊎ ((mode ≡ Command.UpdateBoard) ⊎ (mode ≡ Command.UpdateNice))
+        → AreCalm (map (λ act. FaultyContent.Plain (act_content act)) later)
+        → AskForPicture (acts ++ Act.Host mode ∷ Act.Host Command.Dump ∷ later) }
 {}
 
 /// Two bounds in numbers. The up line takes 67 bytes and has 5, the board has 2 messages to send,
