@@ -341,9 +341,9 @@ pub fn picture_after_acts()
     at_quiet_world();
 }
 
-/// What `IsAskedBy` and `AskForPicture` ask for, act by act. Whatever was done before, a command that asks for updates
-/// and a dump request are enough, in either order, if both are done. They still count after any
-/// acts of which none is a reset or a break that both sides see.
+/// What `IsAskedBy` and `AskForPicture` ask for, act by act. Whatever was done before, a command
+/// that asks for updates and a dump request are enough, in either order, if both are done. They
+/// still count after any acts of which none is a reset or a break that both sides see.
 pub fn asking_counts()
     ensures mode_first { (acts later : List ActContent) (mode : CommandContent)
         (answers others : List Outcome) → length answers ≡ length acts → Contains
