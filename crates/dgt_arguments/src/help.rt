@@ -349,7 +349,7 @@ With --faults there are these acts too:
   restart              the host gives up the answers it awaits, and sends 255
                        zeros, 44 and 42 after the bytes already on their way; it
                        keeps its picture
-  giveup               the host gives up the answers it awaits, and sends nothing
+  giveup               the host gives up the answers it awaits, and no more
 
 Words have one space between them. HEX is two digits a byte: at most 255 bytes
 for garbleup, and 254 for garbledown. N is 1 to 65535. A line has 519 bytes at
