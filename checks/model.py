@@ -335,8 +335,8 @@ ASKED |= {"follow": b"\x44\x42", "restart": bytes(255) + b"\x44\x42"}
 
 
 def read_digits(word, most):
-    """The bytes of hexadecimal digits, if there are no more of them."""
-    is_right = re.fullmatch(r"([0-9A-Fa-f]{2})*", word) and len(word) <= 2 * most
+    """The bytes of hexadecimal digits: one byte or more, and no more than these."""
+    is_right = re.fullmatch(r"([0-9A-Fa-f]{2})+", word) and len(word) <= 2 * most
     return bytes.fromhex(word) if is_right else None
 
 
@@ -403,7 +403,7 @@ DETAILS |= {"clockmessage": (2, ask_clock_message), "leds": (1, ask_leds), "stra
 
 def ask(arguments):
     """What `dgt ask` writes, or None if an argument is wrong or missing. None asks for help."""
-    output, rest = b"", list(arguments)
+    output, rest = b"", list(arguments[arguments[:1] == ["--"] :])
     while rest:
         argument = rest.pop(0)
         if argument in ASKED:
