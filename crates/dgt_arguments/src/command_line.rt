@@ -249,7 +249,10 @@ fn unmatched(alloc: Global, words: &[String]) -> Result<BadArguments, BadArgumen
         .try_collect(alloc)?;
     let text = match command(alloc)?.try_get_matches_from(words.as_slice()) {
         Ok(_) => return without_task(alloc),
-        Err(error) => error.to_string(alloc)?,
+        Err(error) => match error.kind() {
+            ErrorKind::OutOfMemory => return Err(BadArguments::OutOfMemory),
+            _ => error.to_string(alloc)?,
+        },
     };
     let file = extra_file(words.as_slice(), text.as_str());
     let text = match (file, text.split_once("\n\n")) {
