@@ -93,8 +93,8 @@ class Position(Sequence[str]):
     @classmethod
     def parse(cls, placement: str) -> Position:
         """Returns the position that the first field of a FEN gives. `BadPlacement` if the text is
-        none."""
-        text = str.encode(placement, errors="replace") if isinstance(placement, str) else b""
+        none, and `TypeError` if it is no text."""
+        text = str.encode(checked(placement, str), errors="replace")
         codes = (c_uint8 * 64)()
         parsed = dgt.dgt_parse_placement(text, len(text), codes)
         if not parsed.ok:
