@@ -36,7 +36,9 @@ def pieces(text: str) -> list[Part]:
     """Comments that begin a line, lines of the preprocessor, and the code between them."""
     found = []
     text = re.sub(r"#ifdef __cplusplus\n[^#]*#endif\n", "", text)
-    token = re.compile(r"^/\*(.*?)\*/|^#(?:[^\n]*\\\n)*[^\n]*|^[^\s#/](?:[^{};]|\{[^{}]*\})*?"
+    # a body in braces may have pairs of braces in it
+    token = re.compile(r"^/\*(.*?)\*/|^#(?:[^\n]*\\\n)*[^\n]*|^[^\s#/](?:[^{};]|"
+                       r"\{(?:[^{}]|\{[^{}]*\})*\})*?"
                        r"(?:;[^\n]*(?:\n {10,}[^\n]*\*/)?|(?<=\n\})(?=\n))", re.S | re.M)
     for match in token.finditer(text):
         if match[1] is not None:
@@ -67,8 +69,11 @@ def read(header: pathlib.Path = HEADER) -> list[Section]:
         elif part.kind == "comment":
             sections[-1].parts.append(part)
         elif not re.match(r"#(?!define DGT_[A-Z_]*[A-Z]\b)|#define DGT_H$|DGT_SIZE_", part.text):
-            if cleaned := clean(part.text):
-                sections[-1].parts.append(Part("code", cleaned))
+            cleaned, parts = clean(part.text), sections[-1].parts
+            if not re.match(r"static inline .*\bdgt_\w*_\(", cleaned):
+                parts += [Part("code", cleaned)] if cleaned else []
+            elif len(parts) > 1 and parts[-1].kind == "comment":  # of a call of its own
+                parts.pop()
     return [section for section in sections if section.parts]
 
 
