@@ -140,7 +140,7 @@ impl Board {
             let event = Some(CommandEvent::Command(command));
             return Ok(Taken { used, event });
         }
-        let event = self.framer.event(found);
+        let event = self.framer.event(found).unwrap();
         self.state.obey(&event);
         Ok(Taken {
             used,

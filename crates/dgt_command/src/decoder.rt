@@ -71,7 +71,7 @@ impl CommandDecoder {
             let event = Some(CommandEvent::Command(command));
             return CommandFed { used, event };
         }
-        let event = Some(self.framer.event(found));
+        let event = self.framer.event(found);
         CommandFed { used, event }
     }
 

@@ -1,7 +1,7 @@
 //! The words of the line, one by one, as their bytes come.
 
 ghost use Rattle.std.specs.Prelude.{◌≡◌, ◌≢◌, ◌+◌, ◌<◌, ◌≤◌, [], ◌++◌, length, take, true, false, Some};
-ghost use Rattle.std.specs.Prelude.{IsTrue, IfSome, IfNone, OnSome, is_some};
+ghost use Rattle.std.specs.Prelude.{IsTrue, IfSome, IfNone, MatchOption, OnSome, is_some};
 ghost use Rattle.dgt_command.specs.Content.{CommandContent, Read, command_content, command_event_content};
 ghost use Rattle.dgt_command.specs.Encoding.{IsEncoding, EncodesCommand, command_in};
 ghost use Rattle.dgt_command.specs.Framing.{word_found_in, rest_after, rest_of};
@@ -133,17 +133,6 @@ fn found_word(word: &[u8]) -> FoundWord
     }
 }
 
-// The event of a command's bytes.
-fn whole_command(word: &[u8]) -> CommandEvent<'_>
-    requires { IsEncoding word.now }
-    ensures { command_event_content result ≡ word_found_in word.now FoundWord.Command }
-{
-    let Some(command) = view_command(word) else {
-        unreachable!()
-    };
-    CommandEvent::Command(command)
-}
-
 impl WordFramer {
     /// A framer that keeps nothing.
     pub fn new() -> Self
@@ -206,18 +195,24 @@ impl WordFramer {
         AdvancedWord { used, found }
     }
 
-    /// The event of what `advance` found last. A command is that of the word kept.
+    /// The event of what was found, or `None` if a command was found and the word kept is none.
+    /// One that `advance` has just found is kept until the next byte.
     #[inline(never)]
-    pub fn event(&self, found: FoundWord) -> CommandEvent<'_>
-        requires { found ≡ FoundWord.Command → IsEncoding self.now.word }
-        ensures { command_event_content result ≡ word_found_in self.now.word found }
+    pub fn event(&self, found: FoundWord) -> Option<CommandEvent<'_>>
+        ensures { MatchOption result
+            ((found ≡ FoundWord.Command) × ¬ (IsEncoding self.now.word))
+            (λ event. (found ≡ FoundWord.Command → IsEncoding self.now.word)
+            × (command_event_content event ≡ word_found_in self.now.word found)) }
     {
         match found {
-            FoundWord::Command => whole_command(self.word.as_slice()),
-            FoundWord::BadSize => CommandEvent::BadSize,
-            FoundWord::BadStart => CommandEvent::BadStart,
-            FoundWord::BadEnd => CommandEvent::BadEnd,
-            FoundWord::Stray(byte) => CommandEvent::Stray(byte),
+            FoundWord::Command => {
+                let command = view_command(self.word.as_slice())?;
+                Some(CommandEvent::Command(command))
+            }
+            FoundWord::BadSize => Some(CommandEvent::BadSize),
+            FoundWord::BadStart => Some(CommandEvent::BadStart),
+            FoundWord::BadEnd => Some(CommandEvent::BadEnd),
+            FoundWord::Stray(byte) => Some(CommandEvent::Stray(byte)),
         }
     }
 

@@ -76,7 +76,7 @@ impl Decoder {
         };
         Fed {
             used,
-            event: Some(self.framer.event(found)),
+            event: self.framer.event(found),
         }
     }
 
@@ -95,7 +95,7 @@ impl Decoder {
             let advanced = self.framer.advance(&chunk[at..]);
             at += advanced.used;
             if let Some(found) = advanced.found {
-                listener.hear(at, &self.framer.event(found));
+                listener.hear(at, &self.framer.event(found).unwrap());
             }
         }
     }

@@ -1,6 +1,6 @@
 //! The reading of one message after another: its states, and the bytes that have come.
 
-ghost use Rattle.std.specs.Prelude.{◌≡◌, ◌≢◌, ◌≤◌, ◌<◌, ◌+◌, List, ℕ, [], ◌∷◌, ◌++◌, true, length, take, option_map, ◌==◌, if◌then◌else◌, Some, None};
+ghost use Rattle.std.specs.Prelude.{◌≡◌, ◌≢◌, ◌≤◌, ◌<◌, ◌+◌, List, ℕ, [], ◌∷◌, ◌++◌, true, length, take, option_map, ◌==◌, if◌then◌else◌, MatchOption, Some, None};
 ghost use Rattle.std.specs.List.{position_or_len};
 ghost use Rattle.dgt_decode.specs.Grammar.{has_top_bit, message_event, unfinished_message};
 ghost use Rattle.dgt_decode.specs.Feeding.{FirstEvent, IsWholeMessage, event_content, event_found_in};
@@ -173,37 +173,42 @@ impl Framer {
         Advanced { used, found: None }
     }
 
-    /// The event of what was found. A message that was found is still kept here: `advance` says so,
-    /// and no byte may come in between.
+    /// The event of what was found, or `None` if a message was found and no whole message is kept.
+    /// One that `advance` has just found is kept until the next byte.
     #[inline(always)]
-    pub fn event(&self, found: Found) -> Event<'_>
-        requires { found ≡ Found.Message → IsWholeMessage self.now }
-        ensures { event_content result ≡ event_found_in self.now found }
+    pub fn event(&self, found: Found) -> Option<Event<'_>>
+        ensures { MatchOption result
+            ((found ≡ Found.Message) × ¬ (IsWholeMessage self.now))
+            (λ event. (found ≡ Found.Message → IsWholeMessage self.now)
+            × (event_content event ≡ event_found_in self.now found)) }
     {
         if let Found::Message = found {
             if let Some((square, piece)) = field_update(self.kept.as_slice()) {
-                return Event::Message(Message::Field { square, piece });
+                return Some(Event::Message(Message::Field { square, piece }));
             }
             return self.read_message();
         }
         // In one `match` with messages these would make a field take half as long again.
         match found {
-            Found::Cut { have } => Event::Cut { have },
-            Found::Stray(byte) => Event::Stray(byte),
-            Found::BadLength | Found::Message => Event::BadLength,
+            Found::Cut { have } => Some(Event::Cut { have }),
+            Found::Stray(byte) => Some(Event::Stray(byte)),
+            Found::BadLength | Found::Message => Some(Event::BadLength),
         }
     }
 
-    // The event of the message that is kept. Not inlined: a field would then be copied through its
-    // room for an event.
+    // The event of the message that is kept, if it is whole. Not inlined: a field would then be
+    // copied through its room for an event.
     #[inline(never)]
-    fn read_message(&self) -> Event<'_>
-        requires { IsWholeMessage self.now }
-        ensures { event_content result ≡ message_event self.now }
+    fn read_message(&self) -> Option<Event<'_>>
+        ensures { MatchOption result (¬ (IsWholeMessage self.now))
+            (λ event. IsWholeMessage self.now × (event_content event ≡ message_event self.now)) }
     {
+        let FramerState::Whole = self.state else {
+            return None;
+        };
         match dump_position(self.kept.as_slice()) {
-            Some(position) => Event::Message(Message::Dump(position)),
-            None => whole_message(self.kept.as_slice()),
+            Some(position) => Some(Event::Message(Message::Dump(position))),
+            None => Some(whole_message(self.kept.as_slice())),
         }
     }
 

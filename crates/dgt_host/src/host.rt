@@ -235,7 +235,7 @@ impl Host {
                 unasked: false,
             };
         };
-        let event = self.framer.event(found);
+        let event = self.framer.event(found).unwrap();
         let unasked = hear_event(
             &event,
             &mut self.picture,

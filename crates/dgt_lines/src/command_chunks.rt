@@ -39,7 +39,7 @@ impl Printer<COMMANDS_ROOM> for WordFramer {
         if let Some(found) = advanced.found {
             let end = offset + advanced.used as u64;
             outgoing.make_room(writer, COMMAND_ROOM)?;
-            push_line(outgoing, end, &self.event(found));
+            push_line(outgoing, end, &self.event(found).unwrap());
         }
         Ok(advanced.used)
     }

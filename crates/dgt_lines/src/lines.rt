@@ -207,7 +207,8 @@ fn put_message_event<W: Sink, const ROOM: usize>(
     ensures no_flush { W.flushed writer.old ≡ false → W.flushed writer.new ≡ false }
     ensures waits { OnOk result (Waits outgoing.new (W.flushed writer.new)) }
 {
-    put_event(outgoing, writer, offset, &framer.event(Found::Message))
+    let event = framer.event(Found::Message).unwrap();
+    put_event(outgoing, writer, offset, &event)
 }
 
 /// Writes the line of a message or a command of which this number of bytes came, and no more,

@@ -121,7 +121,7 @@ fn hear_event<W: Sink>(
     ensures puts { Puts W.Sink (outgoing.old, outgoing.new) writer.old writer.new result
         (flat_map report_line (reports_at offset (message_event framer.now) state.old)) }
 {
-    let Event::Message(message) = framer.event(Found::Message) else {
+    let Some(Event::Message(message)) = framer.event(Found::Message) else {
         return hear_fault(state, outgoing, writer, offset);
     };
     match state.hear(&message) {

@@ -90,7 +90,8 @@ fn a_framer_lends_what_it_found(rt: HostRuntime) {
     match advanced.found {
         Some(found) => {
             assert_same(&rt, found, Found::Message);
-            assert!(rt; matches!(framer.event(found), Event::Message(Message::Field { .. })));
+            let event = framer.event(found);
+            assert!(rt; matches!(event, Some(Event::Message(Message::Field { .. }))));
         }
         None => panic!(rt; "no message was found"),
     }

@@ -14,9 +14,10 @@ invariant_of-self-2 c = rw (c.advance-advanced.ensures.held, c.in-Some.is) c.par
 pub returns : goal.returns
 returns c =
     let bytes = take c.advance-advanced.result.used c.args.chunk.now in
-    let event = command_event_content c.event-event.result in
+    let event = command_event_content c.unwrap-event.result in
+    let is = (rw c.unwrap-event.ensures at c.event.ensures).1 in
     let word : IsWord event (c.args.self.now.partial ++ bytes) =
-    rw (c.event-event.ensures, ← c.self.view_is) (rw c.in-Some.is at c.advance-advanced.ensures.first) in
+    rw (is, ← c.self.view_is) (rw c.in-Some.is at c.advance-advanced.ensures.first) in
     let state : state_of c.obey.new.self ≡ effect c.args.self.now.state event =
     rw (← c.self.view_is) c.obey.ensures in
     let rest : rest_of c.advance-advanced.new.self ≡ [] = rw c.in-Some.is at c.advance-advanced.ensures.held in

@@ -18,7 +18,8 @@ loop-at-preserved-in-Some g c =
     heard_one g.L.Listener.hears c.args.self.now c.args.chunk.now c.loop-at.at c.advance-advanced.result.used
     c.args.listener.now c.loop-at.listener c.hear.new.self (unfinished_message c.loop-at.self-inside.framer)
     (unfinished_message c.advance-advanced.new.self) (event_found_in c.advance-advanced.new.self c.in-Some.found)
-    c.loop-at.invariant call.within (rw c.in-Some.is at call.first) call.held (rw c.event.ensures at c.hear.ensures)
+    c.loop-at.invariant call.within (rw c.in-Some.is at call.first) call.held
+    (rw (rw c.unwrap.ensures at c.event.ensures).1 at c.hear.ensures)
 
 pub loop-at-preserved : goal.loop-at-preserved
 loop-at-preserved g c =

@@ -15,7 +15,7 @@ returns-in_err-make_room-clause-output g c = λ first bytes text printed counted
 
 pub returns-in_ok-make_room-clause-output : goal.returns-in_ok-make_room-clause-output
 returns-in_ok-make_room-clause-output g c = λ first bytes text printed counted.
-    let line = rw c.event.ensures at c.push_line.ensures in
+    let line = rw (rw c.unwrap.ensures at c.event.ensures).1 at c.push_line.ensures in
     gathers_some bytes _ text c.advance-advanced.result.used _
     (listed_event printed _ _ _ _ c.advance-advanced.ensures.within counted c.parts_of_words.ensures.nothing
     (rw c.in-Some.is at c.advance-advanced.ensures.first) _ (rw c.in-Some.is at c.advance-advanced.ensures.held))
