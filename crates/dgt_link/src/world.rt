@@ -353,6 +353,7 @@ impl World {
             × (result ≡ done_count outcomes)
             × Runs (map act_content acts.now) self.old outcomes between
             × SettlesIn steps between self.new }
+        ensures quiet { IsQuietWorld self.new }
         ensures picture { result ≡ length acts.now → AskForPicture acts.now →
             self.new.host.picture ≡ Some (squares_after self.old.board.state.squares acts.now) }
     {
