@@ -8,8 +8,9 @@ ghost use Rattle.dgt_command.specs.Content.{CommandContent, EventContent, comman
 ghost use Rattle.dgt_command.specs.Equality.{EventHasArrays};
 ghost use Rattle.dgt_board.specs.declared.boards.Taken.{Taken};
 ghost use Rattle.dgt_board.specs.declared.modes.Mode.{Mode as BoardMode};
-ghost use Rattle.dgt_board.specs.State.{BoardState, IdentityContent, OwesByItsMode, after_hand_clock, after_line_lost, command_mode, effect, effects, follows_clock, new_board, updates};
-ghost use Rattle.dgt_message.specs.Clock.{ClockState};
+ghost use Rattle.dgt_board.specs.State.{BoardState, IdentityContent, OwesByItsMode, after_hand_clock, after_line_lost, command_mode, effect, effects, follows_clock, new_board, updates, IsKeptBody, IsShortClock, IsShortIdentity};
+ghost use Rattle.dgt_message.specs.Clock.{Absence, ClockState};
+ghost use Rattle.dgt_values.specs.Bytes.{AreSevenBit};
 ghost use Rattle.dgt_values.specs.declared.pieces.Piece.{Piece};
 ghost use Rattle.dgt_board.specs.Sending.{after_sending, backlog, clock_news, left_to_send, next_message, piece_on, unreported_squares};
 ghost use Rattle.dgt_board.specs.View.{BoardView, HasTaken};
@@ -131,4 +132,14 @@ pub fn fields_rise()
     ensures { (board : BoardState) (square lower : ℕ) (piece : Piece) → board.owed ≡ []
         → next_message board ≡ Some (Content.field square piece) → lower < square
         → piece_on board.squares lower ≡ piece_on board.reported_squares lower }
+{}
+
+/// What is short enough for the premises of other laws, in numbers.
+pub fn what_is_short()
+    ensures identity { (identity : IdentityContent) → length identity.serial ≤ 64
+        → length identity.trademark ≤ 64 → length identity.battery ≤ 64
+        → length identity.long_serial ≤ 64 → IsShortIdentity identity }
+    ensures clock { (absence : Absence) → length absence.raw ≤ 63
+        → IsShortClock (ClockState.no_clock absence) }
+    ensures body { (body : List ℕ) → length body ≤ 64 → AreSevenBit body → IsKeptBody body }
 {}

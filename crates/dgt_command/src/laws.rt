@@ -1,10 +1,11 @@
 //! What holds of commands, of the words on the line and of how bytes divide into them, whoever
 //! reads or writes them.
 
-ghost use Rattle.std.specs.Prelude.{◌≡◌, ◌↔◌, ◌++◌, ℕ, List, [], Some};
+ghost use Rattle.std.specs.Prelude.{◌≡◌, ◌↔◌, ◌∷◌, ◌++◌, ℕ, List, [], None, Some, map, replicate};
+ghost use Rattle.dgt_values.specs.declared.kinds.Kind.{Kind};
 ghost use Rattle.dgt_values.specs.Equality.{CloneIsSame, EqualIsSame, EqualIsSameRead, EqualIsSameReadOf};
 ghost use Rattle.dgt_command.specs.declared.ids.KnownId.{KnownId};
-ghost use Rattle.dgt_command.specs.Content.{led_bytes, payload_bytes, raw_id, raw_payload, EventContent, clock_content, command_content, command_event_content};
+ghost use Rattle.dgt_command.specs.Content.{led_bytes, payload_bytes, raw_id, raw_payload, requested_kind, CommandContent, EventContent, clock_content, command_content, command_event_content};
 ghost use Rattle.dgt_command.specs.Equality.{CommandHasArrays, EventHasArrays, FedHasArrays, HasArrays, fed_seen};
 ghost use Rattle.dgt_command.specs.Ids.{id_number, id_with};
 ghost use Rattle.dgt_command.specs.Laws.{CommandsAreReadBack, DivisionsAppend, EachDividesOnce, EachHasItsWords, PrefixesDivideFirst, NoWordBeginsAPart, NoWordBeginsAnother, EncodingsGiveCommands, WordsAreShort, ZerosSettleTheReader};
@@ -122,4 +123,15 @@ pub fn words_are_short()
 /// The bytes of a command are those of no other command: they determine it.
 pub fn encodings_give_commands()
     ensures { EncodingsGiveCommands }
+{}
+
+/// The kinds of replies by the commands that ask for them: the clock's has none.
+pub fn kinds_of_requests()
+    ensures requests { map requested_kind (CommandContent.Dump ∷ CommandContent.Serial
+        ∷ CommandContent.Trademark ∷ CommandContent.Version ∷ CommandContent.Battery
+        ∷ CommandContent.LongSerial ∷ []) ≡ map Some (Kind.Dump ∷ Kind.Serial ∷ Kind.Trademark
+        ∷ Kind.Version ∷ Kind.Battery ∷ Kind.LongSerial ∷ []) }
+    ensures none { map requested_kind (CommandContent.Reset ∷ CommandContent.Clock
+        ∷ CommandContent.Update ∷ CommandContent.UpdateBoard ∷ CommandContent.UpdateNice ∷ [])
+        ≡ replicate 5 None }
 {}

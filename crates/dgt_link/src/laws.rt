@@ -16,7 +16,7 @@ ghost use Rattle.dgt_decode.specs.Grammar.{Event};
 ghost use Rattle.dgt_board.specs.declared.replies.Reply.{Reply};
 ghost use Rattle.dgt_board.specs.State.{IdentityContent, BoardState, IsShortClock, IsShortIdentity, follows_clock, updates, effects};
 ghost use Rattle.dgt_board.specs.declared.modes.Mode.{Mode};
-ghost use Rattle.dgt_board.specs.Sending.{after_sending, backlog, next_message};
+ghost use Rattle.dgt_board.specs.Sending.{after_sending, backlog, next_message, pending_messages, piece_on};
 ghost use Rattle.dgt_message.specs.Picture.{picture_after_all};
 ghost use Rattle.dgt_host.specs.Host.{IsUnasked};
 ghost use Rattle.dgt_link.specs.Machine.{IsHostBreak, IsSending, MachineState, Move, after_move, after_moves, commands_anew, new_state};
@@ -375,6 +375,36 @@ pub fn bounds_in_numbers()
         → backlog x.board ≡ 2 → length x.down ≡ 3 → length moves ≤ 14 }
     ensures rounds { (rounds : ℕ) → HasRounds rounds (flat_map (λ round. round) (replicate rounds
         (ActContent.BoardSend ∷ ActContent.ToBoard 1 ∷ ActContent.ToHost 1 ∷ []))) }
+    ensures done { done_count (Outcome.Done ∷ Outcome.Nothing ∷ Outcome.Done ∷ []) ≡ 2 }
+{}
+
+/// What is enough for a quiet world, a quiet state and a world at rest, and that moves that settle
+/// a state make it quiet.
+pub fn what_is_quiet()
+    ensures world { (world : WorldView) → world.up.bytes ≡ [] → world.down.bytes ≡ []
+        → world.host.unread ≡ [] → world.board.partial ≡ []
+        → next_message world.board.state ≡ None → IsQuietWorld world }
+    ensures state { (x : MachineState) → x.up ≡ [] → x.down ≡ [] → pending_messages x.board ≡ []
+        → IsQuiet x }
+    ensures rested { (world : WorldView) → world.up.bytes ≡ [] → world.down.bytes ≡ []
+        → next_message world.board.state ≡ None → IsRestedWorld world }
+    ensures settled { (x : MachineState) (moves : List Move) →
+        SettlesBy moves x → IsQuiet (after_moves x moves) }
+{}
+
+/// What is shown in order, by a pawn that was put on an empty square and taken again: it may be
+/// seen twice, and not before what stood there before it. A known picture shows one piece of each
+/// square, and one stands there.
+pub fn what_is_in_order()
+    ensures seen { IsInOrderOf (Piece.WhitePawn ∷ Piece.WhitePawn ∷ Piece.Empty ∷ [])
+        (Piece.Empty ∷ Piece.WhitePawn ∷ Piece.Empty ∷ []) }
+    ensures turned { ¬ (IsInOrderOf (Piece.WhitePawn ∷ Piece.Empty ∷ [])
+        (Piece.Empty ∷ Piece.WhitePawn ∷ [])) }
+    ensures shown { (world : WorldView) (pieces : List Piece) (square : ℕ)
+        → world.host.picture ≡ Some pieces
+        → shown_in square (world ∷ []) ≡ piece_on pieces square ∷ [] }
+    ensures stood { (world : WorldView) (square : ℕ)
+        → stood_in square (world ∷ []) ≡ piece_on world.board.state.squares square ∷ [] }
 {}
 
 /// From each sound state some takes of the board, sendings of the board and hears of the host lead

@@ -1,13 +1,15 @@
 //! What holds of the messages and their encodings as such. Nothing here runs: each function stands
 //! for the fact that its contract states.
 
-ghost use Rattle.std.specs.Prelude.{◌≡◌, ◌≢◌, ◌<◌, ◌-◌, ◌++◌, ◌↔◌, ◌⊎◌, ℕ, List, [], drop, length};
-ghost use Rattle.std.specs.Prelude.{slice_index, Some, Ok, Err};
+ghost use Rattle.std.specs.Prelude.{◌≡◌, ◌≢◌, ◌<◌, ◌+◌, ◌-◌, ◌*◌, ◌∷◌, ◌++◌, ◌↔◌, ◌⊎◌, ℕ, List, [], drop, length, map};
+ghost use Rattle.std.specs.Prelude.{slice_index, None, Some, Ok, Err};
+ghost use Rattle.dgt_values.specs.Bytes.{AreSevenBit};
+ghost use Rattle.dgt_values.specs.declared.kinds.Kind.{Kind};
 ghost use Rattle.dgt_values.specs.Equality.{CloneIsSame, EqualIsSame, EqualIsSameRead};
 ghost use Rattle.dgt_message.specs.declared.known.KnownCode.{KnownCode};
 ghost use Rattle.dgt_message.specs.declared.viewing.BodyFault.{BodyFault};
 ghost use Rattle.dgt_message.specs.Code.{known_number, known_with};
-ghost use Rattle.dgt_message.specs.Content.{absence_seen, answer_seen, clock_seen, code_number, content, status_code, time_seen, times_seen, Content, IsCarried, IsMessage};
+ghost use Rattle.dgt_message.specs.Content.{absence_seen, answer_seen, answered_kind, clock_seen, code_number, code_of, content, status_code, time_seen, times_seen, Content, IsCarried, IsMessage};
 ghost use Rattle.dgt_message.specs.Reading.{reading, IsFaultOf};
 ghost use Rattle.dgt_message.specs.Encoding.{message_bytes, encoding, Fits, Encodes};
 
@@ -124,4 +126,24 @@ pub fn one_size()
 pub fn other_bodies_are_carried()
     ensures { (code : ℕ) (body : List ℕ) → code ≢ 0x06 → code ≢ 0x0d → code ≢ 0x0e
         → code ≢ 0x11 → code ≢ 0x13 → reading code body ≡ Ok (Content.carried code body) }
+{}
+
+/// The header of a message: the first byte is 128 and the code, no other has its top bit set, and
+/// the next two make the length of the whole.
+pub fn headers()
+    ensures first { (said : Content) (bytes : List ℕ)
+        → Encodes said bytes → slice_index bytes 0 ≡ 128 + code_of said }
+    ensures later { (said : Content) (bytes : List ℕ)
+        → Encodes said bytes → AreSevenBit (drop 1 bytes) }
+    ensures total { (said : Content) (bytes : List ℕ)
+        → Encodes said bytes → 128 * slice_index bytes 1 + slice_index bytes 2 ≡ length bytes }
+{}
+
+/// The kinds of messages by their codes: those of the clock, fields and others have none.
+pub fn kinds_by_code()
+    ensures answers { (body : List ℕ) → map (λ code. answered_kind (Content.carried code body))
+        (0x06 ∷ 0x11 ∷ 0x12 ∷ 0x13 ∷ 0x20 ∷ 0x22 ∷ []) ≡ map Some (Kind.Dump ∷ Kind.Serial
+        ∷ Kind.Trademark ∷ Kind.Version ∷ Kind.Battery ∷ Kind.LongSerial ∷ []) }
+    ensures none { (body : List ℕ) → map (λ code. answered_kind (Content.carried code body))
+        (0x0d ∷ 0x0e ∷ 0x23 ∷ []) ≡ None ∷ None ∷ None ∷ [] }
 {}

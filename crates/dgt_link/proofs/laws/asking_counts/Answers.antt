@@ -2,10 +2,11 @@ use Rattle.dgt_link.proofs.Asked.{asked_dump_first, asked_mode_first}
 use Rattle.dgt_link.proofs.Headlines.{asks_for_picture}
 use Rattle.dgt_link.proofs.laws.asking_counts.Goals as goal
 
-pub returns : goal.returns
-returns c =
-    record {
-      mode_first = asked_mode_first;
-      dump_first = asked_dump_first;
-      play = asks_for_picture;
-    }
+pub returns-clause-mode_first : goal.returns-clause-mode_first
+returns-clause-mode_first c = asked_mode_first
+
+pub returns-clause-dump_first : goal.returns-clause-dump_first
+returns-clause-dump_first c = asked_dump_first
+
+pub returns-clause-play : goal.returns-clause-play
+returns-clause-play c = asks_for_picture

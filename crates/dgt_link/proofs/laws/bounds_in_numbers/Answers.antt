@@ -29,3 +29,6 @@ returns-clause-steps c =
 pub returns-clause-moves : goal.returns-clause-moves
 returns-clause-moves c =
     λ x moves settles up backlog down. omega (arith, settles.few, up, backlog, down)
+
+pub returns-clause-done : goal.returns-clause-done
+returns-clause-done c = refl

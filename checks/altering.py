@@ -1,0 +1,178 @@
+"""What checks/wrong_bodies and checks/definitions share: edits of a crate that the prover has to
+refuse, copies of crates to try them in, and what rt check prints of these."""
+
+import contextlib
+import dataclasses
+import os
+import pathlib
+import re
+import shutil
+import subprocess
+from collections.abc import Iterable
+
+ROOT = pathlib.Path(__file__).resolve().parent.parent
+PROVED = re.compile(r"(?m)^(?:fn|impl) (\S+): proved")
+# What rt check prints of a function whose own body is refused. Of one that only calls such a
+# function it prints something else.
+REFUSED = (
+    re.compile(r"(?m)^(?:fn|impl) (\S+): not proved$"),
+    re.compile(r"(?m)^fn (\S+): not proved; the borrow checker does not cover this function yet: "),
+    re.compile(r"(?m)^(?:fn|impl) (\S+): no proof: expected answers in \S+; "),
+)
+REFUSED_ANSWERS = re.compile(r"(?m)^\./proofs/(\S+)/Answers\.antt:\d+:\d+: error:")
+
+
+class Failure(Exception):
+    """Why a check fails."""
+
+
+@dataclasses.dataclass(frozen=True)
+class Edit:
+    """An edit of a crate, what the prover then refuses, and what it refuses also, if that is
+    checked."""
+
+    name: str
+    changes: tuple[tuple[str, str, str], ...]
+    refused: frozenset[str]
+    also: frozenset[str]
+
+
+def parse(name: str, lines: Iterable[str]) -> Edit:
+    """Reads an edit: lines `refused: NAMES`, `also: NAMES`, `file: PATH`, `old: TEXT`, `new: TEXT`.
+    Lines of one kind in a row are one text of several lines."""
+    refused: frozenset[str] = frozenset()
+    also: frozenset[str] = frozenset()
+    changes: list[tuple[str, str, str]] = []
+    file = old = last = ""
+    for line in lines:
+        kind, _, text = line.partition(":")
+        text = text.removeprefix(" ")
+        if kind == "refused":
+            refused = frozenset(text.split(", "))
+        elif kind == "also":
+            also = frozenset(text.split(", "))
+        elif kind == "file":
+            file = text.strip()
+        elif kind == "old":
+            old = f"{old}\n{text}" if last == kind else text
+        elif kind == "new":
+            text = f"{changes.pop()[2]}\n{text}" if last == kind else text
+            changes.append((file, old, text))
+        last = kind
+    if not changes or not refused:
+        raise Failure(f"{name}: no line `{'new' if refused else 'refused'}:`")
+    return Edit(name, tuple(changes), refused, also)
+
+
+def apply(edit: Edit, crate: pathlib.Path, sources: dict[str, str]) -> bool:
+    """Applies an edit to these sources, or changes nothing if its lines are not there."""
+    changed: dict[str, str] = {}
+    for file, old, new in edit.changes:
+        text = changed.get(file) or sources.get(file) or (crate / file).read_text()
+        if text.count(old) != 1:
+            return False
+        changed[file] = text.replace(old, new)
+    sources.update(changed)
+    return True
+
+
+def functions_of(names: Iterable[str]) -> set[str]:
+    """The functions of these names, which may have a clause: `function · clause`."""
+    return {name.partition(" · ")[0] for name in names}
+
+
+def disturbs(one: Edit, other: Edit) -> bool:
+    """Whether one check can't try both."""
+    return bool(
+        one.refused & other.refused
+        or functions_of(one.also) & functions_of(other.refused)
+        or functions_of(other.also) & functions_of(one.refused)
+    )
+
+
+def choose(edits: list[Edit], crate: pathlib.Path) -> tuple[list[Edit], dict[str, str]]:
+    """The edits that one check can try, each refused in something else, and the sources with
+    them."""
+    chosen: list[Edit] = []
+    sources: dict[str, str] = {}
+    for edit in edits:
+        if not any(disturbs(edit, other) for other in chosen) and apply(edit, crate, sources):
+            chosen.append(edit)
+    if not chosen:
+        raise Failure(f"{crate.name}: {edits[0].name} cannot be applied")
+    return chosen, sources
+
+
+def check(crate: pathlib.Path, *words: str) -> str:
+    """What rt check prints of a crate. It has one job, since each job reads the libraries first."""
+    answer = subprocess.run(
+        ["nice", "-n", "19", "rt", "check", "--jobs", "1", *words],
+        cwd=crate,
+        stdin=subprocess.DEVNULL,
+        capture_output=True,
+        text=True,
+        check=False,
+    )
+    return answer.stdout + answer.stderr
+
+
+def link_or_copy(file: str, to: str) -> None:
+    """Copies a file. Libraries and files of proofs are never changed, only replaced, so a link will
+    do."""
+    if file.endswith(".oantt") or "/out/rlib/" in file:
+        with contextlib.suppress(OSError):
+            os.link(file, to)
+            return
+    shutil.copy2(file, to)
+
+
+def check_with(crate: pathlib.Path, sources: dict[str, str], *words: str) -> str:
+    """What rt check prints of a crate that has these sources. Its own come back afterwards, and its
+    proofs, so that the next check doesn't make them again."""
+    own = {file: (crate / file).read_text() for file in sources}
+    proofs, proved = crate / "out" / "incremental", crate / "out" / "proved"
+    shutil.copytree(proofs, proved, copy_function=link_or_copy)
+    try:
+        for file, text in sources.items():
+            (crate / file).write_text(text)
+        return check(crate, *words)
+    finally:
+        for file, text in own.items():
+            (crate / file).write_text(text)
+        shutil.rmtree(proofs)
+        proved.rename(proofs)
+
+
+def refused_in(crate: str, output: str) -> set[str]:
+    """The functions whose own bodies are refused."""
+    found = {name for line in REFUSED for name in line.findall(output)}
+    found |= {f"{crate}::{path.replace('/', '::')}" for path in REFUSED_ANSWERS.findall(output)}
+    return {name.removeprefix(f"{crate}::") for name in found}
+
+
+def needed(names: list[str]) -> dict[str, str]:
+    """The lines of crates.txt for these crates and for all that they stand on, lowest first."""
+    texts = (ROOT / "crates.txt").read_text().splitlines()
+    lines = {re.split("[ :]", text)[0]: text for text in texts if not text.startswith("#")}
+    wanted = set(names)
+    for name in reversed(lines):  # a crate comes after those that it stands on
+        if name in wanted:
+            wanted.update(lines[name].partition(":")[2].split())
+    return {name: line for name, line in lines.items() if name in wanted}
+
+
+def copy_to(folder: pathlib.Path, name: str) -> pathlib.Path:
+    """Copies a crate and those below, with their proofs, and returns where it is then. An empty
+    .git makes the copy a repository of its own."""
+    (folder / ".git").mkdir()
+    lines = needed([name])
+    (folder / "crates.txt").write_text("".join(f"{line}\n" for line in lines.values()))
+    for crate in lines:
+        place = folder / "crates" / crate
+        shutil.copytree(ROOT / "crates" / crate, place, copy_function=link_or_copy)
+    return folder / "crates" / name
+
+
+def at_once() -> int:
+    """How many crates the machine can check at once."""
+    return int(subprocess.check_output([ROOT / "tools" / "at_once"]))
