@@ -58,6 +58,8 @@ def parse(name: str, lines: Iterable[str]) -> Edit:
         elif kind == "new":
             text = f"{changes.pop()[2]}\n{text}" if last == kind else text
             changes.append((file, old, text))
+        elif line and not line.startswith("#"):
+            raise Failure(f"{name}: a line of no kind: {line}")
         last = kind
     if not changes or not refused:
         raise Failure(f"{name}: no line `{'new' if refused else 'refused'}:`")

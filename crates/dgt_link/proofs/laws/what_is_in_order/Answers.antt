@@ -1,4 +1,4 @@
-use Rattle.std.proofs.Common.{refl, inl, inr}
+use Rattle.std.proofs.Common.{refl, inl, inr, rules}
 use Rattle.dgt_link.proofs.laws.what_is_in_order.Goals as goal
 
 pub returns-clause-seen : goal.returns-clause-seen
@@ -9,3 +9,6 @@ returns-clause-shown c = λ world pieces square known. rw known refl
 
 pub returns-clause-stood : goal.returns-clause-stood
 returns-clause-stood c = λ world square. refl
+
+pub returns-clause-turned : goal.returns-clause-turned
+returns-clause-turned c = search rules
