@@ -1,4 +1,8 @@
 //! Why the program stopped, and how it says so.
+
+ghost use Rattle.std.specs.Prelude.{◌≡◌};
+ghost use Rattle.dgt_program.specs.Faults.{IsOfWords, IsOfWorld, fault_status};
+
 use dgt_arguments::BadArguments;
 use dgt_link::WorldFault;
 use dgt_text::RunFault;
@@ -24,13 +28,25 @@ pub enum Fault {
     LineTooSmall,
     /// The run stopped.
     #[error("{0}")]
-    Run(#[from] RunFault),
+    Run(RunFault),
     /// An allocation was refused.
     #[error("out of memory")]
     OutOfMemory,
 }
 
+impl From<RunFault> for Fault {
+    ghost use Rattle.dgt_program.specs.declared.fault.Fault.{Fault};
+
+    ghost from_gives = { λ error fault. fault ≡ Fault.Run error };
+
+    fn from(error: RunFault) -> Fault {
+        Fault::Run(error)
+    }
+}
+
 impl From<BadArguments> for Fault {
+    ghost from_gives = { λ _ fault. IsOfWords fault };
+
     fn from(error: BadArguments) -> Fault {
         match error {
             BadArguments::Refused { text } => Fault::CommandLine { text },
@@ -40,12 +56,18 @@ impl From<BadArguments> for Fault {
 }
 
 impl From<BadPlacement> for Fault {
+    ghost use Rattle.dgt_program.specs.declared.fault.Fault.{Fault};
+
+    ghost from_gives = { λ error fault. fault ≡ Fault.BadPlacement error.at };
+
     fn from(error: BadPlacement) -> Fault {
         Fault::BadPlacement { at: error.at }
     }
 }
 
 impl From<WorldFault> for Fault {
+    ghost from_gives = { IsOfWorld };
+
     fn from(error: WorldFault) -> Fault {
         match error {
             // The command line has refused such a line.
@@ -69,7 +91,9 @@ impl From<AllocFailed<String>> for Fault {
 
 impl Fault {
     /// Reports the fault to the user, and returns the exit status.
-    pub fn report<E: Write>(self, errors: &mut E) -> u8 {
+    pub fn report<E: Write>(self, errors: &mut E) -> u8
+        ensures { result ≡ fault_status self }
+    {
         // If standard error refuses it, only the status is left.
         let _ = match &self {
             Fault::CommandLine { text } => write!(errors, "{text}"),

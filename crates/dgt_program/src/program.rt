@@ -1,11 +1,25 @@
 //! The program, over any words and streams.
+
+ghost use Rattle.std.specs.Prelude.{◌≡◌, ◌<◌, ◌≤◌, ◌⊎◌, IsErr, MatchResult, Ok};
+ghost use Rattle.hex.specs.Hex.{decode_of};
+ghost use Rattle.dgt_values.specs.Board.{pieces_of};
+ghost use Rattle.dgt_board.specs.Simulated.{simulated_identity, simulated_times};
+ghost use Rattle.dgt_link.specs.View.{new_world};
+ghost use Rattle.dgt_lines.specs.Commanding.{IsListed};
+ghost use Rattle.dgt_lines.specs.Monitoring.{IsMonitored};
+ghost use Rattle.dgt_lines.specs.Turns.{change};
+ghost use Rattle.dgt_text.specs.Simulating.{ShowsHealed, ShowsPicture, faulty_rules, plain_rules};
+ghost use Rattle.dgt_program.specs.Tasks.{AnswersFor, Does, DoesOne, InWorld, IsPicturedWith, OnBoard, PlaysScript, PlaysWith, Prints, Runs, ShowsWord};
+
 use crate::fault::Fault;
 use dgt_arguments::{Task, read};
 use dgt_board::{Board, Identity, simulated_clock};
-use dgt_link::{World, WorldFault};
+use dgt_lines::laws::writes_in_a_row;
+use dgt_lines::{flush, put};
+use dgt_link::World;
 use dgt_text::{
-    Bytes, Device, RunFault, commands, monitor, picture, picture_with_clock, picture_with_doubts,
-    picture_with_doubts_and_clock, serve, simulate, simulate_faults,
+    Bytes, Device, Sink, Source, commands, monitor, picture, picture_with_clock,
+    picture_with_doubts, picture_with_doubts_and_clock, serve, simulate, simulate_faults,
 };
 use dgt_values::Position;
 use hex::FromHexError;
@@ -20,41 +34,68 @@ pub const MOST_TURNS: u32 = u32::MAX;
 ///
 /// What an engine reads comes from `input`, what is asked for goes to `output`, and the text of a
 /// fault to `errors`. All memory is taken before the first read and the first write.
+///
+/// It does what [`run`] does over a [`Device`] of each stream. What that leaves in the streams is
+/// no clause here: they are let go when this returns.
 pub fn run_words<I: Read + Drop, O: Write + Drop, E: Write + Drop>(
     alloc: Global,
     words: Vec<String>,
     input: I,
     output: O,
     mut errors: E,
-) -> u8 {
-    match run(alloc, words.as_slice(), input, output) {
+) -> u8
+    ensures { result ≤ 3 }
+{
+    let (mut input, mut output) = (Device::new(input), Device::new(output));
+    match run(alloc, words.as_slice(), &mut input, &mut output) {
         Ok(()) => 0,
         Err(fault) => fault.report(&mut errors),
     }
 }
 
-// Finds the faults of the command line first, then those of the hexadecimal word or the placement,
-// then those of making the world, and then those of the run.
-fn run<I: Read + Drop, O: Write + Drop>(
+/// Does what the words ask for, of which the first is the program's name.
+///
+/// The faults of the command line come first. Then one task is done, as [`run_task`] says. Which
+/// task the words ask for is no clause.
+pub fn run<R: Source, W: Sink>(
     alloc: Global,
     words: &[String],
-    input: I,
-    mut output: O,
-) -> Result<(), Fault> {
-    match read(alloc, words)? {
-        Task::Help { text } => Ok(write_bytes(text.as_bytes(), &mut output)?),
+    input: &mut R,
+    output: &mut W,
+) -> Result<(), Fault>
+    ensures { DoesOne R.Source W.Sink (change input.old input.new) (change output.old output.new)
+        result }
+{
+    run_task(alloc, &read(alloc, words)?, input, output)
+}
+
+/// Does what a task asks for.
+///
+/// The faults of a hexadecimal word or a placement come first, then those of making a world, each
+/// before the first read and the first write, and then those of the run.
+pub fn run_task<R: Source, W: Sink>(
+    alloc: Global,
+    task: &Task<'_>,
+    input: &mut R,
+    output: &mut W,
+) -> Result<(), Fault>
+    ensures { Does R.Source W.Sink task.now (change input.old input.new)
+        (change output.old output.new) result }
+{
+    match task {
+        Task::Help { text } => write_bytes(text.as_bytes(), output),
         Task::Show { word } => show(alloc, word, output),
-        Task::Monitor => print_input(input, output, |from, to| monitor(from, to, MOST_TURNS)),
-        Task::Picture { doubt, clock } => show_picture(doubt, clock, input, output),
-        Task::Commands => print_input(input, output, |from, to| commands(from, to, MOST_TURNS)),
-        Task::Ask { bytes } => Ok(write_bytes(bytes.as_slice(), &mut output)?),
+        Task::Monitor => show_messages(input, output),
+        Task::Picture { doubt, clock } => show_picture(*doubt, *clock, input, output),
+        Task::Commands => show_commands(input, output),
+        Task::Ask { bytes } => write_bytes(bytes.as_slice(), output),
         Task::Board { placement } => answer(placement, input, output),
         Task::Simulate {
             placement,
             up,
             down,
             faults,
-        } => play(alloc, placement, up, down, faults, input, output),
+        } => play(alloc, placement, *up, *down, *faults, input, output),
     }
 }
 
@@ -63,63 +104,77 @@ fn run<I: Read + Drop, O: Write + Drop>(
 // can't grow ends the process by a signal.
 
 #[inline(never)]
-fn show<O: Write + Drop>(alloc: Global, word: &str, output: O) -> Result<(), Fault> {
+fn show<W: Sink>(alloc: Global, word: &str, output: &mut W) -> Result<(), Fault>
+    ensures { ShowsWord W.Sink (change output.old output.new) result word.now }
+{
     let bytes = decode(alloc, word)?;
     let mut shown = Bytes::new(bytes.as_slice());
-    Ok(monitor(&mut shown, &mut Device::new(output), MOST_TURNS)?)
+    Ok(monitor(&mut shown, output, MOST_TURNS)?)
 }
 
-// Runs an engine that prints what it reads.
 #[inline(never)]
-fn print_input<I, O, F>(input: I, output: O, engine: F) -> Result<(), Fault>
-where
-    I: Read + Drop,
-    O: Write + Drop,
-    F: FnOnce(&mut Device<I>, &mut Device<O>) -> Result<(), RunFault>,
-    requires { F.IsAlwaysCallable engine }
+fn show_messages<R: Source, W: Sink>(input: &mut R, output: &mut W) -> Result<(), Fault>
+    ensures { Runs R.Source W.Sink (change input.old input.new) (change output.old output.new)
+        result IsMonitored }
 {
-    let (mut input, mut output) = (Device::new(input), Device::new(output));
-    Ok(engine(&mut input, &mut output)?)
+    Ok(monitor(input, output, MOST_TURNS)?)
 }
 
-fn show_picture<I: Read + Drop, O: Write + Drop>(
+#[inline(never)]
+fn show_commands<R: Source, W: Sink>(input: &mut R, output: &mut W) -> Result<(), Fault>
+    ensures { Runs R.Source W.Sink (change input.old input.new) (change output.old output.new)
+        result IsListed }
+{
+    Ok(commands(input, output, MOST_TURNS)?)
+}
+
+#[inline(never)]
+fn show_picture<R: Source, W: Sink>(
     doubt: bool,
     clock: bool,
-    input: I,
-    output: O,
-) -> Result<(), Fault> {
-    print_input(input, output, |from, to| match (doubt, clock) {
-        (false, false) => picture(from, to, MOST_TURNS),
-        (true, false) => picture_with_doubts(from, to, MOST_TURNS),
-        (false, true) => picture_with_clock(from, to, MOST_TURNS),
-        (true, true) => picture_with_doubts_and_clock(from, to, MOST_TURNS),
-    })
+    input: &mut R,
+    output: &mut W,
+) -> Result<(), Fault>
+    ensures { Runs R.Source W.Sink (change input.old input.new) (change output.old output.new)
+        result (IsPicturedWith doubt clock) }
+{
+    let shown = match (doubt, clock) {
+        (false, false) => picture(input, output, MOST_TURNS),
+        (true, false) => picture_with_doubts(input, output, MOST_TURNS),
+        (false, true) => picture_with_clock(input, output, MOST_TURNS),
+        (true, true) => picture_with_doubts_and_clock(input, output, MOST_TURNS),
+    };
+    Ok(shown?)
 }
 
 #[inline(never)]
-fn answer<I: Read + Drop, O: Write + Drop>(
-    placement: &str,
-    input: I,
-    output: O,
-) -> Result<(), Fault> {
+fn answer<R: Source, W: Sink>(placement: &str, input: &mut R, output: &mut W) -> Result<(), Fault>
+    ensures { OnBoard (change input.old input.new) (change output.old output.new) result
+        placement.now (AnswersFor R.Source W.Sink (change input.old input.new)
+        (change output.old output.new) result) }
+{
     let position = Position::parse_placement(placement)?;
     let mut board = Board::new(position, simulated_clock(), Identity::simulated());
-    let (mut input, mut output) = (Device::new(input), Device::new(output));
-    Ok(serve(&mut board, &mut input, &mut output, MOST_TURNS)?)
+    Ok(serve(&mut board, input, output, MOST_TURNS)?)
 }
 
 #[inline(never)]
-fn play<I: Read + Drop, O: Write + Drop>(
+fn play<R: Source, W: Sink>(
     alloc: Global,
     placement: &str,
     up: u16,
     down: u16,
     faults: bool,
-    input: I,
-    output: O,
-) -> Result<(), Fault> {
+    input: &mut R,
+    output: &mut W,
+) -> Result<(), Fault>
+    ensures { OnBoard (change input.old input.new) (change output.old output.new) result
+        placement.now (InWorld (change input.old input.new) (change output.old output.new) result
+        up down (PlaysWith faults R.Source W.Sink (change input.old input.new)
+        (change output.old output.new) result)) }
+{
     let position = Position::parse_placement(placement)?;
-    let world = new_world(alloc, position, up, down)?;
+    let world = make_world(alloc, position, up, down)?;
     if faults {
         play_at_fault(world, input, output)
     } else {
@@ -130,41 +185,60 @@ fn play<I: Read + Drop, O: Write + Drop>(
 // The world is handed in, so that there is no room for both kinds of worlds on the stack while it
 // is made, which takes the most of it.
 #[inline(never)]
-fn play_at_fault<I: Read + Drop, O: Write + Drop>(
+fn play_at_fault<R: Source, W: Sink>(
     world: World,
-    input: I,
-    output: O,
-) -> Result<(), Fault> {
+    input: &mut R,
+    output: &mut W,
+) -> Result<(), Fault>
+    ensures { PlaysScript R.Source W.Sink (change input.old input.new)
+        (change output.old output.new) result faulty_rules ShowsHealed world }
+{
     let mut world = world.at_fault();
-    let (mut input, mut output) = (Device::new(input), Device::new(output));
-    Ok(simulate_faults(&mut world, &mut input, &mut output, MOST_TURNS)?)
+    Ok(simulate_faults(&mut world, input, output, MOST_TURNS)?)
 }
 
 #[inline(never)]
-fn play_unharmed<I: Read + Drop, O: Write + Drop>(
+fn play_unharmed<R: Source, W: Sink>(
     mut world: World,
-    input: I,
-    output: O,
-) -> Result<(), Fault> {
-    let (mut input, mut output) = (Device::new(input), Device::new(output));
-    Ok(simulate(&mut world, &mut input, &mut output, MOST_TURNS)?)
+    input: &mut R,
+    output: &mut W,
+) -> Result<(), Fault>
+    ensures { PlaysScript R.Source W.Sink (change input.old input.new)
+        (change output.old output.new) result plain_rules ShowsPicture world }
+{
+    Ok(simulate(&mut world, input, output, MOST_TURNS)?)
 }
 
-fn decode(alloc: Global, word: &str) -> Result<Vec<u8>, Fault> {
-    hex::decode(alloc, word).map_err(|error| match error {
-        FromHexError::OutOfMemory => Fault::OutOfMemory,
-        _ => Fault::BadHex,
-    })
+fn decode(alloc: Global, word: &str) -> Result<Vec<u8>, Fault>
+    ensures { MatchResult result (λ bytes. decode_of word.now ≡ Ok bytes.items)
+        (λ fault. ((fault ≡ Fault.BadHex) × IsErr (decode_of word.now))
+        ⊎ (fault ≡ Fault.OutOfMemory)) }
+{
+    match hex::decode(alloc, word) {
+        Ok(bytes) => Ok(bytes),
+        Err(FromHexError::OutOfMemory) => Err(Fault::OutOfMemory),
+        Err(_) => Err(Fault::BadHex),
+    }
 }
 
 #[inline(never)]
-fn new_world(alloc: Global, position: Position, up: u16, down: u16) -> Result<World, WorldFault> {
+fn make_world(alloc: Global, position: Position, up: u16, down: u16) -> Result<World, Fault>
+    ensures { MatchResult result
+        (λ world. (67 ≤ up) × (257 ≤ down) × (world
+        ≡ new_world (pieces_of position) simulated_times simulated_identity up down))
+        (λ fault. (((up < 67) ⊎ (down < 257)) × (fault ≡ Fault.LineTooSmall))
+        ⊎ ((67 ≤ up) × (257 ≤ down) × (fault ≡ Fault.OutOfMemory))) }
+{
     let (clock, identity) = (simulated_clock(), Identity::simulated());
     let (up, down) = (usize::from(up), usize::from(down));
-    World::new(alloc, position, clock, identity, up, down)
+    Ok(World::new(alloc, position, clock, identity, up, down)?)
 }
 
-fn write_bytes<O: Write>(bytes: &[u8], output: &mut O) -> Result<(), RunFault> {
-    let written = output.write_all(bytes).and_then(|()| output.flush());
-    written.map_err(|_| RunFault::WriteFailed)
+// Writes bytes, and flushes.
+fn write_bytes<W: Sink>(bytes: &[u8], output: &mut W) -> Result<(), Fault>
+    ensures { Prints W.Sink (change output.old output.new) result bytes.now }
+{
+    writes_in_a_row::<W>();
+    put(output, bytes)?;
+    Ok(flush(output)?)
 }

@@ -1,0 +1,35 @@
+-- What an engine's answer leaves of a task.
+use Rattle.std.proofs.Common.{◌≡◌, ℕ, List, Option, Some, None, Result, Ok, Err, false, ap}
+use Rattle.std.specs.Prelude.{IsErrAnd, OnOk}
+use Rattle.std.specs.Io.KnownBytes.{Consumes, IsAtEnd}
+use Rattle.std.proofs.lemmas.List.{append-nil}
+use Rattle.dgt_lines.specs.declared.faults.RunFault.{RunFault}
+use Rattle.dgt_lines.specs.declared.faults.RunFault.TheVariants.{ReadFailed, WriteFailed, TooManyTurns, BadLine}
+use Rattle.dgt_lines.specs.Monitoring.{IsMonitored}
+use Rattle.dgt_lines.specs.Turns.{HasTurns, source_mark_after}
+use Rattle.dgt_program.specs.declared.program.TheConstants.{MOST_TURNS}
+use Rattle.dgt_program.specs.declared.fault.Fault.{Fault}
+use Rattle.dgt_program.specs.declared.fault.Fault.TheVariants.{Run}
+use Rattle.dgt_program.specs.Tasks.{IsShown, task_answer}
+
+-- the fault of an engine is the task's
+pub failed : (r : Result (Unit {0}) Fault) (fault : RunFault) → IsErrAnd r (λ e. e ≡ Run fault)
+    → r ≡ task_answer (Err fault)
+failed (Err e) fault is = ap Err is
+failed (Ok _) fault is = absurd is
+
+-- what `monitor` leaves, if its source had these bytes and refused no read
+pub shown : (bytes : List ℕ) (left : Option (List ℕ)) (run : Result (Unit {0}) RunFault)
+    (read out : List ℕ) → Consumes (Some bytes) left read
+    → false ≡ source_mark_after run false → OnOk run (IsAtEnd left)
+    → HasTurns MOST_TURNS run read → IsMonitored run read out → IsShown run bytes out
+shown bytes None run read out consumed unrefused end turns stands = absurd consumed
+shown bytes (Some rest) (Ok _) read out consumed unrefused end turns stands =
+    rw (consumed, end, append-nil) stands
+shown bytes (Some rest) (Err WriteFailed) read out consumed unrefused end turns stands =
+    (read, (rest, consumed), stands)
+shown bytes (Some rest) (Err TooManyTurns) read out consumed unrefused end turns stands =
+    (read, (rest, consumed), turns, stands)
+shown bytes (Some rest) (Err ReadFailed) read out consumed unrefused end turns stands =
+    cc
+shown bytes (Some rest) (Err (BadLine _ _)) read out consumed unrefused end turns stands = absurd stands

@@ -1,0 +1,3 @@
+-- what public contracts cite
+pub mod Faults
+pub mod Tasks

@@ -1,0 +1,166 @@
+-- What the program does for a task: what it reads and writes, and how it ends.
+use Rattle.std.specs.Prelude.{◌≡◌, ◌≢◌, ◌<◌, ◌≤◌, ◌⊎◌, ℕ, Bool, true, false, List, length, Result, Ok, Err, IsErr, OnOk, IsTrue, string_bytes}
+use Rattle.std.specs.Io.KnownBytes.{Appends}
+use Rattle.hex.specs.Hex.{decode_of}
+use Rattle.dgt_values.specs.declared.pieces.Piece.{Piece}
+use Rattle.dgt_values.specs.Placement.{IsPlacement, IsFirstBadOffset}
+use Rattle.dgt_board.specs.View.{BoardView, new_view}
+use Rattle.dgt_board.specs.Simulated.{simulated_identity, simulated_times}
+use Rattle.dgt_link.specs.View.{WorldView, new_world}
+use Rattle.dgt_lines.specs.declared.faults.RunFault.{RunFault}
+use Rattle.dgt_lines.specs.declared.faults.RunFault.TheVariants.{ReadFailed, WriteFailed, TooManyTurns, BadLine}
+use Rattle.dgt_lines.specs.declared.streams.Source.{Ghosts as Source}
+use Rattle.dgt_lines.specs.declared.streams.Sink.{Ghosts as Sink}
+use Rattle.dgt_lines.specs.Commanding.{IsListed}
+use Rattle.dgt_lines.specs.Lines.{lines, monitor_text}
+use Rattle.dgt_lines.specs.Monitoring.{IsMonitored, IsPrefix}
+use Rattle.dgt_lines.specs.Picturing.{IsPictured, IsPicturedWithBoth, IsPicturedWithClock, IsPicturedWithDoubts}
+use Rattle.dgt_lines.specs.Turns.{Change, InTurns, Ran, RunsInTurns, sink_mark_after}
+use Rattle.dgt_lines.specs.Writing.{Writes}
+use Rattle.dgt_text.specs.Serving.{IsServed}
+use Rattle.dgt_text.specs.Simulating.{IsSimulated, Rules, ShowsHealed, ShowsPicture, faulty_rules, plain_rules}
+use Rattle.dgt_arguments.specs.declared.command_line.Task.{Task}
+use Rattle.dgt_arguments.specs.declared.command_line.Task.TheVariants.{Help, Show, Monitor, Picture, Commands, Ask, Board, Simulate}
+use Rattle.dgt_program.specs.declared.program.TheConstants.{MOST_TURNS}
+use Rattle.dgt_program.specs.declared.fault.Fault.{Fault}
+use Rattle.dgt_program.specs.declared.fault.Fault.TheVariants.{BadHex, BadPlacement, LineTooSmall, Run, OutOfMemory}
+use Rattle.dgt_program.specs.Faults.{IsOfWords}
+
+-- ---- how a task ends
+
+-- its answer, if an engine gave this one
+abbrev pub task_answer : Result (Unit {0}) RunFault → Result (Unit {0}) Fault
+task_answer (Ok done) = Ok done
+task_answer (Err fault) = Err (Run fault)
+
+-- nothing was asked of the source or the sink
+abbrev pub Untouched : {S : Type 0} → Change S → Type 0
+Untouched stream = stream.new ≡ stream.old
+
+-- this fault came before the first read and the first write
+pub record Refuses {S T : Type 0} (source : Change S) (sink : Change T)
+    (r : Result (Unit {0}) Fault) (fault : Fault) : Type 0 where
+  pub answer : r ≡ Err fault
+  pub unread : Untouched source
+  pub unwritten : Untouched sink
+
+-- an engine ran, and of its answer, what it read and what it wrote `leaves` holds
+pub record Runs {S T : Type 0} (R : Source S) (W : Sink T) (source : Change S) (sink : Change T)
+    (r : Result (Unit {0}) Fault)
+    (leaves : Result (Unit {0}) RunFault → List ℕ → List ℕ → Type 0) : Type 0 where
+  pub run : Result (Unit {0}) RunFault
+  pub answer : r ≡ task_answer run
+  pub output : Ran R W source sink (InTurns MOST_TURNS run (leaves run))
+  pub in_turns : RunsInTurns R W source sink MOST_TURNS run
+
+-- what stands in the sink, if `picture` with or without doubts and the clock gave this answer
+abbrev pub IsPicturedWith : Bool → Bool → Result (Unit {0}) RunFault → List ℕ → List ℕ → Type 0
+IsPicturedWith false false = IsPictured
+IsPicturedWith true false = IsPicturedWithDoubts
+IsPicturedWith false true = IsPicturedWithClock
+IsPicturedWith true true = IsPicturedWithBoth
+
+-- ---- tasks that read nothing
+
+-- the text was written and flushed, or the sink refused and has a prefix of it
+pub record Prints {T : Type 0} (W : Sink T) (sink : Change T) (r : Result (Unit {0}) Fault)
+    (text : List ℕ) : Type 0 where
+  pub run : Result (Unit {0}) RunFault
+  pub answer : r ≡ task_answer run
+  pub output : Writes W sink.old sink.new run text
+  pub flushed : OnOk run (IsTrue (W.flushed sink.new))
+
+-- what stands in the sink for the bytes of a word, if `monitor` gave this answer: their text, or of
+-- a prefix of them a prefix of its text, or its lines if it has more bytes than there are reads
+abbrev pub IsShown : Result (Unit {0}) RunFault → List ℕ → List ℕ → Type 0
+IsShown (Ok _) bytes out = out ≡ monitor_text bytes
+IsShown (Err WriteFailed) bytes out =
+    (read : List ℕ) × IsPrefix read bytes × IsPrefix out (monitor_text read)
+IsShown (Err TooManyTurns) bytes out =
+    (read : List ℕ) × IsPrefix read bytes × (MOST_TURNS ≤ length read) × (out ≡ lines read)
+IsShown (Err ReadFailed) bytes out = ⊥
+IsShown (Err (BadLine _ _)) bytes out = ⊥
+
+-- these bytes are shown
+pub record Shows {T : Type 0} (W : Sink T) (sink : Change T) (r : Result (Unit {0}) Fault)
+    (bytes : List ℕ) : Type 0 where
+  pub run : Result (Unit {0}) RunFault
+  pub answer : r ≡ task_answer run
+  pub out : List ℕ
+  pub output : Appends (W.written sink.old) (W.written sink.new) out
+  pub shown : IsShown run bytes out
+  pub failed : W.failed sink.new ≡ sink_mark_after run (W.failed sink.old)
+  pub in_time : W.failed sink.old ≡ false → W.late sink.new ≡ W.late sink.old
+  pub flushed : IsTrue (W.flushed sink.old) → run ≢ Err WriteFailed → IsTrue (W.flushed sink.new)
+
+-- what `show` does with a word
+abbrev pub ShowsWord : {T : Type 0} → Sink T → Change T → Result (Unit {0}) Fault → List ℕ
+    → Type 0
+ShowsWord W sink r word =
+    ((bytes : List ℕ) × (decode_of word ≡ Ok bytes) × Shows W sink r bytes)
+    ⊎ (IsErr (decode_of word) × (r ≡ Err BadHex) × Untouched sink)
+    ⊎ ((r ≡ Err OutOfMemory) × Untouched sink)
+
+-- ---- tasks with a board
+
+-- a placement has a position, of which P holds, or it is refused
+abbrev pub OnBoard : {S T : Type 0} → Change S → Change T → Result (Unit {0}) Fault → List ℕ
+    → (List Piece → Type 0) → Type 0
+OnBoard source sink r placement P =
+    ((position : List Piece) × IsPlacement placement position × P position)
+    ⊎ ((at : ℕ) × IsFirstBadOffset placement at × Refuses source sink r (BadPlacement at))
+
+-- a board with this position answers
+abbrev pub AnswersFor : {S T : Type 0} → Source S → Sink T → Change S → Change T
+    → Result (Unit {0}) Fault → List Piece → Type 0
+AnswersFor R W source sink r position =
+    let board = new_view position simulated_times simulated_identity in
+    (after : BoardView) × Runs R W source sink r (λ run. IsServed run board after)
+
+-- a script was played in this world
+pub record PlaysScript {S T : Type 0} (R : Source S) (W : Sink T) (source : Change S)
+    (sink : Change T) (r : Result (Unit {0}) Fault) (rules : Rules)
+    (ShowsBoard : WorldView → List ℕ → Type 0) (world : WorldView) : Type 0 where
+  pub last : WorldView
+  pub plays : Runs R W source sink r
+      (λ run. IsSimulated rules (R.ended source.new) run world last)
+  pub picture : Runs R W source sink r (λ run _ out. OnOk run (ShowsBoard last out))
+
+-- with faults or without
+abbrev pub PlaysWith : {S T : Type 0} → Bool → Source S → Sink T → Change S → Change T
+    → Result (Unit {0}) Fault → WorldView → Type 0
+PlaysWith false R W source sink r = PlaysScript R W source sink r plain_rules ShowsPicture
+PlaysWith true R W source sink r = PlaysScript R W source sink r faulty_rules ShowsHealed
+
+-- the lines of a world have these capacities, or are refused
+abbrev pub InWorld : {S T : Type 0} → Change S → Change T → Result (Unit {0}) Fault → ℕ → ℕ
+    → (WorldView → Type 0) → List Piece → Type 0
+InWorld source sink r up down P position =
+    (((up < 67) ⊎ (down < 257)) × Refuses source sink r LineTooSmall)
+    ⊎ ((67 ≤ up) × (257 ≤ down)
+    × (P (new_world position simulated_times simulated_identity up down)
+    ⊎ Refuses source sink r OutOfMemory))
+
+-- ---- all tasks
+
+-- what the program does for a task
+abbrev pub Does : {S T : Type 0} → Source S → Sink T → Task → Change S → Change T
+    → Result (Unit {0}) Fault → Type 0
+Does R W (Help text) source sink r = Untouched source × Prints W sink r (string_bytes text)
+Does R W (Ask bytes) source sink r = Untouched source × Prints W sink r bytes.items
+Does R W (Show word) source sink r = Untouched source × ShowsWord W sink r word.now
+Does R W Monitor source sink r = Runs R W source sink r IsMonitored
+Does R W (Picture doubt clock) source sink r = Runs R W source sink r (IsPicturedWith doubt clock)
+Does R W Commands source sink r = Runs R W source sink r IsListed
+Does R W (Board placement) source sink r =
+    OnBoard source sink r placement.now (AnswersFor R W source sink r)
+Does R W (Simulate placement up down faults) source sink r =
+    OnBoard source sink r placement.now
+    (InWorld source sink r up down (PlaysWith faults R W source sink r))
+
+-- the words ask for no task, or one task is done
+abbrev pub DoesOne : {S T : Type 0} → Source S → Sink T → Change S → Change T
+    → Result (Unit {0}) Fault → Type 0
+DoesOne R W source sink r =
+    ((fault : Fault) × IsOfWords fault × Refuses source sink r fault)
+    ⊎ ((task : Task) × Does R W task source sink r)
