@@ -1,11 +1,15 @@
 //! The words of a command line, and the bytes of their commands.
 
-ghost use Rattle.std.specs.Prelude.{◌≡◌, ◌≢◌, ◌++◌, [], ◌∷◌, codes, slice_index as nth};
-ghost use Rattle.std.specs.Prelude.{OnOk, IfOk, IsOkAnd, IsSomeAnd};
+ghost use Rattle.std.specs.Prelude.{◌≡◌, ◌≢◌, ◌≤◌, ◌++◌, false, List, [], ◌∷◌, codes, flat_map, length, map, slice_index as nth};
+ghost use Rattle.std.specs.Prelude.{OnOk, IfOk, IfSome, IsOkAnd, IsSomeAnd, MatchOption, MatchResult};
 ghost use Rattle.dgt_command.specs.Content.{command_content, ClockMessage};
+ghost use Rattle.dgt_command.specs.Ids.{has_own_case};
 ghost use Rattle.dgt_command.specs.Encoding.{command_encoding};
 ghost use Rattle.dgt_host.specs.Host.{follow_bytes, restart_bytes};
+ghost use Rattle.dgt_command.specs.Content.{ClockContent, CommandContent};
 ghost use Rattle.hex.specs.Hex.{decode_of, decode_sized};
+ghost use Rattle.dgt_ask.specs.Asking.{Adds, IsAskedBy, Takes};
+ghost use Rattle.dgt_ask.specs.Asks.{AskInOrder, Asks, DetailAsks, HasBytes, IsNamed, IsRaw};
 
 use crate::details::{
     BadRaw, Detail, beep, byte, detail_of, eight_letters, icons, leds, raw, set_and_run, six_places,
@@ -43,6 +47,10 @@ pub enum BadAsk<'a> {
 }
 
 impl From<AllocError> for BadAsk<'_> {
+    ghost use Rattle.dgt_ask.specs.declared.asking.BadAsk.{BadAsk};
+
+    ghost from_gives = { λ _ fault. fault ≡ BadAsk.OutOfMemory };
+
     fn from(_error: AllocError) -> Self {
         BadAsk::OutOfMemory
     }
@@ -56,7 +64,10 @@ enum Asked {
     With(Detail),
 }
 
-fn named(word: &str) -> Option<Asked> {
+fn named(word: &str) -> Option<Asked>
+    ensures { MatchOption result ((each : CommandContent) → ¬ (IsNamed word.now each))
+        (IsAskedBy word.now) }
+{
     let command = match word {
         "reset" => Command::Reset,
         "clock" => Command::Clock,
@@ -92,7 +103,12 @@ enum Awaited<'a> {
 ///
 /// A command is the words of a line of `dgt commands`: one word each, or all in one with a space
 /// between two of them.
-pub fn asked_bytes<'a>(alloc: Global, words: &[&'a str]) -> Result<Vec<u8>, BadAsk<'a>> {
+pub fn asked_bytes<'a>(alloc: Global, words: &[&'a str]) -> Result<Vec<u8>, BadAsk<'a>>
+    ensures { (commands : List CommandContent) → AskInOrder (map (λ word. word.now) words.now)
+        commands → MatchResult result
+        (λ bytes. bytes.items ≡ flat_map command_encoding commands)
+        (λ fault. fault ≡ BadAsk.OutOfMemory) }
+{
     let mut bytes = Vec::new(alloc);
     let mut awaited = Awaited::Name;
     for word in words {
@@ -110,7 +126,10 @@ fn take<'a>(
     awaited: Awaited<'a>,
     word: &'a str,
     bytes: &mut Vec<u8>,
-) -> Result<Awaited<'a>, BadAsk<'a>> {
+) -> Result<Awaited<'a>, BadAsk<'a>>
+    ensures { (command : CommandContent) → awaited.entry ≡ Awaited.Name → Asks word.now command →
+        Takes result bytes.old.items bytes.new.items command }
+{
     match awaited {
         // The one place where such a word says something else.
         Awaited::Detail(Detail::Text) => push_detail(Detail::Text, word, bytes)?,
@@ -124,7 +143,10 @@ fn take<'a>(
 }
 
 // Takes the first word of a command, or the whole of it in one.
-fn begin<'a>(word: &'a str, bytes: &mut Vec<u8>) -> Result<Awaited<'a>, BadAsk<'a>> {
+fn begin<'a>(word: &'a str, bytes: &mut Vec<u8>) -> Result<Awaited<'a>, BadAsk<'a>>
+    ensures { (command : CommandContent) → Asks word.now command →
+        Takes result bytes.old.items bytes.new.items command }
+{
     if let Some((name, rest)) = word.split_once(' ') {
         match detail_of(name) {
             Some(Detail::ClockMessage) => push_id_and_bytes(rest, bytes)?,
@@ -170,7 +192,10 @@ fn push_restart(bytes: &mut Vec<u8>) -> Result<(), AllocError>
 }
 
 // Appends the command that a word and its detail ask for.
-fn push_detail<'a>(detail: Detail, word: &'a str, bytes: &mut Vec<u8>) -> Result<(), BadAsk<'a>> {
+fn push_detail<'a>(detail: Detail, word: &'a str, bytes: &mut Vec<u8>) -> Result<(), BadAsk<'a>>
+    ensures { (command : CommandContent) → detail ≢ Detail.ClockMessage →
+        DetailAsks detail word.now command → Adds result bytes.old.items bytes.new.items command }
+{
     let mut room = [0; MAX_LED_BYTES];
     match detail {
         Detail::Beep => push_fit(beep(word), detail, word, bytes),
@@ -192,7 +217,9 @@ fn push_fit<'a>(
     given: &'a str,
     bytes: &mut Vec<u8>,
 ) -> Result<(), BadAsk<'a>>
-    ensures { OnOk result (IsSomeAnd command.entry (λ command. bytes.new.items
+    ensures fits { IfSome command.entry (λ command.
+        Adds result bytes.old.items bytes.new.items (command_content command)) }
+    ensures added { OnOk result (IsSomeAnd command.entry (λ command. bytes.new.items
         ≡ bytes.old.items ++ command_encoding (command_content command))) }
 {
     match command {
@@ -202,7 +229,10 @@ fn push_fit<'a>(
 }
 
 // Appends a clock message whose id and bytes are in one word.
-fn push_id_and_bytes<'a>(word: &'a str, bytes: &mut Vec<u8>) -> Result<(), BadAsk<'a>> {
+fn push_id_and_bytes<'a>(word: &'a str, bytes: &mut Vec<u8>) -> Result<(), BadAsk<'a>>
+    ensures { (message : ClockContent) → IsRaw word.now message →
+        Adds result bytes.old.items bytes.new.items (ClockMessage message) }
+{
     match word.split_once(' ') {
         Some((id, payload)) => push_clock_message(id, payload, bytes),
         None => push_fit(None, Detail::ClockMessage, word, bytes),
@@ -211,6 +241,10 @@ fn push_id_and_bytes<'a>(word: &'a str, bytes: &mut Vec<u8>) -> Result<(), BadAs
 
 // Appends a clock message that has no other word.
 fn push_clock_message<'a>(id: &'a str, word: &'a str, bytes: &mut Vec<u8>) -> Result<(), BadAsk<'a>>
+    ensures asks { (message : ClockContent) → decode_sized id.now 1 ≡ Ok (message.id ∷ []) →
+        HasBytes word.now message.payload → length message.payload ≤ 252 →
+        has_own_case message.id (length message.payload) ≡ false →
+        Adds result bytes.old.items bytes.new.items (ClockMessage message) }
     ensures none { word.now ≡ codes "-" → OnOk result
         (IsOkAnd (decode_sized id.now 1) (λ ids. bytes.new.items ≡ bytes.old.items
         ++ command_encoding (ClockMessage (record { id = nth ids 0; payload = [] })))) }

@@ -1,10 +1,15 @@
 //! What follows a word that is no command alone.
 
-ghost use Rattle.std.specs.Prelude.{◌≡◌, ◌≢◌, ◌<◌, ◌≤◌, ◌*◌, [], length, codes, slice_index as nth};
-ghost use Rattle.std.specs.Prelude.{IfOk, IfSome, IfNone, IsErr, IsSomeAnd, MatchResult, Ok, Some, None};
+ghost use Rattle.std.specs.Prelude.{◌≡◌, ◌≢◌, ◌<◌, ◌≤◌, ◌*◌, ◌++◌, ◌∷◌, ℕ, false, List, [], length, codes, slice_index as nth};
+ghost use Rattle.std.specs.Prelude.{IfOk, IfSome, IfNone, IsErr, IsOkAnd, IsSomeAnd, MatchOption, MatchResult, Ok, Some, None};
 ghost use Rattle.dgt_command.specs.declared.ids.KnownId.{KnownId};
 ghost use Rattle.dgt_command.specs.Content.{command_content, ClockMessage, Leds, clock_content, known_clock};
+ghost use Rattle.dgt_command.specs.Content.{ClockContent, CommandContent};
+ghost use Rattle.dgt_command.specs.Display.{Shows};
+ghost use Rattle.std.specs.Str.{IsAscii};
+ghost use Rattle.dgt_command.specs.Ids.{has_own_case};
 ghost use Rattle.hex.specs.Hex.{decode_of, decode_sized};
+ghost use Rattle.dgt_ask.specs.Asks.{DetailAsks, HasBytes, detail_text};
 
 use dgt_command::{
     ClockCommand, Command, KnownId, LedBytes, MAX_LED_BYTES, Payload, RawClock, display,
@@ -48,7 +53,10 @@ impl Detail {
 }
 
 // The word that something follows, if it is one.
-pub(crate) fn detail_of(word: &str) -> Option<Detail> {
+pub(crate) fn detail_of(word: &str) -> Option<Detail>
+    ensures { MatchOption result ((each : Detail) → word.now ≢ detail_text each)
+        (λ detail. word.now ≡ detail_text detail) }
+{
     let detail = match word {
         "beep" => Detail::Beep,
         "display" => Detail::Display,
@@ -71,9 +79,15 @@ fn clock(message: ClockCommand<'_>) -> Option<Command<'_>>
 }
 
 // A number as scripts have it: digits, and no zero before others.
-pub(crate) fn beep(word: &str) -> Option<Command<'static>> {
-    let is_number = word.bytes().all(|digit| digit.is_ascii_digit());
-    if !is_number || word.len() > 1 && word.starts_with('0') {
+pub(crate) fn beep(word: &str) -> Option<Command<'static>>
+    ensures { (asked : CommandContent) → DetailAsks Detail.Beep word.now asked →
+        IsSomeAnd result (λ command. command_content command ≡ asked) }
+{
+    let first = *word.as_bytes().first()?;
+    if first == b'+' {
+        return None;
+    }
+    if first == b'0' && word.len() > 1 {
         return None;
     }
     clock(ClockCommand::Beep(word.parse().ok()?))
@@ -81,55 +95,96 @@ pub(crate) fn beep(word: &str) -> Option<Command<'static>> {
 
 // The bytes of a payload, or characters and spaces in the place of those that are missing.
 pub(crate) fn six_places(word: &str) -> Option<Command<'static>>
-    ensures { IfOk (decode_sized word.now 8) (λ bytes. IsSomeAnd result (λ command.
+    ensures asks { (asked : CommandContent) → DetailAsks Detail.Display word.now asked →
+        IsSomeAnd result (λ command. command_content command ≡ asked) }
+    ensures digits { IfOk (decode_sized word.now 8) (λ bytes. IsSomeAnd result (λ command.
         command_content command ≡ ClockMessage (known_clock KnownId.Display bytes))) }
 {
-    if let Ok(payload) = <[u8; 8]>::from_hex(word) {
-        let [c, b, a, f, e, d, dots, beep] = payload;
-        return clock(ClockCommand::Display {
-            places: [a, b, c, d, e, f],
-            dots,
-            beep,
-        });
+    match display_bytes(word) {
+        Some(command) => Some(command),
+        None => display_characters(word),
     }
-    let mut letters = word.chars();
+}
+
+fn display_bytes(word: &str) -> Option<Command<'static>>
+    ensures { MatchResult (decode_sized word.now 8)
+        (λ bytes. IsSomeAnd result (λ command.
+        command_content command ≡ ClockMessage (known_clock KnownId.Display bytes)))
+        (λ _. result ≡ None) }
+{
+    let [c, b, a, f, e, d, dots, beep] = <[u8; 8]>::from_hex(word).ok()?;
+    clock(ClockCommand::Display {
+        places: [a, b, c, d, e, f],
+        dots,
+        beep,
+    })
+}
+
+fn display_characters(word: &str) -> Option<Command<'static>>
+    ensures { (message : ClockContent) → length word.now ≡ 6 → Shows word.now 0 0 message →
+        IsSomeAnd result (λ command. command_content command ≡ ClockMessage message) }
+{
+    let letters = padded::<6>(word)?;
+    let [a, b, c, d, e, f] = letters;
     let text = [
-        letters.next().unwrap_or(' '),
-        letters.next().unwrap_or(' '),
-        letters.next().unwrap_or(' '),
-        letters.next().unwrap_or(' '),
-        letters.next().unwrap_or(' '),
-        letters.next().unwrap_or(' '),
+        a as char, b as char, c as char, d as char, e as char, f as char,
     ];
-    if letters.next().is_some() {
-        return None;
-    }
     clock(display(text, 0, 0).ok()?)
 }
 
 // The bytes of a payload, or characters and spaces in the place of those that are missing.
 pub(crate) fn eight_letters(word: &str) -> Option<Command<'static>>
-    ensures { IfOk (decode_sized word.now 9) (λ bytes. IsSomeAnd result (λ command.
+    ensures asks { (asked : CommandContent) → DetailAsks Detail.Text word.now asked →
+        IsSomeAnd result (λ command. command_content command ≡ asked) }
+    ensures digits { IfOk (decode_sized word.now 9) (λ bytes. IsSomeAnd result (λ command.
         command_content command ≡ ClockMessage (known_clock KnownId.Text bytes))) }
 {
-    if let Ok(payload) = <[u8; 9]>::from_hex(word) {
-        let [a, b, c, d, e, f, g, h, beep] = payload;
-        return clock(ClockCommand::Text {
-            letters: [a, b, c, d, e, f, g, h],
-            beep,
-        });
+    match text_bytes(word) {
+        Some(command) => Some(command),
+        None => text_characters(word),
     }
+}
+
+fn text_bytes(word: &str) -> Option<Command<'static>>
+    ensures { MatchResult (decode_sized word.now 9)
+        (λ bytes. IsSomeAnd result (λ command.
+        command_content command ≡ ClockMessage (known_clock KnownId.Text bytes)))
+        (λ _. result ≡ None) }
+{
+    let [a, b, c, d, e, f, g, h, beep] = <[u8; 9]>::from_hex(word).ok()?;
+    clock(ClockCommand::Text {
+        letters: [a, b, c, d, e, f, g, h],
+        beep,
+    })
+}
+
+fn text_characters(word: &str) -> Option<Command<'static>>
+    ensures { length word.now ≡ 8 → IsAscii word.now → IsSomeAnd result (λ command.
+        command_content command ≡ ClockMessage (known_clock KnownId.Text (word.now ++ 0 ∷ []))) }
+{
     if !word.is_ascii() {
         return None;
     }
-    let mut letters = [b' '; 8];
-    let places = letters.get_mut(..word.len())?;
-    places.copy_from_slice(word.as_bytes());
+    let letters = padded::<8>(word)?;
     clock(ClockCommand::Text { letters, beep: 0 })
 }
 
+// The bytes of a word, with spaces in the place of those that are missing.
+fn padded<const N: usize>(word: &str) -> Option<[u8; N]>
+    ensures { length word.now ≡ N → result ≡ Some word.now }
+{
+    let mut bytes = [b' '; N];
+    if word.len() > N {
+        return None;
+    }
+    bytes[..word.len()].copy_from_slice(word.as_bytes());
+    Some(bytes)
+}
+
 pub(crate) fn set_and_run(word: &str) -> Option<Command<'static>>
-    ensures { MatchResult (decode_sized word.now 7)
+    ensures asks { (asked : CommandContent) → DetailAsks Detail.SetAndRun word.now asked →
+        IsSomeAnd result (λ command. command_content command ≡ asked) }
+    ensures digits { MatchResult (decode_sized word.now 7)
         (λ bytes. IsSomeAnd result (λ command.
         command_content command ≡ ClockMessage (known_clock KnownId.SetAndRun bytes)))
         (λ _. result ≡ None) }
@@ -143,6 +198,9 @@ pub(crate) fn set_and_run(word: &str) -> Option<Command<'static>>
 }
 
 pub(crate) fn icons<'r>(word: &str, room: &'r mut [u8]) -> Option<Command<'r>>
+    ensures asks { 252 ≤ length room.old → (asked : CommandContent) →
+        DetailAsks Detail.Icons word.now asked →
+        IsSomeAnd result (λ command. command_content command ≡ asked) }
     ensures none { word.now ≡ codes "-" → IsSomeAnd result (λ command.
         command_content command ≡ ClockMessage (known_clock KnownId.Icons [])) }
     ensures digits { word.now ≢ codes "-" → IfSome result (λ command.
@@ -154,6 +212,8 @@ pub(crate) fn icons<'r>(word: &str, room: &'r mut [u8]) -> Option<Command<'r>>
 }
 
 pub(crate) fn leds<'r>(word: &str, room: &'r mut [u8; MAX_LED_BYTES]) -> Option<Command<'r>>
+    ensures asks { (asked : CommandContent) → DetailAsks Detail.Leds word.now asked →
+        IsSomeAnd result (λ command. command_content command ≡ asked) }
     ensures none { word.now ≡ codes "-" → IsSomeAnd result (λ command.
         command_content command ≡ Leds []) }
     ensures digits { word.now ≢ codes "-" → IfSome result (λ command.
@@ -167,6 +227,8 @@ pub(crate) fn leds<'r>(word: &str, room: &'r mut [u8; MAX_LED_BYTES]) -> Option<
 
 // The bytes of hexadecimal digits, or none for a hyphen, if there is room for them.
 fn decoded<'r>(word: &str, room: &'r mut [u8]) -> Option<&'r [u8]>
+    ensures bytes { (bytes : List ℕ) → HasBytes word.now bytes → length bytes ≤ length room.old →
+        IsSomeAnd result (λ decoded. decoded.now ≡ bytes) }
     ensures none { word.now ≡ codes "-" → IsSomeAnd result (λ bytes. bytes.now ≡ []) }
     ensures digits { word.now ≢ codes "-"
         → IfSome result (λ bytes. decode_of word.now ≡ Ok bytes.now) }
@@ -205,6 +267,10 @@ pub(crate) enum BadRaw {
 }
 
 pub(crate) fn raw<'r>(id: u8, word: &str, room: &'r mut [u8]) -> Result<Command<'r>, BadRaw>
+    ensures asks { (bytes : List ℕ) → HasBytes word.now bytes → length bytes ≤ 252 →
+        252 ≤ length room.old → has_own_case id (length bytes) ≡ false →
+        IsOkAnd result (λ command. command_content command
+        ≡ ClockMessage (record { id = id; payload = bytes })) }
     ensures none { word.now ≡ codes "-" → IfOk result (λ command.
         command_content command ≡ ClockMessage (record { id = id; payload = [] })) }
     ensures digits { word.now ≢ codes "-" → IfOk result (λ command.

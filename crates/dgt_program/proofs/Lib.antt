@@ -1,1 +1,2 @@
+mod BackLemmas
 mod TaskLemmas

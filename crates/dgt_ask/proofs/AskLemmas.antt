@@ -1,0 +1,218 @@
+-- What the words of commands are.
+use Rattle.std.proofs.Common.{◌≡◌, ◌≢◌, ◌+◌, ◌*◌, ◌/◌, ◌<◌, ◌≤◌, ℕ, zero, suc, false, List, [], ◌∷◌, ◌++◌, length, get_or, take, map, Bor, add-one, subst, Result, Ok, Err, Some, ap, arith, inl, inr, refl, sym, ◌∙◌, slice_index as nth}
+use Rattle.std.specs.Prelude.{OnErr, IfOk, IsErrAnd, MatchResult, flat_map, Bool, true, not, codes, decimal, ◌==◌}
+use Rattle.std.specs.List.{list_all}
+use Rattle.std.specs.Result.{is_ok, result_ok}
+use Rattle.std.specs.Str.Parse.{ParsesUnsigned}
+use Rattle.std.proofs.lemmas.Fmt.{decimal_digit, first_decimal, parse-decimal}
+use Rattle.hex.specs.Hex.{decode_sized}
+use Rattle.hex.proofs.HexLemmas.{IsOk-decode_sized, decode_of-ok}
+use Rattle.dgt_values.specs.Segment.{IsShownBy}
+use Rattle.dgt_command.specs.declared.clock.ClockCommand.{ClockCommand}
+use Rattle.dgt_command.specs.declared.ids.KnownId.{KnownId}
+use Rattle.dgt_command.specs.Content.{ClockContent, CommandContent, Reset, Clock, Dump, Update, UpdateBoard, UpdateNice, Serial, Trademark, Battery, Version, LongSerial, ClockMessage, Leds, clock_content, known_clock}
+use Rattle.dgt_command.specs.Display.{HasNoSegments, Shows}
+use Rattle.dgt_ask.specs.declared.details.Detail.TheVariants as detail
+use Rattle.dgt_ask.specs.declared.details.Detail.{Detail}
+use Rattle.dgt_ask.specs.declared.asking.BadAsk.{BadAsk}
+use Rattle.dgt_ask.specs.declared.asking.BadAsk.TheVariants.{OutOfMemory}
+use Rattle.dgt_ask.specs.Asks.{AskInOrder, Asks, DetailAsks, HasBytes, IsNamed, IsRaw, detail_text}
+use Rattle.dgt_command.specs.Encoding.{command_encoding}
+use Rattle.std.proofs.lemmas.Grind.{flat_map-append}
+use Rattle.std.proofs.lemmas.List.{append-nil, get_or-map, length-map}
+use Rattle.std.proofs.Math.Seq.{take-suc}
+
+-- a number of a beep, and its command
+pub record Beeps (word : List ℕ) (asked : CommandContent) : Type 0 where
+  pub number : ℕ
+  pub small : number < 256
+  pub said : word ≡ decimal number
+  pub is : asked ≡ ClockMessage (known_clock KnownId.Beep (number ∷ []))
+
+pub beeps : (word : List ℕ) (asked : CommandContent) → DetailAsks detail.Beep word asked → Beeps word asked
+beeps word (ClockMessage message) asks =
+    record { number = asks.0; small = asks.1; said = asks.2; is = ap ClockMessage asks.3 }
+beeps word _ asks = absurd asks
+
+-- a decimal number begins with a digit, and only one of a single digit with a zero
+pub record BeginsWell (text : List ℕ) : Type 0 where
+  pub some : 0 < length text
+  pub digit : 48 ≤ get_or text 0 0
+  pub single : get_or text 0 0 ≡ 48 → length text ≤ 1
+
+some_first : (text : List ℕ) → 48 < get_or text 0 0 → 0 < length text
+some_first [] first = omega (arith, first)
+some_first (x ∷ text) first = omega arith
+
+pub begins_well : (number : ℕ) → number < 256 → BeginsWell (decimal number)
+begins_well zero small =
+    rw (decimal_digit 0 (omega arith)) (record { some = omega arith; digit = omega arith; single = λ _. omega arith })
+begins_well (suc number) small =
+    let first : 48 < get_or (decimal (suc number)) 0 0 = first_decimal (suc number) (omega arith) (omega arith) in
+    record { some = some_first _ first; digit = omega arith; single = λ zero. absurd (omega (arith, first, zero)) }
+
+-- the number of a beep is parsed
+pub parsed : {E : Type 0} (word : List ℕ) (number : ℕ) (r : Result ℕ E) → number < 256 → word ≡ decimal number
+    → ParsesUnsigned 8 10 word r → r ≡ Ok number
+parsed word number r small said parses = parse-decimal 8 number word r (omega arith) (omega arith) said parses
+
+-- the bytes of digits are half as many
+pub half : (text bytes : List ℕ) → HasBytes text bytes → text ≢ codes "-" → length text / 2 ≡ length bytes
+half text bytes (inl hyphen) other = absurd (other hyphen.0)
+half text bytes (inr digits) other =
+    let sized : length text ≡ 2 * length bytes = (decode_of-ok text bytes digits.2).2 in omega arith
+
+pub inside : {A : Type 0} (x y : A) → Some x ≡ Some y → x ≡ y
+inside x y e = cc
+
+-- lists by their items
+abbrev pub six_of : List ℕ → List ℕ
+six_of xs = nth xs 0 ∷ nth xs 1 ∷ nth xs 2 ∷ nth xs 3 ∷ nth xs 4 ∷ nth xs 5 ∷ []
+
+pub six : (xs : List ℕ) → length xs ≡ 6 → six_of xs ≡ xs
+six [] e = absurd (omega (arith, e))
+six (a ∷ []) e = absurd (omega (arith, e))
+six (a ∷ b ∷ []) e = absurd (omega (arith, e))
+six (a ∷ b ∷ c ∷ []) e = absurd (omega (arith, e))
+six (a ∷ b ∷ c ∷ d ∷ []) e = absurd (omega (arith, e))
+six (a ∷ b ∷ c ∷ d ∷ f ∷ []) e = absurd (omega (arith, e))
+six (a ∷ b ∷ c ∷ d ∷ f ∷ g ∷ []) e = refl
+six (a ∷ b ∷ c ∷ d ∷ f ∷ g ∷ h ∷ xs) e = absurd (omega (arith, e))
+
+pub eight : (xs : List ℕ) → length xs ≡ 8
+    → nth xs 0 ∷ nth xs 1 ∷ nth xs 2 ∷ nth xs 3 ∷ nth xs 4 ∷ nth xs 5 ∷ nth xs 6 ∷ nth xs 7 ∷ 0 ∷ []
+    ≡ xs ++ 0 ∷ []
+eight [] e = absurd (omega (arith, e))
+eight (a ∷ []) e = absurd (omega (arith, e))
+eight (a ∷ b ∷ xs) e =
+    ap (λ more. a ∷ b ∷ (more ++ 0 ∷ [])) (six xs (omega (arith, e)))
+
+-- segments show one character each
+one_place : (character byte other : ℕ) → IsShownBy character byte → IsShownBy character other → byte ≡ other
+one_place character byte other first second = grind arith
+
+pub no_segments : {A E : Type 0} (word text : List ℕ) (r : Result A E) (message : ClockContent) → text ≡ word
+    → OnErr r (HasNoSegments text) → false ≡ is_ok r → Shows word 0 0 message → ⊥
+no_segments word text (Ok _) message same none refused shows = cc
+no_segments word text (Err _) message same none refused shows =
+    none.2 (shows.0 none.0) (rw same (shows.1 none.0 none.1))
+
+pub same_display : (word text : List ℕ) (message other : ClockContent) → text ≡ word → Shows text 0 0 other
+    → Shows word 0 0 message → other ≡ message
+same_display word text message other same first second =
+    let at : (i : ℕ) → i < 6 → first.0 i ≡ second.0 i =
+    λ i small. one_place _ _ _ (rw same at (first.1 i small)) (second.1 i small) in
+    first.2 ∙ rw (
+      at 0 (omega arith),
+      at 1 (omega arith),
+      at 2 (omega arith),
+      at 3 (omega arith),
+      at 4 (omega arith),
+      at 5 (omega arith),
+    ) (sym second.2)
+
+pub displayed : {E : Type 0} (word text : List ℕ) (r : Result ClockCommand E) (given : ClockCommand)
+    (message : ClockContent) → text ≡ word → IfOk r (λ command. Shows text 0 0 (clock_content command))
+    → Some given ≡ result_ok r → Shows word 0 0 message → clock_content given ≡ message
+displayed word text (Ok command) given message same shown is shows =
+    ap clock_content (inside _ _ is) ∙ same_display word text message _ same shown shows
+displayed word text (Err _) given message same shown is shows = cc
+
+-- ---- where a word is split
+
+-- hexadecimal digits are no spaces
+pub digits_lack_space : (high low : ℕ) (bytes : List ℕ) → decode_sized (high ∷ low ∷ []) 1 ≡ Ok bytes
+    → (i : ℕ) → i < 2 → get_or (high ∷ low ∷ []) i 0 ≢ 32
+digits_lack_space high low bytes decoded i small e =
+    let digits = (IsOk-decode_sized (high ∷ low ∷ []) 1).0 (rw decoded refl) in
+    let digit = rw e at (digits.1 i 0 small) in cc
+
+-- no byte is a space
+abbrev pub is_unspaced : List ℕ → Bool
+is_unspaced word = list_all (λ byte. not (byte == 32)) word
+
+has_space : (name rest : List ℕ) → is_unspaced (name ++ 32 ∷ rest) ≡ false
+has_space [] rest = refl
+has_space (byte ∷ name) rest = rw (has_space name rest) (grind arith)
+
+-- a name has no space
+named_is_unspaced : (word : List ℕ) (command : CommandContent) → IsNamed word command → is_unspaced word ≡ true
+named_is_unspaced word Reset named = rw named refl
+named_is_unspaced word Clock named = rw named refl
+named_is_unspaced word Dump named = rw named refl
+named_is_unspaced word Update named = rw named refl
+named_is_unspaced word UpdateBoard named = rw named refl
+named_is_unspaced word UpdateNice named = rw named refl
+named_is_unspaced word Serial named = rw named refl
+named_is_unspaced word LongSerial named = rw named refl
+named_is_unspaced word Trademark named = rw named refl
+named_is_unspaced word Battery named = rw named refl
+named_is_unspaced word Version named = rw named refl
+named_is_unspaced word (ClockMessage message) (inl end) = rw end.0 refl
+named_is_unspaced word (ClockMessage message) (inr (inl button)) = rw button.0 refl
+named_is_unspaced word (ClockMessage message) (inr (inr version)) = rw version.0 refl
+named_is_unspaced word (Leds leds) named = absurd named
+
+pub not_named : (word name rest : List ℕ) (command : CommandContent) → word ≡ name ++ 32 ∷ rest
+    → IsNamed word command → ⊥
+not_named word name rest command split named =
+    let spaced = rw split at (named_is_unspaced word command named) in
+    let unspaced = has_space name rest in cc
+
+-- what follows the name of a clock message is one that has no other
+pub raw_name : (each : Detail) → detail_text each ≡ codes "clockmessage" → each ≡ detail.ClockMessage
+raw_name detail.Beep name = absurd (omega (arith, ap length name))
+raw_name detail.Display name = absurd (omega (arith, ap length name))
+raw_name detail.Text name = absurd (omega (arith, ap length name))
+raw_name detail.Icons name = absurd (omega (arith, ap length name))
+raw_name detail.SetAndRun name = absurd (omega (arith, ap length name))
+raw_name detail.ClockMessage name = refl
+raw_name detail.Leds name = absurd (omega (arith, ap length name))
+raw_name detail.Stray name = absurd (omega (arith, ap length name))
+
+pub raw_command : (text : List ℕ) (command : CommandContent) → DetailAsks detail.ClockMessage text command
+    → (message : ClockContent) × (command ≡ ClockMessage message) × IsRaw text message
+raw_command text (ClockMessage message) asks = (message, refl, asks)
+raw_command text _ asks = absurd asks
+
+-- the names that something follows have no space
+unspaced_items : (word : List ℕ) → is_unspaced word ≡ true → (i : ℕ) → i < length word → get_or word i 0 ≢ 32
+unspaced_items [] all i small e = omega (arith, small)
+unspaced_items (byte ∷ word) all zero small e = let spaced = rw e at all in cc
+unspaced_items (byte ∷ word) all (suc i) small e =
+    let rest : is_unspaced word ≡ true = grind (arith, all) in unspaced_items word rest i (omega (arith, small)) e
+
+detail_is_unspaced : (each : Detail) → is_unspaced (detail_text each) ≡ true
+detail_is_unspaced detail.Beep = refl
+detail_is_unspaced detail.Display = refl
+detail_is_unspaced detail.Text = refl
+detail_is_unspaced detail.Icons = refl
+detail_is_unspaced detail.SetAndRun = refl
+detail_is_unspaced detail.ClockMessage = refl
+detail_is_unspaced detail.Leds = refl
+detail_is_unspaced detail.Stray = refl
+
+pub name_lacks_space : (each : Detail) (i : ℕ) → i < length (detail_text each) → get_or (detail_text each) i 0 ≢ 32
+name_lacks_space each = unspaced_items (detail_text each) (detail_is_unspaced each)
+
+-- ---- words in a row
+
+-- a call that is refused what it calls is refused too
+pub refused : {A : Type 0} (P : A → Type 0) (r : Result A BadAsk) (fault : BadAsk) → IsErrAnd r (λ e. e ≡ fault)
+    → fault ≡ OutOfMemory → MatchResult r P (λ e. e ≡ OutOfMemory)
+refused P (Err e) fault is none = is ∙ none
+refused P (Ok _) fault is none = absurd is
+
+pub asks_at : (words : List (Bor (List ℕ))) (commands : List CommandContent) (i : ℕ)
+    → AskInOrder (map (λ word. word.now) words) commands → i < length words
+    → Asks (get_or words i (record { ref_ptr = (0, 0); now = [] })).now (get_or commands i Reset)
+asks_at words commands i order small =
+    subst (λ word. Asks word (get_or commands i Reset))
+    (get_or-map (λ (word : Bor (List ℕ)). word.now) words i (record { ref_ptr = (0, 0); now = [] }) [] small)
+    (order.each i (rw length-map small))
+
+pub next_bytes : (commands : List CommandContent) (i : ℕ) → i < length commands
+    → flat_map command_encoding (take (i + 1) commands)
+    ≡ flat_map command_encoding (take i commands) ++ command_encoding (get_or commands i Reset)
+next_bytes commands i small =
+    rw (add-one, take-suc commands i Reset small, flat_map-append, append-nil) refl

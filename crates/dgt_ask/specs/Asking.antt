@@ -1,0 +1,29 @@
+-- What the calls that read a word do.
+use Rattle.std.specs.Prelude.{◌≡◌, ℕ, List, ◌++◌, codes, Result, MatchResult}
+use Rattle.dgt_command.specs.Content.{CommandContent, command_content}
+use Rattle.dgt_command.specs.Encoding.{command_encoding}
+use Rattle.dgt_ask.specs.declared.asking.Asked.{Asked}
+use Rattle.dgt_ask.specs.declared.asking.Asked.TheVariants as asked
+use Rattle.dgt_ask.specs.declared.asking.Awaited.{Awaited}
+use Rattle.dgt_ask.specs.declared.asking.Awaited.TheVariants.{Name}
+use Rattle.dgt_ask.specs.declared.asking.BadAsk.{BadAsk}
+use Rattle.dgt_ask.specs.declared.asking.BadAsk.TheVariants.{OutOfMemory}
+use Rattle.dgt_ask.specs.Asks.{IsNamed, detail_text}
+
+-- what this word, which stands alone, asks for
+abbrev pub IsAskedBy : List ℕ → Asked → Type 0
+IsAskedBy word (asked.Command command) = IsNamed word (command_content command)
+IsAskedBy word asked.Follow = word ≡ codes "follow"
+IsAskedBy word asked.Restart = word ≡ codes "restart"
+IsAskedBy word (asked.With detail) = word ≡ detail_text detail
+
+-- a call appends the bytes of this command, unless an allocation is refused
+abbrev pub Adds : {A : Type 0} → Result A BadAsk → List ℕ → List ℕ → CommandContent → Type 0
+Adds r old new command =
+    MatchResult r (λ _. new ≡ old ++ command_encoding command) (λ fault. fault ≡ OutOfMemory)
+
+-- and a name comes next
+abbrev pub Takes : Result Awaited BadAsk → List ℕ → List ℕ → CommandContent → Type 0
+Takes r old new command =
+    MatchResult r (λ next. (next ≡ Name) × (new ≡ old ++ command_encoding command))
+    (λ fault. fault ≡ OutOfMemory)

@@ -1,0 +1,104 @@
+-- What a word of `dgt ask` asks for, if a whole command stands in it.
+use Rattle.std.specs.Prelude.{◌≡◌, ◌≢◌, ◌<◌, ◌≤◌, ◌⊎◌, ℕ, false, List, [], ◌∷◌, ◌++◌, length, codes, decimal, Ok, get_or}
+use Rattle.std.specs.Str.{IsAscii}
+use Rattle.hex.specs.Hex.{decode_of, decode_sized}
+use Rattle.dgt_command.specs.declared.ids.KnownId.{KnownId}
+use Rattle.dgt_command.specs.Content.{ClockContent, CommandContent, Reset, Clock, Dump, Update, UpdateBoard, UpdateNice, Serial, Trademark, Battery, Version, LongSerial, ClockMessage, Leds, known_clock}
+use Rattle.dgt_command.specs.Display.{Shows}
+use Rattle.dgt_command.specs.Ids.{has_own_case}
+use Rattle.dgt_ask.specs.declared.details.Detail.{Detail}
+use Rattle.dgt_ask.specs.declared.details.Detail.TheVariants as detail
+
+-- ---- words that are a command alone
+
+-- this one is the command
+abbrev pub IsNamed : List ℕ → CommandContent → Type 0
+IsNamed word Reset = word ≡ codes "reset"
+IsNamed word Clock = word ≡ codes "clock"
+IsNamed word Dump = word ≡ codes "dump"
+IsNamed word Update = word ≡ codes "update"
+IsNamed word UpdateBoard = word ≡ codes "updateboard"
+IsNamed word UpdateNice = word ≡ codes "updatenice"
+IsNamed word Serial = word ≡ codes "serial"
+IsNamed word LongSerial = word ≡ codes "longserial"
+IsNamed word Trademark = word ≡ codes "trademark"
+IsNamed word Battery = word ≡ codes "battery"
+IsNamed word Version = word ≡ codes "version"
+IsNamed word (ClockMessage message) =
+    ((word ≡ codes "end") × (message ≡ known_clock KnownId.End []))
+    ⊎ ((word ≡ codes "button") × (message ≡ known_clock KnownId.Button []))
+    ⊎ ((word ≡ codes "clockversion") × (message ≡ known_clock KnownId.Version []))
+IsNamed word (Leds leds) = ⊥
+
+-- ---- words that something follows
+
+abbrev pub detail_text : Detail → List ℕ
+detail_text detail.Beep = codes "beep"
+detail_text detail.Display = codes "display"
+detail_text detail.Text = codes "text"
+detail_text detail.Icons = codes "icons"
+detail_text detail.SetAndRun = codes "setandrun"
+detail_text detail.ClockMessage = codes "clockmessage"
+detail_text detail.Leds = codes "leds"
+detail_text detail.Stray = codes "stray"
+
+-- a text has these bytes: two hexadecimal digits for each, or a hyphen if there is none
+abbrev pub HasBytes : List ℕ → List ℕ → Type 0
+HasBytes text bytes =
+    ((text ≡ codes "-") × (bytes ≡ []))
+    ⊎ ((text ≢ codes "-") × (text ≢ []) × (decode_of text ≡ Ok bytes))
+
+-- and is a clock message that carries as many as its id says
+abbrev pub HasPayload : KnownId → ℕ → List ℕ → ClockContent → Type 0
+HasPayload known size text message =
+    (payload : List ℕ) × (decode_sized text size ≡ Ok payload)
+    × (message ≡ known_clock known payload)
+
+-- six characters that the clock shows, or the bytes of a display
+abbrev pub IsDisplay : List ℕ → ClockContent → Type 0
+IsDisplay text message =
+    HasPayload KnownId.Display 8 text message ⊎ ((length text ≡ 6) × Shows text 0 0 message)
+
+-- eight characters of ASCII, or the bytes of a text
+abbrev pub IsText : List ℕ → ClockContent → Type 0
+IsText text message =
+    HasPayload KnownId.Text 9 text message
+    ⊎ ((length text ≡ 8) × IsAscii text × (message ≡ known_clock KnownId.Text (text ++ 0 ∷ [])))
+
+-- an id, a space, and the bytes of a clock message that has no other word
+abbrev pub IsRaw : List ℕ → ClockContent → Type 0
+IsRaw text message =
+    (high : ℕ) × (low : ℕ) × (rest : List ℕ) × (text ≡ high ∷ low ∷ 32 ∷ rest)
+    × (decode_sized (high ∷ low ∷ []) 1 ≡ Ok (message.id ∷ [])) × HasBytes rest message.payload
+    × (length message.payload ≤ 252)
+    × (has_own_case message.id (length message.payload) ≡ false)
+
+-- what follows this word asks for the command
+abbrev pub DetailAsks : Detail → List ℕ → CommandContent → Type 0
+DetailAsks detail.Beep text (ClockMessage message) =
+    (number : ℕ) × (number < 256) × (text ≡ decimal number)
+    × (message ≡ known_clock KnownId.Beep (number ∷ []))
+DetailAsks detail.Display text (ClockMessage message) = IsDisplay text message
+DetailAsks detail.Text text (ClockMessage message) = IsText text message
+DetailAsks detail.Icons text (ClockMessage message) =
+    (payload : List ℕ) × HasBytes text payload × (length payload ≤ 252)
+    × (message ≡ known_clock KnownId.Icons payload)
+DetailAsks detail.SetAndRun text (ClockMessage message) =
+    HasPayload KnownId.SetAndRun 7 text message
+DetailAsks detail.ClockMessage text (ClockMessage message) = IsRaw text message
+DetailAsks detail.Leds text (Leds leds) = HasBytes text leds × (length leds ≤ 255)
+DetailAsks _ text command = ⊥
+
+-- ---- whole commands
+
+-- a word asks for this command: it is its name, or a name, a space and what follows it
+abbrev pub Asks : List ℕ → CommandContent → Type 0
+Asks word command =
+    IsNamed word command
+    ⊎ ((detail : Detail) × (text : List ℕ) × (word ≡ detail_text detail ++ 32 ∷ text)
+    × DetailAsks detail text command)
+
+-- each of some words asks for the command at its place
+pub record AskInOrder (words : List (List ℕ)) (commands : List CommandContent) : Type 0 where
+  pub all : length commands ≡ length words
+  pub each : (i : ℕ) → i < length words → Asks (get_or words i []) (get_or commands i Reset)

@@ -1,0 +1,284 @@
+-- The text of a command asks for it.
+use Rattle.std.proofs.Common.{◌≡◌, ◌≢◌, ◌+◌, ◌/◌, ◌%◌, ◌<◌, ◌≤◌, ◌⊎◌, ℕ, zero, suc, Bool, true, false, List, [], ◌∷◌, ◌++◌, length, get_or, map, None, ap, arith, inl, inr, refl, subst, sym, slice_index as nth}
+use Rattle.std.specs.Prelude.{codes, decimal, find, nat_le, if◌then◌else◌, ◌==◌, ◌&&◌}
+use Rattle.std.specs.List.{All, list_all}
+use Rattle.std.proofs.lemmas.List.{get_or-map, length-map}
+use Rattle.std.specs.Str.{IsAscii}
+use Rattle.std.proofs.lemmas.Bool.{eqb-true, leb-true}
+use Rattle.std.proofs.lemmas.Bool.Decides.{nat_tests}
+use Rattle.hex.specs.Hex.{encode_lower, encode_with, lower_digits}
+use Rattle.hex.proofs.HexLemmas.{decode_of-encode_lower, decode_sized-encode_lower}
+use Rattle.dgt_values.specs.Segment.{IsShownBy}
+use Rattle.dgt_command.specs.declared.ids.KnownId.{KnownId}
+use Rattle.dgt_command.specs.Content.{ClockContent, CommandContent, Reset, Clock, Dump, Update, UpdateBoard, UpdateNice, Serial, Trademark, Battery, Version, LongSerial, ClockMessage, Leds, known_clock}
+use Rattle.dgt_command.specs.Encoding.{AreBytes, EncodesCommand, command_encoding}
+use Rattle.dgt_command.specs.Ids.{has_own_case, has_size, id_number, id_with, known_ids}
+use Rattle.dgt_lines.specs.Lines.{bytes_text, words_text}
+use Rattle.dgt_lines.specs.CommandWords.{command_text, display_word, is_printable, is_shown, known_words, raw_words, shown_character, text_word, words_with}
+use Rattle.dgt_ask.specs.declared.details.Detail.TheVariants as detail
+use Rattle.dgt_ask.specs.Asks.{AskInOrder, Asks, HasBytes, HasPayload, IsDisplay, IsText}
+
+-- bytes are read back from their text
+is_no_hyphen : (bytes : List ℕ) (byte : ℕ) → encode_lower (byte ∷ bytes) ≢ codes "-"
+unfolding encode_with
+is_no_hyphen bytes byte e = omega (arith, ap length e)
+
+is_some_text : (bytes : List ℕ) (byte : ℕ) → encode_lower (byte ∷ bytes) ≢ []
+unfolding encode_with
+is_some_text bytes byte e = omega (arith, ap length e)
+
+has_bytes : (bytes : List ℕ) → AreBytes bytes → HasBytes (bytes_text bytes) bytes
+has_bytes [] are = inl (refl, refl)
+has_bytes (byte ∷ bytes) are =
+    inr (is_no_hyphen bytes byte, is_some_text bytes byte, decode_of-encode_lower (byte ∷ bytes) are)
+
+has_payload : (known : KnownId) (size : ℕ) (payload : List ℕ) → AreBytes payload → length payload ≡ suc size
+    → HasPayload known (suc size) (bytes_text payload) (known_clock known payload)
+has_payload known size [] are sized = absurd (omega (arith, sized))
+has_payload known size (byte ∷ payload) are sized =
+    (byte ∷ payload, decode_sized-encode_lower (byte ∷ payload) (suc size) sized are, refl)
+
+leds_back : (leds bytes : List ℕ) → EncodesCommand (Leds leds) bytes → Asks (command_text (Leds leds)) (Leds leds)
+leds_back leds bytes encodes =
+    let are : AreBytes (0x60 ∷ length leds ∷ leds) = rw (← encodes.encoded) encodes.are_bytes in
+    let few : length leds < 256 = are 1 in
+    inr (detail.Leds, bytes_text leds, refl, (has_bytes leds (λ i. are (suc (suc i))), omega (arith, few)))
+
+-- ---- clock messages
+
+are_first : (xs ys : List ℕ) → AreBytes (xs ++ ys) → AreBytes xs
+are_first [] ys are i = omega arith
+are_first (x ∷ xs) ys are zero = are zero
+are_first (x ∷ xs) ys are (suc i) = are_first xs ys (λ j. are (suc j)) i
+
+pub record Carried (message : ClockContent) : Type 0 where
+  pub id_is_byte : message.id < 256
+  pub few : length message.payload ≤ 252
+  pub are_bytes : AreBytes message.payload
+
+carried : (message : ClockContent) (bytes : List ℕ) → EncodesCommand (ClockMessage message) bytes → Carried message
+carried message bytes encodes =
+    let are : AreBytes (0x2b ∷ (length message.payload + 3) ∷ 0x03 ∷ message.id ∷ (message.payload ++ 0x00 ∷ []))
+    = rw (← encodes.encoded) encodes.are_bytes in
+    let size : length message.payload + 3 < 256 = are 1 in
+    record {
+      id_is_byte = are 3;
+      few = omega (arith, size);
+      are_bytes = are_first message.payload (0x00 ∷ []) (λ i. are (suc (suc (suc (suc i)))));
+    }
+
+one_byte : (byte : ℕ) → byte < 256 → AreBytes (byte ∷ [])
+one_byte byte small zero = small
+one_byte byte small (suc i) = omega arith
+
+raw_back : (message : ClockContent) → Carried message → has_own_case message.id (length message.payload) ≡ false
+    → Asks (words_text (raw_words message.id message.payload)) (ClockMessage message)
+unfolding encode_with
+raw_back message carries other =
+    let high = nth lower_digits (message.id / 16) in
+    let low = nth lower_digits (message.id % 16) in
+    let rest = bytes_text message.payload in
+    inr (
+      detail.ClockMessage,
+      high ∷ low ∷ 32 ∷ rest,
+      refl,
+      (
+        high,
+        low,
+        rest,
+        refl,
+        decode_sized-encode_lower (message.id ∷ []) 1 refl (one_byte message.id carries.id_is_byte),
+        has_bytes message.payload carries.are_bytes,
+        carries.few,
+        other,
+      ),
+    )
+
+by_eight : (P : List ℕ → Type 0) → ((a b c d e f g h : ℕ) → P (a ∷ b ∷ c ∷ d ∷ e ∷ f ∷ g ∷ h ∷ []))
+    → (xs : List ℕ) → length xs ≡ 8 → P xs
+by_eight P holds [] z = absurd (omega (arith, z))
+by_eight P holds (a ∷ []) z = absurd (omega (arith, z))
+by_eight P holds (a ∷ b ∷ []) z = absurd (omega (arith, z))
+by_eight P holds (a ∷ b ∷ c ∷ []) z = absurd (omega (arith, z))
+by_eight P holds (a ∷ b ∷ c ∷ d ∷ []) z = absurd (omega (arith, z))
+by_eight P holds (a ∷ b ∷ c ∷ d ∷ e ∷ []) z = absurd (omega (arith, z))
+by_eight P holds (a ∷ b ∷ c ∷ d ∷ e ∷ f ∷ []) z = absurd (omega (arith, z))
+by_eight P holds (a ∷ b ∷ c ∷ d ∷ e ∷ f ∷ g ∷ []) z = absurd (omega (arith, z))
+by_eight P holds (a ∷ b ∷ c ∷ d ∷ e ∷ f ∷ g ∷ h ∷ []) z = holds a b c d e f g h
+by_eight P holds (a ∷ b ∷ c ∷ d ∷ e ∷ f ∷ g ∷ h ∷ i ∷ xs) z = absurd (omega (arith, z))
+
+by_nine : (P : List ℕ → Type 0) → ((a b c d e f g h i : ℕ) → P (a ∷ b ∷ c ∷ d ∷ e ∷ f ∷ g ∷ h ∷ i ∷ []))
+    → (xs : List ℕ) → length xs ≡ 9 → P xs
+by_nine P holds [] z = absurd (omega (arith, z))
+by_nine P holds (x ∷ xs) z = by_eight (λ ys. P (x ∷ ys)) (holds x) xs (omega (arith, z))
+
+shown : (segments : ℕ) → is_shown (shown_character segments) ≡ true → IsShownBy (shown_character segments) segments
+shown segments is = grind (arith, nat_tests)
+
+both : (a b : Bool) → a && b ≡ true → (a ≡ true) × (b ≡ true)
+both true true e = (refl, refl)
+both true false e = cc
+both false b e = cc
+
+-- places that all show characters
+all_shown : (places : List ℕ) → list_all is_shown (map shown_character places) ≡ true → (i : ℕ) → i < length places
+    → IsShownBy (nth (map shown_character places) i) (nth places i)
+all_shown [] are i small = absurd (omega (arith, small))
+all_shown (x ∷ xs) are zero small =
+    shown x (both (is_shown (shown_character x)) (list_all is_shown (map shown_character xs)) are).0
+all_shown (x ∷ xs) are (suc i) small =
+    all_shown xs (both (is_shown (shown_character x)) (list_all is_shown (map shown_character xs)) are).1 i
+    (omega (arith, small))
+
+-- the display of eight bytes
+display_choice : (a b c d e f g h : ℕ) → AreBytes (a ∷ b ∷ c ∷ d ∷ e ∷ f ∷ g ∷ h ∷ []) → (plain : Bool)
+    → (list_all is_shown (map shown_character (c ∷ b ∷ a ∷ f ∷ e ∷ d ∷ [])) && g == 0 && h == 0) ≡ plain
+    → IsDisplay (if plain then map shown_character (c ∷ b ∷ a ∷ f ∷ e ∷ d ∷ [])
+    else bytes_text (a ∷ b ∷ c ∷ d ∷ e ∷ f ∷ g ∷ h ∷ []))
+    (known_clock KnownId.Display (a ∷ b ∷ c ∷ d ∷ e ∷ f ∷ g ∷ h ∷ []))
+display_choice a b c d e f g h are false is = inl (has_payload KnownId.Display 7 _ are refl)
+display_choice a b c d e f g h are true is =
+    let outer = both (list_all is_shown (map shown_character (c ∷ b ∷ a ∷ f ∷ e ∷ d ∷ [])) && g == 0) (h == 0) is in
+    let inner = both (list_all is_shown (map shown_character (c ∷ b ∷ a ∷ f ∷ e ∷ d ∷ []))) (g == 0) outer.0 in
+    inr (
+      refl,
+      (
+        λ i. nth (c ∷ b ∷ a ∷ f ∷ e ∷ d ∷ []) i,
+        all_shown (c ∷ b ∷ a ∷ f ∷ e ∷ d ∷ []) inner.0,
+        rw (eqb-true g 0 inner.1, eqb-true h 0 outer.1) refl,
+      ),
+    )
+
+display_back : (payload : List ℕ) → AreBytes payload → length payload ≡ 8
+    → IsDisplay (display_word payload) (known_clock KnownId.Display payload)
+display_back payload are sized =
+    by_eight (λ payload. AreBytes payload → IsDisplay (display_word payload) (known_clock KnownId.Display payload))
+    (λ a b c d e f g h are. display_choice a b c d e f g h are
+    (list_all is_shown (map shown_character (c ∷ b ∷ a ∷ f ∷ e ∷ d ∷ [])) && g == 0 && h == 0) refl)
+    payload sized are
+
+-- the text of nine
+ascii_all : (xs : List ℕ) → list_all is_printable xs ≡ true → IsAscii xs
+ascii_all [] are i = omega arith
+ascii_all (x ∷ xs) are zero =
+    let first = both (is_printable x) (list_all is_printable xs) are in
+    omega (arith, leb-true x 126 (both (nat_le 32 x) (nat_le x 126) first.0).1)
+ascii_all (x ∷ xs) are (suc i) = ascii_all xs (both (is_printable x) (list_all is_printable xs) are).1 i
+
+text_choice : (a b c d e f g h i : ℕ) → AreBytes (a ∷ b ∷ c ∷ d ∷ e ∷ f ∷ g ∷ h ∷ i ∷ []) → (plain : Bool)
+    → (list_all is_printable (a ∷ b ∷ c ∷ d ∷ e ∷ f ∷ g ∷ h ∷ []) && i == 0) ≡ plain
+    → IsText (if plain then a ∷ b ∷ c ∷ d ∷ e ∷ f ∷ g ∷ h ∷ []
+    else bytes_text (a ∷ b ∷ c ∷ d ∷ e ∷ f ∷ g ∷ h ∷ i ∷ []))
+    (known_clock KnownId.Text (a ∷ b ∷ c ∷ d ∷ e ∷ f ∷ g ∷ h ∷ i ∷ []))
+text_choice a b c d e f g h i are false is = inl (has_payload KnownId.Text 8 _ are refl)
+text_choice a b c d e f g h i are true is =
+    let parts = both (list_all is_printable (a ∷ b ∷ c ∷ d ∷ e ∷ f ∷ g ∷ h ∷ [])) (i == 0) is in
+    inr (refl, ascii_all (a ∷ b ∷ c ∷ d ∷ e ∷ f ∷ g ∷ h ∷ []) parts.0, rw (eqb-true i 0 parts.1) refl)
+
+text_back : (payload : List ℕ) → AreBytes payload → length payload ≡ 9
+    → IsText (text_word payload) (known_clock KnownId.Text payload)
+text_back payload are sized =
+    by_nine (λ payload. AreBytes payload → IsText (text_word payload) (known_clock KnownId.Text payload))
+    (λ a b c d e f g h i are. text_choice a b c d e f g h i are
+    (list_all is_printable (a ∷ b ∷ c ∷ d ∷ e ∷ f ∷ g ∷ h ∷ []) && i == 0) refl)
+    payload sized are
+
+-- a clock message with a case of its own
+known_back : (known : KnownId) (payload : List ℕ) → AreBytes payload → length payload ≤ 252
+    → has_size known (length payload) ≡ true
+    → Asks (words_text (known_words known payload)) (ClockMessage (known_clock known payload))
+known_back KnownId.Display payload are few size =
+    inr (detail.Display, display_word payload, refl, display_back payload are (eqb-true _ _ size))
+known_back KnownId.Icons payload are few size =
+    inr (detail.Icons, bytes_text payload, refl, (payload, has_bytes payload are, few, refl))
+known_back KnownId.End [] are few size = inl (inl (refl, refl))
+known_back KnownId.Button [] are few size = inl (inr (inl (refl, refl)))
+known_back KnownId.Version [] are few size = inl (inr (inr (refl, refl)))
+known_back KnownId.End (x ∷ payload) are few size =
+    let none : length (x ∷ payload) ≡ 0 = eqb-true _ _ size in absurd (omega (arith, none))
+known_back KnownId.Button (x ∷ payload) are few size =
+    let none : length (x ∷ payload) ≡ 0 = eqb-true _ _ size in absurd (omega (arith, none))
+known_back KnownId.Version (x ∷ payload) are few size =
+    let none : length (x ∷ payload) ≡ 0 = eqb-true _ _ size in absurd (omega (arith, none))
+known_back KnownId.SetAndRun payload are few size =
+    inr (detail.SetAndRun, bytes_text payload, refl, has_payload KnownId.SetAndRun 6 payload are (eqb-true _ _ size))
+known_back KnownId.Beep [] are few size =
+    let one : length {A = ℕ} [] ≡ 1 = eqb-true _ _ size in absurd (omega (arith, one))
+known_back KnownId.Beep (x ∷ []) are few size = inr (detail.Beep, decimal x, refl, (x, are 0, refl, refl))
+known_back KnownId.Beep (x ∷ y ∷ payload) are few size =
+    let one : length (x ∷ y ∷ payload) ≡ 1 = eqb-true _ _ size in absurd (omega (arith, one))
+known_back KnownId.Text payload are few size =
+    inr (detail.Text, text_word payload, refl, text_back payload are (eqb-true _ _ size))
+
+-- an id is known, or has no case of its own
+abbrev IsOneOf : ℕ → List KnownId → Type 0
+IsOneOf number ids =
+    ((known : KnownId) × (number ≡ id_number known)) ⊎ (find (λ id. id_number id == number) ids ≡ None)
+
+is_one_of : (number : ℕ) (id : KnownId) (ids : List KnownId) → IsOneOf number ids → (is : Bool)
+    → (id_number id == number) ≡ is → IsOneOf number (id ∷ ids)
+is_one_of number id ids rest true is = inl (id, sym (eqb-true _ _ is))
+is_one_of number id ids (inl known) false is = inl known
+is_one_of number id ids (inr none) false is = inr (rw is none)
+
+one_of : (number : ℕ) (ids : List KnownId) → IsOneOf number ids
+one_of number [] = inr refl
+one_of number (id ∷ ids) = is_one_of number id ids (one_of number ids) (id_number id == number) refl
+
+owned_back : (known : KnownId) (payload : List ℕ) → AreBytes payload → length payload ≤ 252
+    → has_own_case (id_number known) (length payload) ≡ true
+    → Asks (words_text (words_with (id_with (id_number known)) (id_number known) payload))
+    (ClockMessage (known_clock known payload))
+owned_back KnownId.Display payload are few own = known_back KnownId.Display payload are few own
+owned_back KnownId.Icons payload are few own = known_back KnownId.Icons payload are few own
+owned_back KnownId.End payload are few own = known_back KnownId.End payload are few own
+owned_back KnownId.Button payload are few own = known_back KnownId.Button payload are few own
+owned_back KnownId.Version payload are few own = known_back KnownId.Version payload are few own
+owned_back KnownId.SetAndRun payload are few own = known_back KnownId.SetAndRun payload are few own
+owned_back KnownId.Beep payload are few own = known_back KnownId.Beep payload are few own
+owned_back KnownId.Text payload are few own = known_back KnownId.Text payload are few own
+
+chosen_back : (message : ClockContent) → Carried message → (own : Bool)
+    → has_own_case message.id (length message.payload) ≡ own
+    → Asks (words_text (if own then words_with (id_with message.id) message.id message.payload
+    else raw_words message.id message.payload)) (ClockMessage message)
+chosen_back message carries false is = raw_back message carries is
+chosen_back message carries true is = elim (one_of message.id known_ids) [
+  | inl known ↦
+      subst (λ id. has_own_case id (length message.payload) ≡ true →
+      Asks (words_text (words_with (id_with id) id message.payload))
+      (ClockMessage (record { id = id; payload = message.payload })))
+      (sym known.1) (owned_back known.0 message.payload carries.are_bytes carries.few) is
+  | inr none ↦ let other = rw none at is in cc
+]
+
+clock_back : (message : ClockContent) (bytes : List ℕ) → EncodesCommand (ClockMessage message) bytes
+    → Asks (command_text (ClockMessage message)) (ClockMessage message)
+clock_back message bytes encodes =
+    chosen_back message (carried message bytes encodes) (has_own_case message.id (length message.payload)) refl
+
+pub asked_back : (command : CommandContent) (bytes : List ℕ) → EncodesCommand command bytes
+    → Asks (command_text command) command
+asked_back Reset bytes encodes = inl refl
+asked_back Clock bytes encodes = inl refl
+asked_back Dump bytes encodes = inl refl
+asked_back Update bytes encodes = inl refl
+asked_back UpdateBoard bytes encodes = inl refl
+asked_back UpdateNice bytes encodes = inl refl
+asked_back Serial bytes encodes = inl refl
+asked_back Trademark bytes encodes = inl refl
+asked_back Battery bytes encodes = inl refl
+asked_back Version bytes encodes = inl refl
+asked_back LongSerial bytes encodes = inl refl
+asked_back (ClockMessage message) bytes encodes = clock_back message bytes encodes
+asked_back (Leds leds) bytes encodes = leds_back leds bytes encodes
+
+pub asked_in_order : (commands : List CommandContent) → All (λ command. AreBytes (command_encoding command)) commands
+    → AskInOrder (map command_text commands) commands
+asked_in_order commands are = record {
+  all = sym (length-map commands command_text);
+  each = λ i small.
+      let within : i < length commands = rw (← length-map commands command_text) small in
+      rw (get_or-map command_text commands i Reset [] within)
+      (asked_back (get_or commands i Reset) _ (record { are_bytes = are i Reset within; encoded = refl }));
+}
