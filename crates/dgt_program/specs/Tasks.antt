@@ -70,8 +70,9 @@ pub record Prints {T : Type 0} (W : Sink T) (sink : Change T) (r : Result (Unit 
   pub output : Writes W sink.old sink.new run text
   pub flushed : OnOk run (IsTrue (W.flushed sink.new))
 
--- what stands in the sink for the bytes of a word, if `monitor` gave this answer: their text, or of
--- a prefix of them a prefix of its text, or its lines if it has more bytes than there are reads
+-- What stands in the sink for the bytes of a word, if `monitor` gave this answer. It is their text.
+-- If a write was refused it is a prefix of the text of a prefix of them. If there were too many
+-- reads it is the lines of such a prefix, which has a byte for each read.
 abbrev pub IsShown : Result (Unit {0}) RunFault → List ℕ → List ℕ → Type 0
 IsShown (Ok _) bytes out = out ≡ monitor_text bytes
 IsShown (Err WriteFailed) bytes out =

@@ -1,7 +1,8 @@
 //! The program `dgt`, over any words, any reader and any writers.
 //!
-//! [`run_words`] does what the words ask for. `dgt_arguments` reads the words, and the engines of
-//! `dgt_text` read and write. [`Fault`] is what can go wrong, with the text and the exit status of
+//! [`run_words`] does what the words ask for: it is [`run`] over a `Device` of each stream.
+//! `dgt_arguments` reads the words, and [`run_task`] says what each task reads and writes, by the
+//! engines of `dgt_text`. [`Fault`] is what can go wrong, with the text and the exit status of
 //! each. The crate `dgt` is this program. Before it runs, it says if a terminal is read or gets
 //! bytes:
 //!
@@ -29,4 +30,4 @@ pub mod laws;
 mod program;
 
 pub use fault::Fault;
-pub use program::{MOST_TURNS, run_words};
+pub use program::{MOST_TURNS, run, run_task, run_words};
