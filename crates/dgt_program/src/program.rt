@@ -16,7 +16,7 @@ use dgt_arguments::{Task, read};
 use dgt_board::{Board, Identity, simulated_clock};
 use dgt_lines::laws::writes_in_a_row;
 use dgt_lines::{flush, put};
-use dgt_link::World;
+use dgt_link::{World, WorldFault};
 use dgt_text::{
     Bytes, Device, Sink, Source, commands, monitor, picture, picture_with_clock,
     picture_with_doubts, picture_with_doubts_and_clock, serve, simulate, simulate_faults,
@@ -221,17 +221,19 @@ fn decode(alloc: Global, word: &str) -> Result<Vec<u8>, Fault>
     }
 }
 
+// The fault stays that of dgt_link: to turn it into the program's here would take room for a second
+// world.
 #[inline(never)]
-fn make_world(alloc: Global, position: Position, up: u16, down: u16) -> Result<World, Fault>
+fn make_world(alloc: Global, position: Position, up: u16, down: u16) -> Result<World, WorldFault>
     ensures { MatchResult result
         (λ world. (67 ≤ up) × (257 ≤ down) × (world
         ≡ new_world (pieces_of position) simulated_times simulated_identity up down))
-        (λ fault. (((up < 67) ⊎ (down < 257)) × (fault ≡ Fault.LineTooSmall))
-        ⊎ ((67 ≤ up) × (257 ≤ down) × (fault ≡ Fault.OutOfMemory))) }
+        (λ fault. (((up < 67) ⊎ (down < 257)) × (fault ≡ WorldFault.LineTooSmall))
+        ⊎ ((67 ≤ up) × (257 ≤ down) × (fault ≡ WorldFault.OutOfMemory))) }
 {
     let (clock, identity) = (simulated_clock(), Identity::simulated());
     let (up, down) = (usize::from(up), usize::from(down));
-    Ok(World::new(alloc, position, clock, identity, up, down)?)
+    World::new(alloc, position, clock, identity, up, down)
 }
 
 // Writes bytes, and flushes.
