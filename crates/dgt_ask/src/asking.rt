@@ -2,11 +2,10 @@
 
 ghost use Rattle.std.specs.Prelude.{◌≡◌, ◌≢◌, ◌≤◌, ◌++◌, false, List, [], ◌∷◌, codes, flat_map, length, map, slice_index as nth};
 ghost use Rattle.std.specs.Prelude.{OnOk, IfOk, IfSome, IsOkAnd, IsSomeAnd, MatchOption, MatchResult};
-ghost use Rattle.dgt_command.specs.Content.{command_content, ClockMessage};
+ghost use Rattle.dgt_command.specs.Content.{command_content, ClockContent, ClockMessage, CommandContent};
 ghost use Rattle.dgt_command.specs.Ids.{has_own_case};
 ghost use Rattle.dgt_command.specs.Encoding.{command_encoding};
 ghost use Rattle.dgt_host.specs.Host.{follow_bytes, restart_bytes};
-ghost use Rattle.dgt_command.specs.Content.{ClockContent, CommandContent};
 ghost use Rattle.hex.specs.Hex.{decode_of, decode_sized};
 ghost use Rattle.dgt_ask.specs.Asking.{Adds, IsAskedBy, Takes};
 ghost use Rattle.dgt_ask.specs.Asks.{AskInOrder, Asks, DetailAsks, HasBytes, IsNamed, IsRaw};

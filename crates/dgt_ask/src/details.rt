@@ -3,8 +3,7 @@
 ghost use Rattle.std.specs.Prelude.{◌≡◌, ◌≢◌, ◌<◌, ◌≤◌, ◌*◌, ◌++◌, ◌∷◌, ℕ, false, List, [], length, codes, slice_index as nth};
 ghost use Rattle.std.specs.Prelude.{IfOk, IfSome, IfNone, IsErr, IsOkAnd, IsSomeAnd, MatchOption, MatchResult, Ok, Some, None};
 ghost use Rattle.dgt_command.specs.declared.ids.KnownId.{KnownId};
-ghost use Rattle.dgt_command.specs.Content.{command_content, ClockMessage, Leds, clock_content, known_clock};
-ghost use Rattle.dgt_command.specs.Content.{ClockContent, CommandContent};
+ghost use Rattle.dgt_command.specs.Content.{command_content, ClockContent, ClockMessage, CommandContent, Leds, clock_content, known_clock};
 ghost use Rattle.dgt_command.specs.Display.{Shows};
 ghost use Rattle.std.specs.Str.{IsAscii};
 ghost use Rattle.dgt_command.specs.Ids.{has_own_case};

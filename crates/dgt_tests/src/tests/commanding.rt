@@ -166,7 +166,11 @@ fn the_framer_lends_what_it_found(rt: HostRuntime) {
     let Some(found) = leds.found else {
         panic!(rt; "no LED frame");
     };
-    assert_that(&rt, is_leds(framer.event(found).unwrap(), &[0x42]), "an LED frame");
+    assert_that(
+        &rt,
+        is_leds(framer.event(found).unwrap(), &[0x42]),
+        "an LED frame",
+    );
     assert_same(&rt, framer.partial(), 0);
 }
 
