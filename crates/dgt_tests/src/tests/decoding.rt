@@ -78,6 +78,10 @@ fn a_decoder_made_as_new(rt: HostRuntime) {
     assert_same(&rt, decoder.finish(), None);
 }
 
+fn is_field(event: Option<Event<'_>>) -> bool {
+    matches!(event, Some(Event::Message(Message::Field { .. })))
+}
+
 #[test]
 fn a_framer_lends_what_it_found(rt: HostRuntime) {
     let mut framer = Framer::new();
@@ -90,8 +94,7 @@ fn a_framer_lends_what_it_found(rt: HostRuntime) {
     match advanced.found {
         Some(found) => {
             assert_same(&rt, found, Found::Message);
-            let event = framer.event(found);
-            assert!(rt; matches!(event, Some(Event::Message(Message::Field { .. }))));
+            assert_that(&rt, is_field(framer.event(found)), "a field");
         }
         None => panic!(rt; "no message was found"),
     }
