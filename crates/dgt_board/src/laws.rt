@@ -3,7 +3,7 @@
 
 ghost use Rattle.std.specs.Prelude.{◌≡◌, ◌↔◌, ◌≤◌, ◌<◌, ◌+◌, ◌∷◌, ◌++◌, ℕ, List, [], Option, Some, None, IfSome, false, length, map, option_map, true};
 ghost use Rattle.dgt_values.specs.Equality.{CloneIsSame, EqualIsSame, EqualIsSameReadOf};
-ghost use Rattle.dgt_message.specs.Content.{Content};
+ghost use Rattle.dgt_message.specs.Content.{Content, IsMessage};
 ghost use Rattle.dgt_command.specs.Content.{CommandContent, EventContent, command_event_content};
 ghost use Rattle.dgt_command.specs.Equality.{EventHasArrays};
 ghost use Rattle.dgt_board.specs.declared.boards.Taken.{Taken};
@@ -13,7 +13,8 @@ ghost use Rattle.dgt_message.specs.Clock.{Absence, ClockState};
 ghost use Rattle.dgt_values.specs.Bytes.{AreSevenBit};
 ghost use Rattle.dgt_values.specs.declared.pieces.Piece.{Piece};
 ghost use Rattle.dgt_board.specs.Sending.{after_sending, backlog, clock_news, left_to_send, next_message, piece_on, unreported_squares};
-ghost use Rattle.dgt_board.specs.View.{BoardView, HasTaken};
+ghost use Rattle.dgt_board.specs.View.{BoardView, HasTaken, Polls};
+ghost use Rattle.dgt_board.specs.declared.sending.Polled.{Polled as Answer};
 
 use crate::{Busy, MAX_KEPT_BODY, MAX_OWED, MAX_SENT, Mode, Polled, Taken, TooLong};
 
@@ -142,4 +143,25 @@ pub fn what_is_short()
     ensures clock { (absence : Absence) → length absence.raw ≤ 63
         → IsShortClock (ClockState.no_clock absence) }
     ensures body { (body : List ℕ) → length body ≤ 64 → AreSevenBit body → IsKeptBody body }
+{}
+
+/// What a board answers that has to send the version 2.3, `93 00 05 02 03`: into six bytes, into
+/// five and into four. If it has nothing to send it says so, and nothing changes.
+pub fn what_is_polled()
+    ensures wrote { (polled : Answer) (before after : BoardView) (new : List ℕ) → Polls polled
+        (Some (Content.version 2 3)) before after (1 ∷ 1 ∷ 1 ∷ 1 ∷ 1 ∷ 1 ∷ []) new
+        → (polled ≡ Answer.Wrote 5) × (new ≡ 0x93 ∷ 0x00 ∷ 0x05 ∷ 0x02 ∷ 0x03 ∷ 1 ∷ []) }
+    ensures sent { (count : ℕ) (before after : BoardView) (message : Content) (old new : List ℕ)
+        → Polls (Answer.Wrote count) (Some message) before after old new
+        → (after.partial ≡ before.partial)
+        × (after.state ≡ after_sending before.state message) × IsMessage message }
+    ensures filled { (polled : Answer) (before after : BoardView) (new : List ℕ) → Polls polled
+        (Some (Content.version 2 3)) before after (1 ∷ 1 ∷ 1 ∷ 1 ∷ 1 ∷ []) new
+        → (polled ≡ Answer.Wrote 5) × (new ≡ 0x93 ∷ 0x00 ∷ 0x05 ∷ 0x02 ∷ 0x03 ∷ []) }
+    ensures too_short { (polled : Answer) (before after : BoardView) (new : List ℕ) → Polls polled
+        (Some (Content.version 2 3)) before after (1 ∷ 1 ∷ 1 ∷ 1 ∷ []) new
+        → (polled ≡ Answer.NeedRoom 5) × (new ≡ 1 ∷ 1 ∷ 1 ∷ 1 ∷ []) × (after ≡ before) }
+    ensures nothing { (polled : Answer) (before after : BoardView) (old new : List ℕ)
+        → Polls polled None before after old new
+        → (polled ≡ Answer.Nothing) × (after ≡ before) × (new ≡ old) }
 {}

@@ -1,5 +1,5 @@
 -- A picture that is known is what the board had reported when it sent the last message that was heard.
-use Rattle.std.proofs.Common.{◌≡◌, ◌≢◌, refl, sym, ap, subst, ◌∙◌, ◌⊎◌, inl, inr, ℕ, List, [], ◌∷◌, ◌++◌, Bool, true, false, Option, Some, append_assoc, ◌&&◌, if◌then◌else◌}
+use Rattle.std.proofs.Common.{◌≡◌, ◌≢◌, refl, sym, ap, subst, ◌∙◌, ◌⊎◌, inl, inr, rules, ℕ, List, [], ◌∷◌, ◌++◌, Bool, true, false, Option, Some, append_assoc, ◌&&◌, if◌then◌else◌}
 use Rattle.std.proofs.lemmas.List.{append-nil}
 use Rattle.std.proofs.lemmas.Bool.{false≢true}
 use Rattle.std.specs.Prelude.{IsSome, is_some}
@@ -15,7 +15,7 @@ use Rattle.dgt_link.specs.Act.{ActContent}
 use Rattle.dgt_link.specs.declared.acts.Outcome.{Outcome}
 use Rattle.dgt_link.specs.Faults.{is_break}
 use Rattle.dgt_link.specs.Healing.{IsInStep, StandsBehind}
-use Rattle.dgt_link.specs.Machine.{IsHostBreak, MachineState, Move, after_hear, after_move, after_moves, after_reply, after_take, after_reported}
+use Rattle.dgt_link.specs.Machine.{IsHostBreak, IsSending, MachineState, Move, after_hear, after_move, after_moves, after_reply, after_take, after_reported}
 use Rattle.dgt_link.specs.Reported.{IsReportedBy, ReportedBefore, WasReported, first_reply, sent_by, sent_by_all}
 use Rattle.dgt_link.specs.Sound.{IsSound, IsUnknownOr, coming_picture}
 use Rattle.dgt_link.specs.Stands.{AreMovesOfRun, AreMovesOfStep}
@@ -97,6 +97,31 @@ move_sends x Move.ReportClock plain other =
 move_sends x Move.Hear plain other = absurd (other refl)
 move_sends x Move.Break plain other = absurd (plain.0 refl)
 move_sends x (Move.HostBreak noise is_noise) plain other = absurd (plain.1 tt)
+
+pub sending_sends : (x : MachineState) (move : Move) → IsSending move
+    → (after_move x move).up ≡ x.up ++ sent_by x move
+sending_sends x Move.Reply sends = (move_sends x Move.Reply (search rules) (search rules)).up
+sending_sends x (Move.Report square) sends = (move_sends x (Move.Report square) (search rules) (search rules)).up
+sending_sends x Move.ReportClock sends = (move_sends x Move.ReportClock (search rules) (search rules)).up
+sending_sends x (Move.Change square piece) sends = elim sends [ ]
+sending_sends x (Move.HandClock clock) sends = elim sends [ ]
+sending_sends x (Move.Ask command) sends = elim sends [ ]
+sending_sends x Move.Take sends = elim sends [ ]
+sending_sends x Move.Hear sends = elim sends [ ]
+sending_sends x Move.Break sends = elim sends [ ]
+sending_sends x (Move.HostBreak noise is_noise) sends = elim sends [ ]
+
+pub reported_at_once : (x : MachineState) → WasReported x []
+    → (x.up ≡ []) × IsUnknownOr x.picture (Some x.board.reported_squares)
+reported_at_once x report = go report.earlier report.later report.split report.sent report.picture
+  where
+    go : (earlier later : List Move) → [] ≡ earlier ++ later
+        → sent_by_all (after_moves x earlier) later ≡ x.up
+        → IsUnknownOr x.picture (Some (after_moves x earlier).board.reported_squares)
+        → (x.up ≡ []) × IsUnknownOr x.picture (Some x.board.reported_squares)
+    go [] [] split sent picture = (sym sent, picture)
+    go [] (move ∷ later) split sent picture = cc
+    go (move ∷ earlier) later split sent picture = cc
 
 -- a picture that is known stays so
 hear_stays_seen : (x : MachineState) (up : List Content) → IsSome x.picture → IsSome (after_hear x up).picture

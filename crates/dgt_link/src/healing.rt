@@ -10,15 +10,15 @@ ghost use Rattle.dgt_command.specs.Words.{IsPartial};
 ghost use Rattle.dgt_decode.specs.Grammar.{unfinished_message};
 ghost use Rattle.dgt_board.specs.State.{command_mode, follows_clock, updates};
 ghost use Rattle.dgt_board.specs.declared.modes.Mode.{Mode};
-ghost use Rattle.dgt_link.specs.Machine.{IsHostBreak, MachineState, Move};
-ghost use Rattle.dgt_link.specs.Reported.{IsReportedBy, WasReported};
+ghost use Rattle.dgt_link.specs.Machine.{IsHostBreak, IsSending, MachineState, Move, after_move, after_moves};
+ghost use Rattle.dgt_link.specs.Reported.{IsReportedBy, WasReported, sent_by};
 ghost use Rattle.dgt_message.specs.Content.{Content};
 ghost use Rattle.dgt_message.specs.Picture.{picture_after_all};
 ghost use Rattle.dgt_board.specs.Sending.{next_message};
-ghost use Rattle.dgt_link.specs.History.{IsInOrderOf, RunsThrough, shown_in, stood_in};
+ghost use Rattle.dgt_link.specs.History.{IsInOrderOf, RunsThrough, shown_in, shown_on, stood_in, stood_on};
 ghost use Rattle.dgt_link.specs.Act.{ActContent};
-ghost use Rattle.dgt_link.specs.Sound.{IsSound};
-ghost use Rattle.dgt_link.specs.Stands.{IsWorld};
+ghost use Rattle.dgt_link.specs.Sound.{IsSound, IsUnknownOr};
+ghost use Rattle.dgt_link.specs.Stands.{AreMovesOfRun, IsWorld};
 ghost use Rattle.dgt_link.specs.declared.acts.Outcome.{Outcome};
 ghost use Rattle.dgt_link.specs.Step.{Runs, Step};
 ghost use Rattle.dgt_link.specs.Settling.{SettlesIn};
@@ -244,6 +244,36 @@ pub fn pictures_were_reported()
 {
     acts_behind_garbage();
 }
+
+/// What it says that a picture was reported: of the first and the last state, of what each square
+/// shows, and of a state after no move. What a move sends is what it puts under way.
+pub fn what_was_reported()
+    ensures begins { (acts : List ActContent) (answers : List Outcome) (world after : WorldView)
+        (report : IsReportedBy acts answers world after)
+        → report.start.board ≡ world.board.state }
+    ensures unknown { (acts : List ActContent) (answers : List Outcome) (world after : WorldView)
+        (report : IsReportedBy acts answers world after) → report.start.picture ≡ None }
+    ensures silent { (acts : List ActContent) (answers : List Outcome) (world after : WorldView)
+        (report : IsReportedBy acts answers world after) → report.start.up ≡ [] }
+    ensures moves { (acts : List ActContent) (answers : List Outcome) (world after : WorldView)
+        (report : IsReportedBy acts answers world after)
+        → AreMovesOfRun acts answers report.moves }
+    ensures ends { (acts : List ActContent) (answers : List Outcome) (world after : WorldView)
+        (report : IsReportedBy acts answers world after)
+        → (after_moves report.start report.moves).board ≡ after.board.state }
+    ensures picture { (acts : List ActContent) (answers : List Outcome) (world after : WorldView)
+        (report : IsReportedBy acts answers world after)
+        → WasReported report.start report.moves }
+    ensures shown { (acts : List ActContent) (answers : List Outcome) (world after : WorldView)
+        (square : ℕ) (report : IsReportedBy acts answers world after)
+        → IsInOrderOf (shown_on square report.start report.moves)
+        (stood_on square report.start report.moves) }
+    ensures at_once { (x : MachineState) → WasReported x []
+        → IsUnknownOr x.picture (Some x.board.reported_squares) }
+    ensures heard { (x : MachineState) → WasReported x [] → x.up ≡ [] }
+    ensures sent { (x : MachineState) (move : Move) → IsSending move
+        → (after_move x move).up ≡ x.up ++ sent_by x move }
+{}
 
 /// After faults, in a world in step, let the board send a dump, and let no break come after it.
 /// Whenever nothing is under way to the host then, its picture is what the board has reported. From

@@ -1,12 +1,17 @@
 //! What holds of values and of the texts of positions as such. Nothing here runs: each function
 //! stands for the fact that its contract states.
 
-ghost use Rattle.std.specs.Prelude.{◌≡◌, ◌≤◌, ℕ, List, length, Result, Ok};
-ghost use Rattle.dgt_values.specs.Board.{piece_code, pieces_of, square_number};
-ghost use Rattle.dgt_values.specs.Bytes.{body_bytes, number};
-ghost use Rattle.dgt_values.specs.Equality.{CloneIsSame, EqualIsSame, EqualIsSameRead};
+ghost use Rattle.std.specs.Prelude.{◌≡◌, ◌≤◌, ◌++◌, ◌∷◌, ℕ, Bool, IsBitSet, IsTrue, List, [], length, replicate, MatchResult, Result, Err, Ok};
+ghost use Rattle.dgt_values.specs.Board.{piece_code, pieces_of, square_number, DifferingSquares};
+ghost use Rattle.dgt_values.specs.Bytes.{body_bytes, number, Refuses, SevenBitOf, WritesPrefix};
+ghost use Rattle.dgt_values.specs.Equality.{CloneIsSame, EqualIsSame, EqualIsSameRead, EqualIsSameReadOf};
 ghost use Rattle.dgt_values.specs.declared.pieces.Piece.{Piece};
 ghost use Rattle.dgt_values.specs.declared.refusals.BadPlacement.{BadPlacement};
+ghost use Rattle.dgt_values.specs.declared.refusals.NoRoom.{NoRoom};
+ghost use Rattle.dgt_values.specs.declared.refusals.BodyError.TheVariants.{Byte, Length};
+ghost use Rattle.dgt_values.specs.declared.refusals.NotSevenBit.{NotSevenBit};
+ghost use Rattle.dgt_values.specs.declared.refusals.TooMuch.{TooMuch};
+ghost use Rattle.dgt_values.specs.declared.bytes.SevenBit.{SevenBit};
 ghost use Rattle.dgt_values.specs.declared.positions.Position.{Position};
 ghost use Rattle.dgt_values.specs.Placement.{digit_count, placement_text, DigitsApart, IsPlacement, ParsesPlacement};
 
@@ -62,6 +67,66 @@ pub fn clone_is_same()
     ensures no_piece { CloneIsSame ⟦<NoPiece as Clone>⟧ }
     ensures no_segment { CloneIsSame ⟦<NoSegment as Clone>⟧ }
     ensures known { CloneIsSame ⟦<Known as Clone>⟧ }
+{}
+
+/// What it means that values are equal exactly if they are the same, or if a clause reads the same
+/// of them.
+pub fn what_is_equal()
+    ensures equal { (eq : ℕ → ℕ → Bool) (a b : ℕ) → EqualIsSame eq → IsTrue (eq a b) → a ≡ b }
+    ensures same { (eq : ℕ → ℕ → Bool) (a : ℕ) → EqualIsSame eq → IsTrue (eq a a) }
+    ensures equal_read { (read : ℕ → ℕ) (eq : ℕ → ℕ → Bool) (a b : ℕ)
+        → EqualIsSameRead read eq → IsTrue (eq a b) → read a ≡ read b }
+    ensures same_read { (read : ℕ → ℕ) (eq : ℕ → ℕ → Bool) (a b : ℕ)
+        → EqualIsSameRead read eq → read a ≡ read b → IsTrue (eq a b) }
+    ensures equal_some { (read : ℕ → ℕ) (eq : ℕ → ℕ → Bool) (a b : ℕ)
+        → EqualIsSameReadOf (λ n. n ≤ 9) read eq → a ≤ 9 → b ≤ 9 → IsTrue (eq a b)
+        → read a ≡ read b }
+    ensures same_some { (read : ℕ → ℕ) (eq : ℕ → ℕ → Bool) (a b : ℕ)
+        → EqualIsSameReadOf (λ n. n ≤ 9) read eq → a ≤ 9 → b ≤ 9 → read a ≡ read b
+        → IsTrue (eq a b) }
+{}
+
+/// What it means that a clone is the value itself and that cloning never fails.
+pub fn what_is_cloned()
+    ensures { (succeeds : ℕ → Bool) (may_give : ℕ → ℕ → Bool) (a b : ℕ)
+        → CloneIsSame (record {
+          is_clone = λ a b. IsTrue (may_give a b);
+          is_infallible = λ a. IsTrue (succeeds a);
+        })
+        → IsTrue (succeeds a) × (IsTrue (may_give a b) → b ≡ a) }
+{}
+
+/// No byte up to 127 is refused, and no body of up to 16,380 of them.
+pub fn what_is_refused()
+    ensures highest { (result : Result SevenBit NotSevenBit) → SevenBitOf 127 result
+        → MatchResult result (λ byte. number byte ≡ 127) (λ _. ⊥) }
+    ensures too_many { (bytes : List ℕ) (error : TooMuch) → Refuses bytes (Length error)
+        → 16381 ≤ length bytes }
+    ensures few_enough { (bytes : List ℕ) (error : NotSevenBit) → Refuses bytes (Byte error)
+        → length bytes ≤ 16380 }
+    ensures high_byte { (error : NotSevenBit) → ¬ (Refuses (127 ∷ []) (Byte error)) }
+{}
+
+/// Bytes that are written into a slice: two into a longer one, two into one that they fill, and
+/// three into one that is too short.
+pub fn written_bytes()
+    ensures longer { (new : List ℕ) (result : Result ℕ NoRoom)
+        → WritesPrefix (1 ∷ 2 ∷ []) (7 ∷ 8 ∷ 9 ∷ []) new result
+        → (result ≡ Ok 2) × (new ≡ 1 ∷ 2 ∷ 9 ∷ []) }
+    ensures filled { (new : List ℕ) (result : Result ℕ NoRoom)
+        → WritesPrefix (1 ∷ 2 ∷ []) (7 ∷ 8 ∷ []) new result
+        → (result ≡ Ok 2) × (new ≡ 1 ∷ 2 ∷ []) }
+    ensures too_short { (new : List ℕ) (result : Result ℕ NoRoom)
+        → WritesPrefix (1 ∷ 2 ∷ 3 ∷ []) (7 ∷ 8 ∷ []) new result
+        → (result ≡ Err (record { need = 3 })) × (new ≡ 7 ∷ 8 ∷ []) }
+{}
+
+/// Two positions of which the first square and the last one differ, and no other.
+pub fn squares_that_differ()
+    ensures { (bits : ℕ) → DifferingSquares
+        (Piece.WhiteKing ∷ replicate 62 Piece.Empty ++ Piece.WhiteKing ∷ [])
+        (Piece.BlackKing ∷ replicate 62 Piece.Empty ++ Piece.BlackKing ∷ []) bits
+        → IsBitSet bits 0 × (¬ (IsBitSet bits 1)) × (¬ (IsBitSet bits 62)) × IsBitSet bits 63 }
 {}
 
 /// A piece is known by its code.
