@@ -15,11 +15,12 @@
 //!
 //! What a word asks for is read from its name alone, and what follows it by [`Detail`]. The words
 //! are this project's own. The bytes are those of the DGT Electronic Board Protocol Description
-//! (the `dgtbrd` header).
+//! (the `dgtbrd` header). [`laws`] has what words ask for by example.
 #![tactic(auto)]
 
 mod asking;
 mod details;
+pub mod laws;
 
 pub use asking::{BadAsk, WORDS, asked_bytes};
 pub use details::Detail;

@@ -47,7 +47,7 @@ quiet_prefix later s p none = prefix_nil (events s) _ (sym (later s p) ∙ none)
 -- ---- The first event of what is left
 
 -- the first k of some bytes, and the others of them
-prefix_and_rest : (k n : ℕ) (xs : List ℕ) → k ≤ n → take n xs ≡ take k xs ++ take (n - k) (drop k xs)
+pub prefix_and_rest : (k n : ℕ) (xs : List ℕ) → k ≤ n → take n xs ≡ take k xs ++ take (n - k) (drop k xs)
 prefix_and_rest k n xs h =
     let whole : k + (n - k) ≡ n = omega arith in
     ap (λ (m : ℕ). take m xs) (sym whole) ∙ take-add k (n - k) xs
@@ -105,7 +105,7 @@ pub record HasRead (held chunk : List ℕ) (used count : ℕ) (old now : List Dg
   pub body_len_is : body_len ≡ length (bodies (events_up_to held chunk used))
   pub least : (k : ℕ) → k < used → GoesOn (length old) (events_up_to held chunk k)
 
-overwritten_nothing : (old : List ℕ) → overwritten old [] ≡ old
+pub overwritten_nothing : (old : List ℕ) → overwritten old [] ≡ old
 overwritten_nothing [] = refl
 overwritten_nothing (x ∷ old) = refl
 

@@ -8,3 +8,4 @@ pub mod AsciiLemmas
 pub mod ChunkLemmas
 pub mod Codes
 pub mod EncodingLemmas
+pub mod OnceLemmas

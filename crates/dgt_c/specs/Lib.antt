@@ -15,6 +15,8 @@ pub mod Starting
 pub mod PlainBoard
 pub mod Following
 pub mod PlainFollower
+-- What they determine.
+pub mod Once
 -- Structs of C in memory.
 pub mod Layouts
 pub mod Rooms

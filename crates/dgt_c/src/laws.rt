@@ -1,12 +1,19 @@
-//! What holds of the numbers and the structs that cross to C. Nothing here runs: each function
-//! stands for the fact that its contract states.
+//! What holds of the numbers and the structs that cross to C, and of what calls report. Nothing
+//! here runs: each function stands for the fact that its contract states.
 
-ghost use Rattle.std.specs.Prelude.{◌≡◌, ◌∷◌, [], ℕ, List};
+ghost use Rattle.std.specs.Prelude.{◌≡◌, ◌∷◌, [], ℕ, List, map};
+ghost use Rattle.dgt_values.specs.declared.pieces.Piece.{Piece as AnyPiece};
+ghost use Rattle.dgt_values.specs.Board.{piece_code};
+ghost use Rattle.dgt_message.specs.Clock.{Absence, Times};
+ghost use Rattle.dgt_message.specs.Content.{Content, IsMessage};
 ghost use Rattle.dgt_values.specs.Equality.{CloneIsSame};
 ghost use Rattle.dgt_command.specs.Content.{ClockContent, CommandContent};
 ghost use Rattle.dgt_command.specs.Ids.{id_number};
 ghost use Rattle.dgt_command.specs.Encoding.{command_code};
 ghost use Rattle.dgt_command.specs.declared.ids.KnownId.{KnownId};
+ghost use Rattle.dgt_c.specs.Clocks.{absence_said, times_said};
+ghost use Rattle.dgt_c.specs.Encoding.{SaysContent, SaysMessage};
+ghost use Rattle.dgt_c.specs.Once.{BusyBoardsStay, ClocksAreInRange, IdentitiesAreInRange, MessagesAreEncoded, MessagesAreRead, NothingIsEncoded, OneClock, OneEncoding, OneFeed, OneHearing, OneReportEach, OneStart, OneTaking, OneUse, OneWord, RefusedCommandsStay, RoomIsLeft, TextsAreShown};
 ghost use Rattle.dgt_c.specs.Layouts.{◌⊗◌, Ascend, LiesAs, bit_alone};
 ghost use Rattle.dgt_c.specs.Rooms.{board_room, command_decoder_room, decoder_room, follower_room, host_room};
 ghost use Rattle.dgt_c.specs.contracts.header.{DgtBody.the_row as body_row, DgtClock.the_row as clock_row, DgtCommand.the_row as command_row, DgtEncoded.the_row as encoded_row, DgtEvent.the_row as event_row, DgtIdentity.the_row as identity_row, DgtParsed.the_row as parsed_row, DgtPolled.the_row as polled_row, DgtSent.the_row as sent_row, DgtTaken.the_row as taken_row, DgtTime.the_row as time_row, DgtTold.the_row as told_row};
@@ -201,4 +208,80 @@ pub fn clone_is_same()
     ensures taken { CloneIsSame ⟦<DgtTaken as Clone>⟧ }
     ensures time { CloneIsSame ⟦<DgtTime as Clone>⟧ }
     ensures told { CloneIsSame ⟦<DgtTold as Clone>⟧ }
+{}
+
+/// What is reported of a chunk of a board's bytes is determined by it: how much of it is used, the
+/// structs and the bodies.
+pub fn one_report()
+    ensures feed { OneFeed }
+    ensures hearing { OneHearing }
+    ensures used { OneUse }
+    ensures room { RoomIsLeft }
+    ensures each { OneReportEach }
+{
+    dgt_decode::laws::one_first_event();
+}
+
+/// What is reported of a chunk of a host's bytes is determined by it, and so is the board that has
+/// taken it. A busy board stays.
+pub fn one_command()
+    ensures word { OneWord }
+    ensures taking { OneTaking }
+    ensures busy { BusyBoardsStay }
+{
+    dgt_command::laws::no_word_begins_another();
+    dgt_command::laws::parts_of_words();
+}
+
+/// A struct of C says one clock or one board at most, whose values are in their ranges.
+pub fn one_meaning()
+    ensures clock { OneClock }
+    ensures times { ClocksAreInRange }
+    ensures start { OneStart }
+    ensures identity { IdentitiesAreInRange }
+{
+    dgt_values::laws::one_piece_a_code();
+}
+
+/// The kinds and the members with which a struct says a message, whose values are in their ranges.
+pub fn said_messages()
+    ensures range { (said : DgtEvent) (body : List ℕ) (message : Content) →
+        SaysMessage said body message → IsMessage message }
+    ensures dump { (said : DgtEvent) (body : List ℕ) (pieces : List AnyPiece) →
+        SaysContent said body (Content.dump pieces)
+        → (said.kind ≡ 1) × (said.pieces ≡ map piece_code pieces) }
+    ensures field { (said : DgtEvent) (body : List ℕ) (square : ℕ) (piece : AnyPiece) →
+        SaysContent said body (Content.field square piece)
+        → (said.kind ≡ 2) × (said.square ≡ square) × (said.piece ≡ piece_code piece) }
+    ensures times { (said : DgtEvent) (body : List ℕ) (times : Times) →
+        SaysContent said body (Content.times times)
+        → (said.kind ≡ 3) × (times ≡ times_said said.clock) }
+    ensures no_clock { (said : DgtEvent) (body : List ℕ) (absence : Absence) →
+        SaysContent said body (Content.no_clock absence)
+        → (said.kind ≡ 4) × (absence ≡ absence_said said.clock) }
+    ensures serial { (said : DgtEvent) (body digits : List ℕ) →
+        SaysContent said body (Content.serial digits)
+        → (said.kind ≡ 6) × (said.serial ≡ digits) }
+    ensures version { (said : DgtEvent) (body : List ℕ) (first second : ℕ) →
+        SaysContent said body (Content.version first second)
+        → (said.kind ≡ 8) × (said.main_number ≡ first) × (said.sub_number ≡ second) }
+    ensures carried { (said : DgtEvent) (body bytes : List ℕ) (code : ℕ) →
+        SaysContent said body (Content.carried code bytes) → bytes ≡ body }
+    ensures other { (said : DgtEvent) (body bytes : List ℕ) (code : ℕ) → said.kind ≡ 11 →
+        SaysContent said body (Content.carried code bytes) → code ≡ said.code }
+{}
+
+/// An encoding has one report. If C says no message, there is none and the slice stays; and if it
+/// says one, one is encoded.
+pub fn one_encoding()
+    ensures bytes { OneEncoding }
+    ensures nothing { NothingIsEncoded }
+    ensures message { MessagesAreEncoded }
+    ensures read { MessagesAreRead }
+{}
+
+/// A command that is refused changes nothing, and a text is refused only for its characters.
+pub fn refused_commands()
+    ensures stay { RefusedCommandsStay }
+    ensures texts { TextsAreShown }
 {}

@@ -11,6 +11,7 @@ pub mod CommandWords
 pub mod CommandLines
 pub mod CommandLaws
 pub mod Turns
+pub mod RunLaws
 pub mod Monitoring
 pub mod Picturing
 pub mod Commanding

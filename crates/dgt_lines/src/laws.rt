@@ -1,21 +1,32 @@
-//! What holds of lines and of writes as such. Nothing here runs: each function stands for the facts
-//! that its contract states.
+//! What holds of lines, writes and runs as such. Nothing here runs: each function stands for the
+//! facts that its contract states.
 
-ghost use Rattle.std.specs.Prelude.{◌≡◌, ◌++◌, ℕ, List, length};
+ghost use Rattle.std.specs.Prelude.{◌≡◌, ◌≤◌, ◌⊎◌, [], ◌∷◌, ◌++◌, ℕ, List, Ok, Err, Result, Some, false, length, true};
+ghost use Rattle.std.specs.Io.KnownBytes.{IsAtEnd};
 ghost use Rattle.dgt_values.specs.Equality.{CloneIsSame, EqualIsSame};
 ghost use Rattle.dgt_decode.specs.Grammar.{unfinished_message};
 ghost use Rattle.dgt_lines.specs.CommandLaws.{EachCharacterIsShown, EachIsPrinted, EachIsPrintedOnce, OthersAreQuestionMarks, TextsAppend};
-ghost use Rattle.dgt_lines.specs.Lines.{events_after, lines, lines_after};
+ghost use Rattle.dgt_lines.specs.CommandLines.{Prints};
+ghost use Rattle.dgt_lines.specs.Commanding.{IsListed};
+ghost use Rattle.dgt_lines.specs.Device.{IsNewDevice};
+ghost use Rattle.dgt_lines.specs.Lines.{events_after, lines, lines_after, monitor_text, unfinished_line};
+ghost use Rattle.dgt_lines.specs.Marks.{GivesEnd, TookSome};
+ghost use Rattle.dgt_lines.specs.Monitoring.{IsInSink, IsMonitored};
+ghost use Rattle.dgt_lines.specs.Picturing.{IsPictured, IsPicturedWithBoth, IsPicturedWithClock, IsPicturedWithDoubts};
+ghost use Rattle.dgt_lines.specs.RunLaws.{RunsThreeTurns};
+ghost use Rattle.dgt_lines.specs.Turns.{InTurns, Ran, change};
 ghost use Rattle.dgt_lines.specs.Pictures.{LastLineIsPicture, picture_after_events, picture_lines, picture_reported, pictures_text};
-ghost use Rattle.dgt_lines.specs.Reports.{ClockLeavesReports, DoubtsKeepThePicture, DoubtsLeavePictures, FirstFaultsAreReported, HiddenClockIsSilent, IgnoredFaultsAreSilent, LastLineIsClock, OtherClocksAreReported, report_lines, state_after_events, state_from, text_from};
-ghost use Rattle.dgt_lines.specs.Writing.{InARow};
+ghost use Rattle.dgt_lines.specs.Reports.{ClockLeavesReports, DoubtsKeepThePicture, DoubtsLeavePictures, FirstFaultsAreReported, HiddenClockIsSilent, IgnoredFaultsAreSilent, LastLineIsClock, OtherClocksAreReported, report_lines, report_text, report_text_with_clock, state_after_events, state_from, text_from};
+ghost use Rattle.dgt_lines.specs.Writing.{InARow, Writes};
 ghost use Rattle.dgt_lines.specs.declared.doubts.PictureState.{PictureState};
 
 use crate::doubts::{Doubt, PictureState};
 use crate::faults::RunFault;
-use crate::streams::{Failed, Sink};
+use crate::std_device::Device;
+use crate::streams::{Failed, Sink, Source};
 use crate::{COMMANDS_ROOM, LINES_ROOM, MAX_CHUNK, PICTURES_ROOM};
 use dgt_decode::laws;
+use std::io::{Read, Write};
 
 /// The most bytes that an engine reads at once, and the room that it takes for their lines.
 pub fn limits()
@@ -42,6 +53,144 @@ pub fn clone_is_same()
 pub fn writes_in_a_row<W: Sink>()
     ensures { InARow W.Sink }
 {}
+
+/// A read gives the end if it succeeds with no byte, though there was room for one. A write took
+/// some if it succeeded with a byte.
+pub fn ends_and_bytes()
+    ensures end { GivesEnd {E = Failed} (Ok 0) 1 }
+    ensures no_room { ¬ (GivesEnd {E = Failed} (Ok 0) 0) }
+    ensures given { ¬ (GivesEnd {E = Failed} (Ok 1) 2) }
+    ensures took { TookSome {E = Failed} (Ok 1) }
+    ensures none { ¬ (TookSome {E = Failed} (Ok 0)) }
+    ensures refused { (fault : Failed) → ¬ (GivesEnd (Err fault) 1) × ¬ (TookSome (Err fault)) }
+{}
+
+/// What a call leaves that writes 65 to a sink that has 64. If it returns `Ok`, the sink has both,
+/// and has not failed. If not, the sink refused. No call came late.
+pub fn what_writes_leave<W: Sink>()
+    ensures written { (a b : W) → Writes {A = Unit {0}} W.Sink a b (Ok tt) (65 ∷ [])
+        → W.written a ≡ Some (64 ∷ []) → W.written b ≡ Some (64 ∷ 65 ∷ []) }
+    ensures stands { (a b : W) → Writes {A = Unit {0}} W.Sink a b (Ok tt) (65 ∷ [])
+        → W.failed a ≡ false → W.failed b ≡ false }
+    ensures in_time { (a b : W) → Writes {A = Unit {0}} W.Sink a b (Ok tt) (65 ∷ [])
+        → W.failed a ≡ false → W.late a ≡ false → W.late b ≡ false }
+    ensures fault { (a b : W) (fault : RunFault) →
+        Writes {A = Unit {0}} W.Sink a b (Err fault) (65 ∷ []) → fault ≡ RunFault.WriteFailed }
+    ensures refused { (a b : W) (fault : RunFault) →
+        Writes {A = Unit {0}} W.Sink a b (Err fault) (65 ∷ []) → W.failed b ≡ true }
+    ensures stopped_in_time { (a b : W) (fault : RunFault) →
+        Writes {A = Unit {0}} W.Sink a b (Err fault) (65 ∷ [])
+        → W.failed a ≡ false → W.late a ≡ false → W.late b ≡ false }
+{}
+
+/// A sink that has 64 and refuses while a call writes 65 to it has 64 or both then.
+pub fn what_refusals_leave<W: Sink>()
+    ensures { (a b : W) (fault : RunFault) →
+        Writes {A = Unit {0}} W.Sink a b (Err fault) (65 ∷ []) → W.written a ≡ Some (64 ∷ [])
+        → (W.written b ≡ Some (64 ∷ [])) ⊎ (W.written b ≡ Some (64 ∷ 65 ∷ [])) }
+{}
+
+/// A new device has the bytes of what it is over. It was not read, nothing waits for a flush, and
+/// no other mark is set.
+pub fn new_devices<T: Read + Write>()
+    ensures left { (device : Device T) (inner : T) → IsNewDevice device inner
+        → ⟦<Device<T> as Source>⟧.left device ≡ T.remaining inner }
+    ensures written { (device : Device T) (inner : T) → IsNewDevice device inner
+        → ⟦<Device<T> as Sink>⟧.written device ≡ T.contents inner }
+    ensures failed { (device : Device T) (inner : T) → IsNewDevice device inner
+        → (⟦<Device<T> as Source>⟧.failed device ≡ false)
+        × (⟦<Device<T> as Sink>⟧.failed device ≡ false) }
+    ensures ended { (device : Device T) (inner : T) → IsNewDevice device inner
+        → ⟦<Device<T> as Source>⟧.ended device ≡ false }
+    ensures reads { (device : Device T) (inner : T) → IsNewDevice device inner
+        → ⟦<Device<T> as Source>⟧.reads device ≡ 0 }
+    ensures flushed { (device : Device T) (inner : T) → IsNewDevice device inner
+        → ⟦<Device<T> as Sink>⟧.flushed device ≡ true }
+    ensures late { (device : Device T) (inner : T) → IsNewDevice device inner
+        → (⟦<Device<T> as Source>⟧.late device ≡ false)
+        × (⟦<Device<T> as Sink>⟧.late device ≡ false) }
+{}
+
+/// The marks after a run of at most three turns, by its answer. Before it the source was read seven
+/// times, nothing waited for a flush, and no other mark was set.
+pub fn marks_after_three_turns<R: Source, W: Sink>()
+    ensures all_read { (a b : R) (c d : W) →
+        RunsThreeTurns R.Source W.Sink a b c d (Ok tt) → IsAtEnd (R.left b) }
+    ensures ended { (a b : R) (c d : W) →
+        RunsThreeTurns R.Source W.Sink a b c d (Ok tt) → R.ended b ≡ true }
+    ensures not_ended { (a b : R) (c d : W) →
+        RunsThreeTurns R.Source W.Sink a b c d (Err RunFault.TooManyTurns) → R.ended b ≡ false }
+    ensures source_failed { (a b : R) (c d : W) →
+        RunsThreeTurns R.Source W.Sink a b c d (Err RunFault.ReadFailed) → R.failed b ≡ true }
+    ensures source_stands { (a b : R) (c d : W) →
+        RunsThreeTurns R.Source W.Sink a b c d (Err RunFault.WriteFailed) → R.failed b ≡ false }
+    ensures sink_failed { (a b : R) (c d : W) →
+        RunsThreeTurns R.Source W.Sink a b c d (Err RunFault.WriteFailed) → W.failed d ≡ true }
+    ensures sink_stands { (a b : R) (c d : W) →
+        RunsThreeTurns R.Source W.Sink a b c d (Err RunFault.ReadFailed) → W.failed d ≡ false }
+    ensures source_in_time { (a b : R) (c d : W) (r : Result (Unit {0}) RunFault) →
+        RunsThreeTurns R.Source W.Sink a b c d r → R.late b ≡ false }
+    ensures sink_in_time { (a b : R) (c d : W) (r : Result (Unit {0}) RunFault) →
+        RunsThreeTurns R.Source W.Sink a b c d r → W.late d ≡ false }
+    ensures reads { (a b : R) (c d : W) (r : Result (Unit {0}) RunFault) →
+        RunsThreeTurns R.Source W.Sink a b c d r → R.reads b ≤ 10 }
+    ensures all_reads { (a b : R) (c d : W) →
+        RunsThreeTurns R.Source W.Sink a b c d (Err RunFault.TooManyTurns) → R.reads b ≡ 10 }
+    ensures flushed { (a b : R) (c d : W) →
+        RunsThreeTurns R.Source W.Sink a b c d (Err RunFault.ReadFailed) → W.flushed d ≡ true }
+{}
+
+/// A run that reads 1 and 2 of 1, 2 and 3 leaves 3. One that writes 65 to a sink that has 64 leaves
+/// both there. One that had too many turns read a byte in each.
+pub fn what_runs_read_and_write<R: Source, W: Sink>()
+    ensures read { (a b : R) (c d : W) → Ran R.Source W.Sink (change a b) (change c d)
+        (λ bytes out. bytes ≡ 1 ∷ 2 ∷ []) → R.left a ≡ Some (1 ∷ 2 ∷ 3 ∷ [])
+        → R.left b ≡ Some (3 ∷ []) }
+    ensures written { (a b : R) (c d : W) → Ran R.Source W.Sink (change a b) (change c d)
+        (λ bytes out. out ≡ 65 ∷ []) → W.written c ≡ Some (64 ∷ [])
+        → W.written d ≡ Some (64 ∷ 65 ∷ []) }
+    ensures turns { (bytes out : List ℕ) → InTurns {A = Unit {0}} 3 (Err RunFault.TooManyTurns)
+        (λ bytes out. out ≡ 65 ∷ []) bytes out → 3 ≤ length bytes }
+    ensures holds { (bytes out : List ℕ) → InTurns {A = Unit {0}} 3 (Ok tt)
+        (λ bytes out. out ≡ 65 ∷ []) bytes out → out ≡ 65 ∷ [] }
+{}
+
+/// What a sink has of the bytes that `monitor` read, by its answer.
+pub fn what_monitor_leaves()
+    ensures whole { (bytes out : List ℕ) → IsMonitored {A = Unit {0}} (Ok tt) bytes out
+        → out ≡ monitor_text bytes }
+    ensures read_failed { (bytes out : List ℕ) →
+        IsMonitored {A = Unit {0}} (Err RunFault.ReadFailed) bytes out → out ≡ lines bytes }
+    ensures too_many_turns { (bytes out : List ℕ) →
+        IsMonitored {A = Unit {0}} (Err RunFault.TooManyTurns) bytes out → out ≡ lines bytes }
+    ensures write_failed { (bytes out : List ℕ) →
+        IsMonitored {A = Unit {0}} (Err RunFault.WriteFailed) bytes out
+        → (rest : List ℕ) × (monitor_text bytes ≡ out ++ rest) }
+    ensures no_bad_line { (bytes out : List ℕ) (line at : ℕ) →
+        ¬ (IsMonitored {A = Unit {0}} (Err (RunFault.BadLine line at)) bytes out) }
+{}
+
+/// What a sink has of the bytes that an engine read that shows the board, if it returned `Ok`.
+pub fn what_pictures_leave()
+    ensures picture { (bytes out : List ℕ) → IsPictured {A = Unit {0}} (Ok tt) bytes out
+        → out ≡ pictures_text bytes }
+    ensures doubts { (bytes out : List ℕ) → IsPicturedWithDoubts {A = Unit {0}} (Ok tt) bytes out
+        → out ≡ report_text Doubt.Clear bytes }
+    ensures clock { (bytes out : List ℕ) → IsPicturedWithClock {A = Unit {0}} (Ok tt) bytes out
+        → out ≡ report_text_with_clock Doubt.Ignored bytes }
+    ensures both { (bytes out : List ℕ) → IsPicturedWithBoth {A = Unit {0}} (Ok tt) bytes out
+        → out ≡ report_text_with_clock Doubt.Clear bytes }
+{}
+
+/// What a sink has of the bytes that `commands` read is the one text that they have, by its answer
+/// with a last line for what is unfinished or without.
+pub fn what_commands_leaves()
+    ensures { (r : Result (Unit {0}) RunFault) (bytes out rest text : List ℕ) →
+        IsListed r bytes out → Prints 0 bytes rest text
+        → IsInSink r text (text ++ unfinished_line (length bytes) rest) out }
+{
+    one_text();
+}
 
 /// The lines of bytes in a row are those of the first ones, and then those of the chunk after them.
 pub fn lines_append()

@@ -43,7 +43,7 @@
 //! them stops.
 //!
 //! The format of lines is this project's own choice. No call takes memory. [`laws`] has the facts
-//! about lines and writes as such.
+//! about lines, writes and runs as such.
 #![tactic(auto)]
 
 mod chunks;

@@ -1,2 +1,3 @@
 mod BackLemmas
+mod EndLemmas
 mod TaskLemmas

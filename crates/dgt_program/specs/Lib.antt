@@ -1,3 +1,4 @@
--- what public contracts cite
+-- what public contracts and laws cite
 pub mod Faults
 pub mod Tasks
+pub mod Ends

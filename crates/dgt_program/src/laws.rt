@@ -1,13 +1,20 @@
-//! What holds of the program's numbers. Nothing here runs: each function stands for the facts that
-//! its contract states.
+//! What holds of the program's numbers, its faults and the ends of its tasks. Nothing here runs:
+//! each function stands for the facts that its contract states.
 
-ghost use Rattle.std.specs.Prelude.{◌≡◌, ℕ, List, map, All};
+ghost use Rattle.std.specs.Prelude.{◌≡◌, ℕ, List, map, All, true, false};
 ghost use Rattle.dgt_command.specs.Content.{CommandContent};
 ghost use Rattle.dgt_command.specs.Encoding.{AreBytes, EncodesCommand, command_encoding};
 ghost use Rattle.dgt_lines.specs.CommandWords.{command_text};
 ghost use Rattle.dgt_ask.specs.Asks.{AskInOrder, Asks};
+ghost use Rattle.dgt_link.specs.declared.world.WorldFault.{WorldFault};
+ghost use Rattle.dgt_lines.specs.declared.faults.RunFault.{RunFault};
+ghost use Rattle.dgt_text.specs.Simulating.{ShowsHealed, ShowsPicture, faulty_rules, plain_rules};
+ghost use Rattle.dgt_program.specs.Ends.{AllIsMonitored, AllIsShown, FaultsComeFirst, PlacementsAreRefused, PlaysAll, PositionsArePlaced, ShowsAll, ShowsNothing, SmallLinesAreRefused, TextsAreFlushed, WordsAreDecoded, WordsComeFirst, WorldsAreLarge};
+ghost use Rattle.dgt_program.specs.Faults.{IsOfWords, IsOfWorld, fault_status};
+ghost use Rattle.dgt_program.specs.declared.fault.Fault.{Fault as AnyFault};
 
 use crate::MOST_TURNS;
+use dgt_text::{Sink, Source};
 
 /// The reads that an engine of the program makes at most.
 pub fn limits()
@@ -23,4 +30,49 @@ pub fn commands_are_asked_back()
     ensures in_order { (commands : List CommandContent) →
         All (λ command. AreBytes (command_encoding command)) commands →
         AskInOrder (map command_text commands) commands }
+{}
+
+/// Words ask for no task with the status 2, or with 3 for refused memory, and have no other fault.
+/// A world that is not made ends the program with the same statuses.
+pub fn faults()
+    ensures run { (run : RunFault) → ¬ (IsOfWords (AnyFault.Run run)) }
+    ensures hex { ¬ (IsOfWords AnyFault.BadHex) }
+    ensures placement { (at : ℕ) → ¬ (IsOfWords (AnyFault.BadPlacement at)) }
+    ensures line { ¬ (IsOfWords AnyFault.LineTooSmall) }
+    ensures small { (fault : AnyFault) → IsOfWorld WorldFault.LineTooSmall fault →
+        fault_status fault ≡ 2 }
+    ensures memory { (fault : AnyFault) → IsOfWorld WorldFault.OutOfMemory fault →
+        fault_status fault ≡ 3 }
+{}
+
+/// If a task has another fault than that of a run, nothing was read and nothing was written. The
+/// same holds of any words.
+pub fn faults_come_first<R: Source, W: Sink>()
+    ensures tasks { FaultsComeFirst R.Source W.Sink }
+    ensures words { WordsComeFirst R.Source W.Sink }
+{}
+
+/// What was read and written if a task ends well.
+pub fn tasks_end_well<R: Source, W: Sink>()
+    ensures flushed { TextsAreFlushed W.Sink }
+    ensures shown { AllIsShown W.Sink }
+    ensures monitored { AllIsMonitored R.Source W.Sink }
+    ensures played { PlaysAll R.Source W.Sink false plain_rules ShowsPicture }
+    ensures played_with_faults { PlaysAll R.Source W.Sink true faulty_rules ShowsHealed }
+{}
+
+/// A word that is hexadecimal is shown, and all of it, unless a write is refused.
+pub fn words_are_shown<W: Sink>()
+    ensures decoded { WordsAreDecoded W.Sink }
+    ensures all { ShowsAll }
+    ensures nothing { ShowsNothing }
+{}
+
+/// A placement is the board's or is refused, and the lines of a world are large enough or are
+/// refused.
+pub fn worlds_are_as_said<R: Source, W: Sink>()
+    ensures placed { PositionsArePlaced R.Source W.Sink }
+    ensures refused { PlacementsAreRefused R.Source W.Sink }
+    ensures large { WorldsAreLarge R.Source W.Sink }
+    ensures small { SmallLinesAreRefused R.Source W.Sink }
 {}

@@ -1,7 +1,11 @@
 pub mod ConversationLemmas
 pub mod ServingLemmas
+pub mod AnswerLemmas
 pub mod PlayLemmas
 pub mod ScriptRuns
 pub mod PlayOnce
+pub mod BeginLemmas
+pub mod EndOnce
+pub mod TornLemmas
 pub mod ClosingLemmas
 pub mod HostLemmas

@@ -51,7 +51,7 @@ cut_after bytes tail rest lines more e h c = record {
   last = c.last;
 }
 
-all_lines-append : (lines more : List (List ℕ)) (rest : List ℕ)
+pub all_lines-append : (lines more : List (List ℕ)) (rest : List ℕ)
     → all_lines (lines ++ more) rest ≡ lines ++ all_lines more rest
 all_lines-append lines more [] = refl
 all_lines-append lines more (b ∷ rest) = append_assoc lines more ((b ∷ rest) ∷ [])

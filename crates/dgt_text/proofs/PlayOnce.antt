@@ -8,14 +8,14 @@ use Rattle.dgt_script.specs.Script.{AsksFor, IsSingleValued, Vocabulary}
 use Rattle.dgt_script.specs.ScriptLines.{HasNoFeed, IsCut, ended}
 use Rattle.dgt_text.specs.Simulating.{Plays, Rules, rules_of}
 
-rest_of : {A : Type 0} (P : A → Type 0) (x : A) (xs : List A) → All P (x ∷ xs) → All P xs
+pub rest_of : {A : Type 0} (P : A → Type 0) (x : A) (xs : List A) → All P (x ∷ xs) → All P xs
 rest_of P x xs h k d b = h (suc k) d (omega arith)
 
-first_of_all : {A : Type 0} (P : A → Type 0) (x : A) (xs : List A) → All P (x ∷ xs) → P x
+pub first_of_all : {A : Type 0} (P : A → Type 0) (x : A) (xs : List A) → All P (x ∷ xs) → P x
 first_of_all P x xs h = h zero x (omega arith)
 
 -- bytes with no line feed don't hold one
-no_feed_in : (line bytes after : List ℕ) → HasNoFeed bytes → bytes ≡ line ++ 10 ∷ after → ⊥
+pub no_feed_in : (line bytes after : List ℕ) → HasNoFeed bytes → bytes ≡ line ++ 10 ∷ after → ⊥
 no_feed_in [] [] after h e = cc
 no_feed_in [] (b ∷ bytes) after h e = let same : b ≡ 10 = cc in first_of_all (λ x. x ≢ 10) b bytes h same
 no_feed_in (c ∷ line) [] after h e = cc
@@ -23,7 +23,7 @@ no_feed_in (c ∷ line) (b ∷ bytes) after h e = let more : bytes ≡ line ++ 1
     no_feed_in line bytes after (rest_of (λ x. x ≢ 10) b bytes h) more
 
 -- the first line feed ends the first line
-feed_once : (a b x y : List ℕ) → HasNoFeed a → HasNoFeed b → a ++ 10 ∷ x ≡ b ++ 10 ∷ y → (a ≡ b) × (x ≡ y)
+pub feed_once : (a b x y : List ℕ) → HasNoFeed a → HasNoFeed b → a ++ 10 ∷ x ≡ b ++ 10 ∷ y → (a ≡ b) × (x ≡ y)
 feed_once [] [] x y h k e = let more : x ≡ y = cc in (refl, more)
 feed_once [] (c ∷ b) x y h k e = let same : c ≡ 10 = cc in absurd (first_of_all (λ z. z ≢ 10) c b k same)
 feed_once (c ∷ a) [] x y h k e = let same : c ≡ 10 = cc in absurd (first_of_all (λ z. z ≢ 10) c a h same)
@@ -33,7 +33,7 @@ feed_once (c ∷ a) (d ∷ b) x y h k e =
     let more = feed_once a b x y (rest_of (λ z. z ≢ 10) c a h) (rest_of (λ z. z ≢ 10) d b k) tail in
     (ap (λ z. z ∷ a) same ∙ ap (λ z. d ∷ z) more.0, more.1)
 
-flat_first : (line : List ℕ) (lines : List (List ℕ)) (rest : List ℕ)
+pub flat_first : (line : List ℕ) (lines : List (List ℕ)) (rest : List ℕ)
     → flat_map ended (line ∷ lines) ++ rest ≡ line ++ 10 ∷ (flat_map ended lines ++ rest)
 flat_first line lines rest = append_assoc (ended line) (flat_map ended lines) rest ∙ append_assoc line (10 ∷ [])
     (flat_map ended lines ++ rest)

@@ -3,4 +3,5 @@ pub mod Conversation
 pub mod Serving
 pub mod Closing
 pub mod Simulating
+pub mod Ends
 pub mod Hosts

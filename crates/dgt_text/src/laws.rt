@@ -2,12 +2,18 @@
 //! for the facts that its contract states.
 
 ghost use Rattle.std.specs.Prelude.{◌≡◌, ℕ, List};
-ghost use Rattle.dgt_link.specs.View.{WorldView};
+ghost use Rattle.dgt_link.specs.Healing.{IsPromisedWorld};
+ghost use Rattle.dgt_link.specs.Machine.{MachineState};
+ghost use Rattle.dgt_link.specs.Promise.{IsPromised};
+ghost use Rattle.dgt_link.specs.Stands.{StandsFor};
+ghost use Rattle.dgt_link.specs.View.{IsQuietWorld, WorldView};
+ghost use Rattle.dgt_values.specs.Placement.{placement_text};
 ghost use Rattle.dgt_text.specs.Closing.{ClosingLinesAgree};
 ghost use Rattle.dgt_text.specs.Conversation.{EachPrefixGoesOn, EachIsAnswered, EachIsAnsweredOnce};
+ghost use Rattle.dgt_text.specs.Ends.{BrokenAnswersBegin, HasBoth, OneAnswer, OneBadLine, OneEnd, OneIsCutOff, OneIsTorn, OnlyWholeLines, TornTextsBegin};
 ghost use Rattle.dgt_text.specs.Hosts.{LastClockIsTheHosts, PictureIsTheHosts};
 ghost use Rattle.dgt_script.specs.ScriptLines.{IsCut};
-ghost use Rattle.dgt_text.specs.Simulating.{Plays, faulty_rules, plain_rules};
+ghost use Rattle.dgt_text.specs.Simulating.{Plays, ShowsHealed, ShowsPicture, faulty_rules, plain_rules};
 
 pub use dgt_lines::laws::{
     clock_leaves_reports, doubts_leave_pictures, first_faults_are_reported, last_line_is_clock,
@@ -28,6 +34,16 @@ pub fn one_conversation()
     dgt_board::laws::bounded_sending();
 }
 
+/// What `serve` wrote, and the board that it left, are determined by what it read, if no write was
+/// refused. If one was, a prefix of the answer was written, and only the last message was cut off.
+pub fn one_answer()
+    ensures once { OneAnswer }
+    ensures begins { BrokenAnswersBegin }
+    ensures one { OneIsCutOff }
+{
+    one_conversation();
+}
+
 /// A script divides into lines in one way. Its lines, played in a world, have one text of outcomes
 /// and leave one world, and so have those of a script with faults.
 pub fn scripts_have_one_play()
@@ -44,10 +60,48 @@ pub fn scripts_have_one_play()
     dgt_link::laws::acts_have_one_outcome();
 }
 
+/// What `simulate` wrote, and the world that it left, are determined by what it read, if no write
+/// was refused. If a line was bad, so are its number and its offset. The same holds of
+/// `simulate_faults`.
+pub fn scripts_have_one_end()
+    ensures plain { OneEnd plain_rules }
+    ensures faulty { OneEnd faulty_rules }
+    ensures bad { OneBadLine plain_rules }
+    ensures bad_faulty { OneBadLine faulty_rules }
+{
+    lines_have_one_meaning();
+    dgt_link::laws::acts_have_one_outcome();
+}
+
+/// After a refused write a prefix of the script's text was written. Before the end of the source
+/// it is one of the outcomes of whole lines. Only the last outcome is torn.
+pub fn torn_texts_begin()
+    ensures plain { TornTextsBegin plain_rules }
+    ensures faulty { TornTextsBegin faulty_rules }
+    ensures whole_lines { OnlyWholeLines plain_rules }
+    ensures whole_faulty_lines { OnlyWholeLines faulty_rules }
+    ensures one { OneIsTorn plain_rules }
+    ensures one_faulty { OneIsTorn faulty_rules }
+{
+    lines_have_one_meaning();
+    dgt_link::laws::acts_have_one_outcome();
+}
+
 /// If the host's picture is the board's position, the closing lines of board and host, which come
 /// first, have one and the same placement.
 pub fn closing_lines_agree()
     ensures { ClosingLinesAgree }
+{}
+
+/// What the clauses of pictures promise: the text ends with lines of board and host that have one
+/// placement, if the world is promised its picture and quiet.
+pub fn pictures_are_shown()
+    ensures asked { (world : WorldView) (x : MachineState) (out : List ℕ) →
+        ShowsPicture world out → StandsFor world x → IsPromised x → IsQuietWorld world
+        → HasBoth (placement_text world.board.state.squares) out }
+    ensures healed { (world : WorldView) (out : List ℕ) →
+        ShowsHealed world out → IsPromisedWorld world → IsQuietWorld world
+        → HasBoth (placement_text world.board.state.squares) out }
 {}
 
 /// The picture that lines show is that of a host that hears the same bytes, also if this is

@@ -1,0 +1,58 @@
+//! What words ask for. Nothing here runs: each function stands for the facts that its contract
+//! states.
+
+ghost use Rattle.std.specs.Prelude.{◌≡◌, ℕ, List, [], ◌∷◌, ◌++◌, Ok, codes, length};
+ghost use Rattle.std.specs.Str.{IsAscii};
+ghost use Rattle.hex.specs.Hex.{decode_of, decode_sized};
+ghost use Rattle.dgt_command.specs.declared.ids.KnownId.{KnownId};
+ghost use Rattle.dgt_command.specs.Content.{Battery, Clock, ClockContent, ClockMessage, CommandContent, Dump, Leds, LongSerial, Reset, Serial, Trademark, Update, UpdateBoard, UpdateNice, Version, known_clock};
+ghost use Rattle.dgt_command.specs.Display.{Shows};
+ghost use Rattle.dgt_ask.specs.Asks.{AskInOrder, Asks};
+
+/// Each word that is a command alone asks for it.
+pub fn names_ask()
+    ensures modes { Asks (codes "reset") Reset × Asks (codes "update") Update
+        × Asks (codes "updateboard") UpdateBoard × Asks (codes "updatenice") UpdateNice }
+    ensures requests { Asks (codes "clock") Clock × Asks (codes "dump") Dump
+        × Asks (codes "serial") Serial × Asks (codes "longserial") LongSerial
+        × Asks (codes "trademark") Trademark × Asks (codes "battery") Battery
+        × Asks (codes "version") Version }
+    ensures clock { Asks (codes "end") (ClockMessage (known_clock KnownId.End []))
+        × Asks (codes "button") (ClockMessage (known_clock KnownId.Button []))
+        × Asks (codes "clockversion") (ClockMessage (known_clock KnownId.Version [])) }
+{}
+
+/// What may follow the other words, at its limits.
+pub fn details_ask()
+    ensures beep { Asks (codes "beep 255") (ClockMessage (known_clock KnownId.Beep (255 ∷ []))) }
+    ensures display { (letters : List ℕ) (message : ClockContent) → length letters ≡ 6
+        → Shows letters 0 0 message → Asks (codes "display " ++ letters) (ClockMessage message) }
+    ensures display_bytes { (digits bytes : List ℕ) → decode_sized digits 8 ≡ Ok bytes
+        → Asks (codes "display " ++ digits) (ClockMessage (known_clock KnownId.Display bytes)) }
+    ensures text { (letters : List ℕ) → length letters ≡ 8 → IsAscii letters
+        → Asks (codes "text " ++ letters)
+        (ClockMessage (known_clock KnownId.Text (letters ++ 0 ∷ []))) }
+    ensures text_bytes { (digits bytes : List ℕ) → decode_sized digits 9 ≡ Ok bytes
+        → Asks (codes "text " ++ digits) (ClockMessage (known_clock KnownId.Text bytes)) }
+    ensures icons { (digits bytes : List ℕ) → decode_of digits ≡ Ok bytes → length bytes ≡ 252
+        → Asks (codes "icons " ++ digits) (ClockMessage (known_clock KnownId.Icons bytes)) }
+    ensures set_and_run { (digits bytes : List ℕ) → decode_sized digits 7 ≡ Ok bytes
+        → Asks (codes "setandrun " ++ digits)
+        (ClockMessage (known_clock KnownId.SetAndRun bytes)) }
+    ensures clock_message { (digits bytes : List ℕ) → decode_of digits ≡ Ok bytes
+        → length bytes ≡ 252 → Asks (codes "clockmessage fF " ++ digits)
+        (ClockMessage (record { id = 255; payload = bytes })) }
+    ensures other_size { Asks (codes "clockmessage 0b -")
+        (ClockMessage (record { id = 11; payload = [] })) }
+    ensures leds { (digits bytes : List ℕ) → decode_of digits ≡ Ok bytes → length bytes ≡ 255
+        → Asks (codes "leds " ++ digits) (Leds bytes) }
+    ensures no_leds { Asks (codes "leds -") (Leds []) }
+{}
+
+/// No words ask for no commands, and a word before others asks for a command before theirs.
+pub fn words_ask_in_order()
+    ensures none { AskInOrder [] [] }
+    ensures more { (word : List ℕ) (words : List (List ℕ)) (command : CommandContent)
+        (commands : List CommandContent) → Asks word command → AskInOrder words commands
+        → AskInOrder (word ∷ words) (command ∷ commands) }
+{}

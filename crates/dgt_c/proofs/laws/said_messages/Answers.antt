@@ -1,0 +1,29 @@
+use Rattle.std.proofs.Common.{sym}
+use Rattle.dgt_c.proofs.laws.said_messages.Goals as goal
+
+pub returns-clause-dump : goal.returns-clause-dump
+returns-clause-dump c = λ said body pieces p. (p.0, sym p.1)
+
+pub returns-clause-field : goal.returns-clause-field
+returns-clause-field c = λ said body square piece p. (p.0, sym p.1.0, sym p.1.1)
+
+pub returns-clause-times : goal.returns-clause-times
+returns-clause-times c = λ said body times p. (p.0, p.1.2)
+
+pub returns-clause-no_clock : goal.returns-clause-no_clock
+returns-clause-no_clock c = λ said body absence p. (p.0, p.1.2)
+
+pub returns-clause-serial : goal.returns-clause-serial
+returns-clause-serial c = λ said body digits p. (p.0, sym p.1)
+
+pub returns-clause-version : goal.returns-clause-version
+returns-clause-version c = λ said body first second p. (p.0, sym p.1.0, sym p.1.1)
+
+pub returns-clause-carried : goal.returns-clause-carried
+returns-clause-carried c = λ said body bytes code p. p.1.1
+
+pub returns-clause-other : goal.returns-clause-other
+returns-clause-other c = λ said body bytes code kind p. p.1.0 kind
+
+pub returns-clause-range : goal.returns-clause-range
+returns-clause-range c = λ said body message p. p.0

@@ -1,0 +1,170 @@
+-- What calls of C determine: of one chunk or of one struct two reports are the same. And what a
+-- refusal leaves.
+use Rattle.std.specs.Prelude.{◌≡◌, ◌≢◌, ◌<◌, ◌≤◌, ◌∷◌, ℕ, List, [], length, take, Option, None, true}
+use Rattle.dgt_values.specs.Bytes.{AreSevenBit}
+use Rattle.dgt_message.specs.Clock.{Absence, AreTimes, ClockState, IsAbsence, Times}
+use Rattle.dgt_message.specs.Content.{Content}
+use Rattle.dgt_message.specs.Encoding.{encoding}
+use Rattle.dgt_decode.specs.Grammar.{Placed}
+use Rattle.dgt_command.specs.Content.{ClockContent}
+use Rattle.dgt_command.specs.Display.{HasNoSegments, Shows}
+use Rattle.dgt_board.specs.View.{BoardView}
+use Rattle.dgt_host.specs.Host.{HostView}
+use Rattle.dgt_c.specs.Boards.{Takes, TakesBytes}
+use Rattle.dgt_c.specs.Chunks.{GoesOn, ReportsEach, UsesUpTo, bodies}
+use Rattle.dgt_c.specs.ClockSending.{SendsClock, SendsDisplay}
+use Rattle.dgt_c.specs.Clocks.{SaysClock}
+use Rattle.dgt_c.specs.Commands.{CommandReporting}
+use Rattle.dgt_c.specs.Encoding.{EncodesBytes, EncodesMessage, ReadsMessage, SaysMessage}
+use Rattle.dgt_c.specs.Hearing.{Feeds, HearsReported, Reporting}
+use Rattle.dgt_c.specs.Reading.{FeedsWords}
+use Rattle.dgt_c.specs.Sent.{RefusesCommand}
+use Rattle.dgt_c.specs.Starting.{Starts}
+use Rattle.dgt_c.specs.declared.header.DgtBody.{DgtBody}
+use Rattle.dgt_c.specs.declared.header.DgtClock.{DgtClock}
+use Rattle.dgt_c.specs.declared.header.DgtEncoded.{DgtEncoded}
+use Rattle.dgt_c.specs.declared.header.DgtEvent.{DgtEvent}
+use Rattle.dgt_c.specs.declared.header.DgtIdentity.{DgtIdentity}
+use Rattle.dgt_c.specs.declared.header.DgtSent.{DgtSent}
+use Rattle.dgt_c.specs.declared.header.DgtTaken.{DgtTaken}
+
+-- ---- events
+
+-- the two say the same of slices that were the same
+pub record AreSameReports (first second : Reporting) : Type 0 where
+  pub event : first.event ≡ second.event
+  pub new : first.new ≡ second.new
+
+abbrev pub OneFeed : Type 0
+OneFeed =
+    (held chunk : List ℕ) (used other : ℕ) (first second : Reporting) → first.old ≡ second.old
+    → Feeds held chunk used first → Feeds held chunk other second
+    → (used ≡ other) × AreSameReports first second
+
+abbrev pub OneHearing : Type 0
+OneHearing =
+    (host : HostView) (chunk : List ℕ) (used other : ℕ) (first second : Reporting)
+    → first.old ≡ second.old → HearsReported host chunk used first
+    → HearsReported host chunk other second → (used ≡ other) × AreSameReports first second
+
+-- a chunk is used up to one place
+abbrev pub OneUse : Type 0
+OneUse =
+    (held chunk : List ℕ) (capacity used other : ℕ)
+    → UsesUpTo held chunk capacity used → UsesUpTo held chunk capacity other → used ≡ other
+
+-- an array for one event has room only if there is none yet, and a body ends a chunk's reading
+abbrev pub RoomIsLeft : Type 0
+RoomIsLeft =
+    ((made : List Placed) → GoesOn 1 made → made ≡ [])
+    × ((capacity : ℕ) (made : List Placed) → GoesOn capacity made → bodies made ≡ [])
+
+abbrev pub OneReportEach : Type 0
+OneReportEach =
+    (before : ℕ) (host : HostView) (made : List Placed) (first second : List DgtEvent)
+    → ReportsEach before host made first → ReportsEach before host made second → first ≡ second
+
+-- ---- commands
+
+pub record AreSameCommands (first second : CommandReporting) : Type 0 where
+  pub command : first.command ≡ second.command
+  pub new : first.new ≡ second.new
+
+abbrev pub OneWord : Type 0
+OneWord =
+    (held chunk : List ℕ) (used other : ℕ) (first second : CommandReporting)
+    (after rest : List ℕ) → used ≤ length chunk → other ≤ length chunk → first.old ≡ second.old
+    → FeedsWords held chunk used first after → FeedsWords held chunk other second rest
+    → (used ≡ other) × AreSameCommands first second × (after ≡ rest)
+
+abbrev pub OneTaking : Type 0
+OneTaking =
+    (before after last : BoardView) (chunk : List ℕ) (used other : ℕ)
+    (first second : CommandReporting) → used ≤ length chunk → other ≤ length chunk
+    → first.old ≡ second.old → TakesBytes before chunk used first after
+    → TakesBytes before chunk other second last
+    → (used ≡ other) × AreSameCommands first second × (after ≡ last)
+
+-- a busy board uses nothing, reports nothing and stays
+abbrev pub BusyBoardsStay : Type 0
+BusyBoardsStay =
+    (before after : BoardView) (chunk : List ℕ) (taken : DgtTaken) (reported : CommandReporting)
+    → taken.busy ≡ true → Takes before chunk taken reported after
+    → (taken.used ≡ 0) × (reported.command.kind ≡ 0) × (reported.new ≡ reported.old)
+    × (after ≡ before)
+
+-- ---- what C says
+
+-- C says one clock, whose values are in their ranges
+abbrev pub OneClock : Type 0
+OneClock =
+    (said : DgtClock) (first second : ClockState) → SaysClock said first → SaysClock said second
+    → first ≡ second
+
+abbrev pub ClocksAreInRange : Type 0
+ClocksAreInRange =
+    ((said : DgtClock) (times : Times) → SaysClock said (ClockState.times times) → AreTimes times)
+    × ((said : DgtClock) (absence : Absence) → SaysClock said (ClockState.no_clock absence)
+    → IsAbsence absence)
+
+-- C says one board, and an identity whose values are in their ranges
+abbrev pub OneStart : Type 0
+OneStart =
+    (codes : List ℕ) (clock : DgtClock) (identity : DgtIdentity) (board other : BoardView)
+    → Starts codes clock identity board → Starts codes clock identity other → board ≡ other
+
+abbrev pub IsShort : DgtBody → Type 0
+IsShort said = (said.len ≤ 64) × AreSevenBit (take said.len said.bytes)
+
+abbrev pub IdentitiesAreInRange : Type 0
+IdentitiesAreInRange =
+    (codes : List ℕ) (clock : DgtClock) (identity : DgtIdentity) (board : BoardView)
+    → Starts codes clock identity board
+    → AreSevenBit identity.serial × (identity.main_number < 128) × (identity.sub_number < 128)
+    × IsShort identity.trademark × IsShort identity.battery × IsShort identity.long_serial
+
+-- ---- encodings and refusals
+
+abbrev pub OneEncoding : Type 0
+OneEncoding =
+    (bytes old new other : List ℕ) (reported also : DgtEncoded)
+    → EncodesBytes bytes old new reported → EncodesBytes bytes old other also
+    → (new ≡ other) × (reported ≡ also)
+
+-- if C says no message, nothing is encoded and the slice stays
+abbrev pub NothingIsEncoded : Type 0
+NothingIsEncoded =
+    (said : DgtEvent) (body old new : List ℕ) (reported : DgtEncoded)
+    → ((message : Content) → ¬ (SaysMessage said body message))
+    → EncodesMessage said body old new reported → (reported.status ≡ 2) × (new ≡ old)
+
+-- and if it says one, such a message is encoded
+abbrev pub MessagesAreEncoded : Type 0
+MessagesAreEncoded =
+    (said : DgtEvent) (body old new : List ℕ) (reported : DgtEncoded) (message : Content)
+    → SaysMessage said body message → EncodesMessage said body old new reported
+    → (other : Content) × SaysMessage said body other
+    × EncodesBytes (encoding other) old new reported
+
+-- nothing is read only if C says no message
+abbrev pub MessagesAreRead : Type 0
+MessagesAreRead =
+    (said : DgtEvent) (body : List ℕ) (message : Content) → SaysMessage said body message
+    → ¬ (ReadsMessage said body None)
+
+-- if there is no such command, the host and the slice stay
+abbrev pub RefusedCommandsStay : Type 0
+RefusedCommandsStay =
+    (before after : HostView) (old new : List ℕ) (reported : DgtSent)
+    → RefusesCommand before after old new reported
+    → (reported.status ≡ 3) × (after ≡ before) × (new ≡ old)
+
+-- a text whose characters have segments is shown, and no other is
+abbrev pub TextsAreShown : Type 0
+TextsAreShown =
+    (text old new : List ℕ) (dots beep : ℕ) (before after : HostView) (reported : DgtSent)
+    → SendsDisplay text dots beep before after old new reported
+    → (¬ (HasNoSegments text) → (message : ClockContent) × Shows text dots beep message
+    × SendsClock message before after old new reported)
+    × (((message : ClockContent) → ¬ (Shows text dots beep message))
+    → RefusesCommand before after old new reported)

@@ -1,0 +1,17 @@
+use Rattle.dgt_program.proofs.EndLemmas.{all_is_monitored, all_is_shown, plays_all, plays_all_faults, texts_are_flushed}
+use Rattle.dgt_program.proofs.laws.tasks_end_well.Goals as goal
+
+pub returns-clause-flushed : goal.returns-clause-flushed
+returns-clause-flushed g c = texts_are_flushed g.W.Sink
+
+pub returns-clause-shown : goal.returns-clause-shown
+returns-clause-shown g c = all_is_shown g.W.Sink
+
+pub returns-clause-monitored : goal.returns-clause-monitored
+returns-clause-monitored g c = all_is_monitored g.R.Source g.W.Sink
+
+pub returns-clause-played : goal.returns-clause-played
+returns-clause-played g c = plays_all g.R.Source g.W.Sink
+
+pub returns-clause-played_with_faults : goal.returns-clause-played_with_faults
+returns-clause-played_with_faults g c = plays_all_faults g.R.Source g.W.Sink

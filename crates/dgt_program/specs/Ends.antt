@@ -1,0 +1,125 @@
+-- How tasks end: what the contracts of tasks say of faults and of runs that end well.
+use Rattle.std.specs.Prelude.{◌≡◌, ◌≢◌, ◌<◌, ◌≤◌, ◌⊎◌, ℕ, Bool, true, false, List, [], length, Result, Ok, Err, IsErr, IsTrue}
+use Rattle.std.specs.Io.KnownBytes.{Appends}
+use Rattle.hex.specs.Hex.{decode_of}
+use Rattle.dgt_values.specs.declared.pieces.Piece.{Piece}
+use Rattle.dgt_values.specs.Placement.{IsFirstBadOffset, IsPlacement}
+use Rattle.dgt_board.specs.Simulated.{simulated_identity, simulated_times}
+use Rattle.dgt_link.specs.View.{WorldView, new_world}
+use Rattle.dgt_lines.specs.declared.faults.RunFault.{RunFault}
+use Rattle.dgt_lines.specs.declared.faults.RunFault.TheVariants.{WriteFailed}
+use Rattle.dgt_lines.specs.declared.streams.Source.{Ghosts as Source}
+use Rattle.dgt_lines.specs.declared.streams.Sink.{Ghosts as Sink}
+use Rattle.dgt_lines.specs.Lines.{monitor_text}
+use Rattle.dgt_lines.specs.Monitoring.{IsMonitored, IsPrefix}
+use Rattle.dgt_lines.specs.Turns.{Change, Ran}
+use Rattle.dgt_text.specs.Simulating.{IsSimulated, Rules, ShowsHealed, ShowsPicture, faulty_rules, plain_rules}
+use Rattle.dgt_arguments.specs.declared.command_line.Task.{Task}
+use Rattle.dgt_program.specs.declared.fault.Fault.{Fault}
+use Rattle.dgt_program.specs.declared.fault.Fault.TheVariants.{BadHex, BadPlacement, LineTooSmall, OutOfMemory, Run}
+use Rattle.dgt_program.specs.Tasks.{Does, DoesOne, InWorld, IsShown, OnBoard, PlaysWith, Prints, Runs, Shows, ShowsWord}
+
+-- ---- faults
+
+-- the fault is not that of a run
+abbrev pub IsBeforeRuns : Fault → Type 0
+IsBeforeRuns fault = (run : RunFault) → fault ≢ Run run
+
+-- if a task has another fault than that of a run, nothing was read and nothing was written
+abbrev pub FaultsComeFirst : {S T : Type 0} → Source S → Sink T → Type 0
+FaultsComeFirst {S} {T} R W =
+    (task : Task) (source : Change S) (sink : Change T) (fault : Fault) → IsBeforeRuns fault
+    → Does R W task source sink (Err fault)
+    → (source.new ≡ source.old) × (sink.new ≡ sink.old)
+
+-- and so it is for any words
+abbrev pub WordsComeFirst : {S T : Type 0} → Source S → Sink T → Type 0
+WordsComeFirst {S} {T} R W =
+    (source : Change S) (sink : Change T) (fault : Fault) → IsBeforeRuns fault
+    → DoesOne R W source sink (Err fault)
+    → (source.new ≡ source.old) × (sink.new ≡ sink.old)
+
+-- ---- runs that end well
+
+-- the text was written and flushed
+abbrev pub TextsAreFlushed : {T : Type 0} → Sink T → Type 0
+TextsAreFlushed {T} W =
+    (sink : Change T) (text : List ℕ) → Prints W sink (Ok tt) text
+    → Appends (W.written sink.old) (W.written sink.new) text × IsTrue (W.flushed sink.new)
+
+-- the text of all bytes was written, the sink did not fail, and nothing is left to flush if nothing
+-- was before
+abbrev pub AllIsShown : {T : Type 0} → Sink T → Type 0
+AllIsShown {T} W =
+    (sink : Change T) (bytes : List ℕ) → Shows W sink (Ok tt) bytes
+    → Appends (W.written sink.old) (W.written sink.new) (monitor_text bytes)
+    × (W.failed sink.new ≡ W.failed sink.old)
+    × (IsTrue (W.flushed sink.old) → IsTrue (W.flushed sink.new))
+
+-- the source was read to its end, and the text of all that it gave was written
+abbrev pub AllIsMonitored : {S T : Type 0} → Source S → Sink T → Type 0
+AllIsMonitored {S} {T} R W =
+    (source : Change S) (sink : Change T) → Runs R W source sink (Ok tt) IsMonitored
+    → Ran R W source sink (λ bytes out. out ≡ monitor_text bytes) × IsTrue (R.ended source.new)
+
+-- a script was played to its end under these rules, and the world that is left is shown so
+abbrev pub PlaysAll : {S T : Type 0} → Source S → Sink T → Bool → Rules
+    → (WorldView → List ℕ → Type 0) → Type 0
+PlaysAll {S} {T} R W faults rules ShowsBoard =
+    (source : Change S) (sink : Change T) (world : WorldView)
+    → PlaysWith faults R W source sink (Ok tt) world
+    → (last : WorldView)
+    × Ran R W source sink (IsSimulated {A = Unit {0}} rules (R.ended source.new) (Ok tt) world last)
+    × Ran R W source sink (λ _ out. ShowsBoard last out)
+
+-- ---- what is shown
+
+-- Fewer bytes than 4,294,967,295 are shown whole, or a write was refused.
+abbrev pub ShowsAll : Type 0
+ShowsAll =
+    (run : Result (Unit {0}) RunFault) (bytes out : List ℕ) → length bytes < 4294967295
+    → IsShown run bytes out → (out ≡ monitor_text bytes) ⊎ (run ≡ Err WriteFailed)
+
+-- of no bytes nothing is written
+abbrev pub ShowsNothing : Type 0
+ShowsNothing =
+    (out : List ℕ) → IsShown (Err WriteFailed) [] out → IsPrefix out (monitor_text [])
+
+-- a word is shown if it is hexadecimal, and else refused, if there is memory for it
+abbrev pub WordsAreDecoded : {T : Type 0} → Sink T → Type 0
+WordsAreDecoded {T} W =
+    (sink : Change T) (r : Result (Unit {0}) Fault) (word : List ℕ) → r ≢ Err OutOfMemory
+    → ShowsWord W sink r word
+    → ((bytes : List ℕ) × (decode_of word ≡ Ok bytes) × Shows W sink r bytes)
+    ⊎ (IsErr (decode_of word) × (r ≡ Err BadHex))
+
+-- ---- boards and worlds
+
+-- if these squares are the board's position, the placement is theirs
+abbrev pub PositionsArePlaced : {S T : Type 0} → Source S → Sink T → Type 0
+PositionsArePlaced {S} {T} R W =
+    (source : Change S) (sink : Change T) (placement : List ℕ) (squares : List Piece)
+    → OnBoard source sink (Ok tt) placement (λ position. position ≡ squares)
+    → IsPlacement placement squares
+
+-- if there is no position, the placement is bad at the offset that is reported
+abbrev pub PlacementsAreRefused : {S T : Type 0} → Source S → Sink T → Type 0
+PlacementsAreRefused {S} {T} R W =
+    (source : Change S) (sink : Change T) (r : Result (Unit {0}) Fault) (placement : List ℕ)
+    → OnBoard source sink r placement (λ position. ⊥)
+    → (at : ℕ) × IsFirstBadOffset placement at × (r ≡ Err (BadPlacement at))
+
+-- a world that is made has lines of these capacities, which are large enough
+abbrev pub WorldsAreLarge : {S T : Type 0} → Source S → Sink T → Type 0
+WorldsAreLarge {S} {T} R W =
+    (source : Change S) (sink : Change T) (up down : ℕ) (position : List Piece)
+    (made : WorldView) → InWorld source sink (Ok tt) up down (λ world. world ≡ made) position
+    → (67 ≤ up) × (257 ≤ down)
+    × (new_world position simulated_times simulated_identity up down ≡ made)
+
+-- if none is made, a line was too small, or there was no memory
+abbrev pub SmallLinesAreRefused : {S T : Type 0} → Source S → Sink T → Type 0
+SmallLinesAreRefused {S} {T} R W =
+    (source : Change S) (sink : Change T) (r : Result (Unit {0}) Fault) (up down : ℕ)
+    (position : List Piece) → InWorld source sink r up down (λ world. ⊥) position
+    → (((up < 67) ⊎ (down < 257)) × (r ≡ Err LineTooSmall)) ⊎ (r ≡ Err OutOfMemory)

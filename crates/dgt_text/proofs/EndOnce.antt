@@ -1,0 +1,130 @@
+-- A script has one end.
+use Rattle.std.proofs.Common.{◌≡◌, ◌≢◌, ◌⊎◌, inl, inr, ℕ, ◌+◌, Bool, true, false, List, [], ◌∷◌, ◌++◌, Result, Ok, Err, IsTrue, refl, sym, ◌∙◌, ap, subst, length}
+use Rattle.std.specs.Prelude.{◌↔◌}
+use Rattle.dgt_link.specs.declared.acts.Outcome.{Outcome}
+use Rattle.dgt_link.specs.View.{IsQuietWorld, WorldView}
+use Rattle.dgt_lines.specs.declared.faults.RunFault.{RunFault}
+use Rattle.dgt_lines.specs.declared.faults.RunFault.TheVariants.{ReadFailed, WriteFailed, TooManyTurns, BadLine}
+use Rattle.dgt_script.specs.Script.{AsksFor, IsBadAt, IsSingleValued, Vocabulary}
+use Rattle.dgt_script.specs.ScriptLines.{IsCut}
+use Rattle.dgt_text.specs.Closing.{closing_lines}
+use Rattle.dgt_text.specs.Ends.{OneBadLine, OneEnd}
+use Rattle.dgt_text.specs.Simulating.{Plays, Rules, Stops, all_lines, part, rules_of}
+use Rattle.dgt_text.proofs.BeginLemmas.{Longer, begins_nested}
+use Rattle.dgt_text.proofs.PlayOnce.{HasOneOutcome, acts_once, cut_once, plays_once}
+
+-- what a line does, and where it goes wrong, is clear
+pub record AreClear (rules : Rules) : Type 0 where
+  pub one : HasOneOutcome rules
+  pub either : (line : List ℕ) (world after : WorldView) (outcome : Outcome) (at : ℕ)
+      → rules.does line world outcome after → ¬ (rules.is_bad line at)
+  pub place : IsSingleValued rules.is_bad
+
+pub acts_clear : {V A : Type 0} (vocabulary : Vocabulary V A) (steps : A → WorldView → Outcome → WorldView → Type 0)
+    → IsSingleValued (AsksFor vocabulary)
+    → ((act : A) (world after other : WorldView) (answer also : Outcome) → steps act world answer after
+    → steps act world also other → (answer ≡ also) × (after ≡ other))
+    → ((line : List ℕ) (act : A) (at : ℕ) → AsksFor vocabulary line act → ¬ (IsBadAt vocabulary line at))
+    → IsSingleValued (IsBadAt vocabulary) → AreClear (rules_of vocabulary steps)
+acts_clear vocabulary steps meaning one either place =
+    record {
+      one = acts_once vocabulary steps meaning one;
+      either = λ line world after outcome at p. either line p.0 at p.1;
+      place = place;
+    }
+
+same_bool : (a b : Bool) → (IsTrue a → IsTrue b) → (IsTrue b → IsTrue a) → a ≡ b
+same_bool true true f g = refl
+same_bool false false f g = refl
+same_bool true false f g = sym (f refl)
+same_bool false true f g = g refl
+
+-- one text and one world have one text with its closing lines
+pub closed_once : (text other : List ℕ) (world last : WorldView) (quiet silent : Bool) → text ≡ other → world ≡ last
+    → (IsTrue quiet ↔ IsQuietWorld world) → (IsTrue silent ↔ IsQuietWorld last)
+    → text ++ closing_lines world quiet ≡ other ++ closing_lines last silent
+closed_once text other world last quiet silent e f p q =
+    let same = same_bool quiet silent
+    (λ h. q.1 (subst IsQuietWorld f (p.0 h))) (λ h. p.1 (subst IsQuietWorld (sym f) (q.0 h))) in
+    ap (λ (t : List ℕ). t ++ closing_lines world quiet) e ∙ ap (λ (w : WorldView). other ++ closing_lines w quiet) f
+    ∙ ap (λ (b : Bool). other ++ closing_lines last b) same
+
+module _ (rules : Rules) (clear : AreClear rules) where
+  -- what is played of the same bytes
+  pub cut_plays_once : (world last other : WorldView) (bytes text more rest left : List ℕ)
+      (lines others : List (List ℕ)) → IsCut bytes lines rest → IsCut bytes others left
+      → Plays rules world (all_lines lines rest) text last → Plays rules world (all_lines others left) more other
+      → (text ≡ more) × (last ≡ other)
+  cut_plays_once world last other bytes text more rest left lines others cut also p q =
+      let same = cut_once bytes lines others rest left cut also in
+      let all : all_lines lines rest ≡ all_lines others left
+      = ap (λ (l : List (List ℕ)). all_lines l rest) same.0 ∙ ap (λ (l : List ℕ). all_lines others l) same.1 in
+      plays_once rules clear.one world (all_lines others left) text more last other
+      (subst (λ (l : List (List ℕ)). Plays rules world l text last) all p) q
+
+  whole_plays_once : (world last other : WorldView) (bytes text more rest left : List ℕ)
+      (lines others : List (List ℕ)) → IsCut bytes lines rest → IsCut bytes others left
+      → Plays rules world lines text last → Plays rules world others more other
+      → (text ≡ more) × (last ≡ other)
+  whole_plays_once world last other bytes text more rest left lines others cut also p q =
+      let same = cut_once bytes lines others rest left cut also in
+      plays_once rules clear.one world others text more last other
+      (subst (λ (l : List (List ℕ)). Plays rules world l text last) same.0 p) q
+
+  -- ---- bad lines
+
+  -- the first bad line of lines, of which those before it were played
+  first_bad : (ls ks more : List (List ℕ)) (bad worse : List ℕ) (w v m l : WorldView) (t u : List ℕ) (at also : ℕ)
+      → Plays rules w ls t m → rules.is_bad bad at → Plays rules v ks u l → rules.is_bad worse also
+      → ks ++ worse ∷ [] ≡ (ls ++ bad ∷ []) ++ more → (ls ≡ ks) × (bad ≡ worse)
+  first_bad [] [] more bad worse w v m l t u at also p b q c e = let same : bad ≡ worse = cc in (refl, same)
+  first_bad [] (k ∷ ks) more bad worse w v m l t u at also p b q c e =
+      let same : bad ≡ k = cc in
+      absurd (clear.either k v q.1 q.0 at q.3 (subst (λ (x : List ℕ). rules.is_bad x at) same b))
+  first_bad (x ∷ ls) [] more bad worse w v m l t u at also p b q c e =
+      let same : worse ≡ x = cc in
+      absurd (clear.either x w p.1 p.0 also p.3 (subst (λ (y : List ℕ). rules.is_bad y also) same c))
+  first_bad (x ∷ ls) (k ∷ ks) more bad worse w v m l t u at also p b q c e =
+      let same : x ≡ k = cc in
+      let left : ks ++ worse ∷ [] ≡ (ls ++ bad ∷ []) ++ more = cc in
+      let rest = first_bad ls ks more bad worse p.1 q.1 m l p.2 q.2 at also p.5 b q.5 c left in
+      (ap (λ (y : List ℕ). y ∷ ls) same ∙ ap (λ (y : List (List ℕ)). k ∷ y) rest.0, rest.1)
+
+  abbrev Stopped : Bool → WorldView → WorldView → List ℕ → List ℕ → ℕ → ℕ → Type 0
+  Stopped at_end world last bytes out number at = Stops rules at_end (part 1 bytes world last) (BadLine number at) out
+
+  one_bad : (at_end : Bool) (world last other : WorldView) (bytes out more : List ℕ) (number another at also : ℕ)
+      (p : Stopped at_end world last bytes out number at) (q : Stopped at_end world other bytes more another also)
+      → (p.0 ≡ q.0) × (p.1 ≡ q.1)
+  one_bad at_end world last other bytes out more number another at also p q =
+      go (begins_nested at_end bytes (p.0 ++ p.1 ∷ []) (q.0 ++ q.1 ∷ []) p.2 q.2)
+    where
+      go : Longer (p.0 ++ p.1 ∷ []) (q.0 ++ q.1 ∷ []) ⊎ Longer (q.0 ++ q.1 ∷ []) (p.0 ++ p.1 ∷ [])
+          → (p.0 ≡ q.0) × (p.1 ≡ q.1)
+      go (inl h) =
+          let same = first_bad q.0 p.0 h.0 q.1 p.1 world world other last more out also at q.3 q.4 p.3 p.4 h.1 in
+          (sym same.0, sym same.1)
+      go (inr h) = first_bad p.0 q.0 h.0 p.1 q.1 world world last other out more at also p.3 p.4 q.3 q.4 h.1
+
+  pub one_bad_line : OneBadLine rules
+  one_bad_line at_end world last other bytes out more number another at also p q =
+      let same = one_bad at_end world last other bytes out more number another at also p q in (
+        p.5 ∙ ap (λ (l : List (List ℕ)). 1 + length l) same.0 ∙ sym q.5,
+        clear.place q.1 at also (subst (λ (l : List ℕ). rules.is_bad l at) same.1 p.4) q.4,
+      )
+
+  -- ---- all ends
+
+  pub one_end : OneEnd rules
+  one_end (Ok x) at_end world last other bytes out more n p q =
+      let played = cut_plays_once world last other bytes p.2 q.2 p.1 q.1 p.0 q.0 p.4 q.4 p.5 q.5 in
+      (p.7 ∙ closed_once p.2 q.2 last other p.3 q.3 played.0 played.1 p.6 q.6 ∙ sym q.7, played.1)
+  one_end (Err ReadFailed) at_end world last other bytes out more n p q =
+      whole_plays_once world last other bytes out more p.1 q.1 p.0 q.0 p.2 q.2 p.3 q.3
+  one_end (Err TooManyTurns) at_end world last other bytes out more n p q =
+      whole_plays_once world last other bytes out more p.1 q.1 p.0 q.0 p.2 q.2 p.3 q.3
+  one_end (Err (BadLine number at)) at_end world last other bytes out more n p q =
+      let same = one_bad at_end world last other bytes out more number number at at p q in
+      plays_once rules clear.one world q.0 out more last other
+      (subst (λ (l : List (List ℕ)). Plays rules world l out last) same.0 p.3) q.3
+  one_end (Err WriteFailed) at_end world last other bytes out more n p q = absurd (n refl)
