@@ -1,1 +1,3 @@
 pub mod HearingLemmas
+pub mod ConfirmedLemmas
+pub mod StretchLemmas

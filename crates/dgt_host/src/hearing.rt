@@ -1,17 +1,18 @@
 //! What a host makes of the messages that it hears.
 
-ghost use Rattle.std.specs.Prelude.{◌≡◌, ◌↔◌, ℕ, List, IsTrue, Some, option_map};
-ghost use Rattle.dgt_values.specs.Board.{pieces_of};
+ghost use Rattle.std.specs.Prelude.{◌≡◌, ◌↔◌, ℕ, List, IsTrue, Some, nat_eq, not, option_map, slice_set};
+ghost use Rattle.dgt_values.specs.Board.{piece_code, pieces_of, square_number};
 ghost use Rattle.dgt_message.specs.Content.{clock_seen, content, answered_kind};
 ghost use Rattle.dgt_decode.specs.Feeding.{event_content};
 ghost use Rattle.dgt_message.specs.Picture.{clock_after, picture_after};
+ghost use Rattle.dgt_host.specs.Confirmed.{changes, changes_by, same_pieces};
 ghost use Rattle.dgt_host.specs.Host.{IsUnasked, awaited_after, host_after_event, host_seen, is_same_kind};
 
 use crate::host::MAX_AWAITED;
 use arrayvec::ArrayVec;
 use dgt_decode::Event;
 use dgt_message::{Clock, Message, kind_of};
-use dgt_values::{Kind, Position};
+use dgt_values::{Kind, Piece, Position, Square};
 
 /// What a host heard in a chunk.
 #[derive(Clone, Copy, Debug, PartialEq, Eq)]
@@ -25,22 +26,74 @@ pub struct Heard<'a> {
     /// Whether the event is a message of a [`Kind`] that isn't the first awaited. Such a message
     /// leaves the awaited list alone; an unasked dump sets the picture all the same.
     pub unasked: bool,
+    /// Whether the event is a message that makes another picture of one that was known: a dump with
+    /// a piece that isn't the picture's, or a field with another piece than the picture has there.
+    /// A dump that does so is the sign of a fault before it, or of a square that changed while the
+    /// dump was owed.
+    pub changed: bool,
+}
+
+/// What a host notes of an event beside what it keeps.
+#[derive(Clone, Copy, Debug)]
+pub(crate) struct Noted {
+    pub(crate) unasked: bool,
+    pub(crate) changed: bool,
+}
+
+fn is_equal(first: &Position, second: &Position) -> bool
+    ensures { IsTrue result ↔ (pieces_of first.now ≡ pieces_of second.now) }
+{
+    dgt_values::laws::equal_is_same();
+    first == second
+}
+
+fn is_other(first: &Position, second: &Position) -> bool
+    ensures { result ≡ not (same_pieces (pieces_of first.now) (pieces_of second.now)) }
+{
+    !is_equal(first, second)
+}
+
+fn is_other_piece(first: Piece, second: Piece) -> bool
+    ensures { result ≡ not (nat_eq (piece_code first) (piece_code second)) }
+{
+    first.code() != second.code()
+}
+
+// Puts the piece on the square, and returns whether another one stood there.
+fn set_square(known: &mut Position, square: Square, piece: Piece) -> bool
+    ensures set { pieces_of known.new
+        ≡ slice_set (pieces_of known.old) (square_number square) piece }
+    ensures changed { result ≡ not (same_pieces (pieces_of known.old)
+        (slice_set (pieces_of known.old) (square_number square) piece)) }
+{
+    let before = known.get(square);
+    known.set(square, piece);
+    is_other_piece(before, piece)
 }
 
 // A dump sets the picture, and a field update sets one square of a picture that is known. The
-// picture is changed where it lies: a copy of it would take longer than the change.
-fn set_picture(picture: &mut Option<Position>, message: &Message<'_>)
-    ensures { option_map pieces_of picture.new
+// picture is changed where it lies: a copy of it would take longer than the change. Returns whether
+// a known picture became another.
+fn set_picture(picture: &mut Option<Position>, message: &Message<'_>) -> bool
+    ensures picture { option_map pieces_of picture.new
         ≡ picture_after (option_map pieces_of picture.old) (content message.now) }
+    ensures changed { result
+        ≡ changes (option_map pieces_of picture.old) (content message.now) }
 {
     match message {
-        Message::Dump(position) => *picture = Some(*position),
-        Message::Field { square, piece } => {
-            if let Some(known) = picture {
-                known.set(*square, *piece);
-            }
+        Message::Dump(position) => {
+            let changed = match picture {
+                Some(known) => is_other(known, position),
+                None => false,
+            };
+            *picture = Some(*position);
+            changed
         }
-        _ => {}
+        Message::Field { square, piece } => match picture {
+            Some(known) => set_square(known, *square, *piece),
+            None => false,
+        },
+        _ => false,
     }
 }
 
@@ -83,23 +136,30 @@ fn take_off(awaited: &mut ArrayVec<Kind, MAX_AWAITED>, message: &Message<'_>) ->
 }
 
 /// Changes the parts of a host as an event does, and returns whether it is a message that was not
-/// asked for.
+/// asked for, and whether it changed a picture that was known.
 pub(crate) fn hear_event(
     event: &Event<'_>,
     picture: &mut Option<Position>,
     clock: &mut Option<Clock>,
     awaited: &mut ArrayVec<Kind, MAX_AWAITED>,
-) -> bool
+) -> Noted
     ensures parts { (unread : List ℕ) →
         host_seen picture.new clock.new awaited.new.items unread
         ≡ host_after_event (host_seen picture.old clock.old awaited.old.items unread)
         (event_content event.now) }
-    ensures unasked { IsTrue result ↔ IsUnasked awaited.old.items (Some (event_content event.now)) }
+    ensures unasked { IsTrue result.unasked
+        ↔ IsUnasked awaited.old.items (Some (event_content event.now)) }
+    ensures changed { result.changed
+        ≡ changes_by (option_map pieces_of picture.old) (Some (event_content event.now)) }
 {
     let Event::Message(message) = event else {
-        return false;
+        return Noted {
+            unasked: false,
+            changed: false,
+        };
     };
-    set_picture(picture, message);
+    let changed = set_picture(picture, message);
     set_clock(clock, message);
-    take_off(awaited, message)
+    let unasked = take_off(awaited, message);
+    Noted { unasked, changed }
 }

@@ -9,6 +9,7 @@ ghost use Rattle.dgt_command.specs.Content.{command_content, requested_kind};
 ghost use Rattle.dgt_command.specs.Encoding.{command_encoding, EncodesCommand};
 ghost use Rattle.dgt_decode.specs.Grammar.{unfinished_message};
 ghost use Rattle.dgt_decode.specs.Feeding.{FirstEvent, event_content_if_any};
+ghost use Rattle.dgt_host.specs.Confirmed.{changes_by};
 ghost use Rattle.dgt_host.specs.Host.{IsUnasked, Sends, awaits_too_many, follow_bytes, host_after, new_host, restart_bytes, without_awaited};
 
 use crate::hearing::{Heard, hear_event};
@@ -225,6 +226,8 @@ impl Host {
             (event_content_if_any result.event) }
         ensures unasked { IsTrue result.unasked
             ↔ IsUnasked self.old.awaited (event_content_if_any result.event) }
+        ensures changed { result.changed
+            ≡ changes_by self.old.picture (event_content_if_any result.event) }
         ensures progress { 0 < length chunk.now → 0 < result.used }
     {
         let advanced = self.framer.advance(chunk);
@@ -233,10 +236,11 @@ impl Host {
                 used: advanced.used,
                 event: None,
                 unasked: false,
+                changed: false,
             };
         };
         let event = self.framer.event(found).unwrap();
-        let unasked = hear_event(
+        let noted = hear_event(
             &event,
             &mut self.picture,
             &mut self.clock,
@@ -245,7 +249,8 @@ impl Host {
         Heard {
             used: advanced.used,
             event: Some(event),
-            unasked,
+            unasked: noted.unasked,
+            changed: noted.changed,
         }
     }
     /// Uses a whole chunk, as [`Host::hear`] does one event after another. It reports no events:

@@ -1,7 +1,7 @@
 //! What holds of a host whatever it hears. Nothing here runs: each function stands for the fact
 //! that its contract states.
 
-ghost use Rattle.std.specs.Prelude.{◌≡◌, ◌++◌, ℕ, Bool, List, [], ◌∷◌, Option, Some, flat_map, length};
+ghost use Rattle.std.specs.Prelude.{◌≡◌, ◌+◌, ◌++◌, ℕ, Bool, List, [], ◌∷◌, Option, None, Some, false, flat_map, length, option_to_list, true};
 ghost use Rattle.std.specs.List.{AllByRecursion};
 ghost use Rattle.dgt_values.specs.declared.pieces.Piece.{Piece};
 ghost use Rattle.dgt_values.specs.Equality.{CloneIsSame, EqualIsSame, EqualIsSameRead};
@@ -10,6 +10,7 @@ ghost use Rattle.dgt_message.specs.Encoding.{encoding};
 ghost use Rattle.dgt_decode.specs.Feeding.{event_content_if_any};
 ghost use Rattle.dgt_decode.specs.Grammar.{Event, Placed, events_behind, unfinished_message};
 ghost use Rattle.dgt_message.specs.Picture.{clock_after_all, picture_after_all};
+ghost use Rattle.dgt_host.specs.Confirmed.{ChangesIsExact, ConfirmedByDump, ConfirmedIsReported, ConfirmedWasReported, FaultlessIsRight, IsRight, LateFaultsSuffice, Passage, StretchIsOne, TwoFaultsSuffice, UnconfirmedIsWrong, changes, confirmed_after, faults_after, heard_in, repeats, sent_in};
 ghost use Rattle.dgt_host.specs.Host.{HeardInChunks, HostView, host_after, host_after_events, host_after_message};
 
 use crate::{Heard, Kind, MAX_AWAITED, RESTART_LENGTH, SendFault};
@@ -25,8 +26,8 @@ pub fn limits()
 pub fn equal_is_same()
     ensures kind { EqualIsSame ⟦<Kind as PartialEq>⟧.eq }
     ensures send_fault { EqualIsSame ⟦<SendFault as PartialEq>⟧.eq }
-    ensures heard { EqualIsSameRead {Read = ℕ × Option Event × Bool}
-        (λ heard. (heard.used, event_content_if_any heard.event, heard.unasked))
+    ensures heard { EqualIsSameRead {Read = ℕ × Option Event × Bool × Bool}
+        (λ heard. (heard.used, event_content_if_any heard.event, heard.unasked, heard.changed))
         ⟦<Heard<'static> as PartialEq>⟧.eq }
 {
     dgt_decode::laws::equal_is_same();
@@ -82,3 +83,70 @@ pub fn messages_are_heard()
 {
     dgt_decode::laws::encoding_is_read();
 }
+
+/// A message changes a picture exactly if the picture is known, and another one after it.
+pub fn changes_are_exact()
+    ensures { ChangesIsExact }
+{}
+
+/// No single fault of the line makes a confirmed picture wrong. With at most one fault since the
+/// last dump that came whole, it is what the board had reported when it sent the dump that
+/// confirmed it. It is all that the board has reported if the board has repeated that.
+pub fn one_fault_is_seen()
+    ensures was { ConfirmedWasReported }
+    ensures is { ConfirmedIsReported }
+    ensures dump { ConfirmedByDump }
+    ensures right { FaultlessIsRight }
+{}
+
+/// Whatever bytes stand between whole messages, the messages before and after them are heard. So
+/// bytes that say at most one message, in the place of at most one, are one faulty passage.
+pub fn faulty_bytes_are_a_passage()
+    ensures { StretchIsOne }
+{
+    dgt_decode::laws::encoding_is_read();
+    dgt_decode::laws::events_append();
+    dgt_decode::laws::unfinished_append();
+}
+
+/// What confirms a picture: a dump that repeats it, and nothing else. Another dump ends that, and
+/// so does a field that makes another picture.
+pub fn what_confirms()
+    ensures unknown { (pieces : List Piece) →
+        confirmed_after true None (Content.dump pieces) ≡ false }
+    ensures repeated { (known pieces : List Piece) → repeats (Some known) pieces ≡ true →
+        confirmed_after false (Some known) (Content.dump pieces) ≡ true }
+    ensures another { (known pieces : List Piece) → repeats (Some known) pieces ≡ false →
+        confirmed_after true (Some known) (Content.dump pieces) ≡ false }
+    ensures changed { (known : List Piece) (square : ℕ) (piece : Piece) →
+        changes (Some known) (Content.field square piece) ≡ true →
+        confirmed_after true (Some known) (Content.field square piece) ≡ false }
+    ensures kept { (known : List Piece) (square : ℕ) (piece : Piece) →
+        changes (Some known) (Content.field square piece) ≡ false →
+        confirmed_after true (Some known) (Content.field square piece) ≡ true }
+{}
+
+/// What counts as a fault, and which picture is right. A dump that comes whole begins the count
+/// anew.
+pub fn faults_in_passages()
+    ensures dump { (faults : ℕ) (pieces : List Piece) →
+        faults_after faults (Passage.Whole (Content.dump pieces)) ≡ 0 }
+    ensures whole { (faults square : ℕ) (piece : Piece) →
+        faults_after faults (Passage.Whole (Content.field square piece)) ≡ faults }
+    ensures faulty { (faults : ℕ) (sent heard : Option Content) →
+        faults_after faults (Passage.Faulty sent heard) ≡ faults + 1 }
+    ensures sent { (meant heard : Option Content) →
+        sent_in (Passage.Faulty meant heard) ≡ option_to_list meant }
+    ensures heard { (meant heard : Option Content) →
+        heard_in (Passage.Faulty meant heard) ≡ option_to_list heard }
+    ensures unknown { (reported : List Piece) → IsRight reported None }
+    ensures same { (reported : List Piece) → IsRight reported (Some reported) }
+{}
+
+/// Two faults can make a confirmed picture wrong, one can make an unconfirmed one wrong, and a
+/// change that is lost after the dump isn't seen before the next one.
+pub fn more_faults_are_not()
+    ensures two { TwoFaultsSuffice }
+    ensures late { LateFaultsSuffice }
+    ensures unconfirmed { UnconfirmedIsWrong }
+{}
