@@ -1,5 +1,5 @@
 -- What a follower makes of the events of bytes that come in chunks.
-use Rattle.std.proofs.Common.{◌≡◌, ◌+◌, Option, Some, None, refl, sym, ap, ◌∙◌, ℕ, List, [], ◌∷◌, ◌++◌, append_assoc, length, ◌-◌, take, drop, rules}
+use Rattle.std.proofs.Common.{◌≡◌, ◌+◌, Option, Some, None, Bool, is_some, option_map, refl, sym, ap, ◌∙◌, ℕ, List, [], ◌∷◌, ◌++◌, append_assoc, length, ◌-◌, take, drop, rules}
 use Rattle.std.proofs.Math.Seq.{take-add}
 use Rattle.std.proofs.lemmas.List.{take_all}
 use Rattle.dgt_decode.specs.Grammar.{Event, Message, Refused, Cut, BadLength, Stray, Placed, events, events_behind, unfinished_message}
@@ -91,21 +91,21 @@ first_event_heard held chunk used (Some event) (within, found, earlier) = found
 one_event : (f : FollowerView) (now place : ℕ) (bytes : List ℕ) (event : Option Event)
     → events (f.host.unread ++ bytes) ≡ at_place_if_any place event
     → follower_after f now bytes
-    ≡ following (host_after f.host bytes) (pace_after_event_if_any f.pace now f.host.awaited event)
+    ≡ following (host_after f.host bytes) (pace_after_event_if_any f.pace now f.host.awaited f.host.picture event)
 one_event f now place bytes None e =
     let rest : List ℕ = unfinished_message (f.host.unread ++ bytes) in
     ap (λ (xs : List Placed). with_unread (follower_after_events f now xs) rest) e
     ∙ sym (ap (λ (xs : List Placed). following (record (host_after_events f.host xs) { unread = rest }) f.pace) e)
 one_event f now place bytes (Some event) e =
     let rest : List ℕ = unfinished_message (f.host.unread ++ bytes) in
-    let pace : PaceView = pace_after_event_if_any f.pace now f.host.awaited (Some event) in
+    let pace : PaceView = pace_after_event_if_any f.pace now f.host.awaited f.host.picture (Some event) in
     ap (λ (xs : List Placed). with_unread (follower_after_events f now xs) rest) e
     ∙ sym (ap (λ (xs : List Placed). following (record (host_after_events f.host xs) { unread = rest }) pace) e)
 
 -- the host after a call, with what the pace notes of the event, is the follower after it
 pub heard_once : (host : HostView) (pace : PaceView) (now used : ℕ) (chunk : List ℕ) (event : Option Event)
     → FirstEvent host.unread chunk used event
-    → following (host_after host (take used chunk)) (pace_after_event_if_any pace now host.awaited event)
+    → following (host_after host (take used chunk)) (pace_after_event_if_any pace now host.awaited host.picture event)
     ≡ follower_after (following host pace) now (take used chunk)
 heard_once host pace now used chunk event first =
     sym (one_event (following host pace) now (length host.unread + used) (take used chunk) event
@@ -132,3 +132,9 @@ counts_of_events f now (x ∷ xs) = assumption (counts_of_events (follower_after
 pub counts_of_heard : (f : FollowerView) (now : ℕ) (bytes : List ℕ)
     → KeepsCount f.pace (follower_after f now bytes).pace
 counts_of_heard f now bytes = counts_of_events f now (events (f.host.unread ++ bytes))
+
+-- a value is there if what it is seen as is there
+pub is_some_seen : {A B : Type 0} (see : A → B) (value : Option A) (seen : Option B) (known : Bool)
+    → known ≡ is_some value → option_map see value ≡ seen → known ≡ is_some seen
+is_some_seen see None seen known e same = rw (← same) e
+is_some_seen see (Some a) seen known e same = rw (← same) e

@@ -1,2 +1,6 @@
+mod Confirms
 mod Hearing
+mod ManyCalls
+mod OneStretch
+mod Overdue
 mod Slices

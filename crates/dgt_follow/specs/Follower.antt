@@ -1,13 +1,18 @@
 -- What contracts see of a follower, what it makes of the bytes that it hears, and what it asks.
-use Rattle.std.specs.Prelude.{◌≡◌, ℕ, List, [], ◌∷◌, ◌++◌, Some, Result, Ok, Err}
+use Rattle.std.specs.Prelude.{◌≡◌, ◌≤◌, ◌/◌, Option, Bool, if◌then◌else◌, max, not, ◌&&◌, IsTrue, IsFalse, ℕ, List, [], ◌∷◌, ◌++◌, None, Some, false, Result, Ok, Err}
 use Rattle.dgt_values.specs.Bytes.{WritesPrefix}
 use Rattle.dgt_values.specs.declared.kinds.Kind.{Kind}
 use Rattle.dgt_values.specs.declared.refusals.NoRoom.{NoRoom}
 use Rattle.dgt_decode.specs.Grammar.{Event, Placed, events, unfinished_message}
+use Rattle.dgt_values.specs.declared.pieces.Piece.{Piece}
+use Rattle.dgt_message.specs.Clock.{ClockState}
+use Rattle.dgt_message.specs.Picture.{picture_after_all}
+use Rattle.dgt_host.specs.Confirmed.{confirmed_after_all, messages}
 use Rattle.dgt_host.specs.Host.{HostView, awaits_too_many, host_after_event, host_awaiting, new_host, without_awaited}
 use Rattle.dgt_follow.specs.declared.asking.Asking.{Asking}
 use Rattle.dgt_follow.specs.declared.asking.UpdateMode.{UpdateMode}
-use Rattle.dgt_follow.specs.Pace.{PaceView, asking, asking_bytes, new_pace, pace_after_asking, pace_after_event}
+use Rattle.dgt_follow.specs.declared.pace.TheConstants.{OVERDUE}
+use Rattle.dgt_follow.specs.Pace.{PaceView, asking, asking_bytes, is_overdue, is_unanswered, new_pace, pace_after_asking, pace_after_event, time_after}
 
 pub record FollowerView : Type 0 where
   pub host : HostView
@@ -17,14 +22,15 @@ abbrev pub following : HostView → PaceView → FollowerView
 following host pace = record { host = host; pace = pace }
 
 abbrev pub new_follower : ℕ → ℕ → UpdateMode → FollowerView
-new_follower period patience mode = following new_host (new_pace period patience mode)
+new_follower period patience mode =
+    following new_host (new_pace period patience mode false false)
 
 -- ---- what it hears
 
 abbrev pub follower_after_event : FollowerView → ℕ → Event → FollowerView
 follower_after_event follower now event =
     following (host_after_event follower.host event)
-    (pace_after_event follower.pace now follower.host.awaited event)
+    (pace_after_event follower.pace now follower.host.awaited follower.host.picture event)
 
 abbrev pub follower_after_events : FollowerView → ℕ → List Placed → FollowerView
 follower_after_events follower now [] = follower
@@ -41,12 +47,59 @@ follower_after follower now bytes =
     with_unread (follower_after_events follower now (events (follower.host.unread ++ bytes)))
     (unfinished_message (follower.host.unread ++ bytes))
 
+-- the clock that was reported last, if it was readable
+abbrev pub clock_known : FollowerView → Option ClockState
+clock_known follower = if follower.pace.unreadable then None else follower.host.clock
+
 -- a follower that hears bytes at a time in two chunks is the one that hears them in one
 abbrev pub FollowedInChunks : Type 0
 FollowedInChunks =
     (follower : FollowerView) (now : ℕ) (bytes more : List ℕ) →
     follower_after (follower_after follower now bytes) now more
     ≡ follower_after follower now (bytes ++ more)
+
+-- The picture is that of the messages that were heard, and it is confirmed only if they confirm it.
+abbrev pub ConfirmedAsHeard : Type 0
+ConfirmedAsHeard =
+    (follower : FollowerView) (now : ℕ) (bytes : List ℕ) →
+    let said = messages (events (follower.host.unread ++ bytes)) in
+    let after = follower_after follower now bytes in
+    (after.host.picture ≡ picture_after_all follower.host.picture said)
+    × (IsTrue after.pace.confirmed →
+    IsTrue (confirmed_after_all follower.pace.confirmed follower.host.picture said))
+
+-- no asking confirms anything
+abbrev pub AskingsConfirmNothing : Type 0
+AskingsConfirmNothing =
+    (what : Asking) (pace : PaceView) (now : ℕ) →
+    IsTrue (pace_after_asking what pace now).confirmed → IsTrue pace.confirmed
+
+-- An answer a second late is a doubt after the next call, whether that asks or not, and ends the
+-- confirmation.
+abbrev pub OverdueIsDoubt : Type 0
+OverdueIsDoubt =
+    (pace : PaceView) (full : Bool) (now : ℕ) → IsTrue (is_overdue pace now) →
+    let after = pace_after_asking (asking pace full now) pace now in
+    IsTrue after.doubtful × IsFalse after.confirmed
+
+-- An asking that stays without an answer is asked anew when it is overdue and a quarter of the
+-- period has passed.
+abbrev pub OverdueIsAskedAnew : Type 0
+OverdueIsAskedAnew =
+    (pace : PaceView) (full : Bool) (now : ℕ) → IsTrue (is_unanswered pace) →
+    time_after pace.asked (max OVERDUE (pace.period / 4)) ≤ now →
+    asking pace full now ≡ Asking.Anew
+
+-- A picture that is confirmed is not in doubt.
+abbrev pub is_sure : PaceView → Bool
+is_sure pace = not (pace.confirmed && pace.doubtful)
+
+abbrev pub SureStaysSure : Type 0
+SureStaysSure =
+    (pace : PaceView) (now : ℕ) → IsTrue (is_sure pace) →
+    ((awaited : List Kind) (picture : Option (List Piece)) (event : Event) →
+    IsTrue (is_sure (pace_after_event pace now awaited picture event)))
+    × ((what : Asking) → IsTrue (is_sure (pace_after_asking what pace now)))
 
 -- ---- what it asks
 
@@ -55,10 +108,11 @@ abbrev pub asking_of : FollowerView → ℕ → Asking
 asking_of follower now =
     asking follower.pace (awaits_too_many follower.host (Some Kind.Dump)) now
 
--- The host after an asking: a dump is awaited too, after a new beginning that alone. The picture,
--- the clock and the unread bytes stay as they are.
+-- The host after an asking: a dump is awaited too, after a new beginning that alone, or a serial
+-- number. The picture, the clock and the unread bytes stay as they are.
 abbrev pub host_after_asking : Asking → HostView → HostView
 host_after_asking Asking.Nothing host = host
+host_after_asking Asking.Identify host = host_awaiting host (Some Kind.Serial)
 host_after_asking Asking.Heartbeat host = host_awaiting host (Some Kind.Dump)
 host_after_asking Asking.Anew host = host_awaiting (without_awaited host) (Some Kind.Dump)
 

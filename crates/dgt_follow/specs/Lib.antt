@@ -1,3 +1,4 @@
 -- Cited by public contracts.
 pub mod Pace
 pub mod Follower
+pub mod Calls

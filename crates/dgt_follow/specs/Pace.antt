@@ -1,39 +1,76 @@
 -- When a follower asks its board, and what: what it counts and what it notes of the messages.
-use Rattle.std.specs.Prelude.{◌≡◌, ℕ, ◌+◌, ◌-◌, ◌/◌, ◌^◌, nat_le, nat_lt, List, [], ◌∷◌, ◌++◌, Option, Some, None, is_some, Bool, false, true, not, ◌&&◌, ◌||◌, if◌then◌else◌}
+use Rattle.std.specs.Prelude.{◌≡◌, ℕ, ◌+◌, ◌-◌, ◌/◌, ◌^◌, max, min, nat_le, nat_lt, List, [], ◌∷◌, ◌++◌, Option, Some, None, is_some, Bool, false, true, not, ◌&&◌, ◌||◌, if◌then◌else◌}
 use Rattle.dgt_values.specs.declared.kinds.Kind.{Kind}
 use Rattle.dgt_message.specs.Content.{Content, answered_kind}
 use Rattle.dgt_command.specs.Content.{CommandContent}
 use Rattle.dgt_command.specs.Encoding.{command_encoding}
-use Rattle.dgt_decode.specs.Grammar.{Event, Message}
+use Rattle.dgt_values.specs.declared.pieces.Piece.{Piece}
+use Rattle.dgt_message.specs.declared.viewing.BodyFault.TheVariants.{BadReading}
+use Rattle.dgt_decode.specs.Grammar.{Event, Message, Refused}
+use Rattle.dgt_host.specs.Confirmed.{changes, changes_by, confirmed_after}
 use Rattle.dgt_host.specs.Host.{is_same_kind, restart_bytes}
 use Rattle.dgt_follow.specs.declared.asking.Asking.{Asking}
+use Rattle.dgt_follow.specs.declared.pace.TheConstants.{LEAST_PERIOD, OVERDUE, SETTLED, TRIES}
 use Rattle.dgt_follow.specs.declared.asking.UpdateMode.{UpdateMode}
 
 pub record PaceView : Type 0 where
+  -- its settings
   pub period : ℕ  -- milliseconds from one asking to the next, if nothing disturbs
   pub patience : ℕ  -- how many heartbeats may follow one another
   pub mode : UpdateMode  -- what the board is asked to report
+  pub confirm : Bool  -- whether a picture that isn't confirmed is asked for again
+  pub identify : Bool  -- whether the board's serial number is requested while it is unknown
+  -- what it asked
   pub left : ℕ  -- how many heartbeats may still follow
-  pub asked : Option ℕ  -- when it asked last
-  pub answered : Bool  -- whether a dump that was awaited has come since
-  pub disturbed : Bool  -- whether something has come since that a sound line and board don't send
+  pub tries : ℕ  -- how often the serial number may still be requested
+  pub asked : Option ℕ  -- when it last asked for a dump
+  pub requested : Bool  -- whether it has requested the serial number since
+  pub wanted : Bool  -- whether it is to ask as soon as no answer is owed
+  -- what it noted since it last asked for a dump
+  pub answered : Bool  -- whether a dump that was awaited has come
+  pub disturbed : Bool  -- whether something has come that a sound line and board don't send
+  pub pardons : Bool  -- whether the last new beginning gave up replies that may still come
+  -- what it noted in all
+  pub settling : Bool  -- whether no awaited dump has come since the last new beginning
   pub heard : Option ℕ  -- when the last whole message came
   pub doubtful : Bool  -- a disturbance or an overdue answer since the last dump that was awaited
+  -- A dump that was awaited repeated the picture. Since then nothing changed the picture, nothing
+  -- came unasked, nothing disturbed, and no answer was overdue.
+  pub confirmed : Bool
+  pub changed : Option ℕ  -- when a message last changed the picture
+  pub serial : Option (List ℕ)  -- the serial number that was reported last
+  pub unreadable : Bool  -- whether the clock was unreadable when it was last reported
 
--- a pace that has asked nothing and noted nothing
-abbrev pub new_pace : ℕ → ℕ → UpdateMode → PaceView
-new_pace period patience mode =
+-- A pace that has asked nothing and noted nothing. A period is a second at least: a new beginning
+-- and its dump take a third of that on the line.
+abbrev pub new_pace : ℕ → ℕ → UpdateMode → Bool → Bool → PaceView
+new_pace period patience mode confirm identify =
     record {
-      period = period;
+      period = max LEAST_PERIOD period;
       patience = patience;
       mode = mode;
+      confirm = confirm;
+      identify = identify;
       left = patience;
+      tries = TRIES;
       asked = None;
+      requested = false;
+      wanted = false;
       answered = false;
       disturbed = false;
+      pardons = false;
+      settling = false;
       heard = None;
       doubtful = false;
+      confirmed = false;
+      changed = None;
+      serial = None;
+      unreadable = false;
     }
+
+-- a pace that keeps its settings, and nothing else
+abbrev pub forgetting : PaceView → PaceView
+forgetting pace = new_pace pace.period pace.patience pace.mode pace.confirm pace.identify
 
 -- ---- what it notes
 
@@ -43,10 +80,33 @@ is_unasked awaited None = false
 is_unasked [] (Some kind) = true
 is_unasked (first ∷ more) (Some kind) = not (is_same_kind first kind)
 
--- a cut, refused, misstated or stray message, or one that is unasked
-abbrev pub disturbs : List Kind → Event → Bool
-disturbs awaited (Message said) = is_unasked awaited (answered_kind said)
-disturbs awaited _ = true
+-- a dump that isn't the picture that is known
+abbrev pub contradicts : Option (List Piece) → Content → Bool
+contradicts picture (Content.dump pieces) = changes picture (Content.dump pieces)
+contradicts picture said = false
+
+-- A cut, refused, misstated or stray message, one that is unasked, or a dump that isn't the picture
+-- that is known. A clock that shows no times, as while it is set, disturbs nothing: its message has
+-- come whole, and was refused for a digit alone. Nor does an unasked message while such are
+-- pardoned.
+abbrev pub disturbs : Bool → List Kind → Option (List Piece) → Event → Bool
+disturbs pardons awaited picture (Message said) =
+    (is_unasked awaited (answered_kind said) && not pardons) || contradicts picture said
+disturbs pardons awaited picture (Refused code (BadReading at)) = false
+disturbs pardons awaited picture _ = true
+
+-- The picture is confirmed after an event, if it was or wasn't before it. The first awaited dump
+-- after a new beginning, while the pace is settling, doesn't confirm it: that may be a late answer
+-- to an earlier asking.
+abbrev pub confirmed_by : Bool → Bool → List Kind → Option (List Piece) → Event → Bool
+confirmed_by confirmed settling awaited picture (Message said) =
+    not (is_unasked awaited (answered_kind said))
+    && (confirmed_after confirmed picture said && (confirmed || not settling))
+confirmed_by confirmed settling awaited picture (Refused code (BadReading at)) = confirmed
+confirmed_by confirmed settling awaited picture _ = false
+
+abbrev pub changed_at : Option ℕ → ℕ → Option (List Piece) → Event → Option ℕ
+changed_at before now picture event = if changes_by picture (Some event) then Some now else before
 
 -- a dump that is awaited
 abbrev pub is_answer : List Kind → Event → Bool
@@ -57,59 +117,148 @@ abbrev pub heard_at : Option ℕ → ℕ → Event → Option ℕ
 heard_at before now (Message said) = Some now
 heard_at before now _ = before
 
--- the pace after an event that is heard at this time while these kinds are awaited
-abbrev pub pace_after_event : PaceView → ℕ → List Kind → Event → PaceView
-pace_after_event pace now awaited event =
+abbrev pub serial_by : Option (List ℕ) → Event → Option (List ℕ)
+serial_by before (Message (Content.serial digits)) = Some digits
+serial_by before _ = before
+
+-- the last report of the clock was refused for a digit
+abbrev pub unreadable_by : Bool → Event → Bool
+unreadable_by before (Refused code (BadReading at)) = true
+unreadable_by before (Message (Content.times readings)) = false
+unreadable_by before (Message (Content.no_clock absence)) = false
+unreadable_by before _ = before
+
+-- the pace after an event that is heard at this time, while these kinds are awaited and this
+-- picture is known
+abbrev pub pace_after_event : PaceView → ℕ → List Kind → Option (List Piece) → Event → PaceView
+pace_after_event pace now awaited picture event =
     record pace {
       answered = is_answer awaited event || pace.answered;
-      disturbed = disturbs awaited event || pace.disturbed;
+      disturbed = disturbs pace.pardons awaited picture event || pace.disturbed;
+      settling = pace.settling && not (is_answer awaited event);
       heard = heard_at pace.heard now event;
-      doubtful = disturbs awaited event || (pace.doubtful && not (is_answer awaited event));
+      doubtful =
+          disturbs pace.pardons awaited picture event
+          || (pace.doubtful && not (is_answer awaited event));
+      confirmed = confirmed_by pace.confirmed pace.settling awaited picture event;
+      changed = changed_at pace.changed now picture event;
+      serial = serial_by pace.serial event;
+      unreadable = unreadable_by pace.unreadable event;
     }
 
-abbrev pub pace_after_event_if_any : PaceView → ℕ → List Kind → Option Event → PaceView
-pace_after_event_if_any pace now awaited None = pace
-pace_after_event_if_any pace now awaited (Some event) = pace_after_event pace now awaited event
+abbrev pub pace_after_event_if_any : PaceView → ℕ → List Kind → Option (List Piece) → Option Event
+    → PaceView
+pace_after_event_if_any pace now awaited picture None = pace
+pace_after_event_if_any pace now awaited picture (Some event) =
+    pace_after_event pace now awaited picture event
 
 -- the counts and the settings of both are the same, whatever was noted
 pub record KeepsCount (before after : PaceView) : Type 0 where
   pub period : after.period ≡ before.period
   pub patience : after.patience ≡ before.patience
   pub mode : after.mode ≡ before.mode
+  pub confirm : after.confirm ≡ before.confirm
+  pub identify : after.identify ≡ before.identify
   pub left : after.left ≡ before.left
+  pub tries : after.tries ≡ before.tries
   pub asked : after.asked ≡ before.asked
+  pub requested : after.requested ≡ before.requested
+  pub wanted : after.wanted ≡ before.wanted
 
 -- ---- when it asks
 
--- from the last asking to the next: a period, or after a disturbance a quarter of it
-abbrev pub wait : PaceView → ℕ
-wait pace = if pace.disturbed then pace.period / 4 else pace.period
+-- the last asking has no answer yet
+abbrev pub is_unanswered : PaceView → Bool
+is_unanswered pace = is_some pace.asked && not pace.answered
+
+-- the last asking was answered, and nothing has disturbed since
+abbrev pub is_calm : PaceView → Bool
+is_calm pace = (is_some pace.asked && pace.answered) && not pace.disturbed
 
 abbrev pub time_after : Option ℕ → ℕ → ℕ
 time_after None duration = 0
 time_after (Some time) duration = time + duration
 
--- the first time at which it asks; one that has never asked asks at any time
+-- the answer to the last asking is a second late
+abbrev pub is_overdue : PaceView → ℕ → Bool
+is_overdue pace now = is_unanswered pace && nat_le (time_after pace.asked OVERDUE) now
+
+-- From the last asking to the next: a period, and a quarter of it after a disturbance. An
+-- unanswered asking is repeated after a quarter, but not before it is overdue.
+abbrev pub wait : PaceView → ℕ
+wait pace =
+    if pace.disturbed then pace.period / 4
+    else if is_unanswered pace then min pace.period (max OVERDUE (pace.period / 4))
+    else pace.period
+
+-- the later of two times, if they are known
+abbrev pub later : Option ℕ → Option ℕ → Option ℕ
+later None second = second
+later first None = first
+later (Some first) (Some second) = Some (max first second)
+
+-- A picture that isn't confirmed is to be asked for again. After a disturbance a quarter of the
+-- period is soon enough.
+abbrev pub wants_confirming : PaceView → Bool
+wants_confirming pace =
+    (pace.confirm && not pace.confirmed) && (not pace.disturbed && not (is_unanswered pace))
+
+-- The serial number is to be requested: it is unknown, and was not requested since the last asking.
+abbrev pub wants_serial : PaceView → Bool
+wants_serial pace =
+    (pace.identify && not (is_some pace.serial))
+    && ((nat_lt 0 pace.tries && not pace.requested) && is_calm pace)
+
+-- it is to ask as soon as it can, and owes no answer
+abbrev pub asks_at_once : PaceView → Bool
+asks_at_once pace = wants_serial pace || (pace.wanted && not (is_unanswered pace))
+
+-- a wait after the last asking
+abbrev pub usual_time : PaceView → ℕ
+usual_time pace = time_after pace.asked (wait pace)
+
+-- a second after the picture last changed, and after the last asking
+abbrev pub settled_time : PaceView → ℕ
+settled_time pace = time_after (later pace.asked pace.changed) SETTLED
+
+-- The first time at which it asks; one that has never asked asks at any time. A picture that is to
+-- be confirmed is asked for a second after it last changed, and a second after the last asking.
 abbrev pub due_time : PaceView → ℕ
-due_time pace = time_after pace.asked (wait pace)
+due_time pace =
+    if asks_at_once pace then 0
+    else if wants_confirming pace then min (usual_time pace) (settled_time pace)
+    else usual_time pace
+
+-- a time before the last asking
+abbrev pub is_before : ℕ → Option ℕ → Bool
+is_before now None = false
+is_before now (Some asked) = nat_lt now asked
+
+abbrev pub is_due : PaceView → ℕ → Bool
+is_due pace now = nat_le (due_time pace) now || is_before now pace.asked
 
 -- this time, if any time in milliseconds is as late
+abbrev pub counted : ℕ → Option ℕ
+counted time = if nat_lt time (2 ^ 64) then Some time else None
+
+-- the first time at which it asks, or finds an answer overdue and isn't in doubt before
 abbrev pub next_due : PaceView → Option ℕ
-next_due pace = if nat_lt (due_time pace) (2 ^ 64) then Some (due_time pace) else None
+next_due pace =
+    if is_unanswered pace && not pace.doubtful
+    then counted (min (due_time pace) (time_after pace.asked OVERDUE))
+    else counted (due_time pace)
 
 -- ---- what it asks
 
--- It has asked and was answered, nothing has disturbed it since, the host can await one more
--- reply, and its patience has not run out.
+-- it is calm, the host can await one more reply, and its patience has not run out
 abbrev pub trusts : PaceView → Bool → Bool
-trusts pace full =
-    (is_some pace.asked && pace.answered) && (not pace.disturbed && not full)
-    && nat_lt 0 pace.left
+trusts pace full = is_calm pace && (not full && nat_lt 0 pace.left)
 
 -- what it asks at this time, if the host awaits as many replies as it can or doesn't
 abbrev pub asking : PaceView → Bool → ℕ → Asking
 asking pace full now =
-    if not (nat_le (due_time pace) now) then Asking.Nothing
+    if not (is_due pace now) then Asking.Nothing
+    else if wants_serial pace && not full then Asking.Identify
     else if trusts pace full then Asking.Heartbeat
     else Asking.Anew
 
@@ -127,31 +276,48 @@ clock_request UpdateMode.ClockChanges = command_encoding CommandContent.Clock
 
 -- The bytes of an asking: of a heartbeat the mode's command and a dump request, of a new beginning
 -- those of a host's restart and the mode's command. If the mode reports the clock, a reading of it
--- is requested, too.
+-- is requested, too. The serial number is requested by itself.
 abbrev pub asking_bytes : UpdateMode → Asking → List ℕ
 asking_bytes mode Asking.Nothing = []
+asking_bytes mode Asking.Identify = command_encoding CommandContent.Serial
 asking_bytes mode Asking.Heartbeat =
     command_encoding (mode_command mode) ++ command_encoding CommandContent.Dump
     ++ clock_request mode
 asking_bytes mode Asking.Anew =
     restart_bytes ++ command_encoding (mode_command mode) ++ clock_request mode
 
--- the last asking has no answer yet
-abbrev pub is_unanswered : PaceView → Bool
-is_unanswered pace = is_some pace.asked && not pace.answered
-
--- the pace that has asked at this time, and may send this number of heartbeats more
-abbrev pub pace_asked : PaceView → ℕ → ℕ → PaceView
-pace_asked pace left now =
+-- the pace at this time: an answer that is overdue by then is a doubt
+abbrev pub pace_at : PaceView → ℕ → PaceView
+pace_at pace now =
     record pace {
-      left = left;
-      asked = Some now;
-      answered = false;
-      disturbed = false;
-      doubtful = pace.doubtful || is_unanswered pace;
+      doubtful = pace.doubtful || is_overdue pace now;
+      confirmed = pace.confirmed && not (is_overdue pace now);
     }
 
+-- the pace that has asked for a dump at this time: a dump that is owed then is a doubt
+abbrev pub pace_asked : PaceView → ℕ → PaceView
+pace_asked pace now =
+    record pace {
+      asked = Some now;
+      requested = false;
+      wanted = false;
+      answered = false;
+      disturbed = false;
+      pardons = false;
+      doubtful = pace.doubtful || is_unanswered pace;
+      confirmed = pace.confirmed && not (is_unanswered pace);
+    }
+
+-- A new beginning gives up the replies that are owed. If the pace was calm, they are the caller's
+-- own, and may come.
 abbrev pub pace_after_asking : Asking → PaceView → ℕ → PaceView
-pace_after_asking Asking.Nothing pace now = pace
-pace_after_asking Asking.Heartbeat pace now = pace_asked pace (pace.left - 1) now
-pace_after_asking Asking.Anew pace now = pace_asked pace pace.patience now
+pace_after_asking Asking.Nothing pace now = pace_at pace now
+pace_after_asking Asking.Identify pace now =
+    record pace { tries = pace.tries - 1; requested = true }
+pace_after_asking Asking.Heartbeat pace now = record (pace_asked pace now) { left = pace.left - 1 }
+pace_after_asking Asking.Anew pace now =
+    record (pace_asked pace now) {
+      left = pace.patience;
+      pardons = is_calm pace;
+      settling = true;
+    }

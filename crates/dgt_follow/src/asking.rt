@@ -9,6 +9,8 @@ ghost use Rattle.dgt_follow.specs.Pace.{clock_request, mode_command};
 pub enum Asking {
     /// Nothing: it isn't due.
     Nothing,
+    /// The board's serial number, by the command `45`: 1 byte.
+    Identify,
     /// The mode's command and a dump request: 2 bytes, or 3 if the clock is requested.
     Heartbeat,
     /// What a host's `restart` writes, which ends any part of a command that the board has, and

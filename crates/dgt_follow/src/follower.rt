@@ -1,6 +1,6 @@
 //! The follower.
 
-ghost use Rattle.std.specs.Prelude.{◌≡◌, ◌<◌, ◌≤◌, ℕ, ◌+◌, List, ◌++◌, OnOk, Option, Some, false, drop, length, option_map, take};
+ghost use Rattle.std.specs.Prelude.{◌≡◌, ◌↔◌, ◌<◌, ◌≤◌, ℕ, ◌+◌, List, ◌++◌, OnOk, Option, None, Some, false, drop, if◌then◌else◌, length, option_map, take, true, IsTrue};
 ghost use Rattle.std.specs.List.{FoldsTo};
 ghost use Rattle.dgt_values.specs.Board.{pieces_of};
 ghost use Rattle.dgt_values.specs.declared.kinds.Kind.{Kind};
@@ -9,11 +9,12 @@ ghost use Rattle.dgt_command.specs.Content.{command_content, requested_kind};
 ghost use Rattle.dgt_command.specs.Encoding.{EncodesCommand, command_encoding};
 ghost use Rattle.dgt_decode.specs.Grammar.{Event as EventSaid};
 ghost use Rattle.dgt_decode.specs.Feeding.{FirstEvent, at_place_if_any, event_content_if_any};
-ghost use Rattle.dgt_host.specs.Host.{Sends, awaits_too_many};
-ghost use Rattle.dgt_follow.specs.Pace.{clock_request, next_due};
-ghost use Rattle.dgt_follow.specs.Follower.{Asks, HostAsks, asking_of, follower_after, following, new_follower};
+ghost use Rattle.dgt_host.specs.Host.{IsUnasked, Sends, awaits_too_many, new_host};
+ghost use Rattle.dgt_follow.specs.Pace.{clock_request, forgetting, next_due};
+ghost use Rattle.dgt_follow.specs.Follower.{Asks, HostAsks, asking_of, clock_known, follower_after, following, new_follower};
 
 use crate::asking::{Asking, UpdateMode};
+use crate::notes::Seen;
 use crate::pace::Pace;
 use dgt_command::{Command, MAX_WORD};
 use dgt_decode::Listener;
@@ -33,6 +34,16 @@ const CLOCK_REQUEST: u8 = 0x41;
 /// The most bytes that a follower writes when it asks: a host's restart, the mode's command and a
 /// request of the clock.
 pub const MAX_ASKING: usize = RESTART_LENGTH + 2;
+
+/// What a follower heard in a chunk.
+#[derive(Clone, Copy, Debug, PartialEq, Eq)]
+pub struct Followed {
+    /// How many bytes of the chunk were used.
+    pub used: usize,
+    /// Whether the event is a message of a kind that isn't the first awaited, as
+    /// [`Heard::unasked`](dgt_host::Heard) says.
+    pub unasked: bool,
+}
 
 /// A host that asks for the whole board again and again. See the [crate's page](crate).
 #[derive(Drop)]
@@ -96,6 +107,17 @@ fn begin_anew(host: &mut Host, mode: UpdateMode, out: &mut [u8]) -> Result<usize
     Ok(request_clock(mode, ANEW_LENGTH, out))
 }
 
+// Requests the board's serial number.
+fn identify(host: &mut Host, mode: UpdateMode, out: &mut [u8]) -> Result<usize, NoRoom>
+    requires { awaits_too_many host.old (Some Kind.Serial) ≡ false }
+    ensures { HostAsks Asking.Identify mode host.old host.new out.old out.new result }
+{
+    if out.is_empty() {
+        return Err(NoRoom { need: 1 });
+    }
+    Ok(host.send(&Command::Serial, out).unwrap())
+}
+
 // Has the listener hear the event at this place, if there is one.
 fn report<L: Listener>(listener: &mut L, place: usize, event: &Option<Event<'_>>)
     ensures { FoldsTo L.hears listener.old
@@ -109,7 +131,9 @@ fn report<L: Listener>(listener: &mut L, place: usize, event: &Option<Event<'_>>
 impl Follower {
     /// A follower that has never asked, and asks for changed squares ([`UpdateMode::Squares`]).
     ///
-    /// `period` is in milliseconds, from one asking to the next: with 0 every call of `ask` is due.
+    /// `period` is in milliseconds, from one asking to the next. A shorter one than
+    /// [`LEAST_PERIOD`](crate::LEAST_PERIOD) counts as that.
+    ///
     /// `patience` is how many heartbeats may follow one another before it begins anew whatever it
     /// has heard; with 0 it always begins anew. A board that is out of step may go on answering
     /// what nobody asked, so that no answer proves that the heartbeats are read.
@@ -118,7 +142,7 @@ impl Follower {
     {
         Follower {
             host: Host::new(),
-            pace: Pace::new(period, patience, UpdateMode::Squares),
+            pace: Pace::new(period, patience, UpdateMode::Squares, false, false),
         }
     }
 
@@ -126,9 +150,14 @@ impl Follower {
     /// an event, or all of it, as [`Host::hear`] does, and returns how many. Call again with the
     /// bytes that are left.
     ///
-    /// A dump that was awaited answers the last asking. A cut, refused, misstated or stray message
-    /// and an unasked one are disturbances. After a disturbance the next asking begins anew. It is
-    /// due at once, but not before a quarter of the period after the last one.
+    /// A dump that was awaited answers the last asking. Disturbances are a cut, refused, misstated
+    /// or stray message, an unasked one, and a dump that isn't the picture that was known. After a
+    /// disturbance the next asking begins anew. It is due at once, but not before a quarter of the
+    /// period after the last one.
+    ///
+    /// Two things are none. One is a clock that shows no digits, as a clock does while it is set.
+    /// The other is an unasked message after a new beginning of a follower that nothing had
+    /// disturbed, up to the next asking. It may answer a request of the caller's that was given up.
     pub fn hear(&mut self, now: u64, chunk: &[u8]) -> usize
         ensures heard { self.new ≡ follower_after self.old now (take result chunk.now) }
         ensures first { (event : Option EventSaid)
@@ -136,27 +165,43 @@ impl Follower {
         ensures within { result ≤ length chunk.now }
         ensures progress { 0 < length chunk.now → 0 < result }
     {
+        let known = self.host.picture().is_some();
         let heard = self.host.hear(chunk);
         let used = heard.used;
-        self.pace.note(&heard.event, heard.unasked, now);
+        let seen = Seen {
+            unasked: heard.unasked,
+            changed: heard.changed,
+            known,
+        };
+        self.pace.note(&heard.event, seen, now);
         used
     }
 
     /// Does what [`Follower::hear`] does, and has the listener hear the event, if there is one, at
     /// its place: how many bytes of the chunk come up to and including the one that makes it.
-    pub fn hear_with<L: Listener>(&mut self, now: u64, chunk: &[u8], listener: &mut L) -> usize
-        ensures heard { self.new ≡ follower_after self.old now (take result chunk.now) }
+    pub fn hear_with<L: Listener>(&mut self, now: u64, chunk: &[u8], listener: &mut L) -> Followed
+        ensures heard { self.new ≡ follower_after self.old now (take result.used chunk.now) }
         ensures reported { (event : Option EventSaid)
-            × FirstEvent self.old.host.unread chunk.now result event
-            × FoldsTo L.hears listener.old (at_place_if_any result event) listener.new }
-        ensures within { result ≤ length chunk.now }
-        ensures progress { 0 < length chunk.now → 0 < result }
+            × FirstEvent self.old.host.unread chunk.now result.used event
+            × (IsTrue result.unasked ↔ IsUnasked self.old.host.awaited event)
+            × FoldsTo L.hears listener.old (at_place_if_any result.used event) listener.new }
+        ensures within { result.used ≤ length chunk.now }
+        ensures progress { 0 < length chunk.now → 0 < result.used }
     {
+        let known = self.host.picture().is_some();
         let heard = self.host.hear(chunk);
         let used = heard.used;
+        let seen = Seen {
+            unasked: heard.unasked,
+            changed: heard.changed,
+            known,
+        };
         report(listener, used, &heard.event);
-        self.pace.note(&heard.event, heard.unasked, now);
-        used
+        self.pace.note(&heard.event, seen, now);
+        Followed {
+            used,
+            unasked: seen.unasked,
+        }
     }
 
     /// Uses all of the chunk, which came at this time, as [`Follower::hear`] does one event after
@@ -173,10 +218,18 @@ impl Follower {
     }
 
     /// Asks the board, if that is due, and returns how many bytes it wrote at the beginning of the
-    /// slice, at most [`MAX_ASKING`]. If it isn't due, nothing changes and the result is 0.
+    /// slice, at most [`MAX_ASKING`]. If it isn't due, the result is 0.
     ///
-    /// The first asking is due at any time, and each other one a period after the last. After a
-    /// disturbance it is due a quarter of the period after the last.
+    /// The first asking is due at any time, and each other one a period after the last. It is due
+    /// earlier
+    ///
+    /// - after a disturbance: a quarter of the period after the last;
+    /// - if the last has no answer: a quarter of the period after it, but no less than a second
+    ///   ([`OVERDUE`](crate::OVERDUE));
+    /// - after [`Follower::set_confirm`]: a second after the picture last changed and after the
+    ///   last asking, until it is confirmed;
+    /// - after [`Follower::ask_now`]: at once, or when the last asking is answered;
+    /// - if `now` is before the last asking, since the caller's clock has gone back.
     ///
     /// It writes a heartbeat, the mode's command and `42`, on these conditions:
     ///
@@ -186,6 +239,12 @@ impl Follower {
     /// Otherwise it begins anew: the host gives up what it awaits, and 255 zeros, `44 42` and the
     /// mode's command are written. Either way the picture stays known, and a dump is awaited. If
     /// the mode reports the clock, `41` follows, which requests a reading of it.
+    ///
+    /// After [`Follower::set_identify`] it writes `45` once after each asking that was answered,
+    /// while the serial number is unknown, at most three times ([`TRIES`](crate::TRIES)).
+    ///
+    /// An answer that is a second late is a doubt from the next call on, whether that writes or
+    /// not.
     ///
     /// `NoRoom` if the slice is shorter than what is due in this mode, and then nothing changes. A
     /// heartbeat needs 2 bytes with [`UpdateMode::Squares`] and 3 else, a new beginning 258 and
@@ -198,6 +257,7 @@ impl Follower {
         let mode = self.pace.mode();
         let written = match asking {
             Asking::Nothing => 0,
+            Asking::Identify => identify(&mut self.host, mode, out)?,
             Asking::Heartbeat => heartbeat(&mut self.host, mode, out)?,
             Asking::Anew => begin_anew(&mut self.host, mode, out)?,
         };
@@ -205,8 +265,9 @@ impl Follower {
         Ok(written)
     }
 
-    /// The first time at which [`Follower::ask`] writes, if nothing is heard before: 0 if it has
-    /// never asked. `None` if that is past the last time that a `u64` counts.
+    /// The first time at which [`Follower::ask`] writes, or finds an answer overdue and so a doubt,
+    /// if nothing is heard before: 0 if it asks at once. `None` if that is past the last time that
+    /// a `u64` counts.
     pub fn due_at(&self) -> Option<u64>
         ensures { result ≡ next_due self.now.pace }
     {
@@ -243,11 +304,11 @@ impl Follower {
     }
 
     /// The line to the board is lost, and what was under way on it. The follower is as new, with
-    /// its period, its patience and its mode: it knows no picture, and its next asking is due at
-    /// once and begins anew.
+    /// its settings: its period, its patience, its mode, and whether it confirms and identifies. It
+    /// knows no picture and no serial number, and its next asking is due at once and
+    /// begins anew.
     pub fn line_lost(&mut self)
-        ensures { self.new ≡ let pace = self.old.pace in
-            new_follower pace.period pace.patience pace.mode }
+        ensures { self.new ≡ following new_host (forgetting self.old.pace) }
     {
         self.host.line_lost();
         self.pace.line_lost();
@@ -260,19 +321,68 @@ impl Follower {
         self.host.picture()
     }
 
-    /// What the board reported last of its clock, if it reported any of it.
+    /// What the board reported last of its clock, if it reported any of it. `None` while the clock
+    /// shows no digits, from a report that was refused for that to the next that can be read.
     pub fn clock(&self) -> Option<&Clock>
-        ensures { option_map (λ clock. clock_seen clock.now) result ≡ self.now.host.clock }
+        ensures { option_map (λ clock. clock_seen clock.now) result ≡ clock_known self.now }
     {
-        self.host.clock()
+        if self.pace.clock_is_unreadable() {
+            None
+        } else {
+            self.host.clock()
+        }
     }
 
     /// Whether the picture may be wrong: since the last dump that was awaited there was a
-    /// disturbance, or an asking found the one before it unanswered.
+    /// disturbance, or an answer was overdue.
     pub fn in_doubt(&self) -> bool
         ensures { result ≡ self.now.pace.doubtful }
     {
         self.pace.in_doubt()
+    }
+
+    /// Whether the picture is confirmed: an awaited dump repeated it, and since then nothing
+    /// changed it, no message came unasked, nothing disturbed and no answer was overdue. The first
+    /// awaited dump after a new beginning doesn't confirm, since it may be a late answer to an
+    /// earlier asking.
+    ///
+    /// No one fault of the line makes a confirmed picture wrong: see
+    /// `laws::one_stretch_is_seen`. Two that agree can.
+    pub fn confirmed(&self) -> bool
+        ensures { result ≡ self.now.pace.confirmed }
+    {
+        self.pace.confirmed()
+    }
+
+    /// Has a picture that isn't confirmed be asked for again, a second after its last change, or
+    /// not.
+    pub fn set_confirm(&mut self, confirm: bool)
+        ensures { self.new ≡ following self.old.host (record self.old.pace { confirm = confirm }) }
+    {
+        self.pace.set_confirm(confirm);
+    }
+
+    /// Has an asking be due at once, or as soon as the last one is answered: a picture is wanted
+    /// that is no older than this call.
+    pub fn ask_now(&mut self)
+        ensures { self.new ≡ following self.old.host (record self.old.pace { wanted = true }) }
+    {
+        self.pace.ask_now();
+    }
+
+    /// The serial number of the board, if it was reported since the line was last lost.
+    pub fn serial(&self) -> Option<[u8; 5]>
+        ensures { result ≡ self.now.pace.serial }
+    {
+        self.pace.serial()
+    }
+
+    /// Has the serial number of the board be requested while it is unknown, or not.
+    pub fn set_identify(&mut self, identify: bool)
+        ensures { self.new
+            ≡ following self.old.host (record self.old.pace { identify = identify }) }
+    {
+        self.pace.set_identify(identify);
     }
 
     /// The time of the last whole message, if one was heard.

@@ -1,23 +1,31 @@
 //! What holds of a follower whatever it hears. Nothing here runs: each function stands for the
 //! facts that its contract states.
 
-ghost use Rattle.std.specs.Prelude.{◌≡◌, ◌≤◌, ◌∷◌, ◌++◌, ℕ, List, [], Some, length, replicate, false, true};
+ghost use Rattle.std.specs.Prelude.{◌≡◌, ◌≤◌, ◌∷◌, ◌++◌, ℕ, Bool, List, [], Option, None, Ok, Some, length, replicate, false, true};
 ghost use Rattle.dgt_values.specs.declared.kinds.Kind.{Kind};
 ghost use Rattle.dgt_values.specs.declared.pieces.Piece.{Piece};
+ghost use Rattle.dgt_message.specs.Clock.{Absence, Times as BothTimes};
 ghost use Rattle.dgt_message.specs.Content.{Content};
+ghost use Rattle.dgt_message.specs.declared.viewing.BodyFault.{BodyFault};
 ghost use Rattle.dgt_decode.specs.Grammar.{Event};
 ghost use Rattle.dgt_values.specs.Equality.{CloneIsSame, EqualIsSame};
-ghost use Rattle.dgt_host.specs.Host.{host_after};
-ghost use Rattle.dgt_follow.specs.Follower.{FollowedInChunks, FollowerView, follower_after};
-ghost use Rattle.dgt_follow.specs.Pace.{KeepsCount, PaceView, asking, asking_bytes, new_pace, pace_after_asking, pace_after_event};
+ghost use Rattle.dgt_host.specs.Host.{HostView, Request, Sends, host_after};
+ghost use Rattle.dgt_host.specs.Confirmed.{changes, repeats};
+ghost use Rattle.dgt_follow.specs.Calls.{Call, ConfirmedOverCalls, OneStretchIsSeen, bytes_heard, follower_after_call, follower_after_calls};
+ghost use Rattle.dgt_follow.specs.Follower.{Asks, AskingsConfirmNothing, ConfirmedAsHeard, FollowedInChunks, FollowerView, OverdueIsAskedAnew, OverdueIsDoubt, SureStaysSure, asking_of, clock_known, follower_after, following};
+ghost use Rattle.dgt_follow.specs.Pace.{KeepsCount, PaceView, asking, asking_bytes, new_pace, next_due, pace_after_asking, pace_after_event};
 ghost use Rattle.dgt_follow.specs.declared.asking.Asking.{Asking};
 ghost use Rattle.dgt_follow.specs.declared.asking.UpdateMode.{UpdateMode};
 
-use crate::{Asking, MAX_ASKING, UpdateMode};
+use crate::{Asking, Followed, LEAST_PERIOD, MAX_ASKING, OVERDUE, SETTLED, TRIES, UpdateMode};
 
 /// The limits by their numbers, and that no asking has more bytes.
 pub fn limits()
     ensures max_asking { MAX_ASKING ≡ 259 }
+    ensures least_period { LEAST_PERIOD ≡ 1000 }
+    ensures overdue { OVERDUE ≡ 1000 }
+    ensures settled { SETTLED ≡ 1000 }
+    ensures tries { TRIES ≡ 3 }
     ensures enough { (mode : UpdateMode) (what : Asking) →
         length (asking_bytes mode what) ≤ MAX_ASKING }
 {}
@@ -26,12 +34,14 @@ pub fn limits()
 pub fn equal_is_same()
     ensures asking { EqualIsSame ⟦<Asking as PartialEq>⟧.eq }
     ensures update_mode { EqualIsSame ⟦<UpdateMode as PartialEq>⟧.eq }
+    ensures followed { EqualIsSame ⟦<Followed as PartialEq>⟧.eq }
 {}
 
 /// A clone is the value itself, and cloning never fails.
 pub fn clone_is_same()
     ensures asking { CloneIsSame ⟦<Asking as Clone>⟧ }
     ensures update_mode { CloneIsSame ⟦<UpdateMode as Clone>⟧ }
+    ensures followed { CloneIsSame ⟦<Followed as Clone>⟧ }
 {}
 
 /// A follower that hears bytes at a time in two chunks is the one that hears them in one.
@@ -41,6 +51,63 @@ pub fn followed_in_chunks()
     dgt_decode::laws::events_append();
     dgt_decode::laws::unfinished_append();
 }
+
+/// A follower's picture is that of the messages that it heard, and confirmed only if they confirm
+/// it, over any calls: so `dgt_host::laws::one_fault_is_seen` holds of it.
+pub fn confirmed_as_heard()
+    ensures heard { ConfirmedAsHeard }
+    ensures asked { AskingsConfirmNothing }
+    ensures called { ConfirmedOverCalls }
+{
+    dgt_decode::laws::events_append();
+    dgt_decode::laws::unfinished_append();
+    dgt_decode::laws::unfinished_is_quiet();
+}
+
+/// No one stretch of faulty bytes makes a confirmed picture wrong.
+pub fn one_stretch_is_seen()
+    ensures { OneStretchIsSeen }
+{
+    confirmed_as_heard();
+    dgt_host::laws::faulty_bytes_are_a_passage();
+    dgt_host::laws::one_fault_is_seen();
+}
+
+/// What the calls of a follower leave is what `specs/Calls.antt` says of them: of `ask` if it wrote
+/// what was due, and of `send` if the command was written. Its settings are kept.
+pub fn calls_leave()
+    ensures asked { (before after : FollowerView) (now written : ℕ) (old new : List ℕ) →
+        Asks (asking_of before now) now before after old new (Ok written) →
+        after ≡ follower_after_call before (Call.Asks now) }
+    ensures sent { (before after : FollowerView) (request : Request) (written : ℕ)
+        (old new : List ℕ) → Sends request before.host after.host old new (Ok written) →
+        after.pace ≡ before.pace → after ≡ follower_after_call before (Call.Sends request.kind) }
+    ensures heard { (before : FollowerView) (now : ℕ) (bytes : List ℕ) →
+        follower_after_call before (Call.Hears now bytes) ≡ follower_after before now bytes }
+    ensures told { (before : FollowerView) (mode : UpdateMode) (confirm identify : Bool) →
+        let after = follower_after_calls before (Call.SetsMode mode ∷ Call.SetsConfirm confirm
+        ∷ Call.SetsIdentify identify ∷ Call.AsksNow ∷ []) in
+        after ≡ following before.host (record before.pace {
+          mode = mode;
+          confirm = confirm;
+          identify = identify;
+          wanted = true;
+        }) }
+    ensures bytes { (now : ℕ) (first last : List ℕ) →
+        bytes_heard (Call.Hears now first ∷ Call.Asks now ∷ Call.Hears now last ∷ [])
+        ≡ first ++ (last ++ []) }
+{}
+
+/// An answer that is a second late is a doubt, and is soon asked for again.
+pub fn overdue_is_doubt()
+    ensures doubt { OverdueIsDoubt }
+    ensures asked { OverdueIsAskedAnew }
+{}
+
+/// A confirmed picture is never in doubt.
+pub fn confirmed_is_sure()
+    ensures { SureStaysSure }
+{}
 
 /// What a follower hears makes of its host what it makes of any host, and changes nothing of when
 /// it asked, how many heartbeats are left, its period, its patience and its mode.
@@ -53,40 +120,160 @@ pub fn hearing_is_the_hosts()
 
 /// When a follower asks, and what, with a period of 10,000 and a patience of 6. It begins anew at
 /// first. If it asked at 1,000 and was answered, it asks a heartbeat from 11,000 on. It begins anew
-/// then if it was not answered, if no reply more can be awaited or no heartbeat is left. It does so
-/// from 3,500 on if something disturbed it.
+/// then if no reply more can be awaited or no heartbeat is left. It does so from 3,500 on if
+/// something disturbed it or it was not answered, and with a period of 2,000 from 2,000 on.
 pub fn askings_by_time()
-    ensures first { (mode : UpdateMode) → asking (new_pace 10000 6 mode) false 0 ≡ Asking.Anew }
-    ensures early { (mode : UpdateMode) → asking (record (new_pace 10000 6 mode) {
+    ensures first { (mode : UpdateMode) → asking (new_pace 10000 6 mode false false) false 0
+        ≡ Asking.Anew }
+    ensures early { (mode : UpdateMode) → asking (record (new_pace 10000 6 mode false false) {
       asked = Some 1000;
       answered = true;
     }) false 10999 ≡ Asking.Nothing }
-    ensures due { (mode : UpdateMode) → asking (record (new_pace 10000 6 mode) {
+    ensures due { (mode : UpdateMode) → asking (record (new_pace 10000 6 mode false false) {
       asked = Some 1000;
       answered = true;
     }) false 11000 ≡ Asking.Heartbeat }
-    ensures unanswered { (mode : UpdateMode) → asking (record (new_pace 10000 6 mode) {
-      asked = Some 1000;
-    }) false 11000 ≡ Asking.Anew }
-    ensures full { (mode : UpdateMode) → asking (record (new_pace 10000 6 mode) {
+    ensures full { (mode : UpdateMode) → asking (record (new_pace 10000 6 mode false false) {
       asked = Some 1000;
       answered = true;
     }) true 11000 ≡ Asking.Anew }
-    ensures worn { (mode : UpdateMode) → asking (record (new_pace 10000 6 mode) {
+    ensures worn { (mode : UpdateMode) → asking (record (new_pace 10000 6 mode false false) {
       asked = Some 1000;
       answered = true;
       left = 0;
     }) false 11000 ≡ Asking.Anew }
-    ensures calm { (mode : UpdateMode) → asking (record (new_pace 10000 6 mode) {
+    ensures calm { (mode : UpdateMode) → asking (record (new_pace 10000 6 mode false false) {
       asked = Some 1000;
       answered = true;
       disturbed = true;
     }) false 3499 ≡ Asking.Nothing }
-    ensures disturbed { (mode : UpdateMode) → asking (record (new_pace 10000 6 mode) {
+    ensures disturbed { (mode : UpdateMode) → asking (record (new_pace 10000 6 mode false false) {
       asked = Some 1000;
       answered = true;
       disturbed = true;
     }) false 3500 ≡ Asking.Anew }
+    ensures owed { (mode : UpdateMode) → asking (record (new_pace 10000 6 mode false false) {
+      asked = Some 1000;
+    }) false 3499 ≡ Asking.Nothing }
+    ensures unanswered { (mode : UpdateMode) → asking (record (new_pace 10000 6 mode false false) {
+      asked = Some 1000;
+    }) false 3500 ≡ Asking.Anew }
+    ensures late { (mode : UpdateMode) → asking (record (new_pace 2000 6 mode false false) {
+      asked = Some 1000;
+    }) false 1999 ≡ Asking.Nothing }
+    ensures overdue { (mode : UpdateMode) → asking (record (new_pace 2000 6 mode false false) {
+      asked = Some 1000;
+    }) false 2000 ≡ Asking.Anew }
+    ensures back { (mode : UpdateMode) → asking (record (new_pace 10000 6 mode false false) {
+      asked = Some 1000;
+      answered = true;
+    }) false 999 ≡ Asking.Heartbeat }
+{}
+
+/// What makes a follower ask before its period is over. It asks at once if that is wanted and no
+/// answer is owed. To confirm a picture that changed at 3,000 it asks from 4,000 on. One that
+/// hasn't changed is asked for a second after the last asking. Neither happens after a disturbance
+/// or while an answer is owed. The serial number is requested once after each answer, three times
+/// in all.
+pub fn askings_out_of_turn()
+    ensures now { (mode : UpdateMode) → asking (record (new_pace 10000 6 mode false false) {
+      asked = Some 1000;
+      answered = true;
+      wanted = true;
+    }) false 1000 ≡ Asking.Heartbeat }
+    ensures then { (mode : UpdateMode) → asking (record (new_pace 10000 6 mode false false) {
+      asked = Some 1000;
+      wanted = true;
+    }) false 1000 ≡ Asking.Nothing }
+    ensures settling { (mode : UpdateMode) → asking (record (new_pace 10000 6 mode true false) {
+      asked = Some 1000;
+      answered = true;
+      changed = Some 3000;
+    }) false 3999 ≡ Asking.Nothing }
+    ensures settled { (mode : UpdateMode) → asking (record (new_pace 10000 6 mode true false) {
+      asked = Some 1000;
+      answered = true;
+      changed = Some 3000;
+    }) false 4000 ≡ Asking.Heartbeat }
+    ensures resting { (mode : UpdateMode) → asking (record (new_pace 10000 6 mode true false) {
+      asked = Some 1000;
+      answered = true;
+    }) false 1999 ≡ Asking.Nothing }
+    ensures unchanged { (mode : UpdateMode) → asking (record (new_pace 10000 6 mode true false) {
+      asked = Some 1000;
+      answered = true;
+    }) false 2000 ≡ Asking.Heartbeat }
+    ensures confirmed { (mode : UpdateMode) → asking (record (new_pace 10000 6 mode true false) {
+      asked = Some 1000;
+      answered = true;
+      confirmed = true;
+    }) false 10999 ≡ Asking.Nothing }
+    ensures quarter { (mode : UpdateMode) → asking (record (new_pace 10000 6 mode true false) {
+      asked = Some 1000;
+      answered = true;
+      disturbed = true;
+    }) false 3499 ≡ Asking.Nothing }
+    ensures owed { (mode : UpdateMode) → asking (record (new_pace 10000 6 mode true false) {
+      asked = Some 1000;
+    }) false 3499 ≡ Asking.Nothing }
+    ensures unknown { (mode : UpdateMode) → asking (record (new_pace 10000 6 mode false true) {
+      asked = Some 1000;
+      answered = true;
+    }) false 1000 ≡ Asking.Identify }
+    ensures known { (mode : UpdateMode) → asking (record (new_pace 10000 6 mode false true) {
+      asked = Some 1000;
+      answered = true;
+      serial = Some [];
+    }) false 10999 ≡ Asking.Nothing }
+    ensures requested { (mode : UpdateMode) → asking (record (new_pace 10000 6 mode false true) {
+      asked = Some 1000;
+      answered = true;
+      requested = true;
+    }) false 10999 ≡ Asking.Nothing }
+    ensures tried { (mode : UpdateMode) → asking (record (new_pace 10000 6 mode false true) {
+      asked = Some 1000;
+      answered = true;
+      tries = 0;
+    }) false 10999 ≡ Asking.Nothing }
+    ensures unheard { (mode : UpdateMode) → asking (record (new_pace 10000 6 mode false true) {
+      asked = Some 1000;
+    }) false 3499 ≡ Asking.Nothing }
+    ensures full { (mode : UpdateMode) → asking (record (new_pace 10000 6 mode false true) {
+      asked = Some 1000;
+      answered = true;
+    }) true 1000 ≡ Asking.Anew }
+    ensures tries { (pace : PaceView) (now : ℕ) → pace.tries ≡ 3 →
+        let after = pace_after_asking Asking.Identify pace now in
+        (after.tries ≡ 2) × (after.requested ≡ true) }
+    ensures again { (pace : PaceView) (now : ℕ) →
+        let after = pace_after_asking Asking.Heartbeat pace now in
+        (after.requested ≡ false) × (after.wanted ≡ false) × (after.pardons ≡ false) }
+{}
+
+/// When a follower that asked at 1,000 with a period of 10,000 is due: at 11,000 if it was
+/// answered, at 2,000 to find an answer overdue, and then at 3,500. A period of less than a second
+/// is one.
+pub fn due_times()
+    ensures answered { (mode : UpdateMode) → next_due (record (new_pace 10000 6 mode false false) {
+      asked = Some 1000;
+      answered = true;
+    }) ≡ Some 11000 }
+    ensures owed { (mode : UpdateMode) → next_due (record (new_pace 10000 6 mode false false) {
+      asked = Some 1000;
+    }) ≡ Some 2000 }
+    ensures doubtful { (mode : UpdateMode) → next_due (record (new_pace 10000 6 mode false false) {
+      asked = Some 1000;
+      doubtful = true;
+    }) ≡ Some 3500 }
+    ensures wanted { (mode : UpdateMode) → next_due (record (new_pace 10000 6 mode false false) {
+      asked = Some 1000;
+      answered = true;
+      wanted = true;
+    }) ≡ Some 0 }
+    ensures least { (patience : ℕ) (mode : UpdateMode) →
+        (new_pace 0 patience mode false false).period ≡ 1000 }
+    ensures more { (patience : ℕ) (mode : UpdateMode) →
+        (new_pace 1001 patience mode false false).period ≡ 1001 }
 {}
 
 /// The bytes of a heartbeat in each mode, and how many those of a new beginning have. A heartbeat
@@ -99,6 +286,7 @@ pub fn askings_in_bytes()
         ≡ 0x4b ∷ 0x42 ∷ 0x41 ∷ [] }
     ensures anew { asking_bytes UpdateMode.ClockChanges Asking.Anew
         ≡ replicate 255 0 ++ 0x44 ∷ 0x42 ∷ 0x4b ∷ 0x41 ∷ [] }
+    ensures serial { (mode : UpdateMode) → asking_bytes mode Asking.Identify ≡ 0x45 ∷ [] }
     ensures heartbeat { (pace : PaceView) (now : ℕ) → pace.left ≡ 3
         → (pace_after_asking Asking.Heartbeat pace now).left ≡ 2 }
     ensures beginning { (pace : PaceView) (now : ℕ) → pace.patience ≡ 6
@@ -106,24 +294,110 @@ pub fn askings_in_bytes()
 {}
 
 /// What a follower notes: any fault disturbs it, and so does a message of a kind that is not the
-/// first awaited. An awaited dump answers it, and any message is heard.
+/// first awaited, unless such are pardoned, and a dump that isn't the known picture. A clock
+/// without digits doesn't. An awaited dump answers it, and any message is heard.
 pub fn notes_of_events()
     ensures fault { (pace : PaceView) (now : ℕ) (byte : ℕ) →
-        (pace_after_event pace now [] (Event.Stray byte)).disturbed ≡ true }
-    ensures unasked { (pace : PaceView) (now : ℕ) (pieces : List Piece) →
-        (pace_after_event pace now [] (Event.Message (Content.dump pieces))).disturbed ≡ true }
+        (pace_after_event pace now [] None (Event.Stray byte)).disturbed ≡ true }
+    ensures unasked { (pace : PaceView) (now : ℕ) (pieces : List Piece) → pace.pardons ≡ false →
+        (pace_after_event pace now [] None (Event.Message (Content.dump pieces))).disturbed ≡ true }
+    ensures pardoned { (pace : PaceView) (now main sub : ℕ) (picture : Option (List Piece)) →
+        pace.pardons ≡ true → pace.disturbed ≡ false →
+        (pace_after_event pace now [] picture (Event.Message (Content.version main sub))).disturbed
+        ≡ false }
+    ensures contradicts { (pace : PaceView) (now : ℕ) (known pieces : List Piece)
+        (awaited : List Kind) → changes (Some known) (Content.dump pieces) ≡ true →
+        let after = pace_after_event pace now awaited (Some known)
+        (Event.Message (Content.dump pieces)) in
+        (after.disturbed ≡ true) × (after.doubtful ≡ true) }
+    ensures unreadable { (pace : PaceView) (now code at : ℕ) (awaited : List Kind)
+        (picture : Option (List Piece)) → pace.disturbed ≡ false →
+        let after = pace_after_event pace now awaited picture
+        (Event.Refused code (BodyFault.BadReading at)) in
+        (after.disturbed ≡ false) × (after.confirmed ≡ pace.confirmed)
+        × (after.unreadable ≡ true) }
+    ensures refused { (pace : PaceView) (now code at : ℕ) (awaited : List Kind)
+        (picture : Option (List Piece)) →
+        (pace_after_event pace now awaited picture
+        (Event.Refused code (BodyFault.BadPiece at))).disturbed ≡ true }
     ensures sound { (pace : PaceView) (now square : ℕ) (piece : Piece) → pace.disturbed ≡ false →
-        (pace_after_event pace now [] (Event.Message (Content.field square piece))).disturbed
+        (pace_after_event pace now [] None (Event.Message (Content.field square piece))).disturbed
         ≡ false }
     ensures answer { (pace : PaceView) (now : ℕ) (pieces : List Piece) (later : List Kind) →
-        let after = pace_after_event pace now (Kind.Dump ∷ later)
+        let after = pace_after_event pace now (Kind.Dump ∷ later) None
         (Event.Message (Content.dump pieces)) in
-        (after.answered ≡ true) × (after.doubtful ≡ false) }
+        (after.answered ≡ true) × (after.doubtful ≡ false) × (after.settling ≡ false) }
     ensures other { (pace : PaceView) (now main sub : ℕ) (later : List Kind) →
-        pace.answered ≡ false → (pace_after_event pace now (Kind.Version ∷ later)
+        pace.answered ≡ false → (pace_after_event pace now (Kind.Version ∷ later) None
         (Event.Message (Content.version main sub))).answered ≡ false }
     ensures heard { (pace : PaceView) (now square : ℕ) (piece : Piece) → (pace_after_event pace now
-        [] (Event.Message (Content.field square piece))).heard ≡ Some now }
+        [] None (Event.Message (Content.field square piece))).heard ≡ Some now }
     ensures unheard { (pace : PaceView) (now byte : ℕ) →
-        (pace_after_event pace now [] (Event.Stray byte)).heard ≡ pace.heard }
+        (pace_after_event pace now [] None (Event.Stray byte)).heard ≡ pace.heard }
+{}
+
+/// What confirms a picture: an awaited dump that repeats it. The first one after a new beginning
+/// doesn't, but leaves a picture confirmed that was. What comes unasked ends it. A field that makes
+/// another picture ends it, and that is the time of the last change.
+pub fn what_confirms()
+    ensures dump { (pace : PaceView) (now : ℕ) (known pieces : List Piece) (later : List Kind) →
+        pace.settling ≡ false → repeats (Some known) pieces ≡ true →
+        (pace_after_event pace now (Kind.Dump ∷ later) (Some known)
+        (Event.Message (Content.dump pieces))).confirmed ≡ true }
+    ensures kept { (pace : PaceView) (now : ℕ) (known pieces : List Piece) (later : List Kind) →
+        pace.confirmed ≡ true → repeats (Some known) pieces ≡ true →
+        (pace_after_event pace now (Kind.Dump ∷ later) (Some known)
+        (Event.Message (Content.dump pieces))).confirmed ≡ true }
+    ensures first { (pace : PaceView) (now : ℕ) (picture : Option (List Piece)) (event : Event)
+        (awaited : List Kind) → pace.settling ≡ true → pace.confirmed ≡ false →
+        (pace_after_event pace now awaited picture event).confirmed ≡ false }
+    ensures unasked { (pace : PaceView) (now : ℕ) (known pieces : List Piece) →
+        (pace_after_event pace now [] (Some known) (Event.Message (Content.dump pieces))).confirmed
+        ≡ false }
+    ensures field { (pace : PaceView) (now square : ℕ) (piece : Piece) (known : List Piece) →
+        changes (Some known) (Content.field square piece) ≡ true →
+        let after = pace_after_event pace now [] (Some known)
+        (Event.Message (Content.field square piece)) in
+        (after.confirmed ≡ false) × (after.changed ≡ Some now) }
+    ensures sound { (pace : PaceView) (now square : ℕ) (piece : Piece) (known : List Piece) →
+        pace.disturbed ≡ false → (pace_after_event pace now [] (Some known)
+        (Event.Message (Content.field square piece))).disturbed ≡ false }
+    ensures unchanged { (pace : PaceView) (now byte : ℕ) (picture : Option (List Piece)) →
+        (pace_after_event pace now [] picture (Event.Stray byte)).changed ≡ pace.changed }
+    ensures unknown { (pace : PaceView) (now : ℕ) (pieces : List Piece) (later : List Kind) →
+        (pace_after_event pace now (Kind.Dump ∷ later) None
+        (Event.Message (Content.dump pieces))).confirmed ≡ false }
+    ensures anew { (pace : PaceView) (now : ℕ) →
+        (pace_after_asking Asking.Anew pace now).settling ≡ true }
+    ensures waits { (pace : PaceView) (now byte : ℕ) (picture : Option (List Piece)) →
+        pace.settling ≡ true →
+        (pace_after_event pace now [] picture (Event.Stray byte)).settling ≡ true }
+    ensures pardons { (pace : PaceView) (now : ℕ) → pace.answered ≡ true → pace.asked ≡ Some 0 →
+        pace.disturbed ≡ false → (pace_after_asking Asking.Anew pace now).pardons ≡ true }
+    ensures blames { (pace : PaceView) (now : ℕ) → pace.disturbed ≡ true →
+        (pace_after_asking Asking.Anew pace now).pardons ≡ false }
+{}
+
+/// A serial number that is reported is known, whatever else is heard. The clock is unknown while it
+/// is unreadable, until a report of it can be read.
+pub fn what_is_known()
+    ensures serial { (pace : PaceView) (now : ℕ) (digits : List ℕ) (awaited : List Kind)
+        (picture : Option (List Piece)) →
+        (pace_after_event pace now awaited picture (Event.Message (Content.serial digits))).serial
+        ≡ Some digits }
+    ensures same { (pace : PaceView) (now square : ℕ) (piece : Piece) (awaited : List Kind)
+        (picture : Option (List Piece)) → (pace_after_event pace now awaited picture
+        (Event.Message (Content.field square piece))).serial ≡ pace.serial }
+    ensures readable { (pace : PaceView) (now : ℕ) (readings : BothTimes) (awaited : List Kind)
+        (picture : Option (List Piece)) → (pace_after_event pace now awaited picture
+        (Event.Message (Content.times readings))).unreadable ≡ false }
+    ensures absent { (pace : PaceView) (now : ℕ) (absence : Absence) (awaited : List Kind)
+        (picture : Option (List Piece)) → (pace_after_event pace now awaited picture
+        (Event.Message (Content.no_clock absence))).unreadable ≡ false }
+    ensures stays { (pace : PaceView) (now byte : ℕ) (picture : Option (List Piece)) →
+        (pace_after_event pace now [] picture (Event.Stray byte)).unreadable ≡ pace.unreadable }
+    ensures unknown { (host : HostView) (pace : PaceView) → pace.unreadable ≡ true →
+        clock_known (following host pace) ≡ None }
+    ensures clock { (host : HostView) (pace : PaceView) → pace.unreadable ≡ false →
+        clock_known (following host pace) ≡ host.clock }
 {}

@@ -11,6 +11,15 @@
 //!   the middle of, and asks for everything.
 //! - In a mode that reports the clock each asking requests a reading of it, too.
 //!
+//! The protocol has no check sum, but a board says where its pieces stand in two ways: by changes
+//! and by dumps. A follower compares them. So its picture is
+//!
+//! - *in doubt* ([`Follower::in_doubt`]): something disturbed the line, a dump wasn't the picture
+//!   that was known, or an answer is a second late. It asks again after a quarter of the period.
+//! - *confirmed* ([`Follower::confirmed`]): a dump repeated it. No one fault of the line makes a
+//!   confirmed picture wrong ([`laws::one_stretch_is_seen`]).
+//! - neither: it was just reported or changed. [`Follower::set_confirm`] has it confirmed soon.
+//!
 //! [`Follower::due_at`] returns when it will write next, so a program can sleep as long.
 //!
 //! ```rust
@@ -24,8 +33,8 @@
 //! }
 //! ```
 //!
-//! Times are milliseconds of a clock that doesn't go back. A time before the last asking is too
-//! early for the next one. No call takes memory.
+//! Times are milliseconds of a clock that doesn't go back. If it does, the next asking is due at
+//! once. No call takes memory.
 //!
 //! The picture and the clock stay known while the follower asks, and while it begins anew. A board
 //! that lost its power sends no changes, and the next heartbeat finds it. So the period is how long
@@ -34,14 +43,17 @@
 //! Contracts see a follower as its host and its pace (`specs/Follower.antt`). The pace
 //! (`specs/Pace.antt`) is what it counts and notes: `due_time` is when it asks next, `asking` what
 //! it asks, and `pace_after_event` what it notes of an event. When to ask, and how often in a row
-//! a heartbeat is enough, is this project's own choice. [`laws`] says that chunks don't matter.
+//! a heartbeat is enough, is this project's own choice. [`laws`] says that chunks don't matter, and
+//! what a confirmed picture is worth.
 #![tactic(auto)]
 
 mod asking;
 mod follower;
 pub mod laws;
+mod notes;
 mod pace;
+mod times;
 
 pub use asking::{Asking, UpdateMode};
-pub use follower::{Follower, MAX_ASKING};
-pub use pace::Pace;
+pub use follower::{Followed, Follower, MAX_ASKING};
+pub use pace::{LEAST_PERIOD, OVERDUE, Pace, SETTLED, TRIES};

@@ -1,28 +1,59 @@
 //! When a follower asks, and what.
 
-ghost use Rattle.std.specs.Prelude.{◌≡◌, ◌↔◌, ◌≤◌, ◌&&◌, ◌||◌, not, List, Some, nat_le, IsTrue};
+ghost use Rattle.std.specs.Prelude.{◌≡◌, ◌↔◌, ◌≤◌, Option, is_some, List, Some, IsTrue, true};
 ghost use Rattle.dgt_values.specs.declared.kinds.Kind.{Kind};
+ghost use Rattle.dgt_values.specs.declared.pieces.Piece.{Piece};
 ghost use Rattle.dgt_decode.specs.Feeding.{event_content, event_content_if_any};
+ghost use Rattle.dgt_host.specs.Confirmed.{changes_by};
 ghost use Rattle.dgt_host.specs.Host.{IsUnasked};
-ghost use Rattle.dgt_follow.specs.Pace.{asking, disturbs, next_due, due_time, heard_at, is_answer, is_unanswered, new_pace, pace_after_asking, pace_after_event, pace_after_event_if_any, trusts, wait};
+ghost use Rattle.dgt_follow.specs.Pace.{asking, asks_at_once, counted, due_time, forgetting, is_calm, is_due as is_due_at, is_overdue as is_overdue_at, is_unanswered, new_pace, next_due, pace_after_asking, pace_after_event, pace_after_event_if_any, pace_asked, pace_at, trusts, wait, wants_confirming, wants_serial};
 
 use crate::asking::{Asking, UpdateMode};
-use dgt_host::{Event, Message};
+use crate::notes::{
+    Seen, either, is_awaited_dump, is_confirmed, is_disturbance, is_unreadable, last_changed,
+    last_heard, last_serial, unless,
+};
+use crate::times::{due_after, earlier, later_of, precedes};
+use dgt_host::Event;
 use std::marker::Model;
 
-/// What decides when a follower asks, and what: its period and its patience, the time of its last
-/// asking, and what it has noted since.
+/// The least period, in milliseconds. A new beginning and its dump take a third of it on the line:
+/// shorter periods would fill the line of a sound board.
+pub const LEAST_PERIOD: u64 = 1000;
+
+/// An answer that hasn't come this number of milliseconds after the asking is overdue.
+pub const OVERDUE: u64 = 1000;
+
+/// This number of milliseconds after a change the picture is asked for, to confirm it.
+pub const SETTLED: u64 = 1000;
+
+/// How often the serial number is requested at most, from a board that doesn't send it.
+pub const TRIES: u32 = 3;
+
+/// What decides when a follower asks, and what: its settings, what it asked last, and what it has
+/// noted since. The fields lie in this order: the wide ones first, so that they fit closely.
 #[derive(Drop)]
 pub struct Pace {
     period: u64,
-    patience: u32,
-    mode: UpdateMode,
-    left: u32,
     asked: Option<u64>,
+    heard: Option<u64>,
+    changed: Option<u64>,
+    patience: u32,
+    left: u32,
+    tries: u32,
+    serial: Option<[u8; 5]>,
+    mode: UpdateMode,
+    confirm: bool,
+    identify: bool,
+    requested: bool,
+    wanted: bool,
     answered: bool,
     disturbed: bool,
-    heard: Option<u64>,
+    pardons: bool,
+    settling: bool,
     doubtful: bool,
+    confirmed: bool,
+    unreadable: bool,
 }
 
 impl Model for Pace {
@@ -35,148 +66,57 @@ impl Model for Pace {
       period = pace.period;
       patience = pace.patience;
       mode = pace.mode;
+      confirm = pace.confirm;
+      identify = pace.identify;
       left = pace.left;
+      tries = pace.tries;
       asked = pace.asked;
+      requested = pace.requested;
+      wanted = pace.wanted;
       answered = pace.answered;
       disturbed = pace.disturbed;
+      pardons = pace.pardons;
+      settling = pace.settling;
       heard = pace.heard;
       doubtful = pace.doubtful;
+      confirmed = pace.confirmed;
+      changed = pace.changed;
+      serial = pace.serial;
+      unreadable = pace.unreadable;
     } };
 
     ghost invariant = { λ pace. pace.left ≤ pace.patience };
 }
 
-// Whether an event is one that a sound line and board don't send.
-fn is_disturbance(event: &Event<'_>, unasked: bool) -> bool
-    ensures { (awaited : List Kind) →
-        (IsTrue unasked ↔ IsUnasked awaited (Some (event_content event.now))) →
-        result ≡ disturbs awaited (event_content event.now) }
-{
-    match event {
-        Event::Message(_) => unasked,
-        _ => true,
-    }
-}
-
-// Whether an event is a dump that was awaited.
-fn is_awaited_dump(event: &Event<'_>, unasked: bool) -> bool
-    ensures { (awaited : List Kind) →
-        (IsTrue unasked ↔ IsUnasked awaited (Some (event_content event.now))) →
-        result ≡ is_answer awaited (event_content event.now) }
-{
-    match event {
-        Event::Message(Message::Dump(_)) => !unasked,
-        _ => false,
-    }
-}
-
-fn either(first: bool, second: bool) -> bool
-    ensures { result ≡ (first || second) }
-{
-    first || second
-}
-
-// Whether there is a doubt after an event, if this was so before it.
-fn stays_doubtful(doubtful: bool, disturbs: bool, answers: bool) -> bool
-    ensures { result ≡ (disturbs || (doubtful && not answers)) }
-{
-    disturbs || doubtful && !answers
-}
-
-// When the last whole message came, after an event, if this was so before it.
-fn last_heard(before: Option<u64>, now: u64, event: &Event<'_>) -> Option<u64>
-    ensures { result ≡ heard_at before now (event_content event.now) }
-{
-    match event {
-        Event::Message(_) => Some(now),
-        _ => before,
-    }
-}
-
+// When it asks.
 impl Pace {
-    /// A pace with this period in milliseconds, this patience and this mode, which has asked
-    /// nothing.
-    pub fn new(period: u64, patience: u32, mode: UpdateMode) -> Self
-        ensures { result ≡ new_pace period patience mode }
+    /// A pace with this period in milliseconds, at least [`LEAST_PERIOD`], this patience and this
+    /// mode, which has asked nothing.
+    pub fn new(period: u64, patience: u32, mode: UpdateMode, confirm: bool, identify: bool) -> Self
+        ensures { result ≡ new_pace period patience mode confirm identify }
     {
         Pace {
-            period,
+            period: LEAST_PERIOD.max(period),
             patience,
             mode,
+            confirm,
+            identify,
             left: patience,
+            tries: TRIES,
             asked: None,
+            requested: false,
+            wanted: false,
             answered: false,
             disturbed: false,
+            pardons: false,
+            settling: false,
             heard: None,
             doubtful: false,
+            confirmed: false,
+            changed: None,
+            serial: None,
+            unreadable: false,
         }
-    }
-
-    // How long to wait after the last asking.
-    fn waiting_time(&self) -> u64
-        ensures { result ≡ wait self.now }
-    {
-        if self.disturbed {
-            self.period / 4
-        } else {
-            self.period
-        }
-    }
-
-    /// The first time at which it asks. `None` if that is past the last time that a `u64` counts.
-    pub fn due_at(&self) -> Option<u64>
-        ensures { result ≡ next_due self.now }
-    {
-        match self.asked {
-            None => Some(0),
-            Some(asked) => asked.checked_add(self.waiting_time()),
-        }
-    }
-
-    // Whether it asks at this time.
-    fn is_due(&self, now: u64) -> bool
-        ensures { result ≡ nat_le (due_time self.now) now }
-    {
-        match self.due_at() {
-            Some(due) => due <= now,
-            None => false,
-        }
-    }
-
-    // Whether a heartbeat is enough.
-    fn heartbeat_suffices(&self, full: bool) -> bool
-        ensures { result ≡ trusts self.now full }
-    {
-        self.asked.is_some() && self.answered && !self.disturbed && !full && self.left > 0
-    }
-
-    /// What it asks at this time. `full` says whether the host awaits as many replies as it can.
-    pub fn next_asking(&self, full: bool, now: u64) -> Asking
-        ensures { result ≡ asking self.now full now }
-    {
-        if !self.is_due(now) {
-            Asking::Nothing
-        } else if self.heartbeat_suffices(full) {
-            Asking::Heartbeat
-        } else {
-            Asking::Anew
-        }
-    }
-
-    /// Notes that this was asked at this time.
-    pub fn note_asking(&mut self, asking: Asking, now: u64)
-        ensures { self.new ≡ pace_after_asking asking self.old now }
-    {
-        let left = match asking {
-            Asking::Nothing => return,
-            Asking::Heartbeat => self.left.saturating_sub(1),
-            Asking::Anew => self.patience,
-        };
-        self.doubtful = self.doubtful || self.awaits_answer();
-        self.left = left;
-        self.asked = Some(now);
-        self.answered = false;
-        self.disturbed = false;
     }
 
     // Whether the last asking has no answer yet.
@@ -186,33 +126,217 @@ impl Pace {
         self.asked.is_some() && !self.answered
     }
 
-    // Notes an event that was heard at this time.
-    fn note_event(&mut self, event: &Event<'_>, unasked: bool, now: u64)
-        ensures { (awaited : List Kind) →
-            (IsTrue unasked ↔ IsUnasked awaited (Some (event_content event.now))) →
-            self.new ≡ pace_after_event self.old now awaited (event_content event.now) }
+    // Whether the last asking was answered, and nothing has disturbed since.
+    fn is_calm(&self) -> bool
+        ensures { result ≡ is_calm self.now }
     {
-        let disturbs = is_disturbance(event, unasked);
-        let answers = is_awaited_dump(event, unasked);
-        self.answered = either(answers, self.answered);
-        self.disturbed = either(disturbs, self.disturbed);
-        self.doubtful = stays_doubtful(self.doubtful, disturbs, answers);
-        self.heard = last_heard(self.heard, now, event);
+        self.asked.is_some() && self.answered && !self.disturbed
     }
 
-    /// Notes the event that was heard at this time, if there is one. `unasked` says whether it is a
-    /// message of a kind that isn't awaited first.
-    pub(crate) fn note(&mut self, event: &Option<Event<'_>>, unasked: bool, now: u64)
-        ensures { (awaited : List Kind) →
-            (IsTrue unasked ↔ IsUnasked awaited (event_content_if_any event.now)) →
-            self.new ≡ pace_after_event_if_any self.old now awaited
-            (event_content_if_any event.now) }
+    // Whether the answer to the last asking is overdue at this time.
+    fn is_overdue(&self, now: u64) -> bool
+        ensures { result ≡ is_overdue_at self.now now }
     {
-        if let Some(event) = event {
-            self.note_event(event, unasked, now);
+        match due_after(self.asked, OVERDUE) {
+            Some(due) => self.awaits_answer() && due <= now,
+            None => false,
         }
     }
 
+    // How long to wait after the last asking.
+    fn waiting_time(&self) -> u64
+        ensures { result ≡ wait self.now }
+    {
+        if self.disturbed {
+            self.period / 4
+        } else if self.awaits_answer() {
+            self.period.min(OVERDUE.max(self.period / 4))
+        } else {
+            self.period
+        }
+    }
+
+    // Whether a picture that isn't confirmed is to be asked for again.
+    fn wants_confirming(&self) -> bool
+        ensures { result ≡ wants_confirming self.now }
+    {
+        self.confirm && !self.confirmed && !self.disturbed && !self.awaits_answer()
+    }
+
+    // Whether the serial number is to be requested.
+    fn wants_serial(&self) -> bool
+        ensures { result ≡ wants_serial self.now }
+    {
+        self.identify
+            && self.serial.is_none()
+            && self.tries > 0
+            && !self.requested
+            && self.is_calm()
+    }
+
+    // Whether it asks as soon as it can.
+    fn asks_at_once(&self) -> bool
+        ensures { result ≡ asks_at_once self.now }
+    {
+        self.wants_serial() || self.wanted && !self.awaits_answer()
+    }
+
+    // The first time at which it asks. `None` if that is past the last time that a `u64` counts.
+    fn asks_at(&self) -> Option<u64>
+        ensures { result ≡ counted (due_time self.now) }
+    {
+        if self.asks_at_once() {
+            return Some(0);
+        }
+        let usual = due_after(self.asked, self.waiting_time());
+        if self.wants_confirming() {
+            earlier(
+                usual,
+                due_after(later_of(self.asked, self.changed), SETTLED),
+            )
+        } else {
+            usual
+        }
+    }
+
+    /// The first time at which it asks, or finds an answer overdue and has no doubt before. `None`
+    /// if that is past the last time that a `u64` counts.
+    pub fn due_at(&self) -> Option<u64>
+        ensures { result ≡ next_due self.now }
+    {
+        if self.awaits_answer() && !self.doubtful {
+            earlier(self.asks_at(), due_after(self.asked, OVERDUE))
+        } else {
+            self.asks_at()
+        }
+    }
+
+    // Whether it asks at this time.
+    fn is_due(&self, now: u64) -> bool
+        ensures { result ≡ is_due_at self.now now }
+    {
+        let reached = match self.asks_at() {
+            Some(due) => due <= now,
+            None => false,
+        };
+        reached || precedes(now, self.asked)
+    }
+}
+
+// What it asks.
+impl Pace {
+    // Whether a heartbeat is enough.
+    fn heartbeat_suffices(&self, full: bool) -> bool
+        ensures { result ≡ trusts self.now full }
+    {
+        self.is_calm() && !full && self.left > 0
+    }
+
+    /// What it asks at this time. `full` says whether the host awaits as many replies as it can.
+    pub fn next_asking(&self, full: bool, now: u64) -> Asking
+        ensures { result ≡ asking self.now full now }
+    {
+        if !self.is_due(now) {
+            Asking::Nothing
+        } else if self.wants_serial() && !full {
+            Asking::Identify
+        } else if self.heartbeat_suffices(full) {
+            Asking::Heartbeat
+        } else {
+            Asking::Anew
+        }
+    }
+
+    // Notes that an answer is overdue, if it is at this time.
+    fn note_time(&mut self, now: u64)
+        ensures { self.new ≡ pace_at self.old now }
+    {
+        let overdue = self.is_overdue(now);
+        self.doubtful = either(self.doubtful, overdue);
+        self.confirmed = unless(self.confirmed, overdue);
+    }
+
+    // Notes that a dump was asked for at this time.
+    fn note_asked(&mut self, now: u64)
+        ensures { self.new ≡ pace_asked self.old now }
+    {
+        let owed = self.awaits_answer();
+        self.doubtful = either(self.doubtful, owed);
+        self.confirmed = unless(self.confirmed, owed);
+        self.asked = Some(now);
+        self.requested = false;
+        self.wanted = false;
+        self.answered = false;
+        self.disturbed = false;
+        self.pardons = false;
+    }
+
+    /// Notes that this was asked at this time, or nothing.
+    pub fn note_asking(&mut self, asking: Asking, now: u64)
+        ensures { self.new ≡ pace_after_asking asking self.old now }
+    {
+        match asking {
+            Asking::Nothing => self.note_time(now),
+            Asking::Identify => {
+                self.tries = self.tries.saturating_sub(1);
+                self.requested = true;
+            }
+            Asking::Heartbeat => {
+                self.note_asked(now);
+                self.left = self.left.saturating_sub(1);
+            }
+            Asking::Anew => {
+                let pardons = self.is_calm();
+                self.note_asked(now);
+                self.left = self.patience;
+                self.pardons = pardons;
+                self.settling = true;
+            }
+        }
+    }
+}
+
+// What it notes.
+impl Pace {
+    // Notes an event that was heard at this time.
+    fn note_event(&mut self, event: &Event<'_>, seen: Seen, now: u64)
+        ensures { (awaited : List Kind) (picture : Option (List Piece)) →
+            (IsTrue seen.unasked ↔ IsUnasked awaited (Some (event_content event.now))) →
+            seen.changed ≡ changes_by picture (Some (event_content event.now)) →
+            seen.known ≡ is_some picture →
+            self.new ≡ pace_after_event self.old now awaited picture (event_content event.now) }
+    {
+        let disturbs = is_disturbance(event, seen, self.pardons);
+        let answers = is_awaited_dump(event, seen.unasked);
+        let still = unless(self.doubtful, answers);
+        self.confirmed = is_confirmed(self.confirmed, self.settling, event, seen);
+        self.answered = either(answers, self.answered);
+        self.disturbed = either(disturbs, self.disturbed);
+        self.settling = unless(self.settling, answers);
+        self.heard = last_heard(self.heard, now, event);
+        self.doubtful = either(disturbs, still);
+        self.changed = last_changed(self.changed, now, seen.changed);
+        self.serial = last_serial(self.serial, event);
+        self.unreadable = is_unreadable(self.unreadable, event);
+    }
+
+    /// Notes the event that was heard at this time, if there is one, and what the host said of it.
+    pub(crate) fn note(&mut self, event: &Option<Event<'_>>, seen: Seen, now: u64)
+        ensures { (awaited : List Kind) (picture : Option (List Piece)) →
+            (IsTrue seen.unasked ↔ IsUnasked awaited (event_content_if_any event.now)) →
+            seen.changed ≡ changes_by picture (event_content_if_any event.now) →
+            seen.known ≡ is_some picture →
+            self.new ≡ pace_after_event_if_any self.old now awaited picture
+            (event_content_if_any event.now) }
+    {
+        if let Some(event) = event {
+            self.note_event(event, seen, now);
+        }
+    }
+}
+
+// Its settings.
+impl Pace {
     /// What the board is asked to report.
     pub fn mode(&self) -> UpdateMode
         ensures { result ≡ self.now.mode }
@@ -227,6 +351,43 @@ impl Pace {
         self.mode = mode;
     }
 
+    /// Has a picture that isn't confirmed be asked for again, or not.
+    pub fn set_confirm(&mut self, confirm: bool)
+        ensures { self.new ≡ record self.old { confirm = confirm } }
+    {
+        self.confirm = confirm;
+    }
+
+    /// Has the serial number be requested while it is unknown, or not.
+    pub fn set_identify(&mut self, identify: bool)
+        ensures { self.new ≡ record self.old { identify = identify } }
+    {
+        self.identify = identify;
+    }
+
+    /// Has it ask as soon as no answer is owed.
+    pub fn ask_now(&mut self)
+        ensures { self.new ≡ record self.old { wanted = true } }
+    {
+        self.wanted = true;
+    }
+
+    /// Forgets what was asked and noted, and keeps its settings.
+    pub fn line_lost(&mut self)
+        ensures { self.new ≡ forgetting self.old }
+    {
+        *self = Pace::new(
+            self.period,
+            self.patience,
+            self.mode,
+            self.confirm,
+            self.identify,
+        );
+    }
+}
+
+// What it knows.
+impl Pace {
     /// When the last whole message came.
     pub fn last_heard(&self) -> Option<u64>
         ensures { result ≡ self.now.heard }
@@ -234,19 +395,34 @@ impl Pace {
         self.heard
     }
 
-    /// Whether something has disturbed the line, or an asking found the one before it unanswered,
-    /// since the last dump that was awaited.
+    /// Whether something has disturbed the line, or an answer was overdue, since the last dump that
+    /// was awaited.
     pub fn in_doubt(&self) -> bool
         ensures { result ≡ self.now.doubtful }
     {
         self.doubtful
     }
 
-    /// Forgets what was asked and noted, and keeps its period, its patience and its mode.
-    pub fn line_lost(&mut self)
-        ensures { self.new ≡ new_pace self.old.period self.old.patience self.old.mode }
+    /// Whether an awaited dump repeated the picture, and since then nothing changed it, nothing
+    /// disturbed and no answer was overdue.
+    pub fn confirmed(&self) -> bool
+        ensures { result ≡ self.now.confirmed }
     {
-        *self = Pace::new(self.period, self.patience, self.mode);
+        self.confirmed
+    }
+
+    /// The serial number that was reported last.
+    pub fn serial(&self) -> Option<[u8; 5]>
+        ensures { result ≡ self.now.serial }
+    {
+        self.serial
+    }
+
+    /// Whether the clock was unreadable when it was last reported.
+    pub fn clock_is_unreadable(&self) -> bool
+        ensures { result ≡ self.now.unreadable }
+    {
+        self.unreadable
     }
 
     /// How many heartbeats may still follow one another, of those that its patience allows.

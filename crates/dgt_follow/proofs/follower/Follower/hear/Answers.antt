@@ -1,10 +1,13 @@
 use Rattle.dgt_decode.specs.Feeding.{event_content_if_any}
-use Rattle.dgt_follow.proofs.Hearing.{heard_once}
+use Rattle.dgt_follow.proofs.Hearing.{heard_once, is_some_seen}
 use Rattle.dgt_follow.proofs.follower.Follower.hear.Goals as goal
 
 pub returns-clause-heard : goal.returns-clause-heard
 returns-clause-heard c =
-    let noted = c.note.ensures c.self.inside.host.awaited c.hear.ensures.unasked in
+    let noted = c.note.ensures c.self.inside.host.awaited c.self.inside.host.picture c.hear.ensures.unasked
+    c.hear.ensures.changed
+    (is_some_seen _ c.picture.result c.self.inside.host.picture c.is_some-known.result c.is_some-known.ensures
+    c.picture.ensures) in
     rw (← c.self.view_is, c.hear.follows.holds-at-none, noted)
     (heard_once c.self.inside.host c.self.inside.pace c.args.now c.hear.result.used c.args.chunk.now
     (event_content_if_any c.hear.result.event) c.hear.ensures.first)

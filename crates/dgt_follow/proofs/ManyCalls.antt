@@ -1,0 +1,131 @@
+-- What calls of a follower make of its picture, one after another.
+use Rattle.std.proofs.Common.{◌≡◌, Bool, true, Option, refl, sym, ap, ◌∙◌, ℕ, List, [], ◌∷◌, ◌++◌, append_assoc, append-nil, length, ◌-◌}
+use Rattle.dgt_values.specs.declared.pieces.Piece.{Piece}
+use Rattle.dgt_message.specs.Content.{Content}
+use Rattle.dgt_message.specs.Picture.{picture_after, picture_after_all}
+use Rattle.dgt_decode.specs.Grammar.{events, unfinished_message}
+use Rattle.dgt_decode.specs.Laws.{EventsAppend, UnfinishedAppend, UnfinishedIsQuiet}
+use Rattle.dgt_host.specs.Confirmed.{confirmed_after, confirmed_after_all, messages}
+use Rattle.dgt_host.proofs.ConfirmedLemmas.{confirms_more, pictures_append}
+use Rattle.dgt_host.proofs.StretchLemmas.{messages_append, messages_behind}
+use Rattle.dgt_follow.specs.declared.asking.Asking.{Asking}
+use Rattle.dgt_follow.specs.Follower.{AskingsConfirmNothing, ConfirmedAsHeard, FollowerView, asking_of, follower_after}
+use Rattle.dgt_follow.specs.Calls.{Hears, Asks, Sends, SetsMode, SetsConfirm, SetsIdentify, AsksNow, ConfirmedOverCalls, bytes_heard, follower_after_call, follower_after_calls, follower_asking}
+
+confirmed_append : (confirmed : Bool) (picture : Option (List Piece)) (said more : List Content)
+    → confirmed_after_all confirmed picture (said ++ more)
+    ≡ confirmed_after_all (confirmed_after_all confirmed picture said) (picture_after_all picture said) more
+confirmed_append confirmed picture [] more = refl
+confirmed_append confirmed picture (m ∷ said) more =
+    confirmed_append (confirmed_after confirmed picture m) (picture_after picture m) said more
+
+-- the picture, and how it is confirmed, of messages that were heard
+abbrev Made : FollowerView → FollowerView → List Content → Type 0
+Made before after said =
+    (after.host.picture ≡ picture_after_all before.host.picture said)
+    × (after.pace.confirmed ≡ true
+    → confirmed_after_all before.pace.confirmed before.host.picture said ≡ true)
+
+-- a call that hears nothing
+abbrev Keeps : FollowerView → FollowerView → Type 0
+Keeps before after =
+    (after.host.picture ≡ before.host.picture) × (after.host.unread ≡ before.host.unread)
+    × (after.pace.confirmed ≡ true → before.pace.confirmed ≡ true)
+
+asking_keeps : AskingsConfirmNothing → (what : Asking) (f : FollowerView) (now : ℕ)
+    → Keeps f (follower_asking what f now)
+asking_keeps none Asking.Nothing f now = (refl, refl, none Asking.Nothing f.pace now)
+asking_keeps none Asking.Identify f now = (refl, refl, none Asking.Identify f.pace now)
+asking_keeps none Asking.Heartbeat f now = (refl, refl, none Asking.Heartbeat f.pace now)
+asking_keeps none Asking.Anew f now = (refl, refl, none Asking.Anew f.pace now)
+
+module _ (later : EventsAppend) (still : UnfinishedAppend) (quiet : UnfinishedIsQuiet)
+    (heard : ConfirmedAsHeard) (none : AskingsConfirmNothing) where
+  said_later : (s more : List ℕ)
+      → messages (events (s ++ more)) ≡ messages (events s) ++ messages (events (unfinished_message s ++ more))
+  said_later s more =
+      ap messages (later s more)
+      ∙ messages_append (events s) _
+      ∙ ap (λ (m : List Content). messages (events s) ++ m)
+      (messages_behind (length s - length (unfinished_message s)) (events (unfinished_message s ++ more)))
+
+  nothing_more : (unread : List ℕ) → unfinished_message unread ≡ unread → messages (events (unread ++ [])) ≡ []
+  nothing_more unread held =
+      ap (λ (s : List ℕ). messages (events s)) (append-nil unread ∙ sym held)
+      ∙ ap messages (quiet.no_event unread)
+
+  -- what is heard after some bytes
+  joined : (f between after : FollowerView) (bytes more : List ℕ)
+      → between.host.unread ≡ unfinished_message (f.host.unread ++ bytes)
+      → Made f between (messages (events (f.host.unread ++ bytes)))
+      → Made between after (messages (events (between.host.unread ++ more)))
+      → Made f after (messages (events (f.host.unread ++ (bytes ++ more))))
+  joined f between after bytes more unread first next =
+      let one = messages (events (f.host.unread ++ bytes)) in
+      let two = messages (events (between.host.unread ++ more)) in
+      let all : messages (events (f.host.unread ++ (bytes ++ more))) ≡ one ++ two =
+      ap (λ (s : List ℕ). messages (events s)) (sym (append_assoc f.host.unread bytes more))
+      ∙ said_later (f.host.unread ++ bytes) more
+      ∙ ap (λ (u : List ℕ). one ++ messages (events (u ++ more))) (sym unread) in
+      let picture : after.host.picture ≡ picture_after_all f.host.picture (one ++ two) =
+      next.0 ∙ ap (λ (p : Option (List Piece)). picture_after_all p two) first.0
+      ∙ sym (pictures_append f.host.picture one two) in
+      let confirmed : after.pace.confirmed ≡ true
+      → confirmed_after_all f.pace.confirmed f.host.picture (one ++ two) ≡ true =
+      λ e. confirmed_append f.pace.confirmed f.host.picture one two
+      ∙ confirms_more between.pace.confirmed (confirmed_after_all f.pace.confirmed f.host.picture one) first.1
+      (picture_after_all f.host.picture one) two
+      (ap (λ (p : Option (List Piece)). confirmed_after_all between.pace.confirmed p two) (sym first.0) ∙ next.1 e) in
+      rw all (picture, confirmed)
+
+  kept : (f between after : FollowerView) (bytes : List ℕ) → Keeps f between
+      → Made between after (messages (events (between.host.unread ++ bytes)))
+      → Made f after (messages (events (f.host.unread ++ bytes)))
+  kept f between after bytes (picture, unread, less) next =
+      let said = messages (events (f.host.unread ++ bytes)) in
+      let same : messages (events (between.host.unread ++ bytes)) ≡ said =
+      ap (λ (u : List ℕ). messages (events (u ++ bytes))) unread in
+      let made : Made between after said = rw same at next in (
+        made.0 ∙ ap (λ (p : Option (List Piece)). picture_after_all p said) picture,
+        λ e. confirms_more between.pace.confirmed f.pace.confirmed less f.host.picture said
+            (ap (λ (p : Option (List Piece)). confirmed_after_all between.pace.confirmed p said) (sym picture)
+            ∙ made.1 e),
+      )
+
+  unread_after : (f : FollowerView) (now : ℕ) (bytes : List ℕ)
+      → unfinished_message (follower_after f now bytes).host.unread ≡ (follower_after f now bytes).host.unread
+  unread_after f now bytes = quiet.stays (f.host.unread ++ bytes)
+
+  pub over_calls : ConfirmedOverCalls
+  over_calls f [] held =
+      let no = nothing_more f.host.unread held in rw no (refl, λ e. e)
+  over_calls f (Hears now bytes ∷ more) held =
+      joined f (follower_after f now bytes) (follower_after_calls (follower_after f now bytes) more) bytes
+      (bytes_heard more) refl (heard f now bytes)
+      (over_calls (follower_after f now bytes) more (unread_after f now bytes))
+  over_calls f (Asks now ∷ more) held =
+      let what = asking_of f now in
+      let keeps = asking_keeps none what f now in
+      let between : FollowerView = follower_asking what f now in
+      kept f between (follower_after_calls between more) (bytes_heard more) keeps
+      (over_calls between more (rw (keeps.1) held))
+  over_calls f (Sends kind ∷ more) held =
+      let between : FollowerView = follower_after_call f (Sends kind) in
+      kept f between (follower_after_calls between more) (bytes_heard more) (refl, refl, λ e. e)
+      (over_calls between more held)
+  over_calls f (SetsMode mode ∷ more) held =
+      let between : FollowerView = follower_after_call f (SetsMode mode) in
+      kept f between (follower_after_calls between more) (bytes_heard more) (refl, refl, λ e. e)
+      (over_calls between more held)
+  over_calls f (SetsConfirm confirm ∷ more) held =
+      let between : FollowerView = follower_after_call f (SetsConfirm confirm) in
+      kept f between (follower_after_calls between more) (bytes_heard more) (refl, refl, λ e. e)
+      (over_calls between more held)
+  over_calls f (SetsIdentify identify ∷ more) held =
+      let between : FollowerView = follower_after_call f (SetsIdentify identify) in
+      kept f between (follower_after_calls between more) (bytes_heard more) (refl, refl, λ e. e)
+      (over_calls between more held)
+  over_calls f (AsksNow ∷ more) held =
+      let between : FollowerView = follower_after_call f AsksNow in
+      kept f between (follower_after_calls between more) (bytes_heard more) (refl, refl, λ e. e)
+      (over_calls between more held)

@@ -1,0 +1,223 @@
+-- An overdue answer is a doubt, and is soon asked for again; and a confirmed picture is not in doubt.
+use Rattle.std.proofs.Common.{◌≡◌, ◌≤◌, ◌/◌, Bool, true, false, not, ◌&&◌, ◌||◌, if◌then◌else◌, is_some, nat_le, nat_lt, min, max, Option, Some, None, refl, ℕ, List, arith, rules}
+use Rattle.dgt_values.specs.declared.kinds.Kind.{Kind}
+use Rattle.dgt_values.specs.declared.pieces.Piece.{Piece}
+use Rattle.dgt_message.specs.Content.{answered_kind}
+use Rattle.dgt_message.specs.Content.Content.{dump, field, times, no_clock, ack, serial, version, carried}
+use Rattle.dgt_message.specs.declared.viewing.BodyFault.TheVariants.{WrongSize, BadPiece, BadSquare, BadReading}
+use Rattle.dgt_decode.specs.Grammar.{Event, Message, Refused, Cut, BadLength, Stray}
+use Rattle.dgt_host.specs.Confirmed.{changes, same_pieces}
+use Rattle.dgt_host.proofs.ConfirmedLemmas.{second_of}
+use Rattle.dgt_follow.specs.declared.asking.Asking.{Asking}
+use Rattle.dgt_follow.specs.declared.pace.TheConstants.{OVERDUE}
+use Rattle.dgt_follow.specs.Pace.{PaceView, asking, asks_at_once, due_time, is_before, is_calm, is_due, is_overdue, is_unanswered, is_unasked, pace_after_asking, pace_after_event, settled_time, time_after, trusts, usual_time, wait, wants_confirming, wants_serial}
+use Rattle.dgt_follow.specs.Follower.{OverdueIsAskedAnew, OverdueIsDoubt, SureStaysSure, is_sure}
+
+-- ---- what is unanswered is not calm
+
+first_of : (a b : Bool) → (a && b) ≡ true → a ≡ true
+first_of true b e = refl
+first_of false b e = cc
+
+calm_or_owed : (some answered quiet : Bool) → ((some && answered) && quiet) ≡ true → (some && not answered) ≡ false
+calm_or_owed true true quiet e = refl
+calm_or_owed true false quiet e = cc
+calm_or_owed false answered quiet e = cc
+
+owed_or_calm : (some answered quiet : Bool) → (some && not answered) ≡ true → ((some && answered) && quiet) ≡ false
+owed_or_calm true false quiet e = refl
+owed_or_calm true true quiet e = cc
+owed_or_calm false answered quiet e = cc
+
+none : (a b c : Bool) → c ≡ false → (a && (b && c)) ≡ false
+none true true false e = refl
+none true false c e = refl
+none false b c e = refl
+none true true true e = cc
+
+-- ---- an overdue answer is a doubt
+
+chosen : (due unknown trusted : Bool) → (if not due then Asking.Nothing
+    else if unknown then Asking.Identify else if trusted then Asking.Heartbeat else Asking.Anew) ≡ Asking.Identify
+    → unknown ≡ true
+chosen true true trusted e = refl
+chosen true false true e = cc
+chosen true false false e = cc
+chosen false unknown trusted e = cc
+
+identifies_calm : (pace : PaceView) (full : Bool) (now : ℕ) → asking pace full now ≡ Asking.Identify
+    → is_unanswered pace ≡ false
+identifies_calm pace full now e =
+    let wanted = first_of (wants_serial pace) (not full)
+    (chosen (is_due pace now) (wants_serial pace && not full) (trusts pace full) e) in
+    calm_or_owed (is_some pace.asked) pace.answered (not pace.disturbed)
+    (second_of (nat_lt 0 pace.tries && not pace.requested) (is_calm pace)
+    (second_of (pace.identify && not (is_some pace.serial)) _ wanted))
+
+doubted : (confirmed doubtful owed : Bool) → owed ≡ true
+    → ((doubtful || owed) ≡ true) × ((confirmed && not owed) ≡ false)
+doubted true true true e = (refl, refl)
+doubted true false true e = (refl, refl)
+doubted false true true e = (refl, refl)
+doubted false false true e = (refl, refl)
+doubted confirmed doubtful false e = cc
+
+finds : (what : Asking) (pace : PaceView) (now : ℕ) → (what ≡ Asking.Identify → is_unanswered pace ≡ false)
+    → is_overdue pace now ≡ true
+    → ((pace_after_asking what pace now).doubtful ≡ true) × ((pace_after_asking what pace now).confirmed ≡ false)
+finds Asking.Nothing pace now calm late = doubted pace.confirmed pace.doubtful (is_overdue pace now) late
+finds Asking.Identify pace now calm late =
+    let owed : is_unanswered pace ≡ true = first_of (is_unanswered pace) _ late in
+    let not_owed : is_unanswered pace ≡ false = calm refl in cc
+finds Asking.Heartbeat pace now calm late =
+    doubted pace.confirmed pace.doubtful (is_unanswered pace) (first_of (is_unanswered pace) _ late)
+finds Asking.Anew pace now calm late =
+    doubted pace.confirmed pace.doubtful (is_unanswered pace) (first_of (is_unanswered pace) _ late)
+
+pub is_doubt : OverdueIsDoubt
+is_doubt pace full now late = finds (asking pace full now) pace now (identifies_calm pace full now) late
+
+-- ---- and is soon asked for again
+
+soon : (disturbed owed : Bool) (overdue period quarter : ℕ) → owed ≡ true
+    → (if disturbed then quarter else if owed then min period (max overdue quarter) else period)
+    ≤ max overdue quarter
+soon true true overdue period quarter e = omega arith
+soon false true overdue period quarter e = omega arith
+soon disturbed false overdue period quarter e = cc
+
+no_later : (once confirming : Bool) (usual settled : ℕ)
+    → (if once then 0 else if confirming then min usual settled else usual) ≤ usual
+no_later true confirming usual settled = omega arith
+no_later false true usual settled = omega arith
+no_later false false usual settled = omega arith
+
+longer : (asked : Option ℕ) (a b : ℕ) → a ≤ b → time_after asked a ≤ time_after asked b
+longer None a b e = omega arith
+longer (Some time) a b e = omega (arith, e)
+
+reached : (due now : ℕ) (back : Bool) → due ≤ now → (nat_le due now || back) ≡ true
+reached due now back e = rw (nat_le_true due now e) refl
+  where
+    nat_le_true : (due now : ℕ) → due ≤ now → nat_le due now ≡ true
+    nat_le_true due now e = search rules
+
+anew : (due unknown trusted : Bool) → due ≡ true → unknown ≡ false → trusted ≡ false
+    → (if not due then Asking.Nothing
+    else if unknown then Asking.Identify else if trusted then Asking.Heartbeat else Asking.Anew) ≡ Asking.Anew
+anew true false false d s t = refl
+anew true false true d s t = cc
+anew true true trusted d s t = cc
+anew false unknown trusted d s t = cc
+
+and_false : (a b : Bool) → a ≡ false → (a && b) ≡ false
+and_false false b e = refl
+and_false true b e = cc
+
+pub is_asked_anew : OverdueIsAskedAnew
+is_asked_anew pace full now owed late =
+    let busy : is_calm pace ≡ false
+    = owed_or_calm (is_some pace.asked) pace.answered (not pace.disturbed) owed in
+    let known : wants_serial pace ≡ false
+    = none (pace.identify && not (is_some pace.serial)) (nat_lt 0 pace.tries && not pace.requested) (is_calm pace)
+    busy in
+    let due : due_time pace ≤ usual_time pace
+    = no_later (asks_at_once pace) (wants_confirming pace) (usual_time pace) (settled_time pace) in
+    let short = soon pace.disturbed (is_unanswered pace) OVERDUE pace.period (pace.period / 4) owed in
+    let now_due : due_time pace ≤ now
+    = omega (arith, due, longer pace.asked (wait pace) (max OVERDUE (pace.period / 4)) short, late) in
+    anew (is_due pace now) (wants_serial pace && not full) (trusts pace full)
+    (reached (due_time pace) now (is_before now pace.asked) now_due)
+    (and_false (wants_serial pace) (not full) known)
+    (and_false (is_calm pace) (not full && nat_lt 0 pace.left) busy)
+
+-- ---- a confirmed picture is not in doubt
+
+other : (unasked pardons confirmed changed settling doubtful : Bool) → not (confirmed && doubtful) ≡ true
+    → not ((not unasked && ((confirmed && not changed) && (confirmed || not settling)))
+    && (((unasked && not pardons) || false) || (doubtful && not false))) ≡ true
+other true pardons confirmed changed settling doubtful e = refl
+other false pardons false changed settling doubtful e = refl
+other false pardons true true settling doubtful e = refl
+other false pardons true false settling false e = refl
+other false pardons true false settling true e = cc
+
+dumped : (unasked pardons confirmed settling doubtful same : Bool)
+    → not ((not unasked && (same && (confirmed || not settling)))
+    && (((unasked && not pardons) || not same) || (doubtful && not (not unasked)))) ≡ true
+dumped true pardons confirmed settling doubtful same = refl
+dumped false pardons confirmed settling doubtful false = refl
+dumped false pardons true settling true true = refl
+dumped false pardons true settling false true = refl
+dumped false pardons false true doubtful true = refl
+dumped false pardons false false true true = refl
+dumped false pardons false false false true = refl
+
+unknown : (unasked confirmed settling other : Bool)
+    → not ((not unasked && (false && (confirmed || not settling))) && other) ≡ true
+unknown true confirmed settling other = refl
+unknown false confirmed settling other = refl
+
+unread : (confirmed doubtful : Bool) → not (confirmed && doubtful) ≡ true
+    → not (confirmed && (false || (doubtful && not false))) ≡ true
+unread true false e = refl
+unread true true e = cc
+unread false doubtful e = refl
+
+dump_stays_sure : (pace : PaceView) (picture : Option (List Piece)) (now : ℕ) (awaited : List Kind)
+    (pieces : List Piece)
+    → is_sure (pace_after_event pace now awaited picture (Message (dump pieces))) ≡ true
+dump_stays_sure pace None now awaited pieces =
+    unknown (is_unasked awaited (Some Kind.Dump)) pace.confirmed pace.settling _
+dump_stays_sure pace (Some known) now awaited pieces =
+    dumped (is_unasked awaited (Some Kind.Dump)) pace.pardons pace.confirmed pace.settling pace.doubtful
+    (same_pieces known pieces)
+
+event_stays_sure : (pace : PaceView) (now : ℕ) → is_sure pace ≡ true
+    → (awaited : List Kind) (picture : Option (List Piece)) (event : Event)
+    → is_sure (pace_after_event pace now awaited picture event) ≡ true
+event_stays_sure pace now sure awaited picture (Message (dump pieces)) =
+    dump_stays_sure pace picture now awaited pieces
+event_stays_sure pace now sure awaited picture (Message (field square piece)) =
+    other false pace.pardons pace.confirmed (changes picture (field square piece)) pace.settling pace.doubtful sure
+event_stays_sure pace now sure awaited picture (Message (times readings)) =
+    other false pace.pardons pace.confirmed (changes picture (times readings)) pace.settling pace.doubtful sure
+event_stays_sure pace now sure awaited picture (Message (no_clock absence)) =
+    other false pace.pardons pace.confirmed (changes picture (no_clock absence)) pace.settling pace.doubtful sure
+event_stays_sure pace now sure awaited picture (Message (ack answer)) =
+    other false pace.pardons pace.confirmed (changes picture (ack answer)) pace.settling pace.doubtful sure
+event_stays_sure pace now sure awaited picture (Message (serial digits)) =
+    other (is_unasked awaited (answered_kind (serial digits))) pace.pardons pace.confirmed
+    (changes picture (serial digits)) pace.settling pace.doubtful sure
+event_stays_sure pace now sure awaited picture (Message (version main sub)) =
+    other (is_unasked awaited (answered_kind (version main sub))) pace.pardons pace.confirmed
+    (changes picture (version main sub)) pace.settling pace.doubtful sure
+event_stays_sure pace now sure awaited picture (Message (carried own body)) =
+    other (is_unasked awaited (answered_kind (carried own body))) pace.pardons pace.confirmed
+    (changes picture (carried own body)) pace.settling pace.doubtful sure
+event_stays_sure pace now sure awaited picture (Refused code WrongSize) = refl
+event_stays_sure pace now sure awaited picture (Refused code (BadPiece at)) = refl
+event_stays_sure pace now sure awaited picture (Refused code (BadSquare at)) = refl
+event_stays_sure pace now sure awaited picture (Refused code (BadReading at)) =
+    unread pace.confirmed pace.doubtful sure
+event_stays_sure pace now sure awaited picture (Cut have) = refl
+event_stays_sure pace now sure awaited picture BadLength = refl
+event_stays_sure pace now sure awaited picture (Stray byte) = refl
+
+asked_sure : (confirmed doubtful owed : Bool) → not (confirmed && doubtful) ≡ true
+    → not ((confirmed && not owed) && (doubtful || owed)) ≡ true
+asked_sure false doubtful owed e = refl
+asked_sure true false false e = refl
+asked_sure true false true e = refl
+asked_sure true true owed e = cc
+
+asking_stays_sure : (what : Asking) (pace : PaceView) (now : ℕ) → is_sure pace ≡ true
+    → is_sure (pace_after_asking what pace now) ≡ true
+asking_stays_sure Asking.Nothing pace now sure = asked_sure pace.confirmed pace.doubtful (is_overdue pace now) sure
+asking_stays_sure Asking.Identify pace now sure = sure
+asking_stays_sure Asking.Heartbeat pace now sure = asked_sure pace.confirmed pace.doubtful (is_unanswered pace) sure
+asking_stays_sure Asking.Anew pace now sure = asked_sure pace.confirmed pace.doubtful (is_unanswered pace) sure
+
+pub stays_sure : SureStaysSure
+stays_sure pace now sure =
+    (event_stays_sure pace now sure, λ what. asking_stays_sure what pace now sure)

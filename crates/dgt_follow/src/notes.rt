@@ -1,0 +1,129 @@
+//! What a pace notes of one event.
+
+ghost use Rattle.std.specs.Prelude.{◌≡◌, ◌↔◌, Option, is_some, if◌then◌else◌, ◌&&◌, ◌||◌, not, List, Some, IsTrue};
+ghost use Rattle.dgt_values.specs.declared.kinds.Kind.{Kind};
+ghost use Rattle.dgt_values.specs.declared.pieces.Piece.{Piece};
+ghost use Rattle.dgt_decode.specs.Feeding.{event_content};
+ghost use Rattle.dgt_host.specs.Confirmed.{changes_by};
+ghost use Rattle.dgt_host.specs.Host.{IsUnasked};
+ghost use Rattle.dgt_follow.specs.Pace.{confirmed_by, disturbs, heard_at, is_answer, serial_by, unreadable_by};
+
+use dgt_host::{Event, Message};
+use dgt_message::{BodyFault, serial_bytes};
+
+/// What a host said of an event: whether it was a message that wasn't asked for, whether it changed
+/// a picture that was known, and whether one was known before it.
+#[derive(Clone, Copy, Debug)]
+pub(crate) struct Seen {
+    pub(crate) unasked: bool,
+    pub(crate) changed: bool,
+    pub(crate) known: bool,
+}
+
+/// Whether an event is one that a sound line and board don't send. `pardons` says whether a message
+/// may come unasked.
+pub(crate) fn is_disturbance(event: &Event<'_>, seen: Seen, pardons: bool) -> bool
+    ensures { (awaited : List Kind) (picture : Option (List Piece)) →
+        (IsTrue seen.unasked ↔ IsUnasked awaited (Some (event_content event.now))) →
+        seen.changed ≡ changes_by picture (Some (event_content event.now)) →
+        result ≡ disturbs pardons awaited picture (event_content event.now) }
+{
+    match event {
+        Event::Message(Message::Dump(_)) => seen.unasked && !pardons || seen.changed,
+        Event::Message(_) => seen.unasked && !pardons,
+        Event::Refused {
+            fault: BodyFault::BadReading { .. },
+            ..
+        } => false,
+        _ => true,
+    }
+}
+
+/// Whether the picture is confirmed after an event, if it was or wasn't before it. `settling` says
+/// whether no dump has come since the last new beginning.
+pub(crate) fn is_confirmed(confirmed: bool, settling: bool, event: &Event<'_>, seen: Seen) -> bool
+    ensures { (awaited : List Kind) (picture : Option (List Piece)) →
+        (IsTrue seen.unasked ↔ IsUnasked awaited (Some (event_content event.now))) →
+        seen.changed ≡ changes_by picture (Some (event_content event.now)) →
+        seen.known ≡ is_some picture →
+        result ≡ confirmed_by confirmed settling awaited picture (event_content event.now) }
+{
+    match event {
+        Event::Message(Message::Dump(_)) => {
+            !seen.unasked && seen.known && !seen.changed && (confirmed || !settling)
+        }
+        Event::Message(_) => !seen.unasked && confirmed && !seen.changed,
+        Event::Refused {
+            fault: BodyFault::BadReading { .. },
+            ..
+        } => confirmed,
+        _ => false,
+    }
+}
+
+/// When the picture last changed, after an event.
+pub(crate) fn last_changed(before: Option<u64>, now: u64, changed: bool) -> Option<u64>
+    ensures { result ≡ (if changed then Some now else before) }
+{
+    if changed { Some(now) } else { before }
+}
+
+/// Whether an event is a dump that was awaited.
+pub(crate) fn is_awaited_dump(event: &Event<'_>, unasked: bool) -> bool
+    ensures { (awaited : List Kind) →
+        (IsTrue unasked ↔ IsUnasked awaited (Some (event_content event.now))) →
+        result ≡ is_answer awaited (event_content event.now) }
+{
+    match event {
+        Event::Message(Message::Dump(_)) => !unasked,
+        _ => false,
+    }
+}
+
+/// The first or the second.
+pub(crate) fn either(first: bool, second: bool) -> bool
+    ensures { result ≡ (first || second) }
+{
+    first || second
+}
+
+/// The first, and not the second.
+pub(crate) fn unless(first: bool, second: bool) -> bool
+    ensures { result ≡ (first && not second) }
+{
+    first && !second
+}
+
+/// When the last whole message came, after an event, if this was so before it.
+pub(crate) fn last_heard(before: Option<u64>, now: u64, event: &Event<'_>) -> Option<u64>
+    ensures { result ≡ heard_at before now (event_content event.now) }
+{
+    match event {
+        Event::Message(_) => Some(now),
+        _ => before,
+    }
+}
+
+/// The serial number that was reported last, after an event.
+pub(crate) fn last_serial(before: Option<[u8; 5]>, event: &Event<'_>) -> Option<[u8; 5]>
+    ensures { result ≡ serial_by before (event_content event.now) }
+{
+    match event {
+        Event::Message(Message::Serial(digits)) => Some(serial_bytes(digits)),
+        _ => before,
+    }
+}
+
+/// Whether the clock was unreadable when it was last reported, after an event.
+pub(crate) fn is_unreadable(before: bool, event: &Event<'_>) -> bool
+    ensures { result ≡ unreadable_by before (event_content event.now) }
+{
+    match event {
+        Event::Message(Message::Times(_) | Message::NoClock(_)) => false,
+        Event::Refused {
+            fault: BodyFault::BadReading { .. },
+            ..
+        } => true,
+        _ => before,
+    }
+}
