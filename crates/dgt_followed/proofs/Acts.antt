@@ -1,12 +1,12 @@
 -- What a follower writes when it asks is acts of a faulty world.
-use Rattle.std.proofs.Common.{◌≡◌, ◌<◌, Bool, true, false, not, ◌&&◌, if◌then◌else◌, nat_le, nat_lt, Some, None, Ok, refl, sym, ap, subst, zero, suc, ◌∙◌, ℕ, List, [], ◌∷◌, ◌++◌, append_assoc, append-nil, length, take, drop, rules, arith}
+use Rattle.std.proofs.Common.{◌≡◌, ◌<◌, Bool, true, false, not, ◌&&◌, if◌then◌else◌, nat_lt, Some, None, Ok, refl, sym, ap, subst, zero, suc, ◌∙◌, ℕ, List, [], ◌∷◌, ◌++◌, append_assoc, append-nil, length, take, drop, rules, arith}
 use Rattle.std.proofs.lemmas.List.{length-append, take_at}
 use Rattle.dgt_values.specs.declared.kinds.Kind.{Kind}
 use Rattle.dgt_command.specs.Content.{CommandContent}
 use Rattle.dgt_command.specs.Encoding.{AreBytes, EncodesCommand, command_encoding}
 use Rattle.dgt_follow.specs.declared.asking.Asking.{Asking}
 use Rattle.dgt_follow.specs.declared.asking.UpdateMode.{UpdateMode}
-use Rattle.dgt_follow.specs.Pace.{PaceView, asking, asking_bytes, clock_request, due_time, mode_command, trusts}
+use Rattle.dgt_follow.specs.Pace.{PaceView, asking, asking_bytes, clock_request, is_calm, is_due, mode_command, trusts, wants_serial}
 use Rattle.dgt_follow.specs.Follower.{Asks, FollowerView, asking_of, host_after_asking}
 use Rattle.dgt_host.specs.Host.{HostView, awaits_too_many, host_awaiting, restart_bytes, without_awaited}
 use Rattle.dgt_link.specs.declared.acts.Outcome.{Outcome}
@@ -16,25 +16,38 @@ use Rattle.dgt_followed.specs.Followed.{HasRoom, RunsDone, after_writing, asking
 
 -- ---- a heartbeat is sent only while replies and patience are left
 
-chosen : (due trusted : Bool)
-    → (if not due then Asking.Nothing else if trusted then Asking.Heartbeat else Asking.Anew) ≡ Asking.Heartbeat
+chosen : (due unknown trusted : Bool) → (if not due then Asking.Nothing
+    else if unknown then Asking.Identify else if trusted then Asking.Heartbeat else Asking.Anew) ≡ Asking.Heartbeat
     → trusted ≡ true
-chosen true true e = refl
-chosen true false e = cc
-chosen false trusted e = cc
+chosen true false true e = refl
+chosen true false false e = cc
+chosen true true trusted e = cc
+chosen false unknown trusted e = cc
 
-all_hold : (x y full some : Bool) → ((x && (y && not full)) && some) ≡ true → (full ≡ false) × (some ≡ true)
-all_hold true true false true e = (refl, refl)
-all_hold true true false false e = cc
-all_hold true true true some e = cc
-all_hold true false full some e = cc
-all_hold false y full some e = cc
+identified : (due unknown trusted : Bool) → (if not due then Asking.Nothing
+    else if unknown then Asking.Identify else if trusted then Asking.Heartbeat else Asking.Anew) ≡ Asking.Identify
+    → unknown ≡ true
+identified true true trusted e = refl
+identified true false true e = cc
+identified true false false e = cc
+identified false unknown trusted e = cc
+
+both_hold : (calm full some : Bool) → (calm && (not full && some)) ≡ true → (full ≡ false) × (some ≡ true)
+both_hold true false true e = (refl, refl)
+both_hold true false false e = cc
+both_hold true true some e = cc
+both_hold false full some e = cc
+
+not_full : (unknown full : Bool) → (unknown && not full) ≡ true → full ≡ false
+not_full true false e = refl
+not_full true true e = cc
+not_full false full e = cc
 
 heartbeat_holds : (pace : PaceView) (full : Bool) (now : ℕ) → asking pace full now ≡ Asking.Heartbeat
     → (full ≡ false) × (nat_lt 0 pace.left ≡ true)
 heartbeat_holds pace full now e =
-    all_hold _ (not pace.disturbed) full (nat_lt 0 pace.left)
-    (chosen (nat_le (due_time pace) now) (trusts pace full) e)
+    both_hold (is_calm pace) full (nat_lt 0 pace.left)
+    (chosen (is_due pace now) (wants_serial pace && not full) (trusts pace full) e)
 
 pub heartbeat_is_free : (pace : PaceView) (full : Bool) (now : ℕ) → asking pace full now ≡ Asking.Heartbeat
     → full ≡ false
@@ -44,6 +57,12 @@ pub heartbeat_is_left : (pace : PaceView) (full : Bool) (now : ℕ) → asking p
     → 0 < pace.left
 heartbeat_is_left pace full now e =
     let some : nat_lt 0 pace.left ≡ true = (heartbeat_holds pace full now e).1 in search rules
+
+identify_is_free : (pace : PaceView) (full : Bool) (now : ℕ) → asking pace full now ≡ Asking.Identify
+    → full ≡ false
+identify_is_free pace full now e =
+    not_full (wants_serial pace) full
+    (identified (is_due pace now) (wants_serial pace && not full) (trusts pace full) e)
 
 -- ---- one act
 
@@ -96,6 +115,17 @@ dump_done world few room =
     record {
       answers = rw (few, free) refl;
       leaves = (record { are_bytes = one_byte 0x42 (search rules); encoded = refl }, refl);
+    }
+
+serial_done : (world : WorldView) → awaits_too_many world.host (Some Kind.Serial) ≡ false
+    → HasRoom world.down (command_encoding CommandContent.Serial)
+    → FaultyStep (sends CommandContent.Serial) world Outcome.Done
+    (after_writing world (host_awaiting world.host (Some Kind.Serial)) (command_encoding CommandContent.Serial))
+serial_done world few room =
+    let free = fits world.down (command_encoding CommandContent.Serial) room in
+    record {
+      answers = rw (few, free) refl;
+      leaves = (record { are_bytes = one_byte 0x45 (search rules); encoded = refl }, refl);
     }
 
 clock_done : (world : WorldView) → HasRoom world.down (command_encoding CommandContent.Clock)
@@ -172,11 +202,13 @@ acts_and_reading mode one two first next world second third host step later is r
 
 acts_done : (mode : UpdateMode) (what : Asking) (world : WorldView)
     → (what ≡ Asking.Heartbeat → awaits_too_many world.host (Some Kind.Dump) ≡ false)
+    → (what ≡ Asking.Identify → awaits_too_many world.host (Some Kind.Serial) ≡ false)
     → HasRoom world.down (asking_bytes mode what)
     → RunsDone (asking_acts mode what) world (after_acts mode what world)
-acts_done mode Asking.Nothing world few room =
+acts_done mode Asking.Nothing world few free room =
     ap (λ (bytes : List ℕ). record world { down = record world.down { bytes = bytes } }) (append-nil world.down.bytes)
-acts_done mode Asking.Heartbeat world few room =
+acts_done mode Asking.Identify world few free room = (_, serial_done world (free refl) room, refl)
+acts_done mode Asking.Heartbeat world few free room =
     let first = command_encoding (mode_command mode) in
     let next = command_encoding CommandContent.Dump in
     let last = clock_request mode in
@@ -185,7 +217,7 @@ acts_done mode Asking.Heartbeat world few room =
     (host_awaiting world.host (Some Kind.Dump))
     (mode_done mode world (room_first world.down first next last room))
     (dump_done between (few refl) (room_next world.down first next last room)) refl room
-acts_done mode Asking.Anew world few room =
+acts_done mode Asking.Anew world few free room =
     let next = command_encoding (mode_command mode) in
     let last = clock_request mode in
     let host : HostView = host_awaiting (without_awaited world.host) (Some Kind.Dump) in
@@ -209,7 +241,8 @@ asking_is_acts follower after now written old new world asked same room =
     let what = asking_of follower now in
     let bytes = asking_bytes mode what in
     let done = acts_done mode what world
-    (λ is. rw same (heartbeat_is_free follower.pace (awaits_too_many follower.host (Some Kind.Dump)) now is)) room in
+    (λ is. rw same (heartbeat_is_free follower.pace (awaits_too_many follower.host (Some Kind.Dump)) now is))
+    (λ is. rw same (identify_is_free follower.pace (awaits_too_many follower.host (Some Kind.Dump)) now is)) room in
     let host : host_after_asking what world.host ≡ after.host
     = ap (host_after_asking what) same ∙ sym asked.0.1 in
     let prefix : bytes ≡ take written new = sym (prefix_of bytes old new written asked.0.0.0 asked.0.0.2) in

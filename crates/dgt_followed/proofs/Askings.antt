@@ -25,6 +25,7 @@ one_more since left patience some few = omega (arith, some, few)
 left_after : (what : Asking) (now : ℕ) (before after : PaceView) → after ≡ pace_after_asking what before now
     → before.left ≤ before.patience → after.left ≤ after.patience
 left_after Asking.Nothing now before after e few = rw e few
+left_after Asking.Identify now before after e few = rw e few
 left_after Asking.Heartbeat now before after e few = rw e (omega (arith, few))
 left_after Asking.Anew now before after e few = rw e (omega arith)
 

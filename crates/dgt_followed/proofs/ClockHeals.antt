@@ -1,12 +1,12 @@
 -- Askings after the last fault heal the clock, in the modes that report it: the patience and one more.
-use Rattle.std.proofs.Common.{◌≡◌, inl, inr, ◌+◌, false, Some, refl, ℕ, List, [], ◌∷◌, arith}
+use Rattle.std.proofs.Common.{◌≡◌, inl, inr, ◌+◌, false, Some, refl, ap, ℕ, List, [], ◌∷◌, arith}
 use Rattle.std.specs.Prelude.{IsTrue}
 use Rattle.dgt_command.specs.Content.{CommandContent}
 use Rattle.dgt_board.specs.declared.modes.Mode.{Mode}
 use Rattle.dgt_board.specs.State.{command_mode, follows_clock}
 use Rattle.dgt_follow.specs.declared.asking.Asking.{Asking}
 use Rattle.dgt_follow.specs.declared.asking.UpdateMode.{UpdateMode}
-use Rattle.dgt_follow.specs.Pace.{pace_after_asking}
+use Rattle.dgt_follow.specs.Pace.{PaceView, pace_after_asking}
 use Rattle.dgt_follow.specs.Follower.{asking_of}
 use Rattle.dgt_link.specs.declared.acts.Outcome.{Outcome}
 use Rattle.dgt_link.specs.Clocks.{AreClockCalm, IsClockFollowing, IsClockPromisedWorld, stops_clock}
@@ -71,6 +71,11 @@ module _
       → after.clock_since ≡ clock_count_after_asking mode what before.clock_since
       → Hopes IsClockPromisedWorld count before → Hope IsClockPromisedWorld count after
   ask_hope mode Asking.Nothing now before after e same pace since hopes = rw (same, pace, since) hopes.hope
+  ask_hope mode Asking.Identify now before after e runs pace since hopes =
+      other_hope IsClockPromisedWorld count false before after (ap (λ (p : PaceView). p.patience) pace)
+      (ap (λ (p : PaceView). p.left) pace) since
+      (λ e promised. kept_by_all (asking_acts mode Asking.Identify) before.world after.world ((refl, refl), tt) promised
+      runs) hopes
   ask_hope UpdateMode.Squares Asking.Heartbeat now before after e runs pace since hopes =
       inr (rw (pace, since) (omega (arith, hopes.left)))
   ask_hope UpdateMode.Squares Asking.Anew now before after e runs pace since hopes =

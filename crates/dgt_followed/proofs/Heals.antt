@@ -1,8 +1,8 @@
 -- Askings after the last fault heal the picture: the patience and one more.
-use Rattle.std.proofs.Common.{◌≡◌, inl, true, false, refl, ℕ, List, [], ◌∷◌}
+use Rattle.std.proofs.Common.{◌≡◌, inl, true, false, refl, ap, ℕ, List, [], ◌∷◌}
 use Rattle.dgt_follow.specs.declared.asking.Asking.{Asking}
 use Rattle.dgt_follow.specs.declared.asking.UpdateMode.{UpdateMode}
-use Rattle.dgt_follow.specs.Pace.{mode_command, pace_after_asking}
+use Rattle.dgt_follow.specs.Pace.{PaceView, mode_command, pace_after_asking}
 use Rattle.dgt_follow.specs.Follower.{asking_of}
 use Rattle.dgt_link.specs.declared.acts.Outcome.{Outcome}
 use Rattle.dgt_link.specs.Faults.{AreCalm, FaultyContent, FaultyRuns, FaultyStep, begins_anew, is_fault, sends, stops}
@@ -49,6 +49,11 @@ module _
       → after.pace ≡ pace_after_asking what before.pace now → after.since ≡ count_after_asking what before.since
       → Hopes IsPromisedWorld count before → Hope IsPromisedWorld count after
   ask_hope Asking.Nothing now before after e same pace since hopes = rw (same, pace, since) hopes.hope
+  ask_hope Asking.Identify now before after e runs pace since hopes =
+      other_hope IsPromisedWorld count false before after (ap (λ (p : PaceView). p.patience) pace)
+      (ap (λ (p : PaceView). p.left) pace) since
+      (λ e promised. kept_by_all (asking_acts before.pace.mode Asking.Identify) before.world after.world
+      ((refl, refl), tt) hopes.sane promised runs) hopes
   ask_hope Asking.Heartbeat now before after e runs pace since hopes =
       let mode = before.pace.mode in
       heartbeat_hope IsPromisedWorld count now before after e pace since

@@ -23,6 +23,7 @@ reading_acts UpdateMode.ClockChanges = sends CommandContent.Clock ∷ []
 -- the acts that an asking is
 abbrev pub asking_acts : UpdateMode → Asking → List FaultyContent
 asking_acts mode Asking.Nothing = []
+asking_acts mode Asking.Identify = sends CommandContent.Serial ∷ []
 asking_acts mode Asking.Heartbeat =
     sends (mode_command mode) ∷ sends CommandContent.Dump ∷ reading_acts mode
 asking_acts mode Asking.Anew = FaultyContent.Restart ∷ sends (mode_command mode) ∷ reading_acts mode
@@ -72,6 +73,7 @@ count_after act since = if unsettles act then 0 else since
 
 abbrev pub count_after_asking : Asking → ℕ → ℕ
 count_after_asking Asking.Nothing since = since
+count_after_asking Asking.Identify since = since
 count_after_asking _ since = since + 1
 
 -- after it no reading of the clock that was requested before counts
@@ -83,6 +85,7 @@ clock_count_after act since = if unsettles_clock act then 0 else since
 
 abbrev pub clock_count_after_asking : UpdateMode → Asking → ℕ → ℕ
 clock_count_after_asking mode Asking.Nothing since = since
+clock_count_after_asking mode Asking.Identify since = since
 clock_count_after_asking UpdateMode.Squares _ since = 0
 clock_count_after_asking _ _ since = since + 1
 

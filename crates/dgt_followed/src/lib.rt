@@ -30,9 +30,9 @@ ghost use Rattle.dgt_link.specs.declared.acts.Outcome.{Outcome};
 ghost use Rattle.dgt_link.specs.View.{IsQuietWorld, LineContents, WorldView, without_first};
 
 /// What a follower's `ask` writes and leaves are acts of the faulty world of its host, each of them
-/// done: `Host(mode)` and `Host(Dump)`, or `Restart` and `Host(mode)`, or none. In a mode that
-/// reports the clock `Host(Clock)` follows either. The bytes that it wrote follow those in the down
-/// line, if that has room for them.
+/// done: `Host(mode)` and `Host(Dump)`, or `Restart` and `Host(mode)`, or `Host(Serial)`, or none.
+/// In a mode that reports the clock `Host(Clock)` follows either of the first two. The bytes that
+/// it wrote follow those in the down line, if that has room for them.
 pub fn asking_is_acts()
     ensures { (follower after : FollowerView) (now written : ℕ) (old new : List ℕ)
         (world : WorldView) → let what = asking_of follower now in
@@ -116,19 +116,20 @@ pub fn clocks_heal()
     dgt_link::healing::clocks_heal();
 }
 
-/// What the words of the other laws come to. Each asking that is due counts, and nothing but a
+/// What the words of the other laws come to. Each asking for a dump counts, and nothing but a
 /// fault, a break or a reset begins the count anew. An asking in a mode with the clock counts for
 /// the clock, and nothing begins that count anew but what unsettles the clock. Any act may happen
 /// with any outcome that it has, if patience and counts are as said. Steps in a row are runs.
 pub fn askings_count()
     ensures asking { (what : Asking) (since : ℕ) → what ≢ Asking.Nothing →
-        count_after_asking what since ≡ since + 1 }
+        what ≢ Asking.Identify → count_after_asking what since ≡ since + 1 }
+    ensures identify { (since : ℕ) → count_after_asking Asking.Identify since ≡ since }
     ensures other { (act : FaultyContent) → unsettles act ≡ true →
         (is_fault act ≡ true) ⊎ (stops act ≡ true) }
     ensures kept { (act : FaultyContent) (since : ℕ) → is_fault act ≡ false → stops act ≡ false →
         count_after act since ≡ since }
     ensures clock_asking { (mode : UpdateMode) (what : Asking) (since : ℕ) →
-        what ≢ Asking.Nothing → mode ≢ UpdateMode.Squares →
+        what ≢ Asking.Nothing → what ≢ Asking.Identify → mode ≢ UpdateMode.Squares →
         clock_count_after_asking mode what since ≡ since + 1 }
     ensures clock_kept { (act : FaultyContent) (since : ℕ) → is_fault act ≡ false →
         stops_clock act ≡ false → clock_count_after act since ≡ since }
