@@ -386,7 +386,7 @@ void exceptions() {
     CHECK(places == (std::vector<std::size_t>{5, 10, 11}));
     CHECK(lines == (std::vector<std::string>{"field e4 P", "stray 31"}));
     dgt::Follower follower;
-    CHECK(throws<int>([&] { follower.hear(dgt::now(), fields, [] { throw 7; }); }));
+    CHECK(throws<int>([&] { follower.hear(dgt::now(), fields, fail); }) && told == 2);
     dgt::Board board;
     auto refuse = [](const dgt::Message &) { throw 7; };
     CHECK(throws<int>([&] { board.answer(dgt::Bytes{0x4d, 0x45}, refuse); }) && !board.owes());
@@ -419,11 +419,17 @@ void followers() {
     CHECK(follower.ask(zero).size() == 258 && follower.due() == dgt::Milliseconds(1000));
     CHECK(follower.ask(zero).empty() && !follower.placement() && !follower.clock());
     dgt::Board board;
-    int looks = 0;
+    std::vector<std::string> lines;
+    auto keep = [&](const dgt::Event &event, std::size_t place) {
+        auto *version = std::get_if<dgt::Version>(&event);
+        lines.push_back(std::to_string(place) + " " + text(event));
+        CHECK(!version || version->unasked);
+    };
     board.answer(dgt::Bytes{0x42, 0x4d}, [&](const dgt::Message &message) {
-        follower.hear(dgt::Milliseconds(5), message, [&] { looks++; });
+        follower.hear(dgt::Milliseconds(5), message, keep);
     });
-    CHECK(looks == 2 && follower.last_heard() == dgt::Milliseconds(5) && follower.in_doubt());
+    CHECK(lines == (std::vector{"67 dump " + std::string(START), std::string("5 version 1.3")}));
+    CHECK(follower.last_heard() == dgt::Milliseconds(5) && follower.in_doubt());
     CHECK(follower.placement() == START && follower.picture() == dgt::Position::start());
     CHECK(follower.due() == dgt::Milliseconds(250) && follower.heartbeats_left() == 1);
     CHECK(follower.mode() == dgt::Mode::update_board && refuses([&] {
@@ -431,9 +437,12 @@ void followers() {
     }));
     follower.set_mode(dgt::Mode::update_nice);
     CHECK(follower.ask(seconds(1)).size() == DGT_MAX_ASKING);
-    CHECK(follower.hear_one(seconds(1), dgt::Bytes{0x8d, 0}) == 2 && follower.unread() == 2);
-    CHECK(follower.hear_one(seconds(1), dgt::Bytes{10, 1, 2, 3, 4, 5, 6, 9, 1}) == 8);
-    CHECK(follower.clock() == dgt::Clock(dgt::Times{{1, 2, 3}, {4, 5, 6}, 9}));
+    dgt::Heard heard = follower.hear_one(seconds(1), dgt::Bytes{0x8d, 0});
+    CHECK(heard.used == 2 && !heard.event && follower.unread() == 2);
+    heard = follower.hear_one(seconds(1), dgt::Bytes{10, 1, 2, 3, 4, 5, 6, 9, 1});
+    const dgt::Times times{{1, 2, 3}, {4, 5, 6}, 9};
+    CHECK(heard.used == 8 && heard.event && std::get<dgt::Times>(*heard.event) == times);
+    CHECK(follower.clock() == dgt::Clock(times));
     CHECK(hex(follower.send(dgt::Ask::version)) == "4d" && follower.send_leds({}).size() == 2);
     CHECK(refuses([&] { follower.ask(dgt::Milliseconds(-1)); }));
     CHECK(refuses([&] { follower.hear(dgt::Milliseconds(-1), {}); }));
@@ -442,8 +451,41 @@ void followers() {
     follower.line_lost();
     CHECK(!follower.picture() && follower.due() == zero);
     dgt::Follower never(dgt::Milliseconds::max());
-    CHECK(!never.ask(dgt::Milliseconds(1)).empty() && !never.due());
-    CHECK(dgt::now() <= dgt::now() && dgt::now() > zero);
+    CHECK(!never.ask(dgt::Milliseconds(1)).empty() && never.due() == dgt::Milliseconds(1001));
+    board.answer(dgt::Bytes{0x42}, [&](const dgt::Message &dump) { never.hear(zero, dump); });
+    CHECK(!never.due() && dgt::now() <= dgt::now() && dgt::now() > zero);
+}
+
+/// How many bytes a follower asks at this time, which a board answers.
+std::size_t ask(dgt::Follower &follower, dgt::Board &board, dgt::Milliseconds now) {
+    dgt::Commands asked = follower.ask(now);
+    board.answer(asked, [&](const dgt::Message &message) { follower.hear(now, message); });
+    return asked.size();
+}
+
+void confirmations() {
+    using std::chrono::seconds;
+    dgt::Follower follower;
+    dgt::Board board;
+    follower.set_confirm(true);
+    follower.set_identify(true);
+    CHECK(ask(follower, board, seconds(0)) == 258 && !follower.confirmed() && !follower.serial());
+    CHECK(ask(follower, board, seconds(0)) == 1); // the command 45
+    CHECK(follower.serial() == (std::array<std::uint8_t, 5>{'0', '0', '0', '0', '1'}));
+    CHECK(follower.due() == seconds(1) && ask(follower, board, seconds(1)) == 2);
+    CHECK(follower.confirmed() && follower.due() == seconds(11));
+    follower.ask_now();
+    CHECK(follower.due() == seconds(0) && ask(follower, board, seconds(2)) == 2);
+    CHECK(follower.confirmed() && follower.due() == seconds(12));
+    board.change(dgt::Square("e2"), dgt::Piece::none);
+    board.answer({}, [&](const dgt::Message &message) { follower.hear(seconds(3), message); });
+    CHECK(!follower.confirmed() && !follower.in_doubt() && follower.due() == seconds(4));
+    follower.set_confirm(false);
+    CHECK(follower.due() == seconds(12));
+    follower.line_lost();
+    follower.set_identify(false);
+    CHECK(ask(follower, board, seconds(5)) == 258 && ask(follower, board, seconds(5)) == 0);
+    CHECK(!follower.serial());
 }
 
 void boards() {
@@ -526,9 +568,9 @@ void ports() {
         CHECK(read(line, bytes, sizeof bytes) == 1 && bytes[0] == 0x44);
         CHECK(port.read(dgt::now()).empty() && write(line, "abc", 3) == 3);
         CHECK(hex(port.read<2>()) == "6162" && hex(port.read()) == "63");
-        dgt::Follower follower(dgt::Milliseconds(200));
-        dgt::Milliseconds start = dgt::now();
-        CHECK(port.exchange(follower).empty() && dgt::now() - start >= dgt::Milliseconds(199));
+        dgt::Follower follower;
+        dgt::Milliseconds start = dgt::now(); // an answer is overdue after a second
+        CHECK(port.exchange(follower).empty() && dgt::now() - start >= dgt::Milliseconds(999));
         CHECK(read(line, bytes, sizeof bytes) == 258 && port.descriptor() >= 0);
     }
     dgt::Port again(name), other = std::move(again);
@@ -549,6 +591,7 @@ int main(int count, char **words) {
     exceptions();
     decoders();
     followers();
+    confirmations();
     boards();
     views();
     ports();

@@ -8,14 +8,17 @@
  * none), 64 0 after each move and 64 1 after each game. HOST is one of these:
  *
  *     follower     a follower with a period of 10 s and a patience of 6
- *     clock        the same in the mode UPDATE_NICE, at a board whose clock goes
- *     heartbeats   the same, but each new beginning is cut to the 2 bytes of a heartbeat
+ *     confirming   the same, which confirms
+ *     clock        a follower in the mode UPDATE_NICE, at a board whose clock goes
+ *     update       the same in the mode UPDATE
+ *     old          a host by the rules that followers had before: see ask_old
+ *     heartbeats   a follower whose new beginnings are cut to the 2 bytes of a heartbeat
  *     at-faults    a host that begins anew at each fault that it notices
  *     once         a host that asks once, at the start
  *
- * It prints a line for each row of faults, of HOURS hours, and one for RUNS runs. In these the
- * faults stop and the picture has to become right, and the clock with it if the host is `clock`.
- * Times are in 24ths of a millisecond. */
+ * It prints a line for each row of faults: of HOURS hours, or of a quarter of them if the row has a
+ * trouble. The last line is of RUNS runs. In these the faults stop and the picture has to become
+ * right, and the clock with it if the mode reports it. Times are in 24ths of a millisecond. */
 #include "dgt.h"
 
 #include <stdio.h>
@@ -55,8 +58,10 @@ static struct {
     uint64_t time;
     uint64_t wrong, silent;  /* how long the picture was wrong or unknown; and not in doubt */
     uint64_t doubtful;       /* how long it was in doubt or unknown */
+    uint64_t unconfirmed;    /* how long it was neither that nor confirmed */
+    uint64_t misled;         /* how long it was wrong and confirmed */
     uint64_t asked, dumps;   /* bytes of askings, and of dumps */
-    uint64_t faults, losses; /* how often a byte had a fault, and the power was lost */
+    uint64_t faults, losses; /* how often there was a fault, and the power was lost */
 } tally;
 
 static uint64_t times[MOST_TIMES]; /* how long the picture stayed wrong, or until it was right */
@@ -92,6 +97,7 @@ typedef struct line {
     uint64_t due;  /* when the first of them arrives */
     uint64_t rate; /* one byte of `rate` has a fault; 0: none has */
     uint64_t chance;
+    bool is_cut; /* each byte is lost */
 } line;
 
 static void put(line *to, uint64_t now, const uint8_t *bytes, size_t n) {
@@ -107,6 +113,7 @@ static size_t carry(line *from, uint8_t out[2]) {
     from->from = (from->from + 1) % LINE_ROOM;
     from->count--;
     from->due += BYTE_TIME;
+    if (from->is_cut) return 0;
     if (from->rate == 0 || below(&from->chance, from->rate) > 0) return 1;
     tally.faults++;
     switch (below(&from->chance, 4)) {
@@ -126,9 +133,27 @@ static size_t carry(line *from, uint8_t out[2]) {
 
 /* ---- The world. */
 
-enum { FOLLOWER, CLOCK, HEARTBEATS, AT_FAULTS, ONCE, HOSTS };
-static const char *const host_names[HOSTS] = {"follower", "clock", "heartbeats", "at-faults",
-                                              "once"};
+enum { FOLLOWER, CONFIRMING, CLOCK, UPDATE, HEARTBEATS, OLD, AT_FAULTS, ONCE, HOSTS };
+static const char *const host_names[HOSTS] = {"follower", "confirming", "clock", "update",
+                                              "heartbeats", "old", "at-faults", "once"};
+
+/* The trouble of a row, beside the faults of its lines and its losses of power. */
+enum {
+    NOTHING,
+    DUMPS,   /* one dump in ten comes with another piece */
+    MODES,   /* the board takes each mode command for a reset, and reports no change */
+    ASKINGS, /* the second byte of each asking is lost */
+    FIELDS,  /* one field message in 50 comes with another piece, or is lost */
+    MUTE,    /* what the board sends is lost for 20 to 90 s in each ten minutes */
+    GAPS     /* each byte is lost for two seconds in each two minutes */
+};
+
+/* What the host `old` counts and notes. */
+typedef struct old_pace {
+    bool has_asked, is_answered, is_disturbed, is_doubtful;
+    uint64_t asked; /* when, in milliseconds */
+    unsigned left;  /* how many heartbeats may still follow one another */
+} old_pace;
 
 static struct {
     int kind;
@@ -141,9 +166,13 @@ static struct {
     bool is_off;
     uint64_t power_due, power_chance; /* when the power goes or comes */
     uint64_t clock_due;               /* when the board's clock shows another time */
+    int trouble;
+    uint64_t trouble_chance;
+    uint64_t gap_due, window; /* when a gap begins or ends, and when the next one's window begins */
 
     dgt_follower follower;
     dgt_host host;
+    old_pace old;
     bool has_to_ask; /* the host has noticed a fault, or has never asked */
     uint64_t askings;
 
@@ -153,55 +182,115 @@ static struct {
 
     uint8_t pieces[64], earlier[64]; /* where the pieces stand, and stood before the last change */
     uint64_t changed;
-    bool is_measured, is_wrong, is_doubtful;
+    bool is_measured, is_wrong, is_doubtful, is_confirmed;
     uint64_t began; /* when it became wrong */
 
     bool has_stopped, is_unhealed; /* the faults have stopped; the picture is still wrong */
     uint64_t needed, healed;       /* after how many askings since then it was right, and when */
 } world;
 
-static bool is_follower(void) {
-    return world.kind == FOLLOWER || world.kind == CLOCK || world.kind == HEARTBEATS;
-}
+static bool is_follower(void) { return world.kind <= HEARTBEATS; }
+
+static bool has_clock(void) { return world.kind == CLOCK || world.kind == UPDATE; }
 
 /* ---- The host. */
 
-/* When it asks next, if nothing else happens. */
+static uint64_t old_due(void) {
+    uint64_t wait = world.old.is_disturbed ? PERIOD / 4 : PERIOD;
+    return world.old.has_asked ? (world.old.asked + wait) * MILLISECOND : 0;
+}
+
+/* When it asks next, or a follower is in doubt from then on, if nothing else happens. */
 static uint64_t ask_due(void) {
     uint64_t due;
+    if (world.kind == OLD) return old_due();
     if (!is_follower()) return world.has_to_ask && world.down.count == 0 ? world.now : NEVER;
     return dgt_follower_due_at(&world.follower, &due) ? due * MILLISECOND : NEVER;
 }
 
-static void ask_follower(void) {
-    uint8_t out[DGT_MAX_ASKING];
-    bool is_due = ask_due() <= world.now;
-    dgt_sent sent = dgt_follower_ask(&world.follower, world.now / MILLISECOND, out, sizeof out);
-    check(sent.status == DGT_SENT, "an asking has no room");
-    check((sent.bytes > 0) == is_due, "what is due isn't asked, or what isn't is");
-    if (!is_due) return;
-    size_t cut = world.kind == HEARTBEATS && sent.bytes > 2 ? sent.bytes - 3 : 0;
-    size_t count = cut > 0 ? 2 : sent.bytes;
-    put(&world.down, world.now, out + cut, count);
+static void send_asking(uint8_t *asking, size_t n) {
     world.askings++;
-    tally.asked += count;
+    tally.asked += n;
+    if (world.trouble == ASKINGS) {
+        memmove(asking + 1, asking + 2, n - 2);
+        n--;
+        tally.faults++;
+    }
+    put(&world.down, world.now, asking, n);
 }
 
-/* Asks if that is due: a host that begins anew waits until its last asking is sent. */
-static void ask(void) {
-    if (is_follower()) {
-        ask_follower();
-        return;
-    }
-    if (!world.has_to_ask || world.down.count > 0) return;
-    uint8_t out[DGT_RESTART_LENGTH];
+static void ask_follower(void) {
+    uint8_t out[DGT_MAX_ASKING];
+    bool is_due = ask_due() <= world.now, was_doubtful = dgt_follower_in_doubt(&world.follower);
+    dgt_sent sent = dgt_follower_ask(&world.follower, world.now / MILLISECOND, out, sizeof out);
+    check(sent.status == DGT_SENT, "an asking has no room");
+    bool begins_doubt = !was_doubtful && dgt_follower_in_doubt(&world.follower);
+    check((sent.bytes > 0 || begins_doubt) == is_due, "what is due isn't done, or what isn't is");
+    if (sent.bytes == 0) return;
+    size_t cut = world.kind == HEARTBEATS && sent.bytes > 2 ? sent.bytes - 3 : 0;
+    send_asking(out + cut, cut > 0 ? 2 : sent.bytes);
+}
+
+static void begin_anew(uint8_t *out, size_t room) {
     dgt_host_give_up_awaited(&world.host);
-    dgt_sent sent = dgt_host_restart(&world.host, out, sizeof out);
-    check(sent.status == DGT_SENT, "a restart is refused");
-    put(&world.down, world.now, out, sent.bytes);
-    world.askings++;
-    tally.asked += sent.bytes;
+    dgt_sent sent = dgt_host_restart(&world.host, out, room);
+    check(sent.status == DGT_SENT && sent.bytes == DGT_RESTART_LENGTH, "a restart is refused");
+}
+
+/* A host that begins anew when it notices a fault. It waits until its last asking is sent. */
+static void ask_at_fault(void) {
+    uint8_t out[DGT_RESTART_LENGTH];
+    begin_anew(out, sizeof out);
+    send_asking(out, sizeof out);
     world.has_to_ask = false;
+}
+
+/* A follower's rules before it compared dumps, doubted late answers and confirmed. It asks once a
+ * period, and a quarter after the last asking if something disturbed since. A heartbeat is enough
+ * if the last asking was answered, nothing disturbed since, fewer than 16 replies are awaited and
+ * the patience has not run out. */
+static void ask_old(void) {
+    uint8_t out[DGT_MAX_ASKING], codes[DGT_MAX_AWAITED];
+    old_pace *old = &world.old;
+    bool is_calm = old->is_answered && !old->is_disturbed && old->left > 0 &&
+                   dgt_host_awaited(&world.host, codes) < DGT_MAX_AWAITED;
+    size_t count = 2;
+    if (is_calm) {
+        check(dgt_host_follow(&world.host, out, sizeof out).bytes == count, "no heartbeat");
+        old->left--;
+    } else {
+        begin_anew(out, sizeof out);
+        count = DGT_RESTART_LENGTH;
+        out[count++] = DGT_SEND_UPDATE_BOARD;
+        old->left = PATIENCE;
+    }
+    if (old->has_asked && !old->is_answered) old->is_doubtful = true;
+    old->has_asked = true;
+    old->is_answered = old->is_disturbed = false;
+    old->asked = world.now / MILLISECOND;
+    send_asking(out, count);
+}
+
+/* It believes each dump. One that was awaited ends its doubt. */
+static void note_old(const dgt_event *event) {
+    old_pace *old = &world.old;
+    if (event->kind >= DGT_EVENT_REFUSED || event->unasked) {
+        old->is_disturbed = old->is_doubtful = true;
+    } else if (event->kind == DGT_EVENT_DUMP) {
+        old->is_answered = true;
+        old->is_doubtful = false;
+    }
+}
+
+static void ask(void) {
+    if (is_follower())
+        ask_follower();
+    else if (ask_due() > world.now)
+        return;
+    else if (world.kind == OLD)
+        ask_old();
+    else
+        ask_at_fault();
 }
 
 static void hear(const uint8_t *bytes, size_t n) {
@@ -214,6 +303,7 @@ static void hear(const uint8_t *bytes, size_t n) {
         at += dgt_host_hear(&world.host, bytes + at, n - at, &event, world.inbox, 0);
         bool is_fault = event.kind >= DGT_EVENT_REFUSED || event.unasked;
         if (is_fault && world.kind == AT_FAULTS) world.has_to_ask = true;
+        if (world.kind == OLD) note_old(&event);
     }
 }
 
@@ -226,7 +316,7 @@ static bool read_picture(uint8_t shown[64]) {
 /* Whether the host knows what the board's clock shows, if its mode reports that. */
 static bool is_clock_right(void) {
     dgt_clock heard, shown; /* bytes alone, with none between */
-    if (world.kind != CLOCK) return true;
+    if (!has_clock()) return true;
     dgt_follower_clock(&world.follower, &heard);
     dgt_board_clock(&world.board, &shown);
     return !memcmp(&heard, &shown, sizeof heard);
@@ -247,6 +337,21 @@ static void send_leds(void) {
 
 /* ---- The board, and the hands at it. */
 
+/* Makes of a message of the board what the row's trouble makes of it: another piece in it, or
+ * nothing. Returns how many bytes it has then. */
+static size_t spoil(uint8_t *message, size_t n) {
+    bool is_field = message[0] == 0x8e;
+    size_t at = n - 1;
+    if (world.trouble == DUMPS && n == DGT_MAX_SENT && below(&world.trouble_chance, 10) == 0)
+        at = 3 + below(&world.trouble_chance, 64);
+    else if (world.trouble != FIELDS || !is_field || below(&world.trouble_chance, 50) > 0)
+        return n;
+    tally.faults++;
+    if (is_field && below(&world.trouble_chance, 2) == 0) return 0;
+    message[at] = (uint8_t)((message[at] + 1 + below(&world.trouble_chance, 12)) % 13);
+    return n;
+}
+
 /* The board takes what it can, and sends its next message once the last one is sent. */
 static void serve(void) {
     uint8_t out[DGT_MAX_SENT], word[1];
@@ -259,18 +364,27 @@ static void serve(void) {
         world.waiting -= taken.used;
         memmove(world.inbox, world.inbox + taken.used, world.waiting);
     }
-    if (world.up.count > 0) return;
-    dgt_polled polled = dgt_board_poll(&world.board, out, sizeof out);
-    if (polled.status != DGT_WROTE) return;
-    put(&world.up, world.now, out, polled.bytes);
-    if (polled.bytes == DGT_MAX_SENT) tally.dumps += polled.bytes;
+    while (world.up.count == 0) {
+        dgt_polled polled = dgt_board_poll(&world.board, out, sizeof out);
+        if (polled.status != DGT_WROTE) return;
+        if (polled.bytes == DGT_MAX_SENT) tally.dumps += polled.bytes;
+        put(&world.up, world.now, out, spoil(out, polled.bytes));
+    }
+}
+
+/* What the board makes of a byte: in MODES it takes each mode command for a reset. */
+static uint8_t misread(uint8_t byte) {
+    bool is_mode = byte == DGT_SEND_UPDATE || byte == DGT_SEND_UPDATE_BOARD ||
+                   byte == DGT_SEND_UPDATE_NICE;
+    if (world.trouble != MODES || !is_mode) return byte;
+    tally.faults++;
+    return DGT_SEND_RESET;
 }
 
 static void give_board(const uint8_t *bytes, size_t n) {
     if (world.is_off) return;
     check(world.waiting + n <= sizeof world.inbox, "the board has too much to take");
-    memcpy(world.inbox + world.waiting, bytes, n);
-    world.waiting += n;
+    for (size_t i = 0; i < n; i++) world.inbox[world.waiting++] = misread(bytes[i]);
 }
 
 /* When the power is lost next, if that happens once in `mean` seconds; never if that is 0. */
@@ -292,6 +406,28 @@ static void switch_power(uint64_t mean) {
     }
     dgt_board_line_lost(&world.board);
     world.power_due = next_loss(mean);
+}
+
+/* When the gap of the next window begins: it ends within that. */
+static void await_gap(void) {
+    bool is_mute = world.trouble == MUTE;
+    uint64_t window = (is_mute ? 600 : 120) * SECOND, longest = (is_mute ? 90 : 2) * SECOND;
+    world.gap_due = world.window + below(&world.trouble_chance, window - longest);
+    world.window += window;
+}
+
+/* A gap begins or ends: of both lines, or for MUTE of the board's line alone. */
+static void switch_gap(void) {
+    bool is_mute = world.trouble == MUTE;
+    world.up.is_cut = !world.up.is_cut;
+    world.down.is_cut = world.up.is_cut && !is_mute;
+    if (!world.up.is_cut) {
+        await_gap();
+        return;
+    }
+    tally.faults++;
+    world.gap_due += (is_mute ? 20 : 2) * SECOND;
+    if (is_mute) world.gap_due += below(&world.trouble_chance, 70 * SECOND);
 }
 
 /* The clock shows the next second, from 9:59:59 on. */
@@ -359,6 +495,7 @@ static void start(int kind, uint64_t seed, uint64_t number) {
     uint64_t chance = seed << 40 ^ number << 8;
     world.up.chance = chance, world.down.chance = chance + 1, world.hand_chance = chance + 2;
     world.power_chance = chance + 3, world.leds_chance = chance + 4;
+    world.trouble_chance = chance + 5;
     check(dgt_board_new(&world.board) && dgt_host_new(&world.host) &&
           dgt_follower_new(&world.follower, PERIOD, PATIENCE), "the library has other sizes");
     memcpy(world.pieces, first_pieces, 64);
@@ -368,10 +505,12 @@ static void start(int kind, uint64_t seed, uint64_t number) {
     dgt_board_line_lost(&world.board);
     memcpy(world.earlier, world.pieces, 64);
     world.has_to_ask = true;
-    world.power_due = NEVER;
+    world.power_due = world.gap_due = NEVER;
     world.hand_due = SECOND;
-    world.clock_due = kind == CLOCK ? SECOND : NEVER;
+    world.clock_due = has_clock() ? SECOND : NEVER;
     if (kind == CLOCK) dgt_follower_set_mode(&world.follower, DGT_MODE_UPDATE_NICE);
+    if (kind == UPDATE) dgt_follower_set_mode(&world.follower, DGT_MODE_UPDATE);
+    if (kind == CONFIRMING) dgt_follower_set_confirm(&world.follower, true);
 }
 
 /* After the faults: notes each time that nothing is under way and something isn't the board's. */
@@ -395,7 +534,10 @@ static void judge(void) {
     bool is_same = is_known && !memcmp(shown, world.pieces, 64);
     bool is_late = is_known && world.now < world.changed + LATE &&
                    !memcmp(shown, world.earlier, 64);
-    world.is_doubtful = !is_known || (is_follower() && dgt_follower_in_doubt(&world.follower));
+    world.is_doubtful = !is_known || world.old.is_doubtful ||
+                        (is_follower() && dgt_follower_in_doubt(&world.follower));
+    world.is_confirmed = is_follower() && dgt_follower_confirmed(&world.follower);
+    check(!world.is_doubtful || !world.is_confirmed, "a doubtful picture is confirmed");
     if (is_same || is_late) {
         end_wrong();
     } else if (!world.is_wrong) {
@@ -410,7 +552,7 @@ static uint64_t least(uint64_t one, uint64_t other) { return one < other ? one :
 /* When something happens next, but not after `end`. */
 static uint64_t next_time(uint64_t end) {
     uint64_t next = least(least(end, world.hand_due), least(world.power_due, ask_due()));
-    next = least(next, world.clock_due);
+    next = least(next, least(world.clock_due, world.gap_due));
     if (world.up.count > 0) next = least(next, world.up.due);
     if (world.down.count > 0) next = least(next, world.down.due);
     if (world.now < world.changed + LATE) next = least(next, world.changed + LATE);
@@ -422,8 +564,10 @@ static void pass(uint64_t time) {
     if (!world.is_measured) return;
     tally.time += time;
     if (world.is_doubtful) tally.doubtful += time;
+    if (!world.is_doubtful && !world.is_confirmed) tally.unconfirmed += time;
     if (world.is_wrong) tally.wrong += time;
     if (world.is_wrong && !world.is_doubtful) tally.silent += time;
+    if (world.is_wrong && world.is_confirmed) tally.misled += time;
 }
 
 /* Plays on until this time. */
@@ -436,6 +580,7 @@ static void play(uint64_t end, uint64_t power_mean) {
         if (world.down.count > 0 && world.down.due == world.now)
             give_board(arrived, carry(&world.down, arrived));
         if (world.power_due == world.now) switch_power(power_mean);
+        if (world.gap_due == world.now) switch_gap();
         if (world.hand_due == world.now) move_pieces();
         if (world.clock_due == world.now) tick();
         ask();
@@ -450,13 +595,21 @@ typedef struct row {
     const char *name;
     uint64_t rate;       /* of the lines */
     uint64_t power_mean; /* in seconds, from one loss of the power to the next */
+    int trouble;
 } row;
 
-static const row rows[] = {{"none", 0, 0},
-                           {"power", 0, 7200},
-                           {"10000", 10000, 7200},
-                           {"1000", 1000, 7200},
-                           {"100", 100, 7200}};
+static const row rows[] = {{"none", 0, 0, NOTHING},
+                           {"power", 0, 7200, NOTHING},
+                           {"10000", 10000, 7200, NOTHING},
+                           {"1000", 1000, 7200, NOTHING},
+                           {"alone", 1000, 0, NOTHING},
+                           {"100", 100, 7200, NOTHING},
+                           {"dumps", 0, 0, DUMPS},
+                           {"modes", 0, 0, MODES},
+                           {"askings", 0, 0, ASKINGS},
+                           {"fields", 0, 0, FIELDS},
+                           {"mute", 0, 0, MUTE},
+                           {"gaps", 0, 0, GAPS}};
 
 static int compare_times(const void *one, const void *other) {
     uint64_t first = *(const uint64_t *)one, second = *(const uint64_t *)other;
@@ -479,6 +632,9 @@ static void play_hour(int kind, uint64_t seed, uint64_t number, const row *of) {
     start(kind, seed, number);
     world.up.rate = world.down.rate = of->rate;
     world.power_due = next_loss(of->power_mean);
+    world.trouble = of->trouble;
+    world.window = SECOND;
+    if (of->trouble == MUTE || of->trouble == GAPS) await_gap();
     play(SECOND, of->power_mean);
     world.is_measured = true;
     play(SECOND + HOUR, of->power_mean);
@@ -486,12 +642,15 @@ static void play_hour(int kind, uint64_t seed, uint64_t number, const row *of) {
 }
 
 static void measure_row(int kind, uint64_t seed, uint64_t hours, const row *of) {
+    uint64_t played = of->trouble == NOTHING ? hours : (hours + 3) / 4;
+    if (hours == 0) return;
     memset(&tally, 0, sizeof tally);
     time_count = 0;
-    for (uint64_t hour = 0; hour < hours; hour++) play_hour(kind, seed, hour, of);
+    for (uint64_t hour = 0; hour < played; hour++) play_hour(kind, seed, hour, of);
     printf("row %s %s", host_names[kind], of->name);
     const uint64_t parts[] = {tally.time, tally.wrong, tally.silent, tally.doubtful,
-                              tally.asked, tally.dumps, tally.faults, tally.losses};
+                              tally.unconfirmed, tally.misled, tally.asked, tally.dumps,
+                              tally.faults, tally.losses};
     for (size_t i = 0; i < sizeof parts / sizeof *parts; i++) print_number(parts[i]);
     print_times();
 }
@@ -541,10 +700,10 @@ static void play_run(int kind, uint64_t seed, uint64_t number) {
     world.healed -= world.healed > 0 ? stop : 0;
 }
 
-/* All became right, and for a follower after at most patience and one more askings. */
+/* All became right, and after patience and one more askings at most if it asks each period. */
 static bool is_healed(void) {
     if (world.is_unhealed) return false;
-    return !is_follower() || (world.askings > PATIENCE && world.needed <= PATIENCE + 1);
+    return world.kind > OLD || (world.askings > PATIENCE && world.needed <= PATIENCE + 1);
 }
 
 static void measure_runs(int kind, uint64_t seed, uint64_t runs) {

@@ -1,5 +1,5 @@
-"""The world of checks/follower_trial.c once more, over the package for Python and with the host
-`follower` alone; and the games that both play.
+"""The world of checks/follower_trial.c once more, over the package for Python and with the hosts
+`follower` and `confirming` alone; and the games that both play.
 
 What is played and what is printed is said there. For the same arguments both print the same, to the
 last digit. So the same acts come in the same order here, and each generator of numbers is asked for
@@ -7,7 +7,7 @@ the same ones. With python/ in PYTHONPATH, the first line writes the file GAMES,
 plays:
 
     python3 checks/follower_trial.py GAMES SEED
-    python3 checks/follower_trial.py GAMES SEED HOURS RUNS
+    python3 checks/follower_trial.py GAMES SEED HOST HOURS RUNS
 """
 
 from __future__ import annotations
@@ -16,6 +16,7 @@ import itertools
 import pathlib
 import random
 import sys
+from typing import NamedTuple
 
 import dgt
 
@@ -27,8 +28,12 @@ PERIOD, PATIENCE = 10, 6
 LATE = SECOND // 10
 LONGEST_WORD, DUMP_LENGTH = 257, 67
 END = 64
-ROWS = [("none", 0, 0), ("power", 0, 7200), ("10000", 10000, 7200),
-        ("1000", 1000, 7200), ("100", 100, 7200)]
+Row = tuple[str, int, int]
+TROUBLES = ["dumps", "modes", "askings", "fields", "mute", "gaps"]
+# Each row by its name, with its rate and the mean of its losses of power.
+ROWS: list[Row] = [("none", 0, 0), ("power", 0, 7200), ("10000", 10000, 7200), ("1000", 1000, 7200),
+                   ("alone", 1000, 0), ("100", 100, 7200), *((name, 0, 0) for name in TROUBLES)]
+FIELD, RESET, MODE_COMMANDS = 0x8E, 0x40, b"\x43\x44\x4B"
 GAMES, MOVES = 32, 80
 LEDS = bytes([0x00, 0x2B, 0x40, 0x42, 0x44, 0x60, 0x05, 0xFF])
 BURST = bytes([0x60, 0xFF, 0x2B, 0x42, 0x86, 0x00, 0x43, 0x8E])
@@ -94,20 +99,22 @@ class Chance:
 class Tally:
     """What is measured of a row."""
 
-    time = wrong = silent = doubtful = asked = dumps = faults = losses = 0
+    time = wrong = silent = doubtful = unconfirmed = misled = 0
+    asked = dumps = faults = losses = 0
 
     def __init__(self) -> None:
         self.times: list[int] = []
 
     def sums(self) -> list[int]:
-        return [self.time, self.wrong, self.silent, self.doubtful, self.asked, self.dumps,
-                self.faults, self.losses]
+        return [self.time, self.wrong, self.silent, self.doubtful, self.unconfirmed, self.misled,
+                self.asked, self.dumps, self.faults, self.losses]
 
 
 class Line:
     def __init__(self, chance: Chance, tally: Tally) -> None:
         self.chance, self.tally, self.held = chance, tally, bytearray()
         self.due = self.rate = 0
+        self.is_cut = False
 
     def put(self, now: int, data: bytes) -> None:
         if not self.held:
@@ -118,6 +125,8 @@ class Line:
         """Takes the byte that has arrived, and returns what the line makes of it."""
         byte, chance = self.held.pop(0), self.chance
         self.due += BYTE_TIME
+        if self.is_cut:
+            return b""
         if not self.rate or chance.below(self.rate):
             return bytes([byte])
         self.tally.faults += 1
@@ -135,22 +144,31 @@ class Line:
 # ---- The world
 
 
+class Play(NamedTuple):
+    """What all worlds of a call have."""
+
+    steps: list[Step]
+    seed: int
+    host: str
+
+
 class World:
-    def __init__(self, steps: list[Step], seed: int, number: int, tally: Tally) -> None:
-        self.steps, self.tally, self.now = steps, tally, 0
-        chances = [Chance((seed << 40 ^ number << 8) + stream) for stream in range(5)]
+    def __init__(self, play: Play, number: int, tally: Tally) -> None:
+        self.steps, self.tally, self.now = play.steps, tally, 0
+        chances = [Chance((play.seed << 40 ^ number << 8) + stream) for stream in range(6)]
         self.up, self.down = Line(chances[0], tally), Line(chances[1], tally)
-        self.hand_chance, self.power_chance, self.leds_chance = chances[2:]
+        self.hand_chance, self.power_chance, self.leds_chance, self.trouble_chance = chances[2:]
         self.first = dgt.Position.start().codes
         self.pieces = bytearray(self.first)
         self.begin_game(True)
         self.earlier, self.changed = bytes(self.pieces), 0
         self.board, self.inbox = dgt.Board(dgt.Position(bytes(self.pieces))), bytearray()
         self.is_off, self.power_due, self.hand_due = False, NEVER, SECOND
-        self.has_leds = self.is_measured = self.is_wrong = self.is_doubtful = False
+        self.trouble, self.gap_due, self.window = "", NEVER, SECOND
+        self.has_leds = self.is_measured = self.is_wrong = False
         self.has_stopped = self.is_unhealed = False
         self.began = self.askings = self.needed = self.healed = 0
-        self.follower = dgt.Follower(PERIOD, PATIENCE)
+        self.follower = dgt.Follower(PERIOD, PATIENCE, confirm=play.host == "confirming")
         self.look()
 
     # The follower
@@ -160,6 +178,7 @@ class World:
         picture, due = self.follower.picture, self.follower.due_at
         self.codes = None if picture is None else picture.codes
         self.is_doubtful = picture is None or self.follower.in_doubt
+        self.is_confirmed = self.follower.confirmed
         self.ask_due = NEVER if due is None else round(due * 1000) * MILLISECOND
 
     def hear(self, data: bytes) -> None:
@@ -169,13 +188,21 @@ class World:
     def ask(self) -> None:
         if self.now < self.ask_due:
             return
+        was_doubtful = self.follower.in_doubt
         asked = self.follower.ask(self.now // MILLISECOND / 1000)
-        if not asked:
-            sys.exit("follower_trial.py: what is due isn't asked")
-        self.down.put(self.now, asked)
-        self.askings += 1
-        self.tally.asked += len(asked)
         self.look()
+        if asked:
+            self.send_asking(asked)
+        elif was_doubtful or not self.follower.in_doubt:
+            sys.exit("follower_trial.py: what is due isn't done")
+
+    def send_asking(self, asking: bytes) -> None:
+        self.askings += 1
+        self.tally.asked += len(asking)
+        if self.trouble == "askings":
+            asking = asking[:1] + asking[2:]
+            self.tally.faults += 1
+        self.down.put(self.now, asking)
 
     def send_leds(self) -> None:
         count = self.leds_chance.below(17)
@@ -193,13 +220,30 @@ class World:
             except dgt.Busy:
                 break
             del self.inbox[:used]
-        if not self.up.held and (message := self.board.poll()):
-            self.up.put(self.now, message)
+        while not self.up.held and (message := self.board.poll()):
             self.tally.dumps += len(message) if len(message) == DUMP_LENGTH else 0
+            self.up.put(self.now, self.spoil(message))
+
+    def spoil(self, message: bytes) -> bytes:
+        """What the row's trouble makes of a message of the board."""
+        chance, is_field, at = self.trouble_chance, message[0] == FIELD, len(message) - 1
+        if self.trouble == "dumps" and len(message) == DUMP_LENGTH and not chance.below(10):
+            at = 3 + chance.below(64)
+        elif self.trouble != "fields" or not is_field or chance.below(50):
+            return message
+        self.tally.faults += 1
+        if is_field and not chance.below(2):
+            return b""
+        piece = (message[at] + 1 + chance.below(12)) % 13
+        return message[:at] + bytes([piece]) + message[at + 1:]
 
     def give_board(self, data: bytes) -> None:
-        if not self.is_off:
-            self.inbox += data
+        if self.is_off:
+            return
+        for byte in data:
+            is_misread = self.trouble == "modes" and byte in MODE_COMMANDS
+            self.tally.faults += is_misread
+            self.inbox.append(RESET if is_misread else byte)
 
     def next_loss(self, mean: int) -> int:
         if not mean:
@@ -219,6 +263,22 @@ class World:
             return
         self.board.line_lost()
         self.power_due = self.next_loss(mean)
+
+    def await_gap(self) -> None:
+        window, longest = (600, 90) if self.trouble == "mute" else (120, 2)
+        self.gap_due = self.window + self.trouble_chance.below((window - longest) * SECOND)
+        self.window += window * SECOND
+
+    def switch_gap(self) -> None:
+        is_mute = self.trouble == "mute"
+        self.up.is_cut = not self.up.is_cut
+        self.down.is_cut = self.up.is_cut and not is_mute
+        if not self.up.is_cut:
+            self.await_gap()
+            return
+        self.tally.faults += 1
+        self.gap_due += (20 if is_mute else 2) * SECOND
+        self.gap_due += self.trouble_chance.below(70 * SECOND) if is_mute else 0
 
     def change(self, square: int, piece: int) -> None:
         self.earlier, self.changed = bytes(self.pieces), self.now
@@ -283,7 +343,7 @@ class World:
             self.judge_healing(is_same)
 
     def next_time(self, end: int) -> int:
-        times = [end, self.hand_due, self.power_due, self.ask_due]
+        times = [end, self.hand_due, self.power_due, self.gap_due, self.ask_due]
         times += [line.due for line in (self.up, self.down) if line.held]
         if self.now < self.changed + LATE:
             times.append(self.changed + LATE)
@@ -291,11 +351,14 @@ class World:
 
     def wait(self, time: int) -> None:
         self.now += time
-        if self.is_measured:
-            self.tally.time += time
-            self.tally.doubtful += time * self.is_doubtful
-            self.tally.wrong += time * self.is_wrong
-            self.tally.silent += time * (self.is_wrong and not self.is_doubtful)
+        if not self.is_measured:
+            return
+        self.tally.time += time
+        self.tally.doubtful += time * self.is_doubtful
+        self.tally.unconfirmed += time * (not self.is_doubtful and not self.is_confirmed)
+        self.tally.wrong += time * self.is_wrong
+        self.tally.silent += time * (self.is_wrong and not self.is_doubtful)
+        self.tally.misled += time * (self.is_wrong and self.is_confirmed)
 
     def play(self, end: int, mean: int) -> None:
         while self.now < end:
@@ -306,6 +369,8 @@ class World:
                 self.give_board(self.down.carry())
             if self.power_due == self.now:
                 self.switch_power(mean)
+            if self.gap_due == self.now:
+                self.switch_gap()
             if self.hand_due == self.now:
                 self.move_pieces()
             self.ask()
@@ -330,9 +395,12 @@ def numbers_of(times: list[int]) -> list[int]:
     return [len(times), times[len(times) // 2], times[-1]] if times else [0, 0, 0]
 
 
-def play_hour(world: World, rate: int, mean: int) -> None:
-    world.up.rate = world.down.rate = rate
+def play_hour(world: World, row: Row) -> None:
+    world.trouble, world.up.rate, mean = row
+    world.down.rate = world.up.rate
     world.power_due = world.next_loss(mean)
+    if world.trouble in ("mute", "gaps"):
+        world.await_gap()
     world.play(SECOND, mean)
     world.is_measured = True
     world.play(SECOND + HOUR, mean)
@@ -359,25 +427,24 @@ def play_run(world: World, number: int) -> None:
     world.healed -= stop if world.healed else 0
 
 
-def measure_row(steps: list[Step], seed: int, hours: int, row: tuple[str, int, int]) -> None:
-    name, rate, mean = row
+def measure_row(play: Play, hours: int, row: Row) -> None:
     tally = Tally()
-    for hour in range(hours):
-        play_hour(World(steps, seed, hour, tally), rate, mean)
-    print("row follower", name, *tally.sums(), *numbers_of(tally.times))
+    for hour in range((hours + 3) // 4 if row[0] in TROUBLES else hours):
+        play_hour(World(play, hour, tally), row)
+    print("row", play.host, row[0], *tally.sums(), *numbers_of(tally.times))
 
 
-def measure_runs(steps: list[Step], seed: int, runs: int) -> None:
+def measure_runs(play: Play, runs: int) -> None:
     failed, needed, times = 0, [0] * (PATIENCE + 2), []
     for number in range(runs):
-        world = World(steps, seed, 1 << 20 | number, Tally())
+        world = World(play, 1 << 20 | number, Tally())
         play_run(world, number)
         if world.is_unhealed or world.askings <= PATIENCE or world.needed > PATIENCE + 1:
             failed += 1
             continue
         needed[world.needed] += 1
         times += [world.healed] if world.needed else []
-    print("runs follower", runs, failed, *needed, *numbers_of(times))
+    print("runs", play.host, runs, failed, *needed, *numbers_of(times))
 
 
 def main() -> None:
@@ -386,10 +453,11 @@ def main() -> None:
         file.write_bytes(make_games(random.Random(seed)))
         return
     data = file.read_bytes()
-    steps = list(zip(data[::2], data[1::2]))
-    for row in ROWS:
-        measure_row(steps, seed, int(sys.argv[3]), row)
-    measure_runs(steps, seed, int(sys.argv[4]))
+    play = Play(list(zip(data[::2], data[1::2])), seed, sys.argv[3])
+    hours, runs = map(int, sys.argv[4:])
+    for row in ROWS if hours else ():
+        measure_row(play, hours, row)
+    measure_runs(play, runs)
 
 
 if __name__ == "__main__":

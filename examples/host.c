@@ -28,7 +28,6 @@ static int complain(const char *name) {
 typedef struct board {
     int line;
     dgt_follower follower; /* decides when to ask and what, and knows where the pieces stand */
-    dgt_decoder decoder;   /* gets the same bytes, and reports what else the board sends */
     char shown[SHOWN_ROOM];
 } board;
 
@@ -57,13 +56,13 @@ static void show(board *board) {
     strcpy(board->shown, text);
 }
 
-/* Hears a chunk of bytes. The follower reports no events, so a decoder reads the texts. */
+/* Hears a chunk of bytes. */
 static void hear(board *board, const uint8_t *chunk, size_t n) {
     static uint8_t body[DGT_MAX_BODY];
     dgt_event event;
-    for (size_t at = 0, used; at < n; at += used) {
-        used = dgt_decoder_feed(&board->decoder, chunk + at, n - at, &event, body, sizeof body);
-        dgt_follower_hear_all(&board->follower, dgt_port_now(), chunk + at, used);
+    for (size_t at = 0; at < n;) {
+        at += dgt_follower_hear(&board->follower, dgt_port_now(), chunk + at, n - at, &event, body,
+                                sizeof body);
         if (event.kind == DGT_EVENT_TRADEMARK)
             fprintf(stderr, "board: %.*s\n", (int)event.body_len, (const char *)body);
         show(board);
@@ -107,7 +106,7 @@ int main(int count, char **words) {
     uint64_t silence = count == 3 ? milliseconds(words[2]) : 0;
     if (count < 2 || count > 3 || (count == 3 && silence == 0))
         return fprintf(stderr, "usage: host LINE [SECONDS], from 1 to 1000000\n"), 2;
-    if (!dgt_follower_new(&board.follower, PERIOD, PATIENCE) || !dgt_decoder_new(&board.decoder))
+    if (!dgt_follower_new(&board.follower, PERIOD, PATIENCE))
         return fprintf(stderr, "this library has another header\n"), 1;
     board.line = dgt_port_open(words[1]);
     if (board.line < 0 || !follow(&board, silence)) return complain(words[1]);

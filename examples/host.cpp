@@ -26,7 +26,6 @@
 /// What is known of a board.
 struct Board {
     dgt::Follower follower; ///< decides when to ask and what, and knows where the pieces stand
-    dgt::Decoder decoder;   ///< gets the same bytes, and reports what else the board sends
     std::string shown;
 };
 
@@ -68,13 +67,10 @@ static bool hear(Board &board) {
     std::array<std::uint8_t, 256> chunk;
     ssize_t n = read(STDIN_FILENO, chunk.data(), chunk.size());
     if (n <= 0) return false;
-    for (dgt::ByteView left(chunk.data(), std::size_t(n)); !left.empty();) {
-        dgt::Heard heard = board.decoder.feed_one(left);
-        board.follower.hear(dgt::now(), left.first(heard.used));
-        left = left.after(heard.used);
-        if (heard.event) show(*heard.event);
+    board.follower.hear(dgt::now(), {chunk.data(), std::size_t(n)}, [&](const dgt::Event &event) {
+        show(event);
         show(board);
-    }
+    });
     return true;
 }
 

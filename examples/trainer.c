@@ -27,6 +27,7 @@ static void show(dgt_follower *board, int port) {
 int main(int count, char **words) {
     static dgt_follower board;
     uint8_t chunk[256];
+    dgt_event event;
     if (count != 2 || !dgt_follower_new(&board, 10000, 6)) return 2;
     dgt_follower_set_mode(&board, DGT_MODE_UPDATE_NICE); /* it reports its clock, too */
     setlinebuf(stdout);
@@ -35,6 +36,7 @@ int main(int count, char **words) {
             if (errno != why) fprintf(stderr, "%s: %s\n", words[1], dgt_port_advice(why = errno));
         for (long n; (n = dgt_port_exchange(port, &board, chunk, sizeof chunk)) >= 0;)
             for (long at = 0; at < n; show(&board, port))
-                at += (long)dgt_follower_hear(&board, dgt_port_now(), chunk + at, (size_t)(n - at));
+                at += (long)dgt_follower_hear(&board, dgt_port_now(), chunk + at, (size_t)(n - at),
+                                              &event, NULL, 0);
     }
 }

@@ -30,7 +30,7 @@ int main(int count, char **words) {
             board.line_lost();
             dgt::Port port(words[1]);
             for (;;)
-                board.hear(dgt::now(), port.exchange(board), [&] { show(board, port); });
+                board.hear(dgt::now(), port.exchange(board), [&](auto &) { show(board, port); });
         } catch (const dgt::PortError &error) {
             if (error.what() != why) std::cerr << (why = error.what()) << '\n';
         }

@@ -19,7 +19,7 @@
  *         dgt_follower_hear_all(&follower, now(), chunk, n);
  *     }
  *
- * A follower asks again by itself. A host is asked by rules of your own, and reports each event.
+ * A follower asks again by itself. A host is asked by rules of your own.
  *
  * WHAT IS PROVED, AND YOUR PART. The Rattle code of the library is proved to keep its contracts: if
  * you keep to what follows, each call returns, and touches only the memory that it is given,
@@ -134,6 +134,7 @@ uint32_t dgt_version(void);
 #define DGT_MAX_AWAITED 16      /* the most replies that a host awaits */
 #define DGT_RESTART_LENGTH 257  /* how many bytes dgt_host_restart writes */
 #define DGT_MAX_ASKING 259      /* the most bytes that dgt_follower_ask writes */
+#define DGT_LEAST_PERIOD 1000   /* the least period of a follower, in milliseconds */
 #define DGT_MAX_OWED 8          /* the most replies that a board owes */
 #define DGT_MAX_SENT 67         /* the most bytes that dgt_board_poll writes */
 #define DGT_MAX_KEPT 64         /* the most bytes of a trademark, a battery body or a long serial
@@ -144,7 +145,7 @@ uint32_t dgt_version(void);
 
 /* How many bytes they take, as dgt_host_size() and its like answer, and _new compares. */
 #define DGT_HOST_SIZE 16520
-#define DGT_FOLLOWER_SIZE 16592
+#define DGT_FOLLOWER_SIZE 16608
 #define DGT_DECODER_SIZE 16416
 #define DGT_COMMAND_DECODER_SIZE 288
 #define DGT_BOARD_SIZE 712
@@ -534,20 +535,33 @@ void dgt_host_line_lost(dgt_host *host) DGT_NONNULL_(1);
 
 /* A follower asks the board for all its squares once in each period, as the program at the head of
  * this file has it do. You hand in the time, as milliseconds of a clock that doesn't go back, and
- * hand on what it writes. It reports no events. A dgt_decoder reports them, if it gets the same
- * bytes and is reset whenever the line is lost.
+ * hand on what it writes.
  *
  * An asking is a heartbeat: the command of the mode and DGT_SEND_DUMP, 2 bytes. Or it begins anew:
  * 255 zeros, which end whatever command the board is in the middle of, 44 42 and the command of the
  * mode, 258 bytes. The host gives up the replies that it awaits then. A heartbeat is enough if a
  * dump that was awaited came since the last asking, nothing disturbed the line since, fewer than 16
- * replies are awaited, and the patience has not run out. A disturbance is a cut, refused, misstated
- * or stray message, or one that is not asked for.
+ * replies are awaited, and the patience has not run out.
+ *
+ * Disturbances are a cut, refused, misstated or stray message, one that is not asked for, and a
+ * dump that isn't the picture that was known. A clock that shows no digits, as one does while it is
+ * set, is none (DGT_BAD_READING). If a new beginning gave up requests of yours while nothing was
+ * wrong, what comes unasked before the next asking is none either.
  *
  * In a mode that reports the clock, DGT_MODE_UPDATE or DGT_MODE_UPDATE_NICE, an asking ends with
  * DGT_SEND_CLOCK, which requests a reading of the clock: a heartbeat has 3 bytes then, and a new
  * beginning DGT_MAX_ASKING. The reading is not awaited, so no asking begins anew because it has not
- * come. */
+ * come.
+ *
+ * A picture is in doubt, confirmed or neither.
+ *
+ *  - In doubt: since the last dump that was awaited there was a disturbance, or an answer was a
+ *    second late. It may be wrong, and is asked for again.
+ *  - Confirmed: a dump that was awaited repeated it. Since then nothing changed it, came unasked or
+ *    disturbed, and no answer was late. No one altered, lost or inserted message makes a confirmed
+ *    picture wrong. Two that agree can. A change that is lost later shows with the next dump.
+ *  - Neither: it has just been reported or changed, and no dump has repeated it yet. One altered
+ *    message is enough to make it wrong. dgt_follower_set_confirm has it confirmed soon. */
 
 /* How many bytes a dgt_follower takes, by the library that is linked. */
 size_t dgt_follower_size(void);
@@ -558,9 +572,11 @@ size_t dgt_follower_size(void);
 void dgt_follower_init(dgt_follower *follower) DGT_NONNULL_(1);
 
 /* Makes a follower anew: it has never asked, knows no picture, and has this period, this patience
- * and the mode DGT_MODE_UPDATE_BOARD. `period` is in milliseconds, from one asking to the next:
- * with 0 each call of dgt_follower_ask is due. `patience` is how many heartbeats may follow one
- * another before it begins anew whatever it has heard; with 0 it always begins anew. */
+ * and the mode DGT_MODE_UPDATE_BOARD. It neither confirms nor identifies. `period` is in
+ * milliseconds, from one asking to the next. One below DGT_LEAST_PERIOD counts as that: a new
+ * beginning and its dump take a third of a second on the line, so that shorter periods would fill
+ * it. `patience` is how many heartbeats may follow one another before it begins anew whatever it
+ * has heard; with 0 it always begins anew. */
 void dgt_follower_start(dgt_follower *follower, uint64_t period, uint32_t patience) DGT_NONNULL_(1);
 
 /* Both; false, and nothing done, if the sizes differ, as with dgt_host_new. */
@@ -573,27 +589,36 @@ static inline bool dgt_follower_new(dgt_follower *follower, uint64_t period, uin
 }
 
 /* Uses bytes, which came at this time, up to and including the first that makes an event, or all of
- * them, and returns how many: at least 1 if n > 0. The host of the follower hears them, as
- * dgt_host_hear has a host do. Call again with the bytes that are left. */
-size_t dgt_follower_hear(dgt_follower *follower, uint64_t now, const uint8_t *bytes, size_t n)
-    DGT_MUST_USE_ DGT_NONNULL_(1) DGT_READS_(3, 4);
+ * them, and returns how many: at least 1 if n > 0. The event is written to `event`, and its body
+ * copied, as dgt_host_hear does. Call again with the bytes that are left. */
+size_t dgt_follower_hear(dgt_follower *follower, uint64_t now, const uint8_t *bytes, size_t n,
+                         dgt_event *event, uint8_t *body, size_t capacity)
+    DGT_MUST_USE_ DGT_NONNULL_(1, 5) DGT_READS_(3, 4) DGT_WRITES_(5) DGT_WRITES_(6, 7);
 
-/* Uses all of the bytes, as dgt_follower_hear does event by event. Whatever chunks the bytes of one
- * time come in, the follower is the same afterwards. */
+/* Uses all of the bytes, as dgt_follower_hear does event by event, and reports no event. Whatever
+ * chunks the bytes of one time come in, the follower is the same afterwards. */
 void dgt_follower_hear_all(dgt_follower *follower, uint64_t now, const uint8_t *bytes, size_t n)
     DGT_NONNULL_(1) DGT_READS_(3, 4);
 
 /* Asks the board, if that is due at this time. DGT_SENT: `bytes` bytes stand at the front of the
- * buffer, and 0 bytes if it is not due; nothing changes then. DGT_NO_ROOM: the buffer has less than
- * the `bytes` bytes that it would write, and nothing changed. There is no other status.
+ * buffer, and 0 bytes if it is not due. DGT_NO_ROOM: the buffer has less than the `bytes` bytes
+ * that it would write, and nothing changed. There is no other status. The picture stays known, and
+ * a dump is awaited then.
  * It is due at any time if it has never asked. Else it is due a period after the last asking, or
- * a quarter of the period after it, rounded down, if there was a disturbance since. The picture
- * stays known, and a dump is awaited then. */
+ * earlier:
+ *  - if there was a disturbance since, a quarter of the period after it, rounded down;
+ *  - if it has no answer, at the same time, but no less than a second after it;
+ *  - if the picture is to be confirmed, a second after it changed and after the last asking;
+ *  - after dgt_follower_ask_now, at once, or once it is answered;
+ *  - if `now` is before it, since your clock has gone back.
+ * An answer that is a second late is a doubt after the next call of this, whether that writes or
+ * not. */
 dgt_sent dgt_follower_ask(dgt_follower *follower, uint64_t now, uint8_t *out, size_t n)
     DGT_MUST_USE_ DGT_NONNULL_(1) DGT_WRITES_(3, 4);
 
-/* The first time at which dgt_follower_ask writes if nothing is heard before: 0 if it has never
- * asked. False, and nothing written, if that is past UINT64_MAX: it never asks then. */
+/* The first time at which dgt_follower_ask writes, or finds an answer overdue and so a doubt, if
+ * nothing is heard before: 0 if it asks at once. False, and nothing written, if that is past
+ * UINT64_MAX: it never asks then. */
 bool dgt_follower_due_at(dgt_follower *follower, uint64_t *time)
     DGT_MUST_USE_ DGT_NONNULL_(1, 2) DGT_WRITES_(2);
 
@@ -604,6 +629,19 @@ uint8_t dgt_follower_mode(dgt_follower *follower) DGT_NONNULL_(1);
 /* Has each asking from now on ask for this mode. When the next one is due stays as it was. False,
  * and nothing changed, if `mode` is none of the three. */
 bool dgt_follower_set_mode(dgt_follower *follower, uint8_t mode) DGT_NONNULL_(1);
+
+/* Has an asking be due at once, or once the last one is answered. The answer is no older than this
+ * call. */
+void dgt_follower_ask_now(dgt_follower *follower) DGT_NONNULL_(1);
+
+/* Has a picture that isn't confirmed be asked for again, or not: a heartbeat a second after it last
+ * changed, and a second after the last asking, until it is confirmed. */
+void dgt_follower_set_confirm(dgt_follower *follower, bool confirm) DGT_NONNULL_(1);
+
+/* Has the serial number of the board be requested while it is unknown, or not: DGT_SEND_SERIAL once
+ * after each asking that was answered, at most three times. A reply that is lost is noticed as any
+ * other is, by the next dump, which then comes unasked. */
+void dgt_follower_set_identify(dgt_follower *follower, bool identify) DGT_NONNULL_(1);
 
 /* Sends the command that is the byte `code` alone, as dgt_host_send does. It doesn't count as an
  * asking. After DGT_SEND_RESET the board reports no change until the next asking. */
@@ -669,15 +707,24 @@ bool dgt_follower_picture(dgt_follower *follower, uint8_t pieces[64])
 bool dgt_follower_placement(dgt_follower *follower, char text[DGT_PLACEMENT_ROOM])
     DGT_MUST_USE_ DGT_NONNULL_(1, 2) DGT_WRITES_(2);
 
-/* What the board reported last of its clock. */
+/* What the board reported last of its clock. It is unknown while the clock shows no digits: from a
+ * report that was refused for that to the next that can be read. */
 void dgt_follower_clock(dgt_follower *follower, dgt_clock *clock) DGT_NONNULL_(1, 2) DGT_WRITES_(2);
 
 /* How many bytes were heard of a message that is not finished: at most 16382. */
 size_t dgt_follower_unread(dgt_follower *follower) DGT_NONNULL_(1);
 
-/* Whether the picture may be wrong: since the last dump that was awaited there was a disturbance,
- * or an asking found the one before it unanswered. */
+/* Whether the picture is in doubt, as said above. */
 bool dgt_follower_in_doubt(dgt_follower *follower) DGT_NONNULL_(1);
+
+/* Whether the picture is confirmed, as said above. It is not in doubt then. The first awaited dump
+ * after a new beginning confirms nothing: it may be a late answer to an earlier asking. */
+bool dgt_follower_confirmed(dgt_follower *follower) DGT_NONNULL_(1);
+
+/* The serial number of the board: five bytes, each 0 to 127. False, and nothing written, if none
+ * was reported since the line was last lost. */
+bool dgt_follower_serial(dgt_follower *follower, uint8_t serial[5])
+    DGT_MUST_USE_ DGT_NONNULL_(1, 2) DGT_WRITES_(2);
 
 /* The time of the last whole message. False, and nothing written, if none was heard. */
 bool dgt_follower_last_heard(dgt_follower *follower, uint64_t *time)
@@ -687,7 +734,8 @@ bool dgt_follower_last_heard(dgt_follower *follower, uint64_t *time)
 uint32_t dgt_follower_heartbeats_left(dgt_follower *follower) DGT_NONNULL_(1);
 
 /* The line is lost, and what was under way on it: the follower is as new, with its period, its
- * patience and its mode. It knows no picture, and its next asking is due at once. */
+ * patience and its mode, and with whether it confirms and identifies. It knows no picture and no
+ * serial number, and its next asking is due at once. */
 void dgt_follower_line_lost(dgt_follower *follower) DGT_NONNULL_(1);
 
 /* ---- A decoder: reports the events of a board's bytes, and keeps no picture. */
@@ -1052,6 +1100,9 @@ static inline dgt_follower *dgt_follower_(dgt_follower *handle) {
 #define dgt_follower_hear_all(it, ...) dgt_follower_hear_all(dgt_follower_(it), __VA_ARGS__)
 #define dgt_follower_ask(it, ...) dgt_follower_ask(dgt_follower_(it), __VA_ARGS__)
 #define dgt_follower_due_at(it, ...) dgt_follower_due_at(dgt_follower_(it), __VA_ARGS__)
+#define dgt_follower_ask_now(it) dgt_follower_ask_now(dgt_follower_(it))
+#define dgt_follower_set_confirm(it, ...) dgt_follower_set_confirm(dgt_follower_(it), __VA_ARGS__)
+#define dgt_follower_set_identify(it, ...) dgt_follower_set_identify(dgt_follower_(it), __VA_ARGS__)
 #define dgt_follower_mode(it) dgt_follower_mode(dgt_follower_(it))
 #define dgt_follower_set_mode(it, ...) dgt_follower_set_mode(dgt_follower_(it), __VA_ARGS__)
 #define dgt_follower_send(it, ...) dgt_follower_send(dgt_follower_(it), __VA_ARGS__)
@@ -1074,6 +1125,8 @@ static inline dgt_follower *dgt_follower_(dgt_follower *handle) {
 #define dgt_follower_clock(it, ...) dgt_follower_clock(dgt_follower_(it), __VA_ARGS__)
 #define dgt_follower_unread(it) dgt_follower_unread(dgt_follower_(it))
 #define dgt_follower_in_doubt(it) dgt_follower_in_doubt(dgt_follower_(it))
+#define dgt_follower_confirmed(it) dgt_follower_confirmed(dgt_follower_(it))
+#define dgt_follower_serial(it, ...) dgt_follower_serial(dgt_follower_(it), __VA_ARGS__)
 #define dgt_follower_last_heard(it, ...) dgt_follower_last_heard(dgt_follower_(it), __VA_ARGS__)
 #define dgt_follower_heartbeats_left(it) dgt_follower_heartbeats_left(dgt_follower_(it))
 #define dgt_follower_line_lost(it) dgt_follower_line_lost(dgt_follower_(it))

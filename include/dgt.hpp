@@ -2,7 +2,7 @@
 //
 // A program that follows a board on a serial line:
 //
-//     dgt::Follower follower;                            // 16 KB
+//     dgt::Follower follower;                            // 32 KB
 //     for (;;) {
 //         write_to_line(follower.ask(dgt::now()));       // nothing if that is not due
 //         read_from_line(chunk, follower.due());         // waits for bytes until then
@@ -312,8 +312,8 @@ struct BadLength {};
 /// A byte outside any message.
 struct Stray { std::uint8_t byte; };
 
-/// An event. `unasked` is true if a host had not asked for the message first of all; from a Decoder
-/// it is false.
+/// An event. `unasked` is true if a host or a follower had not asked for the message first of all;
+/// from a Decoder it is false.
 using Event = std::variant<Dump, Field, Times, NoClock, Ack, Serial, Trademark, Version, Battery,
                            LongSerial, Other, Refused, Cut, BadLength, Stray>;
 
@@ -533,12 +533,18 @@ template <class Encode> Bytes encoded(Encode &&encode) {
     return out;
 }
 
-/// Hands an event to `tell`, and its place to one that takes it.
-template <class Tell> void hand(Tell &tell, const Event &event, std::size_t place) {
-    if constexpr (std::is_invocable_v<Tell &, const Event &, std::size_t>)
-        tell(event, place);
-    else
-        tell(event);
+/// Has `hear_one` use all of the bytes. Hands each event to `tell`, and its place to one that takes
+/// it.
+template <class HearOne, class Tell> void hear(ByteView bytes, HearOne hear_one, Tell &tell) {
+    for (std::size_t place = 0; place < bytes.size();) {
+        Heard heard = hear_one(bytes.after(place));
+        place += heard.used;
+        if (!heard.event) continue;
+        if constexpr (std::is_invocable_v<Tell &, const Event &, std::size_t>)
+            tell(std::as_const(*heard.event), place);
+        else
+            tell(std::as_const(*heard.event));
+    }
 }
 
 template <class Handle, class Known> std::optional<Position> picture(Handle *handle, Known known) {
@@ -795,11 +801,7 @@ public:
     /// Hears all of the bytes, and hands each event to `tell` once it is heard. If `tell` takes a
     /// std::size_t after the event, it gets how many of the bytes had been used by then.
     template <class Tell> void hear(ByteView bytes, Tell &&tell) {
-        for (std::size_t place = 0; place < bytes.size();) {
-            Heard heard = hear_one(bytes.after(place));
-            place += heard.used;
-            if (heard.event) detail::hand(tell, *heard.event, place);
-        }
+        detail::hear(bytes, [&](ByteView left) { return hear_one(left); }, tell);
     }
 
     /// Asks for each change from now on, and for all squares. TooManyAwaited.
@@ -883,12 +885,13 @@ private:
 // ---- A follower.
 
 /// A host that asks for the whole board again and again, so that its picture becomes right again
-/// after any fault of the line (see dgt.h). It reports no events: a Decoder does, if it gets the
-/// same bytes. A time or a period that is negative is a std::invalid_argument. 16 KB.
+/// after any fault of the line (see dgt.h). A time or a period that is negative is a
+/// std::invalid_argument. 32 KB.
 class Follower : public ClockCommands<Follower> {
 public:
-    /// `period` is from one asking to the next, and `patience` how many in a row may be short ones.
-    /// WrongLibrary. std::invalid_argument if `mode` is idle.
+    /// `period` is from one asking to the next, at least DGT_LEAST_PERIOD: a shorter one counts as
+    /// that. `patience` is how many in a row may be short ones. WrongLibrary. std::invalid_argument
+    /// if `mode` is idle.
     explicit Follower(Milliseconds period = std::chrono::seconds(10), std::uint32_t patience = 6,
                       Mode mode = Mode::update_board) {
         if (!dgt_follower_new(&follower_, detail::count(period), patience)) throw WrongLibrary();
@@ -905,32 +908,39 @@ public:
         });
     }
 
-    /// When it asks next, if nothing is heard before: 0 if it has never asked. Nothing if that is
-    /// later than any time.
+    /// When to call `ask` next, if nothing is heard before: 0 if it asks at once. An answer that is
+    /// overdue then is a doubt. Nothing if that is later than any time.
     std::optional<Milliseconds> due() {
         std::uint64_t time = 0;
         bool is_known = dgt_follower_due_at(&follower_, &time);
         return detail::time(is_known, time);
     }
 
-    /// Hears bytes that came at this time, up to the first event, or all of them. Returns how many:
-    /// at least 1, if there are any.
-    std::size_t hear_one(Milliseconds now, ByteView bytes) {
-        return dgt_follower_hear(&follower_, detail::count(now), bytes.data(), bytes.size());
+    /// As Host::hear_one and hear, of bytes that came at this time.
+    Heard hear_one(Milliseconds now, ByteView bytes) {
+        dgt_event event;
+        std::size_t used = dgt_follower_hear(&follower_, detail::count(now), bytes.data(),
+                                             bytes.size(), &event, body_.data(), body_.size());
+        return {used, detail::read_event(event, body_.data())};
+    }
+    template <class Tell> void hear(Milliseconds now, ByteView bytes, Tell &&tell) {
+        detail::hear(bytes, [&](ByteView left) { return hear_one(now, left); }, tell);
     }
 
-    /// Hears all of them.
+    /// Hears all of them, and reports no event.
     void hear(Milliseconds now, ByteView bytes) {
         dgt_follower_hear_all(&follower_, detail::count(now), bytes.data(), bytes.size());
     }
 
-    /// Hears all of them, and calls `look` after each event, and at the end.
-    template <class Look> void hear(Milliseconds now, ByteView bytes, Look &&look) {
-        while (!bytes.empty()) {
-            bytes = bytes.after(hear_one(now, bytes));
-            look();
-        }
-    }
+    /// Has it ask at once, or once its last asking is answered.
+    void ask_now() { dgt_follower_ask_now(&follower_); }
+
+    /// Has it ask again for a picture that isn't confirmed, or not: a second after the last change
+    /// and after the last asking.
+    void set_confirm(bool confirm) { dgt_follower_set_confirm(&follower_, confirm); }
+
+    /// Has it request the serial number of the board while that is unknown, or not.
+    void set_identify(bool identify) { dgt_follower_set_identify(&follower_, identify); }
 
     /// What the board is asked to report by itself, from the next asking on.
     Mode mode() { return static_cast<Mode>(dgt_follower_mode(&follower_)); }
@@ -973,7 +983,8 @@ public:
         return std::string(text);
     }
 
-    /// What the board reported last of its clock, if it did.
+    /// What the board reported last of its clock, if it did. Nothing while the clock shows no
+    /// digits.
     std::optional<Clock> clock() {
         dgt_clock clock;
         dgt_follower_clock(&follower_, &clock);
@@ -986,6 +997,16 @@ public:
     /// Whether the picture may be wrong.
     bool in_doubt() { return dgt_follower_in_doubt(&follower_); }
 
+    /// Whether an awaited dump repeated the picture, and nothing has changed or disturbed it since.
+    bool confirmed() { return dgt_follower_confirmed(&follower_); }
+
+    /// The serial number of the board, if it was reported.
+    std::optional<std::array<std::uint8_t, 5>> serial() {
+        std::array<std::uint8_t, 5> serial;
+        if (!dgt_follower_serial(&follower_, serial.data())) return std::nullopt;
+        return serial;
+    }
+
     /// The time of the last whole message, if there was one.
     std::optional<Milliseconds> last_heard() {
         std::uint64_t time = 0;
@@ -997,7 +1018,7 @@ public:
     std::uint32_t heartbeats_left() { return dgt_follower_heartbeats_left(&follower_); }
 
     /// The line is lost, and what was under way on it: it is as new, with its period, its patience
-    /// and its mode.
+    /// and its mode, and with whether it confirms and identifies.
     void line_lost() { dgt_follower_line_lost(&follower_); }
 
 private:
@@ -1005,6 +1026,7 @@ private:
     dgt_follower *handle() { return &follower_; }
 
     dgt_follower follower_;
+    std::array<std::uint8_t, DGT_MAX_BODY> body_;
 };
 
 // ---- A decoder and a reader of commands.
@@ -1027,11 +1049,7 @@ public:
         return {used, detail::read_event(event, body_.data())};
     }
     template <class Tell> void feed(ByteView bytes, Tell &&tell) {
-        for (std::size_t place = 0; place < bytes.size();) {
-            Heard heard = feed_one(bytes.after(place));
-            place += heard.used;
-            if (heard.event) detail::hand(tell, *heard.event, place);
-        }
+        detail::hear(bytes, [&](ByteView left) { return feed_one(left); }, tell);
     }
 
     /// How many bytes have come of a message that is not finished.

@@ -138,8 +138,8 @@ static inline long dgt_port_read(int port, uint8_t *bytes, size_t n, uint64_t un
     return -1;
 }
 
-/* Sends what a follower asks the board for, if it asks now, and reads until it asks next, as
- * dgt_port_read does. The follower has yet to hear the bytes. */
+/* Sends what a follower asks the board for, if it asks now, and reads until it is to be called
+ * again (dgt_follower_due_at), as dgt_port_read does. The follower has yet to hear the bytes. */
 static inline long dgt_port_exchange(int port, dgt_follower *follower, uint8_t *bytes, size_t n) {
     uint8_t out[DGT_MAX_ASKING];
     uint64_t now = dgt_port_now(), due;

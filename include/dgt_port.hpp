@@ -60,8 +60,8 @@ public:
         return chunk;
     }
 
-    /// Sends what a follower asks the board for, if it asks now, and reads until it asks next. The
-    /// follower has yet to hear the bytes.
+    /// Sends what a follower asks the board for, if it asks now, and reads until it is due again.
+    /// The follower has yet to hear the bytes.
     template <std::size_t Room = 256> Written<Room> exchange(Follower &follower) {
         write(follower.ask(now()));
         return read<Room>(follower.due());

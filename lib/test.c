@@ -326,9 +326,10 @@ static void chunks(void) {
 
 /* What follows the zeros of an asking of this length. Those that request the clock are of the
  * mode UPDATE_NICE, the others of UPDATE_BOARD. */
-enum { HEARTBEAT = 2, CLOCK_HEARTBEAT = 3, ANEW = 258, CLOCK_ANEW = 259 };
+enum { IDENTIFY = 1, HEARTBEAT = 2, CLOCK_HEARTBEAT = 3, ANEW = 258, CLOCK_ANEW = 259 };
 static const char *wanted_end(size_t bytes) {
     switch (bytes) {
+    case IDENTIFY: return "\x45";
     case HEARTBEAT: return "\x44\x42";
     case CLOCK_HEARTBEAT: return "\x4b\x42\x41";
     case ANEW: return "\x44\x42\x44";
@@ -367,7 +368,8 @@ static void follower(void) {
     /* A heartbeat follows an answer, and none a heartbeat that has used up the patience. */
     CHECK(asks(follower, 7, ANEW) && asks(follower, 1006, 0));
     CHECK(dgt_follower_heartbeats_left(follower) == 1);
-    CHECK(dgt_follower_hear(follower, 100, dump, sizeof dump) == 67);
+    CHECK(dgt_follower_hear(follower, 100, dump, sizeof dump, &heard, NULL, 0) == 67);
+    CHECK(heard.kind == DGT_EVENT_DUMP && heard.place == 67 && !heard.unasked);
     CHECK(dgt_follower_last_heard(follower, &time) && time == 100);
     CHECK(dgt_follower_due_at(follower, &time) && time == 1007);
     CHECK(asks(follower, 1006, 0) && asks(follower, 1007, HEARTBEAT));
@@ -421,8 +423,126 @@ static void follower(void) {
 
     /* A time past the last one never comes. */
     dgt_follower_start(follower, UINT64_MAX, 1);
-    CHECK(asks(follower, 1, ANEW) && asks(follower, UINT64_MAX, 0));
-    CHECK(!dgt_follower_due_at(follower, &time) && time == 0);
+    CHECK(asks(follower, 1, ANEW));
+    dgt_follower_hear_all(follower, 2, dump, sizeof dump);
+    CHECK(!dgt_follower_due_at(follower, &time) && time == 0 && asks(follower, UINT64_MAX, 0));
+    free(follower);
+}
+
+static bool is_due_at(dgt_follower *follower, uint64_t right) {
+    uint64_t time;
+    return dgt_follower_due_at(follower, &time) && time == right;
+}
+
+/* Has a follower hear a dump with this piece on e2 and none else. */
+static void hear_dump(dgt_follower *follower, uint64_t now, uint8_t piece) {
+    const uint8_t dump[67] = {0x86, 0, 67, [3 + 52] = piece};
+    dgt_follower_hear_all(follower, now, dump, sizeof dump);
+}
+
+static void confirming(void) {
+    dgt_follower *follower = room(dgt_follower_size());
+    CHECK(dgt_follower_new(follower, 10000, 6));
+    dgt_follower_set_confirm(follower, true);
+    CHECK(asks(follower, 0, ANEW));
+    hear_dump(follower, 10, 1);
+    CHECK(!dgt_follower_confirmed(follower) && is_due_at(follower, 1000));
+    CHECK(asks(follower, 999, 0) && asks(follower, 1000, HEARTBEAT));
+    hear_dump(follower, 1010, 1);
+    CHECK(dgt_follower_confirmed(follower) && is_due_at(follower, 11000));
+    dgt_follower_hear_all(follower, 3000, BYTES(0x8e, 0, 5, 52, 0));
+    CHECK(!dgt_follower_confirmed(follower) && !dgt_follower_in_doubt(follower));
+    CHECK(is_due_at(follower, 4000) && asks(follower, 4000, HEARTBEAT));
+    hear_dump(follower, 4010, 0);
+    CHECK(dgt_follower_confirmed(follower) && is_due_at(follower, 14000));
+
+    /* A dump that isn't the picture disturbs. The first after a new beginning doesn't confirm. */
+    dgt_follower_ask_now(follower);
+    CHECK(is_due_at(follower, 0) && asks(follower, 5000, HEARTBEAT));
+    hear_dump(follower, 5010, 1);
+    CHECK(!dgt_follower_confirmed(follower) && dgt_follower_in_doubt(follower));
+    CHECK(is_due_at(follower, 7500) && asks(follower, 7500, ANEW));
+    hear_dump(follower, 7510, 1);
+    CHECK(!dgt_follower_confirmed(follower) && !dgt_follower_in_doubt(follower));
+    CHECK(is_due_at(follower, 8500));
+    dgt_follower_set_confirm(follower, false);
+    CHECK(is_due_at(follower, 17500));
+    free(follower);
+}
+
+static void overdue(void) {
+    dgt_follower *follower = room(dgt_follower_size());
+    CHECK(dgt_follower_new(follower, 10000, 6) && asks(follower, 5, ANEW));
+    CHECK(is_due_at(follower, 1005) && asks(follower, 1004, 0) && !dgt_follower_in_doubt(follower));
+    CHECK(asks(follower, 1005, 0) && dgt_follower_in_doubt(follower));
+    CHECK(is_due_at(follower, 2505) && asks(follower, 2504, 0) && asks(follower, 2505, ANEW));
+    dgt_follower_ask_now(follower);
+    CHECK(is_due_at(follower, 5005)); /* it is in doubt before */
+    hear_dump(follower, 2600, 1);
+    CHECK(is_due_at(follower, 0) && asks(follower, 2600, HEARTBEAT));
+    hear_dump(follower, 2610, 1);
+    CHECK(is_due_at(follower, 12600) && asks(follower, 2599, HEARTBEAT)); /* the clock went back */
+
+    /* A period below the least one counts as that. */
+    dgt_follower_start(follower, DGT_LEAST_PERIOD - 1, 1);
+    CHECK(asks(follower, 0, ANEW));
+    hear_dump(follower, 1, 1);
+    CHECK(is_due_at(follower, DGT_LEAST_PERIOD));
+
+    /* A new beginning of a follower that is calm pardons what comes unasked, until it asks next. */
+    CHECK(asks(follower, 1000, HEARTBEAT));
+    hear_dump(follower, 1001, 1);
+    CHECK(asks(follower, 2000, ANEW));
+    hear_dump(follower, 2001, 1);
+    hear_dump(follower, 2002, 1);
+    CHECK(!dgt_follower_in_doubt(follower) && asks(follower, 3000, HEARTBEAT));
+    hear_dump(follower, 3001, 1);
+    hear_dump(follower, 3002, 1);
+    CHECK(dgt_follower_in_doubt(follower));
+    free(follower);
+}
+
+static void identifying(void) {
+    dgt_follower *follower = room(dgt_follower_size());
+    uint8_t serial[5], letters[2] = "xx";
+    CHECK(dgt_follower_new(follower, 1000, 6));
+    dgt_follower_set_identify(follower, true);
+    CHECK(asks(follower, 0, ANEW) && is_due_at(follower, 1000));
+    hear_dump(follower, 5, 1);
+    CHECK(is_due_at(follower, 0) && asks(follower, 6, IDENTIFY) && is_due_at(follower, 1000));
+    memset(serial, 0xa5, sizeof serial);
+    CHECK(!dgt_follower_serial(follower, serial) && serial[0] == 0xa5);
+    dgt_follower_hear_all(follower, 7, BYTES(0x91, 0, 8, 1, 2, 3, 4, 5));
+    CHECK(dgt_follower_serial(follower, serial) && !memcmp(serial, "\1\2\3\4\5", 5));
+    CHECK(asks(follower, 8, 0) && !dgt_follower_in_doubt(follower));
+    dgt_follower_line_lost(follower);
+    dgt_follower_set_identify(follower, false);
+    CHECK(!dgt_follower_serial(follower, serial) && asks(follower, 9, ANEW));
+    hear_dump(follower, 9, 1);
+    CHECK(asks(follower, 9, 0));
+
+    /* An event, of whose body there is room for a part. */
+    CHECK(dgt_follower_hear(follower, 9, BYTES(0x92, 0, 5, 'A', 'B'), &heard, letters, 1) == 5);
+    CHECK(heard.kind == DGT_EVENT_TRADEMARK && heard.unasked && heard.body_len == 2);
+    CHECK(!memcmp(letters, "Ax", 2) && dgt_follower_in_doubt(follower));
+    free(follower);
+}
+
+/* A clock that shows no digits is unknown, and disturbs nothing. */
+static void setting_a_clock(void) {
+    dgt_follower *follower = room(dgt_follower_size());
+    dgt_clock clock;
+    CHECK(dgt_follower_new(follower, 1000, 6) && asks(follower, 0, ANEW));
+    hear_dump(follower, 1, 1);
+    for (int time = 0; time < 2; time++) {
+        dgt_follower_hear_all(follower, 2, BYTES(0x8d, 0, 10, 1, 2, 3, 4, 5, 6, 9));
+        dgt_follower_clock(follower, &clock);
+        CHECK(clock.kind == DGT_CLOCK_TIMES && clock.first.seconds == 3);
+        dgt_follower_hear_all(follower, 3, BYTES(0x8d, 0, 10, 0x0f, 2, 3, 4, 5, 6, 9));
+        dgt_follower_clock(follower, &clock);
+        CHECK(clock.kind == DGT_CLOCK_UNKNOWN && clock.first.seconds == 0);
+    }
+    CHECK(!dgt_follower_in_doubt(follower) && is_due_at(follower, 1000));
     free(follower);
 }
 
@@ -793,7 +913,8 @@ static void no_bytes_of_followers(void) {
     dgt_follower *follower = room(dgt_follower_size());
     CHECK(dgt_follower_new(follower, 1000, 1));
     uint8_t out[6];
-    CHECK(dgt_follower_hear(follower, 1, NULL, 0) == 0);
+    CHECK(dgt_follower_hear(follower, 1, NULL, 0, &heard, NULL, 0) == 0);
+    CHECK(heard.kind == DGT_EVENT_NONE && heard.place == 0);
     dgt_follower_hear_all(follower, 1, NULL, 0);
     dgt_sent sent = dgt_follower_ask(follower, 1, NULL, 0);
     CHECK(sent.status == DGT_NO_ROOM && sent.bytes == 258);
@@ -843,6 +964,10 @@ int main(void) {
     events();
     chunks();
     follower();
+    confirming();
+    overdue();
+    identifying();
+    setting_a_clock();
     clock_commands();
     texts();
     decoders();

@@ -105,10 +105,10 @@ static void exchanging(void) {
     static dgt_follower follower;
     const uint8_t dump[67] = {0x86, 0, 67, [3 + 52] = 1};
     char text[DGT_PLACEMENT_ROOM];
-    CHECK(dgt_follower_new(&follower, 200, 6));
-    uint64_t start = dgt_port_now();
+    CHECK(dgt_follower_new(&follower, DGT_LEAST_PERIOD, 6));
+    uint64_t start = dgt_port_now(), due;
     CHECK(dgt_port_exchange(port, &follower, bytes, sizeof bytes) == 0);
-    CHECK(dgt_port_now() - start >= 199 && dgt_port_now() - start < 5000);
+    CHECK(dgt_port_now() - start >= 999 && dgt_port_now() - start < 5000);
     CHECK(read(line, bytes, sizeof bytes) == 258 && !memcmp(bytes + 255, "\x44\x42\x44", 3));
     CHECK(write(line, dump, sizeof dump) == sizeof dump);
     CHECK(dgt_port_exchange(port, &follower, bytes, sizeof bytes) == sizeof dump);
@@ -116,7 +116,11 @@ static void exchanging(void) {
     CHECK(dgt_follower_placement(&follower, text) && !strcmp(text, "8/8/8/8/8/8/4P3/8"));
 
     /* A follower that asks never again waits for bytes. */
-    CHECK(dgt_follower_new(&follower, UINT64_MAX, 6) && write(line, dump, 1) == 1);
+    CHECK(dgt_follower_new(&follower, UINT64_MAX, 6));
+    CHECK(write(line, dump, sizeof dump) == sizeof dump);
+    CHECK(dgt_port_exchange(port, &follower, bytes, sizeof bytes) == sizeof dump);
+    dgt_follower_hear_all(&follower, dgt_port_now(), bytes, sizeof dump);
+    CHECK(!dgt_follower_due_at(&follower, &due) && write(line, dump, 1) == 1);
     CHECK(dgt_port_exchange(port, &follower, bytes, sizeof bytes) == 1);
     CHECK(close(line) == 0);
     CHECK(dgt_port_exchange(port, &follower, bytes, sizeof bytes) == -1);

@@ -8,4 +8,5 @@ pub mod AsciiLemmas
 pub mod ChunkLemmas
 pub mod Codes
 pub mod EncodingLemmas
+pub mod HearingLemmas
 pub mod OnceLemmas

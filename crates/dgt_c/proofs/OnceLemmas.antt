@@ -1,5 +1,5 @@
 -- Two reports of one chunk or of one struct are the same.
-use Rattle.std.proofs.Common.{◌≡◌, ◌↔◌, refl, sym, ap, ◌∙◌, subst, ℕ, ◌+◌, ◌-◌, ◌<◌, ◌≤◌, List, [], ◌∷◌, ◌++◌, append_assoc, length, map, take, drop, Some, None, Option, Result, Ok, Err, Bool, true, false, IsTrue, arith, inl, inr, min, length-drop, length-take, take-append-drop}
+use Rattle.std.proofs.Common.{◌≡◌, ◌↔◌, refl, sym, ap, ◌∙◌, subst, ℕ, ◌-◌, ◌<◌, ◌≤◌, List, [], ◌∷◌, ◌++◌, append_assoc, length, map, take, drop, Some, None, Option, Result, Ok, Err, Bool, true, false, IsTrue, arith, inl, inr, min, length-drop, length-take, take-append-drop}
 use Rattle.std.proofs.lemmas.Bool.{cases_lt}
 use Rattle.dgt_values.specs.declared.pieces.Piece.{Piece}
 use Rattle.dgt_values.specs.declared.refusals.NoRoom.{NoRoom}
@@ -12,7 +12,7 @@ use Rattle.dgt_command.specs.Content.{EventContent}
 use Rattle.dgt_command.specs.Framing.{rest_after}
 use Rattle.dgt_command.specs.Laws.{NoWordBeginsAPart, NoWordBeginsAnother}
 use Rattle.dgt_command.specs.Words.{IsPartial, IsWord}
-use Rattle.dgt_board.specs.View.{BoardView, after_bytes, new_view}
+use Rattle.dgt_board.specs.View.{after_bytes, new_view}
 use Rattle.dgt_host.specs.Host.{HostView, IsUnasked, host_after_event}
 use Rattle.dgt_c.specs.Chunks.{Reports, UsesUpTo}
 use Rattle.dgt_c.specs.Commands.{CommandReporting, ReportsCommand, command_reported, word_said}

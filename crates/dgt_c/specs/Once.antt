@@ -1,6 +1,6 @@
 -- What calls of C determine: of one chunk or of one struct two reports are the same. And what a
 -- refusal leaves.
-use Rattle.std.specs.Prelude.{◌≡◌, ◌≢◌, ◌<◌, ◌≤◌, ◌∷◌, ℕ, List, [], length, take, Option, None, true}
+use Rattle.std.specs.Prelude.{◌≡◌, ◌<◌, ◌≤◌, ℕ, List, [], length, take, None, true}
 use Rattle.dgt_values.specs.Bytes.{AreSevenBit}
 use Rattle.dgt_message.specs.Clock.{Absence, AreTimes, ClockState, IsAbsence, Times}
 use Rattle.dgt_message.specs.Content.{Content}

@@ -1,10 +1,10 @@
 //! An event as C has it.
 
-ghost use Rattle.std.specs.Prelude.{◌≡◌, length};
+ghost use Rattle.std.specs.Prelude.{◌≡◌, Some, length};
 ghost use Rattle.dgt_values.specs.Bytes.{body_bytes};
 ghost use Rattle.dgt_message.specs.Code.{known_number};
 ghost use Rattle.dgt_message.specs.Content.{content};
-ghost use Rattle.dgt_decode.specs.Feeding.{event_content_if_any};
+ghost use Rattle.dgt_decode.specs.Feeding.{event_content, event_content_if_any};
 ghost use Rattle.dgt_c.specs.Reported.{body_said, event_reported, message_reported, refused_reported, reported_at};
 
 use crate::clocks::{absence_reported, times_reported};
@@ -105,25 +105,35 @@ fn report_refused(code: u8, fault: BodyFault, out: &mut DgtEvent)
     };
 }
 
+/// Reports an event.
+#[inline(always)]
+pub(crate) fn report_event(event: &Event<'_>, out: &mut DgtEvent)
+    requires { out.old ≡ NOTHING }
+    ensures { out.new ≡ event_reported (Some (event_content event.now)) }
+{
+    match event {
+        Event::Message(message) => report_message(message, out),
+        Event::Refused { code, fault } => report_refused(code.get(), *fault, out),
+        Event::Cut { have } => {
+            out.kind = EVENT_CUT;
+            out.have = *have;
+        }
+        Event::BadLength => out.kind = EVENT_BAD_LENGTH,
+        Event::Stray(byte) => {
+            out.kind = EVENT_STRAY;
+            out.byte = *byte;
+        }
+    }
+}
+
 /// Reports an event, or that there is none.
 #[inline(always)]
 pub(crate) fn report(event: &Option<Event<'_>>, out: &mut DgtEvent)
     ensures { out.new ≡ event_reported (event_content_if_any event.now) }
 {
     *out = NOTHING;
-    match event {
-        None => {}
-        Some(Event::Message(message)) => report_message(message, out),
-        Some(Event::Refused { code, fault }) => report_refused(code.get(), *fault, out),
-        Some(Event::Cut { have }) => {
-            out.kind = EVENT_CUT;
-            out.have = *have;
-        }
-        Some(Event::BadLength) => out.kind = EVENT_BAD_LENGTH,
-        Some(Event::Stray(byte)) => {
-            out.kind = EVENT_STRAY;
-            out.byte = *byte;
-        }
+    if let Some(event) = event {
+        report_event(event, out);
     }
 }
 
@@ -140,14 +150,25 @@ pub(crate) fn report_at(event: &Option<Event<'_>>, place: usize, out: &mut DgtEv
 
 /// The body of a message that is carried unread, and else no byte.
 #[inline(always)]
+pub(crate) fn body_in<'a>(event: &Event<'a>) -> &'a [u8]
+    ensures { result.now ≡ body_said (Some (event_content event.now)) }
+{
+    match event {
+        Event::Message(Message::Trademark(body)) => body.bytes(),
+        Event::Message(Message::Battery(body)) => body.bytes(),
+        Event::Message(Message::LongSerial(body)) => body.bytes(),
+        Event::Message(Message::Other { body, .. }) => body.bytes(),
+        _ => &[],
+    }
+}
+
+/// The same of an event, if there is one.
+#[inline(always)]
 pub(crate) fn body_of<'a>(event: &Option<Event<'a>>) -> &'a [u8]
     ensures { result.now ≡ body_said (event_content_if_any event.now) }
 {
     match event {
-        Some(Event::Message(Message::Trademark(body))) => body.bytes(),
-        Some(Event::Message(Message::Battery(body))) => body.bytes(),
-        Some(Event::Message(Message::LongSerial(body))) => body.bytes(),
-        Some(Event::Message(Message::Other { body, .. })) => body.bytes(),
-        _ => &[],
+        Some(event) => body_in(event),
+        None => &[],
     }
 }

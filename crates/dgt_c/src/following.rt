@@ -1,15 +1,19 @@
 //! What C has a follower do.
 
-ghost use Rattle.std.specs.Prelude.{◌≡◌, ◌≤◌, ◌<◌, ◌↔◌, Option, length, take, false, IsTrue, IsSome, MatchOption};
-ghost use Rattle.dgt_decode.specs.Grammar.{Event as EventSaid};
-ghost use Rattle.dgt_decode.specs.Feeding.{FirstEvent};
-ghost use Rattle.dgt_follow.specs.Pace.{next_due};
+ghost use Rattle.std.specs.Prelude.{◌≡◌, ◌≤◌, ◌<◌, ◌↔◌, length, take, false, true, IsTrue, IsSome, MatchOption};
+ghost use Rattle.dgt_host.specs.Host.{new_host};
+ghost use Rattle.dgt_follow.specs.Pace.{forgetting, next_due};
 ghost use Rattle.dgt_follow.specs.Follower.{follower_after, following, new_follower};
+ghost use Rattle.dgt_c.specs.Hearing.{HearsReported};
 ghost use Rattle.dgt_c.specs.Following.{AsksReported, asked_reported, update_mode_number};
 
+use crate::copying::overwrite;
+use crate::events::{body_in, report_event};
 use crate::handles::DgtFollower;
-use crate::header::{DgtSent, MODE_UPDATE, MODE_UPDATE_BOARD, MODE_UPDATE_NICE};
+use crate::header::{DgtEvent, DgtSent, MODE_UPDATE, MODE_UPDATE_BOARD, MODE_UPDATE_NICE, NOTHING};
+use crate::hearing::flag_for_c;
 use crate::sending::sent_for_c;
+use dgt_decode::{Event, Listener};
 use dgt_follow::{Follower, UpdateMode};
 use dgt_host::SendFault;
 use dgt_values::NoRoom;
@@ -23,19 +27,74 @@ pub extern "C" fn dgt_follower_start(follower: &mut DgtFollower, period: u64, pa
     *follower.get() = Follower::new(period, patience);
 }
 
-/// Uses bytes, which came at this time, up to and including the first that makes an event, or all
-/// of them, and returns how many.
-#[unsafe(no_mangle)]
-pub extern "C" fn dgt_follower_hear(follower: &mut DgtFollower, now: u64, chunk: &[u8]) -> usize
-    ensures place { follower.new.at ≡ follower.old.at }
-    ensures after { follower.new.inside
-        ≡ follower_after follower.old.inside now (take result chunk.now) }
-    ensures first { (event : Option EventSaid)
-        × FirstEvent follower.old.inside.host.unread chunk.now result event }
+// Reports an event to the struct, and its body to the slice.
+#[derive(Drop)]
+struct Reporter<'a> {
+    event: DgtEvent,
+    body: &'a mut [u8],
+}
+
+impl Listener for Reporter<'_> {
+    ghost use Rattle.std.specs.Prelude.{◌≡◌, Some};
+    ghost use Rattle.dgt_c.specs.Slices.{overwritten};
+    ghost use Rattle.dgt_c.specs.Reported.{body_said, reported_at};
+
+    ghost hears = { λ old said new.
+        (new.event ≡ reported_at said.place (Some said.event))
+        × (new.body.now ≡ overwritten old.body.now (body_said (Some said.event)))
+        × (new.body.ghost_name ≡ old.body.ghost_name) };
+
+    fn hear(&mut self, place: usize, event: &Event<'_>) {
+        self.event = NOTHING;
+        report_event(event, &mut self.event);
+        self.event.place = place;
+        overwrite(body_in(event), self.body);
+    }
+}
+
+fn hear_event(
+    follower: &mut Follower,
+    now: u64,
+    chunk: &[u8],
+    event: &mut DgtEvent,
+    body: &mut [u8],
+) -> usize
+    ensures after { follower.new ≡ follower_after follower.old now (take result chunk.now) }
+    ensures hears { HearsReported follower.old.host chunk.now result
+        (record { event = event.new; old = body.old; new = body.new }) }
     ensures within { result ≤ length chunk.now }
     ensures progress { 0 < length chunk.now → 0 < result }
 {
-    follower.get().hear(now, chunk)
+    let mut reporter = Reporter {
+        event: NOTHING,
+        body,
+    };
+    let heard = follower.hear_with(now, chunk, &mut reporter);
+    *event = reporter.event;
+    event.unasked = flag_for_c(heard.unasked);
+    heard.used
+}
+
+/// Uses bytes, which came at this time, up to and including the first that makes an event, or all
+/// of them, and returns how many. Reports the event, and copies its body, as much of it as there is
+/// room for.
+#[unsafe(no_mangle)]
+pub extern "C" fn dgt_follower_hear(
+    follower: &mut DgtFollower,
+    now: u64,
+    chunk: &[u8],
+    event: &mut DgtEvent,
+    body: &mut [u8],
+) -> usize
+    ensures place { follower.new.at ≡ follower.old.at }
+    ensures after { follower.new.inside
+        ≡ follower_after follower.old.inside now (take result chunk.now) }
+    ensures hears { HearsReported follower.old.inside.host chunk.now result
+        (record { event = event.new; old = body.old; new = body.new }) }
+    ensures within { result ≤ length chunk.now }
+    ensures progress { 0 < length chunk.now → 0 < result }
+{
+    hear_event(follower.get(), now, chunk, event, body)
 }
 
 /// Uses all of the chunk, which came at this time.
@@ -168,12 +227,69 @@ pub extern "C" fn dgt_follower_heartbeats_left(follower: &mut DgtFollower) -> u3
     follower.get().heartbeats_left()
 }
 
-/// The line is lost: the follower is as new, with its period, its patience and its mode.
+/// Whether the picture is confirmed.
+#[unsafe(no_mangle)]
+pub extern "C" fn dgt_follower_confirmed(follower: &mut DgtFollower) -> bool
+    ensures place { follower.new.at ≡ follower.old.at }
+    ensures same { follower.new.inside ≡ follower.old.inside }
+    ensures confirmed { result ≡ follower.old.inside.pace.confirmed }
+{
+    follower.get().confirmed()
+}
+
+/// Has a picture that isn't confirmed be asked for again, or not.
+#[unsafe(no_mangle)]
+pub extern "C" fn dgt_follower_set_confirm(follower: &mut DgtFollower, confirm: bool)
+    ensures place { follower.new.at ≡ follower.old.at }
+    ensures set { follower.new.inside ≡ following follower.old.inside.host
+        (record follower.old.inside.pace { confirm = confirm }) }
+{
+    follower.get().set_confirm(confirm);
+}
+
+/// Has an asking be due at once, or as soon as the last one is answered.
+#[unsafe(no_mangle)]
+pub extern "C" fn dgt_follower_ask_now(follower: &mut DgtFollower)
+    ensures place { follower.new.at ≡ follower.old.at }
+    ensures wanted { follower.new.inside ≡ following follower.old.inside.host
+        (record follower.old.inside.pace { wanted = true }) }
+{
+    follower.get().ask_now();
+}
+
+/// The serial number of the board, if it was reported. False if it wasn't, and then `serial` stays.
+#[unsafe(no_mangle)]
+pub extern "C" fn dgt_follower_serial(follower: &mut DgtFollower, serial: &mut [u8; 5]) -> bool
+    ensures place { follower.new.at ≡ follower.old.at }
+    ensures same { follower.new.inside ≡ follower.old.inside }
+    ensures known { IsTrue result ↔ IsSome follower.old.inside.pace.serial }
+    ensures serial { MatchOption follower.old.inside.pace.serial (serial.new ≡ serial.old)
+        (λ digits. serial.new ≡ digits) }
+{
+    match follower.get().serial() {
+        Some(digits) => {
+            *serial = digits;
+            true
+        }
+        None => false,
+    }
+}
+
+/// Has the serial number of the board be requested while it is unknown, or not.
+#[unsafe(no_mangle)]
+pub extern "C" fn dgt_follower_set_identify(follower: &mut DgtFollower, identify: bool)
+    ensures place { follower.new.at ≡ follower.old.at }
+    ensures set { follower.new.inside ≡ following follower.old.inside.host
+        (record follower.old.inside.pace { identify = identify }) }
+{
+    follower.get().set_identify(identify);
+}
+
+/// The line is lost: the follower is as new, with its settings.
 #[unsafe(no_mangle)]
 pub extern "C" fn dgt_follower_line_lost(follower: &mut DgtFollower)
     ensures place { follower.new.at ≡ follower.old.at }
-    ensures new { follower.new.inside ≡ let pace = follower.old.inside.pace in
-        new_follower pace.period pace.patience pace.mode }
+    ensures new { follower.new.inside ≡ following new_host (forgetting follower.old.inside.pace) }
 {
     follower.get().line_lost();
 }

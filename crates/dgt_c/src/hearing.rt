@@ -17,6 +17,13 @@ use crate::header::{DgtCommand, DgtEvent};
 use dgt_command::MAX_WORD;
 use dgt_decode::{Event, MAX_TOTAL};
 
+/// A number that says yes or no.
+pub(crate) fn flag_for_c(said: bool) -> u8
+    ensures { result ≡ flag said }
+{
+    if said { 1 } else { 0 }
+}
+
 /// Writes an event to the struct, with its place and whether it was not asked for.
 #[inline(always)]
 pub(crate) fn report_heard(
@@ -29,7 +36,7 @@ pub(crate) fn report_heard(
         record (reported_at place (event_content_if_any event.now)) { unasked = flag unasked } }
 {
     report_at(event, place, out);
-    out.unasked = if unasked { 1 } else { 0 };
+    out.unasked = flag_for_c(unasked);
 }
 
 /// Uses bytes up to and including the first that makes an event, or all of them, and returns how

@@ -24,7 +24,7 @@ ghost use Rattle.dgt_c.specs.declared.header.{DgtBody.DgtBody, DgtClock.DgtClock
 use crate::header::*;
 use dgt_board::{MAX_KEPT_BODY, MAX_OWED, MAX_SENT};
 use dgt_command::{MAX_LED_BYTES, MAX_PAYLOAD, MAX_WORD};
-use dgt_follow::MAX_ASKING;
+use dgt_follow::{LEAST_PERIOD, MAX_ASKING};
 use dgt_host::{MAX_AWAITED, RESTART_LENGTH};
 use dgt_values::MAX_BODY;
 
@@ -40,13 +40,14 @@ pub fn limits()
     ensures max_awaited { MAX_AWAITED ≡ 16 }
     ensures restart_length { RESTART_LENGTH ≡ 257 }
     ensures max_asking { MAX_ASKING ≡ 259 }
+    ensures least_period { LEAST_PERIOD ≡ 1000 }
     ensures max_owed { MAX_OWED ≡ 8 }
     ensures max_sent { MAX_SENT ≡ 67 }
     ensures max_kept { MAX_KEPT_BODY ≡ 64 }
     ensures placement_room { PLACEMENT_ROOM ≡ 72 }
     ensures no_such { NONE ≡ 255 }
     ensures host_size { host_room ≡ 16520 }
-    ensures follower_size { follower_room ≡ 16592 }
+    ensures follower_size { follower_room ≡ 16608 }
     ensures decoder_size { decoder_room ≡ 16416 }
     ensures command_decoder_size { command_decoder_room ≡ 288 }
     ensures board_size { board_room ≡ 712 }
@@ -151,7 +152,7 @@ pub fn cases_differ()
 /// lies, and where its members begin, in the order of the law [`members`].
 pub fn layouts()
     ensures host { LiesAs host_row 16520 8 (0 ∷ 8 ∷ []) }
-    ensures follower { LiesAs follower_row 16592 8 (0 ∷ 8 ∷ []) }
+    ensures follower { LiesAs follower_row 16608 8 (0 ∷ 8 ∷ []) }
     ensures decoder { LiesAs decoder_row 16416 8 (0 ∷ 8 ∷ []) }
     ensures command_decoder { LiesAs command_decoder_row 288 8 (0 ∷ 8 ∷ []) }
     ensures board { LiesAs board_row 712 8 (0 ∷ 8 ∷ []) }

@@ -1,9 +1,11 @@
 //! What C asks of what a host knows, and a follower by its host.
 
-ghost use Rattle.std.specs.Prelude.{◌≡◌, ◌↔◌, ◌≤◌, ◌++◌, length, drop, map, IsTrue, IsSome, MatchOption};
+ghost use Rattle.std.specs.Prelude.{◌≡◌, ◌↔◌, ◌≤◌, ◌++◌, length, drop, map, option_map, IsTrue, IsSome, MatchOption};
 ghost use Rattle.dgt_values.specs.Board.{piece_code};
 ghost use Rattle.dgt_values.specs.Placement.{placement_text};
 ghost use Rattle.dgt_decode.specs.Grammar.{unfinished_message};
+ghost use Rattle.dgt_message.specs.Content.{clock_seen};
+ghost use Rattle.dgt_follow.specs.Follower.{clock_known};
 ghost use Rattle.dgt_c.specs.Clocks.{clock_if_reported};
 ghost use Rattle.dgt_c.specs.Kinds.{asking_code};
 ghost use Rattle.dgt_c.specs.Slices.{with_text};
@@ -12,7 +14,7 @@ use crate::clocks::clock_for_c;
 use crate::copying::put_placement;
 use crate::handles::{DgtFollower, DgtHost};
 use crate::header::{DgtClock, PLACEMENT_ROOM, UNKNOWN_CLOCK};
-use dgt_host::{Host, MAX_AWAITED};
+use dgt_host::{Clock, Host, MAX_AWAITED};
 use dgt_values::Kind;
 
 // The codes of the pieces on the board, if a picture is known; else the slice stays.
@@ -45,11 +47,12 @@ fn put_text(host: &Host, text: &mut [u8; PLACEMENT_ROOM]) -> bool
     }
 }
 
-// What was reported last of the clock.
-fn last_clock_for_c(host: &Host) -> DgtClock
-    ensures { result ≡ clock_if_reported host.now.clock }
+// A report of the clock, if it is known.
+fn known_clock_for_c(known: Option<&Clock>) -> DgtClock
+    ensures { result
+        ≡ clock_if_reported (option_map (λ clock. clock_seen clock.now) known.entry) }
 {
-    match host.clock() {
+    match known {
         Some(reported) => clock_for_c(reported),
         None => UNKNOWN_CLOCK,
     }
@@ -86,7 +89,7 @@ pub extern "C" fn dgt_host_clock(host: &mut DgtHost, clock: &mut DgtClock)
     ensures same { host.new.inside ≡ host.old.inside }
     ensures clock { clock.new ≡ clock_if_reported host.old.inside.clock }
 {
-    *clock = last_clock_for_c(host.get());
+    *clock = known_clock_for_c(host.get().clock());
 }
 
 /// The codes of the pieces on the board, if they are known; else the slice stays.
@@ -116,14 +119,14 @@ pub extern "C" fn dgt_follower_placement(
     put_text(follower.get().host(), text)
 }
 
-/// What was reported last of the clock.
+/// What was reported last of the clock, if that was readable.
 #[unsafe(no_mangle)]
 pub extern "C" fn dgt_follower_clock(follower: &mut DgtFollower, clock: &mut DgtClock)
     ensures place { follower.new.at ≡ follower.old.at }
     ensures same { follower.new.inside ≡ follower.old.inside }
-    ensures clock { clock.new ≡ clock_if_reported follower.old.inside.host.clock }
+    ensures clock { clock.new ≡ clock_if_reported (clock_known follower.old.inside) }
 {
-    *clock = last_clock_for_c(follower.get().host());
+    *clock = known_clock_for_c(follower.get().clock());
 }
 
 /// How many bytes were heard of an unfinished message.
