@@ -128,7 +128,8 @@ A fault may be what is left of a message, and then the pieces are wrong. With
 --doubt the first fault after a message of all squares has a line: the number of
 bytes up to there, then the word doubt. The pieces are in doubt up to the next
 message of all squares, and further faults before it have no line. Nor has a
-fault before the first one.
+fault before the first one. What 'dgt monitor' shows as refused 0d badreading is
+no fault here: a clock sends it while it is set, and it has come whole.
 
 With --clock a line follows each message of the clock, if its words differ from
 those before: the number of bytes up to there, and then the words. They begin

@@ -7,7 +7,8 @@ use Rattle.std.specs.Prelude.{bytes_eq, if◌then◌else◌, option_map, Bool, t
 use Rattle.dgt_message.specs.Clock.{ClockState}
 use Rattle.dgt_message.specs.Content.{clock_message}
 use Rattle.dgt_message.specs.Content.Content.{dump, field, times, no_clock}
-use Rattle.dgt_decode.specs.Grammar.{Event, Message, Placed, events}
+use Rattle.dgt_message.specs.declared.viewing.BodyFault.TheVariants.{BadReading}
+use Rattle.dgt_decode.specs.Grammar.{Event, Message, Placed, Refused, events}
 use Rattle.dgt_message.specs.Picture.{picture_after}
 use Rattle.dgt_lines.specs.declared.clocks.ShownClock.{ShownClock}
 use Rattle.dgt_lines.specs.declared.clocks.ShownClock.TheVariants.{Hidden, Unknown, Known}
@@ -42,11 +43,13 @@ one_stays place (Message (times readings)) before = of_clock (λ l. without_cloc
 one_stays place (Message (no_clock absence)) before =
     of_clock (λ l. without_clock l ≡ []) place _ before.clock refl refl
 one_stays place (Message _) before = refl
+one_stays place (Refused code (BadReading at)) before = refl
 one_stays place _ before = of_raised (λ l. without_clock l ≡ l) place before.picture before.doubt refl refl
 
 one_hidden : (event : Event) (before : PictureState)
     → hidden (state_after_event before event) ≡ state_after_event (hidden before) event
 one_hidden (Message (dump pieces)) before = refl
+one_hidden (Refused code (BadReading at)) before = refl
 one_hidden _ before = refl
 
 all_stay : (before : PictureState) (xs : List Placed) → without_clock (reports before xs) ≡ reports (hidden before) xs
@@ -82,6 +85,7 @@ one_silent place (Message (field square piece)) before h =
 one_silent place (Message (times readings)) before h = h (ClockState.times readings) refl
 one_silent place (Message (no_clock absence)) before h = h (ClockState.no_clock absence) refl
 one_silent place (Message _) before h = refl
+one_silent place (Refused code (BadReading at)) before h = refl
 one_silent place _ before h = of_raised (λ l. clocks_shown l ≡ []) place before.picture before.doubt refl refl
 
 all_silent : (before : PictureState) (xs : List Placed) → before.clock ≡ Hidden → clocks_shown (reports before xs) ≡ []
@@ -111,6 +115,7 @@ one_shown : (event : Event) (before : PictureState) (clock : Option ClockState) 
     → (state_after_event before event).clock ≡ shown_of (clock_after_event clock event)
 one_shown (Message (times readings)) before clock h = ap (shown_after _) h ∙ shows_other _ clock
 one_shown (Message (no_clock absence)) before clock h = ap (shown_after _) h ∙ shows_other _ clock
+one_shown (Refused code (BadReading at)) before clock h = h
 one_shown _ before clock h = h
 
 all_shown : (xs : List Placed) (before : PictureState) (clock : Option ClockState) → before.clock ≡ shown_of clock
@@ -141,6 +146,7 @@ one_last place (Message (field square piece)) before clock h =
 one_last place (Message (times readings)) before clock h = rw h (news_last place _ clock)
 one_last place (Message (no_clock absence)) before clock h = rw h (news_last place _ clock)
 one_last place (Message _) before clock h = refl
+one_last place (Refused code (BadReading at)) before clock h = refl
 one_last place _ before clock h =
     let last = option_map clock_text clock in
     of_raised (λ l. last_or last (clocks_shown l) ≡ last) place before.picture before.doubt refl refl

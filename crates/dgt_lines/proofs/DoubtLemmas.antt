@@ -7,13 +7,15 @@ use Rattle.std.specs.Prelude.{option_map, ⊤}
 use Rattle.dgt_values.specs.declared.pieces.Piece.{Piece}
 use Rattle.dgt_message.specs.Content.{Content}
 use Rattle.dgt_message.specs.Content.Content.{dump, field, times, no_clock}
-use Rattle.dgt_decode.specs.Grammar.{Event, Message, Placed, at_place, events}
+use Rattle.dgt_message.specs.declared.viewing.BodyFault.TheVariants.{BadReading}
+use Rattle.dgt_decode.specs.Grammar.{Event, Message, Placed, Refused, at_place, events}
+use Rattle.dgt_message.specs.Picture.{picture_after}
 use Rattle.dgt_lines.specs.declared.doubts.Doubt.{Doubt}
 use Rattle.dgt_lines.specs.declared.doubts.Doubt.TheVariants.{Ignored, Clear}
 use Rattle.dgt_lines.specs.declared.doubts.PictureState.{PictureState}
 use Rattle.dgt_lines.specs.declared.clocks.ShownClock.TheVariants.{Hidden}
 use Rattle.dgt_lines.specs.Pictures.{PlacedPicture, picture_after_event, picture_after_events, picture_line, picture_set, pictures}
-use Rattle.dgt_lines.specs.Reports.{Report, Shows, Doubts, DoubtsKeepThePicture, DoubtsLeavePictures, FirstFaultsAreReported, IgnoredFaultsAreSilent, IsFault, IsMessage, IsSure, clock_reports, doubt_after, doubt_after_fault, doubt_cleared, doubt_raised, doubting, fault_reports, message_reports, new_state, pictures_shown, report_line, reports, reports_at, shown_after, state_after_event, state_after_events}
+use Rattle.dgt_lines.specs.Reports.{Report, Shows, Doubts, DoubtsKeepThePicture, DoubtsLeavePictures, FirstFaultsAreReported, IgnoredFaultsAreSilent, IsFault, IsNoFault, IsSure, clock_reports, doubt_after, doubt_after_fault, doubt_cleared, doubt_raised, doubting, fault_reports, message_reports, new_state, pictures_shown, report_line, reports, reports_at, shown_after, state_after_event, state_after_events}
 use Rattle.dgt_lines.proofs.ReportLemmas.{of_clock, of_raised, reports-append}
 
 -- ---- the picture
@@ -21,6 +23,7 @@ use Rattle.dgt_lines.proofs.ReportLemmas.{of_clock, of_raised, reports-append}
 one_picture : (before : PictureState) (event : Event)
     → (state_after_event before event).picture ≡ picture_after_event before.picture event
 one_picture before (Message said) = refl
+one_picture before (Refused code (BadReading at)) = refl
 one_picture before _ = refl
 
 pub picture_kept : DoubtsKeepThePicture
@@ -48,6 +51,7 @@ one_shown place (Message (times readings)) before = of_clock (λ l. pictures_sho
 one_shown place (Message (no_clock absence)) before =
     of_clock (λ l. pictures_shown l ≡ []) place _ before.clock refl refl
 one_shown place (Message _) before = refl
+one_shown place (Refused code (BadReading at)) before = refl
 one_shown place _ before = of_raised (λ l. pictures_shown l ≡ []) place before.picture before.doubt refl refl
 
 shown_are_pictures : (before : PictureState) (xs : List Placed)
@@ -80,6 +84,7 @@ still_hidden : (before : PictureState) (event : Event) → before.clock ≡ Hidd
     → (state_after_event before event).clock ≡ Hidden
 still_hidden before (Message (times readings)) h = ap (shown_after _) h
 still_hidden before (Message (no_clock absence)) h = ap (shown_after _) h
+still_hidden before (Refused code (BadReading at)) h = h
 still_hidden before _ h = h
 
 pub always_hidden : (before : PictureState) (xs : List Placed) → before.clock ≡ Hidden
@@ -110,6 +115,7 @@ module _ (before : PictureState) (ignored : before.doubt ≡ Ignored) where
   still_ignored : (event : Event) → (state_after_event before event).doubt ≡ Ignored
   still_ignored (Message said) =
       ap (λ d. doubt_after d said) ignored ∙ doubt_or_cleared (λ d. d ≡ Ignored) Ignored said refl refl
+  still_ignored (Refused code (BadReading at)) = ignored
   still_ignored _ = fault_ignored
 
   fault_silent : (place : ℕ) → fault_reports place before ≡ []
@@ -118,6 +124,7 @@ module _ (before : PictureState) (ignored : before.doubt ≡ Ignored) where
   one_ignored : (place : ℕ) (event : Event) → before.clock ≡ Hidden
       → reports_at place event before ≡ sets place event before
   one_ignored place (Message said) h = hidden_message place said before h
+  one_ignored place (Refused code (BadReading at)) h = refl
   one_ignored place _ h = fault_silent place
 
 all_ignored : (before : PictureState) (xs : List Placed) → before.doubt ≡ Ignored → before.clock ≡ Hidden
@@ -190,13 +197,14 @@ message_settles before _ h = h
 event_settles : (before : PictureState) (event : Event) → (IsFault event → ⊥) → IsSettled before
     → IsSettled (state_after_event before event)
 event_settles before (Message said) m h = message_settles before said h
+event_settles before (Refused code (BadReading at)) m h = h
 event_settles before _ m h = absurd (m tt)
 
-messages_settle : (before : PictureState) (xs : List Placed) → AllByRecursion IsMessage xs → IsSettled before
+events_settle : (before : PictureState) (xs : List Placed) → AllByRecursion IsNoFault xs → IsSettled before
     → IsSettled (state_after_events before xs)
-messages_settle before [] m h = h
-messages_settle before (x ∷ xs) m h =
-    messages_settle (state_after_event before x.event) xs m.1 (event_settles before x.event m.0 h)
+events_settle before [] m h = h
+events_settle before (x ∷ xs) m h =
+    events_settle (state_after_event before x.event) xs m.1 (event_settles before x.event m.0 h)
 
 -- ---- a dump settles it, unless faults raise no doubt
 
@@ -216,6 +224,7 @@ fault_may _ _ h = h
 event_may : (before : PictureState) (event : Event) → MayRaise before.doubt
     → MayRaise (state_after_event before event).doubt
 event_may before (Message said) h = doubt_or_cleared MayRaise before.doubt said h (cleared_may before.doubt h)
+event_may before (Refused code (BadReading at)) h = h
 event_may before _ h = fault_may before.picture before.doubt h
 
 events_may : (before : PictureState) (xs : List Placed) → MayRaise before.doubt
@@ -240,13 +249,13 @@ sure_settled xs s =
     dump_settles s.pieces before.doubt (events_may start s.early tt) in
     subst (λ l. IsSettled (state_after_events start l)) (sym s.whole)
     (subst IsSettled (sym (fold-append _ start s.early (at_place s.place event ∷ s.late)))
-    (messages_settle (state_after_event before event) s.late s.no_fault settled))
+    (events_settle (state_after_event before event) s.late s.no_fault settled))
 
 -- either these events have the dump, or it was so before them
 abbrev Since : PictureState → List Placed → Type 0
-Since before xs = (IsSettled before × AllByRecursion IsMessage xs) ⊎ IsSure xs
+Since before xs = (IsSettled before × AllByRecursion IsNoFault xs) ⊎ IsSure xs
 
-module _ (before : PictureState) (place : ℕ) (xs : List Placed) (m : AllByRecursion IsMessage xs) where
+module _ (before : PictureState) (place : ℕ) (xs : List Placed) (m : AllByRecursion IsNoFault xs) where
   since_message : (said : Content) → IsSettled (state_after_event before (Message said))
       → Since before (at_place place (Message said) ∷ xs)
   since_message (dump pieces) h = inr
@@ -257,6 +266,7 @@ module _ (before : PictureState) (place : ℕ) (xs : List Placed) (m : AllByRecu
   since_event : (event : Event) → IsSettled (state_after_event before event)
       → Since before (at_place place event ∷ xs)
   since_event (Message said) h = since_message said h
+  since_event (Refused code (BadReading at)) h = inl (h, (λ f. f, m))
   since_event _ h = absurd (fault_unsettles before.picture before.doubt h)
 
 sure_later : (x : Placed) (xs : List Placed) → IsSure xs → IsSure (x ∷ xs)
@@ -285,12 +295,8 @@ settled_sure xs h = elim (since start xs h) [ inl k ↦ absurd k.0 | inr s ↦ s
 fault_at : (place : ℕ) (event : Event) (before : PictureState) → IsFault event
     → reports_at place event before ≡ fault_reports place before
 fault_at place (Message said) before f = absurd f
+fault_at place (Refused code (BadReading at)) before f = absurd f
 fault_at place _ before f = refl
-
-message_at : (place : ℕ) (event : Event) (before : PictureState) → (IsFault event → ⊥) → before.clock ≡ Hidden
-    → reports_at place event before ≡ sets place event before
-message_at place (Message said) before m h = hidden_message place said before h
-message_at place _ before m h = absurd (m tt)
 
 one_more : (earlier : List Placed) (x : Placed) (reported : List Report)
     → reports_at x.place x.event (state_after_events start earlier) ≡ reported
@@ -312,11 +318,10 @@ first_faults_are_reported = record {
       (fault_at x.place x.event now f
       ∙ unsettled_fault x.place now.picture now.doubt (λ h. n (settled_sure earlier h)))
       ∙ append-nil _;
-  messages = λ earlier x m.
-      let now = state_after_events start earlier in
-      one_more earlier x _
-      (message_at x.place x.event now m (always_hidden start earlier refl)
-      ∙ ap (λ p. map Shows (picture_set x.place x.event p))
-      (ap (λ p. picture_after_event p x.event) (picture_kept start earlier)
-      ∙ sym (fold-append _ None earlier (x ∷ []))));
+  messages = λ earlier place said.
+      one_more earlier (at_place place (Message said)) _
+      (hidden_message place said (state_after_events start earlier) (always_hidden start earlier refl)
+      ∙ ap (λ p. map Shows (picture_set place (Message said) (picture_after p said))) (picture_kept start earlier));
+  unreadable = λ earlier place code at.
+      one_more earlier (at_place place (Refused code (BadReading at))) [] refl ∙ append-nil _;
 }

@@ -1,15 +1,11 @@
 -- Reports of events, one event after another.
-use Rattle.std.proofs.Common.{◌≡◌, ℕ, List, [], ◌∷◌, ◌++◌, Option, Some, refl, ◌∙◌, ap, length}
+use Rattle.std.proofs.Common.{◌≡◌, ℕ, List, [], ◌∷◌, ◌++◌, Option, Some, ◌∙◌, ap, length}
 use Rattle.std.proofs.lemmas.Grind.{flat_map-append, fold-append}
 use Rattle.std.specs.List.{flat_map}
 use Rattle.std.specs.Prelude.{bytes_eq, if◌then◌else◌, true, false}
 use Rattle.dgt_values.specs.declared.pieces.Piece.{Piece}
-use Rattle.dgt_decode.specs.Grammar.{Event, Placed, events, unfinished_message}
-use Rattle.dgt_decode.specs.Feeding.{event_content}
+use Rattle.dgt_decode.specs.Grammar.{Placed, events, unfinished_message}
 use Rattle.dgt_decode.specs.Laws.{ChunksAdd}
-use Rattle.dgt_decode.specs.declared.event.Event as code
-use Rattle.dgt_decode.specs.declared.event.Event.TheVariants as code_events
-use Rattle.dgt_message.specs.declared.message.Message as code_message
 use Rattle.dgt_lines.specs.declared.clocks.ShownClock.{ShownClock}
 use Rattle.dgt_lines.specs.declared.clocks.ShownClock.TheVariants.{Hidden, Unknown, Known}
 use Rattle.dgt_lines.specs.declared.doubts.Doubt.{Doubt}
@@ -17,7 +13,7 @@ use Rattle.dgt_lines.specs.declared.doubts.Doubt.TheVariants.{Clear}
 use Rattle.dgt_lines.specs.declared.doubts.PictureState.{PictureState}
 use Rattle.dgt_lines.specs.Lines.{events_after}
 use Rattle.dgt_lines.proofs.PictureLemmas.{made_by-append}
-use Rattle.dgt_lines.specs.Reports.{Report, Doubts, ShowsClock, clock_reports, doubt_raised, fault_reports, report_line, report_lines, reports, reports_at, state_after_event, state_after_events, state_after_fault, state_from, text_from}
+use Rattle.dgt_lines.specs.Reports.{Report, Doubts, ShowsClock, clock_reports, doubt_raised, report_line, report_lines, reports, reports_at, state_after_event, state_after_events, state_from, text_from}
 
 -- what a fault reports is nothing or a doubt
 pub of_raised : (P : List Report → Type 0) (place : ℕ) (picture : Option (List Piece)) (doubt : Doubt) → P []
@@ -60,11 +56,3 @@ pub state_from-append : ChunksAdd → (before : PictureState) (bytes chunk : Lis
 state_from-append chunks before bytes chunk =
     ap (state_after_events before) (chunks.behind bytes chunk)
     ∙ fold-append _ before (events bytes) (events_after (unfinished_message bytes) (length bytes) chunk)
-
--- an event that is no message is a fault
-pub no_message : (e : code.Event) (event : Event)
-    → ((message : code_message.Message) → e ≡ code_events.Message message → ⊥) → event_content e ≡ event
-    → (state : PictureState) (place : ℕ) → (state_after_fault state ≡ state_after_event state event)
-    × (fault_reports place state ≡ reports_at place event state)
-no_message (code_events.Message message) event h e = absurd (h message refl)
-no_message _ event h e = λ state place. rw (← e) (refl, refl)

@@ -1,13 +1,16 @@
 -- The lines that show the board, those that say that it may be wrong, and those of its clock. A
 -- fault of the line may have swallowed a message: the first one since a dump puts the picture in
--- doubt, up to the next dump. The clock has a line if its text is another one than before.
+-- doubt, up to the next dump. A clock message that is refused for a digit, an unreadable one, is no
+-- fault: it has come whole, and clocks send it while they are set. The clock has a line if its text
+-- is another one than before.
 use Rattle.std.specs.Prelude.{◌≡◌, ◌≢◌, ⊤, ℕ, List, [], ◌∷◌, ◌++◌, fold, map, bytes_eq, codes, if◌then◌else◌, Option, Some, None, option_map}
 use Rattle.std.specs.List.{AllByRecursion, flat_map, last_or}
 use Rattle.dgt_values.specs.declared.pieces.Piece.{Piece}
 use Rattle.dgt_message.specs.Clock.{ClockState}
 use Rattle.dgt_message.specs.Content.{Content, clock_message}
 use Rattle.dgt_message.specs.Content.Content.{dump, times, no_clock}
-use Rattle.dgt_decode.specs.Grammar.{Event, Message, Placed, at_place, events}
+use Rattle.dgt_message.specs.declared.viewing.BodyFault.TheVariants.{BadReading}
+use Rattle.dgt_decode.specs.Grammar.{Event, Message, Placed, Refused, at_place, events}
 use Rattle.dgt_message.specs.Picture.{clock_after, picture_after}
 use Rattle.dgt_lines.specs.declared.clocks.ShownClock.{ShownClock}
 use Rattle.dgt_lines.specs.declared.clocks.ShownClock.TheVariants.{Hidden, Unknown, Known}
@@ -70,9 +73,10 @@ state_after_message before said = record {
   clock = clock_shown_after before.clock said;
 }
 
--- an event that is no message is a fault
+-- an event is a message, an unreadable clock message, or a fault
 abbrev pub state_after_event : PictureState → Event → PictureState
 state_after_event before (Message said) = state_after_message before said
+state_after_event before (Refused code (BadReading at)) = before
 state_after_event before _ = state_after_fault before
 
 abbrev pub state_after_events : PictureState → List Placed → PictureState
@@ -125,6 +129,7 @@ news_at place Clock after = clock_known_at place after.clock
 -- what is reported of an event at this place, with the state before it
 abbrev pub reports_at : ℕ → Event → PictureState → List Report
 reports_at place (Message said) before = message_reports place said before
+reports_at place (Refused code (BadReading at)) before = []
 reports_at place _ before = fault_reports place before
 
 -- and of events, one after another
@@ -181,13 +186,14 @@ DoubtsKeepThePicture =
 abbrev pub IgnoredFaultsAreSilent : Type 0
 IgnoredFaultsAreSilent = (bytes : List ℕ) → report_text Ignored bytes ≡ pictures_text bytes
 
--- an event that is no message
+-- an event that is no message, nor an unreadable one of the clock
 abbrev pub IsFault : Event → Type 0
 IsFault (Message _) = ⊥
+IsFault (Refused _ (BadReading _)) = ⊥
 IsFault _ = ⊤
 
-abbrev pub IsMessage : Placed → Type 0
-IsMessage x = IsFault x.event → ⊥
+abbrev pub IsNoFault : Placed → Type 0
+IsNoFault x = IsFault x.event → ⊥
 
 -- a dump came, and no fault since
 pub record IsSure (placed : List Placed) : Type 0 where
@@ -196,23 +202,26 @@ pub record IsSure (placed : List Placed) : Type 0 where
   pub pieces : List Piece
   pub late : List Placed
   pub whole : placed ≡ early ++ at_place place (Message (dump pieces)) ∷ late
-  pub no_fault : AllByRecursion IsMessage late
+  pub no_fault : AllByRecursion IsNoFault late
 
 -- what is reported of events, if nothing was known before and faults raise doubts
 abbrev pub doubting : List Placed → List Report
 doubting placed = reports (new_state Clear) placed
 
 -- A fault is reported if it is the first one since a dump, and no other is. A message is reported
--- if it sets the picture.
+-- if it sets the picture. An unreadable clock message isn't.
 pub record FirstFaultsAreReported : Type 0 where
   pub nothing : doubting [] ≡ []
   pub first : (earlier : List Placed) (x : Placed) → IsFault x.event → IsSure earlier
       → doubting (earlier ++ x ∷ []) ≡ doubting earlier ++ Doubts x.place ∷ []
   pub later : (earlier : List Placed) (x : Placed) → IsFault x.event → (IsSure earlier → ⊥)
       → doubting (earlier ++ x ∷ []) ≡ doubting earlier
-  pub messages : (earlier : List Placed) (x : Placed) → IsMessage x
-      → doubting (earlier ++ x ∷ []) ≡ doubting earlier ++ map Shows
-      (picture_set x.place x.event (picture_after_events None (earlier ++ x ∷ [])))
+  pub messages : (earlier : List Placed) (place : ℕ) (said : Content)
+      → doubting (earlier ++ at_place place (Message said) ∷ []) ≡ doubting earlier ++ map Shows
+      (picture_set place (Message said) (picture_after (picture_after_events None earlier) said))
+  pub unreadable : (earlier : List Placed) (place code at : ℕ)
+      → doubting (earlier ++ at_place place (Refused code (BadReading at)) ∷ [])
+      ≡ doubting earlier
 
 -- ---- What holds of the clock
 

@@ -263,7 +263,8 @@ pub fn doubts_leave_pictures()
     ensures ignored { IgnoredFaultsAreSilent }
 {}
 
-/// A fault is reported if it is the first one since a dump, and no other fault is.
+/// A fault is reported if it is the first one since a dump, and no other fault is. A clock message
+/// that is refused for a digit is no fault.
 pub fn first_faults_are_reported()
     ensures { FirstFaultsAreReported }
 {}

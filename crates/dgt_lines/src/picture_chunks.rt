@@ -19,6 +19,7 @@ use crate::pictures::Picture;
 use crate::printers::Printer;
 use crate::streams::Sink;
 use dgt_decode::{Event, Found, Framer, field_update, laws};
+use dgt_message::BodyFault;
 
 /// Room for the lines of placements of 4,096 bytes of field updates: 820 lines of at most 81 bytes,
 /// if the offset has eight digits.
@@ -106,8 +107,9 @@ fn push_clock_line(outgoing: &mut Outgoing<PICTURES_ROOM>, text: &Outgoing<CLOCK
     outgoing.push(b"\n");
 }
 
-// A whole message sets the picture or shows the clock, and its line follows; one that says nothing
-// is a fault. Not inlined, since room for an event would be cleared for each field too.
+// A whole message sets the picture or shows the clock, and its line follows; one that is refused is
+// a fault, unless it is an unreadable one of the clock. Not inlined, since room for an event would
+// be cleared for each field too.
 #[inline(never)]
 fn hear_event<W: Sink>(
     state: &mut PictureState,
@@ -121,8 +123,15 @@ fn hear_event<W: Sink>(
     ensures puts { Puts W.Sink (outgoing.old, outgoing.new) writer.old writer.new result
         (flat_map report_line (reports_at offset (message_event framer.now) state.old)) }
 {
-    let Some(Event::Message(message)) = framer.event(Found::Message) else {
-        return hear_fault(state, outgoing, writer, offset);
+    let message = match framer.event(Found::Message) {
+        Some(Event::Message(message)) => message,
+        Some(
+            Event::Refused {
+                fault: BodyFault::BadReading { .. },
+                ..
+            },
+        ) => return Ok(()),
+        _ => return hear_fault(state, outgoing, writer, offset),
     };
     match state.hear(&message) {
         News::Nothing => Ok(()),

@@ -104,7 +104,8 @@ pub fn picture<R: Source, W: Sink>(
 ///
 /// The line is the offset, a space, the word `doubt` and a line feed. It comes for the first fault
 /// since a dump: an event that is no message, which may be all that is left of one. The next dump
-/// ends the doubt. Before the first dump there is no such line.
+/// ends the doubt. Before the first dump there is no such line. A clock message that is refused for
+/// a digit is no fault: it has come whole, and clocks send it while they are set.
 ///
 /// Its errors are those of [`monitor`].
 pub fn picture_with_doubts<R: Source, W: Sink>(
