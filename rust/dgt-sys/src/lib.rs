@@ -47,6 +47,8 @@ pub const DGT_MAX_AWAITED: usize = 16;
 pub const DGT_RESTART_LENGTH: usize = 257;
 /// The most bytes that [`dgt_follower_ask`] writes.
 pub const DGT_MAX_ASKING: usize = 259;
+/// The least period of a follower, in milliseconds.
+pub const DGT_LEAST_PERIOD: u64 = 1000;
 /// The most replies that a board owes.
 pub const DGT_MAX_OWED: usize = 8;
 /// The most bytes that [`dgt_board_poll`] writes.
@@ -59,7 +61,7 @@ pub const DGT_PLACEMENT_ROOM: usize = 72;
 /// How many bytes a [`dgt_host`] takes.
 pub const DGT_HOST_SIZE: usize = 16520;
 /// How many bytes a [`dgt_follower`] takes.
-pub const DGT_FOLLOWER_SIZE: usize = 16592;
+pub const DGT_FOLLOWER_SIZE: usize = 16608;
 /// How many bytes a [`dgt_decoder`] takes.
 pub const DGT_DECODER_SIZE: usize = 16416;
 /// How many bytes a [`dgt_command_decoder`] takes.
@@ -565,12 +567,15 @@ unsafe extern "C" {
     pub fn dgt_follower_init(follower: *mut dgt_follower);
     /// Makes a follower anew, with this period and this patience.
     pub fn dgt_follower_start(follower: *mut dgt_follower, period: u64, patience: u32);
-    /// Hears bytes up to the first event.
+    /// Hears bytes up to the first event, and reports it.
     pub fn dgt_follower_hear(
         follower: *mut dgt_follower,
         now: u64,
         bytes: *const u8,
         n: usize,
+        event: *mut dgt_event,
+        body: *mut u8,
+        capacity: usize,
     ) -> usize;
     /// Hears a chunk.
     pub fn dgt_follower_hear_all(follower: *mut dgt_follower, now: u64, bytes: *const u8, n: usize);
@@ -583,6 +588,12 @@ unsafe extern "C" {
     ) -> dgt_sent;
     /// When it asks next. False if that is never.
     pub fn dgt_follower_due_at(follower: *mut dgt_follower, time: *mut u64) -> bool;
+    /// Has an asking be due at once, or once the last one is answered.
+    pub fn dgt_follower_ask_now(follower: *mut dgt_follower);
+    /// Has a picture that isn't confirmed be asked for again, or not.
+    pub fn dgt_follower_set_confirm(follower: *mut dgt_follower, confirm: bool);
+    /// Has the serial number be requested while it is unknown, or not.
+    pub fn dgt_follower_set_identify(follower: *mut dgt_follower, identify: bool);
     /// The mode that it asks for.
     pub fn dgt_follower_mode(follower: *mut dgt_follower) -> u8;
     /// Sets the mode that it asks for. False if it is none that reports squares.
@@ -679,6 +690,10 @@ unsafe extern "C" {
     pub fn dgt_follower_unread(follower: *mut dgt_follower) -> usize;
     /// Whether the picture may be wrong.
     pub fn dgt_follower_in_doubt(follower: *mut dgt_follower) -> bool;
+    /// Whether the picture is confirmed.
+    pub fn dgt_follower_confirmed(follower: *mut dgt_follower) -> bool;
+    /// The serial number of the board. False, and nothing written, if none was reported.
+    pub fn dgt_follower_serial(follower: *mut dgt_follower, serial: *mut [u8; 5]) -> bool;
     /// The time of the last whole message. False if none was heard.
     pub fn dgt_follower_last_heard(follower: *mut dgt_follower, time: *mut u64) -> bool;
     /// How many heartbeats may still follow one another.

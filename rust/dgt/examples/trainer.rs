@@ -10,7 +10,7 @@ fn follow(path: &str, seen: &mut (Option<Position>, Option<Clock>, u32)) -> Resu
     loop {
         let (count, mut at) = (port.exchange(&mut board, &mut chunk)?, 0);
         while at < count {
-            at += board.hear(now(), &chunk[at..count]);
+            at += board.hear(now(), &chunk[at..count]).used;
             let picture = board.picture().filter(|it| !board.in_doubt() && Some(*it) != seen.0);
             if let Some(new) = picture {
                 (seen.0, seen.2) = (picture, seen.2 + 1);

@@ -2,14 +2,21 @@
 
 use crate::clocks::Clock;
 use crate::commands::Command;
+use crate::decoder::body_room;
 use crate::errors::{NoRoom, SendFault};
+use crate::events::{NO_EVENT, read_event};
 use crate::handle::{Handle, SendCalls, read_sent};
+use crate::host::Heard;
 use crate::positions::Position;
+use alloc::boxed::Box;
 use core::fmt;
 use dgt_sys::{self as sys, dgt_clock, dgt_follower};
 
 /// The most bytes that a follower writes when it asks.
 pub const MAX_ASKING: usize = sys::DGT_MAX_ASKING;
+
+/// The least period of a follower, in milliseconds.
+pub const LEAST_PERIOD: u64 = sys::DGT_LEAST_PERIOD;
 
 const SEND: SendCalls<dgt_follower> = SendCalls {
     bare: sys::dgt_follower_send,
@@ -50,40 +57,49 @@ pub enum UpdateMode {
 /// let count = follower.ask(0, &mut out).unwrap(); // write these bytes to the line
 /// assert_eq!(out[count - 3..count], [0x44, 0x42, 0x44]);
 /// follower.hear_all(5, b"\x8e\x00\x05\x24"); // what came
-/// assert_eq!(follower.due_at(), Some(10_000)); // wait for bytes until then
+/// assert_eq!(follower.due_at(), Some(1000)); // wait for bytes until then, and ask again
 /// ```
 pub struct Follower {
     handle: Handle<dgt_follower>,
+    body: Box<[u8]>,
 }
 
 impl Follower {
     /// A follower that has never asked, and asks for changed squares ([`UpdateMode::Squares`]).
     ///
-    /// `period` is in milliseconds, from one asking to the next: with 0 every call of `ask` is due.
-    /// `patience` is how many heartbeats may follow one another before it begins anew whatever it
-    /// has heard; with 0 it always begins anew.
+    /// `period` is in milliseconds, from one asking to the next. A shorter one than
+    /// [`LEAST_PERIOD`] counts as that. `patience` is how many heartbeats may follow one another
+    /// before it begins anew whatever it has heard; with 0 it always begins anew.
     pub fn new(period: u64, patience: u32) -> Self {
         // SAFETY: the call makes a follower, or returns false.
         let handle = unsafe { Handle::new(|at| sys::dgt_follower_new(at, period, patience)) };
-        Follower { handle }
+        Follower { handle, body: body_room() }
     }
 
     /// Uses bytes of the chunk, which came at this time, up to and including the first that makes
-    /// an event, or all of it, as [`Host::hear`](crate::Host::hear) does, and returns how many.
-    /// Call again with the bytes that are left.
+    /// an event, or all of it, as [`Host::hear`](crate::Host::hear) does. Call again with the bytes
+    /// that are left.
     ///
-    /// A cut, refused, misstated or stray message and an unasked one are disturbances. After a
-    /// disturbance the next asking begins anew. It is due at once, but not before a quarter of the
-    /// period after the last one.
-    pub fn hear(&mut self, now: u64, chunk: &[u8]) -> usize {
-        let at = self.handle.at();
-        // SAFETY: the follower was made by `new` and is borrowed here alone. The slice is as long
+    /// Disturbances are a cut, refused, misstated or stray message, an unasked one, and a dump that
+    /// isn't the picture that was known. After a disturbance the next asking begins anew. It is due
+    /// at once, but not before a quarter of the period after the last one.
+    ///
+    /// A clock that shows no digits, as one does while it is set, is none. If a new beginning gave
+    /// up requests of the caller's own while nothing was wrong, an unasked message before the next
+    /// asking is none either.
+    pub fn hear(&mut self, now: u64, chunk: &[u8]) -> Heard<'_> {
+        let (mut told, at, body) = (NO_EVENT, self.handle.at(), &mut self.body);
+        // SAFETY: the follower was made by `new` and is borrowed here alone. Each slice is as long
         // as it says.
-        unsafe { sys::dgt_follower_hear(at, now, chunk.as_ptr(), chunk.len()) }
+        let used = unsafe {
+            let (begin, n, room) = (chunk.as_ptr(), chunk.len(), body.len());
+            sys::dgt_follower_hear(at, now, begin, n, &mut told, body.as_mut_ptr(), room)
+        };
+        Heard { used, event: read_event(&told, body), unasked: told.unasked != 0 }
     }
 
     /// Uses all of the chunk, which came at this time, as [`Follower::hear`] does one event after
-    /// another.
+    /// another, and reports no event.
     pub fn hear_all(&mut self, now: u64, chunk: &[u8]) {
         let at = self.handle.at();
         // SAFETY: the follower was made by `new` and is borrowed here alone. The slice is as long
@@ -92,10 +108,17 @@ impl Follower {
     }
 
     /// Asks the board, if that is due, and returns how many bytes it wrote at the beginning of
-    /// the slice, at most [`MAX_ASKING`]. If it isn't due, nothing changes and the result is 0.
+    /// the slice, at most [`MAX_ASKING`]. If it isn't due, the result is 0.
     ///
-    /// The first asking is due at any time, and each other one a period after the last. After a
-    /// disturbance it is due a quarter of the period after the last.
+    /// The first asking is due at any time, and each other one a period after the last. It is due
+    /// earlier
+    ///
+    /// - after a disturbance: a quarter of the period after the last;
+    /// - if the last has no answer: a quarter of the period after it, but no less than a second;
+    /// - after [`Follower::set_confirm`]: a second after the picture last changed and after the
+    ///   last asking, until it is confirmed;
+    /// - after [`Follower::ask_now`]: at once, or when the last asking is answered;
+    /// - if `now` is before the last asking, since the caller's clock has gone back.
     ///
     /// It writes a heartbeat, the mode's command and `42`, on these conditions:
     ///
@@ -104,6 +127,9 @@ impl Follower {
     ///
     /// Otherwise it begins anew: it gives up what it awaits, and writes 255 zeros, `44 42` and the
     /// mode's command. If the mode reports the clock, `41` follows, which requests a reading of it.
+    ///
+    /// An answer that is a second late is a doubt from the next call on, whether that writes or
+    /// not.
     ///
     /// `NoRoom` if the slice is shorter than what is due, and then nothing changes.
     pub fn ask(&mut self, now: u64, out: &mut [u8]) -> Result<usize, NoRoom> {
@@ -117,8 +143,9 @@ impl Follower {
         })
     }
 
-    /// The first time at which [`Follower::ask`] writes, if nothing is heard before: 0 if it has
-    /// never asked. `None` if that is past the last time that a `u64` counts.
+    /// The first time at which [`Follower::ask`] writes, or finds an answer overdue, if nothing is
+    /// heard before: 0 if it asks at once. `None` if that is past the last time that a `u64`
+    /// counts.
     pub fn due_at(&self) -> Option<u64> {
         let mut time = 0;
         // SAFETY: the follower was made by `new`, and no other call is under way.
@@ -154,9 +181,43 @@ impl Follower {
         unsafe { sys::dgt_follower_set_mode(self.handle.at(), mode) };
     }
 
+    /// Has an asking be due at once, or as soon as the last one is answered: a picture is wanted
+    /// that is no older than this call.
+    pub fn ask_now(&mut self) {
+        // SAFETY: the follower was made by `new`, and is borrowed here alone.
+        unsafe { sys::dgt_follower_ask_now(self.handle.at()) };
+    }
+
+    /// Has a picture that isn't confirmed be asked for again, a second after its last change, or
+    /// not.
+    ///
+    /// ```
+    /// use dgt::{Follower, MAX_ASKING, Position};
+    ///
+    /// let (mut follower, mut out) = (Follower::default(), [0; MAX_ASKING]);
+    /// let dump = [&[0x86, 0x00, 0x43][..], &Position::start().codes()].concat();
+    /// follower.set_confirm(true);
+    /// for time in [0, 1000] {
+    ///     assert!(!follower.confirmed() && follower.ask(time, &mut out).unwrap() > 0);
+    ///     follower.hear_all(time, &dump);
+    /// }
+    /// assert!(follower.confirmed() && follower.due_at() == Some(11_000));
+    /// ```
+    pub fn set_confirm(&mut self, confirm: bool) {
+        // SAFETY: the follower was made by `new`, and is borrowed here alone.
+        unsafe { sys::dgt_follower_set_confirm(self.handle.at(), confirm) };
+    }
+
+    /// Has the serial number of the board be requested while it is unknown, or not: by `45`, once
+    /// after each asking that was answered, at most three times.
+    pub fn set_identify(&mut self, identify: bool) {
+        // SAFETY: the follower was made by `new`, and is borrowed here alone.
+        unsafe { sys::dgt_follower_set_identify(self.handle.at(), identify) };
+    }
+
     /// The line to the board is lost, and what was under way on it. The follower is as new, with
-    /// its period, its patience and its mode: it knows no picture, and its next asking is due at
-    /// once and begins anew.
+    /// its period, its patience and its mode, and with whether it confirms and identifies. It knows
+    /// no picture and no serial number, and its next asking is due at once and begins anew.
     pub fn line_lost(&mut self) {
         // SAFETY: the follower was made by `new`, and is borrowed here alone.
         unsafe { sys::dgt_follower_line_lost(self.handle.at()) };
@@ -171,7 +232,8 @@ impl Follower {
         is_known.then(|| Position::reported(&codes))
     }
 
-    /// What the board reported last of its clock, if it reported any of it.
+    /// What the board reported last of its clock, if it reported any of it. `None` while the clock
+    /// shows no digits, from a report that was refused for that to the next that can be read.
     pub fn clock(&self) -> Option<Clock> {
         let mut clock = dgt_clock::default();
         // SAFETY: the follower was made by `new`, and no other call is under way.
@@ -186,10 +248,30 @@ impl Follower {
     }
 
     /// Whether the picture may be wrong: since the last dump that was awaited there was a
-    /// disturbance, or an asking found the one before it unanswered.
+    /// disturbance, or an answer was overdue.
     pub fn in_doubt(&self) -> bool {
         // SAFETY: the follower was made by `new`, and no other call is under way.
         unsafe { sys::dgt_follower_in_doubt(self.handle.at()) }
+    }
+
+    /// Whether the picture is confirmed: an awaited dump repeated it, and since then nothing
+    /// changed it, no message came unasked, nothing disturbed and no answer was overdue. The first
+    /// awaited dump after a new beginning doesn't confirm, since it may be a late answer to an
+    /// earlier asking.
+    ///
+    /// The picture was right when that dump was sent, if at most one message was altered, lost or
+    /// inserted since the last whole one. A change that is lost later shows with the next dump.
+    pub fn confirmed(&self) -> bool {
+        // SAFETY: the follower was made by `new`, and no other call is under way.
+        unsafe { sys::dgt_follower_confirmed(self.handle.at()) }
+    }
+
+    /// The serial number of the board, if it was reported since the line was last lost.
+    pub fn serial(&self) -> Option<[u8; 5]> {
+        let mut serial = [0; 5];
+        // SAFETY: the follower was made by `new`, and no other call is under way. There is room for
+        // five bytes.
+        unsafe { sys::dgt_follower_serial(self.handle.at(), &mut serial) }.then_some(serial)
     }
 
     /// The time of the last whole message, if one was heard.
@@ -218,6 +300,7 @@ impl fmt::Debug for Follower {
         to.debug_struct("Follower")
             .field("picture", &self.picture().map(|picture| picture.placement()))
             .field("in_doubt", &self.in_doubt())
+            .field("confirmed", &self.confirmed())
             .field("clock", &self.clock())
             .field("due_at", &self.due_at())
             .finish_non_exhaustive()

@@ -64,7 +64,7 @@ impl Kind {
     }
 }
 
-/// What a host heard in a chunk.
+/// What a host or a follower heard in a chunk.
 ///
 /// ```
 /// use dgt::Host;
@@ -79,8 +79,7 @@ pub struct Heard<'a> {
     /// How many bytes of the chunk were used: those up to and including the one that makes the
     /// event, else all.
     pub used: usize,
-    /// What the last of them made known. With no event, nothing but the unread bytes of the host
-    /// has changed.
+    /// What the last of them made known. With no event, nothing but the unread bytes has changed.
     pub event: Option<Event<'a>>,
     /// Whether the event is a message of a [`Kind`] that isn't the first awaited. Such a message
     /// leaves the awaited list alone; an unasked dump sets the picture all the same.

@@ -89,7 +89,7 @@ pub use errors::{
     NotThisKind, SendFault, TooLong, TooMuch,
 };
 pub use events::{BodyFault, Event};
-pub use follower::{Follower, MAX_ASKING, UpdateMode};
+pub use follower::{Follower, LEAST_PERIOD, MAX_ASKING, UpdateMode};
 pub use host::{Heard, Host, Kind, MAX_AWAITED, RESTART_LENGTH};
 pub use identities::{Identity, MAX_KEPT_BODY};
 pub use messages::{ClockAck, Message, OtherCode};

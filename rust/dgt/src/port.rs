@@ -82,9 +82,9 @@ impl Port {
         }
     }
 
-    /// Sends what a follower asks the board for, if it asks now, and reads until it asks next.
-    /// Returns how many bytes came, which the follower has yet to hear: 0 if none came by then, or
-    /// after a signal. A fault if the port has gone.
+    /// Sends what a follower asks the board for, if it asks now, and reads until it is due again
+    /// ([`Follower::due_at`]). Returns how many bytes came, which the follower has yet to hear: 0
+    /// if none came by then, or after a signal. A fault if the port has gone.
     pub fn exchange(&mut self, follower: &mut Follower, chunk: &mut [u8]) -> io::Result<usize> {
         let mut asked = [0; MAX_ASKING];
         let count = follower.ask(now(), &mut asked)?;

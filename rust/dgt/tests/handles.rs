@@ -37,7 +37,7 @@ struct All {
 fn begun() -> All {
     let mut all = All {
         host: Host::new(),
-        follower: Follower::new(10, 6),
+        follower: Follower::default(),
         decoder: Decoder::new(),
         reader: CommandDecoder::new(),
         board: Board::default(),
@@ -108,7 +108,8 @@ fn they_have_a_text() {
         format!("{:?}", all.board),
     ];
     assert_eq!(texts[0], "Host { picture: None, clock: None, unread: 30, .. }");
-    let follower = "Follower { picture: None, in_doubt: false, clock: None, due_at: Some(0), .. }";
+    let follower = "Follower { picture: None, in_doubt: false, confirmed: false, clock: None, \
+                    due_at: Some(0), .. }";
     assert_eq!(texts[1], follower);
     assert_eq!(texts[2..4], ["Decoder { rest: 30, .. }", "CommandDecoder { partial: 3, .. }"]);
     assert!(
