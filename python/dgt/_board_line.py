@@ -2,65 +2,54 @@
 
 from __future__ import annotations
 
-import contextlib
 import time
 
 from ._display import Display
-from .commands import Ask
-from .decoder import Decoder
-from .errors import TooManyAwaited
 from .events import Ack, Dump
 from .following import BoardView, Following
 
+_PATIENCE = 30
+"""The board is asked so often that it would begin anew every few seconds by the usual patience."""
+
 
 class BoardLine(Following):
-    """A board that is followed on a port. `wait` also returns after a dump or an acknowledgement of
-    the clock that changed nothing."""
+    """A board that is followed on a port, and whose picture is confirmed soon. `wait` also returns
+    after a dump or an acknowledgement of the clock that changed nothing."""
 
     def __init__(self, port: str, period: float) -> None:
         """`OSError` if the port is a file that is no serial port."""
-        self.dumps = 0
-        """How many times the board has reported all squares."""
-        self.last_dump: tuple[str, float] | None = None
-        """The letters of the last report of all squares, and when it came."""
+        self.asked_at = self.confirmed_at = float("-inf")
+        """When the last dump that confirmed the picture was asked for, and when it came."""
         self.shown_move = Display()
-        self._decoder = Decoder()
-        super().__init__(port, period, wait_for_port=True)
+        super().__init__(port, period, patience=_PATIENCE, confirm=True, wait_for_port=True)
 
     def _hear(self, chunk: bytes, now: float) -> None:
-        super()._hear(chunk, now)
-        is_news = False
-        for event in self._decoder.feed(chunk):
-            if isinstance(event, Dump):
-                self.dumps += 1
-                self.last_dump = event.position.letters, now
-            elif isinstance(event, Ack):
-                self.shown_move.acknowledge(event)
-            else:
-                continue
-            is_news = True
-        if is_news:
+        events = self._steps.hear(chunk, now)
+        has_dump = any(isinstance(event, Dump) for event in events)
+        if has_dump and self.view.confirmed:
+            self.asked_at, self.confirmed_at = self._steps.asked_at, now
+        acks = [event for event in events if isinstance(event, Ack)]
+        for ack in acks:
+            self.shown_move.acknowledge(ack)
+        if has_dump or acks:
             self._steps.changes.append(self.view)
 
     def _look(self, is_first: bool = False) -> None:
-        self._decoder.reset()
         self.shown_move.plug()
         super()._look(is_first)
 
-    def request_dump(self) -> None:
-        """Requests a report of all squares, if it can be awaited."""
-        with contextlib.suppress(TooManyAwaited):
-            self.write(self.follower.send(Ask.DUMP))
+    def has_confirmed(self, since: float) -> bool:
+        """Whether the board was asked at this time or later, and has confirmed the picture."""
+        return self.view.confirmed and self.asked_at >= round(since, 3)
 
-    def hear_dump(self, until: float) -> list[BoardView]:
-        """Requests a report of all squares, and hears the board until one comes, or until a time.
-        Returns what is known after each change."""
-        dumps, views = self.dumps, list[BoardView]()
-        self.request_dump()
-        while self.dumps == dumps and time.monotonic() < until:
+    def ask_until(self, until: float) -> list[BoardView]:
+        """Asks the board, and hears it until it has confirmed the picture, or until a time. Returns
+        what is known after each change."""
+        begun, views, changes = time.monotonic(), list[BoardView](), self._steps.changes
+        while not self.has_confirmed(begun) and time.monotonic() < until:
+            self.follower.ask_now()
             if view := self.wait(until):
                 views.append(view)
-        changes = self._steps.changes
         views += changes
         changes.clear()
         return views

@@ -7,7 +7,7 @@ from .events import Ack
 from .values import segment
 
 _ANSWER_WAIT = 2.0
-"""For how long a message to the clock may stay without an acknowledgement, in seconds."""
+"""After how many seconds a message that the clock hasn't acknowledged is sent again."""
 _VERSION_WAIT = 10.0
 """How often a clock that didn't answer is asked for its version again."""
 _WITH_TEXT = 2
@@ -30,9 +30,9 @@ def message_of(move: str, version: int) -> Message:
 
 
 class Display:
-    """Decides what the clock is sent, and when: one message at a time. A clock has to report its
-    version first. Write what `take` returns to the board at the time `due`, and hand over what the
-    clock acknowledges.
+    """Decides what the clock is sent, and when: one message at a time, and again until the clock
+    acknowledges it. A clock has to report its version first. Write what `take` returns to the board
+    at the time `due`, and hand over what the clock acknowledges.
 
     >>> from dgt._display import Display
     >>> display = Display()
@@ -42,51 +42,66 @@ class Display:
     >>> display.acknowledge(Ack(bytes([0x10, 0x09, 0x20, 0]), 0))  # the version is 2.0
     >>> display.take(0.1)
     (<ClockId.TEXT: 12>, b'e7e5    \\x03')
+    >>> display.due
+    2.1
     """
 
     def __init__(self) -> None:
         self._move: str | None = None
+        # Whether the clock hasn't acknowledged yet what it is to show, and whether it may show a
+        # move.
         self._is_new = self._is_shown = False
         self._version: int | None = None
-        self._sent_at: float | None = None
-        self._version_at: float | None = None
+        self._sent: Message | None = None
+        self._sent_at = self._version_at = float("-inf")
 
     def plug(self) -> None:
         """Notes that the board was opened: its clock isn't known."""
-        self._version = self._sent_at = self._version_at = None
-        self._is_new = self._move is not None
+        self._version = self._sent = None
+        self._sent_at = self._version_at = float("-inf")
+        self._is_new = self._move is not None or self._is_shown
 
     def show(self, move: str) -> None:
         """Has the clock show a move."""
         self._move, self._is_new = move, True
 
     def end(self) -> None:
-        """Has the clock show its times again, if it shows a move."""
+        """Has the clock show its times again, if it may show a move."""
         self._move, self._is_new = None, self._is_shown
 
     def acknowledge(self, ack: Ack) -> None:
-        """Notes what the clock acknowledges."""
-        self._sent_at = None
-        if ack.ack[0] == _DONE and ack.ack[1] == ClockId.VERSION:
+        """Notes what the clock acknowledges: what it was sent, or something else, as a button."""
+        if ack.ack[0] != _DONE:
+            return
+        if ack.ack[1] == ClockId.VERSION:
             self._version = ack.ack[2]
+        if self._sent is None or ack.ack[1] != self._sent[0]:
+            return
+        if self._sent == self._message:
+            self._is_new, self._is_shown = False, self._move is not None
+        self._sent, self._sent_at = None, float("-inf")
+
+    @property
+    def _message(self) -> Message:
+        """What the clock is to be sent."""
+        if self._version is None:
+            return ClockId.VERSION, b""
+        return message_of(self._move, self._version) if self._move else (ClockId.END, b"")
 
     @property
     def due(self) -> float | None:
         """The time from which on `take` returns a message."""
-        times = []
-        if self._sent_at is not None:
-            times.append(self._sent_at + _ANSWER_WAIT)
-        if self._version is None and self._version_at is not None:
-            times.append(self._version_at + _VERSION_WAIT)
-        return max(times, default=0.0) if self._is_new else None
+        if not self._is_new:
+            return None
+        again = self._version_at + _VERSION_WAIT if self._version is None else 0.0
+        return max(0.0, self._sent_at + _ANSWER_WAIT, again)
 
     def take(self, time: float) -> Message | None:
         """Returns the message to send at this time, if any. It counts as sent."""
         if self.due is None or time < self.due:
             return None
-        self._sent_at = time
+        self._sent, self._sent_at = self._message, time
         if self._version is None:
             self._version_at = time
-            return ClockId.VERSION, b""
-        self._is_new, self._is_shown = False, self._move is not None
-        return message_of(self._move, self._version) if self._move else (ClockId.END, b"")
+        self._is_shown |= self._version is not None and self._move is not None
+        return self._sent

@@ -80,7 +80,7 @@ class IdentityStruct(Structure):
 
 
 # How many bytes a handle takes, as dgt.h has it.
-_SIZES = {"dgt_host": 16520, "dgt_follower": 16592, "dgt_decoder": 16416,
+_SIZES = {"dgt_host": 16520, "dgt_follower": 16608, "dgt_decoder": 16416,
           "dgt_command_decoder": 288, "dgt_board": 712}
 
 _ROOM = (c_void_p, c_size_t)
@@ -107,10 +107,13 @@ _FUNCTIONS: dict[str, dict[str, tuple[Any, ...]]] = {
     },
     "dgt_follower": _HANDLE | {
         "start": (None, c_void_p, c_uint64, c_uint32),
-        "hear": (c_size_t, c_void_p, c_uint64, *_ROOM),
+        "hear": (c_size_t, c_void_p, c_uint64, *_ROOM, c_void_p, *_ROOM),
         "hear_all": (None, c_void_p, c_uint64, *_ROOM),
         "ask": (SentStruct, c_void_p, c_uint64, *_ROOM),
         "due_at": (c_bool, c_void_p, POINTER(c_uint64)),
+        "ask_now": (None, c_void_p),
+        "set_confirm": (None, c_void_p, c_bool),
+        "set_identify": (None, c_void_p, c_bool),
         "mode": (c_uint8, c_void_p),
         "set_mode": (c_bool, c_void_p, c_uint8),
         "send": (SentStruct, c_void_p, c_uint8, *_ROOM),
@@ -121,6 +124,8 @@ _FUNCTIONS: dict[str, dict[str, tuple[Any, ...]]] = {
         "clock": (None, c_void_p, POINTER(ClockStruct)),
         "unread": (c_size_t, c_void_p),
         "in_doubt": (c_bool, c_void_p),
+        "confirmed": (c_bool, c_void_p),
+        "serial": (c_bool, c_void_p, c_void_p),
         "last_heard": (c_bool, c_void_p, POINTER(c_uint64)),
         "heartbeats_left": (c_uint32, c_void_p),
         "line_lost": (None, c_void_p),

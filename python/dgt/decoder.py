@@ -14,7 +14,7 @@ from .events import Event, read_event, read_events, read_offsets
 
 
 class EventReader(Handle):
-    """Reads events from chunks of bytes: a host or a decoder."""
+    """Reads events from chunks of bytes: a host, a follower or a decoder."""
 
     _feed_name: str
     _most = 256  # events that one call of the library reports
@@ -64,12 +64,12 @@ class EventReader(Handle):
         self._offset = 0
         return made
 
-    def _each(self, chunk: Bytes) -> Iterator[Event]:
+    def _each(self, chunk: Bytes, *time: int) -> Iterator[Event]:
         held = readable(chunk)
         self._check_open()
-        return self._steps(*held)
+        return self._steps(*held, *time)
 
-    def _steps(self, held: bytes, address: int) -> Iterator[Event]:
+    def _steps(self, held: bytes, address: int, *time: int) -> Iterator[Event]:
         end = address + len(held)
         feed, told, told_at, body_at = self._feed, self._told, self._events_at, self._body_at
         while address < end:
@@ -79,7 +79,7 @@ class EventReader(Handle):
                     self._refuse()
                 self._running = True
                 try:
-                    used = feed(self._at, address, end - address, told_at, body_at, MAX_BODY)
+                    used = feed(self._at, *time, address, end - address, told_at, body_at, MAX_BODY)
                     address += used
                     self._offset += used
                     event = read_event(told, self._body) if told.kind else None

@@ -3,25 +3,30 @@
 from __future__ import annotations
 
 from collections.abc import Iterator
-from ctypes import byref, c_uint64
+from ctypes import byref, c_uint8, c_uint64
 
 from ._asker import Asker
 from ._handle import Bytes, readable
 from ._library import dgt
 from .board import Mode
+from .decoder import EventReader
 from .errors import BadValue
-from .values import Position, number, seconds
+from .events import Event
+from .values import checked, number, seconds
+
+_LEAST = 1.0
+"""The least period, in seconds: an asking and its answer take a third of that on the line."""
 
 
-def _milliseconds(time: float) -> int:
-    """Returns a time or a period in milliseconds. `BadValue` if it is negative, too great, or no
-    number."""
-    if not seconds(time, "a time") * 1000 < 2**64:
-        raise BadValue(f"a time must be below 2**64 milliseconds: {time!r}")
+def _milliseconds(time: float, what: str = "a time", least: float = 0.0) -> int:
+    """Returns a time or a period in milliseconds. `BadValue` if it is less than `least`, too great,
+    or no number."""
+    if not seconds(time, what, least) * 1000 < 2**64:
+        raise BadValue(f"{what} must be below 2**64 milliseconds: {time!r}")
     return round(time * 1000)
 
 
-class Follower(Asker):
+class Follower(EventReader, Asker):
     """A host that asks for the whole board again and again, so that its picture becomes right again
     whatever the line lost or altered. It owns neither a line nor a clock. Hand it the time, in
     seconds of a clock that doesn't go back, such as `time.monotonic`. Write what `ask` returns to
@@ -34,54 +39,58 @@ class Follower(Asker):
     ('rnbqkbnr/pppppppp/8/8/8/8/PPPPPPPP/RNBQKBNR', 10.0)
     >>> follower.ask(9.9), follower.ask(10.0), follower.in_doubt
     (b'', b'DB', False)
+    >>> for message in board.answers(b"DB"):
+    ...     for event in follower.hear_each(message, 10.1):
+    ...         print(type(event).__name__, follower.confirmed)
+    Dump True
 
     In each period it asks once, by the mode's command and a dump request. In the modes that report
     the clock, `UPDATE` and `UPDATE_NICE`, it also requests a reading of the clock. It begins anew
-    if the last dump didn't come, if the line lost or altered bytes, or after `patience` askings in
-    a row that didn't. The 258 bytes of that (259 in these modes) also end whatever command the
-    board is in the middle of.
+    if the last dump didn't come, after a disturbance, or after `patience` askings in a row that
+    didn't. The 258 bytes of that (259 in these modes) also end whatever command the board is in the
+    middle of.
+
+    Disturbances are bytes that were lost or altered and are noticed, an answer that nobody asked
+    for, and a dump that isn't the picture that was known. A clock that shows no digits is none.
     """
 
-    _prefix = "dgt_follower"
+    _prefix, _feed_name, _most = "dgt_follower", "hear", 1
 
-    def __init__(self, period: float = 10.0, patience: int = 6,
-                 mode: Mode = Mode.UPDATE_BOARD) -> None:
-        """`period` is in seconds, from one asking to the next; with 0 each call of `ask` is due.
-        With a patience of 0 each asking begins anew. `BadValue` if the period is negative, the
-        patience isn't from 0 to 2**32 - 1, or the mode is `IDLE` or none."""
+    def __init__(self, period: float = 10.0, patience: int = 6, mode: Mode = Mode.UPDATE_BOARD, *,
+                 confirm: bool = False, identify: bool = False) -> None:
+        """`period` is in seconds, from one asking to the next. With a patience of 0 each asking
+        begins anew. `confirm` and `identify` are the properties. `BadValue` if the period is less
+        than a second, the patience isn't from 0 to 2**32 - 1, or the mode is `IDLE` or none."""
         super().__init__()
         held = number(patience, 2**32 - 1, "patience")
-        self._call(dgt.dgt_follower_start, _milliseconds(period), held)
-        self.mode = mode
+        self._call(dgt.dgt_follower_start, _milliseconds(period, "period", _LEAST), held)
+        self.mode, self.confirm, self.identify = mode, confirm, identify
 
     def hear(self, chunk: Bytes, now: float) -> None:
         """Hears a whole chunk of bytes that came at this time."""
         time = _milliseconds(now)
         held, address = readable(chunk)
-        self._call(dgt.dgt_follower_hear_all, time, address, len(held))
+        self._call(self._hear, time, address, len(held))
 
-    def hear_each(self, chunk: Bytes, now: float) -> Iterator[Position | None]:
-        """Hears a chunk of bytes that came at this time, and yields the picture after each event,
-        and at the end of the chunk. A byte is heard once the picture before it was taken."""
-        return (self.picture for _ in self._hear_steps(chunk, now))
+    def _hear(self, at: int, time: int, address: int, count: int) -> None:
+        self._feed_all(at, time, address, count)
+        self._offset += count
 
-    def _hear_steps(self, chunk: Bytes, now: float) -> Iterator[int]:
-        """Hears a chunk as `hear_each` does, and yields how many bytes each step took."""
-        time = _milliseconds(now)
-        held, address = readable(chunk)
-        self._check_open()
-        return self._steps(held, address, time)
-
-    def _steps(self, held: bytes, address: int, time: int) -> Iterator[int]:
-        end = address + len(held)
-        while address < end:
-            used = int(self._call(dgt.dgt_follower_hear, time, address, end - address))
-            address += used
-            yield used
+    def hear_each(self, chunk: Bytes, now: float) -> Iterator[Event]:
+        """Yields the events of a chunk of bytes that came at this time. A byte is heard once the
+        event before it was taken, so that the picture, and whether it is confirmed or in doubt, are
+        those after that event."""
+        return self._each(chunk, _milliseconds(now))
 
     def ask(self, now: float) -> bytes:
-        """Returns what to ask the board at this time: nothing if that isn't due."""
+        """Returns what to ask the board at this time: nothing if that isn't due. An answer that is
+        a second late by then is a doubt, whatever is returned."""
         return self._sent("ask", _milliseconds(now))
+
+    def ask_now(self) -> None:
+        """Has an asking be due at once, or once the last one is answered. Its answer is no older
+        than this call."""
+        self._call(dgt.dgt_follower_ask_now)
 
     def _time(self, name: str) -> float | None:
         time = c_uint64()
@@ -89,9 +98,11 @@ class Follower(Asker):
 
     @property
     def due_at(self) -> float | None:
-        """The time from which on `ask` returns bytes, if nothing is heard before: 0 if it has never
-        asked. A disturbance makes it due a quarter of the period after the last asking. `None` if
-        that is later than any time."""
+        """The first time at which `ask` returns bytes, or finds an answer overdue and so a doubt,
+        if nothing is heard before: 0 if it asks at once. `None` if that is later than any time.
+
+        After a disturbance an asking is due a quarter of the period after the last one. So it is
+        without an answer, but no less than a second after the last one."""
         return self._time("due_at")
 
     @property
@@ -106,9 +117,48 @@ class Follower(Asker):
 
     @property
     def in_doubt(self) -> bool:
-        """Whether the picture may be wrong: since the last dump that was awaited the line lost or
-        altered bytes, or an asking found the one before it unanswered."""
+        """Whether the picture may be wrong: since the last dump that was awaited there was a
+        disturbance, or an answer was a second late."""
         return bool(self._call(dgt.dgt_follower_in_doubt))
+
+    @property
+    def confirmed(self) -> bool:
+        """Whether a dump that was awaited repeated the picture. Since then nothing changed it,
+        nothing came that nobody asked for, nothing disturbed, and no answer was late. The
+        picture was right when that dump was sent, if at most one message was altered, lost or
+        inserted since the last whole one. A change that is lost later shows with the next dump. The
+        first awaited dump after a new beginning confirms nothing: it may be a late answer to an
+        earlier asking."""
+        return bool(self._call(dgt.dgt_follower_confirmed))
+
+    @property
+    def confirm(self) -> bool:
+        """Whether a picture that isn't confirmed is asked for again: a second after it last
+        changed, and a second after the last asking."""
+        return bool(self._call(lambda at: self._confirm))
+
+    @confirm.setter
+    def confirm(self, confirm: bool) -> None:
+        self._confirm = checked(confirm, bool)
+        self._call(dgt.dgt_follower_set_confirm, confirm)
+
+    @property
+    def serial(self) -> bytes | None:
+        """The serial number of the board, five bytes, or `None` before the board has reported
+        it."""
+        digits = (c_uint8 * 5)()
+        return bytes(digits) if self._call(dgt.dgt_follower_serial, digits) else None
+
+    @property
+    def identify(self) -> bool:
+        """Whether the serial number is requested while it is unknown: once after each asking that
+        was answered, and three times at most."""
+        return bool(self._call(lambda at: self._identify))
+
+    @identify.setter
+    def identify(self, identify: bool) -> None:
+        self._identify = checked(identify, bool)
+        self._call(dgt.dgt_follower_set_identify, identify)
 
     @property
     def mode(self) -> Mode:
@@ -128,5 +178,5 @@ class Follower(Asker):
 
     def line_lost(self) -> None:
         """The line was lost, with what was under way on it. The follower is then as new, with its
-        period, its patience and its mode."""
-        self._call(dgt.dgt_follower_line_lost)
+        period, its patience and its mode, and with whether it confirms and identifies."""
+        self._call(self._made_new, dgt.dgt_follower_line_lost)

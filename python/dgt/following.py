@@ -10,7 +10,7 @@ import select
 import threading
 import time
 from collections import deque
-from collections.abc import AsyncGenerator
+from collections.abc import AsyncGenerator, Iterator
 from dataclasses import dataclass, field
 from typing import TYPE_CHECKING, Protocol, Self
 
@@ -20,23 +20,27 @@ from .board import Mode
 from .clock_commands import ClockCommands
 from .commands import ClockId
 from .errors import BadValue, Closed
+from .events import Event, Fault, Refused
 from .follower import Follower
-from .values import Clock, Position, seconds
+from .values import Clock, Position
 
 if TYPE_CHECKING:
-    from asyncio import StreamReader, StreamWriter
+    from asyncio import StreamReader, StreamWriter, Task
 
 _LOOK = 2.0
 """How many seconds pass between two looks for a port that has gone."""
-_LEAST = 0.1
-"""The least period, in seconds: an asking and its answer fill a line for longer."""
 _LONGEST = 3600.0
 """For how many seconds one call sleeps at most."""
 _GONE = "the port has gone; it is looked for every two seconds"
 _SILENT = "the board doesn't answer"
+_CLOSED = "the line was closed"
 _GOES = (errno.ENOENT, errno.ENXIO, errno.ENODEV, errno.EIO)
 """The faults of a port that was there and has gone."""
 _CHUNK = 4096
+_STALE = 1.0
+"""A view that has waited for longer is left out if there is a newer one, in seconds."""
+_MOST_UNSENT = 1000
+"""An asking is left out if a stream has more bytes to send: those of a second."""
 
 
 @dataclass(frozen=True, slots=True)
@@ -46,13 +50,18 @@ class BoardView:
     picture: Position | None = None
     """What stands on the squares, or `None` before the first report of it."""
     clock: Clock | None = None
-    """The last report of the board's clock, or `None` before the first."""
+    """The last report of the board's clock, or `None` before the first, and while the clock shows
+    no digits, as while it is set."""
     in_doubt: bool = False
     """Whether the picture may be wrong: the line lost or altered bytes, or the board is away. It
     may be wrong until the board reports all squares again."""
     away: str | None = None
     """Why nothing is heard of the board: its port has gone, or it doesn't answer. `None` if the
     board is heard."""
+    confirmed: bool = False
+    """Whether a second report of all squares has shown the same picture. It was right then, if at
+    most one message was altered, lost or inserted since the report before. It isn't confirmed yet
+    when it has just changed. With `confirm` it is soon."""
     bytes_heard: int = field(default=0, compare=False)
     """How many bytes of the board had come by then, since its port was opened."""
 
@@ -85,28 +94,28 @@ class _Steps:
     """What following a board comes to, without a line and without a clock. What has changed is
     added to `changes`."""
 
-    def __init__(self, period: float, patience: int, mode: Mode) -> None:
-        self.follower = Follower(seconds(period, "period", _LEAST), patience, mode)
+    def __init__(self, period: float, patience: int, mode: Mode, confirm: bool) -> None:
+        self.follower = Follower(period, patience, mode, confirm=confirm)
         self.view = BoardView()
         self.changes: deque[BoardView] = deque()
         self._missing: str | None = None
-        self._asked_at: float | None = None
-        self._asked_before: float | None = None
-        self._bytes_heard = 0
+        self.asked_at = self._asked_before = float("-inf")
 
     def ask(self, now: float) -> bytes:
         """Returns what to ask the board at this time."""
         asked = self.follower.ask(now)
         if asked:
-            self._asked_before, self._asked_at = self._asked_at, round(1000 * now) / 1000
-            self._note()
+            self._asked_before, self.asked_at = self.asked_at, round(now, 3)
+        self._note()  # an answer may be overdue by now
         return asked
 
-    def hear(self, chunk: bytes, now: float) -> None:
-        """Hears a chunk of bytes that came at this time."""
-        for used in self.follower._hear_steps(chunk, now):
-            self._bytes_heard += used
-            self._note()
+    def hear(self, chunk: bytes, now: float) -> list[Event]:
+        """Hears a chunk of bytes that came at this time, and returns its events."""
+        events = []
+        for event in self.follower.hear_each(chunk, now):
+            events.append(event)
+            self._note(isinstance(event, Refused) and event.fault == Fault.BAD_READING)
+        return events
 
     def seconds_left(self, now: float, until: float | None) -> float:
         """Returns for how long to wait for bytes: until the board has to be asked, or until a
@@ -117,8 +126,7 @@ class _Steps:
     def lose(self, why: str) -> None:
         """Notes that the line is away. What is known stays known, and is in doubt."""
         self.follower.line_lost()
-        self._missing, self._bytes_heard = why, 0
-        self._asked_at = self._asked_before = None
+        self._missing, self.asked_at, self._asked_before = why, float("-inf"), float("-inf")
         self._note()
 
     def regain(self) -> None:
@@ -128,17 +136,19 @@ class _Steps:
 
     def _is_silent(self) -> bool:
         """Whether two askings found nothing that was heard since the first of them."""
-        heard, since = self.follower.last_heard, self._asked_before
-        return since is not None and (heard is None or heard < since)
+        heard = self.follower.last_heard
+        return self._asked_before > (float("-inf") if heard is None else heard)
 
-    def _note(self) -> None:
-        """Notes what has changed."""
+    def _note(self, is_clock_unreadable: bool = False) -> None:
+        """Notes what has changed. The last clock stays known while the line is away, but not once
+        the board has a clock that shows no digits."""
         old, picture, clock = self.view, self.follower.picture, self.follower.clock
+        clock = clock or (None if is_clock_unreadable else old.clock)
         away = self._missing or (_SILENT if self._is_silent() else None)
         is_old = picture is None and old.picture is not None
-        view = BoardView(old.picture if is_old else picture, clock or old.clock,
+        view = BoardView(old.picture if is_old else picture, clock,
                          self.follower.in_doubt or away is not None or is_old,
-                         away, self._bytes_heard)
+                         away, self.follower.confirmed, self.follower.offset)
         if view != old:
             self.view = view
             self.changes.append(view)
@@ -159,18 +169,38 @@ class _Given:
 
     def __init__(self, line: SerialLine) -> None:
         self._line = line
-        self.ask = self.write = line.write
+
+    def write(self, chunk: bytes) -> None:
+        """Sends a chunk."""
+        with contextlib.suppress(OSError), self._until_closed():
+            self._line.write(chunk)  # else `exchange` finds that the line has ended
+
+    ask = write
 
     def exchange(self, seconds: float, wakes: int | None = None) -> bytes:
-        """Returns bytes once they come, or nothing after `seconds`. `Closed` if the line is.
-        `BadValue` with `wakes`."""
+        """Returns bytes once they come, or nothing after `seconds`. `OSError` if the line has
+        ended. `BadValue` with `wakes`."""
         if wakes is not None:
             raise BadValue("a line that was handed over can't wait for another descriptor")
-        self._line.timeout = seconds
-        chunk = self._line.read(self._line.in_waiting or 1) if self._line.is_open else b""
+        with self._until_closed():
+            self._line.timeout = seconds
+            chunk = self._line.read(self._line.in_waiting or 1) if self._line.is_open else b""
         if not chunk and not self._line.is_open:
-            raise Closed("the line was closed")
+            raise OSError(_CLOSED)
         return chunk
+
+    @contextlib.contextmanager
+    def _until_closed(self) -> Iterator[None]:
+        """A port of pyserial that is closed meanwhile fails by any exception."""
+        try:
+            yield
+        except Exception:
+            if self._line.is_open:
+                raise
+            raise OSError(_CLOSED) from None
+
+    def close(self) -> None:
+        """It stays as it is."""
 
 
 class Following(Uncopied, ClockCommands[None]):
@@ -187,11 +217,12 @@ class Following(Uncopied, ClockCommands[None]):
     _closing: tuple[int, ...] = ()
 
     def __init__(self, port: str | os.PathLike[str] | SerialLine, period: float = 10.0, *,
-                 patience: int = 6, mode: Mode = Mode.UPDATE_BOARD,
+                 patience: int = 6, mode: Mode = Mode.UPDATE_BOARD, confirm: bool = False,
                  wait_for_port: bool = False) -> None:
         """As `follow`."""
-        self._steps = _Steps(period, patience, mode)
+        self._steps = _Steps(period, patience, mode, confirm)
         self._waits, self._was_there, self._look_at = wait_for_port, False, 0.0
+        self._is_given = False
         self._is_closed, self._line, self._name = False, None, ""
         self._lock = threading.RLock()  # of a `wait` under way, which has the port
         self._closing = os.pipe()  # has something to read once `close` is called
@@ -199,7 +230,7 @@ class Following(Uncopied, ClockCommands[None]):
             self._name = os.fspath(port)
             self._look(is_first=True)
         elif all(hasattr(port, name) for name in ("is_open", "read", "write")):
-            self._line = _Given(port)
+            self._line, self._is_given = _Given(port), True
         else:
             raise TypeError(f"port must be a port's name, or an open port as of pyserial: {port!r}")
 
@@ -233,8 +264,8 @@ class Following(Uncopied, ClockCommands[None]):
     def wait(self, until: float | None = None, wakes: int | None = None) -> BoardView | None:
         """Returns what is known after the next change, or `None` if there was none until a time of
         `time.monotonic`, or until the descriptor `wakes` has something to read. `Closed` if this is
-        closed, or if the line that it was handed is. `BadValue` for `wakes` with a line that it was
-        handed, which may also raise exceptions of its own."""
+        closed. A line that it was handed may end: then a view is in doubt, and `away` says why, and
+        the next call raises `Closed`. `BadValue` for `wakes` with such a line."""
         changes = self._steps.changes
         with self._lock:
             self._check_open()
@@ -249,6 +280,8 @@ class Following(Uncopied, ClockCommands[None]):
     def _turn(self, until: float | None, wakes: int | None) -> None:
         """Asks what is due, and hears what comes, or else waits until something is due."""
         now = time.monotonic()
+        if self._line is None and self._is_given:
+            raise Closed(_CLOSED)
         if self._line is None and now >= self._look_at:
             self._look()
         elif self._line is None:
@@ -264,12 +297,10 @@ class Following(Uncopied, ClockCommands[None]):
         wait = 0.0 if self._steps.changes else self._steps.seconds_left(now, until)
         try:
             chunk = line.exchange(wait, wakes)
-        except OSError:
-            if isinstance(line, _Given):
-                raise
+        except OSError as fault:
             line.close()
             self._line, self._look_at = None, time.monotonic() + _LOOK
-            self._steps.lose(_GONE)
+            self._steps.lose((fault.strerror or str(fault)) if self._is_given else _GONE)
         else:
             self._hear(chunk, time.monotonic())
 
@@ -301,7 +332,7 @@ class Following(Uncopied, ClockCommands[None]):
         if not self._is_closed:
             self._is_closed = True
             os.write(self._closing[1], b"c")
-        if not isinstance(self._line, _Given):
+        if not self._is_given:
             with self._lock:
                 if self._line is not None:
                     self._line.close()
@@ -329,7 +360,8 @@ class Following(Uncopied, ClockCommands[None]):
 
 
 def follow(port: str | os.PathLike[str] | SerialLine, period: float = 10.0, *, patience: int = 6,
-           mode: Mode = Mode.UPDATE_BOARD, wait_for_port: bool = False) -> Following:
+           mode: Mode = Mode.UPDATE_BOARD, confirm: bool = False, wait_for_port: bool = False
+           ) -> Following:
     """Follows a board on a serial port, and yields what is known of it after each change.
 
     >>> with dgt.follow("/dev/ttyUSB0") as board:
@@ -346,47 +378,103 @@ def follow(port: str | os.PathLike[str] | SerialLine, period: float = 10.0, *, p
     text that says what to do. If it goes later, it is looked for every two seconds. Meanwhile the
     picture stays as it was, in doubt, and `BoardView.away` says why. With `wait_for_port` a port
     that can't be opened at first is looked for, too, unless it is a file that is no serial port. A
-    line that is handed over as an object ends it once the line is closed. A port that comes back
-    may have another number: its name in /dev/serial/by-id stays.
+    port that comes back may have another number: its name in /dev/serial/by-id stays. A line that
+    is handed over as an object ends it once the line is closed or fails, after a view that says so.
 
     All squares are asked for every `period` seconds, so that a change that was lost becomes known.
     `patience` and `mode` are those of `Follower`. A board reports its clock in the modes `UPDATE`
-    and `UPDATE_NICE`, and is then asked for a reading of it in each period, too. `BadValue` if the
-    period is below 0.1, or as of `Follower`. `TypeError` if `port` is no port."""
-    return Following(port, period, patience=patience, mode=mode, wait_for_port=wait_for_port)
+    and `UPDATE_NICE`, and is then asked for a reading of it in each period, too. With `confirm` a
+    picture is also asked for a second after it changed, until it is `BoardView.confirmed`.
+    `BadValue` and `TypeError` as of `Follower`, and `TypeError` if `port` is no port."""
+    return Following(port, period, patience=patience, mode=mode, confirm=confirm,
+                     wait_for_port=wait_for_port)
+
+
+class _Streams:
+    """A board on a pair of streams of asyncio, for `follow_async`."""
+
+    def __init__(self, steps: _Steps, reader: StreamReader, writer: StreamWriter) -> None:
+        import asyncio
+
+        self._steps, self._reader, self._writer = steps, reader, writer
+        self._clock, self._timeout = asyncio.get_running_loop().time, asyncio.timeout
+        self._views: deque[tuple[float, BoardView]] = deque()
+        self._news = asyncio.Event()
+
+    async def serve(self) -> None:
+        """Asks and hears the board until the reader is at its end."""
+        try:
+            while (fault := await self._exchange()) is None:
+                self._note()
+            self._steps.lose(fault)
+        finally:
+            self._note()
+
+    async def _exchange(self) -> str | None:
+        """Asks what is due, and hears what comes. Returns why nothing comes any more, if so. It
+        never waits until the writer takes what is sent."""
+        asked = self._steps.ask(self._clock())
+        if asked and self._writer.transport.get_write_buffer_size() <= _MOST_UNSENT:
+            self._writer.write(asked)
+        self._note()
+        limit = self._timeout(self._steps.seconds_left(self._clock(), None))
+        try:
+            async with limit:
+                chunk = await self._reader.read(_CHUNK)
+        except OSError as fault:  # a TimeoutError is one
+            return None if limit.expired() else fault.strerror or str(fault) or _CLOSED
+        self._steps.hear(chunk, self._clock())
+        return None if chunk else _CLOSED
+
+    def _note(self) -> None:
+        """Has the newest views wait."""
+        now, changes = self._clock(), self._steps.changes
+        self._views.extend((now, view) for view in changes)
+        changes.clear()
+        self._news.set()
+        while len(self._views) > 1 and self._views[0][0] < now - _STALE:
+            self._views.popleft()
+
+    async def next_view(self, serving: Task[None]) -> BoardView | None:
+        """Returns the next view, or `None` once nothing serves the board and no view waits."""
+        self._note()
+        while not self._views and not serving.done():
+            self._news.clear()
+            await self._news.wait()
+        return self._views.popleft()[1] if self._views else None
 
 
 async def follow_async(reader: StreamReader, writer: StreamWriter, period: float = 10.0, *,
-                       patience: int = 6, mode: Mode = Mode.UPDATE_BOARD
+                       patience: int = 6, mode: Mode = Mode.UPDATE_BOARD, confirm: bool = False
                        ) -> AsyncGenerator[BoardView, None]:
     """Follows a board on a pair of streams of asyncio, as `follow` does on a port. Both stay the
-    caller's. It ends when the reader is at its end.
+    caller's. It ends when the reader is at its end or fails, after a view that says so in `away`
+    and is in doubt.
 
     >>> import asyncio, serial_asyncio
     >>> async def show():
     ...     streams = await serial_asyncio.open_serial_connection(url="/dev/ttyUSB0", baudrate=9600)
     ...     async for view in dgt.follow_async(*streams):
-    ...         print(view.picture)
+    ...         print(view.away or view.picture)
     >>> asyncio.run(show())
     rnbqkbnr/pppppppp/8/8/8/8/PPPPPPPP/RNBQKBNR
     rnbqkbnr/pppppppp/8/8/8/8/PPPP1PPP/RNBQKBNR
     rnbqkbnr/pppppppp/8/8/4P3/8/PPPP1PPP/RNBQKBNR
+    the line was closed
+
+    A task of its own asks and hears the board, also while the loop over the views waits for
+    something else. Views come in their order. One that has waited for more than a second is left
+    out if there is a newer one, so that a slow loop gets what is known now. `aclose`, as by
+    `contextlib.aclosing`, ends the task.
     """
     import asyncio
 
-    steps, clock = _Steps(period, patience, mode), asyncio.get_running_loop().time
-    while not reader.at_eof():
-        if asked := steps.ask(clock()):
-            writer.write(asked)
-            with contextlib.suppress(ConnectionError):  # the reader finds that it is at its end
-                await writer.drain()
-        chunk = b""
-        if not steps.changes:
-            try:
-                async with asyncio.timeout(steps.seconds_left(clock(), None)):
-                    chunk = await reader.read(_CHUNK)
-            except TimeoutError:
-                pass
-        steps.hear(chunk, clock())
-        while steps.changes:
-            yield steps.changes.popleft()
+    streams = _Streams(_Steps(period, patience, mode, confirm), reader, writer)
+    serving = asyncio.create_task(streams.serve())
+    try:
+        while view := await streams.next_view(serving):
+            yield view
+        await serving
+    finally:
+        serving.cancel()
+        await asyncio.wait([serving])

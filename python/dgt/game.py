@@ -15,8 +15,9 @@ Standard output has a line for each thing that happens:
 All pieces on their first squares begin a game, also on a turned board. So does
 another position that the board shows at the start, or that is set up with the
 kings last, for five seconds. A move is reported once it has rested for 0.3
-seconds, or was answered. Pieces may be lifted in any order, slid, and put on
-wrong squares. Moves may be taken back.
+seconds and the board has confirmed it by a report of all squares, or it was
+answered. Pieces may be lifted in any order, slid, and put on wrong squares.
+Moves may be taken back.
 
 The players give the result by their kings. They lift both, and put them for a
 second on
@@ -47,12 +48,14 @@ import signal
 import sys
 import time
 
+from ._board_line import _PATIENCE
 from ._pgn_file import PgnFile
 from .board import Mode
 from .errors import BadFen
 from .following import Following, _has_input, follow
 from .games import Games
 from .uci import _period
+from .values import Position
 
 _PERIOD = 2.0
 """How often the board is asked for all squares, in seconds."""
@@ -103,6 +106,7 @@ def _stopping() -> int:
 def _record(board: Following, games: Games, output: _Output, notes: _Output) -> None:
     """Keeps the games on a board, until a signal ends that or nobody reads the output."""
     stop = _stopping()
+    asked: Position | None = None
     while not output.is_broken and not _has_input(stop, 0.0):
         due = games.due
         if not all([output.send(), notes.send()]):
@@ -113,6 +117,9 @@ def _record(board: Following, games: Games, output: _Output, notes: _Output) -> 
             games.wait(time.monotonic())
         else:
             games.see(view, time.monotonic())
+            if games.unconfirmed and view.picture != asked:
+                asked = view.picture
+                board.follower.ask_now()
 
 
 def _read_words(arguments: list[str] | None) -> argparse.Namespace:
@@ -143,7 +150,8 @@ def _open(words: argparse.Namespace, output: _Output, notes: _Output) -> tuple[F
         games = Games(output.say, lambda text: notes.say(f"dgt-game: {text}"), file, tags,
                       words.white_clock, words.fen, words.port)
         what = words.port
-        return follow(words.port, words.period, mode=Mode.UPDATE_NICE), games
+        return follow(words.port, words.period, patience=_PATIENCE, mode=Mode.UPDATE_NICE,
+                      confirm=True), games
     except BadFen as wrong:
         raise SystemExit(f"dgt-game: {wrong}") from None
     except OSError as refused:

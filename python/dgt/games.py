@@ -61,15 +61,16 @@ class GameStore(Protocol):
 
 class Games(Uncopied):
     """The games on a board. Hand it what is known of the board with `see`, from `follow` or from
-    any other source, and call `wait` when `due` is reached. `tell` gets each line of what happens,
-    as `dgt-game` prints it, and `warn` what one should know.
+    any other source, and call `wait` when `due` is reached. What isn't confirmed is reported later:
+    see `unconfirmed`. `tell` gets each line of what happens, as `dgt-game` prints it, and `warn`
+    what one should know.
 
     >>> lines = []
     >>> games = Games(lines.append, print)
     >>> start, lifted, put = (Position.parse(f"rnbqkbnr/pppppppp/8/8/{ranks}/RNBQKBNR") for ranks in
     ...                       ("8/8/PPPPPPPP", "8/8/PPPP1PPP", "4P3/8/PPPP1PPP"))
     >>> for time, position in enumerate((start, lifted, put)):
-    ...     games.see(BoardView(position), float(time))
+    ...     games.see(BoardView(position, confirmed=True), float(time))
     the board shows rnbqkbnr/pppppppp/8/8/8/8/PPPPPPPP/RNBQKBNR
     >>> games.wait(games.due)
     >>> lines[1:], games.game.moves[-1].san
@@ -101,6 +102,7 @@ class Games(Uncopied):
         self._is_new = True
         self._is_over, self._is_end_told, self._final_at = False, False, 0.0
         self._result, self._result_at = "", 0.0
+        self._is_confirmed = False
         self._hint_at: float | None = None
         self._hinted = ""
         self._save_at: float | None = None
@@ -110,14 +112,22 @@ class Games(Uncopied):
     def due(self) -> float | None:
         """The time at which `wait` has something to do."""
         times = (self.recogniser.due, self._hint_at, self._save_at,
-                 self._result_at if self._result else None)
+                 self._result_at if self._result and self._is_confirmed else None)
         return min((each for each in times if each is not None), default=None)
+
+    @property
+    def unconfirmed(self) -> bool:
+        """Whether something has happened that is reported once the board has confirmed what it
+        shows. `Follower.ask_now` has it asked at once. A source that confirms nothing says of each
+        view that it is sure of that it is confirmed."""
+        return self.recogniser.unconfirmed or bool(self._result) and not self._is_confirmed
 
     def see(self, view: BoardView, now: float) -> None:
         """Notes what is known of the board from this time on. `TypeError` if that is no
         `BoardView`."""
         self._note_away(checked(view, BoardView))
         self._note_clock(view.clock, now)
+        self._is_confirmed = view.confirmed
         if view.in_doubt or view.picture is None:
             self._doubt(view, now)
             return
@@ -130,14 +140,14 @@ class Games(Uncopied):
             self._warn(f"the board shows {view.picture}")
             self._is_new = False
         is_lost = self.recogniser.lost
-        self._take(self.recogniser.see(view.picture, now), is_lost, now)
+        self._take(self.recogniser.see(view.picture, now, view.confirmed), is_lost, now)
         self._look_at_kings(now)
 
     def wait(self, now: float) -> None:
         """Notes that the board shows until this time what it showed last."""
         is_lost = self.recogniser.lost
         self._take(self.recogniser.wait(now), is_lost, now)
-        if self._result and now >= self._result_at:
+        if self._result and now >= self._result_at and self._is_confirmed:
             self._end(self._result, "kings", now)
         if self._hint_at is not None and now >= self._hint_at:
             self._hint_at = None

@@ -137,8 +137,8 @@ class MoveRecogniser:
     that takes.
 
     - A position that is one legal move away is that move, once it has rested (`settle`) or was
-      answered. One that is two moves away rests for a second, if the position between them was
-      never shown.
+      answered. What isn't confirmed has not rested yet. One that is two moves away rests for a
+      second, if the position between them was never shown.
     - A rook's move that may begin castling rests for two seconds.
     - A promotion is to the piece that is put on the last rank, once it is there.
     - A position before one of the last moves takes back what was made since then.
@@ -174,6 +174,7 @@ class MoveRecogniser:
         self._seen: list[_Reading] = []
         self._next: _Reading | tuple[GameState, ...] = ()
         self._due: float | None = None
+        self._is_confirmed = True
 
     def __copy__(self) -> Self:
         return copy.deepcopy(self)
@@ -196,25 +197,38 @@ class MoveRecogniser:
     @property
     def due(self) -> float | None:
         """The time at which `wait` reports what the board shows now, if it shows it until then."""
-        return self._due
+        return self._due if self._is_confirmed else None
 
-    def see(self, position: Position, time: float) -> list[MoveEvent]:
-        """Returns what has happened in the game, now that the board shows a position. Times never
-        fall from one call to the next. `TypeError` if it is no position."""
+    @property
+    def unconfirmed(self) -> bool:
+        """Whether what the board shows now is to be reported once it is confirmed."""
+        return self._due is not None and not self._is_confirmed
+
+    def see(self, position: Position, time: float, confirmed: bool = True) -> list[MoveEvent]:
+        """Returns what has happened in the game, now that the board shows a position. What isn't
+        `confirmed` is reported once it was answered, or once this is called with it confirmed.
+        Times never fall from one call to the next. `TypeError` if it is no position."""
         letters = checked(position, Position).letters
+        if self._as_white(letters) == self._shown:
+            self._is_confirmed = confirmed
         events = self.wait(time)
-        shown = letters[::-1] if self._turned else letters
+        shown = self._as_white(letters)
         if shown == self._shown:
             return events
+        self._is_confirmed = confirmed
         self._changed = set(_differing(self._shown, shown) if self._shown else ())
         self._put.extend((each, shown[each]) for each in self._changed if shown[each] != ".")
         self._shown = shown
         return events + self._look(time)
 
+    def _as_white(self, letters: str) -> str:
+        """The letters of the board as White sees it."""
+        return letters[::-1] if self._turned else letters
+
     def wait(self, time: float) -> list[MoveEvent]:
         """Returns what has happened in the game, if the board shows until this time what it showed
         last. At the end of a line, `wait(math.inf)` reports a move that hasn't rested."""
-        if self._due is None or time < self._due:
+        if self._due is None or time < self._due or not self._is_confirmed:
             return []
         self._due, due = None, self._next
         return self._take(due) if isinstance(due, _Reading) else self._begin(due)
@@ -246,7 +260,8 @@ class MoveRecogniser:
         self._due = None
         base, reading = next(iter(self._readings()), (None, None))
         if root := self._new_game(reading):
-            return self._begin((root,))
+            self._next, self._due = (root,), time
+            return self.wait(time)
         if base is None or reading is None:
             wait = self._wait_for_game()
             if wait is not None and (roots := self._roots_shown()):

@@ -29,7 +29,6 @@ import select
 import signal
 import time
 from collections.abc import Callable
-from dataclasses import dataclass
 
 from . import _port, following
 from ._board_line import BoardLine
@@ -40,10 +39,8 @@ from .rules import START_FEN, GameState
 
 _PERIOD = 2.0
 """How often the board is asked for all squares, in seconds."""
-_DUMP_WAIT = 1.0
-"""After how many seconds a dump that didn't come is requested again."""
-_CONFIRM_PERIOD = 0.2
-"""How often a dump is requested while the board shows a legal move, in seconds."""
+_ASK_AGAIN = 0.2
+"""How often the board is asked while it shows a legal move, since `stop` may come, in seconds."""
 _CONFIRMED = 0.25
 """For how many seconds a dump confirms what it shows, if `stop` comes."""
 _STOP_WAIT = 0.04
@@ -96,18 +93,6 @@ def _time_text(milliseconds: str) -> str:
 def _is_number(word: str) -> bool:
     digits = word.removeprefix("-")
     return digits.isascii() and digits.isdigit() and len(digits) < 16
-
-
-@dataclass(frozen=True, slots=True)
-class _Request:
-    """A dump that was requested, to confirm a move."""
-
-    move: str
-    time: float
-    dumps: int
-    """How many dumps had come before."""
-    has_rested: bool
-    """Whether the move had rested by then."""
 
 
 class Game:
@@ -169,7 +154,7 @@ class Engine:
     def _begin(self) -> None:
         """No move is asked for."""
         self._goes = self._is_held = False
-        self._request: _Request | None = None
+        self._asked_at = self._hit_at = float("-inf")
         self._told = ""
 
     # ---- What the chess program says
@@ -199,7 +184,7 @@ class Engine:
             case "stop":
                 self._stop()
             case "ponderhit":
-                self._hit()
+                self._hit(now)
             case "quit":
                 self.is_over = True
 
@@ -287,11 +272,11 @@ class Engine:
             self._inform(f"{moved}{' (' + ', '.join(times) + ')' if times else ''}")
 
     def _stop(self) -> None:
-        """Ends with the move that the board shows, if a dump has just confirmed it."""
+        """Ends with the move that the board shows, if the board has just confirmed it."""
         if not self._goes or self._turn is None:
             return
         if self._turn.shown and self.line is not None:
-            for view in self.line.hear_dump(time.monotonic() + _STOP_WAIT):
+            for view in self.line.ask_until(time.monotonic() + _STOP_WAIT):
                 self.see(view, time.monotonic())
         move = self._turn.shown
         if move is None:
@@ -302,15 +287,13 @@ class Engine:
         self._end(move or _NO_MOVE)
 
     def _is_confirmed(self, now: float) -> bool:
-        """Whether a dump has just shown what the board shows."""
-        if self.line is None or self.line.last_dump is None or self.line.view.picture is None:
-            return False
-        letters, time_of_dump = self.line.last_dump
-        return letters == self.line.view.picture.letters and now <= time_of_dump + _CONFIRMED
+        """Whether a dump has just confirmed what the board shows."""
+        line = self.line
+        return bool(line and line.view.confirmed and now <= line.confirmed_at + _CONFIRMED)
 
-    def _hit(self) -> None:
+    def _hit(self, now: float) -> None:
         """The move that was pondered over is asked for. If it was made, it is confirmed anew."""
-        self._is_held, self._told, self._request = False, "", None
+        self._is_held, self._told, self._hit_at = False, "", now
 
     # ---- What is said
 
@@ -403,34 +386,28 @@ class Engine:
             return None
         if turn.due is not None:
             return self._confirm(turn, turn.due, now)
-        self._request = None
         text, due = turn.hint(now)
         if text:
             self._inform(text)
         return due
 
     def _confirm(self, turn: Turn, rested_at: float, now: float) -> float | None:
-        """Ends with the move that the board shows, once it has rested and a dump that was requested
-        then confirms it: the last messages may have been lost. A move that is held is only named.
-        Dumps are requested all the time, since `stop` may come."""
-        move, line, last = turn.shown, self.line, self._request
+        """Ends with the move that the board shows, once it has rested, and the board was asked then
+        and has confirmed it: the last messages may have been lost. A move that is held is only
+        named. The board is asked all the time, since `stop` may come."""
+        move, line, since = turn.shown, self.line, max(rested_at, self._hit_at)
         if move is None or line is None:
             return None
-        if last is not None and last.move != move:
-            last = None
-        is_answered = last is not None and line.dumps != last.dumps
-        if last is not None and is_answered and last.has_rested and self._told != move:
+        if now >= since and line.has_confirmed(since) and self._told != move:
             if not self._is_held:
                 self._end(move)
                 return None
             self._told = move
             self._inform(f"{move} was made on the board")
-        has_rested, wait = now >= rested_at, _CONFIRM_PERIOD if is_answered else _DUMP_WAIT
-        if last is None or now >= last.time + wait or has_rested > last.has_rested:
-            last, wait = _Request(move, now, line.dumps, has_rested), _DUMP_WAIT
-            self._request = last
-            line.request_dump()
-        return last.time + wait if has_rested else min(rested_at, last.time + wait)
+        if now >= self._asked_at + _ASK_AGAIN or self._asked_at < since <= now:
+            self._asked_at = now
+            line.follower.ask_now()
+        return min(each for each in (since, self._asked_at + _ASK_AGAIN) if each > now)
 
 
 def _serve(engine: Engine) -> None:
@@ -458,9 +435,9 @@ def _serve(engine: Engine) -> None:
 
 def _period(text: str) -> float:
     with contextlib.suppress(ValueError):
-        if 0.1 <= (seconds := float(text)) <= 3600:
+        if 1 <= (seconds := float(text)) <= 3600:
             return seconds
-    raise argparse.ArgumentTypeError(f"not 0.1 to 3600 seconds: {text!r}")
+    raise argparse.ArgumentTypeError(f"not 1 to 3600 seconds: {text!r}")
 
 
 def main(arguments: list[str] | None = None) -> None:

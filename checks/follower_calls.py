@@ -1,0 +1,102 @@
+"""Checks the calls of a follower of the package for Python by which a picture is confirmed, a board
+is asked at once, its serial number is requested, and events are heard."""
+
+import model
+
+START = "rnbqkbnr/pppppppp/8/8/8/8/PPPPPPPP/RNBQKBNR"
+LIFT = model.spell(model.FIELD, [52, 0])
+READING = model.spell(model.CLOCK, [1, 2, 3, 4, 5, 6, 1])
+UNREADABLE = model.spell(model.CLOCK, [1, 0x7F, 3, 4, 5, 6, 1])
+HEARTBEAT, ANEW = b"\x44\x42", bytes(255) + b"\x44\x42\x44"
+
+
+class Wrong(Exception):
+    """A call does something else than it should."""
+
+
+def wanted(what, got, right):
+    if got != right:
+        raise Wrong(f"{what}: {got!r} in place of {right!r}")
+
+
+def confirms(dgt, dump):
+    """The first dump after a new beginning confirms nothing, and the next one does. A change ends
+    that, and is asked about a second after it and after the last asking."""
+    follower = dgt.Follower(confirm=True)
+
+    def known():
+        return follower.due_at, follower.confirmed, follower.in_doubt
+
+    return [
+        ("as new", (follower.confirm, *known()), (True, 0, False, False)),
+        ("a new beginning", (follower.ask(1.0), follower.due_at), (ANEW, 2.0)),
+        ("its dump", (follower.hear(dump, 1.2), *known()), (None, 2.0, False, False)),
+        ("a heartbeat", (follower.ask(1.999), follower.ask(2.0)), (b"", HEARTBEAT)),
+        ("its dump", (follower.hear(dump, 2.1), *known()), (None, 12.0, True, False)),
+        ("a change", (follower.hear(LIFT, 3.0), *known()), (None, 4.0, False, False)),
+        ("off", (setattr(follower, "confirm", False), *known()), (None, 12.0, False, False)),
+        ("at once", (follower.ask_now(), follower.due_at, follower.ask(3.1)),
+         (None, 0, HEARTBEAT)),
+        ("another dump", (follower.hear(dump, 3.2), *known()), (None, 5.6, False, True)),
+        ("a new beginning", (follower.ask(5.6), follower.ask_now(), follower.ask(5.7)),
+         (ANEW, None, b"")),
+        ("its dump", (follower.hear(dump, 5.8), *known()), (None, 0, False, False)),
+        ("a heartbeat without an answer", (follower.ask(5.8), follower.ask(6.799), *known()),
+         (HEARTBEAT, b"", 6.8, False, False)),
+        ("an answer that is overdue", (follower.ask(6.8), *known()), (b"", 8.3, False, True)),
+        ("a time that has gone back", follower.ask(1.0), ANEW),
+        ("line lost", (follower.line_lost(), follower.confirm, *known()),
+         (None, False, 0, False, False)),
+    ]
+
+
+def identifies(dgt, dump):
+    follower, serial = dgt.Follower(identify=True), model.spell(model.SERIAL, b"12345")
+    asked = [follower.ask(0.0), follower.hear(dump, 0.1), follower.ask(0.1), follower.ask(0.2)]
+    return [
+        ("as new", (follower.identify, dgt.Follower().identify), (True, False)),
+        ("asked", asked, [ANEW, None, b"\x45", b""]),
+        ("its serial number", (follower.serial, follower.hear(serial, 0.3), follower.serial),
+         (None, None, b"12345")),
+        ("no more", (follower.ask(10.0), follower.hear(dump, 10.1), follower.ask(10.2)),
+         (HEARTBEAT, None, b"")),
+        ("line lost", (follower.line_lost(), follower.serial, follower.identify),
+         (None, None, True)),
+        ("off", (setattr(follower, "identify", False), follower.ask(0.0),
+                 follower.hear(dump, 0.1), follower.ask(0.2)), (None, ANEW, None, b"")),
+    ]
+
+
+def hears(dgt, dump):
+    """Each event is handed on once, and what is known is known after it."""
+    follower, seen = dgt.Follower(), []
+    follower.ask(0.0)
+    for event in follower.hear_each(dump + LIFT + b"\x31" + READING + UNREADABLE[:4], 0.5):
+        seen.append((str(event).split()[0], follower.picture["e2"], follower.in_doubt,
+                     follower.clock is not None, follower.offset))
+    rest = list(follower.hear_each(UNREADABLE[4:] + LIFT[:1], 0.6))
+    return [
+        ("events", seen, [("dump", "P", False, False, 67), ("field", ".", False, False, 72),
+                          ("stray", ".", True, False, 73), ("times", ".", True, True, 83)]),
+        ("a clock without digits", (rest, follower.clock, follower.last_heard),
+         ([dgt.Refused(model.CLOCK, dgt.Fault.BAD_READING, 1)], None, 0.5)),
+        ("bytes", (follower.offset, follower.unread), (94, 1)),
+        ("a whole chunk", (follower.hear(LIFT[1:], 0.7), follower.offset), (None, 98)),
+        ("line lost", (follower.line_lost(), follower.offset, follower.unread), (None, 0, 0)),
+    ]
+
+
+def check(dgt):
+    """Returns how many calls were compared."""
+    dump = model.spell(model.DUMP, dgt.Position.start().codes)
+    rows = [row for case in (confirms, identifies, hears) for row in case(dgt, dump)]
+    for what, got, right in rows:
+        wanted(f"follower, {what}", got, right)
+    for change in (dgt.Follower.confirm, dgt.Follower.identify):
+        for wrong in (1, None, "text"):
+            try:
+                change.fset(dgt.Follower(), wrong)
+            except TypeError:
+                continue
+            raise Wrong(f"{wrong!r} is taken")
+    return len(rows)
