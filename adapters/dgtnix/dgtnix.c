@@ -50,8 +50,13 @@ static char serial[8], version[16], trademark[128]; /* set before the thread sta
 
 /* The reader's own, while it runs. */
 static line board = {.port = -1};
-static game followed;
-static bool begun;
+static struct progress {
+    game game;
+    bool begun;
+} followed, sure;              /* by each picture of the board, and by the last one confirmed */
+static uint8_t last[64];       /* the last picture */
+static move found[REMEMBERED]; /* the moves after the picture that was last confirmed */
+static int finds;
 static enum plays plays;
 static int settle;
 
@@ -63,39 +68,78 @@ static char shown[65]; /* under the lock: what stands on the board, as GetBoard 
 /* eboard takes each event for a click on its window's board, which it has turned where the player
  * has Black; but it thinks that the squares come from a board that is turned, too. */
 static void set_click(uint8_t event[4], uint8_t square, uint8_t piece) {
-    if (game_player(&followed) == BLACK) square = (uint8_t)(63 - square);
+    if (game_player(&followed.game) == BLACK) square = (uint8_t)(63 - square);
     event[0] = CLICK;
     event[1] = (uint8_t)('A' + square % 8);
     event[2] = (uint8_t)(8 - square / 8);
     event[3] = (uint8_t)dgt_piece_letter(piece);
 }
 
-/* Says on standard error that eboard never gets a move, by the squares of the game. */
-static void log_dropped(const move *made) {
+/* Says on standard error that eboard never gets a move, by the squares of the game, and why. */
+static void log_dropped(const move *made, const char *why) {
     char from[3], to[3];
     dgt_square_name(made->from, from);
     dgt_square_name(made->to, to);
-    fprintf(stderr, "dgtnix: move %s%s dropped: the pipe is full, nobody reads it\n", from, to);
+    fprintf(stderr, "dgtnix: move %s%s dropped: %s\n", from, to, why);
 }
 
 /* Two clicks are a move. They go in one write, which the pipe takes whole or not at all. */
 static void tell(const move *made) {
     uint8_t clicks[8];
-    if (!game_wants(&followed, side_of(made->piece))) return;
+    if (!game_wants(&followed.game, side_of(made->piece))) return;
     set_click(clicks, made->from, made->piece);
     set_click(clicks + 4, made->to, made->becomes);
-    if (write(events[1], clicks, sizeof clicks) != sizeof clicks) log_dropped(made);
+    if (write(events[1], clicks, sizeof clicks) != sizeof clicks)
+        log_dropped(made, "the pipe is full, nobody reads it");
 }
 
-static void see(const uint8_t pieces[64]) {
-    move made;
+/* ---- What eboard gets, and when. A picture may be wrong until the board has sent all its squares
+ * once more, and eboard takes no move back. So a move waits until a picture is confirmed. */
+
+static void find(const move *made) {
+    if (finds < REMEMBERED) found[finds++] = *made;
+    else log_dropped(made, "the board confirms none");
+}
+
+/* The picture is confirmed, and with it the moves that have led to it. */
+static void trust(void) {
+    for (int each = 0; each < finds; each++) tell(&found[each]);
+    finds = 0;
+    sure = followed;
+}
+
+static void show(const uint8_t pieces[64]) {
     pthread_mutex_lock(&lock);
     for (int square = 0; square < 64; square++)
         shown[square] = pieces[square] ? dgt_piece_letter(pieces[square]) : ' ';
     pthread_mutex_unlock(&lock);
-    if (!begun) game_begin(&followed, pieces, plays, settle);
-    else if (game_see(&followed, pieces, line_now(), &made)) tell(&made);
-    begun = true;
+}
+
+/* If a dump isn't the last picture, that was wrong, or the board was away. Then the game goes on
+ * from the last picture that was confirmed. */
+static void see(const uint8_t pieces[64], bool is_dump) {
+    move made;
+    if (is_dump && memcmp(last, pieces, sizeof last) != 0) {
+        followed = sure;
+        finds = 0;
+    }
+    memcpy(last, pieces, sizeof last);
+    if (line_is_sure(&board)) show(pieces);
+    if (!followed.begun) game_begin(&followed.game, pieces, plays, settle);
+    else if (game_see(&followed.game, pieces, line_now(), &made)) find(&made);
+    followed.begun = true;
+    if (line_is_confirmed(&board)) trust();
+}
+
+/* Looks whether a move has rested. While one waits, the board is asked for all its squares. */
+static void look(void) {
+    move made;
+    if (line_is_confirmed(&board)) {
+        if (game_wait(&followed.game, line_now(), &made)) find(&made);
+        trust();
+    } else if (finds > 0 || followed.game.due != 0 || !sure.begun) {
+        line_hurry(&board);
+    }
 }
 
 /* ---- The thread */
@@ -108,8 +152,8 @@ static int left_until(long long time) {
 
 /* When something is to be done but read. */
 static long long next_time(void) {
-    long long due = line_due(&board);
-    return followed.due != 0 && followed.due < due ? followed.due : due;
+    long long due = line_due(&board), rested = followed.game.due;
+    return line_is_confirmed(&board) && rested != 0 && rested < due ? rested : due;
 }
 
 static void *read_board(void *unused) {
@@ -118,10 +162,8 @@ static void *read_board(void *unused) {
         poll(waits, board.port < 0 ? 1 : 2, left_until(next_time()));
         if (waits[0].revents) return unused;
         if (board.port >= 0 && waits[1].revents) line_read(&board, see);
+        look();
         line_keep(&board);
-        move made;
-        if (!line_is_sure(&board)) game_hold(&followed);
-        else if (game_wait(&followed, line_now(), &made)) tell(&made);
     }
 }
 
@@ -148,16 +190,18 @@ static void read_settings(void) {
     if (settle <= 0 || settle > 60000) settle = SETTLE;
 }
 
-/* Reads the board until it has reported all squares, or `texts` texts. False, with the reason in
- * errno, if it doesn't in time. */
+/* Reads the board until its squares are confirmed, or it has reported `texts` texts. False, with
+ * the reason in errno, if it doesn't in time. Squares that are sure by then are enough. */
 static bool hear_for(int milliseconds, int texts) {
     long long end = line_now() + milliseconds;
-    while (texts > 0 ? board.texts < texts : !line_is_sure(&board)) {
+    while (texts > 0 ? board.texts < texts : !line_is_confirmed(&board)) {
         long long due = line_due(&board);
         struct pollfd waits = {board.port, POLLIN, 0};
         errno = board.port < 0 ? ENODEV : ETIMEDOUT;
-        if (board.port < 0 || line_now() >= end) return false;
+        if (board.port < 0) return false;
+        if (line_now() >= end) return texts == 0 && line_is_sure(&board);
         if (poll(&waits, 1, left_until(due < end ? due : end)) > 0) line_read(&board, see);
+        look();
         if (board.port >= 0) line_keep(&board);
     }
     return true;
@@ -187,7 +231,8 @@ static bool start(const char *port) {
         return false;
     }
     strcpy(name, port);
-    begun = false;
+    followed.begun = sure.begun = false;
+    finds = 0;
     read_settings();
     if (!open_pipe() || !line_open(&board, name) || !hear_for(BOARD_WAIT, 0)) return false;
     line_ask_texts(&board);

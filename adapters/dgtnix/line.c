@@ -86,7 +86,7 @@ static bool write_all(int port, const uint8_t *bytes, size_t n) {
 static void lose(line *line) {
     line_close(line);
     dgt_follower_line_lost(&line->follower);
-    dgt_decoder_reset(&line->decoder);
+    line->hurries = false;
     line->look = line_now() + LOOK_AGAIN;
 }
 
@@ -110,14 +110,19 @@ void line_ask_texts(line *line) {
     }
 }
 
+void line_hurry(line *line) {
+    if (!line->hurries) dgt_follower_ask_now(&line->follower);
+    line->hurries = true;
+}
+
 bool line_open(line *line, const char *name) {
     *line = (struct line){.name = name, .port = -1, .serial = "unknown", .version = "unknown",
                           .trademark = "unknown"};
-    bool fits = dgt_follower_new(&line->follower, PERIOD, HEARTBEATS);
-    if (!fits || !dgt_decoder_new(&line->decoder)) {
+    if (!dgt_follower_new(&line->follower, PERIOD, HEARTBEATS)) {
         errno = ELIBBAD;
         return false;
     }
+    dgt_follower_set_confirm(&line->follower, true);
     line->port = open_port(name);
     if (line->port < 0) return false;
     ask(line);
@@ -148,21 +153,21 @@ void line_close(line *line) {
 
 /* ---- What is heard */
 
-/* All squares. False if they aren't known, or may be wrong. */
-static bool look_at(line *line, uint8_t pieces[64]) {
+bool line_is_sure(line *line) {
     dgt_follower *follower = &line->follower;
+    uint8_t pieces[64];
     return dgt_follower_picture(follower, pieces) && !dgt_follower_in_doubt(follower);
 }
 
-bool line_is_sure(line *line) {
-    uint8_t pieces[64];
-    return look_at(line, pieces);
+bool line_is_confirmed(line *line) {
+    return dgt_follower_confirmed(&line->follower);
 }
 
-/* A square or all of them were reported. They are shown if they can be trusted. */
-static void show(line *line, seen *seen) {
+/* A square or all of them were reported. */
+static void show(line *line, bool is_dump, seen *seen) {
     uint8_t pieces[64];
-    if (look_at(line, pieces)) seen(pieces);
+    if (is_dump) line->hurries = false;
+    if (dgt_follower_picture(&line->follower, pieces)) seen(pieces, is_dump);
 }
 
 static void keep_text(char *text, size_t room, const uint8_t *body, size_t length) {
@@ -176,7 +181,7 @@ static void hear(line *line, const dgt_event *event, const uint8_t *body, size_t
     size_t length = event->body_len < room ? event->body_len : room;
     switch (event->kind) {
     case DGT_EVENT_DUMP:
-    case DGT_EVENT_FIELD: show(line, seen); break;
+    case DGT_EVENT_FIELD: show(line, event->kind == DGT_EVENT_DUMP, seen); break;
     case DGT_EVENT_SERIAL:
         keep_text(line->serial, sizeof line->serial, event->serial, sizeof event->serial);
         line->texts++;
@@ -203,10 +208,9 @@ void line_read(line *line, seen *seen) {
         lose(line);
         return;
     }
-    for (size_t at = 0, used; at < (size_t)got; at += used) {
-        size_t left = (size_t)got - at;
-        used = dgt_decoder_feed(&line->decoder, bytes + at, left, &event, body, sizeof body);
-        dgt_follower_hear_all(&line->follower, now(), bytes + at, used);
+    for (size_t at = 0; at < (size_t)got;) {
+        at += dgt_follower_hear(&line->follower, now(), bytes + at, (size_t)got - at, &event, body,
+                                sizeof body);
         hear(line, &event, body, sizeof body, seen);
     }
 }

@@ -416,8 +416,3 @@ bool game_wait(game *game, long long time, move *made) {
     look(game, time - game->settle); /* what is left of it has rested, too */
     return told;
 }
-
-void game_hold(game *game) {
-    game->reading = UNCLEAR;
-    game->due = 0;
-}

@@ -91,7 +91,4 @@ bool game_see(game *game, const uint8_t squares[64], long long time, move *made)
 /* Time has passed. True where a move has rested for long enough: `made` is that move, as above. */
 bool game_wait(game *game, long long time, move *made);
 
-/* Nothing is waited for until the next position is seen. */
-void game_hold(game *game);
-
 #endif
