@@ -6,13 +6,26 @@
 
 static dgt_follower *follower;
 static model_follower model;
-static uint64_t now; /* it doesn't go back */
+static uint64_t now;
+
+static void check_hear(const uint8_t *bytes, size_t n, size_t used, const dgt_event *right,
+                       const uint8_t *right_body) {
+    size_t room = input_room(DGT_MAX_BODY);
+    uint8_t *body = guarded(BODY, room);
+    dgt_event *event = guarded(EVENTS, sizeof *event);
+    CHECK(dgt_follower_hear(follower, now, bytes, n, event, body, room) == used);
+    check_same_event(event, right);
+    check_written(body, room, right_body, right->body_len);
+}
 
 static void hear(chunk given, bool by_events) {
+    static uint8_t right_body[DGT_MAX_BODY];
+    dgt_event right;
     for (size_t at = 0, used = 1; used > 0; at += used) {
-        used = model_follower_hear(&model, now, given.bytes + at, given.n - at);
-        if (by_events)
-            CHECK(dgt_follower_hear(follower, now, given.bytes + at, given.n - at) == used);
+        const uint8_t *bytes = given.bytes + at;
+        size_t n = given.n - at;
+        used = model_follower_hear(&model, now, bytes, n, &right, right_body);
+        if (by_events) check_hear(bytes, n, used, &right, right_body);
     }
     if (!by_events) dgt_follower_hear_all(follower, now, given.bytes, given.n);
 }
@@ -94,8 +107,26 @@ static void send_to_clock_or_leds(uint8_t how) {
 
 static void pass_time(void) {
     static const uint64_t some[] = {1, 2, 3, 250, 999, 1000, 10000, UINT64_MAX / 2};
-    uint64_t wait = some[input_byte() % (sizeof some / sizeof *some)];
-    now = wait < UINT64_MAX - now ? now + wait : UINT64_MAX;
+    uint8_t which = input_byte();
+    uint64_t wait = some[which % (sizeof some / sizeof *some)];
+    if (which >= 0xc0) now = wait < now ? now - wait : 0; /* the clock goes back */
+    else now = wait < UINT64_MAX - now ? now + wait : UINT64_MAX;
+}
+
+/* The time at which it is due, or one before or after it. */
+static void wait_until_due(void) {
+    uint64_t due;
+    if (model_due_at(&model, &due)) now = due + input_byte() % 3 - 1;
+}
+
+static void set_wish(uint8_t which) {
+    bool wish = which % 2 == 0;
+    if (which < 2) dgt_follower_set_confirm(follower, model.confirms = wish);
+    else if (which < 4) dgt_follower_set_identify(follower, model.identifies = wish);
+    else {
+        dgt_follower_ask_now(follower);
+        model.is_wanted = true;
+    }
 }
 
 static void set_mode(void) {
@@ -106,12 +137,18 @@ static void set_mode(void) {
 }
 
 static void start(void) {
-    static const uint64_t periods[] = {0, 1, 3, 7, 1000, 10000, UINT64_MAX - 999, UINT64_MAX};
+    static const uint64_t periods[] = {0,    999,   1001,             4003,
+                                       1000, 10000, UINT64_MAX - 999, UINT64_MAX};
     static const uint32_t patiences[] = {0, 1, 2, 6, UINT32_MAX};
     uint64_t period = periods[input_byte() % (sizeof periods / sizeof *periods)];
     uint32_t patience = patiences[input_byte() % (sizeof patiences / sizeof *patiences)];
     dgt_follower_start(follower, period, patience);
     model_follower_start(&model, period, patience);
+}
+
+static void lose_line(void) {
+    dgt_follower_line_lost(follower);
+    model_follower_line_lost(&model);
 }
 
 static void check_time(bool (*get)(dgt_follower *, uint64_t *), bool is_known, uint64_t right) {
@@ -120,7 +157,7 @@ static void check_time(bool (*get)(dgt_follower *, uint64_t *), bool is_known, u
     check_written(time, sizeof *time, &right, is_known ? sizeof right : 0);
 }
 
-static void look_at_picture(void) {
+static void look_at_board(void) {
     const model_host *host = &model.host;
     uint8_t *picture = guarded(LOOK, 64);
     CHECK(dgt_follower_picture(follower, picture) == host->knows_picture);
@@ -132,8 +169,13 @@ static void look_at_picture(void) {
     check_written(text, DGT_PLACEMENT_ROOM, right, host->knows_picture ? strlen(right) + 1 : 0);
 
     dgt_clock *clock = guarded(LOOK, sizeof *clock);
+    const dgt_clock unknown = {.kind = DGT_CLOCK_UNKNOWN};
     dgt_follower_clock(follower, clock);
-    CHECK(memcmp(clock, &host->clock, sizeof *clock) == 0);
+    CHECK(memcmp(clock, model.is_unreadable ? &unknown : &host->clock, sizeof *clock) == 0);
+
+    uint8_t *serial = guarded(LOOK, sizeof model.serial);
+    CHECK(dgt_follower_serial(follower, serial) == model.has_serial);
+    check_written(serial, sizeof model.serial, model.serial, model.has_serial ? 5 : 0);
 }
 
 static void look(void) {
@@ -142,10 +184,11 @@ static void look(void) {
     check_time(dgt_follower_due_at, is_due, due);
     check_time(dgt_follower_last_heard, model.has_heard, model.heard);
     CHECK(dgt_follower_in_doubt(follower) == model.is_doubtful);
+    CHECK(dgt_follower_confirmed(follower) == model.is_confirmed);
     CHECK(dgt_follower_heartbeats_left(follower) == model.left);
     CHECK(dgt_follower_unread(follower) == model.host.decoder.n);
     CHECK(dgt_follower_mode(follower) == model.mode);
-    look_at_picture();
+    look_at_board();
 }
 
 int LLVMFuzzerTestOneInput(const uint8_t *data, size_t n) {
@@ -157,7 +200,7 @@ int LLVMFuzzerTestOneInput(const uint8_t *data, size_t n) {
     now = 0;
     look();
     while (input_is_left()) {
-        uint8_t act = input_byte() % 16;
+        uint8_t act = input_byte() % 20;
         if (act < 4) hear_chunk(act % 2 == 0);
         else if (act < 6) hear_dump(act % 2 == 0);
         else if (act < 9) ask(DGT_MAX_ASKING);
@@ -167,10 +210,9 @@ int LLVMFuzzerTestOneInput(const uint8_t *data, size_t n) {
         else if (act == 12) pass_time();
         else if (act == 13) set_mode();
         else if (act == 14) start();
-        else {
-            dgt_follower_line_lost(follower);
-            model_follower_line_lost(&model);
-        }
+        else if (act == 15) lose_line();
+        else if (act < 18) set_wish(input_byte() % 5);
+        else wait_until_due();
         look();
     }
     return 0;

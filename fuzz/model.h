@@ -111,23 +111,28 @@ typedef struct model_follower {
     model_host host;
     uint64_t period;
     uint32_t patience, left;
-    uint8_t mode;
-    bool has_asked, has_heard, is_answered, is_disturbed, is_doubtful;
-    uint64_t asked, heard;
+    uint8_t mode, tries;
+    bool confirms, identifies;
+    bool has_asked, has_heard, has_changed, has_serial;
+    uint64_t asked, heard, changed;
+    uint8_t serial[5];
+    bool is_answered, is_disturbed, has_requested, is_wanted, pardons; /* since it asked */
+    bool is_settling, is_doubtful, is_confirmed, is_unreadable;
 } model_follower;
 
 /* As dgt_follower_start, and dgt_follower_line_lost. */
 void model_follower_start(model_follower *follower, uint64_t period, uint32_t patience);
 void model_follower_line_lost(model_follower *follower);
 
-/* As dgt_follower_hear. */
-size_t model_follower_hear(model_follower *follower, uint64_t now, const uint8_t *bytes, size_t n);
+/* As dgt_follower_hear, with the whole body. */
+size_t model_follower_hear(model_follower *follower, uint64_t now, const uint8_t *bytes, size_t n,
+                           dgt_event *event, uint8_t body[DGT_MAX_BODY]);
 
 /* As dgt_follower_due_at. */
 bool model_due_at(const model_follower *follower, uint64_t *due);
 
-/* As dgt_follower_ask into a buffer of `room` bytes. `asking` gets what is due then. */
-dgt_sent model_ask(model_follower *follower, uint64_t now, size_t room, model_sending *asking);
+/* As dgt_follower_ask into a buffer of `room` bytes. `sending` gets what is due then. */
+dgt_sent model_ask(model_follower *follower, uint64_t now, size_t room, model_sending *sending);
 
 /* ---- A board. */
 
