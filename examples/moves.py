@@ -8,19 +8,20 @@
                   next line
 
 A move is printed once the board has shown the position after it for 0.3
-seconds, or the other side has answered. Pieces may be lifted in any order,
-slid, put on wrong squares and put right, and moves may be taken back. A rook's
-move that may be the first half of castling waits for two seconds.
+seconds, and has confirmed it by a report of all squares, or the other side has
+answered. Pieces may be lifted in any order, slid, put on wrong squares and put
+right, and moves may be taken back. A rook's move that may be the first half of
+castling waits for two seconds.
 
 All pieces on their first squares begin a game, also on a turned board. So does
 any other position that the board shows at the start, or that is set up with the
 kings last, after a second.
 
-The board is asked for all squares every ten seconds, and at once if the line
-lost bytes. No move is printed until it has answered. If the port goes, it is
-looked for every two seconds, and the game goes on once it is back: a move that
-was made meanwhile is printed then. So it runs until Ctrl-C ends it, or nobody
-reads what it prints.
+The board is asked for all squares every ten seconds, after each move, and soon
+if the line lost bytes. No move is printed until it has answered. If the port
+goes, it is looked for every two seconds, and the game goes on once it is back:
+a move that was made meanwhile is printed then. So it runs until Ctrl-C ends it,
+or nobody reads what it prints.
 
 Standard error shows where the pieces stand when the board first reports them,
 and again after it was away, and why it is away.
@@ -76,7 +77,9 @@ def made(board: dgt.Following, recogniser: dgt.MoveRecogniser) -> Iterator[dgt.M
             if is_new:
                 warn(f"the board shows {view.picture}")
             is_new = False
-            yield from recogniser.see(view.picture, time.monotonic())
+            yield from recogniser.see(view.picture, time.monotonic(), view.confirmed)
+            if recogniser.unconfirmed:
+                board.follower.ask_now()
 
 
 def text(event: dgt.MoveEvent) -> str:
@@ -100,7 +103,7 @@ def main() -> None:
     signal.signal(signal.SIGINT, signal.SIG_DFL)
     try:
         recogniser = dgt.MoveRecogniser(words.fen)
-        board = dgt.follow(words.port)
+        board = dgt.follow(words.port, confirm=True)
     except dgt.BadFen as wrong:
         raise SystemExit(f"moves.py: {wrong}") from None
     except OSError as refused:

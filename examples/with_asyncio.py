@@ -30,7 +30,7 @@ except ImportError as missing:
 
 async def follow(port: str, idle: float) -> str:
     """Prints the positions on a port, and returns why it ends."""
-    loop = asyncio.get_running_loop()
+    loop, shown, why = asyncio.get_running_loop(), "", ""
     try:
         reader, writer = await serial_asyncio.open_serial_connection(
             url=port, baudrate=9600, exclusive=True)
@@ -39,14 +39,15 @@ async def follow(port: str, idle: float) -> str:
     try:
         async with asyncio.timeout(idle) as limit:
             async for view in dgt.follow_async(reader, writer):
-                limit.reschedule(loop.time() + idle)
-                doubt = " ?" if view.in_doubt else ""
-                print(f"{port} {view.away or view.picture}{doubt}", flush=True)
-        return "the port has gone"
+                text = f"{port} {view.away or view.picture}{' ?' if view.in_doubt else ''}"
+                if view.away and not view.silent:
+                    why = view.away
+                elif text != shown:
+                    limit.reschedule(loop.time() + idle)
+                    print(shown := text, flush=True)
+        return why
     except TimeoutError:
         return f"nothing has changed for {idle:g} seconds"
-    except OSError as fault:
-        return str(fault)
     finally:
         writer.close()
 

@@ -42,17 +42,20 @@ class Said:
     state: str
     is_sure: bool
     players: tuple[str, str] | None
+    is_confirmed: bool = True
 
     def view(self) -> dgt.BoardView:
         """The same, as `dgt.follow` says it. A board in doubt is away, too: nobody is there who
         sees that more moves were made meanwhile than can be found."""
         return dgt.BoardView(dgt.Position.of_letters(self.letters), clock_of(self.clock),
-                             not self.is_sure, None if self.is_sure else self.state)
+                             not self.is_sure, None if self.is_sure else self.state,
+                             self.is_sure and self.is_confirmed)
 
 
 def said_of(board: topics.Board, at: float) -> Said:
     letters = re.sub(r"\d", lambda digit: "." * int(digit[0]), board.placement).replace("/", "")
-    return Said(board.name, at, letters, board.clock, board.state, board.is_sure, board.players)
+    return Said(board.name, at, letters, board.clock, board.state, board.is_sure, board.players,
+                board.is_confirmed)
 
 
 def clock_of(clock: topics.Clock | None) -> dgt.Clock | None:

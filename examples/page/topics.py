@@ -8,8 +8,9 @@ from dataclasses import dataclass, field
 from typing import Any
 
 # The topics of a board, below boards/NAME. Of several that are retained, a server hears them in
-# this order: whether a position is right is known before it comes.
-STATE, POSITION, CLOCK, PLAYERS, COUNTERS = TOPICS = ("state", "", "clock", "players", "counters")
+# this order: whether a position is right and confirmed is known before it comes.
+STATE, CONFIRMED, POSITION, CLOCK, PLAYERS, COUNTERS = TOPICS = (
+    "state", "confirmed", "", "clock", "players", "counters")
 # What a board may be. In doubt is one whose line lost bytes, until it has reported all squares.
 STATES = ("following", "doubt", "silent", "gone", "ended", "unknown")
 MOST_BYTES = 500  # of a message
@@ -95,8 +96,8 @@ def read_counters(text: str) -> dict[str, int]:
     raise Refused
 
 
-READERS = {STATE: read_state, POSITION: read_position, CLOCK: read_clock, PLAYERS: read_players,
-           COUNTERS: read_counters}
+READERS = {STATE: read_state, CONFIRMED: read_position, POSITION: read_position,
+           CLOCK: read_clock, PLAYERS: read_players, COUNTERS: read_counters}
 
 
 def read(topic: str, payload: bytes) -> Any:
@@ -137,6 +138,12 @@ class Board:
     def is_sure(self) -> bool:
         """Whether the board stands as its position says."""
         return self.is_fresh and self.state in ("following", "unknown")
+
+    @property
+    def is_confirmed(self) -> bool:
+        """Whether the board has confirmed its position, as far as its publisher says that."""
+        confirmed = self.said.get(CONFIRMED)
+        return bool(confirmed is None or confirmed[1] == self.placement)
 
     @property
     def state(self) -> str:
