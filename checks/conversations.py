@@ -213,9 +213,11 @@ WAITS = st.sampled_from([0.0, 0.5, 2.5, 10.0, 25.0])
 CLOCK_MODES = [dgt.Mode.UPDATE, dgt.Mode.UPDATE_NICE]
 FOLLOWERS_MODES = st.sampled_from([dgt.Mode.UPDATE_BOARD, *CLOCK_MODES])
 PLACES = st.one_of(st.integers(0, 10), st.integers(0, 300))
-# What a line may insert: any bytes, and the beginnings of long commands and messages.
+# What a line may insert: any bytes, the beginnings of long commands and messages, and a clock that
+# shows no digits.
 PARTS = st.one_of(st.binary(min_size=1, max_size=4),
-                  st.sampled_from([b"\x60\xff", b"\x2b\xff\x03", b"\x86\x00\x43", b"\xb0\x7f"]))
+                  st.sampled_from([b"\x60\xff", b"\x2b\xff\x03", b"\x86\x00\x43", b"\xb0\x7f",
+                                   bytes.fromhex("8d000a017f0304050601")]))
 
 
 class FaultyTalk(Ends):
@@ -229,13 +231,15 @@ class FaultyTalk(Ends):
 
     def __init__(self) -> None:
         super().__init__()
-        self.start(0, dgt.Mode.UPDATE, False)
+        self.start(0, dgt.Mode.UPDATE, False, False, False)
 
-    @initialize(patience=st.integers(0, 3), mode=FOLLOWERS_MODES, delivers=st.booleans())
-    def start(self, patience: int, mode: dgt.Mode, delivers: bool) -> None:
+    @initialize(patience=st.integers(0, 3), mode=FOLLOWERS_MODES, delivers=st.booleans(),
+                confirm=st.booleans(), identify=st.booleans())
+    def start(self, patience: int, mode: dgt.Mode, delivers: bool, confirm: bool, identify: bool
+              ) -> None:
         """`delivers` is whether all is delivered between the askings at the end."""
-        self.follower = dgt.Follower(PERIOD, patience, mode)
-        self.plain_host = model.Host()
+        self.follower = dgt.Follower(PERIOD, patience, mode, confirm=confirm, identify=identify)
+        self.plain_host, self.is_clock_readable = model.Host(), True
         self.patience, self.delivers, self.now = patience, delivers, 0.0
         self.fail()
 
@@ -244,20 +248,28 @@ class FaultyTalk(Ends):
         self.askings, self.asks_for_clock = 0, True
 
     def hear(self, data: bytes) -> None:
-        self.follower.hear(data, self.now)
+        for event in self.follower.hear_each(data, self.now):
+            if isinstance(event, dgt.Refused) and event.fault == dgt.Fault.BAD_READING:
+                self.is_clock_readable = False
+            self.is_clock_readable |= isinstance(event, (dgt.Times, dgt.NoClock))
         for byte in data:
             self.plain_host.hear(byte)
 
     @rule(wait=WAITS)
     def ask(self, wait: float) -> None:
         self.now += wait
-        due, mode = self.follower.due_at, self.follower.mode
+        due, mode, doubted = self.follower.due_at, self.follower.mode, self.follower.in_doubt
         asked = self.follower.ask(self.now)
-        same("whether it asks", bool(asked), due is not None and due <= self.now)
+        is_noticed = bool(asked) or self.follower.in_doubt != doubted  # an answer may be overdue
+        same("whether it is due", is_noticed, due is not None and due <= self.now)
         self.down += asked
-        if asked:
+        if len(asked) > 1:  # not for the serial number
             self.askings += 1
             self.asks_for_clock &= mode in CLOCK_MODES
+
+    @rule()
+    def ask_now(self) -> None:
+        self.follower.ask_now()
 
     @rule(mode=FOLLOWERS_MODES)
     def set_mode(self, mode: dgt.Mode) -> None:
@@ -305,14 +317,19 @@ class FaultyTalk(Ends):
     def host_loses_line(self) -> None:
         """What is under way may come all the same."""
         self.follower.line_lost()
-        self.plain_host = model.Host()
+        self.plain_host, self.is_clock_readable = model.Host(), True
         self.fail()
 
     @invariant()
     def is_same_picture(self) -> None:
         follower, plain = self.follower, self.plain_host
         same("the picture", follower.picture and list(follower.picture.codes), plain.picture)
-        same("the clock", follower.clock and some.clock_body(follower.clock), plain.clock)
+        clock = plain.clock if self.is_clock_readable else None
+        same("the clock", follower.clock and some.clock_body(follower.clock), clock)
+
+    @invariant()
+    def is_confirmed_or_in_doubt(self) -> None:
+        assert not (self.follower.confirmed and self.follower.in_doubt)
 
     @invariant()
     def heals(self) -> None:

@@ -232,6 +232,8 @@ def picture(data, doubt=False, clock=False):
             before, told = told, shown_clock(decoder.message[1])
             lines += [f"{offset:08} {told}\n"] if clock and told != before else []
             continue
+        elif text.startswith("refused 0d badreading "):
+            continue  # a clock that is being set
         else:
             if text.startswith(("refused ", "cut ", "badlength", "stray ")):
                 lines += [f"{offset:08} doubt\n"] if doubt and sure else []

@@ -31,6 +31,7 @@ BOTH = "rnbqkbnr/pppppppp/8/8/4P3/8/PPPPPPPP/RNBQKBNR"
 PUT = "rnbqkbnr/pppppppp/8/8/4P3/8/PPPP1PPP/RNBQKBNR"
 GONE = "the port has gone; it is looked for every two seconds"
 SILENT = "the board doesn't answer"
+CLOSED = "the line was closed"
 NO_PORT = "no such port (plug the board in; /dev/serial/by-id lists the ports)"
 SECONDS = 20
 TIOCGEXCL = 0x80045440  # of Linux: whether later openers are refused; termios doesn't name it
@@ -167,14 +168,16 @@ def changes(dgt, line):
 
 
 def asks_when_due(dgt, line):
-    with dgt.follow(line.path, 0.4, patience=3) as board:
+    with dgt.follow(line.path, 1.0, patience=3) as board:
         expect("at first", board, (START, False, None))
-        no_more("a period later", board, 2.5)
+        view = expect("a period later", board, (START, False, None))
+        wanted("whether it is confirmed", view.confirmed, True)
+        no_more("more periods later", board, 4.5)
     times, asked = zip(*line.asked)
     wanted("bytes asked", [len(each) for each in asked[:6]], [258, 2, 2, 2, 258, 2])
     gaps = [later - earlier for earlier, later in zip(times, times[1:])]
     # A board that hears one late hears the next one sooner after it.
-    wanted(f"the time between two askings: {gaps}", [0.15 < gap < 0.4 + LATE for gap in gaps],
+    wanted(f"the time between two askings: {gaps}", [0.6 < gap < 1.0 + LATE for gap in gaps],
            [True] * len(gaps))
     wanted(f"askings: {len(times)}", len(times) <= 8, True)
 
@@ -184,7 +187,9 @@ def heals(dgt, line):
         expect("at first", board, (START, False, None))
         line.spoil = lambda message: b"" if len(message) == 5 else message
         line.put(("e2", "."))
-        expect("a message that was lost", board, (LIFTED, False, None))
+        # The next dump is another picture than was known. A new beginning and its dump remove the
+        # doubt.
+        expect("a message that was lost", board, (LIFTED, True, None), (LIFTED, False, None))
         line.spoil = lambda message: message[:4] if len(message) == 5 else message
         line.put(("e4", "P"), ("d2", "."))
         expect("messages that were cut", board, (LIFTED, True, None))
@@ -193,8 +198,25 @@ def heals(dgt, line):
         wanted("healed", expect_at_last("healed", board, right)[-1], right)
 
 
+def confirms(dgt, line):
+    """What a board shows at first, and each change, is confirmed about a second later."""
+    with dgt.follow(line.path, 60, confirm=True) as board:
+        for what, right in [("at first", START), ("lifted", LIFTED)]:
+            begun = time.monotonic()
+            if right == LIFTED:
+                line.put(("e2", "."))
+            views = [board.wait(begun + SECONDS) for _ in range(2)]
+            wanted(what, [view and (*see(view), view.confirmed) for view in views],
+                   [(right, False, None, False), (right, False, None, True)])
+            passed = time.monotonic() - begun
+            wanted(f"how long, {what}: {passed}", 0.9 < passed < 1 + LATE, True)
+        no_more("confirmed", board, 1.5)
+    wanted("bytes asked", [len(each) for _, each in line.asked], [258, 2, 2])
+
+
 def clock_heals(dgt, line):
-    """The line loses a reading of the clock without a trace, and the next asking brings another."""
+    """The line loses a reading of the clock without a trace, and the next asking brings another.
+    While the clock shows no digits it is unknown, and while the port has gone it is the last."""
     early, late = dgt.Times(dgt.Time(0, 5, 0)), dgt.Times(dgt.Time(0, 4, 59))
     line.board.hand_clock(early)
     with dgt.follow(line.path, 1.5, mode=dgt.Mode.UPDATE_NICE) as board:
@@ -205,8 +227,15 @@ def clock_heals(dgt, line):
             lost = list(line.board.messages())
         wanted("readings that are lost", len(lost), 1)
         no_more("after a reading was lost", board)
-        view = expect("after the next asking", board, (START, False, None))
+        view = expect("after the next asking", board, *[(START, False, None)] * 2)
         wanted("its clock", view.clock, late)
+        line.send([bytes.fromhex("8d000a017f0304050601")])
+        for right in (None, late):
+            view = expect("no digits, and digits again", board, (START, False, None))
+            wanted("its clock", view.clock, right)
+        line.unplug()
+        wanted("its clock", expect("gone", board, (START, True, GONE)).clock, late)
+        line.plug()
     wanted("bytes asked", [len(each) for _, each in line.asked[:2]], [259, 3])
 
 
@@ -215,16 +244,17 @@ def noise(dgt, line):
     with dgt.follow(line.path, 1.0) as board:
         expect("at first", board, (START, False, None))
         line.send([b"\x00\x7f\x31", bytes.fromhex("8e00053400")])
-        expect("noise", board, (START, True, None), (LIFTED, True, None), (START, False, None))
+        expect("noise", board, (START, True, None), (LIFTED, True, None), (START, True, None),
+               (START, False, None))
 
 
 def silence(dgt, line):
     line.is_on = False
-    with dgt.follow(line.path, 0.5) as board:
+    with dgt.follow(line.path, 1.0) as board:
         expect("a board that is off", board, (None, True, SILENT))
         line.is_on = True
         expect_at_last("a board that is on", board, (START, False, None))
-        while board.wait(time.monotonic() + 0.8):
+        while board.wait(time.monotonic() + 1.6):
             pass  # it answers each of the earlier askings
         wanted("a board that is on", see(board.view), (START, False, None))
         line.is_on = False
@@ -286,7 +316,7 @@ def faults(dgt, line):
         fault = refused(path, lambda: dgt.follow(path), number)
         wanted(path, (fault.strerror, fault.filename), (said, path))
     refused("/dev/null", lambda: dgt.follow("/dev/null", wait_for_port=True), errno.ENOTTY)
-    for period in (0, 0.05, -1, float("nan"), float("inf")):
+    for period in (0, 0.999, -1, float("nan"), float("inf")):
         try:
             dgt.follow(line.path, period)
         except dgt.BadValue:
@@ -471,7 +501,7 @@ def takes_nothing(dgt, line):
                 while os.write(port, bytes(1000)):
                     pass
             time.sleep(0.1)
-    with dgt.follow(line.path, 0.2) as board:
+    with dgt.follow(line.path, 1.0) as board:
         begun, used = time.monotonic(), time.thread_time()
         expect_at_last("a port that takes nothing", board, (None, True, SILENT))
         no_more("it", board, 3.0)
@@ -518,7 +548,12 @@ def handed(dgt, line):
         expect("a line", board, (START, False, None))
         line.board.change("e2", ".")
         wanted("it, changed", see(next(board)), (LIFTED, False, None))
-        wanted("once it is closed", list(board), [])
+        wanted("once it is closed", [see(view) for view in board], [(LIFTED, True, CLOSED)])
+        try:
+            board.wait()
+            raise Wrong("a line that has ended is waited for")
+        except dgt.Closed:
+            pass
     wanted("how much was read", [size for size, _ in port.waited], [67, 1, 4, 1])
     limits = [59 < seconds <= 60 for _, seconds in port.waited[1:]]
     wanted(f"for how long: {port.waited}", limits, [True] * 3)
@@ -526,7 +561,64 @@ def handed(dgt, line):
     with dgt.follow(port) as board:
         expect("a line", board, (LIFTED, False, None))
     wanted("whether it is open", port.is_open, True)
-    refused("a fault of its own", lambda: list(dgt.follow(port)), errno.EIO)
+    wanted("a fault of its own", [see(view) for view in dgt.follow(port)],
+           [(LIFTED, False, None), (LIFTED, True, "this one fails")])
+
+
+class Failing(Handed):
+    """A port that closes, or fails with an exception, after a number of calls. So does pyserial,
+    which raises a TypeError if another thread has closed it."""
+
+    def __init__(self, board, fault, call, closes):
+        super().__init__(board)
+        self.fault, self.call, self.closes, self.calls = fault, call, closes, 0
+
+    def reach(self, call):
+        self.calls += call == self.call
+        if call == self.call and self.calls == 2:
+            self.is_open = not self.closes
+            raise self.fault
+
+    @property
+    def in_waiting(self):
+        self.reach("in_waiting")
+        return len(self.sent)
+
+    def write(self, chunk):
+        self.reach("write")
+        super().write(chunk)
+
+    def read(self, size):
+        self.reach("read")
+        if len(self.sent) < size:
+            time.sleep(min(self.timeout, 0.05))
+        chunk, self.sent = self.sent[:size], self.sent[size:]
+        return chunk
+
+
+def handed_fails(dgt, line):
+    """A line that is closed or fails ends in doubt, and so does its iteration. A fault of another
+    kind of a line that stays open is the caller's."""
+    unplugged = OSError("device reports readiness to read but returned no data")
+    none = TypeError("'NoneType' object cannot be interpreted as an integer")
+    for fault, call, closes, why in [
+            (none, "read", True, CLOSED), (none, "in_waiting", True, CLOSED),
+            (OSError(errno.EBADF, "it is closed"), "read", True, CLOSED),
+            (unplugged, "read", False, str(unplugged)),
+            (OSError(errno.EIO, "Input/output error"), "in_waiting", False, "Input/output error")]:
+        board = dgt.follow(Failing(dgt.Board(), fault, call, closes), 1.0)
+        wanted(f"{fault!r} of {call}", [see(view) for view in board],
+               [(START, False, None), (START, True, why)])
+    board = dgt.follow(Failing(dgt.Board(), unplugged, "write", False), 1.0)
+    expect("a write that fails", board, (START, False, None), (START, True, SILENT),
+           (START, False, None))
+    board = dgt.follow(Failing(dgt.Board(), none, "read", False), 1.0)
+    expect("a port that is open", board, (START, False, None))
+    try:
+        board.wait()
+        raise Wrong("a TypeError of a port that is open is hidden")
+    except TypeError:
+        pass
 
 
 async def hear_streams(dgt, board):
@@ -552,15 +644,81 @@ async def hear_streams(dgt, board):
     return [see(view) for view in seen]
 
 
+async def joined(dgt, *words):
+    """The streams of a board, and the views of a host that follows it on others, which are given,
+    too."""
+    theirs, ours = [await asyncio.open_connection(sock=end) for end in socket.socketpair()]
+    return *theirs, dgt.follow_async(*ours, *words), ours
+
+
+async def hear_full_stream(dgt, board):
+    """What a host sends isn't taken, and it hears the board all the same."""
+    _, writer, views, (_, ours) = await joined(dgt, 1.0)
+    ours.write(bytes(3_000_000))
+    writer.writelines(board.answers(b"\x44\x42"))
+    await asyncio.sleep(0)
+    seen, unsent = [await anext(views)], ours.transport.get_write_buffer_size
+    first = unsent()
+    for square in ("e2", "d2", "c2"):
+        await asyncio.sleep(0.7)
+        board.change(square, ".")
+        writer.writelines(board.messages())
+        while view := await anext(views):
+            if view.picture[square] == ".":
+                break
+        seen.append(view)
+    await views.aclose()
+    return [view.picture["e2"] for view in seen], unsent() <= first
+
+
+async def answer(board, reader, writer, asked):
+    """Answers a host, and notes when it has asked."""
+    while chunk := await reader.read(1000):
+        asked.append(time.monotonic())
+        writer.writelines(board.answers(chunk))
+
+
+async def hear_late(dgt, board):
+    """The loop over the views waits for two seconds, in which the board changes 20 times, and is
+    asked. Returns the squares of a pawn in the views then, and how often it was asked."""
+    reader, writer, views, _ = await joined(dgt, 1.0)
+    asked = []
+    served = asyncio.create_task(answer(board, reader, writer, asked))
+    await anext(views)
+    begun = time.monotonic()
+    for number in range(20):
+        board.change("e2", "P."[number % 2])
+        board.change(dgt.SQUARES[16 + number], "P")
+        writer.writelines(board.messages())
+        await asyncio.sleep(0.1)
+    seen = [await anext(views)]
+    while seen[-1].picture != board.position:
+        seen.append(await anext(views))
+    await views.aclose()
+    served.cancel()
+    return [sum(each == "P" for each in view.picture[16:36]) for view in seen], len(
+        [each for each in asked if begun < each])
+
+
+def slow_streams(dgt, line):
+    seen, is_bounded = asyncio.run(asyncio.wait_for(hear_full_stream(dgt, line.board), SECONDS))
+    wanted("a stream that takes nothing", (seen, is_bounded), (["P", ".", ".", "."], True))
+    counts, asked = asyncio.run(asyncio.wait_for(hear_late(dgt, dgt.Board()), SECONDS))
+    wanted(f"views after two seconds: {counts}", (counts == sorted(counts), counts[-1]),
+           (True, 20))
+    wanted(f"the first of them: {counts}", counts[0] > 8, True)
+    wanted(f"askings meanwhile: {asked}", asked > 0, True)
+
+
 def streams(dgt, line):
     seen = asyncio.run(asyncio.wait_for(hear_streams(dgt, line.board), SECONDS))
     wanted("streams", seen, [(START, False, None), (START, True, None), (LIFTED, True, None),
-                             (LIFTED, False, None)])
+                             (LIFTED, False, None), (LIFTED, True, CLOSED)])
 
 
-CASES = [changes, asks_when_due, heals, clock_heals, noise, silence, goes_and_comes, comes_late,
-         faults, closing, leaving, closing_elsewhere, settings, waits, wakes, takes_nothing,
-         handed, streams]
+CASES = [changes, asks_when_due, heals, confirms, clock_heals, noise, silence, goes_and_comes,
+         comes_late, faults, closing, leaving, closing_elsewhere, settings, waits, wakes,
+         takes_nothing, handed, handed_fails, streams, slow_streams]
 
 
 def try_case(dgt, case):
@@ -570,7 +728,7 @@ def try_case(dgt, case):
         try:
             case(dgt, line)
         except (Wrong, OSError, dgt.DgtError) as wrong:
-            return str(wrong)
+            return str(wrong) or repr(wrong)
         finally:
             line.close()
     return None

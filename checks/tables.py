@@ -79,9 +79,10 @@ class Table(games.Hand):
 
         self.dgt, self.turned, self.time, self.timer = dgt, turned, 1000.0, timer
         self.told, self.warned, self.spoil, self.is_plugged = [], [], bytes, True
+        self.asked = None
         self.squares = list(letters or dgt.Position.start().letters)
         self.board = dgt.Board(self.position(), timer.times if timer else dgt.NoClock())
-        self.steps = following._Steps(2.0, 6, dgt.Mode.UPDATE_NICE)
+        self.steps = following._Steps(2.0, game._PATIENCE, dgt.Mode.UPDATE_NICE, True)
         compared = file and Compared(self, file)
         self.keeper = game.Games(self.told.append, self.warned.append, compared, tags, white_clock,
                                  fen, "port")
@@ -108,7 +109,11 @@ class Table(games.Hand):
 
     def views(self):
         while self.steps.changes:
-            self.keeper.see(self.steps.changes.popleft(), self.time)
+            view = self.steps.changes.popleft()
+            self.keeper.see(view, self.time)
+            if self.keeper.unconfirmed and view.picture != self.asked:
+                self.asked = view.picture
+                self.steps.follower.ask_now()
 
     def due(self):
         times = [self.steps.follower.due_at if self.is_plugged else None, self.keeper.due,
