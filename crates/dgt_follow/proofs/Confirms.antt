@@ -8,7 +8,7 @@ use Rattle.dgt_decode.specs.Grammar.{Event, Message, Refused, Cut, BadLength, St
 use Rattle.dgt_host.specs.Confirmed.{confirmed_after, confirmed_after_all, message_in, messages}
 use Rattle.dgt_host.proofs.ConfirmedLemmas.{confirms_more}
 use Rattle.dgt_follow.specs.declared.asking.Asking.{Asking}
-use Rattle.dgt_follow.specs.Pace.{confirmed_by, is_unasked}
+use Rattle.dgt_follow.specs.Pace.{PaceView, confirmed_by, is_overdue, is_unasked, pace_at}
 use Rattle.dgt_follow.specs.Follower.{AskingsConfirmNothing, ConfirmedAsHeard, FollowerView, follower_after_event, follower_after_events}
 
 Heard : FollowerView → FollowerView → List Content → Type 0
@@ -77,8 +77,11 @@ first_of : (a b : Bool) → (a && b) ≡ true → a ≡ true
 first_of true b e = refl
 first_of false b e = cc
 
+by_now : (pace : PaceView) (now : ℕ) → (pace_at pace now).confirmed ≡ true → pace.confirmed ≡ true
+by_now pace now e = first_of pace.confirmed _ (first_of (pace.confirmed && not (is_overdue pace now)) _ e)
+
 pub confirm_nothing : AskingsConfirmNothing
-confirm_nothing Asking.Nothing pace now e = first_of pace.confirmed _ e
-confirm_nothing Asking.Identify pace now e = e
-confirm_nothing Asking.Heartbeat pace now e = first_of pace.confirmed _ e
-confirm_nothing Asking.Anew pace now e = first_of pace.confirmed _ e
+confirm_nothing Asking.Nothing pace now e = by_now pace now e
+confirm_nothing Asking.Identify pace now e = by_now pace now e
+confirm_nothing Asking.Heartbeat pace now e = by_now pace now (first_of (pace_at pace now).confirmed _ e)
+confirm_nothing Asking.Anew pace now e = by_now pace now (first_of (pace_at pace now).confirmed _ e)

@@ -1,13 +1,15 @@
 -- What a follower makes of the events of bytes that come in chunks.
-use Rattle.std.proofs.Common.{◌≡◌, ◌+◌, Option, Some, None, Bool, is_some, option_map, refl, sym, ap, ◌∙◌, ℕ, List, [], ◌∷◌, ◌++◌, append_assoc, length, ◌-◌, take, drop, rules}
+use Rattle.std.proofs.Common.{◌≡◌, ◌+◌, Option, Some, None, Bool, is_some, option_map, refl, sym, ap, ◌∙◌, ℕ, List, [], ◌∷◌, ◌++◌, append_assoc, append-nil, length, ◌-◌, take, drop, rules}
 use Rattle.std.proofs.Math.Seq.{take-add}
 use Rattle.std.proofs.lemmas.List.{take_all}
 use Rattle.dgt_decode.specs.Grammar.{Event, Message, Refused, Cut, BadLength, Stray, Placed, events, events_behind, unfinished_message}
 use Rattle.dgt_decode.specs.Feeding.{FirstEvent, at_place_if_any}
 use Rattle.dgt_decode.specs.Laws.{EventsAppend, UnfinishedAppend}
+use Rattle.dgt_values.specs.declared.kinds.Kind.{Kind}
+use Rattle.dgt_values.specs.declared.pieces.Piece.{Piece}
 use Rattle.dgt_host.specs.Host.{HostView, host_after, host_after_events}
-use Rattle.dgt_follow.specs.Pace.{KeepsCount, PaceView, pace_after_event_if_any}
-use Rattle.dgt_follow.specs.Follower.{FollowedInChunks, FollowerView, follower_after, follower_after_event, follower_after_events, following, with_unread}
+use Rattle.dgt_follow.specs.Pace.{KeepsCount, PaceView, pace_after_event_if_any, unfinished_by}
+use Rattle.dgt_follow.specs.Follower.{FollowedInChunks, FollowerView, follower_after, follower_after_event, follower_after_events, follower_hearing, following, with_unfinished, with_unread}
 
 follower_after_events-append : (f : FollowerView) (now : ℕ) (xs ys : List Placed)
     → follower_after_events f now (xs ++ ys) ≡ follower_after_events (follower_after_events f now xs) now ys
@@ -66,9 +68,72 @@ in_two later still f now s more whole e =
     (sym (still s more))
     ∙ ap (λ (bytes : List ℕ). with_unread (follower_after_events f now (events bytes)) (unfinished_message bytes)) e
 
-pub followed_in_chunks : EventsAppend → UnfinishedAppend → FollowedInChunks
-followed_in_chunks later still f now bytes more = in_two later still f now (f.host.unread ++ bytes) more
+-- ---- nor does it matter whether a message was unfinished before
+
+follower_after_event-unfinished : (f : FollowerView) (now : ℕ) (unfinished : Option ℕ) (event : Event)
+    → follower_after_event (with_unfinished f unfinished) now event
+    ≡ with_unfinished (follower_after_event f now event) unfinished
+follower_after_event-unfinished f now unfinished (Message said) = refl
+follower_after_event-unfinished f now unfinished (Refused code fault) = refl
+follower_after_event-unfinished f now unfinished (Cut have) = refl
+follower_after_event-unfinished f now unfinished BadLength = refl
+follower_after_event-unfinished f now unfinished (Stray byte) = refl
+
+follower_after_events-unfinished : (f : FollowerView) (now : ℕ) (before after : Option ℕ) (xs : List Placed)
+    → with_unfinished (follower_after_events (with_unfinished f before) now xs) after
+    ≡ with_unfinished (follower_after_events f now xs) after
+follower_after_events-unfinished f now before after [] = refl
+follower_after_events-unfinished f now before after (x ∷ xs) =
+    ap (λ (g : FollowerView). with_unfinished (follower_after_events g now xs) after)
+    (follower_after_event-unfinished f now before x.event)
+    ∙ follower_after_events-unfinished (follower_after_event f now x.event) now before after xs
+
+hearing-unfinished : (f : FollowerView) (now : ℕ) (before after : Option ℕ) (bytes : List ℕ)
+    → with_unfinished (follower_hearing (with_unfinished f before) now bytes) after
+    ≡ with_unfinished (follower_hearing f now bytes) after
+hearing-unfinished f now before after bytes =
+    ap (λ (g : FollowerView). with_unread g (unfinished_message (f.host.unread ++ bytes)))
+    (follower_after_events-unfinished f now before after (events (f.host.unread ++ bytes)))
+
+any_bytes : (before other : Option ℕ) (now a b : ℕ) (bytes more unread : List ℕ)
+    → unfinished_by before now (a ∷ bytes) unread ≡ unfinished_by other now (b ∷ more) unread
+any_bytes before other now a b bytes more [] = refl
+any_bytes before other now a b bytes more (first ∷ rest) = refl
+
+unfinished_in_two : (before : Option ℕ) (now : ℕ) (bytes more first last : List ℕ) → (more ≡ [] → first ≡ last)
+    → unfinished_by (unfinished_by before now bytes first) now more last
+    ≡ unfinished_by before now (bytes ++ more) last
+unfinished_in_two before now [] [] first last same = refl
+unfinished_in_two before now (byte ∷ bytes) [] first last same =
+    ap (unfinished_by before now (byte ∷ bytes)) (same refl) ∙ any_bytes before before now byte byte bytes (bytes ++ []) last
+unfinished_in_two before now [] (byte ∷ more) first last same = refl
+unfinished_in_two before now (byte ∷ bytes) (next ∷ more) first last same =
+    any_bytes (unfinished_by before now (byte ∷ bytes) first) before now next byte more (bytes ++ next ∷ more) last
+
+hearing_in_two : EventsAppend → UnfinishedAppend → (f : FollowerView) (now : ℕ) (bytes more : List ℕ)
+    → follower_hearing (follower_hearing f now bytes) now more ≡ follower_hearing f now (bytes ++ more)
+hearing_in_two later still f now bytes more = in_two later still f now (f.host.unread ++ bytes) more
     (f.host.unread ++ (bytes ++ more)) (append_assoc f.host.unread bytes more)
+
+nothing_more : UnfinishedAppend → (s more : List ℕ) → more ≡ []
+    → unfinished_message s ≡ unfinished_message (unfinished_message s ++ more)
+nothing_more still s more none =
+    sym (sym (still s more) ∙ ap (λ (m : List ℕ). unfinished_message (s ++ m)) none
+    ∙ ap unfinished_message (append-nil s))
+
+pub followed_in_chunks : EventsAppend → UnfinishedAppend → FollowedInChunks
+followed_in_chunks later still f now bytes more =
+    let s = f.host.unread ++ bytes in
+    let first = unfinished_message s in
+    let last = unfinished_message (first ++ more) in
+    let before = unfinished_by f.pace.unfinished now bytes first in
+    let after = unfinished_by before now more last in
+    hearing-unfinished (follower_hearing f now bytes) now before after more
+    ∙ ap (λ (g : FollowerView). with_unfinished g after) (hearing_in_two later still f now bytes more)
+    ∙ ap (with_unfinished (follower_hearing f now (bytes ++ more)))
+    (unfinished_in_two f.pace.unfinished now bytes more first last (nothing_more still s more)
+    ∙ ap (unfinished_by f.pace.unfinished now (bytes ++ more))
+    (sym (still s more) ∙ ap unfinished_message (append_assoc f.host.unread bytes more)))
 
 -- some more bytes of a chunk
 pub heard_more : FollowedInChunks → (f before after : FollowerView) (now : ℕ) (chunk : List ℕ) (i n : ℕ)
@@ -90,7 +155,7 @@ first_event_heard held chunk used (Some event) (within, found, earlier) = found
 
 one_event : (f : FollowerView) (now place : ℕ) (bytes : List ℕ) (event : Option Event)
     → events (f.host.unread ++ bytes) ≡ at_place_if_any place event
-    → follower_after f now bytes
+    → follower_hearing f now bytes
     ≡ following (host_after f.host bytes) (pace_after_event_if_any f.pace now f.host.awaited f.host.picture event)
 one_event f now place bytes None e =
     let rest : List ℕ = unfinished_message (f.host.unread ++ bytes) in
@@ -102,14 +167,26 @@ one_event f now place bytes (Some event) e =
     ap (λ (xs : List Placed). with_unread (follower_after_events f now xs) rest) e
     ∙ sym (ap (λ (xs : List Placed). following (record (host_after_events f.host xs) { unread = rest }) pace) e)
 
--- the host after a call, with what the pace notes of the event, is the follower after it
+-- no event says whether a message is unfinished
+pub same_unfinished : (pace : PaceView) (now : ℕ) (awaited : List Kind) (picture : Option (List Piece))
+    (event : Option Event)
+    → (pace_after_event_if_any pace now awaited picture event).unfinished ≡ pace.unfinished
+same_unfinished pace now awaited picture None = refl
+same_unfinished pace now awaited picture (Some event) = refl
+
+-- the host after a call, with what the pace notes of the event and of the bytes, is the follower
+-- after it
 pub heard_once : (host : HostView) (pace : PaceView) (now used : ℕ) (chunk : List ℕ) (event : Option Event)
     → FirstEvent host.unread chunk used event
-    → following (host_after host (take used chunk)) (pace_after_event_if_any pace now host.awaited host.picture event)
+    → with_unfinished (following (host_after host (take used chunk))
+    (pace_after_event_if_any pace now host.awaited host.picture event))
+    (unfinished_by pace.unfinished now (take used chunk) (unfinished_message (host.unread ++ take used chunk)))
     ≡ follower_after (following host pace) now (take used chunk)
 heard_once host pace now used chunk event first =
-    sym (one_event (following host pace) now (length host.unread + used) (take used chunk) event
-    (first_event_heard host.unread chunk used event first))
+    ap (λ (g : FollowerView). with_unfinished g
+    (unfinished_by pace.unfinished now (take used chunk) (unfinished_message (host.unread ++ take used chunk))))
+    (sym (one_event (following host pace) now (length host.unread + used) (take used chunk) event
+    (first_event_heard host.unread chunk used event first)))
 
 -- ---- what it does to the host and to the counts
 
@@ -131,7 +208,7 @@ counts_of_events f now (x ∷ xs) = assumption (counts_of_events (follower_after
 
 pub counts_of_heard : (f : FollowerView) (now : ℕ) (bytes : List ℕ)
     → KeepsCount f.pace (follower_after f now bytes).pace
-counts_of_heard f now bytes = counts_of_events f now (events (f.host.unread ++ bytes))
+counts_of_heard f now bytes = assumption (counts_of_events f now (events (f.host.unread ++ bytes)))
 
 -- a value is there if what it is seen as is there
 pub is_some_seen : {A B : Type 0} (see : A → B) (value : Option A) (seen : Option B) (known : Bool)

@@ -7,11 +7,10 @@ use Rattle.dgt_message.specs.Content.Content.{dump, field, times, no_clock, ack,
 use Rattle.dgt_message.specs.declared.viewing.BodyFault.TheVariants.{WrongSize, BadPiece, BadSquare, BadReading}
 use Rattle.dgt_decode.specs.Grammar.{Event, Message, Refused, Cut, BadLength, Stray}
 use Rattle.dgt_host.specs.Confirmed.{changes, same_pieces}
-use Rattle.dgt_host.proofs.ConfirmedLemmas.{second_of}
 use Rattle.dgt_follow.specs.declared.asking.Asking.{Asking}
 use Rattle.dgt_follow.specs.declared.pace.TheConstants.{OVERDUE}
-use Rattle.dgt_follow.specs.Pace.{PaceView, asking, asks_at_once, due_time, is_before, is_calm, is_due, is_overdue, is_unanswered, is_unasked, pace_after_asking, pace_after_event, settled_time, time_after, trusts, usual_time, wait, wants_confirming, wants_serial}
-use Rattle.dgt_follow.specs.Follower.{OverdueIsAskedAnew, OverdueIsDoubt, SureStaysSure, is_sure}
+use Rattle.dgt_follow.specs.Pace.{PaceView, asking, asks_at_once, due_time, is_before, is_calm, is_due, is_overdue, is_stuck, is_unanswered, is_unasked, pace_after_asking, pace_after_event, pace_at, settled_time, time_after, trusts, usual_time, wait, wants_confirming, wants_serial}
+use Rattle.dgt_follow.specs.Follower.{OverdueIsAskedAnew, OverdueIsDoubt, StuckIsAskedAnew, SureStaysSure, is_sure}
 
 -- ---- what is unanswered is not calm
 
@@ -37,45 +36,37 @@ none true true true e = cc
 
 -- ---- an overdue answer is a doubt
 
-chosen : (due unknown trusted : Bool) → (if not due then Asking.Nothing
-    else if unknown then Asking.Identify else if trusted then Asking.Heartbeat else Asking.Anew) ≡ Asking.Identify
-    → unknown ≡ true
-chosen true true trusted e = refl
-chosen true false true e = cc
-chosen true false false e = cc
-chosen false unknown trusted e = cc
+doubted : (doubtful overdue stuck : Bool) → (overdue || stuck) ≡ true → ((doubtful || overdue) || stuck) ≡ true
+doubted true true stuck e = refl
+doubted true false true e = refl
+doubted false true stuck e = refl
+doubted false false true e = refl
+doubted doubtful false false e = cc
 
-identifies_calm : (pace : PaceView) (full : Bool) (now : ℕ) → asking pace full now ≡ Asking.Identify
-    → is_unanswered pace ≡ false
-identifies_calm pace full now e =
-    let wanted = first_of (wants_serial pace) (not full)
-    (chosen (is_due pace now) (wants_serial pace && not full) (trusts pace full) e) in
-    calm_or_owed (is_some pace.asked) pace.answered (not pace.disturbed)
-    (second_of (nat_lt 0 pace.tries && not pace.requested) (is_calm pace)
-    (second_of (pace.identify && not (is_some pace.serial)) _ wanted))
+ended : (confirmed overdue stuck : Bool) → (overdue || stuck) ≡ true
+    → ((confirmed && not overdue) && not stuck) ≡ false
+ended true true stuck e = refl
+ended true false true e = refl
+ended false overdue stuck e = refl
+ended true false false e = cc
 
-doubted : (confirmed doubtful owed : Bool) → owed ≡ true
+still : (doubtful confirmed owed : Bool) → doubtful ≡ true → confirmed ≡ false
     → ((doubtful || owed) ≡ true) × ((confirmed && not owed) ≡ false)
-doubted true true true e = (refl, refl)
-doubted true false true e = (refl, refl)
-doubted false true true e = (refl, refl)
-doubted false false true e = (refl, refl)
-doubted confirmed doubtful false e = cc
+still true false owed d e = (refl, refl)
+still false confirmed owed d e = cc
+still true true owed d e = cc
 
-finds : (what : Asking) (pace : PaceView) (now : ℕ) → (what ≡ Asking.Identify → is_unanswered pace ≡ false)
-    → is_overdue pace now ≡ true
+kept : (what : Asking) (pace : PaceView) (now : ℕ) → pace.doubtful ≡ true → pace.confirmed ≡ false
     → ((pace_after_asking what pace now).doubtful ≡ true) × ((pace_after_asking what pace now).confirmed ≡ false)
-finds Asking.Nothing pace now calm late = doubted pace.confirmed pace.doubtful (is_overdue pace now) late
-finds Asking.Identify pace now calm late =
-    let owed : is_unanswered pace ≡ true = first_of (is_unanswered pace) _ late in
-    let not_owed : is_unanswered pace ≡ false = calm refl in cc
-finds Asking.Heartbeat pace now calm late =
-    doubted pace.confirmed pace.doubtful (is_unanswered pace) (first_of (is_unanswered pace) _ late)
-finds Asking.Anew pace now calm late =
-    doubted pace.confirmed pace.doubtful (is_unanswered pace) (first_of (is_unanswered pace) _ late)
+kept Asking.Nothing pace now d e = (d, e)
+kept Asking.Identify pace now d e = (d, e)
+kept Asking.Heartbeat pace now d e = still pace.doubtful pace.confirmed (is_unanswered pace) d e
+kept Asking.Anew pace now d e = still pace.doubtful pace.confirmed (is_unanswered pace) d e
 
 pub is_doubt : OverdueIsDoubt
-is_doubt pace full now late = finds (asking pace full now) pace now (identifies_calm pace full now) late
+is_doubt what pace now late =
+    kept what (pace_at pace now) now (doubted pace.doubtful (is_overdue pace now) (is_stuck pace now) late)
+    (ended pace.confirmed (is_overdue pace now) (is_stuck pace now) late)
 
 -- ---- and is soon asked for again
 
@@ -114,22 +105,51 @@ and_false : (a b : Bool) → a ≡ false → (a && b) ≡ false
 and_false false b e = refl
 and_false true b e = cc
 
-pub is_asked_anew : OverdueIsAskedAnew
-is_asked_anew pace full now owed late =
-    let busy : is_calm pace ≡ false
-    = owed_or_calm (is_some pace.asked) pace.answered (not pace.disturbed) owed in
+-- what is not calm and due by then is asked anew
+due_anew : (pace : PaceView) (full : Bool) (now : ℕ) → is_calm pace ≡ false → usual_time pace ≤ now
+    → asking pace full now ≡ Asking.Anew
+due_anew pace full now busy late =
     let known : wants_serial pace ≡ false
     = none (pace.identify && not (is_some pace.serial)) (nat_lt 0 pace.tries && not pace.requested) (is_calm pace)
     busy in
     let due : due_time pace ≤ usual_time pace
     = no_later (asks_at_once pace) (wants_confirming pace) (usual_time pace) (settled_time pace) in
-    let short = soon pace.disturbed (is_unanswered pace) OVERDUE pace.period (pace.period / 4) owed in
-    let now_due : due_time pace ≤ now
-    = omega (arith, due, longer pace.asked (wait pace) (max OVERDUE (pace.period / 4)) short, late) in
     anew (is_due pace now) (wants_serial pace && not full) (trusts pace full)
-    (reached (due_time pace) now (is_before now pace.asked) now_due)
+    (reached (due_time pace) now (is_before now pace.asked) (omega (arith, due, late)))
     (and_false (wants_serial pace) (not full) known)
     (and_false (is_calm pace) (not full && nat_lt 0 pace.left) busy)
+
+pub is_asked_anew : OverdueIsAskedAnew
+is_asked_anew pace full now owed late =
+    let by_then = pace_at pace now in
+    let short = soon by_then.disturbed (is_unanswered pace) OVERDUE pace.period (pace.period / 4) owed in
+    due_anew by_then full now
+    (owed_or_calm (is_some pace.asked) pace.answered (not by_then.disturbed) owed)
+    (omega (arith, longer pace.asked (wait by_then) (max OVERDUE (pace.period / 4)) short, late))
+
+disturbed_by : (disturbed stuck : Bool) → stuck ≡ true → (disturbed || stuck) ≡ true
+disturbed_by true stuck e = refl
+disturbed_by false true e = refl
+disturbed_by false false e = cc
+
+not_calm : (asked disturbed : Bool) → disturbed ≡ true → (asked && not disturbed) ≡ false
+not_calm true true e = refl
+not_calm false disturbed e = refl
+not_calm true false e = cc
+
+quarter : (disturbed owed : Bool) (overdue period part : ℕ) → disturbed ≡ true
+    → (if disturbed then part else if owed then min period (max overdue part) else period) ≡ part
+quarter true owed overdue period part e = refl
+quarter false owed overdue period part e = cc
+
+pub is_asked_when_stuck : StuckIsAskedAnew
+is_asked_when_stuck pace full now stuck late =
+    let by_then = pace_at pace now in
+    let disturbed : by_then.disturbed ≡ true = disturbed_by pace.disturbed (is_stuck pace now) stuck in
+    let waits : wait by_then ≡ pace.period / 4
+    = quarter by_then.disturbed (is_unanswered pace) OVERDUE pace.period (pace.period / 4) disturbed in
+    due_anew by_then full now (not_calm (is_some pace.asked && pace.answered) by_then.disturbed disturbed)
+    (rw waits late)
 
 -- ---- a confirmed picture is not in doubt
 
@@ -211,13 +231,24 @@ asked_sure true false false e = refl
 asked_sure true false true e = refl
 asked_sure true true owed e = cc
 
+sure_at : (confirmed doubtful overdue stuck : Bool) → not (confirmed && doubtful) ≡ true
+    → not (((confirmed && not overdue) && not stuck) && ((doubtful || overdue) || stuck)) ≡ true
+sure_at false doubtful overdue stuck e = refl
+sure_at true true overdue stuck e = cc
+sure_at true false true stuck e = refl
+sure_at true false false true e = refl
+sure_at true false false false e = refl
+
 asking_stays_sure : (what : Asking) (pace : PaceView) (now : ℕ) → is_sure pace ≡ true
     → is_sure (pace_after_asking what pace now) ≡ true
-asking_stays_sure Asking.Nothing pace now sure = asked_sure pace.confirmed pace.doubtful (is_overdue pace now) sure
+asking_stays_sure Asking.Nothing pace now sure = sure
 asking_stays_sure Asking.Identify pace now sure = sure
 asking_stays_sure Asking.Heartbeat pace now sure = asked_sure pace.confirmed pace.doubtful (is_unanswered pace) sure
 asking_stays_sure Asking.Anew pace now sure = asked_sure pace.confirmed pace.doubtful (is_unanswered pace) sure
 
 pub stays_sure : SureStaysSure
-stays_sure pace now sure =
-    (event_stays_sure pace now sure, λ what. asking_stays_sure what pace now sure)
+stays_sure pace now sure = (
+  event_stays_sure pace now sure,
+  λ what. asking_stays_sure what (pace_at pace now) now
+      (sure_at pace.confirmed pace.doubtful (is_overdue pace now) (is_stuck pace now) sure),
+)

@@ -11,7 +11,7 @@ use Rattle.dgt_host.specs.Confirmed.{IsRight, confirmed_after_all, messages}
 use Rattle.dgt_host.specs.Host.{host_awaiting}
 use Rattle.dgt_follow.specs.declared.asking.Asking.{Asking}
 use Rattle.dgt_follow.specs.declared.asking.UpdateMode.{UpdateMode}
-use Rattle.dgt_follow.specs.Pace.{pace_after_asking}
+use Rattle.dgt_follow.specs.Pace.{pace_after_asking, pace_at}
 use Rattle.dgt_follow.specs.Follower.{FollowerView, asking_of, follower_after, following, host_after_asking}
 
 -- A call that is done. Only the loss of the line is none of these: it makes the follower as new.
@@ -26,7 +26,8 @@ pub data Call : Type 0 where
 
 abbrev pub follower_asking : Asking → FollowerView → ℕ → FollowerView
 follower_asking what follower now =
-    following (host_after_asking what follower.host) (pace_after_asking what follower.pace now)
+    following (host_after_asking what follower.host)
+    (pace_after_asking what (pace_at follower.pace now) now)
 
 abbrev pub follower_after_call : FollowerView → Call → FollowerView
 follower_after_call follower (Hears now bytes) = follower_after follower now bytes
@@ -65,8 +66,8 @@ ConfirmedOverCalls =
     × (IsTrue after.pace.confirmed →
     IsTrue (confirmed_after_all follower.pace.confirmed follower.host.picture said))
 
--- **No one stretch of faulty bytes makes a confirmed picture wrong.** The follower shows what the
--- board has reported, or knows no picture. The board sends messages. The line alters or loses at
+-- **After one stretch of faulty bytes a picture that both sides confirm is right.** The follower
+-- shows what the board has reported, or knows no picture. The board sends messages. The line alters or loses at
 -- most one of them, or inserts bytes: what is heard in its place says at most one message. The
 -- bytes are heard in any chunks, and anything is asked and sent meanwhile. If the follower is
 -- confirmed then, and the board has repeated its picture since that last changed, the picture is

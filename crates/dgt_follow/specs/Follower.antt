@@ -1,5 +1,5 @@
 -- What contracts see of a follower, what it makes of the bytes that it hears, and what it asks.
-use Rattle.std.specs.Prelude.{◌≡◌, ◌≤◌, ◌/◌, Option, Bool, if◌then◌else◌, max, not, ◌&&◌, IsTrue, IsFalse, ℕ, List, [], ◌∷◌, ◌++◌, None, Some, false, Result, Ok, Err}
+use Rattle.std.specs.Prelude.{◌≡◌, ◌≤◌, ◌/◌, Option, Bool, if◌then◌else◌, max, not, ◌&&◌, ◌||◌, IsTrue, IsFalse, ℕ, List, [], ◌∷◌, ◌++◌, None, Some, false, Result, Ok, Err}
 use Rattle.dgt_values.specs.Bytes.{WritesPrefix}
 use Rattle.dgt_values.specs.declared.kinds.Kind.{Kind}
 use Rattle.dgt_values.specs.declared.refusals.NoRoom.{NoRoom}
@@ -12,7 +12,7 @@ use Rattle.dgt_host.specs.Host.{HostView, awaits_too_many, host_after_event, hos
 use Rattle.dgt_follow.specs.declared.asking.Asking.{Asking}
 use Rattle.dgt_follow.specs.declared.asking.UpdateMode.{UpdateMode}
 use Rattle.dgt_follow.specs.declared.pace.TheConstants.{OVERDUE}
-use Rattle.dgt_follow.specs.Pace.{PaceView, asking, asking_bytes, is_overdue, is_unanswered, new_pace, pace_after_asking, pace_after_event, time_after}
+use Rattle.dgt_follow.specs.Pace.{PaceView, asking, asking_bytes, is_overdue, is_stuck, is_unanswered, new_pace, pace_after_asking, pace_after_event, pace_at, time_after, unfinished_by}
 
 pub record FollowerView : Type 0 where
   pub host : HostView
@@ -41,11 +41,22 @@ abbrev pub with_unread : FollowerView → List ℕ → FollowerView
 with_unread follower unread =
     following (record follower.host { unread = unread }) follower.pace
 
+abbrev pub with_unfinished : FollowerView → Option ℕ → FollowerView
+with_unfinished follower unfinished =
+    following follower.host (record follower.pace { unfinished = unfinished })
+
+-- the follower after the events of these bytes, and with the bytes of an unfinished message
+abbrev pub follower_hearing : FollowerView → ℕ → List ℕ → FollowerView
+follower_hearing follower now bytes =
+    with_unread (follower_after_events follower now (events (follower.host.unread ++ bytes)))
+    (unfinished_message (follower.host.unread ++ bytes))
+
 -- the follower after it has heard these bytes at this time
 abbrev pub follower_after : FollowerView → ℕ → List ℕ → FollowerView
 follower_after follower now bytes =
-    with_unread (follower_after_events follower now (events (follower.host.unread ++ bytes)))
-    (unfinished_message (follower.host.unread ++ bytes))
+    with_unfinished (follower_hearing follower now bytes)
+    (unfinished_by follower.pace.unfinished now bytes
+    (unfinished_message (follower.host.unread ++ bytes)))
 
 -- the clock that was reported last, if it was readable
 abbrev pub clock_known : FollowerView → Option ClockState
@@ -72,14 +83,14 @@ ConfirmedAsHeard =
 abbrev pub AskingsConfirmNothing : Type 0
 AskingsConfirmNothing =
     (what : Asking) (pace : PaceView) (now : ℕ) →
-    IsTrue (pace_after_asking what pace now).confirmed → IsTrue pace.confirmed
+    IsTrue (pace_after_asking what (pace_at pace now) now).confirmed → IsTrue pace.confirmed
 
--- An answer a second late is a doubt after the next call, whether that asks or not, and ends the
--- confirmation.
+-- An answer a second late and a message unfinished for a second are a doubt after the next call,
+-- whatever that asks, and end the confirmation.
 abbrev pub OverdueIsDoubt : Type 0
 OverdueIsDoubt =
-    (pace : PaceView) (full : Bool) (now : ℕ) → IsTrue (is_overdue pace now) →
-    let after = pace_after_asking (asking pace full now) pace now in
+    (what : Asking) (pace : PaceView) (now : ℕ) → IsTrue (is_overdue pace now || is_stuck pace now) →
+    let after = pace_after_asking what (pace_at pace now) now in
     IsTrue after.doubtful × IsFalse after.confirmed
 
 -- An asking that stays without an answer is asked anew when it is overdue and a quarter of the
@@ -88,7 +99,14 @@ abbrev pub OverdueIsAskedAnew : Type 0
 OverdueIsAskedAnew =
     (pace : PaceView) (full : Bool) (now : ℕ) → IsTrue (is_unanswered pace) →
     time_after pace.asked (max OVERDUE (pace.period / 4)) ≤ now →
-    asking pace full now ≡ Asking.Anew
+    asking (pace_at pace now) full now ≡ Asking.Anew
+
+-- A follower with a message that has been unfinished for a second begins anew when a quarter of the
+-- period has passed.
+abbrev pub StuckIsAskedAnew : Type 0
+StuckIsAskedAnew =
+    (pace : PaceView) (full : Bool) (now : ℕ) → IsTrue (is_stuck pace now) →
+    time_after pace.asked (pace.period / 4) ≤ now → asking (pace_at pace now) full now ≡ Asking.Anew
 
 -- A picture that is confirmed is not in doubt.
 abbrev pub is_sure : PaceView → Bool
@@ -99,14 +117,14 @@ SureStaysSure =
     (pace : PaceView) (now : ℕ) → IsTrue (is_sure pace) →
     ((awaited : List Kind) (picture : Option (List Piece)) (event : Event) →
     IsTrue (is_sure (pace_after_event pace now awaited picture event)))
-    × ((what : Asking) → IsTrue (is_sure (pace_after_asking what pace now)))
+    × ((what : Asking) → IsTrue (is_sure (pace_after_asking what (pace_at pace now) now)))
 
 -- ---- what it asks
 
 -- what it asks at this time
 abbrev pub asking_of : FollowerView → ℕ → Asking
 asking_of follower now =
-    asking follower.pace (awaits_too_many follower.host (Some Kind.Dump)) now
+    asking (pace_at follower.pace now) (awaits_too_many follower.host (Some Kind.Dump)) now
 
 -- The host after an asking: a dump is awaited too, after a new beginning that alone, or a serial
 -- number. The picture, the clock and the unread bytes stay as they are.
@@ -131,7 +149,7 @@ abbrev pub Asks : Asking → ℕ → FollowerView → FollowerView → List ℕ 
     → Type 0
 Asks what now before after old new (Ok written) =
     HostAsks what before.pace.mode before.host after.host old new (Ok written)
-    × (after.pace ≡ pace_after_asking what before.pace now)
+    × (after.pace ≡ pace_after_asking what (pace_at before.pace now) now)
 Asks what now before after old new (Err fault) =
     HostAsks what before.pace.mode before.host after.host old new (Err fault)
     × (after.pace ≡ before.pace)

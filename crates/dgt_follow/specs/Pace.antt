@@ -10,7 +10,7 @@ use Rattle.dgt_decode.specs.Grammar.{Event, Message, Refused}
 use Rattle.dgt_host.specs.Confirmed.{changes, changes_by, confirmed_after}
 use Rattle.dgt_host.specs.Host.{is_same_kind, restart_bytes}
 use Rattle.dgt_follow.specs.declared.asking.Asking.{Asking}
-use Rattle.dgt_follow.specs.declared.pace.TheConstants.{LEAST_PERIOD, OVERDUE, SETTLED, TRIES}
+use Rattle.dgt_follow.specs.declared.pace.TheConstants.{LEAST_PERIOD, OVERDUE, SETTLED, TRIES, UNFINISHED}
 use Rattle.dgt_follow.specs.declared.asking.UpdateMode.{UpdateMode}
 
 pub record PaceView : Type 0 where
@@ -33,6 +33,7 @@ pub record PaceView : Type 0 where
   -- what it noted in all
   pub settling : Bool  -- whether no awaited dump has come since the last new beginning
   pub heard : Option ℕ  -- when the last whole message came
+  pub unfinished : Option ℕ  -- when the last byte came of a message that isn't finished
   pub doubtful : Bool  -- a disturbance or an overdue answer since the last dump that was awaited
   -- A dump that was awaited repeated the picture. Since then nothing changed the picture, nothing
   -- came unasked, nothing disturbed, and no answer was overdue.
@@ -61,6 +62,7 @@ new_pace period patience mode confirm identify =
       pardons = false;
       settling = false;
       heard = None;
+      unfinished = None;
       doubtful = false;
       confirmed = false;
       changed = None;
@@ -128,6 +130,13 @@ unreadable_by before (Message (Content.times readings)) = false
 unreadable_by before (Message (Content.no_clock absence)) = false
 unreadable_by before _ = before
 
+-- when the last byte came of a message that isn't finished, after bytes were heard at this time
+-- that leave these unread
+abbrev pub unfinished_by : Option ℕ → ℕ → List ℕ → List ℕ → Option ℕ
+unfinished_by before now [] unread = before
+unfinished_by before now (byte ∷ more) [] = None
+unfinished_by before now (byte ∷ more) (first ∷ rest) = Some now
+
 -- the pace after an event that is heard at this time, while these kinds are awaited and this
 -- picture is known
 abbrev pub pace_after_event : PaceView → ℕ → List Kind → Option (List Piece) → Event → PaceView
@@ -182,6 +191,22 @@ time_after (Some time) duration = time + duration
 -- the answer to the last asking is a second late
 abbrev pub is_overdue : PaceView → ℕ → Bool
 is_overdue pace now = is_unanswered pace && nat_le (time_after pace.asked OVERDUE) now
+
+-- a message has been unfinished for a second
+abbrev pub is_stuck : PaceView → ℕ → Bool
+is_stuck pace now =
+    is_some pace.unfinished && nat_le (time_after pace.unfinished UNFINISHED) now
+
+-- The pace at this time. An answer that is overdue by then is a doubt. A message that has been
+-- unfinished for a second disturbs.
+abbrev pub pace_at : PaceView → ℕ → PaceView
+pace_at pace now =
+    record pace {
+      disturbed = pace.disturbed || is_stuck pace now;
+      unfinished = if is_stuck pace now then None else pace.unfinished;
+      doubtful = (pace.doubtful || is_overdue pace now) || is_stuck pace now;
+      confirmed = (pace.confirmed && not (is_overdue pace now)) && not (is_stuck pace now);
+    }
 
 -- From the last asking to the next: a period, and a quarter of it after a disturbance. An
 -- unanswered asking is repeated after a quarter, but not before it is overdue.
@@ -242,11 +267,18 @@ abbrev pub counted : ℕ → Option ℕ
 counted time = if nat_lt time (2 ^ 64) then Some time else None
 
 -- the first time at which it asks, or finds an answer overdue and isn't in doubt before
+abbrev pub doubt_time : PaceView → ℕ
+doubt_time pace =
+    if is_unanswered pace && not pace.doubtful
+    then min (due_time pace) (time_after pace.asked OVERDUE)
+    else due_time pace
+
+-- the same, or the time at which a message has been unfinished for a second
 abbrev pub next_due : PaceView → Option ℕ
 next_due pace =
-    if is_unanswered pace && not pace.doubtful
-    then counted (min (due_time pace) (time_after pace.asked OVERDUE))
-    else counted (due_time pace)
+    if is_some pace.unfinished
+    then counted (min (doubt_time pace) (time_after pace.unfinished UNFINISHED))
+    else counted (doubt_time pace)
 
 -- ---- what it asks
 
@@ -286,14 +318,6 @@ asking_bytes mode Asking.Heartbeat =
 asking_bytes mode Asking.Anew =
     restart_bytes ++ command_encoding (mode_command mode) ++ clock_request mode
 
--- the pace at this time: an answer that is overdue by then is a doubt
-abbrev pub pace_at : PaceView → ℕ → PaceView
-pace_at pace now =
-    record pace {
-      doubtful = pace.doubtful || is_overdue pace now;
-      confirmed = pace.confirmed && not (is_overdue pace now);
-    }
-
 -- the pace that has asked for a dump at this time: a dump that is owed then is a doubt
 abbrev pub pace_asked : PaceView → ℕ → PaceView
 pace_asked pace now =
@@ -308,10 +332,10 @@ pace_asked pace now =
       confirmed = pace.confirmed && not (is_unanswered pace);
     }
 
--- A new beginning gives up the replies that are owed. If the pace was calm, they are the caller's
--- own, and may come.
+-- The pace after an asking, if it was this one at that time. A new beginning gives up the replies
+-- that are owed. If the pace was calm, they are the caller's own, and may come.
 abbrev pub pace_after_asking : Asking → PaceView → ℕ → PaceView
-pace_after_asking Asking.Nothing pace now = pace_at pace now
+pace_after_asking Asking.Nothing pace now = pace
 pace_after_asking Asking.Identify pace now =
     record pace { tries = pace.tries - 1; requested = true }
 pace_after_asking Asking.Heartbeat pace now = record (pace_asked pace now) { left = pace.left - 1 }

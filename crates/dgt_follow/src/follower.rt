@@ -155,9 +155,9 @@ impl Follower {
     /// disturbance the next asking begins anew. It is due at once, but not before a quarter of the
     /// period after the last one.
     ///
-    /// Two things are none. One is a clock that shows no digits, as a clock does while it is set.
-    /// The other is an unasked message after a new beginning of a follower that nothing had
-    /// disturbed, up to the next asking. It may answer a request of the caller's that was given up.
+    /// Two things are no disturbance. One is a clock that shows no digits, as a clock does while it
+    /// is set. The other is an unasked message after a new beginning that followed no disturbance,
+    /// up to the next asking: it may answer a request of the caller's that was given up.
     pub fn hear(&mut self, now: u64, chunk: &[u8]) -> usize
         ensures heard { self.new ≡ follower_after self.old now (take result chunk.now) }
         ensures first { (event : Option EventSaid)
@@ -174,6 +174,7 @@ impl Follower {
             known,
         };
         self.pace.note(&heard.event, seen, now);
+        self.pace.note_unread(now, used, self.host.unread());
         used
     }
 
@@ -198,6 +199,7 @@ impl Follower {
         };
         report(listener, used, &heard.event);
         self.pace.note(&heard.event, seen, now);
+        self.pace.note_unread(now, used, self.host.unread());
         Followed {
             used,
             unasked: seen.unasked,
@@ -244,7 +246,9 @@ impl Follower {
     /// while the serial number is unknown, at most three times ([`TRIES`](crate::TRIES)).
     ///
     /// An answer that is a second late is a doubt from the next call on, whether that writes or
-    /// not.
+    /// not. A message that has been unfinished for a second
+    /// ([`UNFINISHED`](crate::UNFINISHED)) is a disturbance from then on: what follows a message
+    /// whose end was lost waits unread.
     ///
     /// `NoRoom` if the slice is shorter than what is due in this mode, and then nothing changes. A
     /// heartbeat needs 2 bytes with [`UpdateMode::Squares`] and 3 else, a new beginning 258 and
@@ -253,21 +257,23 @@ impl Follower {
         ensures { Asks (asking_of self.old now) now self.old self.new out.old out.new result }
     {
         let full = self.host.awaited().len() >= MAX_AWAITED;
-        let asking = self.pace.next_asking(full, now);
-        let mode = self.pace.mode();
+        let mut pace = self.pace.at(now);
+        let asking = pace.next_asking(full, now);
+        let mode = pace.mode();
         let written = match asking {
             Asking::Nothing => 0,
             Asking::Identify => identify(&mut self.host, mode, out)?,
             Asking::Heartbeat => heartbeat(&mut self.host, mode, out)?,
             Asking::Anew => begin_anew(&mut self.host, mode, out)?,
         };
-        self.pace.note_asking(asking, now);
+        pace.note_asking(asking, now);
+        self.pace = pace;
         Ok(written)
     }
 
-    /// The first time at which [`Follower::ask`] writes, or finds an answer overdue and so a doubt,
-    /// if nothing is heard before: 0 if it asks at once. `None` if that is past the last time that
-    /// a `u64` counts.
+    /// The first time at which [`Follower::ask`] writes, or finds a doubt: an overdue answer, or a
+    /// message that stays unfinished. It holds if nothing is heard before. It is 0 if the follower
+    /// asks at once, and `None` if it is past the last time that a `u64` counts.
     pub fn due_at(&self) -> Option<u64>
         ensures { result ≡ next_due self.now.pace }
     {
@@ -346,8 +352,10 @@ impl Follower {
     /// awaited dump after a new beginning doesn't confirm, since it may be a late answer to an
     /// earlier asking.
     ///
-    /// No one fault of the line makes a confirmed picture wrong: see
-    /// `laws::one_stretch_is_seen`. Two that agree can.
+    /// It was right when the board sent that dump, if at most one message was altered, lost or
+    /// inserted since the last whole dump before it (`dgt_host::laws::one_fault_is_seen`). Two
+    /// faults that agree can make it wrong. A change that is lost afterwards shows with the next
+    /// dump.
     pub fn confirmed(&self) -> bool
         ensures { result ≡ self.now.pace.confirmed }
     {

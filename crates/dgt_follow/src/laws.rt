@@ -12,18 +12,21 @@ ghost use Rattle.dgt_values.specs.Equality.{CloneIsSame, EqualIsSame};
 ghost use Rattle.dgt_host.specs.Host.{HostView, Request, Sends, host_after};
 ghost use Rattle.dgt_host.specs.Confirmed.{changes, repeats};
 ghost use Rattle.dgt_follow.specs.Calls.{Call, ConfirmedOverCalls, OneStretchIsSeen, bytes_heard, follower_after_call, follower_after_calls};
-ghost use Rattle.dgt_follow.specs.Follower.{Asks, AskingsConfirmNothing, ConfirmedAsHeard, FollowedInChunks, FollowerView, OverdueIsAskedAnew, OverdueIsDoubt, SureStaysSure, asking_of, clock_known, follower_after, following};
-ghost use Rattle.dgt_follow.specs.Pace.{KeepsCount, PaceView, asking, asking_bytes, new_pace, next_due, pace_after_asking, pace_after_event};
+ghost use Rattle.dgt_follow.specs.Follower.{Asks, AskingsConfirmNothing, ConfirmedAsHeard, FollowedInChunks, FollowerView, OverdueIsAskedAnew, OverdueIsDoubt, StuckIsAskedAnew, SureStaysSure, asking_of, clock_known, follower_after, following};
+ghost use Rattle.dgt_follow.specs.Pace.{KeepsCount, PaceView, asking, asking_bytes, is_overdue, is_stuck, new_pace, next_due, pace_after_asking, pace_after_event, pace_at, unfinished_by};
 ghost use Rattle.dgt_follow.specs.declared.asking.Asking.{Asking};
 ghost use Rattle.dgt_follow.specs.declared.asking.UpdateMode.{UpdateMode};
 
-use crate::{Asking, Followed, LEAST_PERIOD, MAX_ASKING, OVERDUE, SETTLED, TRIES, UpdateMode};
+use crate::{
+    Asking, Followed, LEAST_PERIOD, MAX_ASKING, OVERDUE, SETTLED, TRIES, UNFINISHED, UpdateMode,
+};
 
 /// The limits by their numbers, and that no asking has more bytes.
 pub fn limits()
     ensures max_asking { MAX_ASKING ≡ 259 }
     ensures least_period { LEAST_PERIOD ≡ 1000 }
     ensures overdue { OVERDUE ≡ 1000 }
+    ensures unfinished { UNFINISHED ≡ 1000 }
     ensures settled { SETTLED ≡ 1000 }
     ensures tries { TRIES ≡ 3 }
     ensures enough { (mode : UpdateMode) (what : Asking) →
@@ -98,10 +101,12 @@ pub fn calls_leave()
         ≡ first ++ (last ++ []) }
 {}
 
-/// An answer that is a second late is a doubt, and is soon asked for again.
+/// An answer that is a second late is a doubt, and so is a message that has been unfinished for a
+/// second. The board is soon asked anew.
 pub fn overdue_is_doubt()
     ensures doubt { OverdueIsDoubt }
     ensures asked { OverdueIsAskedAnew }
+    ensures stuck { StuckIsAskedAnew }
 {}
 
 /// A confirmed picture is never in doubt.
@@ -164,10 +169,43 @@ pub fn askings_by_time()
     ensures overdue { (mode : UpdateMode) → asking (record (new_pace 2000 6 mode false false) {
       asked = Some 1000;
     }) false 2000 ≡ Asking.Anew }
+    ensures stuck { (mode : UpdateMode) → asking (pace_at (record
+        (new_pace 10000 6 mode false false) {
+          asked = Some 1000;
+          answered = true;
+          unfinished = Some 3000;
+        }) 4000) false 4000 ≡ Asking.Anew }
     ensures back { (mode : UpdateMode) → asking (record (new_pace 10000 6 mode false false) {
       asked = Some 1000;
       answered = true;
     }) false 999 ≡ Asking.Heartbeat }
+{}
+
+/// What time alone brings. A message is stuck a second after its last byte: it disturbs then, and is
+/// forgotten. An overdue answer is a doubt and doesn't disturb. Else nothing changes.
+pub fn what_time_brings()
+    ensures before { (pace : PaceView) → pace.unfinished ≡ Some 3000 → is_stuck pace 3999 ≡ false }
+    ensures stuck { (pace : PaceView) → pace.unfinished ≡ Some 3000 → is_stuck pace 4000 ≡ true }
+    ensures whole { (pace : PaceView) (now : ℕ) → pace.unfinished ≡ None →
+        is_stuck pace now ≡ false }
+    ensures disturbs { (pace : PaceView) (now : ℕ) → is_stuck pace now ≡ true →
+        let after = pace_at pace now in
+        (after.disturbed ≡ true) × (after.unfinished ≡ None) × (after.doubtful ≡ true) }
+    ensures overdue { (pace : PaceView) (now : ℕ) → is_overdue pace now ≡ true →
+        is_stuck pace now ≡ false → let after = pace_at pace now in
+        (after.disturbed ≡ pace.disturbed) × (after.doubtful ≡ true)
+        × (after.unfinished ≡ pace.unfinished) }
+    ensures kept { (pace : PaceView) (now : ℕ) → is_overdue pace now ≡ false →
+        is_stuck pace now ≡ false → let after = pace_at pace now in
+        (after.disturbed ≡ pace.disturbed) × (after.unfinished ≡ pace.unfinished)
+        × (after.doubtful ≡ pace.doubtful) × (after.confirmed ≡ pace.confirmed) }
+    ensures settings { (pace : PaceView) (now : ℕ) → KeepsCount pace (pace_at pace now) }
+    ensures bytes { (before : Option ℕ) (now byte first : ℕ) (more rest : List ℕ) →
+        unfinished_by before now (byte ∷ more) (first ∷ rest) ≡ Some now }
+    ensures finished { (before : Option ℕ) (now byte : ℕ) (more : List ℕ) →
+        unfinished_by before now (byte ∷ more) [] ≡ None }
+    ensures nothing { (before : Option ℕ) (now : ℕ) (unread : List ℕ) →
+        unfinished_by before now [] unread ≡ before }
 {}
 
 /// What makes a follower ask before its period is over. It asks at once if that is wanted and no
@@ -251,8 +289,8 @@ pub fn askings_out_of_turn()
 {}
 
 /// When a follower that asked at 1,000 with a period of 10,000 is due: at 11,000 if it was
-/// answered, at 2,000 to find an answer overdue, and then at 3,500. A period of less than a second
-/// is one.
+/// answered, at 2,000 to find an answer overdue, and then at 3,500. If a message is unfinished whose
+/// last byte came at 3,000, it is due at 4,000. A period of less than a second is one.
 pub fn due_times()
     ensures answered { (mode : UpdateMode) → next_due (record (new_pace 10000 6 mode false false) {
       asked = Some 1000;
@@ -270,6 +308,15 @@ pub fn due_times()
       answered = true;
       wanted = true;
     }) ≡ Some 0 }
+    ensures unfinished { (mode : UpdateMode) → next_due (record (new_pace 10000 6 mode false false) {
+      asked = Some 1000;
+      answered = true;
+      unfinished = Some 3000;
+    }) ≡ Some 4000 }
+    ensures later { (mode : UpdateMode) → next_due (record (new_pace 10000 6 mode false false) {
+      asked = Some 1000;
+      unfinished = Some 3000;
+    }) ≡ Some 2000 }
     ensures least { (patience : ℕ) (mode : UpdateMode) →
         (new_pace 0 patience mode false false).period ≡ 1000 }
     ensures more { (patience : ℕ) (mode : UpdateMode) →

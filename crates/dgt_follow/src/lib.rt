@@ -15,9 +15,11 @@
 //! and by dumps. A follower compares them. So its picture is
 //!
 //! - *in doubt* ([`Follower::in_doubt`]): something disturbed the line, a dump wasn't the picture
-//!   that was known, or an answer is a second late. It asks again after a quarter of the period.
-//! - *confirmed* ([`Follower::confirmed`]): a dump repeated it. No one fault of the line makes a
-//!   confirmed picture wrong ([`laws::one_stretch_is_seen`]).
+//!   that was known, an answer is a second late, or a message has been unfinished for a second. It
+//!   asks again after a quarter of the period.
+//! - *confirmed* ([`Follower::confirmed`]): a dump repeated it. It was right when the board sent
+//!   that dump, if the line had at most one fault since the dump before
+//!   ([`laws::one_stretch_is_seen`]).
 //! - neither: it was just reported or changed. [`Follower::set_confirm`] has it confirmed soon.
 //!
 //! [`Follower::due_at`] returns when it will write next, so a program can sleep as long.
@@ -56,4 +58,4 @@ mod times;
 
 pub use asking::{Asking, UpdateMode};
 pub use follower::{Followed, Follower, MAX_ASKING};
-pub use pace::{LEAST_PERIOD, OVERDUE, Pace, SETTLED, TRIES};
+pub use pace::{LEAST_PERIOD, OVERDUE, Pace, SETTLED, TRIES, UNFINISHED};

@@ -1,12 +1,12 @@
 //! When a follower asks, and what.
 
-ghost use Rattle.std.specs.Prelude.{◌≡◌, ◌↔◌, ◌≤◌, Option, is_some, List, Some, IsTrue, true};
+ghost use Rattle.std.specs.Prelude.{◌≡◌, ◌↔◌, ◌≤◌, ℕ, Option, is_some, List, ◌++◌, Some, IsTrue, length, true};
 ghost use Rattle.dgt_values.specs.declared.kinds.Kind.{Kind};
 ghost use Rattle.dgt_values.specs.declared.pieces.Piece.{Piece};
 ghost use Rattle.dgt_decode.specs.Feeding.{event_content, event_content_if_any};
 ghost use Rattle.dgt_host.specs.Confirmed.{changes_by};
 ghost use Rattle.dgt_host.specs.Host.{IsUnasked};
-ghost use Rattle.dgt_follow.specs.Pace.{asking, asks_at_once, counted, due_time, forgetting, is_calm, is_due as is_due_at, is_overdue as is_overdue_at, is_unanswered, new_pace, next_due, pace_after_asking, pace_after_event, pace_after_event_if_any, pace_asked, pace_at, trusts, wait, wants_confirming, wants_serial};
+ghost use Rattle.dgt_follow.specs.Pace.{asking, asks_at_once, counted, doubt_time, due_time, forgetting, is_calm, is_due as is_due_at, is_overdue as is_overdue_at, is_stuck as is_stuck_at, is_unanswered, new_pace, next_due, pace_after_asking, pace_after_event, pace_after_event_if_any, pace_asked, pace_at, trusts, unfinished_by, wait, wants_confirming, wants_serial};
 
 use crate::asking::{Asking, UpdateMode};
 use crate::notes::{
@@ -24,6 +24,9 @@ pub const LEAST_PERIOD: u64 = 1000;
 /// An answer that hasn't come this number of milliseconds after the asking is overdue.
 pub const OVERDUE: u64 = 1000;
 
+/// A message that hasn't been finished this number of milliseconds after its last byte disturbs.
+pub const UNFINISHED: u64 = 1000;
+
 /// This number of milliseconds after a change the picture is asked for, to confirm it.
 pub const SETTLED: u64 = 1000;
 
@@ -37,6 +40,7 @@ pub struct Pace {
     period: u64,
     asked: Option<u64>,
     heard: Option<u64>,
+    unfinished: Option<u64>,
     changed: Option<u64>,
     patience: u32,
     left: u32,
@@ -78,6 +82,7 @@ impl Model for Pace {
       pardons = pace.pardons;
       settling = pace.settling;
       heard = pace.heard;
+      unfinished = pace.unfinished;
       doubtful = pace.doubtful;
       confirmed = pace.confirmed;
       changed = pace.changed;
@@ -111,6 +116,7 @@ impl Pace {
             pardons: false,
             settling: false,
             heard: None,
+            unfinished: None,
             doubtful: false,
             confirmed: false,
             changed: None,
@@ -139,6 +145,16 @@ impl Pace {
     {
         match due_after(self.asked, OVERDUE) {
             Some(due) => self.awaits_answer() && due <= now,
+            None => false,
+        }
+    }
+
+    // Whether a message has been unfinished for a second at this time.
+    fn is_stuck(&self, now: u64) -> bool
+        ensures { result ≡ is_stuck_at self.now now }
+    {
+        match due_after(self.unfinished, UNFINISHED) {
+            Some(due) => self.unfinished.is_some() && due <= now,
             None => false,
         }
     }
@@ -199,15 +215,26 @@ impl Pace {
         }
     }
 
-    /// The first time at which it asks, or finds an answer overdue and has no doubt before. `None`
-    /// if that is past the last time that a `u64` counts.
-    pub fn due_at(&self) -> Option<u64>
-        ensures { result ≡ next_due self.now }
+    // The first time at which it asks, or finds an answer overdue and has no doubt before.
+    fn doubts_at(&self) -> Option<u64>
+        ensures { result ≡ counted (doubt_time self.now) }
     {
         if self.awaits_answer() && !self.doubtful {
             earlier(self.asks_at(), due_after(self.asked, OVERDUE))
         } else {
             self.asks_at()
+        }
+    }
+
+    /// The first time at which it asks, or finds an answer overdue and has no doubt before, or a
+    /// message that isn't finished. `None` if that is past the last time that a `u64` counts.
+    pub fn due_at(&self) -> Option<u64>
+        ensures { result ≡ next_due self.now }
+    {
+        if self.unfinished.is_some() {
+            earlier(self.doubts_at(), due_after(self.unfinished, UNFINISHED))
+        } else {
+            self.doubts_at()
         }
     }
 
@@ -247,13 +274,20 @@ impl Pace {
         }
     }
 
-    // Notes that an answer is overdue, if it is at this time.
-    fn note_time(&mut self, now: u64)
-        ensures { self.new ≡ pace_at self.old now }
+    /// The pace at this time: whether an answer is overdue then, or a message unfinished for too
+    /// long, is noted.
+    pub fn at(&self, now: u64) -> Pace
+        ensures { result ≡ pace_at self.now now }
     {
         let overdue = self.is_overdue(now);
-        self.doubtful = either(self.doubtful, overdue);
-        self.confirmed = unless(self.confirmed, overdue);
+        let stuck = self.is_stuck(now);
+        Pace {
+            disturbed: either(self.disturbed, stuck),
+            unfinished: if stuck { None } else { self.unfinished },
+            doubtful: either(either(self.doubtful, overdue), stuck),
+            confirmed: unless(unless(self.confirmed, overdue), stuck),
+            ..*self
+        }
     }
 
     // Notes that a dump was asked for at this time.
@@ -271,12 +305,12 @@ impl Pace {
         self.pardons = false;
     }
 
-    /// Notes that this was asked at this time, or nothing.
+    /// Notes that this was asked at this time, or nothing, by the pace at that time.
     pub fn note_asking(&mut self, asking: Asking, now: u64)
         ensures { self.new ≡ pace_after_asking asking self.old now }
     {
         match asking {
-            Asking::Nothing => self.note_time(now),
+            Asking::Nothing => {}
             Asking::Identify => {
                 self.tries = self.tries.saturating_sub(1);
                 self.requested = true;
@@ -331,6 +365,18 @@ impl Pace {
     {
         if let Some(event) = event {
             self.note_event(event, seen, now);
+        }
+    }
+
+    /// Notes how many bytes were heard at this time, and how many are unread after them.
+    pub(crate) fn note_unread(&mut self, now: u64, used: usize, unread: usize)
+        ensures { (bytes after : List ℕ) → used ≡ length bytes → unread ≡ length after →
+            self.new ≡ record self.old {
+              unfinished = unfinished_by self.old.unfinished now bytes after;
+            } }
+    {
+        if used > 0 {
+            self.unfinished = if unread > 0 { Some(now) } else { None };
         }
     }
 }

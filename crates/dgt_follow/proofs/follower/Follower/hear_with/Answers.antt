@@ -1,5 +1,8 @@
 use Rattle.dgt_decode.specs.Feeding.{event_content_if_any}
-use Rattle.dgt_follow.proofs.Hearing.{heard_once, is_some_seen}
+use Rattle.std.proofs.Common.{ap, ◌∙◌, ◌++◌, length, take, rules}
+use Rattle.dgt_decode.specs.Grammar.{unfinished_message}
+use Rattle.dgt_host.specs.Host.{HostView}
+use Rattle.dgt_follow.proofs.Hearing.{heard_once, is_some_seen, same_unfinished}
 use Rattle.dgt_follow.proofs.follower.Follower.hear_with.Goals as goal
 
 pub returns-clause-heard : goal.returns-clause-heard
@@ -8,9 +11,19 @@ returns-clause-heard g c =
     c.hear.ensures.changed
     (is_some_seen _ c.picture.result c.self.inside.host.picture c.is_some-known.result c.is_some-known.ensures
     c.picture.ensures) in
-    rw (← c.self.view_is, c.hear.follows.holds-at-none, noted)
-    (heard_once c.self.inside.host c.self.inside.pace c.args.now c.hear.result.used c.args.chunk.now
-    (event_content_if_any c.hear.result.event) c.hear.ensures.first)
+    let host = c.self.inside.host in
+    let event = event_content_if_any c.hear.result.event in
+    let bytes = take c.hear.result.used c.args.chunk.now in
+    let timed = c.note_unread.ensures bytes (unfinished_message (host.unread ++ bytes)) (search rules)
+    (c.unread.ensures.len ∙ ap (λ (h : HostView). length h.unread) c.hear.follows.holds-at-none) in
+    rw (
+      ← c.self.view_is,
+      c.hear.follows.holds-at-none,
+      timed,
+      noted,
+      same_unfinished c.self.inside.pace c.args.now host.awaited host.picture event,
+    )
+    (heard_once host c.self.inside.pace c.args.now c.hear.result.used c.args.chunk.now event c.hear.ensures.first)
 
 pub returns-clause-reported : goal.returns-clause-reported
 returns-clause-reported g c =
