@@ -47,7 +47,7 @@ pub fn limits()
     ensures placement_room { PLACEMENT_ROOM ≡ 72 }
     ensures no_such { NONE ≡ 255 }
     ensures host_size { host_room ≡ 16520 }
-    ensures follower_size { follower_room ≡ 16608 }
+    ensures follower_size { follower_room ≡ 16624 }
     ensures decoder_size { decoder_room ≡ 16416 }
     ensures command_decoder_size { command_decoder_room ≡ 288 }
     ensures board_size { board_room ≡ 712 }
@@ -152,7 +152,7 @@ pub fn cases_differ()
 /// lies, and where its members begin, in the order of the law [`members`].
 pub fn layouts()
     ensures host { LiesAs host_row 16520 8 (0 ∷ 8 ∷ []) }
-    ensures follower { LiesAs follower_row 16608 8 (0 ∷ 8 ∷ []) }
+    ensures follower { LiesAs follower_row 16624 8 (0 ∷ 8 ∷ []) }
     ensures decoder { LiesAs decoder_row 16416 8 (0 ∷ 8 ∷ []) }
     ensures command_decoder { LiesAs command_decoder_row 288 8 (0 ∷ 8 ∷ []) }
     ensures board { LiesAs board_row 712 8 (0 ∷ 8 ∷ []) }

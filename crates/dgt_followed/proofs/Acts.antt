@@ -6,7 +6,7 @@ use Rattle.dgt_command.specs.Content.{CommandContent}
 use Rattle.dgt_command.specs.Encoding.{AreBytes, EncodesCommand, command_encoding}
 use Rattle.dgt_follow.specs.declared.asking.Asking.{Asking}
 use Rattle.dgt_follow.specs.declared.asking.UpdateMode.{UpdateMode}
-use Rattle.dgt_follow.specs.Pace.{PaceView, asking, asking_bytes, clock_request, is_calm, is_due, mode_command, trusts, wants_serial}
+use Rattle.dgt_follow.specs.Pace.{PaceView, asking, asking_bytes, clock_request, is_calm, is_due, mode_command, pace_at, trusts, wants_serial}
 use Rattle.dgt_follow.specs.Follower.{Asks, FollowerView, asking_of, host_after_asking}
 use Rattle.dgt_host.specs.Host.{HostView, awaits_too_many, host_awaiting, restart_bytes, without_awaited}
 use Rattle.dgt_link.specs.declared.acts.Outcome.{Outcome}
@@ -241,8 +241,8 @@ asking_is_acts follower after now written old new world asked same room =
     let what = asking_of follower now in
     let bytes = asking_bytes mode what in
     let done = acts_done mode what world
-    (λ is. rw same (heartbeat_is_free follower.pace (awaits_too_many follower.host (Some Kind.Dump)) now is))
-    (λ is. rw same (identify_is_free follower.pace (awaits_too_many follower.host (Some Kind.Dump)) now is)) room in
+    (λ is. rw same (heartbeat_is_free (pace_at follower.pace now) (awaits_too_many follower.host (Some Kind.Dump)) now is))
+    (λ is. rw same (identify_is_free (pace_at follower.pace now) (awaits_too_many follower.host (Some Kind.Dump)) now is)) room in
     let host : host_after_asking what world.host ≡ after.host
     = ap (host_after_asking what) same ∙ sym asked.0.1 in
     let prefix : bytes ≡ take written new = sym (prefix_of bytes old new written asked.0.0.0 asked.0.0.2) in

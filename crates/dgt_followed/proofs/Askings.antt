@@ -3,7 +3,7 @@
 use Rattle.std.proofs.Common.{◌≡◌, ◌⊎◌, inl, inr, ◌+◌, ◌-◌, ◌<◌, ◌≤◌, Bool, true, false, ◌||◌, if◌then◌else◌, Some, refl, ℕ, List, [], ◌∷◌, arith}
 use Rattle.dgt_values.specs.declared.kinds.Kind.{Kind}
 use Rattle.dgt_follow.specs.declared.asking.Asking.{Asking}
-use Rattle.dgt_follow.specs.Pace.{PaceView, pace_after_asking}
+use Rattle.dgt_follow.specs.Pace.{PaceView, pace_after_asking, pace_at}
 use Rattle.dgt_follow.specs.Follower.{asking_of}
 use Rattle.dgt_host.specs.Host.{awaits_too_many}
 use Rattle.dgt_link.specs.declared.acts.Outcome.{Outcome}
@@ -22,7 +22,8 @@ neither true b e = cc
 one_more : (since left patience : ℕ) → 0 < left → since + left ≤ patience → (since + 1) + (left - 1) ≤ patience
 one_more since left patience some few = omega (arith, some, few)
 
-left_after : (what : Asking) (now : ℕ) (before after : PaceView) → after ≡ pace_after_asking what before now
+left_after : (what : Asking) (now : ℕ) (before after : PaceView)
+    → after ≡ pace_after_asking what (pace_at before now) now
     → before.left ≤ before.patience → after.left ≤ after.patience
 left_after Asking.Nothing now before after e few = rw e few
 left_after Asking.Identify now before after e few = rw e few
@@ -56,10 +57,11 @@ module _ (Promised : WorldView → Type 0) (count : FollowedView → ℕ) where
 
   pub heartbeat_hope : (now : ℕ) (before after : FollowedView)
       → asking_of (follower_of before) now ≡ Asking.Heartbeat
-      → after.pace ≡ pace_after_asking Asking.Heartbeat before.pace now → count after ≡ count before + 1
+      → after.pace ≡ pace_after_asking Asking.Heartbeat (pace_at before.pace now) now
+      → count after ≡ count before + 1
       → (Promised before.world → Promised after.world) → Hopes Promised count before → Hope Promised count after
   heartbeat_hope now before after e pace since keeps hopes =
-      let some = heartbeat_is_left before.pace (awaits_too_many before.world.host (Some Kind.Dump)) now e in
+      let some = heartbeat_is_left (pace_at before.pace now) (awaits_too_many before.world.host (Some Kind.Dump)) now e in
       elim hopes.hope [
         | inl promised ↦ inl (keeps promised)
         | inr few ↦ inr

@@ -6,7 +6,7 @@ use Rattle.dgt_board.specs.declared.modes.Mode.{Mode}
 use Rattle.dgt_board.specs.State.{command_mode, follows_clock}
 use Rattle.dgt_follow.specs.declared.asking.Asking.{Asking}
 use Rattle.dgt_follow.specs.declared.asking.UpdateMode.{UpdateMode}
-use Rattle.dgt_follow.specs.Pace.{PaceView, pace_after_asking}
+use Rattle.dgt_follow.specs.Pace.{PaceView, pace_after_asking, pace_at}
 use Rattle.dgt_follow.specs.Follower.{asking_of}
 use Rattle.dgt_link.specs.declared.acts.Outcome.{Outcome}
 use Rattle.dgt_link.specs.Clocks.{AreClockCalm, IsClockFollowing, IsClockPromisedWorld, stops_clock}
@@ -49,7 +49,7 @@ module _
   heartbeat_keeps : (command : CommandContent) → stops_clock (sends command) ≡ false → (now : ℕ)
       → (before after : FollowedView) → asking_of (follower_of before) now ≡ Asking.Heartbeat
       → RunsDone (heartbeat_acts command) before.world after.world
-      → after.pace ≡ pace_after_asking Asking.Heartbeat before.pace now
+      → after.pace ≡ pace_after_asking Asking.Heartbeat (pace_at before.pace now) now
       → after.clock_since ≡ before.clock_since + 1 → Hopes IsClockPromisedWorld count before
       → Hope IsClockPromisedWorld count after
   heartbeat_keeps command goes now before after e runs pace since hopes =
@@ -67,7 +67,7 @@ module _
 
   ask_hope : (mode : UpdateMode) (what : Asking) (now : ℕ) (before after : FollowedView)
       → asking_of (follower_of before) now ≡ what → RunsDone (asking_acts mode what) before.world after.world
-      → after.pace ≡ pace_after_asking what before.pace now
+      → after.pace ≡ pace_after_asking what (pace_at before.pace now) now
       → after.clock_since ≡ clock_count_after_asking mode what before.clock_since
       → Hopes IsClockPromisedWorld count before → Hope IsClockPromisedWorld count after
   ask_hope mode Asking.Nothing now before after e same pace since hopes = rw (same, pace, since) hopes.hope

@@ -2,7 +2,7 @@
 use Rattle.std.proofs.Common.{◌≡◌, inl, true, false, refl, ap, ℕ, List, [], ◌∷◌}
 use Rattle.dgt_follow.specs.declared.asking.Asking.{Asking}
 use Rattle.dgt_follow.specs.declared.asking.UpdateMode.{UpdateMode}
-use Rattle.dgt_follow.specs.Pace.{PaceView, mode_command, pace_after_asking}
+use Rattle.dgt_follow.specs.Pace.{PaceView, mode_command, pace_after_asking, pace_at}
 use Rattle.dgt_follow.specs.Follower.{asking_of}
 use Rattle.dgt_link.specs.declared.acts.Outcome.{Outcome}
 use Rattle.dgt_link.specs.Faults.{AreCalm, FaultyContent, FaultyRuns, FaultyStep, begins_anew, is_fault, sends, stops}
@@ -46,7 +46,7 @@ module _
   ask_hope : (what : Asking) (now : ℕ) (before after : FollowedView)
       → asking_of (follower_of before) now ≡ what
       → RunsDone (asking_acts before.pace.mode what) before.world after.world
-      → after.pace ≡ pace_after_asking what before.pace now → after.since ≡ count_after_asking what before.since
+      → after.pace ≡ pace_after_asking what (pace_at before.pace now) now → after.since ≡ count_after_asking what before.since
       → Hopes IsPromisedWorld count before → Hope IsPromisedWorld count after
   ask_hope Asking.Nothing now before after e same pace since hopes = rw (same, pace, since) hopes.hope
   ask_hope Asking.Identify now before after e runs pace since hopes =

@@ -4,7 +4,7 @@ use Rattle.dgt_command.specs.Content.{CommandContent}
 use Rattle.dgt_host.specs.Host.{HostView}
 use Rattle.dgt_follow.specs.declared.asking.Asking.{Asking}
 use Rattle.dgt_follow.specs.declared.asking.UpdateMode.{UpdateMode}
-use Rattle.dgt_follow.specs.Pace.{PaceView, mode_command, pace_after_asking}
+use Rattle.dgt_follow.specs.Pace.{PaceView, mode_command, pace_after_asking, pace_at}
 use Rattle.dgt_follow.specs.Follower.{FollowerView, asking_of, following}
 use Rattle.dgt_link.specs.declared.acts.Outcome.{Outcome}
 use Rattle.dgt_link.specs.Clocks.{stops_clock}
@@ -100,7 +100,7 @@ abbrev pub FollowedStep : Happening → FollowedView → FollowedView → Type 0
 FollowedStep (Happening.Ask now) before after =
     let what = asking_of (follower_of before) now in
     RunsDone (asking_acts before.pace.mode what) before.world after.world
-    × (after.pace ≡ pace_after_asking what before.pace now)
+    × (after.pace ≡ pace_after_asking what (pace_at before.pace now) now)
     × (after.since ≡ count_after_asking what before.since)
     × (after.clock_since
     ≡ clock_count_after_asking before.pace.mode what before.clock_since)
