@@ -190,11 +190,12 @@ pub fn what_time_brings()
         is_stuck pace now ≡ false }
     ensures disturbs { (pace : PaceView) (now : ℕ) → is_stuck pace now ≡ true →
         let after = pace_at pace now in
-        (after.disturbed ≡ true) × (after.unfinished ≡ None) × (after.doubtful ≡ true) }
+        (after.disturbed ≡ true) × (after.unfinished ≡ None) × (after.doubtful ≡ true)
+        × (after.confirmed ≡ false) }
     ensures overdue { (pace : PaceView) (now : ℕ) → is_overdue pace now ≡ true →
         is_stuck pace now ≡ false → let after = pace_at pace now in
-        (after.disturbed ≡ pace.disturbed) × (after.doubtful ≡ true)
-        × (after.unfinished ≡ pace.unfinished) }
+        (after.disturbed ≡ pace.disturbed) × (after.unfinished ≡ pace.unfinished)
+        × (after.doubtful ≡ true) × (after.confirmed ≡ false) }
     ensures kept { (pace : PaceView) (now : ℕ) → is_overdue pace now ≡ false →
         is_stuck pace now ≡ false → let after = pace_at pace now in
         (after.disturbed ≡ pace.disturbed) × (after.unfinished ≡ pace.unfinished)
