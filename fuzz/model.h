@@ -115,6 +115,8 @@ typedef struct model_follower {
     bool confirms, identifies;
     bool has_asked, has_heard, has_changed, has_serial;
     uint64_t asked, heard, changed;
+    bool is_unfinished;  /* the last bytes left a message unfinished, */
+    uint64_t unfinished; /* and came at this time */
     uint8_t serial[5];
     bool is_answered, is_disturbed, has_requested, is_wanted, pardons; /* since it asked */
     bool is_settling, is_doubtful, is_confirmed, is_unreadable;

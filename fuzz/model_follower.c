@@ -3,9 +3,10 @@
 #include <string.h>
 
 enum {
-    OVERDUE = 1000, /* for how many milliseconds an answer is awaited without a doubt */
-    SETTLED = 1000, /* after a change or an asking, when a picture is asked for again */
-    TRIES = 3       /* how often the serial number is requested */
+    OVERDUE = 1000,    /* for how many milliseconds an answer is awaited without a doubt */
+    UNFINISHED = 1000, /* for how many the rest of a message is */
+    SETTLED = 1000,    /* after a change or an asking, when a picture is asked for again */
+    TRIES = 3          /* how often the serial number is requested */
 };
 
 void model_follower_start(model_follower *follower, uint64_t period, uint32_t patience) {
@@ -96,6 +97,10 @@ size_t model_follower_hear(model_follower *follower, uint64_t now, const uint8_t
     size_t used = model_hear(&follower->host, bytes, n, event, body);
     bool is_same = memcmp(before, host->picture, sizeof before) == 0;
     if (event->kind != DGT_EVENT_NONE) note(follower, now, event, was_known, is_same);
+    if (used > 0) {
+        follower->is_unfinished = host->decoder.n > 0;
+        follower->unfinished = now;
+    }
     return used;
 }
 
@@ -156,10 +161,15 @@ static moment overdue_at(const model_follower *follower) {
     return after(follower->asked, OVERDUE);
 }
 
+static moment stuck_at(const model_follower *follower) {
+    return after(follower->unfinished, UNFINISHED);
+}
+
 bool model_due_at(const model_follower *follower, uint64_t *due) {
     moment first = asks_at(follower);
     if (is_unanswered(follower) && !follower->is_doubtful)
         first = earlier(first, overdue_at(follower));
+    if (follower->is_unfinished) first = earlier(first, stuck_at(follower));
     *due = first.time;
     return !first.is_past_last;
 }
@@ -200,6 +210,17 @@ static void doubt(model_follower *follower) {
     follower->is_confirmed = false;
 }
 
+/* Notes what is late by now: an answer, or the rest of a message. */
+static void note_time(model_follower *follower, uint64_t now) {
+    bool is_overdue = is_unanswered(follower) && has_come(overdue_at(follower), now);
+    bool is_stuck = follower->is_unfinished && has_come(stuck_at(follower), now);
+    if (is_overdue || is_stuck) doubt(follower);
+    if (is_stuck) {
+        follower->is_disturbed = true;
+        follower->is_unfinished = false;
+    }
+}
+
 /* It has asked for a dump. */
 static void note_asking(model_follower *follower, asking asking, uint64_t now) {
     bool is_new = asking == ANEW;
@@ -214,14 +235,16 @@ static void note_asking(model_follower *follower, asking asking, uint64_t now) {
 }
 
 dgt_sent model_ask(model_follower *follower, uint64_t now, size_t room, model_sending *sending) {
+    model_follower before = *follower;
+    note_time(follower, now);
     asking asking = asking_at(follower, now);
     model_host *host = &follower->host;
     *sending = sending_of(follower, asking);
-    if (room < sending->n) return (dgt_sent){DGT_NO_ROOM, sending->n};
-    if (asking == NOTHING) {
-        if (is_unanswered(follower) && has_come(overdue_at(follower), now)) doubt(follower);
-        return (dgt_sent){DGT_SENT, 0};
+    if (room < sending->n) {
+        *follower = before;
+        return (dgt_sent){DGT_NO_ROOM, sending->n};
     }
+    if (asking == NOTHING) return (dgt_sent){DGT_SENT, 0};
     if (asking == ANEW) host->awaited_n = 0;
     host->awaited[host->awaited_n++] = asking == IDENTIFY ? DGT_SEND_SERIAL : DGT_SEND_DUMP;
     if (asking == IDENTIFY) {
