@@ -1,5 +1,6 @@
 """What checks/wrong_bodies and checks/definitions share: edits of a crate that the prover has to
-refuse, copies of crates to try them in, and what rt check prints of these."""
+refuse, copies of crates to try them in, and what rt check prints of these. A model's edits are
+read for checks/c_library, too."""
 
 import contextlib
 import dataclasses
@@ -64,6 +65,22 @@ def parse(name: str, lines: Iterable[str]) -> Edit:
     if not changes or not refused:
         raise Failure(f"{name}: no line `{'new' if refused else 'refused'}:`")
     return Edit(name, tuple(changes), refused, also)
+
+
+def read(path: pathlib.Path) -> list[Edit]:
+    """The edits of a file, each after a line `# SENTENCE`. One with no line `file:` is of the file
+    of the one before."""
+    edits: list[Edit] = []
+    lines: list[str] = []
+    name = file = ""
+    for line in [*path.read_text().splitlines(), "# "]:
+        if line.startswith("# "):
+            edits += [parse(name, [file, *lines])] if lines else []
+            name, lines = line.removeprefix("# "), []
+        elif line:
+            file = line if line.startswith("file: ") else file
+            lines.append(line)
+    return edits
 
 
 def apply(edit: Edit, crate: pathlib.Path, sources: dict[str, str]) -> bool:
