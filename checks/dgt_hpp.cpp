@@ -486,6 +486,10 @@ void confirmations() {
     follower.set_identify(false);
     CHECK(ask(follower, board, seconds(5)) == 258 && ask(follower, board, seconds(5)) == 0);
     CHECK(!follower.serial());
+    follower.hear(seconds(5), dgt::Bytes{0x8e, 0}); // a message that stays unfinished
+    CHECK(!follower.in_doubt() && follower.due() == seconds(6));
+    CHECK(ask(follower, board, seconds(6)) == 0 && follower.in_doubt());
+    CHECK(follower.due() == dgt::Milliseconds(7500) && ask(follower, board, seconds(8)) == 258);
 }
 
 void boards() {

@@ -1,5 +1,6 @@
-"""Checks the calls of a follower of the package for Python by which a picture is confirmed, a board
-is asked at once, its serial number is requested, and events are heard."""
+"""Checks the calls of a follower of the package for Python. A picture is confirmed, a message that
+stays unfinished disturbs, a board is asked at once, its serial number is requested, and events are
+heard."""
 
 import model
 
@@ -50,6 +51,39 @@ def confirms(dgt, dump):
     ]
 
 
+def stays_unfinished(dgt, dump):
+    """A message that stays unfinished for a second disturbs. Its rest is heard as ever."""
+    follower = dgt.Follower()
+    lifted = model.spell(model.DUMP, [*dump[3:55], 0, *dump[56:]])
+
+    def known():
+        return follower.due_at, follower.confirmed, follower.in_doubt
+
+    for now in (0.0, 10.0):
+        follower.ask(now)
+        follower.hear(dump, now)
+    return [
+        ("a message without its end", (follower.hear(LIFT[:2], 10.1), *known()),
+         (None, 11.1, True, False)),
+        ("one byte more", (list(follower.hear_each(LIFT[2:3], 10.2)), *known()),
+         ([], 11.2, True, False)),
+        ("no byte", (follower.hear(b"", 10.9), *known()), (None, 11.2, True, False)),
+        ("within a second", (follower.ask(11.199), *known()), (b"", 11.2, True, False)),
+        ("a second later", (follower.ask(11.2), *known(), follower.unread),
+         (b"", 12.5, False, True, 3)),
+        ("its end", (follower.hear(LIFT[3:], 11.3), follower.picture["e2"], *known()),
+         (None, ".", 12.5, False, True)),
+        ("a new beginning", (follower.ask(12.499), follower.ask(12.5), *known()),
+         (b"", ANEW, 15.0, False, True)),
+        ("its dump", (follower.hear(lifted, 12.6), *known()), (None, 22.5, False, False)),
+        ("another without its end", (follower.hear(LIFT[:1], 14.0), *known()),
+         (None, 15.0, False, False)),
+        ("a new beginning at once", (follower.ask(15.3), *known()), (ANEW, 17.8, False, True)),
+        ("one byte more", (follower.hear(LIFT[1:2], 15.4), *known()), (None, 16.4, False, True)),
+        ("line lost", (follower.line_lost(), *known()), (None, 0, False, False)),
+    ]
+
+
 def identifies(dgt, dump):
     follower, serial = dgt.Follower(identify=True), model.spell(model.SERIAL, b"12345")
     asked = [follower.ask(0.0), follower.hear(dump, 0.1), follower.ask(0.1), follower.ask(0.2)]
@@ -89,7 +123,8 @@ def hears(dgt, dump):
 def check(dgt):
     """Returns how many calls were compared."""
     dump = model.spell(model.DUMP, dgt.Position.start().codes)
-    rows = [row for case in (confirms, identifies, hears) for row in case(dgt, dump)]
+    cases = confirms, stays_unfinished, identifies, hears
+    rows = [row for case in cases for row in case(dgt, dump)]
     for what, got, right in rows:
         wanted(f"follower, {what}", got, right)
     for change in (dgt.Follower.confirm, dgt.Follower.identify):

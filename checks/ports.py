@@ -248,6 +248,18 @@ def noise(dgt, line):
                (START, False, None))
 
 
+def loses_an_end(dgt, line):
+    """The line loses the end of a message, and nothing comes after it."""
+    with dgt.follow(line.path, 4.0) as board:
+        expect("at first", board, (START, False, None))
+        began = time.monotonic()
+        line.send([bytes.fromhex("8e000534")])
+        expect("a message without its end", board, (START, True, None))
+        wanted("whether a second passed", 0.9 < time.monotonic() - began < 1 + LATE, True)
+        expect("after the next asking", board, (START, False, None))
+    wanted("bytes asked", [len(each) for _, each in line.asked[:2]], [258, 258])
+
+
 def silence(dgt, line):
     line.is_on = False
     with dgt.follow(line.path, 1.0) as board:
@@ -716,9 +728,9 @@ def streams(dgt, line):
                              (LIFTED, False, None), (LIFTED, True, CLOSED)])
 
 
-CASES = [changes, asks_when_due, heals, confirms, clock_heals, noise, silence, goes_and_comes,
-         comes_late, faults, closing, leaving, closing_elsewhere, settings, waits, wakes,
-         takes_nothing, handed, handed_fails, streams, slow_streams]
+CASES = [changes, asks_when_due, heals, confirms, clock_heals, noise, loses_an_end, silence,
+         goes_and_comes, comes_late, faults, closing, leaving, closing_elsewhere, settings, waits,
+         wakes, takes_nothing, handed, handed_fails, streams, slow_streams]
 
 
 def try_case(dgt, case):

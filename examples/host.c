@@ -89,7 +89,7 @@ static bool follow(board *board, uint64_t silence) {
         hear(board, chunk, (size_t)n);
         if (n > 0 && silence) end = dgt_port_now() + silence;
         can_write = ask(board);
-        show(board); /* the last question may have had no answer */
+        show(board); /* the last question may have had no answer, or a message no end */
     }
     return can_write || errno != ETIMEDOUT;
 }

@@ -83,7 +83,7 @@ int main(int count, char **words) {
     while (writes) {
         if (!hear(board)) return 0;
         writes = write_all(line, board.follower.ask(dgt::now()));
-        show(board); // the last asking may have had no answer
+        show(board); // the last asking may have had no answer, or a message no end
     }
     std::cerr << words[1] << ": can't be written\n";
     return 1;

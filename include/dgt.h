@@ -145,7 +145,7 @@ uint32_t dgt_version(void);
 
 /* How many bytes they take, as dgt_host_size() and its like answer, and _new compares. */
 #define DGT_HOST_SIZE 16520
-#define DGT_FOLLOWER_SIZE 16608
+#define DGT_FOLLOWER_SIZE 16624
 #define DGT_DECODER_SIZE 16416
 #define DGT_COMMAND_DECODER_SIZE 288
 #define DGT_BOARD_SIZE 712
@@ -544,9 +544,10 @@ void dgt_host_line_lost(dgt_host *host) DGT_NONNULL_(1);
  * replies are awaited, and the patience has not run out.
  *
  * Disturbances are a cut, refused, misstated or stray message, one that is not asked for, and a
- * dump that isn't the picture that was known. A clock that shows no digits, as one does while it is
- * set, is none (DGT_BAD_READING). If a new beginning gave up requests of yours while nothing was
- * wrong, what comes unasked before the next asking is none either.
+ * dump that isn't the picture that was known. So is a message that stays unfinished for a second
+ * after its last byte. A clock that shows no digits, as one does while it is set, is none
+ * (DGT_BAD_READING). If a new beginning gave up requests of yours while nothing was wrong, what
+ * comes unasked before the next asking is none either.
  *
  * In a mode that reports the clock, DGT_MODE_UPDATE or DGT_MODE_UPDATE_NICE, an asking ends with
  * DGT_SEND_CLOCK, which requests a reading of the clock: a heartbeat has 3 bytes then, and a new
@@ -558,8 +559,9 @@ void dgt_host_line_lost(dgt_host *host) DGT_NONNULL_(1);
  *  - In doubt: since the last dump that was awaited there was a disturbance, or an answer was a
  *    second late. It may be wrong, and is asked for again.
  *  - Confirmed: a dump that was awaited repeated it. Since then nothing changed it, came unasked or
- *    disturbed, and no answer was late. No one altered, lost or inserted message makes a confirmed
- *    picture wrong. Two that agree can. A change that is lost later shows with the next dump.
+ *    disturbed, and no answer was late. It was right when that dump was sent, if at most one
+ *    message was altered, lost or inserted since the last whole dump before it. Two that agree can
+ *    make it wrong. A change that is lost later shows with the next dump.
  *  - Neither: it has just been reported or changed, and no dump has repeated it yet. One altered
  *    message is enough to make it wrong. dgt_follower_set_confirm has it confirmed soon. */
 
@@ -612,13 +614,14 @@ void dgt_follower_hear_all(dgt_follower *follower, uint64_t now, const uint8_t *
  *  - after dgt_follower_ask_now, at once, or once it is answered;
  *  - if `now` is before it, since your clock has gone back.
  * An answer that is a second late is a doubt after the next call of this, whether that writes or
- * not. */
+ * not. So is a message that has stayed unfinished for a second, which is a disturbance besides; its
+ * rest is heard if it comes later. */
 dgt_sent dgt_follower_ask(dgt_follower *follower, uint64_t now, uint8_t *out, size_t n)
     DGT_MUST_USE_ DGT_NONNULL_(1) DGT_WRITES_(3, 4);
 
-/* The first time at which dgt_follower_ask writes, or finds an answer overdue and so a doubt, if
- * nothing is heard before: 0 if it asks at once. False, and nothing written, if that is past
- * UINT64_MAX: it never asks then. */
+/* The first time at which dgt_follower_ask writes, or finds an answer or the rest of a message
+ * overdue, if nothing is heard before: 0 if it asks at once. False, and nothing written, if that is
+ * past UINT64_MAX: it never asks then. */
 bool dgt_follower_due_at(dgt_follower *follower, uint64_t *time)
     DGT_MUST_USE_ DGT_NONNULL_(1, 2) DGT_WRITES_(2);
 

@@ -909,7 +909,8 @@ public:
     }
 
     /// When to call `ask` next, if nothing is heard before: 0 if it asks at once. An answer that is
-    /// overdue then is a doubt. Nothing if that is later than any time.
+    /// overdue then is a doubt, and so is the rest of a message. Nothing if that is later than any
+    /// time.
     std::optional<Milliseconds> due() {
         std::uint64_t time = 0;
         bool is_known = dgt_follower_due_at(&follower_, &time);

@@ -502,6 +502,60 @@ static void overdue(void) {
     free(follower);
 }
 
+/* A message that stays unfinished for a second disturbs. Its rest is heard as ever. */
+static void unfinished(void) {
+    dgt_follower *follower = room(dgt_follower_size());
+    uint8_t pieces[64];
+    CHECK(dgt_follower_new(follower, 10000, 6) && asks(follower, 0, ANEW));
+    hear_dump(follower, 10, 1);
+    CHECK(asks(follower, 10000, HEARTBEAT));
+    hear_dump(follower, 10010, 1);
+    CHECK(dgt_follower_confirmed(follower) && is_due_at(follower, 20000));
+    dgt_follower_hear_all(follower, 10100, BYTES(0x8e, 0));
+    CHECK(dgt_follower_hear(follower, 10200, BYTES(5), &heard, NULL, 0) == 1);
+    dgt_follower_hear_all(follower, 10900, NULL, 0); /* no byte is no news */
+    CHECK(is_due_at(follower, 11200) && asks(follower, 11199, 0));
+    CHECK(dgt_follower_confirmed(follower) && !dgt_follower_in_doubt(follower));
+    CHECK(asks(follower, 11200, 0) && is_due_at(follower, 12500));
+    CHECK(!dgt_follower_confirmed(follower) && dgt_follower_in_doubt(follower));
+    dgt_follower_hear_all(follower, 11300, BYTES(52, 0));
+    CHECK(dgt_follower_picture(follower, pieces) && pieces[52] == 0);
+    CHECK(is_due_at(follower, 12500) && asks(follower, 12500, ANEW));
+    hear_dump(follower, 12600, 0);
+    CHECK(!dgt_follower_in_doubt(follower) && is_due_at(follower, 22500));
+    free(follower);
+}
+
+/* Nothing is noted of it if there is no room. It asks at once after a quarter of the period. */
+static void unfinished_without_room(void) {
+    dgt_follower *follower = room(dgt_follower_size());
+    uint8_t out[DGT_MAX_ASKING];
+    uint64_t time;
+    CHECK(dgt_follower_new(follower, 10000, 6) && asks(follower, 12500, ANEW));
+    hear_dump(follower, 12600, 0);
+    dgt_follower_hear_all(follower, 14000, BYTES(0x8e));
+    dgt_sent asked = dgt_follower_ask(follower, 15000, out, ANEW - 1);
+    CHECK(asked.status == DGT_NO_ROOM && asked.bytes == ANEW);
+    CHECK(!dgt_follower_in_doubt(follower) && is_due_at(follower, 15000));
+    CHECK(asks(follower, 15000, ANEW) && dgt_follower_in_doubt(follower));
+    CHECK(is_due_at(follower, 17500) && dgt_follower_unread(follower) == 1);
+    dgt_follower_hear_all(follower, 15100, BYTES(0));
+    CHECK(is_due_at(follower, 16100) && asks(follower, 16100, 0) && is_due_at(follower, 17500));
+    dgt_follower_hear_all(follower, 16200, BYTES(5));
+    dgt_follower_line_lost(follower);
+    CHECK(is_due_at(follower, 0) && asks(follower, 16300, ANEW) && is_due_at(follower, 17300));
+
+    /* A second that ends past all time never ends. */
+    dgt_follower_start(follower, UINT64_MAX, 1);
+    CHECK(asks(follower, 1, ANEW));
+    hear_dump(follower, 2, 1);
+    dgt_follower_hear_all(follower, UINT64_MAX - 999, BYTES(0x8e));
+    CHECK(!dgt_follower_due_at(follower, &time) && asks(follower, UINT64_MAX, 0));
+    dgt_follower_hear_all(follower, UINT64_MAX - 1000, BYTES(0));
+    CHECK(is_due_at(follower, UINT64_MAX) && asks(follower, UINT64_MAX, ANEW));
+    free(follower);
+}
+
 static void identifying(void) {
     dgt_follower *follower = room(dgt_follower_size());
     uint8_t serial[5], letters[2] = "xx";
@@ -966,6 +1020,8 @@ int main(void) {
     follower();
     confirming();
     overdue();
+    unfinished();
+    unfinished_without_room();
     identifying();
     setting_a_clock();
     clock_commands();

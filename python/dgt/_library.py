@@ -80,7 +80,7 @@ class IdentityStruct(Structure):
 
 
 # How many bytes a handle takes, as dgt.h has it.
-_SIZES = {"dgt_host": 16520, "dgt_follower": 16608, "dgt_decoder": 16416,
+_SIZES = {"dgt_host": 16520, "dgt_follower": 16624, "dgt_decoder": 16416,
           "dgt_command_decoder": 288, "dgt_board": 712}
 
 _ROOM = (c_void_p, c_size_t)

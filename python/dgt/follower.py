@@ -51,7 +51,8 @@ class Follower(EventReader, Asker):
     middle of.
 
     Disturbances are bytes that were lost or altered and are noticed, an answer that nobody asked
-    for, and a dump that isn't the picture that was known. A clock that shows no digits is none.
+    for, and a dump that isn't the picture that was known. So is a message that stays unfinished for
+    a second after its last byte. A clock that shows no digits is none.
     """
 
     _prefix, _feed_name, _most = "dgt_follower", "hear", 1
@@ -84,7 +85,8 @@ class Follower(EventReader, Asker):
 
     def ask(self, now: float) -> bytes:
         """Returns what to ask the board at this time: nothing if that isn't due. An answer that is
-        a second late by then is a doubt, whatever is returned."""
+        a second late by then is a doubt, whatever is returned. A message that has stayed unfinished
+        for a second by then is a disturbance; its rest is heard if it comes later."""
         return self._sent("ask", _milliseconds(now))
 
     def ask_now(self) -> None:
@@ -98,8 +100,9 @@ class Follower(EventReader, Asker):
 
     @property
     def due_at(self) -> float | None:
-        """The first time at which `ask` returns bytes, or finds an answer overdue and so a doubt,
-        if nothing is heard before: 0 if it asks at once. `None` if that is later than any time.
+        """The first time at which `ask` returns bytes, or finds an answer or the rest of a message
+        overdue, if nothing is heard before: 0 if it asks at once. `None` if that is later than any
+        time.
 
         After a disturbance an asking is due a quarter of the period after the last one. So it is
         without an answer, but no less than a second after the last one."""

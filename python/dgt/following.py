@@ -106,7 +106,7 @@ class _Steps:
         asked = self.follower.ask(now)
         if asked:
             self._asked_before, self.asked_at = self.asked_at, round(now, 3)
-        self._note()  # an answer may be overdue by now
+        self._note()  # an answer or the rest of a message may be overdue by now
         return asked
 
     def hear(self, chunk: bytes, now: float) -> list[Event]:

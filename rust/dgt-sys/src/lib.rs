@@ -61,7 +61,7 @@ pub const DGT_PLACEMENT_ROOM: usize = 72;
 /// How many bytes a [`dgt_host`] takes.
 pub const DGT_HOST_SIZE: usize = 16520;
 /// How many bytes a [`dgt_follower`] takes.
-pub const DGT_FOLLOWER_SIZE: usize = 16608;
+pub const DGT_FOLLOWER_SIZE: usize = 16624;
 /// How many bytes a [`dgt_decoder`] takes.
 pub const DGT_DECODER_SIZE: usize = 16416;
 /// How many bytes a [`dgt_command_decoder`] takes.

@@ -81,8 +81,9 @@ impl Follower {
     /// that are left.
     ///
     /// Disturbances are a cut, refused, misstated or stray message, an unasked one, and a dump that
-    /// isn't the picture that was known. After a disturbance the next asking begins anew. It is due
-    /// at once, but not before a quarter of the period after the last one.
+    /// isn't the picture that was known. So is a message that stays unfinished for a second after
+    /// its last byte. After a disturbance the next asking begins anew. It is due at once, but not
+    /// before a quarter of the period after the last one.
     ///
     /// A clock that shows no digits, as one does while it is set, is none. If a new beginning gave
     /// up requests of the caller's own while nothing was wrong, an unasked message before the next
@@ -129,7 +130,8 @@ impl Follower {
     /// mode's command. If the mode reports the clock, `41` follows, which requests a reading of it.
     ///
     /// An answer that is a second late is a doubt from the next call on, whether that writes or
-    /// not.
+    /// not. A message that has stayed unfinished for a second is a disturbance from then on; its
+    /// rest is heard if it comes later.
     ///
     /// `NoRoom` if the slice is shorter than what is due, and then nothing changes.
     pub fn ask(&mut self, now: u64, out: &mut [u8]) -> Result<usize, NoRoom> {
@@ -143,9 +145,9 @@ impl Follower {
         })
     }
 
-    /// The first time at which [`Follower::ask`] writes, or finds an answer overdue, if nothing is
-    /// heard before: 0 if it asks at once. `None` if that is past the last time that a `u64`
-    /// counts.
+    /// The first time at which [`Follower::ask`] writes, or finds an answer or the rest of a
+    /// message overdue, if nothing is heard before: 0 if it asks at once. `None` if that is past
+    /// the last time that a `u64` counts.
     pub fn due_at(&self) -> Option<u64> {
         let mut time = 0;
         // SAFETY: the follower was made by `new`, and no other call is under way.

@@ -7,6 +7,7 @@ use dgt::*;
 
 const START: &str = "rnbqkbnr/pppppppp/8/8/8/8/PPPPPPPP/RNBQKBNR";
 const MOVED: &str = "rnbqkbnr/pppppppp/8/8/4P3/8/PPPP1PPP/RNBQKBNR";
+const LIFTED: &str = "rnbqkbnr/pppppppp/8/8/8/8/PPPP1PPP/RNBQKBNR";
 const DOUBLED: &str = "rnbqkbnr/pppppppp/8/8/4P3/8/PPPPPPPP/RNBQKBNR";
 
 fn anew(mode: &str) -> Vec<u8> {
@@ -120,6 +121,27 @@ fn an_overdue_answer_is_a_doubt() {
     assert_eq!((follower.due_at(), asked(&mut follower, 10_999)), (Some(11_000), vec![]));
     assert!(!follower.in_doubt());
     assert_eq!((asked(&mut follower, 11_000), follower.in_doubt()), (vec![], true));
+    assert_eq!((follower.due_at(), asked(&mut follower, 12_500)), (Some(12_500), anew("44")));
+}
+
+#[test]
+fn a_message_that_stays_unfinished_is_a_disturbance() {
+    let (mut follower, mut board) = (Follower::default(), Board::default());
+    for time in [0, 10_000] {
+        let ask = asked(&mut follower, time);
+        follower.hear_all(time, &answers(&mut board, &ask));
+    }
+    assert_eq!((follower.confirmed(), follower.due_at()), (true, Some(20_000)));
+    board.change(Square::parse("e2").unwrap(), Piece::Empty);
+    let update = sent(&mut board);
+    assert_eq!(follower.hear(10_100, &update[..3]).used, 3);
+    follower.hear_all(10_900, b""); // no byte is no news
+    assert_eq!((follower.due_at(), asked(&mut follower, 11_099)), (Some(11_100), vec![]));
+    assert_eq!((follower.confirmed(), follower.in_doubt()), (true, false));
+    assert_eq!((asked(&mut follower, 11_100), follower.due_at()), (vec![], Some(12_500)));
+    assert_eq!((follower.confirmed(), follower.in_doubt()), (false, true));
+    follower.hear_all(11_200, &update[3..]); // the rest is heard as ever
+    assert_eq!((placement(&follower), follower.in_doubt()), (LIFTED.to_string(), true));
     assert_eq!((follower.due_at(), asked(&mut follower, 12_500)), (Some(12_500), anew("44")));
 }
 
