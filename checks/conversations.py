@@ -258,10 +258,10 @@ class FaultyTalk(Ends):
     @rule(wait=WAITS)
     def ask(self, wait: float) -> None:
         self.now += wait
-        due, mode, doubted = self.follower.due_at, self.follower.mode, self.follower.in_doubt
+        due, mode = self.follower.due_at, self.follower.mode
         asked = self.follower.ask(self.now)
-        is_noticed = bool(asked) or self.follower.in_doubt != doubted  # an answer may be overdue
-        same("whether it is due", is_noticed, due is not None and due <= self.now)
+        is_done = bool(asked) or self.follower.due_at != due  # it notes what is overdue
+        same("whether it is due", is_done, due is not None and due <= self.now)
         self.down += asked
         if len(asked) > 1:  # not for the serial number
             self.askings += 1

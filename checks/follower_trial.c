@@ -200,7 +200,7 @@ static uint64_t old_due(void) {
     return world.old.has_asked ? (world.old.asked + wait) * MILLISECOND : 0;
 }
 
-/* When it asks next, or a follower is in doubt from then on, if nothing else happens. */
+/* When it asks next, or a follower notes what is late by then, if nothing else happens. */
 static uint64_t ask_due(void) {
     uint64_t due;
     if (world.kind == OLD) return old_due();
@@ -221,11 +221,11 @@ static void send_asking(uint8_t *asking, size_t n) {
 
 static void ask_follower(void) {
     uint8_t out[DGT_MAX_ASKING];
-    bool is_due = ask_due() <= world.now, was_doubtful = dgt_follower_in_doubt(&world.follower);
+    uint64_t due = ask_due();
     dgt_sent sent = dgt_follower_ask(&world.follower, world.now / MILLISECOND, out, sizeof out);
     check(sent.status == DGT_SENT, "an asking has no room");
-    bool begins_doubt = !was_doubtful && dgt_follower_in_doubt(&world.follower);
-    check((sent.bytes > 0 || begins_doubt) == is_due, "what is due isn't done, or what isn't is");
+    bool is_done = sent.bytes > 0 || (dgt_follower_in_doubt(&world.follower) && ask_due() > due);
+    check(is_done == (due <= world.now), "what is due isn't done, or what isn't is");
     if (sent.bytes == 0) return;
     size_t cut = world.kind == HEARTBEATS && sent.bytes > 2 ? sent.bytes - 3 : 0;
     send_asking(out + cut, cut > 0 ? 2 : sent.bytes);

@@ -188,12 +188,11 @@ class World:
     def ask(self) -> None:
         if self.now < self.ask_due:
             return
-        was_doubtful = self.follower.in_doubt
-        asked = self.follower.ask(self.now // MILLISECOND / 1000)
+        asked, due = self.follower.ask(self.now // MILLISECOND / 1000), self.ask_due
         self.look()
         if asked:
             self.send_asking(asked)
-        elif was_doubtful or not self.follower.in_doubt:
+        elif self.ask_due <= due or not self.follower.in_doubt:
             sys.exit("follower_trial.py: what is due isn't done")
 
     def send_asking(self, asking: bytes) -> None:
