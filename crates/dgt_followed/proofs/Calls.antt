@@ -6,24 +6,25 @@ use Rattle.dgt_host.specs.Host.{HostView, Sends, host_after, host_awaiting}
 use Rattle.dgt_follow.specs.Pace.{KeepsCount, asking_bytes}
 use Rattle.dgt_follow.specs.Follower.{Asks, FollowerView, asking_of, follower_after}
 use Rattle.dgt_link.specs.declared.acts.Outcome.{Outcome}
-use Rattle.dgt_link.specs.Act.{ActContent}
-use Rattle.dgt_link.specs.Faults.{FaultyContent, sends}
+use Rattle.dgt_link.specs.Faults.{sends}
 use Rattle.dgt_link.specs.Step.{moves_nothing}
 use Rattle.dgt_link.specs.View.{LineContents, without_first}
-use Rattle.dgt_followed.specs.Followed.{FollowedStep, FollowedView, Happening, HasRoom, after_writing, clock_count_after, clock_count_after_asking, count_after, count_after_asking, follower_of}
+use Rattle.dgt_followed.specs.Heard.{HeardStep, TimedHappening}
+use Rattle.dgt_followed.specs.Followed.{FollowedView, HasRoom, after_writing, clock_count_after, clock_count_after_asking, count_after, count_after_asking, follower_of}
 use Rattle.dgt_followed.proofs.Acts.{asking_is_acts, fits, prefix_of}
 
 pub ask_happens : (before : FollowedView) (after : FollowerView) (now written : ℕ) (old new : List ℕ)
     → Asks (asking_of (follower_of before) now) now (follower_of before) after old new (Ok written)
     → HasRoom before.world.down (asking_bytes before.pace.mode (asking_of (follower_of before) now))
-    → FollowedStep (Happening.Ask now) before (record {
+    → HeardStep (TimedHappening.Asks now) before (record {
       world = after_writing before.world after.host (take written new);
       pace = after.pace;
       since = count_after_asking (asking_of (follower_of before) now) before.since;
       clock_since = clock_count_after_asking before.pace.mode (asking_of (follower_of before) now) before.clock_since;
     })
 ask_happens before after now written old new asked room =
-    (asking_is_acts (follower_of before) after now written old new before.world asked refl room, asked.1, refl, refl)
+    let done = asking_is_acts (follower_of before) after now written old new before.world asked refl room in
+    ((done, asked.1, refl, refl), tt)
 
 moves_some : (line : LineContents) (count : ℕ) → 0 < count → 0 < length line.bytes
     → moves_nothing count line ≡ false
@@ -35,7 +36,7 @@ pub hear_happens :
     (counts : (follower : FollowerView) (now : ℕ) (bytes : List ℕ)
     → KeepsCount follower.pace (follower_after follower now bytes).pace)
     (before : FollowedView) (now count : ℕ) → 0 < count → 0 < length before.world.up.bytes
-    → FollowedStep (Happening.Other (FaultyContent.Plain (ActContent.ToHost count))) before (record {
+    → HeardStep (TimedHappening.Hears now count) before (record {
       world = record before.world {
         host = (follower_after (follower_of before) now (take count before.world.up.bytes)).host;
         up = without_first before.world.up count;
@@ -48,14 +49,17 @@ hear_happens hosts counts before now count asked some =
     let bytes = take count before.world.up.bytes in
     let kept = counts (follower_of before) now bytes in
     let free = moves_some before.world.up count asked some in (
-      Outcome.Done,
-      record {
-        answers = rw free refl;
-        leaves = ap (λ (h : HostView). record before.world { host = h; up = without_first before.world.up count })
-            (hosts (follower_of before) now bytes);
-      },
-      record { patience = kept.patience; left = kept.left },
-      refl,
+      (
+        Outcome.Done,
+        record {
+          answers = rw free refl;
+          leaves = ap (λ (h : HostView). record before.world { host = h; up = without_first before.world.up count })
+              (hosts (follower_of before) now bytes);
+        },
+        record { patience = kept.patience; left = kept.left },
+        refl,
+        refl,
+      ),
       refl,
     )
 
@@ -64,7 +68,7 @@ pub send_happens : (before : FollowedView) (command : CommandContent) (after : H
     → Sends (record { kind = requested_kind command; bytes = command_encoding command }) before.world.host after old
     new (Ok written)
     → EncodesCommand command (command_encoding command) → HasRoom before.world.down (command_encoding command)
-    → FollowedStep (Happening.Other (sends command)) before (record {
+    → HeardStep (TimedHappening.Acts (sends command)) before (record {
       world = after_writing before.world after (take written new);
       pace = before.pace;
       since = count_after (sends command) before.since;
@@ -75,12 +79,15 @@ send_happens before command after written old new sent encodes room =
     let prefix : take written new ≡ command_encoding command
     = prefix_of (command_encoding command) old new written sent.1 sent.3 in
     let host : after ≡ host_awaiting before.world.host (requested_kind command) = sent.4 in (
-      Outcome.Done,
-      record {
-        answers = rw (sent.0, free) refl;
-        leaves = (encodes, rw (prefix, host) refl);
-      },
-      record { patience = refl; left = refl },
-      refl,
-      refl,
+      (
+        Outcome.Done,
+        record {
+          answers = rw (sent.0, free) refl;
+          leaves = (encodes, rw (prefix, host) refl);
+        },
+        record { patience = refl; left = refl },
+        refl,
+        refl,
+      ),
+      (refl, refl),
     )

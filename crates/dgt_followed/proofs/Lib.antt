@@ -3,3 +3,5 @@ mod Askings
 mod Calls
 mod ClockHeals
 mod Heals
+mod HeardRuns
+mod Sent

@@ -1,2 +1,3 @@
 -- Cited by public contracts.
 pub mod Followed
+pub mod Heard

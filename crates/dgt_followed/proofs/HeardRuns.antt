@@ -1,0 +1,202 @@
+-- What happens to a follower that notes what it hears, and nothing else, are calls of it.
+use Rattle.std.proofs.Common.{◌≡◌, ◌⊎◌, inl, inr, true, false, Option, Some, None, refl, sym, ap, ◌∙◌, ℕ, List, [], ◌∷◌, ◌++◌, append_assoc, append-nil, map, option_to_list}
+use Rattle.dgt_values.specs.declared.kinds.Kind.{Kind}
+use Rattle.dgt_message.specs.Content.{Content}
+use Rattle.dgt_message.specs.Picture.{picture_after_all}
+use Rattle.dgt_command.specs.Content.{CommandContent, requested_kind}
+use Rattle.dgt_host.specs.Confirmed.{confirmed_after_all}
+use Rattle.dgt_host.specs.Host.{HostView, host_awaiting}
+use Rattle.dgt_follow.specs.declared.asking.Asking.{Asking}
+use Rattle.dgt_follow.specs.declared.asking.UpdateMode.{UpdateMode}
+use Rattle.dgt_follow.specs.Calls.{Call, ConfirmedOverCalls, OneStretchIsSeen, bytes_heard, follower_after_call, follower_after_calls}
+use Rattle.dgt_follow.specs.Follower.{FollowerView, asking_of, following, host_after_asking}
+use Rattle.dgt_follow.specs.Pace.{PaceView, mode_command}
+use Rattle.dgt_link.specs.declared.acts.Outcome.{Outcome}
+use Rattle.dgt_link.specs.Act.{ActContent}
+use Rattle.dgt_link.specs.Faults.{FaultyBecomes, FaultyContent, FaultyStep, sends}
+use Rattle.dgt_link.specs.Step.{IfDone}
+use Rattle.dgt_link.specs.View.{WorldView}
+use Rattle.dgt_followed.specs.Followed.{FollowedRuns, FollowedView, RunsDone, asking_acts, follower_of, reading_acts}
+use Rattle.dgt_followed.specs.Heard.{ConfirmedAsDelivered, ConfirmedIsReportedInWorlds, HappeningsAreCalls, HeardRuns, HeardStep, OneStretchIsSeenInWorlds, SentIsReported, TimedHappening, bytes_by, happening_of, is_noticed}
+
+-- ---- calls in a row
+
+bytes_append : (calls more : List Call) → bytes_heard (calls ++ more) ≡ bytes_heard calls ++ bytes_heard more
+bytes_append [] more = refl
+bytes_append (Call.Hears now bytes ∷ calls) more =
+    ap (λ (rest : List ℕ). bytes ++ rest) (bytes_append calls more)
+    ∙ sym (append_assoc bytes (bytes_heard calls) (bytes_heard more))
+bytes_append (call ∷ calls) more = bytes_append calls more
+
+calls_append : (f : FollowerView) (calls more : List Call)
+    → follower_after_calls f (calls ++ more) ≡ follower_after_calls (follower_after_calls f calls) more
+calls_append f [] more = refl
+calls_append f (call ∷ calls) more = calls_append (follower_after_call f call) calls more
+
+-- calls that hear these bytes lead from one follower to the other
+abbrev Leads : FollowerView → List ℕ → FollowerView → Type 0
+Leads before bytes after =
+    (calls : List Call) × (bytes_heard calls ≡ bytes) × (after ≡ follower_after_calls before calls)
+
+in_a_row : (a b c : FollowerView) (bytes more : List ℕ) → Leads a bytes b → Leads b more c → Leads a (bytes ++ more) c
+in_a_row a b c bytes more (calls, heard, e) (others, later, f) = (
+  calls ++ others,
+  bytes_append calls others ∙ rw (heard, later) refl,
+  f ∙ ap (λ (g : FollowerView). follower_after_calls g others) e ∙ sym (calls_append a calls others),
+)
+
+same_follower : (host host' : HostView) (pace pace' : PaceView) → host ≡ host' → pace ≡ pace'
+    → following host pace ≡ following host' pace'
+same_follower host host' pace pace' e f = rw (e, f) refl
+
+-- ---- the host after what it asks
+
+sent_host : (command : CommandContent) (world after : WorldView) → FaultyStep (sends command) world Outcome.Done after
+    → after.host ≡ host_awaiting world.host (requested_kind command)
+sent_host command world after step = ap (λ (w : WorldView). w.host) step.leaves.1
+
+awaiting_none : (host : HostView) → host_awaiting host None ≡ host
+awaiting_none host = ap (λ (kinds : List Kind). record host { awaited = kinds }) (append-nil host.awaited)
+
+mode_host : (mode : UpdateMode) (world after : WorldView)
+    → FaultyStep (sends (mode_command mode)) world Outcome.Done after → after.host ≡ world.host
+mode_host UpdateMode.Squares world after step =
+    sent_host CommandContent.UpdateBoard world after step ∙ awaiting_none world.host
+mode_host UpdateMode.Clock world after step =
+    sent_host CommandContent.Update world after step ∙ awaiting_none world.host
+mode_host UpdateMode.ClockChanges world after step =
+    sent_host CommandContent.UpdateNice world after step ∙ awaiting_none world.host
+
+clock_host : (world after : WorldView) → RunsDone (sends CommandContent.Clock ∷ []) world after
+    → after.host ≡ world.host
+clock_host world after (between, step, same) =
+    ap (λ (w : WorldView). w.host) same ∙ sent_host CommandContent.Clock world between step
+    ∙ awaiting_none world.host
+
+reading_host : (mode : UpdateMode) (world after : WorldView) → RunsDone (reading_acts mode) world after
+    → after.host ≡ world.host
+reading_host UpdateMode.Squares world after same = ap (λ (w : WorldView). w.host) same
+reading_host UpdateMode.Clock world after runs = clock_host world after runs
+reading_host UpdateMode.ClockChanges world after runs = clock_host world after runs
+
+asked_host : (mode : UpdateMode) (what : Asking) (world after : WorldView)
+    → RunsDone (asking_acts mode what) world after → after.host ≡ host_after_asking what world.host
+asked_host mode Asking.Nothing world after same = ap (λ (w : WorldView). w.host) same
+asked_host mode Asking.Identify world after (between, step, same) =
+    ap (λ (w : WorldView). w.host) same ∙ sent_host CommandContent.Serial world between step
+asked_host mode Asking.Heartbeat world after (first, step, (second, dump, later)) =
+    reading_host mode second after later ∙ sent_host CommandContent.Dump first second dump
+    ∙ ap (λ (host : HostView). host_awaiting host (Some Kind.Dump)) (mode_host mode world first step)
+asked_host mode Asking.Anew world after (first, step, (second, told, later)) =
+    reading_host mode second after later ∙ mode_host mode first second told
+    ∙ ap (λ (w : WorldView). w.host) step.leaves
+
+-- ---- the host after any other act
+
+kept : (answer : Outcome) (act : FaultyContent) (world after : WorldView)
+    → (FaultyBecomes act world after → after.host ≡ world.host)
+    → IfDone answer (FaultyBecomes act world after) (after ≡ world) → after.host ≡ world.host
+kept Outcome.Done act world after keeps leaves = keeps leaves
+kept _ act world after keeps same = ap (λ (w : WorldView). w.host) same
+
+-- an act that leaves the host as it is, or a command that it sends
+abbrev IsLike : HostView → HostView → Type 0
+IsLike before after = (after ≡ before) ⊎ ((kind : Option Kind) × (after ≡ host_awaiting before kind))
+
+sent_like : (answer : Outcome) (command : CommandContent) (world after : WorldView)
+    → IfDone answer (FaultyBecomes (sends command) world after) (after ≡ world) → IsLike world.host after.host
+sent_like Outcome.Done command world after leaves =
+    inr (requested_kind command, ap (λ (w : WorldView). w.host) leaves.1)
+sent_like _ command world after same = inl (ap (λ (w : WorldView). w.host) same)
+
+act_like : (act : FaultyContent) (world after : WorldView) (answer : Outcome) → is_noticed act ≡ false
+    → FaultyStep act world answer after → IsLike world.host after.host
+act_like (FaultyContent.Plain (ActContent.Host command)) world after answer unseen step =
+    sent_like answer command world after step.leaves
+act_like (FaultyContent.Plain (ActContent.Change square piece)) world after answer unseen step =
+    inl (kept answer (FaultyContent.Plain (ActContent.Change square piece)) world after
+    (λ same. ap (λ (w : WorldView). w.host) same) step.leaves)
+act_like (FaultyContent.Plain (ActContent.ClockRead clock)) world after answer unseen step =
+    inl (kept answer (FaultyContent.Plain (ActContent.ClockRead clock)) world after
+    (λ same. ap (λ (w : WorldView). w.host) same) step.leaves)
+act_like (FaultyContent.Plain ActContent.BoardSend) world after answer unseen step =
+    inl (kept answer (FaultyContent.Plain ActContent.BoardSend) world after
+    (λ leaves. ap (λ (w : WorldView). w.host) leaves.3) step.leaves)
+act_like (FaultyContent.Plain (ActContent.ToBoard count)) world after answer unseen step =
+    inl (kept answer (FaultyContent.Plain (ActContent.ToBoard count)) world after
+    (λ delivers. ap (λ (w : WorldView). w.host) delivers.leaves) step.leaves)
+act_like (FaultyContent.GarbleUp bytes) world after answer unseen step =
+    inl (kept answer (FaultyContent.GarbleUp bytes) world after
+    (λ same. ap (λ (w : WorldView). w.host) same) step.leaves)
+act_like (FaultyContent.GarbleDown bytes) world after answer unseen step =
+    inl (kept answer (FaultyContent.GarbleDown bytes) world after
+    (λ leaves. ap (λ (w : WorldView). w.host) leaves.1) step.leaves)
+act_like FaultyContent.BoardLost world after answer unseen step =
+    inl (kept answer FaultyContent.BoardLost world after
+    (λ same. ap (λ (w : WorldView). w.host) same) step.leaves)
+act_like (FaultyContent.Plain (ActContent.ToHost count)) world after answer unseen step = cc
+act_like (FaultyContent.Plain ActContent.Break) world after answer unseen step = cc
+act_like (FaultyContent.Plain ActContent.HostBreak) world after answer unseen step = cc
+act_like FaultyContent.Restart world after answer unseen step = cc
+act_like FaultyContent.GiveUp world after answer unseen step = cc
+
+act_leads : (before after : FollowedView) → IsLike before.world.host after.world.host → after.pace ≡ before.pace
+    → Leads (follower_of before) [] (follower_of after)
+act_leads before after (inl same) pace =
+    ([], refl, same_follower after.world.host before.world.host after.pace before.pace same pace)
+act_leads before after (inr (kind, sent)) pace = (
+  Call.Sends kind ∷ [],
+  refl,
+  same_follower after.world.host (host_awaiting before.world.host kind) after.pace before.pace sent pace,
+)
+
+-- ---- all that happens
+
+step_leads : (happening : TimedHappening) (before after : FollowedView) → HeardStep happening before after
+    → Leads (follower_of before) (bytes_by happening before) (follower_of after)
+step_leads (TimedHappening.Asks now) before after ((runs, pace, since, clock_since), notes) =
+    let what = asking_of (follower_of before) now in (
+      Call.Asks now ∷ [],
+      refl,
+      same_follower after.world.host (host_after_asking what before.world.host) after.pace _
+          (asked_host before.pace.mode what before.world after.world runs) pace,
+    )
+step_leads (TimedHappening.Hears now count) before after (step, heard) =
+    (Call.Hears now _ ∷ [], append-nil _, heard)
+step_leads (TimedHappening.Acts act) before after ((answer, step, keeps, since, clock_since), (unseen, pace)) =
+    act_leads before after (act_like act before.world after.world answer unseen step) pace
+
+pub are_calls : HappeningsAreCalls
+are_calls [] said bytes before after (silent, none, same) = rw (none, same) ([], refl, refl)
+are_calls (happening ∷ later) said bytes before after (between, more, rest, step, runs, sent, whole) =
+    rw whole (in_a_row (follower_of before) (follower_of between) (follower_of after) (bytes_by happening before) rest
+    (step_leads happening before between step) (are_calls later more rest between after runs))
+
+pub are_followed : (happenings : List TimedHappening) (said : List Content) (bytes : List ℕ)
+    (before after : FollowedView) → HeardRuns happenings said bytes before after
+    → FollowedRuns (map happening_of happenings) before after
+are_followed [] said bytes before after (silent, none, same) = same
+are_followed (happening ∷ later) said bytes before after (between, more, rest, step, runs, sent, whole) =
+    (between, step.0, are_followed later more rest between after runs)
+
+pub confirmed_as_delivered : ConfirmedOverCalls → ConfirmedAsDelivered
+confirmed_as_delivered called happenings said bytes before after held runs =
+    let (calls, heard, e) = are_calls happenings said bytes before after runs in
+    rw (heard, ← e) at (called (follower_of before) calls held)
+
+pub one_stretch_in_worlds : OneStretchIsSeen → OneStretchIsSeenInWorlds
+one_stretch_in_worlds stretch happenings sent said bytes before after reported is runs restated confirmed =
+    let (calls, all, e) = are_calls happenings sent bytes before after runs in
+    let sure : (follower_after_calls (follower_of before) calls).pace.confirmed ≡ true = rw (← e) confirmed in
+    let again : confirmed_after_all false (Some reported) (is.first ++ option_to_list is.meant ++ is.last) ≡ true
+    = rw is.said_is at restated in
+    ap (λ (f : FollowerView). f.host.picture) e
+    ∙ stretch (follower_of before) calls reported is.first is.last is.stretch is.meant is.heard is.first_are is.last_are
+    is.whole is.unconfirmed is.right is.says (all ∙ is.bytes_are) again sure
+    ∙ ap (λ (m : List Content). picture_after_all (Some reported) m) (sym is.said_is)
+
+pub confirmed_is_reported : OneStretchIsSeen → SentIsReported → ConfirmedIsReportedInWorlds
+confirmed_is_reported stretch reports happenings said bytes before after is powered runs restated confirmed =
+    one_stretch_in_worlds stretch happenings said said bytes before after before.world.board.state.reported_squares is
+    runs restated confirmed
+    ∙ sym (reports happenings said bytes before after powered runs)

@@ -1,0 +1,18 @@
+use Rattle.dgt_followed.proofs.HeardRuns.{are_calls, confirmed_as_delivered, confirmed_is_reported, one_stretch_in_worlds}
+use Rattle.dgt_followed.proofs.Sent.{sent_is_reported}
+use Rattle.dgt_followed.proofs.worlds_confirm_as_delivered.Goals as goal
+
+pub returns-clause-calls : goal.returns-clause-calls
+returns-clause-calls c = are_calls
+
+pub returns-clause-confirmed : goal.returns-clause-confirmed
+returns-clause-confirmed c = confirmed_as_delivered c.confirmed_as_heard.ensures.called
+
+pub returns-clause-one_stretch : goal.returns-clause-one_stretch
+returns-clause-one_stretch c = one_stretch_in_worlds c.one_stretch_is_seen.ensures
+
+pub returns-clause-sent : goal.returns-clause-sent
+returns-clause-sent c = sent_is_reported
+
+pub returns-clause-reported : goal.returns-clause-reported
+returns-clause-reported c = confirmed_is_reported c.one_stretch_is_seen.ensures sent_is_reported
