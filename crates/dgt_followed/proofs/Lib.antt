@@ -1,7 +1,14 @@
 mod Acts
 mod Askings
+mod Beginning
 mod Calls
 mod ClockHeals
 mod Heals
 mod HeardRuns
+mod Prefixes
+mod Restating
 mod Sent
+mod SoundRuns
+mod SoundWorlds
+mod Undoubted
+mod Unreported

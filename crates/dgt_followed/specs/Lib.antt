@@ -1,3 +1,4 @@
 -- Cited by public contracts.
 pub mod Followed
 pub mod Heard
+pub mod Restated

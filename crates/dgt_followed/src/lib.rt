@@ -11,6 +11,12 @@
 //! delivered to it, and confirmed only if they confirm it, whatever else happens. After one stretch
 //! of faulty bytes a picture that both sides confirm is what the board has reported.
 //!
+//! [`sound_lines_raise_no_doubt`] says that without faults nothing that a follower hears is a
+//! doubt, if the board has reported each change of a square before it sends a dump.
+//! [`sound_worlds_raise_no_doubt`] says the same of a world's bytes, and that a follower which asks
+//! in time is never in doubt there. [`unreported_changes_are_doubts`] says why the premise is
+//! needed.
+//!
 //! `FollowedRuns` of `specs/Followed.antt` is what happens to a world and a follower's pace, one
 //! thing after another: the follower asks at some time, or anything else is done. No premise is
 //! about time: an asking that isn't due writes nothing and isn't counted. `HeardRuns` of
@@ -18,25 +24,33 @@
 //! dgt_follow has an example of a program that asks.
 #![tactic(auto)]
 
-ghost use Rattle.std.specs.Prelude.{◌≡◌, ◌≢◌, ◌⊎◌, ◌<◌, ◌≤◌, ◌+◌, [], ◌∷◌, ◌++◌, ℕ, List, Option, Some, length, map, option_to_list, take, false, true};
+ghost use Rattle.std.specs.Prelude.{◌≡◌, ◌≢◌, ◌⊎◌, ◌<◌, ◌≤◌, ◌+◌, [], ◌∷◌, ◌++◌, ℕ, List, Option, None, Some, length, map, option_to_list, slice_set, take, false, true};
 ghost use Rattle.std.specs.List.{AllByRecursion, flat_map};
+ghost use Rattle.dgt_values.specs.declared.kinds.Kind.{Kind};
 ghost use Rattle.dgt_values.specs.declared.pieces.Piece.{Piece};
 ghost use Rattle.dgt_message.specs.Content.{Content, IsMessage};
 ghost use Rattle.dgt_message.specs.Encoding.{encoding};
 ghost use Rattle.dgt_command.specs.Content.{CommandContent, requested_kind};
 ghost use Rattle.dgt_command.specs.Encoding.{EncodesCommand, command_encoding};
-ghost use Rattle.dgt_decode.specs.Grammar.{events};
+ghost use Rattle.dgt_decode.specs.Grammar.{Event, events};
+ghost use Rattle.dgt_board.specs.declared.replies.Reply.{Reply};
 ghost use Rattle.dgt_board.specs.Sending.{next_message};
+ghost use Rattle.dgt_board.specs.State.{BoardState};
 ghost use Rattle.dgt_host.specs.Confirmed.{IsRight, messages};
 ghost use Rattle.dgt_host.specs.Host.{HostView, Sends};
-ghost use Rattle.dgt_follow.specs.Pace.{asking_bytes};
-ghost use Rattle.dgt_follow.specs.Follower.{Asks, FollowerView, asking_of, follower_after};
+ghost use Rattle.dgt_follow.specs.Pace.{PaceView, asking_bytes, is_overdue, is_stuck, is_unanswered, pace_after_asking, pace_after_event, pace_at};
+ghost use Rattle.dgt_follow.specs.Follower.{Asks, FollowerView, asking_of, follower_after, follower_after_event, new_follower};
 ghost use Rattle.dgt_followed.specs.Followed.{AfterAskings, FollowedRuns, FollowedStep, FollowedView, Happening, HasRoom, RunsDone, after_writing, asking_acts, clock_count_after, clock_count_after_asking, count_after, count_after_asking, follower_of, unsettles};
 ghost use Rattle.dgt_followed.specs.Heard.{ConfirmedAsDelivered, ConfirmedIsReportedInWorlds, HappeningsAreCalls, HeardRuns, HeardStep, IsOneStretch, KeepsPower, OneStretchIsSeenInWorlds, SentIsReported, TimedHappening, bytes_by, happening_of, is_noticed, sent_by};
+ghost use Rattle.dgt_followed.specs.Restated.{ActsAtRest, AllRestate, DumpsAtRest, HasNoDoubt, IsAtRest, IsRestatedWorld, IsSoundHappening, RunsAtRest, SendsAtRest, SoundRuns};
 ghost use Rattle.dgt_link.specs.Act.{ActContent};
 ghost use Rattle.dgt_link.specs.Clocks.{IsClockPromisedWorld, stops_clock};
 ghost use Rattle.dgt_link.specs.Faults.{FaultyContent, FaultyStep, is_fault, sends, stops};
 ghost use Rattle.dgt_link.specs.Healing.{IsPromisedWorld, IsSane};
+ghost use Rattle.dgt_link.specs.Machine.{MachineState, Move, after_move, after_moves};
+ghost use Rattle.dgt_link.specs.Sound.{IsExact, IsSound};
+ghost use Rattle.dgt_link.specs.Stands.{IsExactWorld, StandsFor};
+ghost use Rattle.dgt_link.specs.Step.{Step};
 ghost use Rattle.dgt_follow.specs.declared.asking.Asking.{Asking};
 ghost use Rattle.dgt_follow.specs.declared.asking.UpdateMode.{UpdateMode};
 ghost use Rattle.dgt_link.specs.declared.acts.Outcome.{Outcome};
@@ -158,6 +172,144 @@ pub fn askings_count()
     ensures runs { (happening : Happening) (later : List Happening)
         (before between after : FollowedView) → FollowedStep happening before between →
         FollowedRuns later between after → FollowedRuns (happening ∷ later) before after }
+{}
+
+/// Without faults no dump contradicts the picture, if no square has changed unreported when a dump
+/// is sent. So nothing that a follower hears is a doubt. An asking adds none, if no answer is
+/// overdue, no message has been unfinished for a second, and no dump is owed when it asks for one.
+pub fn sound_lines_raise_no_doubt()
+    ensures restated { (x : MachineState) (moves : List Move) → IsSound x →
+        AllRestate x.picture x.up → DumpsAtRest x moves → let after = after_moves x moves in
+        AllRestate after.picture after.up }
+    ensures heard { (x : MachineState) (follower : FollowerView) (now : ℕ) (said : Content)
+        (later : List Content) → IsExact x → AllRestate x.picture x.up → x.up ≡ said ∷ later →
+        follower.host.picture ≡ x.picture → follower.host.awaited ≡ x.awaited →
+        HasNoDoubt follower.pace →
+        let after = follower_after_event follower now (Event.Message said) in
+        HasNoDoubt after.pace × (after.host.picture ≡ (after_move x Move.Hear).picture)
+        × (after.host.awaited ≡ (after_move x Move.Hear).awaited) }
+    ensures asked { (what : Asking) (pace : PaceView) (now : ℕ) → HasNoDoubt pace →
+        is_overdue pace now ≡ false → is_stuck pace now ≡ false →
+        (what ≡ Asking.Nothing) ⊎ ((what ≡ Asking.Identify) ⊎ (is_unanswered pace ≡ false)) →
+        HasNoDoubt (pace_after_asking what (pace_at pace now) now) }
+{
+    dgt_link::laws::moves_keep();
+    dgt_link::laws::answers_in_order();
+}
+
+/// A square that has changed unreported when a dump is sent makes that dump a doubt, without any
+/// fault. The next dump that is awaited and repeats the picture ends it.
+pub fn unreported_changes_are_doubts()
+    ensures raised { (x : MachineState) (pace : PaceView) (now : ℕ) (later : List Reply) →
+        x.up ≡ [] → x.board.owed ≡ Reply.Of Kind.Dump ∷ later →
+        x.picture ≡ Some x.board.reported_squares → x.board.squares ≢ x.board.reported_squares →
+        let sent = after_move x Move.Reply in
+        (sent.up ≡ Content.dump x.board.squares ∷ [])
+        × ((pace_after_event pace now sent.awaited sent.picture
+        (Event.Message (Content.dump x.board.squares))).doubtful ≡ true) }
+    ensures ended { (pace : PaceView) (now : ℕ) (pieces : List Piece) (later : List Kind) →
+        (pace_after_event pace now (Kind.Dump ∷ later) (Some pieces)
+        (Event.Message (Content.dump pieces))).doubtful ≡ false }
+{}
+
+/// What the words of these laws come to. The first dump restates an unknown picture, and any other
+/// the picture that the messages before it leave. A dump alone is sent at rest only if each change
+/// of a square has been reported. What is asked for of one move is asked for of each. A follower
+/// just made is in no doubt.
+pub fn dumps_restate()
+    ensures unknown { (pieces : List Piece) →
+        AllRestate None (Content.dump pieces ∷ Content.dump pieces ∷ []) }
+    ensures known { (pieces : List Piece) (square : ℕ) (piece : Piece) →
+        AllRestate (Some pieces) (Content.field square piece
+        ∷ Content.dump (slice_set pieces square piece) ∷ []) }
+    ensures other { (pieces others : List Piece) →
+        AllRestate None (Content.dump pieces ∷ Content.dump others ∷ []) → pieces ≡ others }
+    ensures rests { (board : BoardState) (later : List Reply) →
+        IsAtRest board (Reply.Of Kind.Dump ∷ later) → board.squares ≡ board.reported_squares }
+    ensures rested { (board : BoardState) (later : List Reply) →
+        board.squares ≡ board.reported_squares → IsAtRest board (Reply.Of Kind.Dump ∷ later) }
+    ensures others { (board : BoardState) (later : List Reply) →
+        IsAtRest board (Reply.Of Kind.Serial ∷ Reply.Of Kind.Dump ∷ later) }
+    ensures reply { (x : MachineState) → SendsAtRest x Move.Reply → IsAtRest x.board x.board.owed }
+    ensures report { (x : MachineState) (square : ℕ) → SendsAtRest x (Move.Report square) }
+    ensures each { (x : MachineState) (move : Move) → DumpsAtRest x (Move.Take ∷ move ∷ []) →
+        SendsAtRest (after_move x Move.Take) move }
+    ensures all { (x : MachineState) (move : Move) → SendsAtRest (after_move x Move.Take) move →
+        DumpsAtRest x (Move.Take ∷ move ∷ []) }
+    ensures calm { (pace : PaceView) → pace.doubtful ≡ false → pace.disturbed ≡ false →
+        HasNoDoubt pace }
+    ensures no_doubt { (pace : PaceView) → HasNoDoubt pace →
+        (pace.doubtful ≡ false) × (pace.disturbed ≡ false) }
+    ensures just_made { (period patience : ℕ) (mode : UpdateMode) →
+        HasNoDoubt (new_follower period patience mode).pace }
+{}
+
+/// The same of the bytes of a world without faults, while it stands for an exact state. In one in
+/// which nothing is under way to the host each dump under way restates the picture. That stays so
+/// by any acts but `HostBreak`, if no square has changed unreported when a dump is sent. While it
+/// is so, no bytes that a follower hears are a doubt, in whatever chunks they are delivered. So a
+/// follower that asks in time is never in doubt there.
+pub fn sound_worlds_raise_no_doubt()
+    ensures begun { (world : WorldView) → IsExactWorld world → world.host.unread ≡ [] →
+        world.up.bytes ≡ [] → IsRestatedWorld world }
+    ensures kept { (acts : List ActContent) (world after : WorldView) (answers : List Outcome) →
+        AllByRecursion (λ act. act ≢ ActContent.HostBreak) acts → IsRestatedWorld world →
+        RunsAtRest acts world answers after → IsRestatedWorld after }
+    ensures heard { (world : WorldView) (follower : FollowerView) (now count : ℕ) →
+        IsRestatedWorld world → follower.host ≡ world.host → HasNoDoubt follower.pace →
+        HasNoDoubt (follower_after follower now (take count world.up.bytes)).pace }
+    ensures always { (happenings : List TimedHappening) (before after : FollowedView) →
+        IsRestatedWorld before.world → HasNoDoubt before.pace →
+        SoundRuns happenings before after →
+        IsRestatedWorld after.world × HasNoDoubt after.pace }
+{
+    dgt_link::laws::acts_are_moves();
+    dgt_link::laws::picture_after_moves();
+    dgt_link::laws::moves_keep();
+    dgt_link::laws::answers_in_order();
+    dgt_decode::laws::events_append();
+    dgt_decode::laws::unfinished_append();
+    dgt_decode::laws::quiet_held();
+    dgt_decode::laws::encoding_is_read();
+    dgt_command::laws::divisions_append();
+    dgt_command::laws::zeros_settle_the_reader();
+    dgt_command::laws::parts_of_words();
+}
+
+/// What the words of that law come to. It asks of a sending of the board that a dump is sent at
+/// rest, and nothing of another act. A follower asks in time if no answer is owed, nothing is
+/// awaited and no message has been unfinished for a second. What it hears is no matter, and a fault
+/// is not sound.
+pub fn happenings_are_sound()
+    ensures world { (world : WorldView) (is : IsRestatedWorld world) →
+        StandsFor world is.state × IsExact is.state × AllRestate is.state.picture is.state.up }
+    ensures sends { (world : WorldView) → ActsAtRest ActContent.BoardSend world →
+        IsAtRest world.board.state world.board.state.owed }
+    ensures moves { (world : WorldView) (count : ℕ) → ActsAtRest (ActContent.ToHost count) world }
+    ensures step { (act : ActContent) (world after : WorldView) (answer : Outcome) →
+        Step act world answer after → ActsAtRest act world →
+        RunsAtRest (act ∷ []) world (answer ∷ []) after }
+    ensures rests { (act : ActContent) (world after : WorldView) (answer : Outcome) →
+        RunsAtRest (act ∷ []) world (answer ∷ []) after → ActsAtRest act world }
+    ensures in_time { (now : ℕ) (before : FollowedView) → is_unanswered before.pace ≡ false →
+        is_stuck before.pace now ≡ false → before.world.host.awaited ≡ [] →
+        IsSoundHappening (TimedHappening.Asks now) before }
+    ensures early { (now : ℕ) (before : FollowedView) →
+        IsSoundHappening (TimedHappening.Asks now) before →
+        (is_overdue before.pace now ≡ false) × (is_stuck before.pace now ≡ false) }
+    ensures hears { (now count : ℕ) (before : FollowedView) →
+        IsSoundHappening (TimedHappening.Hears now count) before }
+    ensures acts { (act : ActContent) (before : FollowedView) → ActsAtRest act before.world →
+        IsSoundHappening (TimedHappening.Acts (FaultyContent.Plain act)) before }
+    ensures fault { (bytes : List ℕ) (before : FollowedView) →
+        ¬ (IsSoundHappening (TimedHappening.Acts (FaultyContent.GarbleUp bytes)) before) }
+    ensures no_runs { (followed : FollowedView) → SoundRuns [] followed followed }
+    ensures runs { (happening : TimedHappening) (later : List TimedHappening)
+        (before between after : FollowedView) → HeardStep happening before between →
+        IsSoundHappening happening before → SoundRuns later between after →
+        SoundRuns (happening ∷ later) before after }
+    ensures each { (happening : TimedHappening) (before after : FollowedView) →
+        SoundRuns (happening ∷ []) before after → IsSoundHappening happening before }
 {}
 
 /// What is delivered to a follower in a world that may fail is what it hears, whatever else

@@ -1,0 +1,142 @@
+-- In a world without faults each dump restates the picture, and what a follower hears is no doubt.
+use Rattle.std.proofs.Common.{◌≡◌, ◌≢◌, refl, sym, ℕ, zero, suc, List, [], ◌∷◌, ◌++◌, replicate, take, drop, map}
+use Rattle.std.specs.List.{AllByRecursion}
+use Rattle.dgt_message.specs.Content.{Content}
+use Rattle.dgt_decode.specs.Grammar.{Event, Message, Placed, events}
+use Rattle.dgt_decode.specs.Laws.{EncodingIsRead, EventsAppend, QuietHeld, UnfinishedAppend}
+use Rattle.dgt_board.specs.State.{BoardState}
+use Rattle.dgt_follow.specs.Follower.{FollowerView, follower_after, follower_after_event, follower_after_events}
+use Rattle.dgt_link.specs.declared.acts.Outcome.{Outcome}
+use Rattle.dgt_link.specs.Act.{ActContent}
+use Rattle.dgt_link.specs.Machine.{IsHostBreak, IsSending, MachineState, Move, after_move, after_moves}
+use Rattle.dgt_link.specs.Sound.{IsExact, IsSound}
+use Rattle.dgt_link.specs.Stands.{AreMovesOfAct, AreMovesOfStep, IsExactWorld, StandsAfterStep, StandsFor}
+use Rattle.dgt_link.specs.Step.{Step}
+use Rattle.dgt_link.specs.View.{WorldView}
+use Rattle.dgt_link.proofs.Asking.{step_is_other}
+use Rattle.dgt_link.proofs.Counting.{nothing_said}
+use Rattle.dgt_link.proofs.Standing.{prefix_of}
+use Rattle.dgt_followed.specs.Restated.{ActsAtRest, DumpsAtRest, HasNoDoubt, IsAtRest, IsRestatedWorld, RunsAtRest, SendsAtRest, StepAtRest}
+use Rattle.dgt_followed.proofs.Prefixes.{known, said_by_prefix}
+use Rattle.dgt_followed.proofs.Restating.{Restates, move_restates, moves_restate}
+use Rattle.dgt_followed.proofs.Undoubted.{FirstIsAwaited, hears_as_the_machine}
+
+-- ---- the moves of acts
+
+all_at_rest : (count : ℕ) (move : Move) → ((x : MachineState) → SendsAtRest x move) → (x : MachineState)
+    → DumpsAtRest x (replicate count move)
+all_at_rest zero move rests x = tt
+all_at_rest (suc count) move rests x = (rests x, all_at_rest count move rests (after_move x move))
+
+sending_rests : (x : MachineState) (board : BoardState) (move : Move) → board ≡ x.board → IsSending move
+    → IsAtRest board board.owed → SendsAtRest x move
+sending_rests x board Move.Reply same sending rest = rw same at rest
+sending_rests x board (Move.Report square) same sending rest = tt
+sending_rests x board Move.ReportClock same sending rest = tt
+sending_rests x board _ same none rest = absurd none
+
+act_rests : (act : ActContent) (world : WorldView) (x : MachineState) (moves : List Move)
+    → world.board.state ≡ x.board → ActsAtRest act world → AreMovesOfAct act moves → DumpsAtRest x moves
+act_rests (ActContent.Change square piece) world x moves same rest e = rw e (tt, tt)
+act_rests (ActContent.ClockRead clock) world x moves same rest e = rw e (tt, tt)
+act_rests (ActContent.Host command) world x moves same rest e = rw e (tt, tt)
+act_rests ActContent.BoardSend world x moves same rest (move, sending, e) =
+    rw e (sending_rests x world.board.state move same sending rest, tt)
+act_rests (ActContent.ToBoard bytes) world x moves same rest (count, e) =
+    rw e (all_at_rest count Move.Take (λ y. tt) x)
+act_rests (ActContent.ToHost bytes) world x moves same rest (count, e) =
+    rw e (all_at_rest count Move.Hear (λ y. tt) x)
+act_rests ActContent.Break world x moves same rest e = rw e (tt, tt)
+act_rests ActContent.HostBreak world x moves same rest (noise, is_noise, e) = rw e (tt, tt)
+
+step_rests : (answer : Outcome) (act : ActContent) (world : WorldView) (x : MachineState) (moves : List Move)
+    → world.board.state ≡ x.board → ActsAtRest act world → AreMovesOfStep act answer moves → DumpsAtRest x moves
+step_rests Outcome.Done act world x moves same rest are = act_rests act world x moves same rest are
+step_rests _ act world x moves same rest e = rw e tt
+
+-- ---- acts
+
+abbrev pub ActsAreMoves : Type 0
+ActsAreMoves =
+    (act : ActContent) (world after : WorldView) (answer : Outcome) (x : MachineState) → StandsFor world x
+    → Step act world answer after → StandsAfterStep act answer x after
+
+abbrev pub MovesStayExact : Type 0
+MovesStayExact =
+    (x : MachineState) (moves : List Move) → AllByRecursion (λ move. ¬ (IsHostBreak move)) moves → IsExact x
+    → IsExact (after_moves x moves)
+
+module _ (reach : ActsAreMoves) (exact : MovesStayExact)
+    (sound : (x : MachineState) (move : Move) → IsSound x → IsSound (after_move x move)) where
+  pub act_restates : (act : ActContent) (world after : WorldView) (answer : Outcome) → act ≢ ActContent.HostBreak
+      → IsRestatedWorld world → StepAtRest act world answer after → IsRestatedWorld after
+  act_restates act world after answer other is step =
+      let (moves, are, stands) = reach act world after answer is.state is.stands step.step in
+      record {
+        state = after_moves is.state moves;
+        stands = stands;
+        exact = exact is.state moves (step_is_other act answer moves other are) is.exact;
+        restates = moves_restate sound is.state moves is.exact.sound is.restates
+            (step_rests answer act world is.state moves is.stands.board step.rests are);
+      }
+
+  pub acts_restate : (acts : List ActContent) (world after : WorldView) (answers : List Outcome)
+      → AllByRecursion (λ act. act ≢ ActContent.HostBreak) acts → IsRestatedWorld world
+      → RunsAtRest acts world answers after → IsRestatedWorld after
+  acts_restate [] world after [] others is same = rw same is
+  acts_restate (act ∷ acts) world after (answer ∷ answers) others is (between, step, runs) =
+      acts_restate acts between after answers others.1
+      (act_restates act world between answer others.0 is step) runs
+  acts_restate _ world after _ others is none = absurd none
+
+-- nothing is under way
+pub nothing_to_restate : (world : WorldView) → IsExactWorld world → world.host.unread ≡ [] → world.up.bytes ≡ []
+    → IsRestatedWorld world
+nothing_to_restate world is unread up =
+    let none : is.state.up ≡ []
+    = nothing_said is.state.up (sym (rw (unread, up) at is.stands.up.in_a_row)) in
+    record { state = is.state; stands = is.stands; exact = is.exact; restates = rw none tt }
+
+-- ---- what the follower hears
+
+same_first : (x y : Event) (xs ys : List Event) → x ∷ xs ≡ y ∷ ys → x ≡ y
+same_first x y xs ys e = cc
+
+same_rest : (x y : Event) (xs ys : List Event) → x ∷ xs ≡ y ∷ ys → xs ≡ ys
+same_rest x y xs ys e = cc
+
+module _ (first : FirstIsAwaited)
+    (exact : (x : MachineState) (move : Move) → ¬ (IsHostBreak move) → IsExact x → IsExact (after_move x move))
+  where
+    hears_messages : (heard left : List Content) (xs : List Placed) (x : MachineState) (follower : FollowerView)
+        (now : ℕ) → known xs ≡ map Message heard → IsExact x → Restates x → x.up ≡ heard ++ left
+        → follower.host.picture ≡ x.picture → follower.host.awaited ≡ x.awaited → HasNoDoubt follower.pace
+        → HasNoDoubt (follower_after_events follower now xs).pace
+    hears_messages [] left [] x follower now are is all up picture awaited calm = calm
+    hears_messages [] left (y ∷ ys) x follower now are is all up picture awaited calm = cc
+    hears_messages (said ∷ heard) left [] x follower now are is all up picture awaited calm = cc
+    hears_messages (said ∷ heard) left (y ∷ ys) x follower now are is all up picture awaited calm =
+        let step = hears_as_the_machine first x follower now said (heard ++ left) is all up picture awaited calm in
+        let event : y.event ≡ Message said = same_first y.event (Message said) (known ys) (map Message heard) are in
+        let others : known ys ≡ map Message heard
+        = same_rest y.event (Message said) (known ys) (map Message heard) are in
+        let later : HasNoDoubt (follower_after_events (follower_after_event follower now (Message said)) now ys).pace
+        = hears_messages heard left ys (after_move x Move.Hear) (follower_after_event follower now (Message said)) now
+        others (exact x Move.Hear (λ h. h) is) (move_restates x Move.Hear is.sound all tt) (rw up refl) step.1 step.2
+        step.0 in
+        rw event later
+
+    module _ (append : EventsAppend) (still : UnfinishedAppend) (quiet : QuietHeld) (read : EncodingIsRead) where
+      pub delivery_is_no_doubt : (world : WorldView) (follower : FollowerView) (now count : ℕ) → IsRestatedWorld world
+          → follower.host ≡ world.host → HasNoDoubt follower.pace
+          → HasNoDoubt (follower_after follower now (take count world.up.bytes)).pace
+      delivery_is_no_doubt world follower now count is same calm =
+          let prefix : List ℕ = world.host.unread ++ take count world.up.bytes in
+          let says = said_by_prefix append still quiet read prefix (drop count world.up.bytes) is.state.up
+          (rw (prefix_of world.host.unread world.up.bytes count) at is.stands.up) in
+          let heard : HasNoDoubt (follower_after_events follower now (events prefix)).pace
+          = hears_messages says.heard says.left (events prefix) is.state follower now says.known_are is.exact
+          is.restates says.all (rw same is.stands.picture) (rw same is.stands.awaited) calm in
+          let calm_then : HasNoDoubt (follower_after_events follower now
+          (events (follower.host.unread ++ take count world.up.bytes))).pace = rw (← same) at heard in
+          record { doubtful = calm_then.doubtful; disturbed = calm_then.disturbed }
