@@ -17,7 +17,7 @@ use Rattle.dgt_link.specs.Faults.{FaultyBecomes, FaultyContent, FaultyStep, send
 use Rattle.dgt_link.specs.Step.{IfDone}
 use Rattle.dgt_link.specs.View.{WorldView}
 use Rattle.dgt_followed.specs.Followed.{FollowedRuns, FollowedView, RunsDone, asking_acts, follower_of, reading_acts}
-use Rattle.dgt_followed.specs.Heard.{ConfirmedAsDelivered, ConfirmedIsReportedInWorlds, HappeningsAreCalls, HeardRuns, HeardStep, OneStretchIsSeenInWorlds, SentIsReported, TimedHappening, bytes_by, happening_of, is_noticed}
+use Rattle.dgt_followed.specs.Heard.{ConfirmedAsDelivered, ConfirmedIsReportedInWorlds, HappeningsAreCalls, HeardRuns, HeardStep, OneStretchIsSeenInWorlds, SentIsReported, TimedHappening, bytes_by, happening_of, is_noticed, is_setting}
 
 -- ---- calls in a row
 
@@ -152,6 +152,15 @@ act_leads before after (inr (kind, sent)) pace = (
 
 -- ---- all that happens
 
+no_bytes : (call : Call) → is_setting call ≡ true → bytes_heard (call ∷ []) ≡ []
+no_bytes (Call.SetsMode mode) sets = refl
+no_bytes (Call.SetsConfirm confirm) sets = refl
+no_bytes (Call.SetsIdentify identify) sets = refl
+no_bytes Call.AsksNow sets = refl
+no_bytes (Call.Hears now bytes) sets = cc
+no_bytes (Call.Asks now) sets = refl
+no_bytes (Call.Sends kind) sets = refl
+
 step_leads : (happening : TimedHappening) (before after : FollowedView) → HeardStep happening before after
     → Leads (follower_of before) (bytes_by happening before) (follower_of after)
 step_leads (TimedHappening.Asks now) before after ((runs, pace, since, clock_since), notes) =
@@ -163,6 +172,8 @@ step_leads (TimedHappening.Asks now) before after ((runs, pace, since, clock_sin
     )
 step_leads (TimedHappening.Hears now count) before after (step, heard) =
     (Call.Hears now _ ∷ [], append-nil _, heard)
+step_leads (TimedHappening.Sets call) before after (step, (sets, set)) =
+    (call ∷ [], no_bytes call sets, set)
 step_leads (TimedHappening.Acts act) before after ((answer, step, keeps, since, clock_since), (unseen, pace)) =
     act_leads before after (act_like act before.world after.world answer unseen step) pace
 

@@ -171,6 +171,9 @@ step_says (TimedHappening.Asks now) before after powered ((runs, pace, since, cl
 step_says (TimedHappening.Hears now count) before after powered ((answer, step, keeps, since, clock_since), noted) =
     ap Some (kept answer (FaultyContent.Plain (ActContent.ToHost count)) before.world after.world
     (λ same. ap reported same) step.leaves)
+step_says (TimedHappening.Sets call) before after powered ((answer, step, keeps, since, clock_since), noted) =
+    ap Some (kept answer (FaultyContent.Plain (ActContent.ToHost 0)) before.world after.world
+    (λ same. ap reported same) step.leaves)
 step_says (TimedHappening.Acts act) before after powered
     ((answer, step, keeps, since, clock_since), (unseen, pace)) =
     act_says act before after answer powered unseen step

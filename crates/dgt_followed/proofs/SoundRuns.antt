@@ -1,8 +1,10 @@
 -- A follower that asks in time on a sound line is never in doubt.
-use Rattle.std.proofs.Common.{◌≡◌, ◌≢◌, false, refl, sym, subst, ℕ, List, [], ◌∷◌, take}
+use Rattle.std.proofs.Common.{◌≡◌, ◌≢◌, true, false, refl, sym, subst, ℕ, List, [], ◌∷◌, take}
+use Rattle.std.proofs.lemmas.Bool.{false≢true}
 use Rattle.dgt_command.specs.Content.{CommandContent}
 use Rattle.dgt_follow.specs.declared.asking.Asking.{Asking}
 use Rattle.dgt_follow.specs.declared.asking.UpdateMode.{UpdateMode}
+use Rattle.dgt_follow.specs.Calls.{Call, follower_after_call}
 use Rattle.dgt_follow.specs.Follower.{FollowerView, asking_of, follower_after}
 use Rattle.dgt_follow.specs.Pace.{mode_command}
 use Rattle.dgt_link.specs.declared.acts.Outcome.{Outcome}
@@ -11,13 +13,27 @@ use Rattle.dgt_link.specs.Faults.{FaultyContent, FaultyStep, sends}
 use Rattle.dgt_link.specs.View.{WorldView}
 use Rattle.dgt_link.proofs.Counting.{plain_step}
 use Rattle.dgt_followed.specs.Followed.{FollowedView, RunsDone, asking_acts, follower_of, reading_acts}
-use Rattle.dgt_followed.specs.Heard.{HeardStep, TimedHappening, is_noticed}
+use Rattle.dgt_followed.specs.Heard.{HeardStep, TimedHappening, is_noticed, is_setting}
 use Rattle.dgt_followed.specs.Restated.{ActsAtRest, HasNoDoubt, IsRestatedWorld, IsSoundHappening, SoundRuns, StepAtRest}
 use Rattle.dgt_followed.proofs.Undoubted.{asks_no_doubt}
 
 -- a world in which each dump restates the picture, and a pace without doubt
 abbrev IsCalm : FollowedView → Type 0
 IsCalm followed = IsRestatedWorld followed.world × HasNoDoubt followed.pace
+
+set_is_calm : (follower : FollowerView) (call : Call) → is_setting call ≡ true → HasNoDoubt follower.pace
+    → HasNoDoubt (follower_after_call follower call).pace
+set_is_calm follower (Call.SetsMode mode) sets calm =
+    record { doubtful = calm.doubtful; disturbed = calm.disturbed }
+set_is_calm follower (Call.SetsConfirm confirm) sets calm =
+    record { doubtful = calm.doubtful; disturbed = calm.disturbed }
+set_is_calm follower (Call.SetsIdentify identify) sets calm =
+    record { doubtful = calm.doubtful; disturbed = calm.disturbed }
+set_is_calm follower Call.AsksNow sets calm =
+    record { doubtful = calm.doubtful; disturbed = calm.disturbed }
+set_is_calm follower (Call.Hears now bytes) sets calm = absurd (false≢true sets)
+set_is_calm follower (Call.Asks now) sets calm = absurd (false≢true sets)
+set_is_calm follower (Call.Sends kind) sets calm = absurd (false≢true sets)
 
 is_no_break : (act : ActContent) → is_noticed (FaultyContent.Plain act) ≡ false → act ≢ ActContent.HostBreak
 is_no_break act unseen same = cc
@@ -75,6 +91,11 @@ module _
         plain_restates (ActContent.ToHost count) before.world after.world answer (λ e. cc) tt is step,
         subst (λ (f : FollowerView). HasNoDoubt f.pace) (sym noted)
             (heard before.world (follower_of before) now count is refl calm),
+      )
+  step_is_calm (TimedHappening.Sets call) before after (is, calm)
+      ((answer, step, keeps_patience, since, clock_since), (sets, set)) sound = (
+        plain_restates (ActContent.ToHost 0) before.world after.world answer (λ e. cc) tt is step,
+        subst (λ (f : FollowerView). HasNoDoubt f.pace) (sym set) (set_is_calm (follower_of before) call sets calm),
       )
   step_is_calm (TimedHappening.Acts (FaultyContent.Plain act)) before after (is, calm)
       ((answer, step, keeps_patience, since, clock_since), (unseen, pace)) rest = (

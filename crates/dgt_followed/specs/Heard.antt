@@ -8,7 +8,7 @@ use Rattle.dgt_message.specs.Picture.{picture_after_all}
 use Rattle.dgt_decode.specs.Grammar.{events, unfinished_message}
 use Rattle.dgt_board.specs.Sending.{next_message}
 use Rattle.dgt_host.specs.Confirmed.{IsRight, confirmed_after_all, messages}
-use Rattle.dgt_follow.specs.Calls.{Call, bytes_heard, follower_after_calls}
+use Rattle.dgt_follow.specs.Calls.{Call, bytes_heard, follower_after_call, follower_after_calls}
 use Rattle.dgt_follow.specs.Follower.{follower_after}
 use Rattle.dgt_link.specs.Act.{ActContent}
 use Rattle.dgt_link.specs.Faults.{FaultyContent}
@@ -22,6 +22,8 @@ pub data TimedHappening : Type 0 where
   Asks : (now : ℕ) → TimedHappening
   -- at this time it hears this number of bytes of the up line, or all that are there
   Hears : (now count : ℕ) → TimedHappening
+  -- this call sets something, and neither hears nor asks
+  Sets : (call : Call) → TimedHappening
   -- any other act, by which its host may send a command and notices nothing
   Acts : (act : FaultyContent) → TimedHappening
 
@@ -29,7 +31,16 @@ abbrev pub happening_of : TimedHappening → Happening
 happening_of (TimedHappening.Asks now) = Happening.Ask now
 happening_of (TimedHappening.Hears now count) =
     Happening.Other (FaultyContent.Plain (ActContent.ToHost count))
+happening_of (TimedHappening.Sets call) =
+    Happening.Other (FaultyContent.Plain (ActContent.ToHost 0))  -- nothing is delivered
 happening_of (TimedHappening.Acts act) = Happening.Other act
+
+abbrev pub is_setting : Call → Bool
+is_setting (Call.SetsMode mode) = true
+is_setting (Call.SetsConfirm confirm) = true
+is_setting (Call.SetsIdentify identify) = true
+is_setting Call.AsksNow = true
+is_setting call = false
 
 -- By these acts the host hears bytes, loses the line, begins anew or gives up replies. A follower
 -- hears and begins anew by calls of its own.
@@ -47,6 +58,9 @@ NotesOnly (TimedHappening.Asks now) before after = Unit {0}
 NotesOnly (TimedHappening.Hears now count) before after =
     follower_of after
     ≡ follower_after (follower_of before) now (take count before.world.up.bytes)
+NotesOnly (TimedHappening.Sets call) before after =
+    (is_setting call ≡ true)
+    × (follower_of after ≡ follower_after_call (follower_of before) call)
 NotesOnly (TimedHappening.Acts act) before after =
     (is_noticed act ≡ false) × (after.pace ≡ before.pace)
 

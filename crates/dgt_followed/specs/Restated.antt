@@ -83,11 +83,12 @@ pub record AsksInTime (now : ℕ) (before : FollowedView) : Type 0 where
       (what ≡ Asking.Nothing) ⊎ ((what ≡ Asking.Identify) ⊎ (is_unanswered before.pace ≡ false))
   pub idle : asking_of (follower_of before) now ≡ Asking.Anew → before.world.host.awaited ≡ []
 
--- It asks in time, or hears, or something happens that is no fault. A dump is sent only after each
--- change of a square has been reported.
+-- It asks in time, or hears or sets something, or something happens that is no fault. A dump is
+-- sent only after each change of a square has been reported.
 abbrev pub IsSoundHappening : TimedHappening → FollowedView → Type 0
 IsSoundHappening (TimedHappening.Asks now) before = AsksInTime now before
 IsSoundHappening (TimedHappening.Hears now count) before = Unit {0}
+IsSoundHappening (TimedHappening.Sets call) before = Unit {0}
 IsSoundHappening (TimedHappening.Acts (FaultyContent.Plain act)) before =
     ActsAtRest act before.world
 IsSoundHappening (TimedHappening.Acts act) before = ⊥

@@ -24,7 +24,7 @@
 //! dgt_follow has an example of a program that asks.
 #![tactic(auto)]
 
-ghost use Rattle.std.specs.Prelude.{◌≡◌, ◌≢◌, ◌⊎◌, ◌<◌, ◌≤◌, ◌+◌, [], ◌∷◌, ◌++◌, ℕ, List, Option, None, Some, length, map, option_to_list, slice_set, take, false, true};
+ghost use Rattle.std.specs.Prelude.{◌≡◌, ◌≢◌, ◌⊎◌, ◌<◌, ◌≤◌, ◌+◌, [], ◌∷◌, ◌++◌, ℕ, Bool, List, Option, None, Some, length, map, option_to_list, slice_set, take, false, true};
 ghost use Rattle.std.specs.List.{AllByRecursion, flat_map};
 ghost use Rattle.dgt_values.specs.declared.kinds.Kind.{Kind};
 ghost use Rattle.dgt_values.specs.declared.pieces.Piece.{Piece};
@@ -38,10 +38,11 @@ ghost use Rattle.dgt_board.specs.Sending.{next_message};
 ghost use Rattle.dgt_board.specs.State.{BoardState};
 ghost use Rattle.dgt_host.specs.Confirmed.{IsRight, messages};
 ghost use Rattle.dgt_host.specs.Host.{HostView, Sends};
+ghost use Rattle.dgt_follow.specs.Calls.{Call, follower_after_call};
 ghost use Rattle.dgt_follow.specs.Pace.{PaceView, asking_bytes, is_overdue, is_stuck, is_unanswered, pace_after_asking, pace_after_event, pace_at};
 ghost use Rattle.dgt_follow.specs.Follower.{Asks, FollowerView, asking_of, follower_after, follower_after_event, new_follower};
 ghost use Rattle.dgt_followed.specs.Followed.{AfterAskings, FollowedRuns, FollowedStep, FollowedView, Happening, HasRoom, RunsDone, after_writing, asking_acts, clock_count_after, clock_count_after_asking, count_after, count_after_asking, follower_of, unsettles};
-ghost use Rattle.dgt_followed.specs.Heard.{ConfirmedAsDelivered, ConfirmedIsReportedInWorlds, HappeningsAreCalls, HeardRuns, HeardStep, IsOneStretch, KeepsPower, OneStretchIsSeenInWorlds, SentIsReported, TimedHappening, bytes_by, happening_of, is_noticed, sent_by};
+ghost use Rattle.dgt_followed.specs.Heard.{ConfirmedAsDelivered, ConfirmedIsReportedInWorlds, HappeningsAreCalls, HeardRuns, HeardStep, IsOneStretch, KeepsPower, OneStretchIsSeenInWorlds, SentIsReported, TimedHappening, bytes_by, happening_of, is_noticed, is_setting, sent_by};
 ghost use Rattle.dgt_followed.specs.Restated.{ActsAtRest, AllRestate, DumpsAtRest, HasNoDoubt, IsAtRest, IsRestatedWorld, IsSoundHappening, RunsAtRest, SendsAtRest, SoundRuns};
 ghost use Rattle.dgt_link.specs.Act.{ActContent};
 ghost use Rattle.dgt_link.specs.Clocks.{IsClockPromisedWorld, stops_clock};
@@ -71,8 +72,8 @@ pub fn asking_is_acts()
 
 /// What the calls of a follower do to it, to its host's world and to the counts is a step of
 /// `HeardStep`, and so of `FollowedStep`: `ask` asks, `hear` and `hear_all` of bytes of the up line
-/// are the act `ToHost`, and `send` is the act `Host(command)`. So what holds of all happenings
-/// holds of these calls.
+/// are the act `ToHost`, and `send` is the act `Host(command)`. A call that sets something leaves
+/// the world as it is. So what holds of all happenings holds of these calls.
 pub fn calls_are_happenings()
     ensures ask { (before : FollowedView) (after : FollowerView) (now written : ℕ)
         (old new : List ℕ) → let what = asking_of (follower_of before) now in
@@ -107,6 +108,10 @@ pub fn calls_are_happenings()
           pace = before.pace;
           since = count_after (sends command) before.since;
           clock_since = clock_count_after (sends command) before.clock_since;
+        }) }
+    ensures set { (before : FollowedView) (call : Call) → is_setting call ≡ true →
+        HeardStep (TimedHappening.Sets call) before (record before {
+          pace = (follower_after_call (follower_of before) call).pace;
         }) }
 {
     asking_is_acts();
@@ -299,6 +304,8 @@ pub fn happenings_are_sound()
         (is_overdue before.pace now ≡ false) × (is_stuck before.pace now ≡ false) }
     ensures hears { (now count : ℕ) (before : FollowedView) →
         IsSoundHappening (TimedHappening.Hears now count) before }
+    ensures sets { (call : Call) (before : FollowedView) →
+        IsSoundHappening (TimedHappening.Sets call) before }
     ensures acts { (act : ActContent) (before : FollowedView) → ActsAtRest act before.world →
         IsSoundHappening (TimedHappening.Acts (FaultyContent.Plain act)) before }
     ensures fault { (bytes : List ℕ) (before : FollowedView) →
@@ -345,6 +352,10 @@ pub fn happenings_are_heard()
         ∷ FaultyContent.Plain ActContent.Break ∷ FaultyContent.Plain ActContent.HostBreak
         ∷ FaultyContent.Restart ∷ FaultyContent.GiveUp ∷ [])
         ≡ true ∷ true ∷ true ∷ true ∷ true ∷ [] }
+    ensures sets { (now : ℕ) (bytes : List ℕ) (kind : Option Kind) (mode : UpdateMode)
+        (flag : Bool) → map is_setting (Call.Hears now bytes ∷ Call.Asks now ∷ Call.Sends kind
+        ∷ Call.SetsMode mode ∷ Call.SetsConfirm flag ∷ Call.SetsIdentify flag ∷ Call.AsksNow ∷ [])
+        ≡ false ∷ false ∷ false ∷ true ∷ true ∷ true ∷ true ∷ [] }
     ensures bytes { (before : FollowedView) (now first second third : ℕ) →
         before.world.up.bytes ≡ first ∷ second ∷ third ∷ [] →
         bytes_by (TimedHappening.Hears now 2) before ≡ first ∷ second ∷ [] }

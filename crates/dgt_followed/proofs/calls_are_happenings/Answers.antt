@@ -1,4 +1,4 @@
-use Rattle.dgt_followed.proofs.Calls.{ask_happens, hear_happens, send_happens}
+use Rattle.dgt_followed.proofs.Calls.{ask_happens, hear_happens, send_happens, set_happens}
 use Rattle.dgt_followed.proofs.calls_are_happenings.Goals as goal
 
 pub returns-clause-ask : goal.returns-clause-ask
@@ -10,3 +10,6 @@ returns-clause-hear c =
 
 pub returns-clause-send : goal.returns-clause-send
 returns-clause-send c = send_happens
+
+pub returns-clause-set : goal.returns-clause-set
+returns-clause-set c = set_happens
