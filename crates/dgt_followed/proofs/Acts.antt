@@ -240,9 +240,10 @@ asking_is_acts follower after now written old new world asked same room =
     let mode = follower.pace.mode in
     let what = asking_of follower now in
     let bytes = asking_bytes mode what in
-    let done = acts_done mode what world
-    (λ is. rw same (heartbeat_is_free (pace_at follower.pace now) (awaits_too_many follower.host (Some Kind.Dump)) now is))
-    (λ is. rw same (identify_is_free (pace_at follower.pace now) (awaits_too_many follower.host (Some Kind.Dump)) now is)) room in
+    let pace = pace_at follower.pace now in
+    let full = awaits_too_many follower.host (Some Kind.Dump) in
+    let done = acts_done mode what world (λ is. rw same (heartbeat_is_free pace full now is))
+    (λ is. rw same (identify_is_free pace full now is)) room in
     let host : host_after_asking what world.host ≡ after.host
     = ap (host_after_asking what) same ∙ sym asked.0.1 in
     let prefix : bytes ≡ take written new = sym (prefix_of bytes old new written asked.0.0.0 asked.0.0.2) in

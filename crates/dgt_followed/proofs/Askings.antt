@@ -61,7 +61,8 @@ module _ (Promised : WorldView → Type 0) (count : FollowedView → ℕ) where
       → count after ≡ count before + 1
       → (Promised before.world → Promised after.world) → Hopes Promised count before → Hope Promised count after
   heartbeat_hope now before after e pace since keeps hopes =
-      let some = heartbeat_is_left (pace_at before.pace now) (awaits_too_many before.world.host (Some Kind.Dump)) now e in
+      let full = awaits_too_many before.world.host (Some Kind.Dump) in
+      let some = heartbeat_is_left (pace_at before.pace now) full now e in
       elim hopes.hope [
         | inl promised ↦ inl (keeps promised)
         | inr few ↦ inr

@@ -46,7 +46,8 @@ module _
   ask_hope : (what : Asking) (now : ℕ) (before after : FollowedView)
       → asking_of (follower_of before) now ≡ what
       → RunsDone (asking_acts before.pace.mode what) before.world after.world
-      → after.pace ≡ pace_after_asking what (pace_at before.pace now) now → after.since ≡ count_after_asking what before.since
+      → after.pace ≡ pace_after_asking what (pace_at before.pace now) now
+      → after.since ≡ count_after_asking what before.since
       → Hopes IsPromisedWorld count before → Hope IsPromisedWorld count after
   ask_hope Asking.Nothing now before after e same pace since hopes = rw (same, pace, since) hopes.hope
   ask_hope Asking.Identify now before after e runs pace since hopes =
