@@ -105,7 +105,8 @@ unfinished_in_two : (before : Option ℕ) (now : ℕ) (bytes more first last : L
     ≡ unfinished_by before now (bytes ++ more) last
 unfinished_in_two before now [] [] first last same = refl
 unfinished_in_two before now (byte ∷ bytes) [] first last same =
-    ap (unfinished_by before now (byte ∷ bytes)) (same refl) ∙ any_bytes before before now byte byte bytes (bytes ++ []) last
+    ap (unfinished_by before now (byte ∷ bytes)) (same refl)
+    ∙ any_bytes before before now byte byte bytes (bytes ++ []) last
 unfinished_in_two before now [] (byte ∷ more) first last same = refl
 unfinished_in_two before now (byte ∷ bytes) (next ∷ more) first last same =
     any_bytes (unfinished_by before now (byte ∷ bytes) first) before now next byte more (bytes ++ next ∷ more) last

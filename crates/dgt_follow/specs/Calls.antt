@@ -67,11 +67,11 @@ ConfirmedOverCalls =
     IsTrue (confirmed_after_all follower.pace.confirmed follower.host.picture said))
 
 -- **After one stretch of faulty bytes a picture that both sides confirm is right.** The follower
--- shows what the board has reported, or knows no picture. The board sends messages. The line alters or loses at
--- most one of them, or inserts bytes: what is heard in its place says at most one message. The
--- bytes are heard in any chunks, and anything is asked and sent meanwhile. If the follower is
--- confirmed then, and the board has repeated its picture since that last changed, the picture is
--- what the board has reported.
+-- shows what the board has reported, or knows no picture. The board sends messages. The line alters
+-- or loses at most one of them, or inserts bytes: what is heard in its place says at most one
+-- message. The bytes are heard in any chunks, and anything is asked and sent meanwhile. If the
+-- follower is confirmed then, and the board has repeated its picture since that last changed, the
+-- picture is what the board has reported.
 abbrev pub OneStretchIsSeen : Type 0
 OneStretchIsSeen =
     (follower : FollowerView) (calls : List Call) (reported : List Piece)

@@ -89,7 +89,8 @@ AskingsConfirmNothing =
 -- whatever that asks, and end the confirmation.
 abbrev pub OverdueIsDoubt : Type 0
 OverdueIsDoubt =
-    (what : Asking) (pace : PaceView) (now : ℕ) → IsTrue (is_overdue pace now || is_stuck pace now) →
+    (what : Asking) (pace : PaceView) (now : ℕ) →
+    IsTrue (is_overdue pace now || is_stuck pace now) →
     let after = pace_after_asking what (pace_at pace now) now in
     IsTrue after.doubtful × IsFalse after.confirmed
 

@@ -181,8 +181,8 @@ pub fn askings_by_time()
     }) false 999 ≡ Asking.Heartbeat }
 {}
 
-/// What time alone brings. A message is stuck a second after its last byte: it disturbs then, and is
-/// forgotten. An overdue answer is a doubt and doesn't disturb. Else nothing changes.
+/// What time alone brings. A message is stuck a second after its last byte: it disturbs then, and
+/// is forgotten. An overdue answer is a doubt and doesn't disturb. Else nothing changes.
 pub fn what_time_brings()
     ensures before { (pace : PaceView) → pace.unfinished ≡ Some 3000 → is_stuck pace 3999 ≡ false }
     ensures stuck { (pace : PaceView) → pace.unfinished ≡ Some 3000 → is_stuck pace 4000 ≡ true }
@@ -290,8 +290,8 @@ pub fn askings_out_of_turn()
 {}
 
 /// When a follower that asked at 1,000 with a period of 10,000 is due: at 11,000 if it was
-/// answered, at 2,000 to find an answer overdue, and then at 3,500. If a message is unfinished whose
-/// last byte came at 3,000, it is due at 4,000. A period of less than a second is one.
+/// answered, at 2,000 to find an answer overdue, and then at 3,500. If a message is unfinished
+/// whose last byte came at 3,000, it is due at 4,000. A period of less than a second is one.
 pub fn due_times()
     ensures answered { (mode : UpdateMode) → next_due (record (new_pace 10000 6 mode false false) {
       asked = Some 1000;
@@ -309,11 +309,12 @@ pub fn due_times()
       answered = true;
       wanted = true;
     }) ≡ Some 0 }
-    ensures unfinished { (mode : UpdateMode) → next_due (record (new_pace 10000 6 mode false false) {
-      asked = Some 1000;
-      answered = true;
-      unfinished = Some 3000;
-    }) ≡ Some 4000 }
+    ensures unfinished { (mode : UpdateMode) → next_due (record
+        (new_pace 10000 6 mode false false) {
+          asked = Some 1000;
+          answered = true;
+          unfinished = Some 3000;
+        }) ≡ Some 4000 }
     ensures later { (mode : UpdateMode) → next_due (record (new_pace 10000 6 mode false false) {
       asked = Some 1000;
       unfinished = Some 3000;
