@@ -567,7 +567,8 @@ def handed(dgt, line):
         except dgt.Closed:
             pass
     wanted("how much was read", [size for size, _ in port.waited], [67, 1, 4, 1])
-    limits = [59 < seconds <= 60 for _, seconds in port.waited[1:]]
+    most = [60, 1, 60]  # a message that is unfinished disturbs after a second
+    limits = [each - 1 < wait < each + 0.001 for each, (_, wait) in zip(most, port.waited[1:])]
     wanted(f"for how long: {port.waited}", limits, [True] * 3)
     port.is_open = True
     with dgt.follow(port) as board:
