@@ -246,9 +246,9 @@ impl Follower {
     /// while the serial number is unknown, at most three times ([`TRIES`](crate::TRIES)).
     ///
     /// An answer that is a second late is a doubt from the next call on, whether that writes or
-    /// not. A message that has been unfinished for a second
-    /// ([`UNFINISHED`](crate::UNFINISHED)) is a disturbance from then on: what follows a message
-    /// whose end was lost waits unread.
+    /// not. A message that has been unfinished for a second ([`UNFINISHED`](crate::UNFINISHED)) is
+    /// a disturbance from then on. If it has lost a byte, the others would wait unread until the
+    /// next message comes.
     ///
     /// `NoRoom` if the slice is shorter than what is due in this mode, and then nothing changes. A
     /// heartbeat needs 2 bytes with [`UpdateMode::Squares`] and 3 else, a new beginning 258 and
