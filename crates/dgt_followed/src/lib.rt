@@ -320,14 +320,25 @@ pub fn happenings_are_sound()
 {}
 
 /// What is delivered to a follower in a world that may fail is what it hears, whatever else
-/// happens: these are calls of it. So its picture is that of the messages among the bytes that were
-/// delivered, and is confirmed only if they confirm it.
+/// happens: these are happenings of `FollowedRuns`, and calls of the follower. So its picture is
+/// that of the messages among the bytes that were delivered, and is confirmed only if they confirm
+/// it.
 ///
 /// After one stretch of faulty bytes among them a picture that both sides confirm is right. If the
 /// board sent all else meanwhile, the picture is what it has reported.
 pub fn worlds_confirm_as_delivered()
+    ensures followed { (happenings : List TimedHappening) (said : List Content) (bytes : List ℕ)
+        (before after : FollowedView) → HeardRuns happenings said bytes before after →
+        FollowedRuns (map happening_of happenings) before after }
     ensures calls { HappeningsAreCalls }
     ensures confirmed { ConfirmedAsDelivered }
+    ensures stretch { (reported : List Piece) (before : FollowedView) (first last : List Content)
+        (bytes : List ℕ) (meant heard : Option Content) → AllByRecursion IsMessage first →
+        AllByRecursion IsMessage last → messages (events bytes) ≡ option_to_list heard →
+        before.world.host.unread ≡ [] → before.pace.confirmed ≡ false →
+        IsRight reported before.world.host.picture →
+        IsOneStretch reported before (first ++ option_to_list meant ++ last)
+        (flat_map encoding first ++ bytes ++ flat_map encoding last) }
     ensures one_stretch { OneStretchIsSeenInWorlds }
     ensures sent { SentIsReported }
     ensures reported { ConfirmedIsReportedInWorlds }
@@ -336,14 +347,10 @@ pub fn worlds_confirm_as_delivered()
     dgt_follow::laws::one_stretch_is_seen();
 }
 
-/// What the words of that law come to. Each of these happenings is one of `FollowedRuns`, at some
-/// time. A delivery is heard as `follower_after` says. The bytes of all deliveries come in a row,
-/// and so do the messages sent. No host notices garbled lines, a board that loses its power, or a
-/// command that it sends.
+/// What the words of that law come to. A delivery is heard as `follower_after` says. The bytes of
+/// all deliveries come in a row, and so do the messages sent. No host notices garbled lines, a board
+/// that loses its power, or a command that it sends.
 pub fn happenings_are_heard()
-    ensures followed { (happenings : List TimedHappening) (said : List Content) (bytes : List ℕ)
-        (before after : FollowedView) → HeardRuns happenings said bytes before after →
-        FollowedRuns (map happening_of happenings) before after }
     ensures unnoticed { (bytes : List ℕ) (command : CommandContent) →
         map is_noticed (FaultyContent.GarbleUp bytes ∷ FaultyContent.GarbleDown bytes
         ∷ FaultyContent.BoardLost ∷ sends command ∷ []) ≡ false ∷ false ∷ false ∷ false ∷ [] }
@@ -373,13 +380,6 @@ pub fn happenings_are_heard()
         × (bytes_by (TimedHappening.Asks now) before ≡ []) }
     ensures powered { (now : ℕ) → KeepsPower (TimedHappening.Asks now) }
     ensures lost { ¬ (KeepsPower (TimedHappening.Acts FaultyContent.BoardLost)) }
-    ensures stretch { (reported : List Piece) (before : FollowedView) (first last : List Content)
-        (bytes : List ℕ) (meant heard : Option Content) → AllByRecursion IsMessage first →
-        AllByRecursion IsMessage last → messages (events bytes) ≡ option_to_list heard →
-        before.world.host.unread ≡ [] → before.pace.confirmed ≡ false →
-        IsRight reported before.world.host.picture →
-        IsOneStretch reported before (first ++ option_to_list meant ++ last)
-        (flat_map encoding first ++ bytes ++ flat_map encoding last) }
     ensures hears { (now count : ℕ) (before after : FollowedView) →
         FollowedStep (Happening.Other (FaultyContent.Plain (ActContent.ToHost count))) before
         after → follower_of after
