@@ -348,8 +348,8 @@ pub fn worlds_confirm_as_delivered()
 }
 
 /// What the words of that law come to. A delivery is heard as `follower_after` says. The bytes of
-/// all deliveries come in a row, and so do the messages sent. No host notices garbled lines, a board
-/// that loses its power, or a command that it sends.
+/// all deliveries come in a row, and so do the messages sent. No host notices garbled lines, a
+/// board that loses its power, or a command that it sends.
 pub fn happenings_are_heard()
     ensures unnoticed { (bytes : List ℕ) (command : CommandContent) →
         map is_noticed (FaultyContent.GarbleUp bytes ∷ FaultyContent.GarbleDown bytes
