@@ -1,0 +1,69 @@
+/* Runs a harness without libFuzzer, which clang lacks for some processors: on the first inputs, and
+ * then on parts of two of them, joined and altered by chance. Its words are seconds, a seed and the
+ * files of the first inputs. It prints how many inputs it tried, and at a fault the input. */
+#define _DEFAULT_SOURCE
+#include <signal.h>
+#include <stdint.h>
+#include <stdio.h>
+#include <stdlib.h>
+#include <string.h>
+#include <time.h>
+
+int LLVMFuzzerTestOneInput(const uint8_t *data, size_t n);
+
+enum { MOST = 1024, FILES = 256 };
+static uint8_t known[FILES][MOST], data[MOST];
+static size_t length[FILES], files, n;
+static uint64_t state;
+
+static uint64_t chance(uint64_t below) {
+    state ^= state << 13;
+    state ^= state >> 7;
+    state ^= state << 17;
+    return state % below;
+}
+
+/* The beginning of a known input, the end of another, some altered bytes, and some more. */
+static void make_input(void) {
+    size_t one = chance(files), other = chance(files);
+    n = chance(length[one] + 1);
+    size_t from = chance(length[other] + 1), more = length[other] - from;
+    if (more > MOST - n) more = MOST - n;
+    memcpy(data, known[one], n);
+    memcpy(data + n, known[other] + from, more);
+    n += more;
+    for (uint64_t left = chance(8); left > 0 && n > 0; left--)
+        data[chance(n)] = (uint8_t)chance(256);
+    while (n < MOST && chance(16) != 0) data[n++] = (uint8_t)chance(256);
+}
+
+static void show_input(int number) {
+    fputs("the input: ", stderr);
+    for (size_t i = 0; i < n; i++) fprintf(stderr, "%02x", data[i]);
+    fputc('\n', stderr);
+    signal(number, SIG_DFL);
+    raise(number);
+}
+
+int main(int count, char **words) {
+    if (count < 4 || count - 3 > FILES) return 2;
+    time_t end = time(NULL) + atoi(words[1]);
+    state = strtoull(words[2], NULL, 10) * 0x9e3779b97f4a7c15u | 1;
+    signal(SIGABRT, show_input);
+    signal(SIGSEGV, show_input);
+    for (; files < (size_t)count - 3; files++) {
+        FILE *file = fopen(words[files + 3], "rb");
+        if (!file) return 2;
+        n = length[files] = fread(known[files], 1, MOST, file);
+        fclose(file);
+        memcpy(data, known[files], n);
+        LLVMFuzzerTestOneInput(data, n);
+    }
+    uint64_t tried = files;
+    for (; tried % 64 != 0 || time(NULL) < end; tried++) {
+        make_input();
+        LLVMFuzzerTestOneInput(data, n);
+    }
+    printf("%llu\n", (unsigned long long)tried);
+    return 0;
+}
