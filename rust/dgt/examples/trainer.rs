@@ -1,37 +1,37 @@
 //! Follows a board on a serial port: prints where the pieces stand after each change, and each time
 //! of its clock, which shows how many changes there were. A port that goes is looked for.
-use dgt::{ClockCommand::Text, Command, *};
-use std::{env, io::*, thread, time::Duration};
 
-fn follow(path: &str, seen: &mut (Option<Position>, Option<Clock>, u32)) -> Result<()> {
-    let (mut port, mut board) = (Port::open(path)?, Follower::default());
-    let (mut chunk, mut out) = ([0; 256], [0; MAX_WORD]);
-    board.set_mode(UpdateMode::ClockChanges);
-    loop {
-        let (count, mut at) = (port.exchange(&mut board, &mut chunk)?, 0);
-        while at < count {
-            at += board.hear(now(), &chunk[at..count]).used;
-            let picture = board.picture().filter(|it| !board.in_doubt() && Some(*it) != seen.0);
-            if let Some(new) = picture {
-                (seen.0, seen.2) = (picture, seen.2 + 1);
-                println!("{new}");
-                let text = format!("{:<8}", seen.2);
-                let letters = text.as_bytes().try_into().map_err(Error::other)?;
-                let text = Command::ClockMessage(Text { letters, beep: 0 });
-                let count = board.send(&text, &mut out)?;
-                port.write_all(&out[..count])?;
-            }
-            let clock = board.clock().filter(|it| seen.1.replace(*it) != Some(*it));
-            if let Some(Clock::Times(it)) = clock {
-                println!("clock {} {}", it.first(), it.second());
+use dgt::{Clock, ClockCommand, Command, UpdateMode};
+use std::{env, error::Error, thread, time::Duration};
+
+fn follow(path: &str) -> Result<(), Box<dyn Error>> {
+    let mut board = dgt::follow(path)?;
+    board.follower().set_mode(UpdateMode::ClockChanges);
+    let (mut picture, mut clock, mut changes) = (None, None, 0);
+    while let Some(view) = board.next() {
+        if let Some(away) = view.away {
+            eprintln!("{path}: {away}");
+        }
+        if let Some(new) = view.picture.filter(|it| !view.in_doubt && picture != Some(*it)) {
+            (picture, changes) = (Some(new), changes + 1);
+            println!("{new}");
+            let letters = format!("{changes:<8}").as_bytes().try_into()?;
+            board.send(&Command::ClockMessage(ClockCommand::Text { letters, beep: 0 }))?;
+        }
+        if let Some(new) = view.clock.filter(|it| clock != Some(*it)) {
+            clock = Some(new);
+            if let Clock::Times(times) = new {
+                println!("clock {} {}", times.first(), times.second());
             }
         }
     }
+    Ok(())
 }
 
 fn main() {
-    let (path, mut seen) = (env::args().nth(1).expect("usage: trainer PORT"), (None, None, 0));
-    while follow(&path, &mut seen).inspect_err(|gone| eprintln!("{path}: {gone}")).is_err() {
+    let path = env::args().nth(1).expect("usage: trainer PORT");
+    while let Err(fault) = follow(&path) {
+        eprintln!("{path}: {fault}");
         thread::sleep(Duration::from_secs(2));
     }
 }

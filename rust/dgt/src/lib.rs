@@ -1,8 +1,5 @@
 //! A host, a follower, a decoder, a reader of commands and a board for DGT electronic chess boards.
 //!
-//! The crate is a layer over the library for C, libdgt (`dgt-sys`). The Rattle code of libdgt is
-//! proved; this layer is tested. Types and calls have the names that the Rattle crates give them.
-//!
 //! | Type | What it does |
 //! |---|---|
 //! | [`Follower`] | asks a board again and again, so that its picture stays right |
@@ -11,11 +8,12 @@
 //! | [`Board`] | stands in for a board, so that a host can be tested without one |
 //! | [`CommandDecoder`] | reads a host's bytes |
 //!
-//! None of them opens a line or waits: you hand in the bytes that came, in chunks of any length,
-//! and write out what a call wrote into your slice. A [`Port`] is a serial port for a follower.
+//! None of them opens a line, waits or takes memory: you hand in the bytes that came, in chunks of
+//! any length, and write out what a call wrote into your slice. With the feature `std`, which is on
+//! by default, `follow` follows a board on a serial port, and [`Views`] one on any stream.
 //!
 //! ```
-//! use dgt::{Board, Host, MAX_SENT, Piece, Polled, RESTART_LENGTH, Square};
+//! use dgt::{Board, Host, MAX_SENT, Piece, Polled, RESTART_LENGTH};
 //!
 //! let (mut board, mut host) = (Board::default(), Host::new());
 //! let mut asked = [0; RESTART_LENGTH];
@@ -24,77 +22,96 @@
 //! while !bytes.is_empty() {
 //!     bytes = &bytes[board.take(bytes)?.used..];
 //! }
-//! board.change(Square::parse("e2")?, Piece::Empty);
-//! board.change(Square::parse("e4")?, Piece::WhitePawn);
+//! board.change("e2".parse()?, Piece::Empty);
+//! board.change("e4".parse()?, Piece::WhitePawn);
 //! while let Polled::Wrote(count) = board.poll(&mut message) {
 //!     host.hear_all(&message[..count]);
 //! }
-//! let picture = host.picture().unwrap();
-//! assert_eq!(picture.placement().as_str(), "rnbqkbnr/pppppppp/8/8/4P3/8/PPPP1PPP/RNBQKBNR");
+//! let picture = host.picture().unwrap().to_string();
+//! assert_eq!(picture, "rnbqkbnr/pppppppp/8/8/4P3/8/PPPP1PPP/RNBQKBNR");
 //! # Ok::<(), Box<dyn std::error::Error>>(())
 //! ```
 //!
-//! Each of the five keeps what it knows in a box, since the library's own objects may not move. So
-//! it may be moved like any other value, and sent to another thread. It can't be copied, and two
-//! threads can't call it at once:
+//! # What is proved
 //!
-//! ```compile_fail,E0277
-//! fn is_sync<T: Sync>() {}
-//! is_sync::<dgt::Host>();
-//! ```
+//! The modules [`values`], [`message`], [`decode`], [`command`], [`board`], [`host`] and
+//! [`mod@follow`] are generated from the crates of the same names that are written in Rattle, which is Rust with
+//! contracts, and whose contracts are proved for all inputs. What runs is their text, without the
+//! contracts. A few places differ, since stable Rust has no `std::simd`: `rust/plain.edits` of the
+//! repository lists them. Their comments name contracts, `laws` and files of `specs/` that are in
+//! the repository. The other modules are written by hand, and tested.
 //!
-//! The feature `std`, on by default, has [`Port`], and turns a [`SendFault`] and a [`NoRoom`] into
-//! an error of `std::io`. Without it the crate needs `core` and `alloc` alone.
+//! # Features
+//!
+//! | Feature | It adds |
+//! |---|---|
+//! | `std` (by default) | `follow`, `Port`, [`Views`], and errors of `std::io` |
+//! | `serde` | `Serialize` and `Deserialize` of values, clocks and modes |
+//!
+//! Without `std` it needs `core` and the crate `arrayvec` alone.
 #![no_std]
-#![deny(missing_docs, unsafe_op_in_unsafe_fn)]
+#![forbid(unsafe_code)]
 
-extern crate alloc;
 #[cfg(feature = "std")]
 extern crate std;
 
-mod board;
-mod bytes;
-mod clock_commands;
-mod clocks;
-mod command_decoder;
-mod commands;
-mod decoder;
-mod errors;
-mod events;
-mod follower;
-mod handle;
-mod host;
-mod identities;
-mod messages;
-mod pieces;
-#[cfg(feature = "std")]
-mod port;
-mod positions;
-mod squares;
-mod text;
+/// Generated modules: their layout is that of their sources.
+macro_rules! generated {
+    ($($name:ident $path:literal),* $(,)?) => {$(
+        #[path = $path]
+        #[rustfmt::skip]
+        #[allow(missing_docs, unused_imports, unused_variables, clippy::all, clippy::pedantic)]
+        #[deny(clippy::incompatible_msrv)]
+        pub mod $name;
+    )*};
+}
 
-#[cfg(doctest)]
+generated! {
+    values "generated/values/mod.rs",
+    message "generated/message/mod.rs",
+    decode "generated/decode/mod.rs",
+    command "generated/command/mod.rs",
+    board "generated/board/mod.rs",
+    host "generated/host/mod.rs",
+    follow "generated/follow/mod.rs",
+}
+
+mod encoding;
+mod text;
+mod traits;
+
+#[cfg(feature = "std")]
+mod following;
+#[cfg(all(feature = "std", target_os = "linux"))]
+mod port;
+#[cfg(feature = "serde")]
+mod serde_values;
+
+#[cfg(all(doctest, feature = "std", target_os = "linux"))]
 #[doc = include_str!("../../README.md")]
 struct Readme;
 
-pub use board::{Board, Busy, MAX_OWED, MAX_SENT, Mode, Polled, Taken};
-pub use bytes::{Body, MAX_BODY, SevenBit};
-pub use clock_commands::{ClockCommand, MAX_PAYLOAD, Payload, RawClock, display};
-pub use clocks::{Clock, NoClock, Reading, Status, Times};
-pub use command_decoder::{CommandDecoder, CommandFed};
-pub use commands::{Command, CommandEvent, LedBytes, MAX_LED_BYTES, MAX_WORD};
-pub use decoder::{Decoder, Fed, Listener, MAX_TOTAL, Unfinished};
-pub use errors::{
-    BadDigits, BadPlacement, BodyError, Known, NoPiece, NoRoom, NoSegment, NoSquare, NotSevenBit,
-    NotThisKind, SendFault, TooLong, TooMuch,
+pub use board::{
+    Board, Busy, Identity, MAX_KEPT_BODY, MAX_OWED, MAX_SENT, Mode, Polled, Taken, TooLong,
+    simulated_clock,
 };
-pub use events::{BodyFault, Event};
-pub use follower::{Follower, LEAST_PERIOD, MAX_ASKING, UpdateMode};
-pub use host::{Heard, Host, Kind, MAX_AWAITED, RESTART_LENGTH};
-pub use identities::{Identity, MAX_KEPT_BODY};
-pub use messages::{ClockAck, Message, OtherCode};
-pub use pieces::Piece;
+pub use command::{
+    ClockCommand, Command, CommandDecoder, CommandEvent, CommandFed, KnownId, LedBytes,
+    MAX_LED_BYTES, MAX_PAYLOAD, MAX_WORD, Payload, RawClock, display,
+};
+pub use decode::{Decoder, Event, Fed, Listener, MAX_TOTAL, Unfinished};
+pub use follow::{Follower, LEAST_PERIOD, MAX_ASKING, UpdateMode};
+pub use host::{Heard, Host, MAX_AWAITED, RESTART_LENGTH, SendFault};
+pub use message::{
+    BadDigits, BodyFault, Clock, ClockAck, KnownCode, Message, NoClock, NotThisKind, OtherCode,
+    Reading, Status, Times,
+};
+pub use values::{
+    BadPlacement, Body, BodyError, Kind, Known, MAX_BODY, NoPiece, NoRoom, NoSegment, NoSquare,
+    NotSevenBit, Piece, Position, SevenBit, Square, TooMuch, segment,
+};
+
 #[cfg(feature = "std")]
-pub use port::{Port, now};
-pub use positions::{Placement, Position};
-pub use squares::Square;
+pub use following::{Away, BoardView, Views, now};
+#[cfg(all(feature = "std", target_os = "linux"))]
+pub use port::{Port, follow};

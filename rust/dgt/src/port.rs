@@ -1,21 +1,19 @@
-//! The serial port of a board.
+//! The serial port of a board, on Linux.
 
-use crate::follower::{Follower, MAX_ASKING};
-use core::ffi::{c_int, c_short, c_ulong};
+use crate::following::{Views, now};
+use core::time::Duration;
 use std::fs::File;
-use std::io::{self, Read, Write};
-use std::os::fd::AsRawFd;
+use std::io::{self, ErrorKind, Read, Write};
 use std::os::unix::fs::OpenOptionsExt;
-use std::path::Path;
+use std::path::{Path, PathBuf};
 use std::process::{Command, Stdio};
-use std::sync::OnceLock;
-use std::time::Instant;
+use std::thread;
 
-// Numbers of Linux on x86-64 processors.
-const O_NOCTTY: c_int = 0o400;
-const O_NONBLOCK: c_int = 0o4000;
-const POLLIN: c_short = 1;
-const POLLOUT: c_short = 4;
+// Numbers of Linux, which the standard library keeps to itself.
+#[cfg(any(target_arch = "mips", target_arch = "mips64", target_arch = "sparc64"))]
+compile_error!("Port doesn't know the numbers of this processor: build without the feature std");
+const O_NOCTTY: i32 = 0o400;
+const O_NONBLOCK: i32 = 0o4000;
 
 /// For how many milliseconds a write waits for the port.
 const PATIENCE: u64 = 2000;
@@ -23,53 +21,50 @@ const PATIENCE: u64 = 2000;
 const SET_UP: &str = "flock -n 0 || exit 2
 stty 9600 raw -echo cs8 -parenb -cstopb -crtscts clocal";
 
-#[repr(C)]
-struct PollFd {
-    fd: c_int,
-    events: c_short,
-    revents: c_short,
-}
-
-unsafe extern "C" {
-    fn poll(polled: *mut PollFd, count: c_ulong, milliseconds: c_int) -> c_int;
-}
-
-/// The time in milliseconds, by a clock that doesn't go back: for [`Follower::hear`] and its like.
-pub fn now() -> u64 {
-    static BEGUN: OnceLock<Instant> = OnceLock::new();
-    BEGUN.get_or_init(Instant::now).elapsed().as_millis() as u64
+/// Follows the board on a serial port, and finds the port again if it goes.
+///
+/// ```no_run
+/// for view in dgt::follow("/dev/ttyUSB0")? {
+///     if let (Some(picture), false) = (view.picture, view.in_doubt) {
+///         println!("{picture}");
+///     }
+/// }
+/// # Ok::<(), std::io::Error>(())
+/// ```
+///
+/// # Errors
+///
+/// Those of [`Port::open`].
+pub fn follow(
+    path: impl Into<PathBuf>,
+) -> io::Result<Views<impl FnMut() -> io::Result<Port>, Port>> {
+    let path = path.into();
+    Views::new(move || Port::open(&path))
 }
 
 /// A serial port that this process alone has: 9600 baud, 8 bits, no parity, 1 stop bit, raw. It is
 /// closed with the object.
 ///
-/// ```no_run
-/// use dgt::{Follower, Port, now};
-///
-/// let (mut port, mut follower) = (Port::open("/dev/ttyUSB0")?, Follower::default());
-/// let mut chunk = [0; 256];
-/// loop {
-///     let count = port.exchange(&mut follower, &mut chunk)?;
-///     follower.hear_all(now(), &chunk[..count]);
-/// }
-/// # #[allow(unreachable_code)]
-/// # Ok::<(), std::io::Error>(())
-/// ```
+/// The standard library can neither set up a port nor wait for one. So the commands `stty` and
+/// `flock` set it up, and a read returns `WouldBlock` if nothing has come.
 #[derive(Debug)]
 pub struct Port {
     file: File,
 }
 
 impl Port {
-    /// Opens a port, and locks it and sets it up by the commands `flock` and `stty`. The fault is
-    /// that of opening, or says that the port is in use or is no serial port. It never waits for a
-    /// board.
+    /// Opens a port, locks it and sets it up. It never waits for a board.
     ///
     /// ```
     /// use dgt::Port;
     ///
     /// assert_eq!(Port::open("/dev/null").unwrap_err().to_string(), "not a serial port");
     /// ```
+    ///
+    /// # Errors
+    ///
+    /// The fault of opening the file or of running `sh`, `in use by another program`, or
+    /// `not a serial port`.
     pub fn open(path: impl AsRef<Path>) -> io::Result<Self> {
         let (mut options, mut set_up) = (File::options(), Command::new("sh"));
         options.read(true).write(true).custom_flags(O_NOCTTY | O_NONBLOCK);
@@ -81,49 +76,27 @@ impl Port {
             _ => Err(io::Error::other("not a serial port")),
         }
     }
+}
 
-    /// Sends what a follower asks the board for, if it asks now, and reads until it is due again
-    /// ([`Follower::due_at`]). Returns how many bytes came, which the follower has yet to hear: 0
-    /// if none came by then, or after a signal. A fault if the port has gone.
-    pub fn exchange(&mut self, follower: &mut Follower, chunk: &mut [u8]) -> io::Result<usize> {
-        let mut asked = [0; MAX_ASKING];
-        let count = follower.ask(now(), &mut asked)?;
-        self.write_all(&asked[..count])?;
-        match self.read_until(follower.due_at(), chunk) {
-            Err(fault) if fault.kind() == io::ErrorKind::Interrupted => Ok(0),
-            read => read,
-        }
-    }
-
-    fn read_until(&mut self, until: Option<u64>, chunk: &mut [u8]) -> io::Result<usize> {
-        if !self.is_ready(POLLIN, until)? {
-            return Ok(0);
-        }
-        match self.file.read(chunk)? {
-            0 => Err(io::Error::other("the port has gone")),
-            count => Ok(count),
-        }
-    }
-
-    /// Waits until the port is ready for this, or until a time. Returns whether it is.
-    fn is_ready(&self, events: c_short, until: Option<u64>) -> io::Result<bool> {
-        let left = until.map(|time| time.saturating_sub(now()).try_into().unwrap_or(c_int::MAX));
-        let mut polled = PollFd { fd: self.file.as_raw_fd(), events, revents: 0 };
-        // SAFETY: there is one descriptor, and it is open.
-        match unsafe { poll(&mut polled, 1, left.unwrap_or(-1)) } {
-            -1 => Err(io::Error::last_os_error()),
-            ready => Ok(ready > 0),
-        }
+impl Read for Port {
+    /// Reads what has come. `WouldBlock` if nothing has.
+    fn read(&mut self, chunk: &mut [u8]) -> io::Result<usize> {
+        self.file.read(chunk)
     }
 }
 
 impl Write for Port {
     /// Waits until the port takes bytes. `TimedOut` if it takes none for two seconds.
     fn write(&mut self, bytes: &[u8]) -> io::Result<usize> {
-        if !self.is_ready(POLLOUT, Some(now() + PATIENCE))? {
-            return Err(io::ErrorKind::TimedOut.into());
+        let end = now() + PATIENCE;
+        loop {
+            match self.file.write(bytes) {
+                Err(fault) if fault.kind() != ErrorKind::WouldBlock => return Err(fault),
+                Err(_) if now() >= end => return Err(ErrorKind::TimedOut.into()),
+                Err(_) => thread::sleep(Duration::from_millis(10)),
+                written => return written,
+            }
         }
-        self.file.write(bytes)
     }
 
     fn flush(&mut self) -> io::Result<()> {

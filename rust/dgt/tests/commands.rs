@@ -55,7 +55,7 @@ fn sent(command: &Command<'_>) -> Vec<u8> {
     assert_eq!(encoded, out);
     assert_eq!(command.encode(&mut encoded[..short]), Err(NoRoom { need: count }));
     assert_eq!(Command::view(&out[..count]), Some(*command));
-    assert_eq!(Command::view(&out[..count + 1]), None);
+    assert_eq!(Command::view(&out[..=count]), None);
     out[..count].to_vec()
 }
 

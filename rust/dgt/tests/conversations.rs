@@ -91,12 +91,12 @@ fn a_board_is_made_of_what_it_is_told() {
     for (trademark, battery, serial) in
         [(&long[..], &[][..], &[][..]), (&[], &long, &[]), (&[], &[], &long)]
     {
-        assert_eq!(make(trademark, battery, serial), Err(TooLong));
+        assert_eq!(make(trademark, battery, serial).err(), Some(TooLong));
     }
     let identity = make(&long[1..], &[], b"7").unwrap();
     let position = Position::parse_placement("8/8/8/8/8/8/8/K6k").unwrap();
     let mut board = Board::new(position, Clock::NoClock(absence), identity);
-    assert_eq!((board.position(), board.clock()), (position, Clock::NoClock(absence)));
+    assert_eq!((board.position(), board.clock()), (&position, &Clock::NoClock(absence)));
     let mut host = Host::new();
     for (command, text) in [
         (Command::Trademark, format!("trademark {}", "41".repeat(64))),
@@ -115,7 +115,7 @@ fn a_board_is_made_of_what_it_is_told() {
     let time = |hours, seconds| Reading::new(hours, 0, seconds, 0).unwrap();
     let times = Times::new(time(1, 2), time(3, 4), Status::new(seven(1))).unwrap();
     board.hand_clock(Clock::Times(times));
-    assert_eq!(board.clock(), Clock::Times(times));
+    assert_eq!(board.clock(), &Clock::Times(times));
     let version = Command::ClockMessage(ClockCommand::Version);
     assert_eq!(asks(&mut host, &mut board, version), bytes("8d 00 0a 1a 10 09 0a 2b 00 00"));
 }
@@ -222,7 +222,7 @@ fn a_host_begins() {
     assert_eq!((host.follow(&mut out), &out[..3]), (Ok(2), &[0x44, 0x42, 0xa5][..]));
     assert_eq!(host.restart(&mut out), Ok(257));
     assert_eq!(out.to_vec(), [&[0; 255][..], &[0x44, 0x42]].concat());
-    assert!(host.awaited().eq([Kind::Dump; 2]));
+    assert_eq!(host.awaited(), [Kind::Dump; 2]);
 }
 
 #[test]
@@ -239,15 +239,15 @@ fn a_host_awaits_replies() {
         (Command::LongSerial, Some(Kind::LongSerial)),
         (Command::ClockMessage(ClockCommand::End), None),
     ] {
-        let before: Vec<_> = host.awaited().collect();
+        let before = host.awaited().to_vec();
         host.send(&command, &mut [0; 5]).unwrap();
-        assert!(host.awaited().eq(before.into_iter().chain(kind)), "{command}");
+        assert_eq!(host.awaited(), [&before[..], kind.as_slice()].concat(), "{command}");
     }
-    let awaited: Vec<_> = host.awaited().collect();
+    let awaited = host.awaited().to_vec();
     assert!(host.hear(&bytes("93 00 05 01 03")).unasked);
-    assert!(host.awaited().eq(awaited.iter().copied()));
+    assert_eq!(host.awaited(), awaited);
     assert!(!host.hear(&start_dump()).unasked);
-    assert!(host.awaited().eq(awaited[1..].iter().copied()));
+    assert_eq!(host.awaited(), &awaited[1..]);
 }
 
 #[test]
@@ -262,7 +262,7 @@ fn a_host_gives_up() {
     assert_eq!(host.send(&Command::Dump, &mut [0]), Err(SendFault::TooMany));
     assert_eq!(host.send(&Command::Reset, &mut []), Err(SendFault::NoRoom { need: 1 }));
     assert_eq!((host.give_up_awaited(), host.awaited().len()), (16, 0));
-    assert_eq!((host.picture(), host.give_up_awaited()), (Some(Position::start()), 0));
+    assert_eq!((host.give_up_awaited(), host.picture()), (0, Some(&Position::start())));
     host.hear_all(&[0x8e, 0]);
     assert_eq!(host.unread(), 2);
     host.line_lost();
@@ -272,10 +272,10 @@ fn a_host_gives_up() {
 #[test]
 fn what_is_unfinished_and_owed_is_counted() {
     let (mut board, mut follower) = (Board::default(), Follower::default());
-    assert_eq!((board.owed_len(), board.partial(), follower.unread()), (0, 0, 0));
+    assert_eq!((board.owed_len(), board.partial(), follower.host().unread()), (0, 0, 0));
     assert_eq!(board.take(&[0x42]).unwrap().used, 1);
     assert_eq!(board.take(&[0x2b, 4]).unwrap().used, 2);
     assert_eq!((board.owed_len(), board.partial()), (1, 2));
     follower.hear_all(0, &[0x8e, 0]);
-    assert_eq!(follower.unread(), 2);
+    assert_eq!(follower.host().unread(), 2);
 }

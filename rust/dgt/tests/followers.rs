@@ -23,7 +23,7 @@ fn asked(follower: &mut Follower, now: u64) -> Vec<u8> {
 }
 
 fn placement(follower: &Follower) -> String {
-    follower.picture().map_or("unknown".to_string(), |picture| picture.to_string())
+    follower.picture().map_or("unknown".to_string(), Position::to_string)
 }
 
 #[test]
@@ -68,7 +68,7 @@ fn a_field_lost_whole_is_healed_by_the_next_heartbeat() {
     board.change(Square::parse("e4").unwrap(), Piece::WhitePawn);
     let (mut at, update) = (0, sent(&mut board));
     while at < update.len() {
-        at += follower.hear(2, &update[at..]).used;
+        at += follower.hear(2, &update[at..]);
     }
     assert_eq!((placement(&follower), follower.in_doubt()), (DOUBLED.to_string(), false));
     let heartbeat = asked(&mut follower, 1000);
@@ -84,14 +84,16 @@ fn a_follower_reports_what_it_hears_as_a_host_does() {
     chunk.extend(bytes("93 00 05 01 03 92 00 04 4d 31"));
     let (mut at, mut lines) = (0, Vec::new());
     while at < chunk.len() {
-        let heard = follower.hear(1, &chunk[at..]);
+        let mut said = String::new();
+        let mut note = |place, event: &Event<'_>| said = format!("{} {event}", at + place);
+        let heard = follower.hear_with(1, &chunk[at..], &mut note);
         at += heard.used;
-        lines.push(format!("{at} {} {}", heard.event.unwrap(), heard.unasked));
+        lines.push(format!("{said} {}", heard.unasked));
     }
     let dump = format!("67 dump {START} false");
     assert_eq!(lines, [&dump, "72 version 1.3 true", "76 trademark 4d true", "77 stray 31 false"]);
-    let heard = follower.hear(2, &[0x8e, 0]);
-    assert_eq!((heard.used, heard.event, heard.unasked), (2, None, false));
+    let heard = follower.hear_with(2, &[0x8e, 0], &mut |_, _: &Event<'_>| panic!("no event"));
+    assert_eq!((heard.used, heard.unasked), (2, false));
 }
 
 #[test]

@@ -72,7 +72,7 @@ fn placements_are_read_and_written() {
         ),
     ] {
         let position = Position::parse_placement(read).unwrap();
-        assert_eq!(&*position.placement(), written);
+        assert_eq!(position.placement().as_str(), written);
         assert_eq!((position.to_string(), written.parse()), (written.to_string(), Ok(position)));
     }
     for (text, at) in [
@@ -112,9 +112,9 @@ fn bytes_and_bodies_are_of_seven_bits() {
     assert_eq!(Body::new(&long), Err(BodyError::Length(TooMuch)));
     assert_eq!(Body::new(&[0, 128]), Err(BodyError::Byte(NotSevenBit)));
     assert!(Payload::new(&long[..MAX_PAYLOAD]).is_ok());
-    assert_eq!(Payload::new(&long[..MAX_PAYLOAD + 1]), Err(TooMuch));
+    assert_eq!(Payload::new(&long[..=MAX_PAYLOAD]), Err(TooMuch));
     assert!(LedBytes::new(&long[..MAX_LED_BYTES]).is_ok());
-    assert_eq!(LedBytes::new(&long[..MAX_LED_BYTES + 1]), Err(TooMuch));
+    assert_eq!(LedBytes::new(&long[..=MAX_LED_BYTES]), Err(TooMuch));
 }
 
 #[test]

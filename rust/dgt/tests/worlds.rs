@@ -36,8 +36,8 @@ impl World {
     }
 
     fn change(&mut self, chance: &mut Chance) {
-        let square = Square::from_index(chance.below(64) as u8).unwrap();
-        self.board.change(square, Piece::from_code(chance.below(16) as u8).unwrap());
+        let square = Square::from_small(chance.byte());
+        self.board.change(square, Piece::from_code(chance.byte() % 16).unwrap());
     }
 
     fn board_sends(&mut self) {

@@ -89,7 +89,7 @@ pub fn answers(board: &mut Board, mut bytes: &[u8]) -> Vec<u8> {
     all
 }
 
-/// Numbers made by chance, the same in each run (SplitMix64).
+/// Numbers made by chance, the same in each run (`SplitMix64`).
 pub struct Chance(pub u64);
 
 impl Chance {

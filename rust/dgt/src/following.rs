@@ -1,0 +1,271 @@
+//! A board that is followed over a stream, view by view.
+
+use crate::{Clock, Command, Follower, MAX_ASKING, MAX_WORD, Position};
+use core::fmt::{self, Display, Formatter};
+use core::time::Duration;
+use std::io::{self, ErrorKind, Read, Write};
+use std::sync::OnceLock;
+use std::thread;
+use std::time::Instant;
+
+/// How many milliseconds pass between two looks for a port that has gone.
+const LOOK: u64 = 2000;
+/// How many milliseconds to wait for a stream that has nothing to read and doesn't wait itself.
+const NAP: u64 = 10;
+
+/// The time in milliseconds, by a clock that doesn't go back: for [`Follower::hear`] and its like.
+#[must_use]
+pub fn now() -> u64 {
+    static BEGUN: OnceLock<Instant> = OnceLock::new();
+    u64::try_from(BEGUN.get_or_init(Instant::now).elapsed().as_millis()).unwrap_or(u64::MAX)
+}
+
+/// Why nothing is heard of a board.
+#[derive(Clone, Copy, Debug, PartialEq, Eq, Hash)]
+#[cfg_attr(feature = "serde", derive(serde::Serialize, serde::Deserialize))]
+#[non_exhaustive]
+pub enum Away {
+    /// Its port has gone. It is looked for every two seconds.
+    Gone,
+    /// Its port is there, and it doesn't answer.
+    Silent,
+}
+
+impl Display for Away {
+    fn fmt(&self, f: &mut Formatter<'_>) -> fmt::Result {
+        f.write_str(match self {
+            Away::Gone => "the port has gone; it is looked for every two seconds",
+            Away::Silent => "the board doesn't answer",
+        })
+    }
+}
+
+/// What is known of a board that is followed.
+#[derive(Clone, Copy, Debug, Default, PartialEq, Eq, Hash)]
+#[cfg_attr(feature = "serde", derive(serde::Serialize, serde::Deserialize))]
+#[non_exhaustive]
+pub struct BoardView {
+    /// What stands on the squares, or `None` before the first report of it.
+    pub picture: Option<Position>,
+    /// The last report of the board's clock, or `None` before the first, and while the clock shows
+    /// no digits, as while it is set.
+    pub clock: Option<Clock>,
+    /// Whether the picture may be wrong: the line lost or altered bytes, or the board is away. It
+    /// may be wrong until the board reports all squares again.
+    pub in_doubt: bool,
+    /// Whether a second report of all squares has shown the same picture. With
+    /// [`Follower::set_confirm`] it soon has.
+    pub confirmed: bool,
+    /// Why nothing is heard of the board. `None` if it is heard.
+    pub away: Option<Away>,
+}
+
+/// A board that is followed over a stream, as an iterator of [`BoardView`]s, one for each change.
+/// It never ends: a stream that has gone is opened again.
+///
+/// The stream is whatever `open` returns. A read has to return after a while if nothing comes, by
+/// `TimedOut` or `WouldBlock`, so that the board can be asked in time. `Ok(0)` and any other fault
+/// say that the stream has gone. A port of the crate `serialport` does for each system it knows:
+///
+/// ```ignore
+/// let port = || Ok(serialport::new("COM3", 9600).timeout(Duration::from_millis(100)).open()?);
+/// for view in dgt::Views::new(port)? {
+///     println!("{view:?}");
+/// }
+/// ```
+///
+/// Here it is a board of this crate:
+///
+/// ```
+/// use dgt::{Board, Polled, Views};
+/// use std::io::{self, Read, Write};
+///
+/// struct Simulated(Board);
+///
+/// impl Read for Simulated {
+///     fn read(&mut self, out: &mut [u8]) -> io::Result<usize> {
+///         match self.0.poll(out) {
+///             Polled::Wrote(count) => Ok(count),
+///             _ => Err(io::ErrorKind::WouldBlock.into()),
+///         }
+///     }
+/// }
+///
+/// impl Write for Simulated {
+///     fn write(&mut self, bytes: &[u8]) -> io::Result<usize> {
+///         self.0.take(bytes).map(|taken| taken.used).map_err(io::Error::other)
+///     }
+///     fn flush(&mut self) -> io::Result<()> {
+///         Ok(())
+///     }
+/// }
+///
+/// let view = Views::new(|| Ok(Simulated(Board::default())))?.next().unwrap();
+/// assert_eq!(view.picture.unwrap().to_string(), "rnbqkbnr/pppppppp/8/8/8/8/PPPPPPPP/RNBQKBNR");
+/// # Ok::<(), io::Error>(())
+/// ```
+#[derive(Debug)]
+pub struct Views<Open, Stream> {
+    open: Open,
+    stream: Option<Stream>,
+    looked: u64,
+    follower: Follower,
+    view: BoardView,
+    asked: Option<u64>,
+    asked_before: Option<u64>,
+    chunk: [u8; 256],
+    heard: usize,
+    came: usize,
+}
+
+impl<Open: FnMut() -> io::Result<Stream>, Stream: Read + Write> Views<Open, Stream> {
+    /// Follows the board on the stream that this opens, now and whenever it has gone. The follower
+    /// is the one by default; change it by [`Views::follower`].
+    ///
+    /// # Errors
+    ///
+    /// The fault of opening the stream for the first time.
+    pub fn new(mut open: Open) -> io::Result<Self> {
+        let stream = Some(open()?);
+        Ok(Views {
+            open,
+            stream,
+            looked: now(),
+            follower: Follower::default(),
+            view: BoardView::default(),
+            asked: None,
+            asked_before: None,
+            chunk: [0; 256],
+            heard: 0,
+            came: 0,
+        })
+    }
+
+    /// What is known now.
+    #[must_use]
+    pub fn view(&self) -> BoardView {
+        self.view
+    }
+
+    /// The follower, for its settings: `views.follower().set_confirm(true)`.
+    pub fn follower(&mut self) -> &mut Follower {
+        &mut self.follower
+    }
+
+    /// Sends a command of the program's own, as [`Follower::send`] does.
+    ///
+    /// # Errors
+    ///
+    /// `NotConnected` while the stream is away, the fault of writing, or a
+    /// [`SendFault`](crate::SendFault).
+    pub fn send(&mut self, command: &Command<'_>) -> io::Result<()> {
+        let Some(stream) = &mut self.stream else {
+            return Err(ErrorKind::NotConnected.into());
+        };
+        let mut out = [0; MAX_WORD];
+        let count = self.follower.send(command, &mut out)?;
+        stream.write_all(&out[..count])
+    }
+
+    /// Does one thing, and returns whether it changed what is known.
+    fn turn(&mut self) -> bool {
+        let fault = if self.heard < self.came {
+            self.heard += self.follower.hear(now(), &self.chunk[self.heard..self.came]);
+            None
+        } else if let Some(stream) = &mut self.stream {
+            let asked = ask(&mut self.follower, stream);
+            match asked.and_then(|count| Ok((count, read(stream, &mut self.chunk)?))) {
+                Ok((count, came)) => {
+                    if count > 0 {
+                        (self.asked_before, self.asked) = (self.asked, Some(now()));
+                    }
+                    (self.heard, self.came) = (0, came);
+                    None
+                }
+                Err(fault) => Some(fault),
+            }
+        } else {
+            self.look();
+            None
+        };
+        if fault.is_some() {
+            self.lose();
+        }
+        self.note()
+    }
+
+    fn lose(&mut self) {
+        (self.stream, self.looked) = (None, now());
+        (self.asked, self.asked_before) = (None, None);
+        self.follower.line_lost();
+    }
+
+    fn look(&mut self) {
+        let next = self.looked + LOOK;
+        thread::sleep(Duration::from_millis(next.saturating_sub(now())));
+        (self.stream, self.looked) = ((self.open)().ok(), now());
+    }
+
+    /// Two askings found nothing that was heard since the first of them.
+    fn is_silent(&self) -> bool {
+        self.asked_before
+            .is_some_and(|asked| self.follower.last_heard().is_none_or(|it| it < asked))
+    }
+
+    /// What was known stays known while the stream is away.
+    fn note(&mut self) -> bool {
+        let away = match &self.stream {
+            None => Some(Away::Gone),
+            Some(_) => self.is_silent().then_some(Away::Silent),
+        };
+        let picture = self.follower.picture().copied();
+        let is_old = picture.is_none() && self.view.picture.is_some();
+        let clock = self.follower.clock().copied();
+        let view = BoardView {
+            picture: picture.or(self.view.picture),
+            clock: if is_old { clock.or(self.view.clock) } else { clock },
+            in_doubt: self.follower.in_doubt() || away.is_some() || is_old,
+            confirmed: self.follower.confirmed(),
+            away,
+        };
+        let changed = view != self.view;
+        self.view = view;
+        changed
+    }
+}
+
+impl<Open: FnMut() -> io::Result<Stream>, Stream: Read + Write> Iterator for Views<Open, Stream> {
+    type Item = BoardView;
+
+    /// Waits until something changes, and returns what is known then.
+    fn next(&mut self) -> Option<BoardView> {
+        while !self.turn() {}
+        Some(self.view)
+    }
+}
+
+/// Sends what is due, and returns how many bytes. A stream that takes none has them later.
+fn ask(follower: &mut Follower, stream: &mut impl Write) -> io::Result<usize> {
+    let mut out = [0; MAX_ASKING];
+    let count = follower.ask(now(), &mut out)?;
+    match stream.write_all(&out[..count]).and_then(|()| stream.flush()) {
+        Err(fault) if fault.kind() != ErrorKind::TimedOut => Err(fault),
+        _ => Ok(count),
+    }
+}
+
+/// Reads what comes, and returns how many bytes: 0 if nothing came in time.
+fn read(stream: &mut impl Read, chunk: &mut [u8]) -> io::Result<usize> {
+    match stream.read(chunk) {
+        Ok(0) => Err(ErrorKind::UnexpectedEof.into()),
+        Ok(count) => Ok(count),
+        Err(fault) => match fault.kind() {
+            ErrorKind::WouldBlock => {
+                thread::sleep(Duration::from_millis(NAP));
+                Ok(0)
+            }
+            ErrorKind::TimedOut | ErrorKind::Interrupted => Ok(0),
+            _ => Err(fault),
+        },
+    }
+}
