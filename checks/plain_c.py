@@ -1,7 +1,7 @@
 """The library for C from plain Rust: crates/dgt_c over the modules that rust/generate writes.
 
-It is there to be compared with the proved library, by the harnesses of fuzz/, and for nothing else:
-its calls are unsafe code by hand, and its handles lie in memory as rustc lays them out.
+It is only there to be compared with the models of fuzz/, as the proved library is. Its handles lie
+in memory as rustc lays them out.
 """
 
 from __future__ import annotations
@@ -36,7 +36,8 @@ overflow-checks = true
 panic = "abort"
 """
 # The crate dgt, with dgt_c as one more module.
-CHANGED = [("#![no_std]\n", ""), ("#![forbid(unsafe_code)]\n", "#![allow(unused, unexpected_cfgs)]\n"),
+CHANGED = [("#![no_std]\n", ""),
+           ("#![forbid(unsafe_code)]\n", "#![allow(unused, unexpected_cfgs)]\n"),
            ("generated! {\n", 'generated! {\n    c "generated/c/mod.rs",\n')]
 USES = "use std::marker::{Model, Send};"
 # A call of C and its parameters. C has two for a slice.
@@ -77,6 +78,9 @@ def stripped(generate: ModuleType, path: pathlib.Path) -> str:
     """A file of dgt_c as plain Rust."""
     class OfC(generate.Stripper):  # type: ignore[misc, name-defined]
         """dgt_c also has raw pointers, and what their layout is."""
+
+        at: int
+        out: str
 
         def derive(self, names: list[str], at: int) -> str:
             kept = [name for name in names if name != "Drop"]

@@ -34,12 +34,11 @@
 //!
 //! # What is proved
 //!
-//! The modules [`values`], [`message`], [`decode`], [`command`], [`board`], [`host`] and
-//! [`mod@follow`] are generated from the crates of the same names that are written in Rattle, which is Rust with
-//! contracts, and whose contracts are proved for all inputs. What runs is their text, without the
-//! contracts. A few places differ, since stable Rust has no `std::simd`: `rust/plain.edits` of the
-//! repository lists them. Their comments name contracts, `laws` and files of `specs/` that are in
-//! the repository. The other modules are written by hand, and tested.
+//! The public modules are generated from crates in Rattle, which is Rust with contracts. The
+//! contracts of those crates are proved for all inputs. The modules have their code without the
+//! contracts, but for four places that `rust/plain.edits` of the repository lists. Comments name
+//! contracts, `laws` and files of `specs/`, which are in the repository, too. What the modules
+//! don't have, such as traits, texts and views, is written by hand, and tested.
 //!
 //! # Features
 //!

@@ -2,6 +2,7 @@
 //! their parts. What is read is checked as it is everywhere else.
 
 use crate::{Clock, NoClock, Piece, Position, Reading, SevenBit, Square, Status, Times};
+use core::convert::Infallible;
 use core::fmt::{self, Display, Formatter};
 use core::marker::PhantomData;
 use core::str::FromStr;
@@ -94,7 +95,7 @@ enum ClockParts {
 
 as_parts! {
     SevenBit as u8: |it| it.get(), SevenBit::try_from;
-    Status as SevenBit: |it| it.code(), |code| Ok::<_, core::convert::Infallible>(Status::new(code));
+    Status as SevenBit: |it| it.code(), |code| Ok::<_, Infallible>(Status::new(code));
     Reading as ReadingParts: |it| ReadingParts {
         hours: it.hours(),
         minutes: it.minutes(),
@@ -111,7 +112,7 @@ as_parts! {
     Clock as ClockParts: |it| match it {
         Clock::Times(times) => ClockParts::Times(*times),
         Clock::NoClock(absence) => ClockParts::NoClock(*absence),
-    }, |it| Ok::<_, core::convert::Infallible>(match it {
+    }, |it| Ok::<_, Infallible>(match it {
         ClockParts::Times(times) => Clock::Times(times),
         ClockParts::NoClock(absence) => Clock::NoClock(absence),
     });

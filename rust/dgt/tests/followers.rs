@@ -136,7 +136,7 @@ fn a_message_that_stays_unfinished_is_a_disturbance() {
     assert_eq!((follower.confirmed(), follower.due_at()), (true, Some(20_000)));
     board.change(Square::parse("e2").unwrap(), Piece::Empty);
     let update = sent(&mut board);
-    assert_eq!(follower.hear(10_100, &update[..3]).used, 3);
+    assert_eq!(follower.hear(10_100, &update[..3]), 3);
     follower.hear_all(10_900, b""); // no byte is no news
     assert_eq!((follower.due_at(), asked(&mut follower, 11_099)), (Some(11_100), vec![]));
     assert_eq!((follower.confirmed(), follower.in_doubt()), (true, false));
