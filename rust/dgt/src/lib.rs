@@ -86,10 +86,6 @@ mod port;
 #[cfg(feature = "serde")]
 mod serde_values;
 
-#[cfg(all(doctest, feature = "std", target_os = "linux"))]
-#[doc = include_str!("../../README.md")]
-struct Readme;
-
 pub use board::{
     Board, Busy, Identity, MAX_KEPT_BODY, MAX_OWED, MAX_SENT, Mode, Polled, Taken, TooLong,
     simulated_clock,
