@@ -5,9 +5,9 @@
 #include <stdlib.h>
 #include <string.h>
 #include <sys/mman.h>
+#include <unistd.h>
 
-#define PAGE 4096
-#define ROOM (5 * PAGE) /* of each place, at least MOST_CHUNK */
+#define ROOM 65536 /* of each place: at least MOST_CHUNK, and whole pages of any machine */
 
 void stop(const char *file, int line, const char *what) {
     fprintf(stderr, "%s:%d: not so: %s\n", file, line, what);
@@ -136,11 +136,13 @@ static uint8_t *places[PLACES];
 
 static void make_places(void) {
     if (places[0]) return;
+    size_t page = (size_t)sysconf(_SC_PAGESIZE);
+    CHECK(ROOM % page == 0);
     for (size_t i = 0; i < PLACES; i++) {
         void *mapped =
-            mmap(NULL, ROOM + 2 * PAGE, PROT_NONE, MAP_PRIVATE | MAP_ANONYMOUS, -1, 0);
+            mmap(NULL, ROOM + 2 * page, PROT_NONE, MAP_PRIVATE | MAP_ANONYMOUS, -1, 0);
         CHECK(mapped != MAP_FAILED);
-        places[i] = (uint8_t *)mapped + PAGE;
+        places[i] = (uint8_t *)mapped + page;
         CHECK(mprotect(places[i], ROOM, PROT_READ | PROT_WRITE) == 0);
     }
 }
