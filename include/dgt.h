@@ -45,8 +45,9 @@
  * alone. A struct or a slice that a call writes may hold anything before; a slice keeps what stands
  * after the bytes that are written.
  *
- * PLATFORM: Linux on x86-64 processors, with pointers of 64 bits (not x32). lib/build compiles the
- * library for any x86-64 processor, also the first ones. Elsewhere sizes and calls would differ.
+ * PLATFORM: Linux on x86-64 and on 64-bit ARM processors, with pointers of 64 bits (not x32, not
+ * ILP32). All sizes are the same on both. lib/build compiles the library for any of these
+ * processors, also the first ones. Elsewhere sizes and calls would differ.
  *
  * VERSIONS. DGT_VERSION is the version of this header. The shared library's soname has its first
  * number: libdgt.so.1. A program that was compiled with this header runs with each library of this
