@@ -7,7 +7,7 @@
  * yours. (dgt_port.h opens a serial port and waits for its bytes. In C++ dgt.hpp has classes.) A
  * program that follows a board on a serial line, with a time in milliseconds:
  *
- *     static dgt_follower follower;                 // 16 KB
+ *     static dgt_follower follower;                 // 23 KiB
  *     uint8_t out[DGT_MAX_ASKING], chunk[256];
  *     uint64_t due;
  *     if (!dgt_follower_new(&follower, 10000, 6)) return 1; // the library has another size for it
@@ -144,12 +144,13 @@ uint32_t dgt_version(void);
 
 /* ---- Handles. Their members are the library's. */
 
-/* How many bytes they take, as dgt_host_size() and its like answer, and _new compares. */
-#define DGT_HOST_SIZE 16520
-#define DGT_FOLLOWER_SIZE 16624
-#define DGT_DECODER_SIZE 16416
-#define DGT_COMMAND_DECODER_SIZE 288
-#define DGT_BOARD_SIZE 712
+/* How many bytes they take, as dgt_host_size() and its like return, and _new compares. That is more
+ * than the library needs today, so that a handle can grow within its size. */
+#define DGT_HOST_SIZE 22528
+#define DGT_FOLLOWER_SIZE 23552
+#define DGT_DECODER_SIZE 21504
+#define DGT_COMMAND_DECODER_SIZE 512
+#define DGT_BOARD_SIZE 1280
 
 typedef struct dgt_host {
     void *at_;
@@ -325,7 +326,7 @@ typedef struct dgt_command {
 
 /* Its events, one after another:
  *
- *     static dgt_host host;                         // 16 KB
+ *     static dgt_host host;                         // 22 KiB
  *     uint8_t out[DGT_RESTART_LENGTH], body[DGT_MAX_BODY];
  *     dgt_event event;
  *     if (!dgt_host_new(&host)) return 1;           // the library has another size for it
@@ -1065,8 +1066,21 @@ DGT_SIZE_(dgt_parsed, 16);
  */
 #ifndef NDEBUG
 
+#ifdef __cplusplus
+#define DGT_ADDRESS_(pointer) reinterpret_cast<uintptr_t>(pointer)
+#else
+#define DGT_ADDRESS_(pointer) ((uintptr_t)(pointer))
+#endif
+
+/* Whether a handle points into itself, wherever the library has put what it points to. */
+static inline bool dgt_is_inside_(const void *at, const void *handle, size_t size) {
+    return DGT_ADDRESS_(at) - DGT_ADDRESS_(handle) < size;
+}
+#undef DGT_ADDRESS_
+
 static inline dgt_host *dgt_host_(dgt_host *handle) {
-    assert(handle->at_ == handle->room_ && "this dgt_host was not made, or was copied or moved");
+    assert(dgt_is_inside_(handle->at_, handle, sizeof *handle) &&
+           "this dgt_host was not made, or was copied or moved");
     return handle;
 }
 #define dgt_host_hear(it, ...) dgt_host_hear(dgt_host_(it), __VA_ARGS__)
@@ -1095,7 +1109,7 @@ static inline dgt_host *dgt_host_(dgt_host *handle) {
 #define dgt_host_line_lost(it) dgt_host_line_lost(dgt_host_(it))
 
 static inline dgt_follower *dgt_follower_(dgt_follower *handle) {
-    assert(handle->at_ == handle->room_ &&
+    assert(dgt_is_inside_(handle->at_, handle, sizeof *handle) &&
            "this dgt_follower was not made, or was copied or moved");
     return handle;
 }
@@ -1136,7 +1150,8 @@ static inline dgt_follower *dgt_follower_(dgt_follower *handle) {
 #define dgt_follower_line_lost(it) dgt_follower_line_lost(dgt_follower_(it))
 
 static inline dgt_decoder *dgt_decoder_(dgt_decoder *handle) {
-    assert(handle->at_ == handle->room_ && "this dgt_decoder was not made, or was copied or moved");
+    assert(dgt_is_inside_(handle->at_, handle, sizeof *handle) &&
+           "this dgt_decoder was not made, or was copied or moved");
     return handle;
 }
 #define dgt_decoder_feed(it, ...) dgt_decoder_feed(dgt_decoder_(it), __VA_ARGS__)
@@ -1146,7 +1161,7 @@ static inline dgt_decoder *dgt_decoder_(dgt_decoder *handle) {
 #define dgt_decoder_reset(it) dgt_decoder_reset(dgt_decoder_(it))
 
 static inline dgt_command_decoder *dgt_command_decoder_(dgt_command_decoder *handle) {
-    assert(handle->at_ == handle->room_ &&
+    assert(dgt_is_inside_(handle->at_, handle, sizeof *handle) &&
            "this dgt_command_decoder was not made, or was copied or moved");
     return handle;
 }
@@ -1157,7 +1172,8 @@ static inline dgt_command_decoder *dgt_command_decoder_(dgt_command_decoder *han
 #define dgt_command_decoder_reset(it) dgt_command_decoder_reset(dgt_command_decoder_(it))
 
 static inline dgt_board *dgt_board_(dgt_board *handle) {
-    assert(handle->at_ == handle->room_ && "this dgt_board was not made, or was copied or moved");
+    assert(dgt_is_inside_(handle->at_, handle, sizeof *handle) &&
+           "this dgt_board was not made, or was copied or moved");
     return handle;
 }
 #define dgt_board_start(it, ...) dgt_board_start(dgt_board_(it), __VA_ARGS__)

@@ -2,7 +2,7 @@
 //
 // A program that follows a board on a serial line:
 //
-//     dgt::Follower follower;                            // 32 KB
+//     dgt::Follower follower;                            // 39 KiB
 //     for (;;) {
 //         write_to_line(follower.ask(dgt::now()));       // nothing if that is not due
 //         read_from_line(chunk, follower.due());         // waits for bytes until then
@@ -780,7 +780,7 @@ private:
 
 // ---- A host.
 
-/// Asks a board, and keeps a picture of it from what it hears. 32 KB.
+/// Asks a board, and keeps a picture of it from what it hears. 38 KiB.
 class Host : public ClockCommands<Host> {
 public:
     /// It knows nothing and awaits nothing. WrongLibrary.
@@ -886,7 +886,7 @@ private:
 
 /// A host that asks for the whole board again and again, so that its picture becomes right again
 /// after any fault of the line (see dgt.h). A time or a period that is negative is a
-/// std::invalid_argument. 32 KB.
+/// std::invalid_argument. 39 KiB.
 class Follower : public ClockCommands<Follower> {
 public:
     /// `period` is from one asking to the next, at least DGT_LEAST_PERIOD: a shorter one counts as
@@ -1032,7 +1032,7 @@ private:
 
 // ---- A decoder and a reader of commands.
 
-/// Reports the events of a board's bytes, and keeps no picture. 32 KB.
+/// Reports the events of a board's bytes, and keeps no picture. 37 KiB.
 class Decoder {
 public:
     /// It holds nothing. WrongLibrary.

@@ -80,8 +80,8 @@ class IdentityStruct(Structure):
 
 
 # How many bytes a handle takes, as dgt.h has it.
-_SIZES = {"dgt_host": 16520, "dgt_follower": 16624, "dgt_decoder": 16416,
-          "dgt_command_decoder": 288, "dgt_board": 712}
+_SIZES = {"dgt_host": 22528, "dgt_follower": 23552, "dgt_decoder": 21504,
+          "dgt_command_decoder": 512, "dgt_board": 1280}
 
 _ROOM = (c_void_p, c_size_t)
 _HANDLE = {

@@ -1,5 +1,6 @@
 -- Numbers and structs as C has them.
-use Rattle.std.specs.Prelude.{⊤, ℕ, ◌<◌, ◌^◌, List, ◌∷◌}
+use Rattle.std.specs.Prelude.{⊤, ℕ, ◌<◌, ◌≤◌, ◌^◌, List, ◌∷◌}
+use Rattle.std.specs.Mem.{type_size}
 use denote.RattleType.{RattleType}
 use denote.Memory.{lone}
 use prog.Offsets.{Lies}
@@ -22,3 +23,8 @@ Ascend _ = ⊤
 -- begin at these offsets, in the order of their declaration.
 abbrev pub LiesAs : RattleType → ℕ → ℕ → List ℕ → Type 0
 LiesAs row size alignment offsets = Lies (lone row.mir) size alignment offsets
+
+-- The same of a value that takes `room` bytes at most.
+abbrev pub FitsIn : RattleType → ℕ → ℕ → List ℕ → Type 0
+FitsIn row room alignment offsets =
+    (type_size row ≤ room) × LiesAs row (type_size row) alignment offsets

@@ -19,4 +19,3 @@ pub mod PlainFollower
 pub mod Once
 -- Structs of C in memory.
 pub mod Layouts
-pub mod Rooms

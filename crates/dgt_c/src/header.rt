@@ -6,6 +6,21 @@ use dgt_board::MAX_KEPT_BODY;
 /// Room for each placement and a zero.
 pub const PLACEMENT_ROOM: usize = 72;
 
+/// How many bytes a `dgt_host` takes, which is more than the handle and the host need today.
+pub const HOST_ROOM: usize = 22 * 1024;
+
+/// How many bytes a `dgt_follower` takes.
+pub const FOLLOWER_ROOM: usize = 23 * 1024;
+
+/// How many bytes a `dgt_decoder` takes.
+pub const DECODER_ROOM: usize = 21 * 1024;
+
+/// How many bytes a `dgt_command_decoder` takes.
+pub const COMMAND_DECODER_ROOM: usize = 512;
+
+/// How many bytes a `dgt_board` takes.
+pub const BOARD_ROOM: usize = 1280;
+
 /// What stands for no piece, no square and no segments.
 pub const NONE: u8 = 255;
 

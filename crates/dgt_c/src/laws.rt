@@ -14,8 +14,7 @@ ghost use Rattle.dgt_command.specs.declared.ids.KnownId.{KnownId};
 ghost use Rattle.dgt_c.specs.Clocks.{absence_said, times_said};
 ghost use Rattle.dgt_c.specs.Encoding.{SaysContent, SaysMessage};
 ghost use Rattle.dgt_c.specs.Once.{BusyBoardsStay, ClocksAreInRange, IdentitiesAreInRange, MessagesAreEncoded, MessagesAreRead, NothingIsEncoded, OneClock, OneEncoding, OneFeed, OneHearing, OneReportEach, OneStart, OneTaking, OneUse, OneWord, RefusedCommandsStay, RoomIsLeft, TextsAreShown};
-ghost use Rattle.dgt_c.specs.Layouts.{◌⊗◌, Ascend, LiesAs, bit_alone};
-ghost use Rattle.dgt_c.specs.Rooms.{board_room, command_decoder_room, decoder_room, follower_room, host_room};
+ghost use Rattle.dgt_c.specs.Layouts.{◌⊗◌, Ascend, FitsIn, LiesAs, bit_alone};
 ghost use Rattle.dgt_c.specs.contracts.header.{DgtBody.the_row as body_row, DgtClock.the_row as clock_row, DgtCommand.the_row as command_row, DgtEncoded.the_row as encoded_row, DgtEvent.the_row as event_row, DgtIdentity.the_row as identity_row, DgtParsed.the_row as parsed_row, DgtPolled.the_row as polled_row, DgtSent.the_row as sent_row, DgtTaken.the_row as taken_row, DgtTime.the_row as time_row, DgtTold.the_row as told_row};
 ghost use Rattle.dgt_c.specs.contracts.header.{DgtBody.the_type as body_type, DgtClock.the_type as clock_type, DgtCommand.the_type as command_type, DgtEncoded.the_type as encoded_type, DgtEvent.the_type as event_type, DgtIdentity.the_type as identity_type, DgtParsed.the_type as parsed_type, DgtPolled.the_type as polled_type, DgtSent.the_type as sent_type, DgtTaken.the_type as taken_type, DgtTime.the_type as time_type, DgtTold.the_type as told_type};
 ghost use Rattle.dgt_c.specs.contracts.places.{BoardPlace.the_row as board_row, CommandDecoderPlace.the_row as command_decoder_row, DecoderPlace.the_row as decoder_row, FollowerPlace.the_row as follower_row, HostPlace.the_row as host_row};
@@ -46,11 +45,11 @@ pub fn limits()
     ensures max_kept { MAX_KEPT_BODY ≡ 64 }
     ensures placement_room { PLACEMENT_ROOM ≡ 72 }
     ensures no_such { NONE ≡ 255 }
-    ensures host_size { host_room ≡ 16520 }
-    ensures follower_size { follower_room ≡ 16624 }
-    ensures decoder_size { decoder_room ≡ 16416 }
-    ensures command_decoder_size { command_decoder_room ≡ 288 }
-    ensures board_size { board_room ≡ 712 }
+    ensures host_size { HOST_ROOM ≡ 22528 }
+    ensures follower_size { FOLLOWER_ROOM ≡ 23552 }
+    ensures decoder_size { DECODER_ROOM ≡ 21504 }
+    ensures command_decoder_size { COMMAND_DECODER_ROOM ≡ 512 }
+    ensures board_size { BOARD_ROOM ≡ 1280 }
     ensures clock_unknown { CLOCK_UNKNOWN ≡ 0 }
     ensures clock_times { CLOCK_TIMES ≡ 1 }
     ensures clock_none { CLOCK_NONE ≡ 2 }
@@ -149,13 +148,14 @@ pub fn cases_differ()
 {}
 
 /// How the structs of `dgt.h` lie in memory: how many bytes each takes, the multiple at which it
-/// lies, and where its members begin, in the order of the law [`members`].
+/// lies, and where its members begin, in the order of the law [`members`]. A handle takes at most
+/// this many bytes.
 pub fn layouts()
-    ensures host { LiesAs host_row 16520 8 (0 ∷ 8 ∷ []) }
-    ensures follower { LiesAs follower_row 16624 8 (0 ∷ 8 ∷ []) }
-    ensures decoder { LiesAs decoder_row 16416 8 (0 ∷ 8 ∷ []) }
-    ensures command_decoder { LiesAs command_decoder_row 288 8 (0 ∷ 8 ∷ []) }
-    ensures board { LiesAs board_row 712 8 (0 ∷ 8 ∷ []) }
+    ensures host { FitsIn host_row 22528 8 (0 ∷ 8 ∷ []) }
+    ensures follower { FitsIn follower_row 23552 8 (0 ∷ 8 ∷ []) }
+    ensures decoder { FitsIn decoder_row 21504 8 (0 ∷ 8 ∷ []) }
+    ensures command_decoder { FitsIn command_decoder_row 512 8 (0 ∷ 8 ∷ []) }
+    ensures board { FitsIn board_row 1280 8 (0 ∷ 8 ∷ []) }
     ensures time { LiesAs time_row 4 1 (0 ∷ 1 ∷ 2 ∷ 3 ∷ []) }
     ensures clock { LiesAs clock_row 16 1 (0 ∷ 1 ∷ 2 ∷ 8 ∷ 12 ∷ []) }
     ensures event { LiesAs event_row 136 8 (0 ∷ 1 ∷ 2 ∷ 3 ∷ 4 ∷ 5 ∷ 6 ∷ 7 ∷ 8 ∷ 9 ∷ 10 ∷ 14 ∷ 19

@@ -1,17 +1,20 @@
 //! How each handle and what it owns lie in memory of C's, and how both are made there.
+//!
+//! C has more room for each than they need, so that they can grow.
 
-ghost use Rattle.std.specs.Prelude.{◌≡◌, []};
+ghost use Rattle.std.specs.Prelude.{◌≡◌, ◌≤◌, []};
 ghost use Rattle.std.specs.Borrow.{full_share, sem};
+ghost use Rattle.std.specs.Mem.{type_size};
 ghost use Rattle.std.specs.Ptr.{lies_at, room_at};
 ghost use denote.RawPtr.{◌+ₚ◌};
 ghost use Rattle.dgt_host.specs.Host.{new_host};
 ghost use Rattle.dgt_c.specs.PlainBoard.{plain_board};
 ghost use Rattle.dgt_c.specs.PlainFollower.{plain_follower};
-ghost use Rattle.dgt_c.specs.Rooms.{board_room, command_decoder_room, decoder_room, follower_room, host_room};
 ghost use Rattle.dgt_c.specs.contracts.handles.{DgtBoard.the_row as board_handle, DgtCommandDecoder.the_row as command_decoder_handle, DgtDecoder.the_row as decoder_handle, DgtFollower.the_row as follower_handle, DgtHost.the_row as host_handle};
 ghost use Rattle.dgt_c.specs.contracts.places.{BoardPlace.the_row as board_place, CommandDecoderPlace.the_row as command_decoder_place, DecoderPlace.the_row as decoder_place, FollowerPlace.the_row as follower_place, HostPlace.the_row as host_place};
 
 use crate::handles::{DgtBoard, DgtCommandDecoder, DgtDecoder, DgtFollower, DgtHost};
+use crate::header::{BOARD_ROOM, COMMAND_DECODER_ROOM, DECODER_ROOM, FOLLOWER_ROOM, HOST_ROOM};
 use crate::plain_board::board_of_program;
 use crate::plain_follower::default_follower;
 use dgt_board::Board;
@@ -55,9 +58,10 @@ pub unsafe extern "C" fn dgt_host_init(host: *mut DgtHost)
 /// How many bytes a `dgt_host` takes.
 #[unsafe(no_mangle)]
 pub extern "C" fn dgt_host_size() -> usize
-    ensures { result ≡ host_room }
+    ensures number { result ≡ HOST_ROOM }
+    ensures enough { type_size host_place ≤ result }
 {
-    std::mem::size_of::<HostPlace>()
+    HOST_ROOM
 }
 
 /// What C calls a `dgt_follower`: the handle, and the room that it points to.
@@ -81,9 +85,10 @@ pub unsafe extern "C" fn dgt_follower_init(follower: *mut DgtFollower)
 /// How many bytes a `dgt_follower` takes.
 #[unsafe(no_mangle)]
 pub extern "C" fn dgt_follower_size() -> usize
-    ensures { result ≡ follower_room }
+    ensures number { result ≡ FOLLOWER_ROOM }
+    ensures enough { type_size follower_place ≤ result }
 {
-    std::mem::size_of::<FollowerPlace>()
+    FOLLOWER_ROOM
 }
 
 /// What C calls a `dgt_decoder`: the handle, and the room that it points to.
@@ -107,9 +112,10 @@ pub unsafe extern "C" fn dgt_decoder_init(decoder: *mut DgtDecoder)
 /// How many bytes a `dgt_decoder` takes.
 #[unsafe(no_mangle)]
 pub extern "C" fn dgt_decoder_size() -> usize
-    ensures { result ≡ decoder_room }
+    ensures number { result ≡ DECODER_ROOM }
+    ensures enough { type_size decoder_place ≤ result }
 {
-    std::mem::size_of::<DecoderPlace>()
+    DECODER_ROOM
 }
 
 /// What C calls a `dgt_command_decoder`: the handle, and the room that it points to.
@@ -133,9 +139,10 @@ pub unsafe extern "C" fn dgt_command_decoder_init(command_decoder: *mut DgtComma
 /// How many bytes a `dgt_command_decoder` takes.
 #[unsafe(no_mangle)]
 pub extern "C" fn dgt_command_decoder_size() -> usize
-    ensures { result ≡ command_decoder_room }
+    ensures number { result ≡ COMMAND_DECODER_ROOM }
+    ensures enough { type_size command_decoder_place ≤ result }
 {
-    std::mem::size_of::<CommandDecoderPlace>()
+    COMMAND_DECODER_ROOM
 }
 
 /// What C calls a `dgt_board`: the handle, and the room that it points to.
@@ -159,7 +166,8 @@ pub unsafe extern "C" fn dgt_board_init(board: *mut DgtBoard)
 /// How many bytes a `dgt_board` takes.
 #[unsafe(no_mangle)]
 pub extern "C" fn dgt_board_size() -> usize
-    ensures { result ≡ board_room }
+    ensures number { result ≡ BOARD_ROOM }
+    ensures enough { type_size board_place ≤ result }
 {
-    std::mem::size_of::<BoardPlace>()
+    BOARD_ROOM
 }
