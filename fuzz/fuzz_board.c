@@ -120,6 +120,8 @@ static const dgt_identity *any_identity(void) {
     make_body(&identity->trademark, mask);
     make_body(&identity->battery, mask);
     make_body(&identity->long_serial, mask);
+    memset(identity->reserved, 0, sizeof identity->reserved);
+    identity->reserved[input_byte() % sizeof identity->reserved] = input_byte() % 16 == 0;
     return identity;
 }
 

@@ -54,6 +54,8 @@ static bool is_body(const dgt_body *body) {
 }
 
 static bool is_identity(const dgt_identity *identity) {
+    for (size_t i = 0; i < sizeof identity->reserved; i++)
+        if (identity->reserved[i] != 0) return false;
     return are_seven_bit(identity->serial, 5) && identity->main_number <= 127 &&
            identity->sub_number <= 127 && is_body(&identity->trademark) &&
            is_body(&identity->battery) && is_body(&identity->long_serial);

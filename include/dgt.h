@@ -54,7 +54,9 @@
  * soname that isn't older. Among all versions with one soname
  *
  *  - each call keeps its name, its parameters and what it is said to do here;
- *  - each struct and each handle keeps its size, its alignment and its members;
+ *  - each struct and each handle keeps its size, its alignment and its members. Only of a member
+ *    `reserved` bytes may become members. So hand in zeros there, as `= {0}` does, and don't rely on
+ *    zeros in what you get;
  *  - each constant keeps its number, and no call returns a number that isn't listed here for it.
  *
  * What may grow are the calls, the constants and the structs that come with new calls: then the
@@ -249,26 +251,27 @@ enum {
 
 typedef struct dgt_event {
     uint8_t kind;
-    uint8_t unasked;     /* set by a host alone: 1 if the message doesn't answer the first awaited
-                            command, else 0 */
-    uint8_t code;        /* of the message, 0 to 127 */
+    uint8_t unasked;      /* set by a host alone: 1 if the message doesn't answer the first awaited
+                             command, else 0 */
+    uint8_t code;         /* of the message, 0 to 127 */
     uint8_t square;
     uint8_t piece;
-    uint8_t main_number; /* 0 to 127 */
-    uint8_t sub_number;  /* 0 to 127 */
-    uint8_t byte;        /* 0 to 127 */
+    uint8_t main_number;  /* 0 to 127 */
+    uint8_t sub_number;   /* 0 to 127 */
+    uint8_t byte;         /* 0 to 127 */
     uint8_t fault;
-    uint8_t ack_status;  /* 0 to 127 */
+    uint8_t ack_status;   /* 0 to 127 */
     uint8_t ack[4];
-    uint8_t serial[5];   /* each 0 to 127 */
+    uint8_t serial[5];    /* each 0 to 127 */
     dgt_clock clock;
     uint8_t pieces[64];
-    size_t have;         /* how many bytes of the message had come, at least 1 */
-    size_t at;           /* the place in the body, from 0 on */
-    size_t body_len;     /* how many bytes the body has, also if not all were copied */
-    size_t place;        /* of the bytes handed to the call, how many had been used when the event
-                            came: at least 1. It is 0 if the kind is DGT_EVENT_NONE, and in an
-                            event of dgt_view_message */
+    uint8_t reserved[29]; /* each 0 */
+    size_t have;          /* how many bytes of the message had come, at least 1 */
+    size_t at;            /* the place in the body, from 0 on */
+    size_t body_len;      /* how many bytes the body has, also if not all were copied */
+    size_t place;         /* of the bytes handed to the call, how many had been used when the event
+                             came: at least 1. It is 0 if the kind is DGT_EVENT_NONE, and in an
+                             event of dgt_view_message */
 } dgt_event;
 
 /* ---- What a host's bytes mean. */
@@ -319,7 +322,8 @@ typedef struct dgt_command {
     uint8_t code;
     uint8_t id;
     uint8_t byte;
-    size_t word_len; /* how many bytes the command has, also if not all were copied */
+    uint8_t reserved[4]; /* each 0 */
+    size_t word_len;     /* how many bytes the command has, also if not all were copied */
 } dgt_command;
 
 /* ---- A host: asks a board, and keeps a picture of it from what it hears. */
@@ -846,6 +850,7 @@ typedef struct dgt_identity {
     dgt_body trademark;
     dgt_body battery;
     dgt_body long_serial;
+    uint8_t reserved[32];  /* each 0 */
 } dgt_identity;
 
 /* What dgt_board_start answers. */
@@ -1046,12 +1051,12 @@ DGT_SIZE_(dgt_command_decoder, DGT_COMMAND_DECODER_SIZE);
 DGT_SIZE_(dgt_board, DGT_BOARD_SIZE);
 DGT_SIZE_(dgt_time, 4);
 DGT_SIZE_(dgt_clock, 16);
-DGT_SIZE_(dgt_event, 136);
+DGT_SIZE_(dgt_event, 160);
 DGT_SIZE_(dgt_told, 16);
 DGT_SIZE_(dgt_command, 16);
 DGT_SIZE_(dgt_sent, 16);
 DGT_SIZE_(dgt_body, 72);
-DGT_SIZE_(dgt_identity, 224);
+DGT_SIZE_(dgt_identity, 256);
 DGT_SIZE_(dgt_taken, 16);
 DGT_SIZE_(dgt_polled, 16);
 DGT_SIZE_(dgt_encoded, 16);

@@ -188,7 +188,7 @@ static void start(void) {
     dgt_board_init(board);
     uint8_t pieces[64] = {12, [63] = 6};
     dgt_clock clock = {DGT_CLOCK_NONE, DGT_STATUS_ABSENT, {1, 2, 3, 4, 5, 6}, {0}, {0}};
-    dgt_identity identity = {{1, 2, 3, 4, 5}, 6, 7, 8, {64, {9}}, {0, {0}}, {1, {127}}};
+    dgt_identity identity = {{1, 2, 3, 4, 5}, 6, 7, 8, {64, {9}}, {0, {0}}, {1, {127}}, {0}};
     CHECK(dgt_board_start(board, pieces, &clock, &identity) == DGT_STARTED);
     uint8_t line[DGT_MAX_SENT];
     bring(board, BYTES(DGT_SEND_TRADEMARK, DGT_SEND_CLOCK));
@@ -196,7 +196,9 @@ static void start(void) {
     CHECK(polled.bytes == 67 && line[0] == 0x92 && line[3] == 9);
     polled = dgt_board_poll(board, line, sizeof line);
     CHECK(polled.bytes == 10 && !memcmp(line, "\x8d\0\x0a\1\2\3\4\5\6\x20", 10));
-    identity.trademark.len = 65;
+    identity.reserved[31] = 1;
+    CHECK(dgt_board_start(board, pieces, &clock, &identity) == DGT_START_BAD_IDENTITY);
+    identity.reserved[31] = 0, identity.trademark.len = 65;
     CHECK(dgt_board_start(board, pieces, &clock, &identity) == DGT_START_BAD_IDENTITY);
     clock.raw[3] = 0x0a;
     CHECK(dgt_board_start(board, pieces, &clock, &identity) == DGT_START_BAD_CLOCK);
@@ -886,7 +888,7 @@ static void commands(void) {
     CHECK(dgt_encode_command(0x60, 0, bytes, 256, NULL, 0).status == DGT_NOT_ENCODED);
     CHECK(dgt_encode_command(0x60, 0, NULL, 0, NULL, 0).status == DGT_TOO_SHORT);
 
-    dgt_command command = {9, 9, 9, 9, 9};
+    dgt_command command = {9, 9, 9, 9, {9}, 9};
     CHECK(!dgt_view_command(NULL, 0, &command) && !dgt_view_command(BYTES(0x42, 0x42), &command));
     CHECK(!dgt_view_command(BYTES(0x2b, 4, 3, 0x0b, 3, 1), &command));
     CHECK(!dgt_view_command(BYTES(0x2b, 4, 3, 0x0b, 3), &command));

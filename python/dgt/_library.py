@@ -36,8 +36,8 @@ class EventStruct(Structure):
         "kind", "unasked", "code", "square", "piece", "main_number", "sub_number", "byte", "fault",
         "ack_status")] + [
         ("ack", c_uint8 * 4), ("serial", c_uint8 * 5), ("clock", ClockStruct),
-        ("pieces", c_uint8 * 64), ("have", c_size_t), ("at", c_size_t), ("body_len", c_size_t),
-        ("place", c_size_t)]
+        ("pieces", c_uint8 * 64), ("reserved", c_uint8 * 29), ("have", c_size_t),
+        ("at", c_size_t), ("body_len", c_size_t), ("place", c_size_t)]
 
 
 class ToldStruct(Structure):
@@ -46,7 +46,7 @@ class ToldStruct(Structure):
 
 class CommandStruct(Structure):
     _fields_ = [(name, c_uint8) for name in ("kind", "code", "id", "byte")] + [
-        ("word_len", c_size_t)]
+        ("reserved", c_uint8 * 4), ("word_len", c_size_t)]
 
 
 class SentStruct(Structure):
@@ -76,7 +76,7 @@ class BodyStruct(Structure):
 class IdentityStruct(Structure):
     _fields_ = [("serial", c_uint8 * 5), ("main_number", c_uint8), ("sub_number", c_uint8),
                 ("clock_version", c_uint8), ("trademark", BodyStruct), ("battery", BodyStruct),
-                ("long_serial", BodyStruct)]
+                ("long_serial", BodyStruct), ("reserved", c_uint8 * 32)]
 
 
 # How many bytes a handle takes, as dgt.h has it.

@@ -10,3 +10,4 @@ pub mod Codes
 pub mod EncodingLemmas
 pub mod HearingLemmas
 pub mod OnceLemmas
+pub mod ReservedLemmas

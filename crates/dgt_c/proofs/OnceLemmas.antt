@@ -225,6 +225,7 @@ identities_are_in_range codes clock identity board p =
       (is.trademark.short, is.trademark.seven_bit),
       (is.battery.short, is.battery.seven_bit),
       (is.long_serial.short, is.long_serial.seven_bit),
+      is.reserved,
     )
 
 -- ---- encodings and refusals

@@ -1,23 +1,25 @@
 -- What calls of C determine: of one chunk or of one struct two reports are the same. And what a
 -- refusal leaves.
-use Rattle.std.specs.Prelude.{◌≡◌, ◌<◌, ◌≤◌, ℕ, List, [], length, take, None, true}
+use Rattle.std.specs.Prelude.{◌≡◌, ◌<◌, ◌≤◌, ℕ, List, [], All, length, replicate, take, Option, None, Bool, true}
 use Rattle.dgt_values.specs.Bytes.{AreSevenBit}
+use Rattle.dgt_values.specs.declared.kinds.Kind.{Kind}
 use Rattle.dgt_message.specs.Clock.{Absence, AreTimes, ClockState, IsAbsence, Times}
 use Rattle.dgt_message.specs.Content.{Content}
 use Rattle.dgt_message.specs.Encoding.{encoding}
-use Rattle.dgt_decode.specs.Grammar.{Placed}
-use Rattle.dgt_command.specs.Content.{ClockContent}
+use Rattle.dgt_decode.specs.Grammar.{Event, Placed}
+use Rattle.dgt_command.specs.Content.{ClockContent, EventContent}
 use Rattle.dgt_command.specs.Display.{HasNoSegments, Shows}
 use Rattle.dgt_board.specs.View.{BoardView}
 use Rattle.dgt_host.specs.Host.{HostView}
 use Rattle.dgt_c.specs.Boards.{Takes, TakesBytes}
-use Rattle.dgt_c.specs.Chunks.{GoesOn, ReportsEach, UsesUpTo, bodies}
+use Rattle.dgt_c.specs.Chunks.{GoesOn, Reports, ReportsEach, UsesUpTo, bodies}
 use Rattle.dgt_c.specs.ClockSending.{SendsClock, SendsDisplay}
 use Rattle.dgt_c.specs.Clocks.{SaysClock}
-use Rattle.dgt_c.specs.Commands.{CommandReporting}
-use Rattle.dgt_c.specs.Encoding.{EncodesBytes, EncodesMessage, ReadsMessage, SaysMessage}
-use Rattle.dgt_c.specs.Hearing.{Feeds, HearsReported, Reporting}
+use Rattle.dgt_c.specs.Commands.{CommandReporting, ReportsCommand}
+use Rattle.dgt_c.specs.Encoding.{EncodesBytes, EncodesMessage, ReadsMessage, SaysMessage, view_reported}
+use Rattle.dgt_c.specs.Hearing.{Feeds, HearsReported, Reporting, ReportsEvent}
 use Rattle.dgt_c.specs.Reading.{FeedsWords}
+use Rattle.dgt_c.specs.Reported.{reported_at}
 use Rattle.dgt_c.specs.Sent.{RefusesCommand}
 use Rattle.dgt_c.specs.Starting.{Starts}
 use Rattle.dgt_c.specs.declared.header.DgtBody.{DgtBody}
@@ -64,7 +66,27 @@ OneReportEach =
     (before : ℕ) (host : HostView) (made : List Placed) (first second : List DgtEvent)
     → ReportsEach before host made first → ReportsEach before host made second → first ≡ second
 
+-- a struct that reports an event, alone or of a chunk, has zeros for its reserved member
+abbrev pub ReportsReserveZeros : Type 0
+ReportsReserveZeros =
+    ((place : ℕ) (event : Option Event) → (reported_at place event).reserved ≡ replicate 29 0)
+    × ((place : ℕ) (event : Option Event) (unasked : Bool) (reported : Reporting)
+    → ReportsEvent place event unasked reported → reported.event.reserved ≡ replicate 29 0)
+    × ((before : ℕ) (awaited : List Kind) (x : Placed) (reported : DgtEvent)
+    → Reports before awaited x reported → reported.reserved ≡ replicate 29 0)
+
+-- and so has one that views a message
+abbrev pub ViewsReserveZeros : Type 0
+ViewsReserveZeros =
+    (code : ℕ) (body : List ℕ) → (view_reported code body).reserved ≡ replicate 29 0
+
 -- ---- commands
+
+-- a struct that reports a command or a fault has zeros for its reserved member
+abbrev pub CommandsReserveZeros : Type 0
+CommandsReserveZeros =
+    (event : Option EventContent) (reported : CommandReporting) → ReportsCommand event reported
+    → reported.command.reserved ≡ replicate 4 0
 
 pub record AreSameCommands (first second : CommandReporting) : Type 0 where
   pub command : first.command ≡ second.command
@@ -122,6 +144,7 @@ IdentitiesAreInRange =
     → Starts codes clock identity board
     → AreSevenBit identity.serial × (identity.main_number < 128) × (identity.sub_number < 128)
     × IsShort identity.trademark × IsShort identity.battery × IsShort identity.long_serial
+    × All (λ byte. byte ≡ 0) identity.reserved
 
 -- ---- encodings and refusals
 

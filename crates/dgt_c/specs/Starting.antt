@@ -16,6 +16,10 @@ use Rattle.dgt_c.specs.Clocks.{SaysClock}
 abbrev pub ArePieces : List ℕ → Type 0
 ArePieces codes = All (λ code. code < 16) codes
 
+-- the bytes of a reserved member
+abbrev pub AreZeros : List ℕ → Type 0
+AreZeros bytes = All (λ byte. byte ≡ 0) bytes
+
 abbrev pub body_in : DgtBody → List ℕ
 body_in said = take said.len said.bytes
 
@@ -43,6 +47,7 @@ pub record IsIdentity (said : DgtIdentity) : Type 0 where
   pub trademark : IsBody said.trademark
   pub battery : IsBody said.battery
   pub long_serial : IsBody said.long_serial
+  pub reserved : AreZeros said.reserved
 
 -- a board just made, of what C says
 abbrev pub Starts : List ℕ → DgtClock → DgtIdentity → BoardView → Type 0

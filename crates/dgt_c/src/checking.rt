@@ -3,9 +3,16 @@
 ghost use Rattle.std.specs.Prelude.{◌≡◌, ◌↔◌, IsTrue, MatchOption, map};
 ghost use Rattle.dgt_values.specs.Board.{piece_code, pieces_of};
 ghost use Rattle.dgt_values.specs.Bytes.{AreSevenBit, number};
-ghost use Rattle.dgt_c.specs.Starting.{ArePieces};
+ghost use Rattle.dgt_c.specs.Starting.{ArePieces, AreZeros};
 
 use dgt_values::{Position, SevenBit};
+
+/// Whether each byte is 0.
+pub(crate) fn are_zeros(bytes: &[u8]) -> bool
+    ensures { IsTrue result ↔ AreZeros bytes.now }
+{
+    bytes.iter().all(|byte| *byte == 0)
+}
 
 fn are_seven_bit(bytes: &[u8]) -> bool
     ensures { IsTrue result ↔ AreSevenBit bytes.now }

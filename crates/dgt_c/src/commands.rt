@@ -39,8 +39,8 @@ pub(crate) fn report_read(command: &Command<'_>, out: &mut [u8]) -> DgtCommand
         kind: COMMAND_READ,
         code: word[0],
         id: message_id(command),
-        byte: 0,
         word_len,
+        ..NO_WORD
     }
 }
 

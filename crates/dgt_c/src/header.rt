@@ -178,6 +178,7 @@ pub struct DgtEvent {
     pub serial: [u8; 5],
     pub clock: DgtClock,
     pub pieces: [u8; 64],
+    pub reserved: [u8; 29],
     pub have: usize,
     pub at: usize,
     pub body_len: usize,
@@ -200,6 +201,7 @@ pub const NOTHING: DgtEvent = DgtEvent {
     serial: [0; 5],
     clock: UNKNOWN_CLOCK,
     pieces: [0; 64],
+    reserved: [0; 29],
     have: 0,
     at: 0,
     body_len: 0,
@@ -222,6 +224,7 @@ pub struct DgtCommand {
     pub code: u8,
     pub id: u8,
     pub byte: u8,
+    pub reserved: [u8; 4],
     pub word_len: usize,
 }
 
@@ -231,6 +234,7 @@ pub const NO_WORD: DgtCommand = DgtCommand {
     code: 0,
     id: 0,
     byte: 0,
+    reserved: [0; 4],
     word_len: 0,
 };
 
@@ -281,6 +285,7 @@ pub struct DgtIdentity {
     pub trademark: DgtBody,
     pub battery: DgtBody,
     pub long_serial: DgtBody,
+    pub reserved: [u8; 32],
 }
 
 /// How a taking went.

@@ -13,7 +13,7 @@ ghost use Rattle.dgt_command.specs.Encoding.{command_code};
 ghost use Rattle.dgt_command.specs.declared.ids.KnownId.{KnownId};
 ghost use Rattle.dgt_c.specs.Clocks.{absence_said, times_said};
 ghost use Rattle.dgt_c.specs.Encoding.{SaysContent, SaysMessage};
-ghost use Rattle.dgt_c.specs.Once.{BusyBoardsStay, ClocksAreInRange, IdentitiesAreInRange, MessagesAreEncoded, MessagesAreRead, NothingIsEncoded, OneClock, OneEncoding, OneFeed, OneHearing, OneReportEach, OneStart, OneTaking, OneUse, OneWord, RefusedCommandsStay, RoomIsLeft, TextsAreShown};
+ghost use Rattle.dgt_c.specs.Once.{BusyBoardsStay, ClocksAreInRange, CommandsReserveZeros, IdentitiesAreInRange, MessagesAreEncoded, MessagesAreRead, NothingIsEncoded, OneClock, OneEncoding, OneFeed, OneHearing, OneReportEach, OneStart, OneTaking, OneUse, OneWord, RefusedCommandsStay, ReportsReserveZeros, RoomIsLeft, TextsAreShown, ViewsReserveZeros};
 ghost use Rattle.dgt_c.specs.Layouts.{◌⊗◌, Ascend, FitsIn, LiesAs, bit_alone};
 ghost use Rattle.dgt_c.specs.contracts.header.{DgtBody.the_row as body_row, DgtClock.the_row as clock_row, DgtCommand.the_row as command_row, DgtEncoded.the_row as encoded_row, DgtEvent.the_row as event_row, DgtIdentity.the_row as identity_row, DgtParsed.the_row as parsed_row, DgtPolled.the_row as polled_row, DgtSent.the_row as sent_row, DgtTaken.the_row as taken_row, DgtTime.the_row as time_row, DgtTold.the_row as told_row};
 ghost use Rattle.dgt_c.specs.contracts.header.{DgtBody.the_type as body_type, DgtClock.the_type as clock_type, DgtCommand.the_type as command_type, DgtEncoded.the_type as encoded_type, DgtEvent.the_type as event_type, DgtIdentity.the_type as identity_type, DgtParsed.the_type as parsed_type, DgtPolled.the_type as polled_type, DgtSent.the_type as sent_type, DgtTaken.the_type as taken_type, DgtTime.the_type as time_type, DgtTold.the_type as told_type};
@@ -158,14 +158,14 @@ pub fn layouts()
     ensures board { FitsIn board_row 1280 8 (0 ∷ 8 ∷ []) }
     ensures time { LiesAs time_row 4 1 (0 ∷ 1 ∷ 2 ∷ 3 ∷ []) }
     ensures clock { LiesAs clock_row 16 1 (0 ∷ 1 ∷ 2 ∷ 8 ∷ 12 ∷ []) }
-    ensures event { LiesAs event_row 136 8 (0 ∷ 1 ∷ 2 ∷ 3 ∷ 4 ∷ 5 ∷ 6 ∷ 7 ∷ 8 ∷ 9 ∷ 10 ∷ 14 ∷ 19
-        ∷ 35 ∷ 104 ∷ 112 ∷ 120 ∷ 128 ∷ []) }
+    ensures event { LiesAs event_row 160 8 (0 ∷ 1 ∷ 2 ∷ 3 ∷ 4 ∷ 5 ∷ 6 ∷ 7 ∷ 8 ∷ 9 ∷ 10 ∷ 14 ∷ 19
+        ∷ 35 ∷ 99 ∷ 128 ∷ 136 ∷ 144 ∷ 152 ∷ []) }
     ensures encoded { LiesAs encoded_row 16 8 (0 ∷ 8 ∷ []) }
     ensures told { LiesAs told_row 16 8 (0 ∷ 8 ∷ []) }
-    ensures command { LiesAs command_row 16 8 (0 ∷ 1 ∷ 2 ∷ 3 ∷ 8 ∷ []) }
+    ensures command { LiesAs command_row 16 8 (0 ∷ 1 ∷ 2 ∷ 3 ∷ 4 ∷ 8 ∷ []) }
     ensures sent { LiesAs sent_row 16 8 (0 ∷ 8 ∷ []) }
     ensures body { LiesAs body_row 72 8 (0 ∷ 8 ∷ []) }
-    ensures identity { LiesAs identity_row 224 8 (0 ∷ 5 ∷ 6 ∷ 7 ∷ 8 ∷ 80 ∷ 152 ∷ []) }
+    ensures identity { LiesAs identity_row 256 8 (0 ∷ 5 ∷ 6 ∷ 7 ∷ 8 ∷ 80 ∷ 152 ∷ 224 ∷ []) }
     ensures taken { LiesAs taken_row 16 8 (0 ∷ 8 ∷ []) }
     ensures polled { LiesAs polled_row 16 8 (0 ∷ 8 ∷ []) }
     ensures parsed { LiesAs parsed_row 16 8 (0 ∷ 8 ∷ []) }
@@ -179,17 +179,17 @@ pub fn members()
         ⊗ it.first ⊗ it.second ⊗ tt }
     ensures event { (it : DgtEvent) → event_type.as_values it ≡ it.kind ⊗ it.unasked ⊗ it.code
         ⊗ it.square ⊗ it.piece ⊗ it.main_number ⊗ it.sub_number ⊗ it.byte ⊗ it.fault
-        ⊗ it.ack_status ⊗ it.ack ⊗ it.serial ⊗ it.clock ⊗ it.pieces ⊗ it.have ⊗ it.at
-        ⊗ it.body_len ⊗ it.place ⊗ tt }
+        ⊗ it.ack_status ⊗ it.ack ⊗ it.serial ⊗ it.clock ⊗ it.pieces ⊗ it.reserved
+        ⊗ it.have ⊗ it.at ⊗ it.body_len ⊗ it.place ⊗ tt }
     ensures encoded { (it : DgtEncoded) → encoded_type.as_values it ≡ it.status ⊗ it.bytes ⊗ tt }
     ensures told { (it : DgtTold) → told_type.as_values it ≡ it.used ⊗ it.count ⊗ tt }
     ensures command { (it : DgtCommand) → command_type.as_values it ≡ it.kind ⊗ it.code ⊗ it.id
-        ⊗ it.byte ⊗ it.word_len ⊗ tt }
+        ⊗ it.byte ⊗ it.reserved ⊗ it.word_len ⊗ tt }
     ensures sent { (it : DgtSent) → sent_type.as_values it ≡ it.status ⊗ it.bytes ⊗ tt }
     ensures body { (it : DgtBody) → body_type.as_values it ≡ it.len ⊗ it.bytes ⊗ tt }
     ensures identity { (it : DgtIdentity) → identity_type.as_values it ≡ it.serial
         ⊗ it.main_number ⊗ it.sub_number ⊗ it.clock_version ⊗ it.trademark ⊗ it.battery
-        ⊗ it.long_serial ⊗ tt }
+        ⊗ it.long_serial ⊗ it.reserved ⊗ tt }
     ensures taken { (it : DgtTaken) → taken_type.as_values it ≡ it.busy ⊗ it.used ⊗ tt }
     ensures polled { (it : DgtPolled) → polled_type.as_values it ≡ it.status ⊗ it.bytes ⊗ tt }
     ensures parsed { (it : DgtParsed) → parsed_type.as_values it ≡ it.ok ⊗ it.at ⊗ tt }
@@ -233,6 +233,13 @@ pub fn one_command()
     dgt_command::laws::no_word_begins_another();
     dgt_command::laws::parts_of_words();
 }
+
+/// The reserved members of what is reported are 0.
+pub fn reserved_members()
+    ensures reports { ReportsReserveZeros }
+    ensures views { ViewsReserveZeros }
+    ensures commands { CommandsReserveZeros }
+{}
 
 /// A struct of C says one clock or one board at most, whose values are in their ranges.
 pub fn one_meaning()

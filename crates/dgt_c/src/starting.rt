@@ -8,7 +8,7 @@ ghost use Rattle.dgt_message.specs.Clock.{ClockState};
 ghost use Rattle.dgt_c.specs.Clocks.{SaysClock};
 ghost use Rattle.dgt_c.specs.Starting.{ArePieces, IsBody, IsIdentity, Starts, body_in, identity_in};
 
-use crate::checking::{read_position, read_seven_bits};
+use crate::checking::{are_zeros, read_position, read_seven_bits};
 use crate::clocks::read_clock;
 use crate::handles::DgtBoard;
 use crate::header::{
@@ -33,6 +33,9 @@ fn read_identity(said: &DgtIdentity) -> Option<Identity>
     ensures { MatchOption result (¬ (IsIdentity said.now))
         (λ identity. IsIdentity said.now × (identity ≡ identity_in said.now)) }
 {
+    if !are_zeros(&said.reserved) {
+        return None;
+    }
     let serial = read_seven_bits(&said.serial)?;
     let main = SevenBit::try_from(said.main_number).ok()?;
     let sub = SevenBit::try_from(said.sub_number).ok()?;
