@@ -309,6 +309,17 @@ void encodings() {
     CHECK(!dgt::view_command(Bytes{0x60, 1}) && !dgt::view_command({}));
 }
 
+/* What only a later library reports is read as dgt.h says. */
+void later_kinds() {
+    dgt_event event{};
+    event.kind = 16, event.code = 5, event.body_len = 2;
+    const std::uint8_t body[] = {1, 2, 3};
+    CHECK(text(dgt::detail::read_event(event, body).value()) == "other 05 0102");
+    dgt_command command{};
+    command.kind = 6, command.byte = 0x46;
+    CHECK(std::get<dgt::StrayByte>(dgt::detail::read_word(command, body).value()).byte == 0x46);
+}
+
 void hosts() {
     dgt::Host host;
     CHECK(!host.picture() && !host.placement() && !host.clock() && host.awaited().empty());
@@ -589,6 +600,7 @@ int main(int count, char **words) {
     if (count == 3) return run(words[1], static_cast<std::size_t>(std::atoi(words[2])));
     values();
     encodings();
+    later_kinds();
     hosts();
     clock_commands(dgt::Host());
     clock_commands(dgt::Follower());

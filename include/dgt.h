@@ -55,9 +55,17 @@
  *
  *  - each call keeps its name, its parameters and what it is said to do here;
  *  - each struct and each handle keeps its size, its alignment and its members. Only of a member
- *    `reserved` bytes may become members. So hand in zeros there, as `= {0}` does, and don't rely on
- *    zeros in what you get;
- *  - each constant keeps its number, and no call returns a number that isn't listed here for it.
+ *    `reserved` bytes may become members. So hand in zeros there, as `= {0}` does, and don't count
+ *    on zeros in what you get;
+ *  - each constant keeps its number. No call returns a number that isn't listed here for it, but
+ *    for the kinds and codes of the next paragraph.
+ *
+ * A later version may report events and commands for which this one has no name. Their kind, of a
+ * dgt_event or a dgt_command, is the next number that is free, or the code of a dgt_command is new.
+ * A message that is a DGT_EVENT_OTHER now can get a kind of its own, by which dgt_encode_message
+ * takes it then. It still sets `code` and `body_len`, and its body is copied. An event that is no
+ * message has the `body_len` 0. So treat a kind of event that you don't know as DGT_EVENT_OTHER,
+ * and a kind or a code of a command as DGT_STRAY_BYTE.
  *
  * What may grow are the calls, the constants and the structs that come with new calls: then the
  * second number grows. The third one grows with a correction. Whatever breaks one of these rules
@@ -220,7 +228,8 @@ typedef struct dgt_clock {
 /* ---- What a board's bytes make known. */
 
 /* dgt_event.kind, and which members it sets beside `unasked` and `place`. The other members are 0.
- */
+ * DGT_EVENT_DUMP to DGT_EVENT_OTHER are messages. Kinds of a later version follow from 16 on: treat
+ * one that you don't know as DGT_EVENT_OTHER. */
 enum {
     DGT_EVENT_NONE = 0,         /* nothing yet: all bytes were used */
     DGT_EVENT_DUMP = 1,         /* all squares were reported: pieces */
@@ -276,7 +285,8 @@ typedef struct dgt_event {
 
 /* ---- What a host's bytes mean. */
 
-/* dgt_command.kind, and which members it sets. The other members are 0. */
+/* dgt_command.kind, and which members it sets. The other members are 0. Kinds of a later version
+ * follow from 6 on: treat one that you don't know as DGT_STRAY_BYTE. */
 enum {
     DGT_NO_WORD = 0,   /* nothing yet: all bytes were used */
     DGT_COMMAND = 1,   /* a command: code, id of a clock message, word_len, and the word */
@@ -286,7 +296,8 @@ enum {
     DGT_STRAY_BYTE = 5 /* a byte that begins no command: byte */
 };
 
-/* The first byte of each command, dgt_command.code. */
+/* The first byte of each command, dgt_command.code. Treat a command with another code, of a later
+ * version, as a DGT_STRAY_BYTE. */
 enum {
     DGT_SEND_CLOCK_MESSAGE = 0x2b, /* word[3] is the id, and word[4] to word[word_len - 2] what
                                       the message carries */
@@ -957,13 +968,13 @@ typedef struct dgt_encoded {
     size_t bytes;
 } dgt_encoded;
 
-/* Writes the message that `message` says as an event does: by its kind, from DGT_EVENT_DUMP to
- * DGT_EVENT_OTHER, and the members that this kind sets. Three are read otherwise: a body is the
- * `body_len` bytes at `body`, whatever message->body_len says; `code` is looked at in a
- * DGT_EVENT_OTHER alone; and the kind of `clock` has to be that of the event. A message has
- * 3 to 16383 bytes: DGT_MAX_BODY + 3 bytes are room for each. An acknowledgement can be encoded in
- * several ways: this is the one with both marks, and without D6 in them.
- * DGT_NOT_ENCODED goes before DGT_TOO_SHORT. It comes if the kind is another one, or a member is
+/* Writes the message that `message` says as an event does: by its kind, which is that of a message,
+ * and the members that this kind sets. Three are read otherwise: a body is the `body_len` bytes at
+ * `body`, whatever message->body_len says; `code` is looked at in a DGT_EVENT_OTHER alone; and the
+ * kind of `clock` has to be that of the event. A message has 3 to 16383 bytes: DGT_MAX_BODY + 3
+ * bytes are room for each. An acknowledgement can be encoded in several ways: this is the one with
+ * both marks, and without D6 in them.
+ * DGT_NOT_ENCODED goes before DGT_TOO_SHORT. It comes if the kind is no message's, or a member is
  * out of its range. It comes if `clock` is none that dgt_board_start takes, or if a body has more
  * than DGT_MAX_BODY bytes, or one above 127. It also comes if the code of a DGT_EVENT_OTHER is
  * above 127, or that of a message of another kind. */

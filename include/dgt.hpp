@@ -293,7 +293,7 @@ struct Trademark { Bytes body; bool unasked; };
 struct Version { std::uint8_t main_number, sub_number; bool unasked; };
 struct Battery { Bytes body; bool unasked; };
 struct LongSerial { Bytes body; bool unasked; };
-/// A message that is carried unread.
+/// A message that is carried unread, or an event for which only a later version has a name.
 struct Other { std::uint8_t code; Bytes body; };
 
 enum class Fault : std::uint8_t {
@@ -325,7 +325,7 @@ struct Heard {
 
 // ---- What a host's bytes say.
 
-/// A command that is one byte.
+/// A command that is one byte. A later version may report more of them.
 enum class Ask : std::uint8_t {
     reset = DGT_SEND_RESET,
     clock = DGT_SEND_CLOCK,
@@ -348,7 +348,7 @@ struct Leds { Bytes leds; };
 struct BadSize {};
 struct BadStart {};
 struct BadEnd {};
-/// A byte that begins no command.
+/// A byte that begins no command, or a fault for which only a later version has a name.
 struct StrayByte { std::uint8_t byte; };
 
 using Word = std::variant<Asked, ClockMessage, Leds, BadSize, BadStart, BadEnd, StrayByte>;
@@ -428,13 +428,13 @@ inline std::optional<Event> read_event(const dgt_event &event, const std::uint8_
     case DGT_EVENT_VERSION: return Version{event.main_number, event.sub_number, unasked};
     case DGT_EVENT_BATTERY: return Battery{body(), unasked};
     case DGT_EVENT_LONG_SERIAL: return LongSerial{body(), unasked};
-    case DGT_EVENT_OTHER: return Other{event.code, body()};
     case DGT_EVENT_REFUSED:
         return Refused{event.code, static_cast<Fault>(event.fault), event.at};
     case DGT_EVENT_CUT: return Cut{event.have};
     case DGT_EVENT_BAD_LENGTH: return BadLength{};
     case DGT_EVENT_STRAY: return Stray{event.byte};
-    default: return std::nullopt;
+    case DGT_EVENT_NONE: return std::nullopt;
+    default: return Other{event.code, body()};
     }
 }
 
@@ -446,8 +446,8 @@ inline std::optional<Word> read_word(const dgt_command &command, const std::uint
     case DGT_BAD_SIZE: return BadSize{};
     case DGT_BAD_START: return BadStart{};
     case DGT_BAD_END: return BadEnd{};
-    case DGT_STRAY_BYTE: return StrayByte{command.byte};
-    default: return std::nullopt;
+    case DGT_NO_WORD: return std::nullopt;
+    default: return StrayByte{command.byte};
     }
     if (command.code == DGT_SEND_CLOCK_MESSAGE)
         return ClockMessage{command.id, Bytes(word + 4, end - 1)};

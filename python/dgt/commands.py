@@ -9,7 +9,7 @@ from ._library import CommandStruct
 
 
 class Ask(IntEnum):
-    """The commands of one byte."""
+    """The commands of one byte. A later version may have more."""
 
     RESET = 0x40
     CLOCK = 0x41
@@ -25,7 +25,7 @@ class Ask(IntEnum):
 
 
 class ClockId(IntEnum):
-    """The ids of clock messages."""
+    """The ids of clock messages. A later version may have more."""
 
     DISPLAY = 0x01
     ICONS = 0x02
@@ -76,7 +76,8 @@ class BadEnd:
 
 @dataclass(frozen=True, slots=True)
 class StrayByte:
-    """A byte that begins no command."""
+    """A byte that begins no command. So is a command that only a later version of the library
+    knows."""
 
     byte: int
 
@@ -84,10 +85,11 @@ class StrayByte:
 Command = Asked | ClockMessage | Leds
 Word = Command | BadSize | BadStart | BadEnd | StrayByte
 
-_COMMAND, _BAD_SIZE, _BAD_START, _BAD_END, _STRAY_BYTE = range(1, 6)
+_COMMAND, _BAD_SIZE, _BAD_START, _BAD_END = range(1, 5)
 _SEND_CLOCK_MESSAGE, _SEND_LEDS = 0x2B, 0x60
 _FAULTS: dict[int, type[BadSize | BadStart | BadEnd]] = {
     _BAD_SIZE: BadSize, _BAD_START: BadStart, _BAD_END: BadEnd}
+_ASKED = {ask.value: Asked(ask) for ask in Ask}
 
 
 def read_word(told: CommandStruct, word: bytearray) -> Word:
@@ -97,7 +99,6 @@ def read_word(told: CommandStruct, word: bytearray) -> Word:
             return ClockMessage(told.id, bytes(word[4:told.word_len - 1]))
         if told.code == _SEND_LEDS:
             return Leds(bytes(word[2:told.word_len]))
-        return Asked(Ask(told.code))
-    if told.kind == _STRAY_BYTE:
-        return StrayByte(told.byte)
-    return _FAULTS[told.kind]()
+        return _ASKED.get(told.code) or StrayByte(told.code)
+    fault = _FAULTS.get(told.kind)
+    return fault() if fault else StrayByte(told.byte)

@@ -1,5 +1,7 @@
 """The events in a board's bytes: messages and faults. The text of an event (`str`) is its line of
-`dgt monitor`, without the offset."""
+`dgt monitor`, without the offset.
+
+In a later version a message that is an `Other` now may have a class of its own."""
 
 from __future__ import annotations
 
@@ -112,7 +114,8 @@ class LongSerial:
 
 @dataclass(frozen=True, slots=True)
 class Other:
-    """A message of another code, with its body as it came."""
+    """A message of another code, with its body as it came. So is an event of a kind that only a
+    later version of the library knows."""
 
     code: int
     body: bytes
@@ -191,7 +194,11 @@ def _field(told: EventStruct, body: bytearray) -> Field:
     return field
 
 
-# The event of each kind, from 1 on.
+def _other(told: EventStruct, body: bytearray) -> Other:
+    return Other(told.code, bytes(body[:told.body_len]))
+
+
+# The event of each kind, from 1 on. A later version of the library may have more kinds.
 _MAKERS: tuple[_Maker, ...] = (
     lambda told, body: Dump(Position(bytes(told.pieces)), bool(told.unasked)),
     _field,
@@ -203,7 +210,7 @@ _MAKERS: tuple[_Maker, ...] = (
     lambda told, body: Version(told.main_number, told.sub_number, bool(told.unasked)),
     _carried(Battery),
     _carried(LongSerial),
-    lambda told, body: Other(told.code, bytes(body[:told.body_len])),
+    _other,
     lambda told, body: Refused(told.code, Fault(told.fault), told.at),
     lambda told, body: Cut(told.have),
     lambda told, body: BadLength(),
@@ -213,7 +220,7 @@ _MAKERS: tuple[_Maker, ...] = (
 
 def read_event(told: EventStruct, body: bytearray) -> Event:
     """Returns the event that the library has reported. Its kind must not be 0."""
-    make: _Maker = _MAKERS[told.kind - 1]
+    make: _Maker = _MAKERS[told.kind - 1] if told.kind <= len(_MAKERS) else _other
     return make(told, body)
 
 

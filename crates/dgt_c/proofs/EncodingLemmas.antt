@@ -1,5 +1,5 @@
 -- What a struct of C says, and what it doesn't.
-use Rattle.std.proofs.Common.{◌≡◌, ℕ, ◌<◌, ◌≤◌, List, map, Option, Some, None, arith, subst}
+use Rattle.std.proofs.Common.{◌≡◌, refl, ℕ, ◌<◌, ◌≤◌, List, map, Option, Some, None, arith, subst}
 use Rattle.std.proofs.lemmas.List.Elements.{All-map}
 use Rattle.std.specs.Prelude.{slice_index_or}
 use Rattle.dgt_values.specs.declared.pieces.Piece.{Piece}
@@ -10,9 +10,9 @@ use Rattle.dgt_message.specs.Code.{known_with}
 use Rattle.dgt_message.specs.Content.{Content}
 use Rattle.dgt_message.proofs.Codes.{piece_code-below}
 use Rattle.dgt_c.specs.Clocks.{SaysClock}
-use Rattle.dgt_c.specs.Encoding.{SaysMessage}
+use Rattle.dgt_c.specs.Encoding.{IsMessageKind, SaysMessage}
 use Rattle.dgt_c.specs.Starting.{ArePieces}
-use Rattle.dgt_c.specs.Reported.{carried_kind}
+use Rattle.dgt_c.specs.Reported.{carried_kind, message_reported}
 use Rattle.dgt_c.specs.declared.header.DgtEvent.{DgtEvent}
 use Rattle.dgt_c.specs.declared.header.TheConstants.{EVENT_DUMP, EVENT_NO_CLOCK, EVENT_TIMES}
 
@@ -27,6 +27,24 @@ carried_bounds : (known : Option KnownCode) → (7 ≤ carried_kind known) × (c
 carried_bounds None = (omega arith, omega arith)
 carried_bounds (Some KnownCode.Dump) = (omega arith, omega arith)
 carried_bounds (Some _) = (omega arith, omega arith)
+
+-- each message has a kind of messages
+carried_kinds : (known : Option KnownCode) → IsMessageKind (carried_kind known)
+carried_kinds None = (10, omega arith, refl)
+carried_kinds (Some KnownCode.Trademark) = (6, omega arith, refl)
+carried_kinds (Some KnownCode.Battery) = (8, omega arith, refl)
+carried_kinds (Some KnownCode.LongSerial) = (9, omega arith, refl)
+carried_kinds (Some _) = (10, omega arith, refl)
+
+pub message_kinds : (message : Content) → IsMessageKind (message_reported message).kind
+message_kinds (Content.dump pieces) = (0, omega arith, refl)
+message_kinds (Content.field square piece) = (1, omega arith, refl)
+message_kinds (Content.times times) = (2, omega arith, refl)
+message_kinds (Content.no_clock absence) = (3, omega arith, refl)
+message_kinds (Content.ack answer) = (4, omega arith, refl)
+message_kinds (Content.serial digits) = (5, omega arith, refl)
+message_kinds (Content.version main sub) = (7, omega arith, refl)
+message_kinds (Content.carried code body) = carried_kinds (known_with code)
 
 -- an event of no kind of message says none
 pub no_message : (said : DgtEvent) (body : List ℕ) → (1 ≤ said.kind → said.kind ≤ 11 → ⊥)

@@ -1,5 +1,5 @@
 -- Messages that C has encoded and viewed without a handle, and what it receives about an encoding.
-use Rattle.std.specs.Prelude.{◌≡◌, ◌⊎◌, ◌<◌, ℕ, List, map, Option, Some, Result, Ok, Err, MatchOption}
+use Rattle.std.specs.Prelude.{◌≡◌, ◌⊎◌, ◌<◌, ℕ, List, [], ◌∷◌, Contains, map, Option, Some, Result, Ok, Err, MatchOption}
 use Rattle.dgt_values.specs.Board.{piece_code}
 use Rattle.dgt_values.specs.Bytes.{WritesPrefix}
 use Rattle.dgt_values.specs.declared.refusals.NoRoom.{NoRoom}
@@ -14,7 +14,7 @@ use Rattle.dgt_c.specs.Reported.{event_reported, message_reported}
 use Rattle.dgt_c.specs.declared.header.DgtEncoded.{DgtEncoded}
 use Rattle.dgt_c.specs.declared.header.TheConstants.{ENCODED, NOTHING_ENCODED, TOO_SHORT}
 use Rattle.dgt_c.specs.declared.header.DgtEvent.{DgtEvent}
-use Rattle.dgt_c.specs.declared.header.TheConstants.{EVENT_OTHER}
+use Rattle.dgt_c.specs.declared.header.TheConstants.{EVENT_DUMP, EVENT_FIELD, EVENT_TIMES, EVENT_NO_CLOCK, EVENT_ACK, EVENT_SERIAL, EVENT_TRADEMARK, EVENT_VERSION, EVENT_BATTERY, EVENT_LONG_SERIAL, EVENT_OTHER}
 
 abbrev pub encoded_reported : Result ℕ NoRoom → DgtEncoded
 encoded_reported (Ok bytes) = record { status = ENCODED; bytes = bytes }
@@ -31,6 +31,14 @@ abbrev pub EncodesNothing : List ℕ → List ℕ → DgtEncoded → Type 0
 EncodesNothing old new reported = (reported ≡ NOTHING_ENCODED) × (new ≡ old)
 
 -- ---- Messages
+
+-- The kinds of messages. The other kinds are those of faults, or none yet.
+abbrev pub IsMessageKind : ℕ → Type 0
+IsMessageKind kind =
+    Contains
+    (EVENT_DUMP ∷ EVENT_FIELD ∷ EVENT_TIMES ∷ EVENT_NO_CLOCK ∷ EVENT_ACK ∷ EVENT_SERIAL
+    ∷ EVENT_TRADEMARK ∷ EVENT_VERSION ∷ EVENT_BATTERY ∷ EVENT_LONG_SERIAL ∷ EVENT_OTHER ∷ [])
+    kind
 
 -- the members that the kind of a message sets, or the body, say this message
 abbrev pub SaysMembers : DgtEvent → List ℕ → Content → Type 0

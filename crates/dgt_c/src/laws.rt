@@ -12,7 +12,7 @@ ghost use Rattle.dgt_command.specs.Ids.{id_number};
 ghost use Rattle.dgt_command.specs.Encoding.{command_code};
 ghost use Rattle.dgt_command.specs.declared.ids.KnownId.{KnownId};
 ghost use Rattle.dgt_c.specs.Clocks.{absence_said, times_said};
-ghost use Rattle.dgt_c.specs.Encoding.{SaysContent, SaysMessage};
+ghost use Rattle.dgt_c.specs.Encoding.{IsMessageKind, SaysContent, SaysMessage};
 ghost use Rattle.dgt_c.specs.Once.{BusyBoardsStay, ClocksAreInRange, CommandsReserveZeros, IdentitiesAreInRange, MessagesAreEncoded, MessagesAreRead, NothingIsEncoded, OneClock, OneEncoding, OneFeed, OneHearing, OneReportEach, OneStart, OneTaking, OneUse, OneWord, RefusedCommandsStay, ReportsReserveZeros, RoomIsLeft, TextsAreShown, ViewsReserveZeros};
 ghost use Rattle.dgt_c.specs.Layouts.{◌⊗◌, Ascend, FitsIn, LiesAs, bit_alone};
 ghost use Rattle.dgt_c.specs.contracts.header.{DgtBody.the_row as body_row, DgtClock.the_row as clock_row, DgtCommand.the_row as command_row, DgtEncoded.the_row as encoded_row, DgtEvent.the_row as event_row, DgtIdentity.the_row as identity_row, DgtParsed.the_row as parsed_row, DgtPolled.the_row as polled_row, DgtSent.the_row as sent_row, DgtTaken.the_row as taken_row, DgtTime.the_row as time_row, DgtTold.the_row as told_row};
@@ -255,6 +255,8 @@ pub fn one_meaning()
 pub fn said_messages()
     ensures range { (said : DgtEvent) (body : List ℕ) (message : Content) →
         SaysMessage said body message → IsMessage message }
+    ensures kinds { (said : DgtEvent) (body : List ℕ) (message : Content) →
+        SaysContent said body message → IsMessageKind said.kind }
     ensures dump { (said : DgtEvent) (body : List ℕ) (pieces : List AnyPiece) →
         SaysContent said body (Content.dump pieces)
         → (said.kind ≡ 1) × (said.pieces ≡ map piece_code pieces) }

@@ -1,5 +1,10 @@
-use Rattle.std.proofs.Common.{sym}
+use Rattle.std.proofs.Common.{subst, sym}
+use Rattle.dgt_c.specs.Encoding.{IsMessageKind}
+use Rattle.dgt_c.proofs.EncodingLemmas.{message_kinds}
 use Rattle.dgt_c.proofs.laws.said_messages.Goals as goal
+
+pub returns-clause-kinds : goal.returns-clause-kinds
+returns-clause-kinds c = λ said body message p. subst IsMessageKind (sym p.0) (message_kinds message)
 
 pub returns-clause-dump : goal.returns-clause-dump
 returns-clause-dump c = λ said body pieces p. (p.0, sym p.1)
