@@ -212,7 +212,8 @@ impl<Open: FnMut() -> io::Result<Stream>, Stream: Read + Write> Views<Open, Stre
             .is_some_and(|asked| self.follower.last_heard().is_none_or(|it| it < asked))
     }
 
-    /// What was known stays known while the stream is away.
+    /// What was known stays known while the stream is away, and until the board reports it again.
+    /// Returns whether something has changed.
     fn note(&mut self) -> bool {
         let away = match &self.stream {
             None => Some(Away::Gone),
@@ -220,10 +221,13 @@ impl<Open: FnMut() -> io::Result<Stream>, Stream: Read + Write> Views<Open, Stre
         };
         let picture = self.follower.picture().copied();
         let is_old = picture.is_none() && self.view.picture.is_some();
-        let clock = self.follower.clock().copied();
+        let clock = match (self.follower.clock(), self.follower.host().clock()) {
+            (None, None) => self.view.clock,
+            (clock, _) => clock.copied(), // None while it shows no digits
+        };
         let view = BoardView {
             picture: picture.or(self.view.picture),
-            clock: if is_old { clock.or(self.view.clock) } else { clock },
+            clock,
             in_doubt: self.follower.in_doubt() || away.is_some() || is_old,
             confirmed: self.follower.confirmed(),
             away,
@@ -244,7 +248,8 @@ impl<Open: FnMut() -> io::Result<Stream>, Stream: Read + Write> Iterator for Vie
     }
 }
 
-/// Sends what is due, and returns how many bytes. A stream that takes none has them later.
+/// Sends what is due, and returns how many bytes. If the stream doesn't take them in time, they are
+/// lost, and the follower asks again.
 fn ask(follower: &mut Follower, stream: &mut impl Write) -> io::Result<usize> {
     let mut out = [0; MAX_ASKING];
     let count = follower.ask(now(), &mut out)?;

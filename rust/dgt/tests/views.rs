@@ -114,7 +114,10 @@ fn commands_are_sent() {
 fn a_port_that_goes_is_found_again() {
     let line = Line::new();
     let mut views = Views::new(|| line.open()).unwrap();
+    views.follower().set_mode(UpdateMode::Clock);
     assert_eq!(views.next().unwrap().picture, Some(Position::start()));
+    let clock = views.next().unwrap().clock;
+    assert_eq!(clock, Some(simulated_clock()));
     line.unplug();
     let gone = views.next().unwrap();
     assert_eq!((gone.picture, gone.in_doubt), (Some(Position::start()), true));
@@ -129,6 +132,10 @@ fn a_port_that_goes_is_found_again() {
     let right = views.next().unwrap();
     assert_eq!(right.picture, Some(start_without("e2")));
     assert!(!right.in_doubt);
+    assert_eq!([gone.clock, back.clock, right.clock], [clock; 3]);
+    let unreadable = [0x8d, 0, 0x0a, 0x0f, 0x0f, 0x0f, 0x0f, 0x0f, 0x0f, 9];
+    line.0.borrow_mut().waiting.extend(unreadable);
+    assert_eq!(views.next().unwrap().clock, None);
 }
 
 #[test]
