@@ -1,7 +1,6 @@
 """The library for C from plain Rust: crates/dgt_c over the modules that rust/generate writes.
 
-It is only there to be compared with the models of fuzz/, as the proved library is. Its handles lie
-in memory as rustc lays them out.
+It is only there to be compared with the models of fuzz/, as the proved library is.
 """
 
 from __future__ import annotations
@@ -11,7 +10,6 @@ import importlib.util
 import pathlib
 import re
 import shutil
-import subprocess
 import sys
 from types import ModuleType
 
@@ -124,30 +122,3 @@ def write(folder: pathlib.Path, arrayvec: str) -> None:
         text = text.replace(old, new)
     (folder / "src" / "lib.rs").write_text(text)
     (folder / "Cargo.toml").write_text(MANIFEST.format(arrayvec=arrayvec))
-
-
-SIZES = ("host", "follower", "decoder", "command_decoder", "board")
-SIZES_MAIN = """#include <stdio.h>
-#include <stddef.h>
-{declared}
-int main(void) {{ return printf("{format}\\n", {calls}) < 0; }}
-"""
-
-
-def write_header(folder: pathlib.Path, archive: pathlib.Path) -> None:
-    """Writes dgt.h with the sizes that the handles have here into a folder: rustc lays out a struct
-    as it likes."""
-    program, source = folder / "sizes", folder / "sizes.c"
-    calls = [f"dgt_{name}_size" for name in SIZES]
-    source.write_text(SIZES_MAIN.format(
-        declared="\n".join(f"size_t {call}(void);" for call in calls),
-        format=" ".join(["%zu"] * len(SIZES)), calls=", ".join(f"{call}()" for call in calls)))
-    subprocess.run(["cc", source, archive, "-o", program], check=True)
-    told = subprocess.run([program], check=True, capture_output=True, text=True).stdout.split()
-    text = (ROOT / "include" / "dgt.h").read_text()
-    for name, size in zip(SIZES, told, strict=True):
-        line = rf"(?m)^(#define DGT_{name.upper()}_SIZE) \d+$"
-        text, count = re.subn(line, rf"\1 {size}", text)
-        if count != 1:
-            raise ValueError(f"not once in include/dgt.h: {line}")
-    (folder / "dgt.h").write_text(text)
