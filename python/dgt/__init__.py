@@ -59,6 +59,7 @@ from .host import Host
 from .moves import GameBegun, MoveEvent, MoveMade, MoveRecogniser, MoveTakenBack
 from .pgn import PgnGame, PgnMove, san
 from .rules import START_FEN, GameState
+from .serial_ports import SerialPort, ports
 from .values import (LETTERS, SQUARES, Clock, NoClock, Position, Time, Times, piece_code, segment,
                      square_number)
 from .world import Outcome, World
@@ -73,8 +74,8 @@ __all__ = [
     "Games", "Host", "Identity", "IllegalMove", "KeptGame", "LETTERS", "Leds", "LongSerial",
     "Message", "Mode", "MoveEvent", "MoveMade", "MoveRecogniser", "MoveTakenBack", "Nested",
     "NoClock", "NoSuchCommand", "Other", "Outcome", "PgnFile", "PgnGame", "PgnMove", "Position",
-    "Refused", "SQUARES", "START_FEN", "Serial", "SerialLine", "Stray", "StrayByte", "Time",
-    "Times", "TooManyAwaited", "Trademark", "Version", "Word", "World", "encode_command",
-    "encode_message", "follow", "follow_async", "piece_code", "san", "segment", "square_number",
-    "view_command", "view_message",
+    "Refused", "SQUARES", "START_FEN", "Serial", "SerialLine", "SerialPort", "Stray", "StrayByte",
+    "Time", "Times", "TooManyAwaited", "Trademark", "Version", "Word", "World", "encode_command",
+    "encode_message", "follow", "follow_async", "piece_code", "ports", "san", "segment",
+    "square_number", "view_command", "view_message",
 ]

@@ -1,13 +1,17 @@
-"""The programs of the package: `python -m dgt game PORT` and `python -m dgt uci [PORT]`."""
+"""The programs of the package: `python -m dgt game PORT`, `python -m dgt uci [PORT]` and
+`python -m dgt ports`."""
 
 import sys
+from collections.abc import Callable
 
-from . import game, uci
+from . import game, serial_ports, uci
 
-_PROGRAMS = {"game": game.main, "uci": uci.main}
+_PROGRAMS: dict[str, Callable[[list[str]], None]] = {
+    "game": game.main, "uci": uci.main, "ports": serial_ports.main}
 _USAGE = """\
 usage: python -m dgt game PORT    (python -m dgt game --help describes it)
-       python -m dgt uci [PORT]   (python -m dgt uci --help describes it)"""
+       python -m dgt uci [PORT]   (python -m dgt uci --help describes it)
+       python -m dgt ports        (python -m dgt ports --help describes it)"""
 
 if __name__ == "__main__":
     if sys.argv[1:2] and sys.argv[1] in _PROGRAMS:

@@ -1,0 +1,93 @@
+"""The serial ports of this machine, and `python -m dgt ports`, which lists them."""
+
+from __future__ import annotations
+
+import argparse
+import os
+import sys
+from collections.abc import Sequence
+from dataclasses import dataclass
+from pathlib import Path
+
+_KINDS = ("rfcomm", "ttyACM", "ttyUSB")
+
+
+@dataclass(frozen=True, slots=True)
+class SerialPort:
+    """A serial port that may be a board's, and what the system knows of its USB device: the names
+    of vendor and product, the serial number, and the numbers of both, as in `"1234:abcd"`. Each is
+    `None` if it is not known. All are if the port is one of Bluetooth."""
+
+    path: str
+    """The name to open it by, as in `follow(port.path)`."""
+    vendor: str | None = None
+    product: str | None = None
+    serial: str | None = None
+    usb_id: str | None = None
+
+    def __str__(self) -> str:
+        """One line: the path, and after it what is known."""
+        return " ".join(filter(None, (self.path, self.vendor, self.product, self.serial,
+                                      self.usb_id)))
+
+
+def _names(folder: str) -> list[str]:
+    """The names in a folder, in order. Those with a dot are links that are being made."""
+    try:
+        return sorted(name for name in os.listdir(folder) if not name.startswith("."))
+    except OSError:
+        return []
+
+
+def _text(path: Path) -> str | None:
+    """The line of a file. It is the device's own text: what can't be printed becomes ?."""
+    try:
+        line = path.read_bytes().decode(errors="replace").strip()
+    except OSError:
+        return None
+    return "".join(each if each.isprintable() else "?" for each in line) or None
+
+
+def _usb_device(name: str, sysfs: str) -> Path | None:
+    """The folder of the USB device of the port that the kernel gives this name."""
+    if name.startswith("rfcomm"):  # the device above it is this machine's, not the board's
+        return None
+    device = Path(sysfs, "class", "tty", name, "device").resolve()
+    return next((each for each in (device, *device.parents) if (each / "idVendor").exists()), None)
+
+
+def _described(path: str, usb: Path | None) -> SerialPort:
+    if usb is None:
+        return SerialPort(path)
+    vendor, product, serial, *ids = [_text(usb / each) for each in (
+        "manufacturer", "product", "serial", "idVendor", "idProduct")]
+    return SerialPort(path, vendor, product, serial, ":".join(each or "?" for each in ids))
+
+
+def ports(*, dev: str = "/dev", sysfs: str = "/sys") -> list[SerialPort]:
+    """Returns the serial ports that may be boards: those of USB and Bluetooth. None is opened, so
+    the list doesn't say which ones are boards.
+
+    A port has its name in `/dev/serial/by-id`, which stays, or else the one in `/dev`. Those in
+    `by-id` come first; both are in the order of their names. Other folders may stand for `/dev` and
+    `/sys`."""
+    links = f"{dev}/serial/by-id"
+    paths = [f"{links}/{name}" for name in _names(links)]
+    paths += [f"{dev}/{name}" for name in _names(dev) if name.startswith(_KINDS)]
+    found: dict[str, str] = {}
+    for path in filter(os.path.exists, paths):
+        found.setdefault(os.path.realpath(path), path)
+    return [_described(path, _usb_device(os.path.basename(device), sysfs))
+            for device, path in found.items()]
+
+
+def main(words: Sequence[str], *, dev: str = "/dev", sysfs: str = "/sys") -> None:
+    """Prints each port as a line. Ends with 1 if there is none."""
+    argparse.ArgumentParser(prog="python -m dgt ports", description=(
+        "Lists the serial ports of USB and Bluetooth, which may be boards: one a line, by the name "
+        "to open it by. None is opened.")).parse_args(words)
+    found = ports(dev=dev, sysfs=sysfs)
+    if not found:
+        sys.exit("no serial port of USB or Bluetooth (plug the board in)")
+    for port in found:
+        print(port)
