@@ -13,6 +13,8 @@
 
 #include <cstdio>
 #include <cstdlib>
+#include <filesystem>
+#include <fstream>
 #include <functional>
 #include <iostream>
 #include <iterator>
@@ -568,6 +570,26 @@ std::string why_not(const std::string &port) {
     return "";
 }
 
+/* The list of a folder that stands for /dev: the stable names first, and each port once. */
+void listed_ports() {
+    namespace fs = std::filesystem;
+    const fs::path dev = fs::current_path() / "dev", links = dev / "serial" / "by-id";
+    CHECK(dgt::ports(dev).empty());
+    fs::create_directories(links);
+    for (const char *name : {"ttyUSB10", "ttyS0", "ttyUSB1", "rfcomm0", "ttyUSB0", "ttyACM0"})
+        std::ofstream(dev / name).put('\n');
+    fs::create_symlink("../../ttyUSB1", links / "usb-BB");
+    fs::create_symlink("../../ttyUSB1", links / "usb-B");
+    fs::create_symlink("../../ttyUSB7", links / "usb-gone");
+    fs::create_symlink("../../ttyACM0", links / "usb-A");
+    fs::create_symlink("../../ttyUSB0", links / ".#usb-0");
+    const std::vector<std::string> right{links / "usb-A", links / "usb-B", dev / "rfcomm0",
+                                         dev / "ttyUSB0", dev / "ttyUSB10"};
+    CHECK(dgt::ports(dev) == right);
+    fs::remove_all(dev);
+    for (const std::string &port : dgt::ports()) CHECK(fs::exists(port)); // of this machine
+}
+
 void ports() {
     std::uint8_t bytes[300];
     int line = posix_openpt(O_RDWR | O_NOCTTY);
@@ -611,5 +633,6 @@ int main(int count, char **words) {
     boards();
     views();
     ports();
+    listed_ports();
     return 0;
 }

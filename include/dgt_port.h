@@ -11,8 +11,9 @@
  *     fprintf(stderr, "%s\n", dgt_port_advice(errno));        // the port has gone
  *     dgt_port_close(port);                                   // open it again once it is back
  *
- * One process has a port: others are refused, by flock and by TIOCEXCL. A port that comes back may
- * have another number; its name in /dev/serial/by-id stays. examples/trainer.c waits for it.
+ * dgt_port_next lists the ports that may be boards. One process has a port: others are refused, by
+ * flock and by TIOCEXCL. A port that comes back may have another number; its name in
+ * /dev/serial/by-id stays. examples/trainer.c waits for it.
  *
  * With -std=c99 or -std=c11 define _DEFAULT_SOURCE before the first #include. With -std=gnu11 and
  * the like, and in C++, nothing has to be defined.
@@ -22,15 +23,18 @@
 
 #include "dgt.h"
 
+#include <dirent.h>
 #include <errno.h>
 #include <fcntl.h>
 #include <poll.h>
 #include <stdbool.h>
 #include <stddef.h>
 #include <stdint.h>
+#include <stdio.h>
 #include <string.h>
 #include <sys/file.h>
 #include <sys/ioctl.h>
+#include <sys/stat.h>
 #include <termios.h>
 #include <time.h>
 #include <unistd.h>
@@ -45,8 +49,9 @@
 #endif
 
 enum {
-    DGT_PORT_PATIENCE = 2000,  /* for how many milliseconds dgt_port_write waits for the port */
-    DGT_PORT_LONGEST = 3600000 /* for how many dgt_port_read does */
+    DGT_PORT_PATIENCE = 2000,   /* for how many milliseconds dgt_port_write waits for the port */
+    DGT_PORT_LONGEST = 3600000, /* for how many dgt_port_read does */
+    DGT_PORT_PATH_ROOM = 512    /* the room of a path, with the 0 at its end */
 };
 
 /* The time in milliseconds, by a clock that doesn't go back: for dgt_follower_ask and its like. */
@@ -54,6 +59,72 @@ static inline uint64_t dgt_port_now(void) {
     struct timespec time;
     clock_gettime(CLOCK_MONOTONIC, &time);
     return (uint64_t)time.tv_sec * 1000 + (uint64_t)time.tv_nsec / 1000000;
+}
+
+/* A list of ports, which dgt_port_next goes through. Set all of it to 0 first. Another `folder` may
+ * stand for /dev. `path` is the port that was found; leave it as it is. */
+typedef struct dgt_ports {
+    const char *folder;
+    bool are_links_over_;
+    char path[DGT_PORT_PATH_ROOM];
+} dgt_ports;
+
+/* Whether an entry of a folder has the name of a port. A link with a dot is being made. */
+static inline bool dgt_port_is_named_(const char *name, bool is_link) {
+    if (is_link) return name[0] != '.';
+    return !strncmp(name, "rfcomm", 6) || !strncmp(name, "ttyACM", 6) ||
+           !strncmp(name, "ttyUSB", 6);
+}
+
+/* Finds the first path in a folder, in the order of names, that is after another one. It exists,
+ * and it is the same file as `same`, if that isn't NULL. False if there is none. */
+static inline bool dgt_port_first_(const char *folder, bool are_links, const char *after,
+                                   const struct stat *same, char first[DGT_PORT_PATH_ROOM]) {
+    char path[DGT_PORT_PATH_ROOM];
+    bool is_found = false;
+    DIR *names = opendir(folder);
+    if (!names) return false;
+    for (struct dirent *entry; (entry = readdir(names)) != NULL;) {
+        struct stat file;
+        int length = snprintf(path, sizeof path, "%s/%s", folder, entry->d_name);
+        if (length < 0 || length >= DGT_PORT_PATH_ROOM) continue;
+        if (!dgt_port_is_named_(entry->d_name, are_links) || strcmp(path, after) <= 0) continue;
+        if ((is_found && strcmp(path, first) >= 0) || stat(path, &file) != 0) continue;
+        if (same && (file.st_dev != same->st_dev || file.st_ino != same->st_ino)) continue;
+        is_found = true;
+        memcpy(first, path, (size_t)length + 1);
+    }
+    closedir(names);
+    return is_found;
+}
+
+/* Finds the next serial port that may be a board, which is one of USB or Bluetooth, and puts its
+ * name into `path`. False if there is no other. No port is opened.
+ *
+ *     for (dgt_ports ports = {0}; dgt_port_next(&ports);) puts(ports.path);
+ *
+ * A port has its first name in /dev/serial/by-id, which stays, or else the one in /dev. Those in
+ * by-id come first; both are in the order of their names. What doesn't fit is left out. */
+static inline bool dgt_port_next(dgt_ports *ports) {
+    char links[DGT_PORT_PATH_ROOM], path[DGT_PORT_PATH_ROOM];
+    const char *folder = ports->folder ? ports->folder : "/dev";
+    int length = snprintf(links, sizeof links, "%s/serial/by-id", folder);
+    if (length < 0 || length >= DGT_PORT_PATH_ROOM) return false;
+    for (;;) {
+        struct stat file;
+        bool are_links = !ports->are_links_over_;
+        if (dgt_port_first_(are_links ? links : folder, are_links, ports->path, NULL, path)) {
+            memcpy(ports->path, path, strlen(path) + 1);
+            if (stat(path, &file) != 0) continue; /* it has just gone */
+            bool is_linked = dgt_port_first_(links, true, "", &file, path);
+            if (are_links ? is_linked && !strcmp(path, ports->path) : !is_linked) return true;
+        } else if (are_links) {
+            ports->are_links_over_ = true;
+            ports->path[0] = 0;
+        } else {
+            return false;
+        }
+    }
 }
 
 /* Locks an open port, and sets it up. False, with errno, if it can't. */

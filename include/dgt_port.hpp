@@ -7,8 +7,20 @@
 #include "dgt_port.h"
 
 #include <cerrno>
+#include <string>
+#include <vector>
 
 namespace dgt {
+
+/// The serial ports that may be boards, by the names to open them by, as dgt_port_next lists them.
+/// None is opened. Another folder may stand for /dev.
+inline std::vector<std::string> ports(const std::string &folder = "/dev") {
+    std::vector<std::string> found;
+    dgt_ports listed{};
+    listed.folder = folder.c_str();
+    while (dgt_port_next(&listed)) found.emplace_back(listed.path);
+    return found;
+}
 
 /// A port can't be opened, or has gone. The text says why, and what to do.
 class PortError : public std::runtime_error {

@@ -1,5 +1,5 @@
-/* Tries dgt_port.h on a pseudo-terminal. Exits with 1 and prints the first thing that is not as
- * dgt_port.h says, or 0. */
+/* Tries dgt_port.h on a pseudo-terminal, and on a folder that stands for /dev. Exits with 1 and
+ * prints the first thing that is not as dgt_port.h says, or 0. */
 #define _GNU_SOURCE
 #include "dgt_port.h"
 
@@ -130,7 +130,71 @@ static void exchanging(void) {
     dgt_port_close(port);
 }
 
+#define COUNT(list) (sizeof(list) / sizeof *(list))
+static const char *const devices[] = {"ttyUSB10", "ttyS0",   "ttyUSB1", "tty",
+                                      "rfcomm0",  "ttyUSB0", "ttyACM0"};
+static const char *const links[][2] = {{"usb-BB", "../../ttyUSB1"},
+                                       {"usb-B", "../../ttyUSB1"},
+                                       {"usb-gone", "../../ttyUSB7"},
+                                       {"usb-A", "../../ttyACM0"},
+                                       {".#usb-0", "../../ttyUSB0"}};
+static const char *const listed[] = {"dev/serial/by-id/usb-A", "dev/serial/by-id/usb-B",
+                                     "dev/rfcomm0", "dev/ttyUSB0", "dev/ttyUSB10"};
+
+/* Makes the folder dev, which stands for /dev. */
+static void plug_in(void) {
+    CHECK(chdir("dev") == 0);
+    for (size_t i = 0; i < COUNT(devices); i++)
+        CHECK(close(open(devices[i], O_CREAT | O_WRONLY | O_CLOEXEC, 0600)) == 0);
+    CHECK(mkdir("serial", 0700) == 0 && mkdir("serial/by-id", 0700) == 0);
+    CHECK(chdir("serial/by-id") == 0);
+    for (size_t i = 0; i < COUNT(links); i++) CHECK(symlink(links[i][1], links[i][0]) == 0);
+    CHECK(chdir("../../..") == 0);
+}
+
+static void unplug(void) {
+    CHECK(chdir("dev/serial/by-id") == 0);
+    for (size_t i = 0; i < COUNT(links); i++) CHECK(unlink(links[i][0]) == 0);
+    CHECK(chdir("../..") == 0 && rmdir("serial/by-id") == 0 && rmdir("serial") == 0);
+    for (size_t i = 0; i < COUNT(devices); i++) CHECK(unlink(devices[i]) == 0);
+    CHECK(chdir("..") == 0 && rmdir("dev") == 0);
+}
+
+/* The name of the first port if that of the folder has this length, or an empty one. */
+static const char *first_name(size_t length) {
+    static char folder[DGT_PORT_PATH_ROOM];
+    static dgt_ports ports;
+    CHECK(length < sizeof folder);
+    memset(folder, '/', length);
+    memcpy(folder, "dev", 3);
+    folder[length] = 0;
+    ports = (dgt_ports){.folder = folder};
+    return dgt_port_next(&ports) ? strrchr(ports.path, '/') + 1 : "";
+}
+
+static void listing(void) {
+    char folder[] = "/tmp/test_port.XXXXXX";
+    dgt_ports none = {.folder = "dev"}, ports = none;
+    int here = open(".", O_RDONLY | O_CLOEXEC);
+    CHECK(here >= 0 && mkdtemp(folder) && chdir(folder) == 0 && !dgt_port_next(&none));
+    CHECK(mkdir("dev", 0700) == 0 && !dgt_port_next(&none));
+    plug_in();
+    int next = dup(0);
+    CHECK(close(next) == 0);
+    for (size_t i = 0; i < COUNT(listed); i++)
+        CHECK(dgt_port_next(&ports) && !strcmp(ports.path, listed[i]));
+    CHECK(!dgt_port_next(&ports) && !dgt_port_next(&ports));
+    CHECK(dup(0) == next && close(next) == 0); /* so the folders were closed */
+    CHECK(!strcmp(first_name(3), "usb-A") && !strcmp(first_name(DGT_PORT_PATH_ROOM - 20), "usb-A"));
+    CHECK(!strcmp(first_name(DGT_PORT_PATH_ROOM - 19), "rfcomm0")); /* the links don't fit */
+    CHECK(!strcmp(first_name(DGT_PORT_PATH_ROOM - 14), "rfcomm0"));
+    CHECK(!strcmp(first_name(DGT_PORT_PATH_ROOM - 13), "")); /* nor does their folder */
+    unplug();
+    CHECK(fchdir(here) == 0 && close(here) == 0 && rmdir(folder) == 0);
+}
+
 int main(void) {
+    listing();
     opening();
     reading();
     writing();
