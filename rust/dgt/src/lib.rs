@@ -44,7 +44,7 @@
 //!
 //! | Feature | It adds |
 //! |---|---|
-//! | `std` (by default) | `follow`, `Port`, [`Views`], and errors of `std::io` |
+//! | `std` (by default) | `follow`, `ports`, `Port`, [`Views`], and errors of `std::io` |
 //! | `serde` | `Serialize` and `Deserialize` of values, clocks and modes |
 //!
 //! Without `std` it needs `core` and the crate `arrayvec` alone.
@@ -109,4 +109,4 @@ pub use values::{
 #[cfg(feature = "std")]
 pub use following::{Away, BoardView, Views, now};
 #[cfg(all(feature = "std", target_os = "linux"))]
-pub use port::{Port, follow};
+pub use port::{Port, follow, ports};

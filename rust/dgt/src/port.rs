@@ -2,12 +2,14 @@
 
 use crate::following::{Views, now};
 use core::time::Duration;
-use std::fs::File;
+use std::collections::BTreeSet;
+use std::fs::{self, File};
 use std::io::{self, ErrorKind, Read, Write};
 use std::os::unix::fs::OpenOptionsExt;
 use std::path::{Path, PathBuf};
 use std::process::{Command, Stdio};
 use std::thread;
+use std::vec::Vec;
 
 // Numbers of Linux, which the standard library keeps to itself.
 #[cfg(any(target_arch = "mips", target_arch = "mips64", target_arch = "sparc64"))]
@@ -20,6 +22,43 @@ const PATIENCE: u64 = 2000;
 /// Locks the port, which is its standard input, and sets it up.
 const SET_UP: &str = "flock -n 0 || exit 2
 stty 9600 raw -echo cs8 -parenb -cstopb -crtscts clocal";
+
+/// How the names of serial ports of USB and Bluetooth begin.
+const KINDS: [&str; 3] = ["rfcomm", "ttyACM", "ttyUSB"];
+
+/// Lists the serial ports that may be boards, which are those of USB and Bluetooth, by the names to
+/// open them by. None is opened.
+///
+/// A port has its first name in `/dev/serial/by-id`, which stays, or else the one in `/dev`. Those
+/// in `by-id` come first; both are in the order of their names.
+///
+/// ```
+/// for path in dgt::ports() {
+///     println!("{}", path.display());
+/// }
+/// ```
+#[must_use]
+pub fn ports() -> Vec<PathBuf> {
+    ports_in(Path::new("/dev"))
+}
+
+fn ports_in(dev: &Path) -> Vec<PathBuf> {
+    // A link with a dot is being made.
+    let mut paths = paths_in(&dev.join("serial/by-id"), |name| !name.starts_with('.'));
+    paths.extend(paths_in(dev, |name| KINDS.iter().any(|kind| name.starts_with(kind))));
+    let mut devices = BTreeSet::new();
+    paths.retain(|path| fs::canonicalize(path).is_ok_and(|device| devices.insert(device)));
+    paths
+}
+
+/// The paths of the entries of a folder that have such a name, in order. None if it isn't there.
+fn paths_in(folder: &Path, is_named: impl Fn(&str) -> bool) -> Vec<PathBuf> {
+    let entries = fs::read_dir(folder).into_iter().flatten().flatten();
+    let named = entries.filter(|entry| is_named(&entry.file_name().to_string_lossy()));
+    let mut paths: Vec<_> = named.map(|entry| entry.path()).collect();
+    paths.sort();
+    paths
+}
 
 /// Follows the board on a serial port, and finds the port again if it goes.
 ///
@@ -101,5 +140,37 @@ impl Write for Port {
 
     fn flush(&mut self) -> io::Result<()> {
         Ok(())
+    }
+}
+
+#[cfg(test)]
+mod tests {
+    use super::{PathBuf, Vec, fs, ports_in};
+    use std::os::unix::fs::symlink;
+    use std::{env, format, process};
+
+    #[test]
+    fn each_port_has_one_name() {
+        let dev = env::temp_dir().join(format!("dgt-ports-{}", process::id()));
+        assert_eq!(ports_in(&dev), Vec::<PathBuf>::new());
+        let links = dev.join("serial/by-id");
+        fs::create_dir_all(&links).unwrap();
+        for name in ["ttyUSB10", "ttyS0", "ttyUSB1", "tty", "rfcomm0", "ttyUSB0", "ttyACM0"] {
+            fs::write(dev.join(name), "").unwrap();
+        }
+        let devices = [
+            ("usb-BB", "ttyUSB1"),
+            ("usb-B", "ttyUSB1"),
+            ("usb-gone", "ttyUSB7"),
+            ("usb-A", "ttyACM0"),
+            (".#usb-0", "ttyUSB0"),
+        ];
+        for (name, device) in devices {
+            symlink(format!("../../{device}"), links.join(name)).unwrap();
+        }
+        let found = ports_in(&dev);
+        fs::remove_dir_all(&dev).unwrap();
+        let right = ["serial/by-id/usb-A", "serial/by-id/usb-B", "rfcomm0", "ttyUSB0", "ttyUSB10"];
+        assert_eq!(found, right.map(|name| dev.join(name)));
     }
 }
