@@ -5,6 +5,7 @@ mod Calls
 mod ClockHeals
 mod Heals
 mod HeardRuns
+mod OneByte
 mod Prefixes
 mod Restating
 mod Sent

@@ -10,6 +10,7 @@
 //! [`worlds_confirm_as_delivered`] says that a follower's picture is that of the messages that were
 //! delivered to it, and confirmed only if they confirm it, whatever else happens. After one stretch
 //! of faulty bytes a picture that both sides confirm is what the board has reported.
+//! [`one_byte_is_a_stretch`] says that one faulty byte of a message is such a stretch.
 //!
 //! [`sound_lines_raise_no_doubt`] says that without faults nothing that a follower hears is a
 //! doubt, if the board has reported each change of a square before it sends a dump.
@@ -43,6 +44,7 @@ ghost use Rattle.dgt_follow.specs.Pace.{PaceView, asking_bytes, is_overdue, is_s
 ghost use Rattle.dgt_follow.specs.Follower.{Asks, FollowerView, asking_of, follower_after, follower_after_event, new_follower};
 ghost use Rattle.dgt_followed.specs.Followed.{AfterAskings, FollowedRuns, FollowedStep, FollowedView, Happening, HasRoom, RunsDone, after_writing, asking_acts, clock_count_after, clock_count_after_asking, count_after, count_after_asking, follower_of, unsettles};
 ghost use Rattle.dgt_followed.specs.Heard.{ConfirmedAsDelivered, ConfirmedIsReportedInWorlds, HappeningsAreCalls, HeardRuns, HeardStep, IsOneStretch, KeepsPower, OneStretchIsSeenInWorlds, SentIsReported, TimedHappening, bytes_by, happening_of, is_noticed, is_setting, sent_by};
+ghost use Rattle.dgt_followed.specs.OneByte.{OneByteIsAStretch, with_fault};
 ghost use Rattle.dgt_followed.specs.Restated.{ActsAtRest, AllRestate, DumpsAtRest, HasNoDoubt, IsAtRest, IsRestatedWorld, IsSoundHappening, RunsAtRest, SendsAtRest, SoundRuns};
 ghost use Rattle.dgt_link.specs.Act.{ActContent};
 ghost use Rattle.dgt_link.specs.Clocks.{IsClockPromisedWorld, stops_clock};
@@ -346,6 +348,28 @@ pub fn worlds_confirm_as_delivered()
     dgt_follow::laws::confirmed_as_heard();
     dgt_follow::laws::one_stretch_is_seen();
 }
+
+/// One byte of a message that a line alters, loses, repeats or inserts is such a stretch: what is
+/// heard of the message then says one message at most.
+pub fn one_byte_is_a_stretch()
+    ensures { OneByteIsAStretch }
+{
+    dgt_message::laws::encoding_encodes();
+}
+
+/// What `with_fault` makes of three bytes if the second is altered, lost or repeated, or another is
+/// inserted before it or after the last.
+pub fn faults_of_bytes()
+    ensures altered { (a b c other : ℕ) →
+        with_fault (a ∷ b ∷ c ∷ []) 1 1 (other ∷ []) ≡ a ∷ other ∷ c ∷ [] }
+    ensures lost { (a b c : ℕ) → with_fault (a ∷ b ∷ c ∷ []) 1 1 [] ≡ a ∷ c ∷ [] }
+    ensures repeated { (a b c : ℕ) →
+        with_fault (a ∷ b ∷ c ∷ []) 2 0 (b ∷ []) ≡ a ∷ b ∷ b ∷ c ∷ [] }
+    ensures inserted { (a b c other : ℕ) →
+        with_fault (a ∷ b ∷ c ∷ []) 1 0 (other ∷ []) ≡ a ∷ other ∷ b ∷ c ∷ [] }
+    ensures behind { (a b c other : ℕ) →
+        with_fault (a ∷ b ∷ c ∷ []) 3 0 (other ∷ []) ≡ a ∷ b ∷ c ∷ other ∷ [] }
+{}
 
 /// What the words of that law come to. A delivery is heard as `follower_after` says. The bytes of
 /// all deliveries come in a row, and so do the messages sent. No host notices garbled lines, a
