@@ -5,6 +5,7 @@
 //! | read and write a slice, or any reader or writer of std | [`Bytes`], [`Device`] |
 //! | write bytes, and pass them on | [`put`], [`flush`] |
 //! | write the line of an event, as `00000005 field e4 P` | [`write_event`] |
+//! | write its text to a slice, as `field e4 P` | [`format_event`] |
 //! | write the line of a command, as `00000001 dump` | [`write_command`] |
 //! | write how a board and a host are at the end | [`write_closing`] |
 //! | write the lines of all that a source gives | [`monitor`], [`commands`], [`picture`] |
@@ -54,6 +55,7 @@ mod command_lines;
 mod command_wording;
 mod doubts;
 mod faults;
+mod formatting;
 mod gathering;
 pub mod laws;
 mod lines;
@@ -73,6 +75,7 @@ pub use command_chunks::COMMANDS_ROOM;
 pub use command_lines::write_command;
 pub use doubts::{Doubt, PictureState};
 pub use faults::RunFault;
+pub use formatting::format_event;
 pub use gathering::{flush, put};
 pub use lines::{write_event, write_unfinished};
 pub use picture_chunks::PICTURES_ROOM;

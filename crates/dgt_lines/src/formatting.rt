@@ -1,0 +1,62 @@
+//! The text of an event in a slice.
+
+ghost use Rattle.std.specs.Prelude.{◌≡◌, ◌++◌, ◌+◌, ◌*◌, ◌<◌, ◌≤◌, MatchResult, length};
+ghost use Rattle.hex.specs.Hex.{encode_lower};
+ghost use Rattle.dgt_values.specs.Bytes.{WritesPrefix};
+ghost use Rattle.dgt_values.specs.declared.bodies.TheConstants.{MAX_BODY};
+ghost use Rattle.dgt_decode.specs.Feeding.{event_content};
+ghost use Rattle.dgt_lines.specs.Lines.{bytes_text, event_text};
+
+use crate::gathering::{LINE_ROOM, Outgoing};
+use crate::wording::push_event;
+use dgt_decode::Event;
+use dgt_values::NoRoom;
+
+/// Writes the text of an event to the beginning of a slice, and returns its length.
+///
+/// The text is that of [`write_event`](crate::write_event) without the offset and the line feed, as
+/// `field e4 P`. A message that carries no bytes, and a fault, takes at most 99.
+///
+/// `NoRoom` comes if the slice is too short for the whole text. It gives the length that the text
+/// needs, and the slice stays as it is.
+pub fn format_event(event: &Event<'_>, out: &mut [u8]) -> Result<usize, NoRoom>
+    ensures text { WritesPrefix (event_text (event_content event.now)) out.old out.new result }
+    ensures limit { MatchResult result (λ len. len ≤ LINE_ROOM + 2 * MAX_BODY)
+        (λ fault. fault.need ≤ LINE_ROOM + 2 * MAX_BODY) }
+{
+    let mut words = Outgoing::<LINE_ROOM>::new();
+    match push_event(&mut words, event) {
+        None => write_text(words.bytes(), &[], out),
+        Some(body) => {
+            push_if_none(&mut words, body.bytes());
+            write_text(words.bytes(), body.bytes(), out)
+        }
+    }
+}
+
+// Adds a hyphen if no byte is carried, so that the digits of those that are end the text.
+fn push_if_none(words: &mut Outgoing<LINE_ROOM>, carried: &[u8])
+    requires { length words.old < LINE_ROOM }
+    ensures text { words.new ++ encode_lower carried.now ≡ words.old ++ bytes_text carried.now }
+{
+    if carried.is_empty() {
+        words.push(b"-");
+    }
+}
+
+// Writes some words, and two hexadecimal digits for each byte that is carried after them.
+fn write_text(words: &[u8], carried: &[u8], out: &mut [u8]) -> Result<usize, NoRoom>
+    requires words { length words.now ≤ LINE_ROOM }
+    requires carried { length carried.now ≤ MAX_BODY }
+    ensures text { WritesPrefix (words.now ++ encode_lower carried.now) out.old out.new result }
+    ensures limit { MatchResult result (λ len. len ≤ LINE_ROOM + 2 * MAX_BODY)
+        (λ fault. fault.need ≤ LINE_ROOM + 2 * MAX_BODY) }
+{
+    let need = words.len() + 2 * carried.len();
+    if out.len() < need {
+        return Err(NoRoom { need });
+    }
+    out[..words.len()].copy_from_slice(words);
+    hex::encode_to_slice(carried, &mut out[words.len()..need]).unwrap();
+    Ok(need)
+}
