@@ -167,6 +167,19 @@ def changes(dgt, line):
         wanted("as an iterator", next(board).picture, line.board.position)
 
 
+def lights(dgt, line):
+    with dgt.follow(line.path, 60) as board:
+        expect("at first", board, (START, False, None))
+        line.asked.clear()
+        board.leds("e2", "e4")
+        board.leds()
+        end = time.monotonic() + SECONDS
+        while sum(len(asked) for _, asked in line.asked) < 12 and time.monotonic() < end:
+            time.sleep(0.01)
+        wanted("frames", b"".join(asked for _, asked in line.asked).hex(),
+               "600401342400" "600400404000")
+
+
 def asks_when_due(dgt, line):
     with dgt.follow(line.path, 1.0, patience=3) as board:
         expect("at first", board, (START, False, None))
@@ -729,7 +742,7 @@ def streams(dgt, line):
                              (LIFTED, False, None), (LIFTED, True, CLOSED)])
 
 
-CASES = [changes, asks_when_due, heals, confirms, clock_heals, noise, loses_an_end, silence,
+CASES = [changes, lights, asks_when_due, heals, confirms, clock_heals, noise, loses_an_end, silence,
          goes_and_comes, comes_late, faults, closing, leaving, closing_elsewhere, settings, waits,
          wakes, takes_nothing, handed, handed_fails, streams, slow_streams]
 

@@ -6,6 +6,8 @@ from dataclasses import dataclass
 from enum import IntEnum
 
 from ._library import CommandStruct
+from .errors import BadValue
+from .values import square_number
 
 
 class Ask(IntEnum):
@@ -58,6 +60,20 @@ class Leds:
 
     leds: bytes
 
+    @classmethod
+    def lighting(cls, *squares: str) -> Leds:
+        """Returns the frame that lights two squares, as those of a move, or no square if none is
+        named. Boards with lights are said to read it so, and none was tried. `BadValue` if there is
+        another number of them, or one is no square.
+
+        >>> Leds.lighting("e2", "e4").leds.hex(" ")
+        '01 34 24 00'
+        """
+        if len(squares) not in (0, 2):
+            raise BadValue(f"squares must be two or none: {squares!r}")
+        places = [square_number(square) for square in squares]
+        return cls(bytes([1, *places, 0]) if places else _NO_LIGHTS)
+
 
 @dataclass(frozen=True, slots=True)
 class BadSize:
@@ -87,6 +103,7 @@ Word = Command | BadSize | BadStart | BadEnd | StrayByte
 
 _COMMAND, _BAD_SIZE, _BAD_START, _BAD_END = range(1, 5)
 _SEND_CLOCK_MESSAGE, _SEND_LEDS = 0x2B, 0x60
+_NO_LIGHTS = bytes([0, 64, 64, 0])
 _FAULTS: dict[int, type[BadSize | BadStart | BadEnd]] = {
     _BAD_SIZE: BadSize, _BAD_START: BadStart, _BAD_END: BadEnd}
 _ASKED = {ask.value: Asked(ask) for ask in Ask}

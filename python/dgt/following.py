@@ -18,7 +18,7 @@ from ._handle import Bytes, Uncopied, readable
 from ._port import Port
 from .board import Mode
 from .clock_commands import ClockCommands
-from .commands import ClockId
+from .commands import ClockId, Leds
 from .errors import BadValue, Closed
 from .events import Event, Fault, Refused
 from .follower import Follower
@@ -257,6 +257,12 @@ class Following(Uncopied, ClockCommands[None]):
         self._check_open()
         if self._line is not None:
             self._line.write(readable(chunk)[0])
+
+    def leds(self, *squares: str) -> None:
+        """Lights two squares of a board with lights, or no square if none is named. The frame is
+        that of `Leds.lighting`. `Follower.send_leds` makes any other one, for `write`. `BadValue`
+        as of `lighting`, and `Closed` if this is closed."""
+        self.write(self.follower.send_leds(Leds.lighting(*squares).leds))
 
     def _clock_message(self, id: ClockId, payload: bytes) -> None:
         self.write(self.follower.send_clock(id, payload))
